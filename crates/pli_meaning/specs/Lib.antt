@@ -1,0 +1,4 @@
+pub mod Words
+pub mod Memory
+pub mod Encoding
+pub mod Machine

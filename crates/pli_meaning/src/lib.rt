@@ -1,0 +1,4 @@
+// The plain types of the compiler, and the definitions and laws of what it promises.
+#![tactic(auto)]
+
+pub mod instr;
