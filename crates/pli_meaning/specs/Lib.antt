@@ -2,3 +2,5 @@ pub mod Words
 pub mod Memory
 pub mod Encoding
 pub mod Machine
+pub mod Keywords
+pub mod Tokens
