@@ -1,1 +1,2 @@
 mod MachineRows
+pub mod Views

@@ -4,3 +4,5 @@ pub mod Encoding
 pub mod Machine
 pub mod Keywords
 pub mod Tokens
+pub mod Tree
+pub mod View

@@ -1,6 +1,10 @@
 // The plain types of the compiler, and the definitions and laws of what it promises.
 #![tactic(auto)]
 
+pub mod condition;
+pub mod declaration;
+pub mod expr;
 pub mod fault;
 pub mod instr;
+pub mod stmt;
 pub mod token;

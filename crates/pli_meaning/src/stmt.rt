@@ -1,0 +1,192 @@
+// The tree of programs: procedures, declarations and statements, as they are written.
+
+use crate::condition::Condition;
+use crate::declaration::{Allocation, Attribute, DeclareItem, Freeing};
+use crate::expr::{Arguments, Expr, Exprs, Name, Place, Reference};
+
+/// An item of a format list, after its repetition.
+#[cycle(format)]
+#[derive(Debug, Drop)]
+pub enum Format {
+    List(Box<Formats>),
+    Fixed { width: u64 },
+    Text { width: Option<u64> },
+    Space { number: u64 },
+    Skip { number: u64 },
+    Column { number: u64 },
+}
+
+/// A format list; each item is repeated as often as the number before it says, which is 1 where none stands.
+#[cycle(format)]
+#[derive(Debug, Drop)]
+pub enum Formats {
+    End,
+    More {
+        repetition: u64,
+        first: Format,
+        rest: Box<Formats>,
+    },
+}
+
+/// A data list and the format list that it goes by.
+#[derive(Debug, Drop)]
+pub struct EditPair {
+    pub items: Exprs,
+    pub formats: Formats,
+}
+
+/// An option behind PROCEDURE.
+#[derive(Debug, Drop)]
+pub enum ProcedureOption {
+    Main,
+    Recursive,
+    Returns(Vec<Attribute>),
+}
+
+/// What stands around a procedure's body: its labels, the place of the word PROCEDURE, parameters and options.
+#[derive(Debug, Drop)]
+pub struct ProcedureHead {
+    pub labels: Vec<Name>,
+    pub place: Place,
+    pub parameters: Vec<Name>,
+    pub options: Vec<ProcedureOption>,
+}
+
+/// What DO V says of its turns.
+#[derive(Debug, Drop)]
+pub struct Counting {
+    pub variable: Reference,
+    pub start: Expr,
+    pub limit: Option<Expr>,
+    pub step: Option<Expr>,
+    pub condition: Option<Expr>,
+}
+
+/// A statement, with the place of its first token after labels. The labels of an END stand last in the list that it closes.
+#[cycle(stmt)]
+#[derive(Debug, Drop)]
+pub enum Stmt {
+    Null {
+        place: Place,
+    },
+    Assign {
+        target: Reference,
+        source: Expr,
+        place: Place,
+    },
+    If {
+        condition: Expr,
+        unit: Box<Stmt>,
+        place: Place,
+    },
+    IfElse {
+        condition: Expr,
+        unit: Box<Stmt>,
+        otherwise: Box<Stmt>,
+        place: Place,
+    },
+    Do {
+        body: Items,
+        place: Place,
+    },
+    DoWhile {
+        condition: Expr,
+        body: Items,
+        place: Place,
+    },
+    DoCount {
+        counting: Counting,
+        body: Items,
+        place: Place,
+    },
+    Begin {
+        body: Items,
+        place: Place,
+    },
+    OnSystem {
+        condition: Condition,
+        place: Place,
+    },
+    OnUnit {
+        condition: Condition,
+        unit: Box<Stmt>,
+        place: Place,
+    },
+    Call {
+        procedure: Name,
+        arguments: Arguments,
+        place: Place,
+    },
+    Return {
+        value: Option<Expr>,
+        place: Place,
+    },
+    Goto {
+        label: Name,
+        place: Place,
+    },
+    Stop {
+        place: Place,
+    },
+    Signal {
+        condition: Condition,
+        place: Place,
+    },
+    Revert {
+        condition: Condition,
+        place: Place,
+    },
+    Allocate {
+        allocations: Vec<Allocation>,
+        place: Place,
+    },
+    Free {
+        freeings: Vec<Freeing>,
+        place: Place,
+    },
+    Get {
+        skip: Option<u64>,
+        pairs: Vec<EditPair>,
+        place: Place,
+    },
+    Put {
+        skip: Option<u64>,
+        pairs: Vec<EditPair>,
+        place: Place,
+    },
+}
+
+/// An item of a list: a procedure, declarations, a labelled statement, or the labels of the END that closes the list.
+#[cycle(stmt)]
+#[derive(Debug, Drop)]
+pub enum Item {
+    Procedure {
+        head: ProcedureHead,
+        body: Items,
+    },
+    Declare {
+        items: Vec<DeclareItem>,
+        place: Place,
+    },
+    Statement {
+        labels: Vec<Name>,
+        statement: Stmt,
+    },
+    EndLabels {
+        labels: Vec<Name>,
+    },
+}
+
+/// A list of items.
+#[cycle(stmt)]
+#[derive(Debug, Drop)]
+pub enum Items {
+    End,
+    More { first: Box<Item>, rest: Box<Items> },
+}
+
+/// A program: its outer procedures, in order.
+#[derive(Debug, Drop)]
+pub struct Tree {
+    pub procedures: Items,
+}
