@@ -1,2 +1,3 @@
 mod MachineRows
+mod MeaningRows
 pub mod Views

@@ -6,3 +6,12 @@ pub mod Keywords
 pub mod Tokens
 pub mod Tree
 pub mod View
+pub mod Stream
+pub mod World
+pub mod Numbers
+pub mod Signatures
+pub mod Typed
+pub mod Storage
+pub mod Flow
+pub mod Meaning
+pub mod Typing

@@ -6,5 +6,6 @@ pub mod declaration;
 pub mod expr;
 pub mod fault;
 pub mod instr;
+pub mod outcome;
 pub mod stmt;
 pub mod token;

@@ -1,0 +1,141 @@
+-- The typed tree of a tree, for the sources that are compiled so far: one procedure with OPTIONS(MAIN) and one label;
+-- in it declarations of FIXED BINARY(31), then assignments, and PUT EDIT of one expression by one F(w).
+use Rattle.std.specs.Prelude.{ℕ, zero, suc, ◌+◌, List, [], ◌∷◌, ◌++◌, map, Option, Some, None, Bool, true, false, ◌==◌, if◌then◌else◌}
+use Rattle.pli_meaning.specs.declared.expr.PrefixOp.TheVariants as P
+use Rattle.pli_meaning.specs.declared.expr.PrefixOp.{PrefixOp}
+use Rattle.pli_meaning.specs.declared.expr.InfixOp.{InfixOp}
+use Rattle.pli_meaning.specs.declared.expr.InfixOp.TheVariants as I
+use Rattle.pli_meaning.specs.declared.expr.Place.{Place}
+use Rattle.pli_meaning.specs.Keywords.{same_bytes}
+use Rattle.pli_meaning.specs.Numbers.{Sign, Positive, Negative, Operator, Add, Subtract}
+use Rattle.pli_meaning.specs.Signatures as G
+use Rattle.pli_meaning.specs.Tree as T
+use Rattle.pli_meaning.specs.Typed as Y
+
+-- a function of a value that may be missing
+abbrev pub ◌and_then◌ : {X Z : Type 0} → Option X → (X → Option Z) → Option Z
+None and_then f = None
+(Some x) and_then f = f x
+
+infixl 20 ◌and_then◌
+-- the names that are declared, in order
+abbrev pub Scope : Type 0
+Scope = List (List ℕ)
+
+-- the place of a name among them
+abbrev pub index_of : Scope → List ℕ → Option ℕ
+index_of [] letters = None
+index_of (n ∷ ns) letters = if same_bytes n letters then Some 0 else (index_of ns letters and_then (λ i. Some (i + 1)))
+
+abbrev pub main_level : ℕ
+main_level = 0
+
+abbrev pub wide : ℕ
+wide = 31
+
+abbrev pub variable_named : Scope → List ℕ → Option Y.Variable
+variable_named scope letters =
+    index_of scope letters and_then (λ i. Some (record { level = main_level; index = i; precision = wide }))
+
+abbrev pub sign_of : PrefixOp → Option Sign
+sign_of P.Plus = Some Positive
+sign_of P.Minus = Some Negative
+sign_of P.Not = None
+
+abbrev pub operator_of : InfixOp → Option Operator
+operator_of I.Add = Some Add
+operator_of I.Subtract = Some Subtract
+operator_of _ = None
+
+abbrev pub typed_reference : Scope → T.Reference → Option Y.Variable
+typed_reference scope (T.Plain (T.Last name T.Absent)) = variable_named scope name.letters
+typed_reference scope _ = None
+
+abbrev pub typed_expr : Scope → T.Expr → Option Y.Number
+typed_expr scope (T.Number n place) = Some (Y.Constant n)
+typed_expr scope (T.Parenthesized e place) = typed_expr scope e and_then (λ e'. Some (Y.Grouped e'))
+typed_expr scope (T.Prefix op e place) =
+    sign_of op and_then (λ s. typed_expr scope e and_then (λ e'. Some (Y.Signed s e')))
+typed_expr scope (T.Infix op l r) =
+    operator_of op and_then (λ o. typed_expr scope l and_then (λ l'. typed_expr scope r and_then (λ r'. Some (Y.Operated o l' r'))))
+typed_expr scope (T.Refers r) = typed_reference scope r and_then (λ v. Some (Y.Fetched v))
+typed_expr scope _ = None
+
+abbrev pub typed_format : T.Formats → Option (List Y.FormatItem)
+typed_format (T.FormatThen (suc zero) (T.FixedFormat width) T.NoFormat) = Some (Y.FixedItem width ∷ [])
+typed_format _ = None
+
+abbrev pub pair_typed : Scope → T.Exprs → Option (List Y.FormatItem) → Option Y.EditPair
+pair_typed scope (T.ExprThen e T.NoExpr) (Some formats) =
+    typed_expr scope e and_then (λ e'. Some (record { items = e' ∷ []; formats = formats }))
+pair_typed scope _ _ = None
+
+abbrev pub typed_pair : Scope → T.EditPair → Option Y.EditPair
+typed_pair scope p = pair_typed scope p.items (typed_format p.formats)
+
+abbrev pub typed_stmt : Scope → T.Stmt → Option Y.Stmt
+typed_stmt scope (T.Assign target source place) =
+    typed_reference scope target and_then (λ v. typed_expr scope source and_then (λ e. Some (Y.Assign v e place.line)))
+typed_stmt scope (T.Put None (p ∷ []) place) = typed_pair scope p and_then (λ p'. Some (Y.Put (p' ∷ []) place.line))
+typed_stmt scope _ = None
+
+abbrev pub typed_items : Scope → T.Items → Option Y.Stmts
+typed_items scope T.NoItem = Some Y.NoStmt
+typed_items scope (T.ItemThen (T.Statement [] statement) rest) =
+    typed_stmt scope statement and_then (λ s. typed_items scope rest and_then (λ ss. Some (Y.StmtThen [] s ss)))
+typed_items scope _ = None
+
+abbrev pub with_name : Scope → List ℕ → List T.Bound → Option ℕ → Option Scope
+with_name scope letters [] None = Some (scope ++ letters ∷ [])
+with_name scope letters _ _ = None
+
+-- names without dimensions, none of them twice
+abbrev pub with_names : Scope → List T.DeclaredName → Option Scope
+with_names scope [] = Some scope
+with_names scope (d ∷ ds) = with_name scope d.name.letters d.dimensions (index_of scope d.name.letters) and_then (λ scope'. with_names scope' ds)
+
+-- FIXED BINARY(31)
+abbrev pub is_wide_fixed : List T.Attribute → Bool
+is_wide_fixed (T.Fixed None ∷ T.Binary (Some digits) ∷ []) = digits == wide
+is_wide_fixed _ = false
+
+abbrev pub item_declared : Scope → Option ℕ → List T.DeclaredName → List T.Bound → Bool → Option Scope
+item_declared scope None names [] true = with_names scope names
+item_declared scope _ _ _ _ = None
+
+abbrev pub with_declared : Scope → List T.DeclareItem → Option Scope
+with_declared scope [] = Some scope
+with_declared scope (d ∷ ds) = item_declared scope d.level d.names d.dimensions (is_wide_fixed d.attributes) and_then (λ scope'. with_declared scope' ds)
+
+abbrev pub wide_fixed : G.Signature
+wide_fixed = G.scalar (G.Fixed wide)
+
+abbrev pub main_program : Place → Scope → Y.Stmts → Y.Program
+main_program place scope body =
+    record {
+      main =
+          Y.BlockOf (record {
+            kind = Y.ProcedureBlock;
+            level = main_level;
+            line = place.line;
+            variables = map (λ letters. wide_fixed) scope;
+          }) body;
+    }
+
+-- declarations first, then statements
+abbrev pub typed_body : Place → Scope → T.Items → Option Y.Program
+typed_body place scope (T.ItemThen (T.Declare declared at) rest) =
+    with_declared scope declared and_then (λ scope'. typed_body place scope' rest)
+typed_body place scope items = typed_items scope items and_then (λ body. Some (main_program place scope body))
+
+abbrev pub typed_procedure : List T.Name → Place → List T.Name → List T.ProcedureOption → T.Items → Option Y.Program
+typed_procedure (label ∷ []) place [] (T.Main ∷ []) body = typed_body place [] body
+typed_procedure _ place _ _ body = None
+
+abbrev pub typed_tree : T.Items → Option Y.Program
+typed_tree (T.ItemThen (T.Procedure head body) T.NoItem) =
+    typed_procedure head.labels head.place head.parameters head.options body
+typed_tree _ = None
+
+abbrev pub typed : T.Tree → Option Y.Program
+typed tree = typed_tree tree.procedures
