@@ -1,3 +1,4 @@
 mod MachineRows
 mod MeaningRows
+mod Unique
 pub mod Views

@@ -15,3 +15,4 @@ pub mod Storage
 pub mod Flow
 pub mod Meaning
 pub mod Typing
+pub mod Spells
