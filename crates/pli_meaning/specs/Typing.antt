@@ -61,13 +61,35 @@ typed_expr scope (T.Infix op l r) =
 typed_expr scope (T.Refers r) = typed_reference scope r and_then (λ v. Some (Y.Fetched v))
 typed_expr scope _ = None
 
+-- the parentheses that are open at once, where at least one expression's are
+abbrev pub nesting : T.Expr → ℕ
+nesting (T.Number n place) = 0
+nesting (T.Text v place) = 0
+nesting (T.Bit b place) = 0
+nesting (T.Parenthesized e place) = suc (nesting e)
+nesting (T.Prefix op e place) = nesting e
+nesting (T.Infix op l r) = max (nesting l) (nesting r)
+nesting (T.Refers r) = 0
+
+abbrev pub most_parentheses : ℕ
+most_parentheses = 32
+
+-- an expression behind this many open parentheses
+abbrev pub typed_within : ℕ → Scope → T.Expr → Option Y.Number
+typed_within open_before scope e =
+    if nat_le (open_before + nesting e) most_parentheses then typed_expr scope e else None
+
+abbrev pub is_width : ℕ → Bool
+is_width n = nat_le 1 n && nat_le n 1024
+
 abbrev pub typed_format : T.Formats → Option (List Y.FormatItem)
-typed_format (T.FormatThen (suc zero) (T.FixedFormat width) T.NoFormat) = Some (Y.FixedItem width ∷ [])
+typed_format (T.FormatThen (suc zero) (T.FixedFormat width) T.NoFormat) =
+    if is_width width then Some (Y.FixedItem width ∷ []) else None
 typed_format _ = None
 
 abbrev pub pair_typed : Scope → T.Exprs → Option (List Y.FormatItem) → Option Y.EditPair
 pair_typed scope (T.ExprThen e T.NoExpr) (Some formats) =
-    typed_expr scope e and_then (λ e'. Some (record { items = e' ∷ []; formats = formats }))
+    typed_within 1 scope e and_then (λ e'. Some (record { items = e' ∷ []; formats = formats }))
 pair_typed scope _ _ = None
 
 abbrev pub typed_pair : Scope → T.EditPair → Option Y.EditPair
@@ -75,7 +97,7 @@ typed_pair scope p = pair_typed scope p.items (typed_format p.formats)
 
 abbrev pub typed_stmt : Scope → T.Stmt → Option Y.Stmt
 typed_stmt scope (T.Assign target source place) =
-    typed_reference scope target and_then (λ v. typed_expr scope source and_then (λ e. Some (Y.Assign v e place.line)))
+    typed_reference scope target and_then (λ v. typed_within 0 scope source and_then (λ e. Some (Y.Assign v e place.line)))
 typed_stmt scope (T.Put None (p ∷ []) place) = typed_pair scope p and_then (λ p'. Some (Y.Put (p' ∷ []) place.line))
 typed_stmt scope _ = None
 
