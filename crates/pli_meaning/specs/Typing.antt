@@ -1,6 +1,7 @@
 -- The typed tree of a tree, for the sources that are compiled so far: one procedure with OPTIONS(MAIN) and one label;
 -- in it declarations of FIXED BINARY(31), then assignments, and PUT EDIT of one expression by one F(w).
-use Rattle.std.specs.Prelude.{ℕ, zero, suc, ◌+◌, List, [], ◌∷◌, ◌++◌, map, Option, Some, None, Bool, true, false, ◌==◌, if◌then◌else◌}
+use Rattle.std.specs.Prelude.{ℕ, zero, suc, ◌+◌, List, [], ◌∷◌, ◌++◌, map, Option, Some, None, Bool, true, false, ◌==◌, ◌&&◌, nat_le, max, if◌then◌else◌}
+use Rattle.std.specs.Option.{option_and_then}
 use Rattle.pli_meaning.specs.declared.expr.PrefixOp.TheVariants as P
 use Rattle.pli_meaning.specs.declared.expr.PrefixOp.{PrefixOp}
 use Rattle.pli_meaning.specs.declared.expr.InfixOp.{InfixOp}
@@ -12,10 +13,9 @@ use Rattle.pli_meaning.specs.Signatures as G
 use Rattle.pli_meaning.specs.Tree as T
 use Rattle.pli_meaning.specs.Typed as Y
 
--- a function of a value that may be missing
+-- goes on with a value where there is one
 abbrev pub ◌and_then◌ : {X Z : Type 0} → Option X → (X → Option Z) → Option Z
-None and_then f = None
-(Some x) and_then f = f x
+o and_then f = option_and_then f o
 
 infixl 20 ◌and_then◌
 -- the names that are declared, in order
