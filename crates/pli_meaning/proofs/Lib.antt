@@ -1,4 +1,6 @@
 mod MachineRows
 mod MeaningRows
-mod Unique
+pub mod Steps
+pub mod Growth
+pub mod Unique
 pub mod Views

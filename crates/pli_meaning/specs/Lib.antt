@@ -16,3 +16,4 @@ pub mod Flow
 pub mod Meaning
 pub mod Typing
 pub mod Spells
+pub mod Laws

@@ -6,7 +6,7 @@ use Rattle.pli_meaning.specs.declared.condition.Condition.TheVariants as C
 use Rattle.pli_meaning.specs.declared.outcome.Limit.TheVariants as L
 use Rattle.pli_meaning.specs.declared.outcome.End.TheVariants as E
 use Rattle.pli_meaning.specs.World.{World, counted, written, raising}
-use Rattle.pli_meaning.specs.Stream.{fixed_field}
+use Rattle.pli_meaning.specs.Stream.{fixed_field, with_field}
 use Rattle.pli_meaning.specs.Numbers.{Checked, Gives, Raises, checked, sign_applied, operator_applied}
 use Rattle.pli_meaning.specs.Signatures.{Signature}
 use Rattle.pli_meaning.specs.Typed.{Variable, Number, Constant, Fetched, Grouped, Signed, Operated, FormatItem, FixedItem, EditPair, BlockKind, ProcedureBlock, BeginBlock, UnitBlock, BlockHead, Stmt, Null, Assign, Put, Stmts, NoStmt, StmtThen, Block, BlockOf, Program}
@@ -119,9 +119,7 @@ assigned around v z = do
 -- the field of a number is written, an act; one that is too wide raises ERROR, and the item isn't carried out
 unfoldable pub field_written : Around → Option (List ℕ) → Meaning (Unit {0})
 field_written around None = error_raised around too_wide_code
-field_written around (Some field) = do
-  s ← looked
-  act (written (s.world.output ++ field))
+field_written around (Some field) = act (written (with_field field))
 
 unfoldable pub item_put : Around → FormatItem → ℤ → Meaning (Unit {0})
 item_put around (FixedItem width) z = field_written around (fixed_field width z)

@@ -33,6 +33,10 @@ right_justified width t = if nat_le (length t) width then Some (blanks (width - 
 abbrev pub fixed_field : ℕ → ℤ → Option (List ℕ)
 fixed_field width z = right_justified width (decimal_text z)
 
+-- a field behind the output
+abbrev pub with_field : List ℕ → List ℕ → List ℕ
+with_field field output = output ++ field
+
 -- ---- control items
 
 abbrev pub column_of : List ℕ → ℕ

@@ -25,9 +25,9 @@ first_world = record { acts = 0; output = []; raised = []; end = Running }
 abbrev pub counted : World → World
 counted w = record w { acts = w.acts + 1 }
 
--- an act that writes: the output from now on
-abbrev pub written : List ℕ → World → World
-written output w = record { acts = w.acts + 1; output = output; raised = w.raised; end = w.end }
+-- an act that writes: what becomes of the output
+abbrev pub written : (List ℕ → List ℕ) → World → World
+written item w = record { acts = w.acts + 1; output = item w.output; raised = w.raised; end = w.end }
 
 -- an act that raises a condition
 abbrev pub raising : Condition → ℕ → World → World

@@ -6,6 +6,7 @@ pub mod declaration;
 pub mod expr;
 pub mod fault;
 pub mod instr;
+pub mod laws;
 pub mod outcome;
 pub mod stmt;
 pub mod token;
