@@ -4,6 +4,7 @@ use Rattle.pli_meaning.specs.declared.condition.Condition.{Condition}
 use Rattle.pli_meaning.specs.declared.condition.Condition.TheVariants as C
 use Rattle.pli_meaning.specs.declared.outcome.End.TheVariants as E
 use Rattle.pli_meaning.specs.declared.outcome.Limit.TheVariants as L
+use Rattle.pli_meaning.specs.Codes.{no_generation_code, too_wide_code}
 use Rattle.pli_meaning.specs.World.{World, first_world}
 use Rattle.pli_meaning.specs.Stream.{fixed_field}
 use Rattle.pli_meaning.specs.Numbers.{Checked, Gives, Raises, checked, sign_applied, operator_applied}
@@ -61,7 +62,7 @@ value_of_agrees (Raises c code after) h = then_agrees (raised_agrees c code h) (
 
 generation_found_agrees : {R : Type 0} {a a' : Around} (g : Option Generation) (next : Generation → Meaning R) → AroundAgree a a' → ((x : Generation) → Agree (next x) (next x)) → Agree (M.generation_found a g next) (M.generation_found a' g next)
 unfolding M.generation_found
-generation_found_agrees None next h n = error_raised_agrees M.no_generation_code h
+generation_found_agrees None next h n = error_raised_agrees no_generation_code h
 generation_found_agrees (Some g) next h n = n g
 
 stuck_self : {R : Type 0} → Agree {R = R} stuck stuck
@@ -96,7 +97,7 @@ assigned_agrees v z h =
 
 field_written_agrees : {a a' : Around} (field : Option (List ℕ)) → AroundAgree a a' → Agree (M.field_written a field) (M.field_written a' field)
 unfolding M.field_written
-field_written_agrees None h = error_raised_agrees M.too_wide_code h
+field_written_agrees None h = error_raised_agrees too_wide_code h
 field_written_agrees (Some field) h = act_agrees (field_shows field)
 
 item_put_agrees : {a a' : Around} (f : FormatItem) (z : ℤ) → AroundAgree a a' → Agree (M.item_put a f z) (M.item_put a' f z)

@@ -8,6 +8,7 @@ pub mod Tree
 pub mod View
 pub mod Stream
 pub mod World
+pub mod Codes
 pub mod Numbers
 pub mod Signatures
 pub mod Typed
@@ -17,3 +18,5 @@ pub mod Meaning
 pub mod Typing
 pub mod Spells
 pub mod Laws
+pub mod Services
+pub mod Headline

@@ -5,6 +5,7 @@ use Rattle.pli_meaning.specs.declared.condition.Condition.{Condition}
 use Rattle.pli_meaning.specs.declared.condition.Condition.TheVariants as C
 use Rattle.pli_meaning.specs.declared.outcome.Limit.TheVariants as L
 use Rattle.pli_meaning.specs.declared.outcome.End.TheVariants as E
+use Rattle.pli_meaning.specs.Codes.{no_generation_code, too_wide_code}
 use Rattle.pli_meaning.specs.World.{World, counted, written, raising}
 use Rattle.pli_meaning.specs.Stream.{fixed_field, with_field}
 use Rattle.pli_meaning.specs.Numbers.{Checked, Gives, Raises, checked, sign_applied, operator_applied}
@@ -30,13 +31,6 @@ abbrev pub at_line : Around → ℕ → Around
 at_line around line = record around { line = line }
 
 -- ---- conditions
-
--- the code of an error that is found by the machine itself
-abbrev pub no_generation_code : ℕ
-no_generation_code = 101
-
-abbrev pub too_wide_code : ℕ
-too_wide_code = 105
 
 -- after the unit of ERROR, or where there is none, the run ends
 unfoldable pub error_unit_run : {R : Type 0} → Around → ℕ → Option (Activation × OnUnit) → Meaning R

@@ -1,6 +1,7 @@
 -- Numbers: FIXED BINARY(p) holds -2^p to 2^p - 1. Results are exact whole numbers that are then checked against p.
 use Rattle.std.specs.Prelude.{ℕ, ◌+◌, ◌-◌, ◌%◌, ◌^◌, ℤ, pos, negsuc, ◌+ℤ◌, ◌-ℤ◌, neg_ℤ, Bool, nat_lt, if◌then◌else◌}
 use Rattle.pli_meaning.specs.declared.condition.Condition.{Condition}
+use Rattle.pli_meaning.specs.Codes.{fixed_overflow_code}
 use Rattle.pli_meaning.specs.declared.condition.Condition.TheVariants.{FixedOverflow}
 
 abbrev pub is_of_precision : ℕ → ℤ → Bool
@@ -23,9 +24,6 @@ wrapped p z = of_residue p (residue (2 ^ (p + 1)) z)
 pub data Checked : Type 0 where
   Gives : (value : ℤ) → Checked
   Raises : (condition : Condition) → (code : ℕ) → (after : ℤ) → Checked
-
-abbrev pub fixed_overflow_code : ℕ
-fixed_overflow_code = 20
 
 -- a number where precision p is due
 abbrev pub checked : ℕ → ℤ → Checked
