@@ -2,5 +2,7 @@ mod MachineRows
 mod MeaningRows
 pub mod Steps
 pub mod Growth
+pub mod Engine
+pub mod MemoryLaws
 pub mod Unique
 pub mod Views

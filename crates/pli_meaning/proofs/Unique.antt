@@ -550,7 +550,7 @@ procedure_same {s} k (G.procedure ts after mid behind end items rest t u v w wor
     let labels : G.name_at s t word ∷ [] ≡ G.name_at s t' word' ∷ [] = cc (n) in
     let p = items_same labels m.rest f f' in
     let head : head_of (G.name_at s t word ∷ []) v options ≡ head_of (G.name_at s t' word' ∷ []) v' options' = cc (ap head_of labels, i.token, j.value) in
-    record { value = cc (ap (λ u. T.Procedure u is) head, p.value); rest = p.rest }
+    record { value = cc (head, p.value); rest = p.rest }
 
 procedure_some : {s : List ℕ} {ts r : List Token} {x : T.Item} → G.SpellsProcedure s ts x r → [] ≡ ts → ⊥
 procedure_some (G.procedure ts after mid behind end items rest t u v w word options is a b c d e f) k =
