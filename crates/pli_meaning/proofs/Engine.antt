@@ -98,7 +98,7 @@ effect_at code b i x s here has =
     ap (λ u. cond u (of_fetched p s (fetched p s.pc)) (Faults Misaligned)) t ∙ ap (of_fetched p s) f
 
 -- the address of the next instruction
-next_address : (b : Base) (i pc : ℕ) → i < most_code → pc ≡ address b i → sum pc 4 ≡ address b (suc i)
+pub next_address : (b : Base) (i pc : ℕ) → i < most_code → pc ≡ address b i → sum pc 4 ≡ address b (suc i)
 next_address b i pc h e =
     let v = b.valid.1 in
     let k : b.at + 4 * i + 4 < 2 ^ 32 = omega (arith, v) in
