@@ -5,3 +5,5 @@ pub mod Acts
 pub mod Raising
 pub mod Operators
 pub mod Values
+pub mod Assignments
+pub mod Fields

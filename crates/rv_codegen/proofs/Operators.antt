@@ -83,7 +83,7 @@ pub hop : (code : List Instr) (i j : ℕ) (f : Family) (v : Service) (P : Base �
 unfolding run_on
 hop code i j f v P h go = record { count = 1; paid = omega (arith, h); goes = λ b. record { after = (go b).0; ran = (go b).1; holds = (go b).2 } }
 
-skip_sum : (b : Base) (i n : ℕ) → i + n + 1 < most_code → sum (address b i) (word (pos (4 * (n + 1)))) ≡ address b (i + (n + 1))
+pub skip_sum : (b : Base) (i n : ℕ) → i + n + 1 < most_code → sum (address b i) (word (pos (4 * (n + 1)))) ≡ address b (i + (n + 1))
 skip_sum b i n h = let v = b.valid.1 in omega (arith, v)
 
 moved_sum : (x : ℕ) → x < 2 ^ 32 → sum x (word (pos 0)) ≡ x

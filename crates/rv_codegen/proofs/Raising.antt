@@ -74,7 +74,7 @@ number_piece code i f v slots taken n number service small' fits fits' inside ha
 pub along : (code : List Instr) (i j : ℕ) (xs : List Instr) → i ≡ j → HasAt code i xs → HasAt code j xs
 along code i j xs e h = subst (λ n. HasAt code n xs) e h
 
-below_more : (v : Service) (s : State) (k : ℕ) → v.world ≡ s.world → s.world.acts < k → v.world.acts + 1 ≤ k
+pub below_more : (v : Service) (s : State) (k : ℕ) → v.world ≡ s.world → s.world.acts < k → v.world.acts + 1 ≤ k
 below_more v s k e h = let a = ap (λ (u : World). u.acts) e in omega (arith, a, h)
 
 -- the run ends with an error, at the line of the services
@@ -97,7 +97,7 @@ error_end code i f v slots taken n k line s R done small' coded inside has servi
     let w : v'.world ≡ ending (E.Error n line) s.world = ap (λ u. ending (E.Error n u) v.world) serving.line_is ∙ ap (ending (E.Error n line)) serving.world in
     comes_finish R code i f v v' done (E.Error n line) k s serving.world w (pausing_then r pauses) (ending_then r ends)
 
-alone_kept : (change : World → World) (s : State) → Alone s → Alone (with_world change s)
+pub alone_kept : (change : World → World) (s : State) → Alone s → Alone (with_world change s)
 alone_kept change s a = record { none = a.none }
 
 -- ERROR is raised, and the run ends

@@ -66,7 +66,7 @@ done_from {code} {i} {f} {v} {i'} slots taken j s size size' z t r e d =
 constant_wide : (n : ℕ) → n < 2 ^ 31 → IsWide (pos n)
 constant_wide n h = grind (arith, nat_tests)
 
-unequal : (a b : ℕ) → a ≢ b → (a == b) ≡ false
+pub unequal : (a b : ℕ) → a ≢ b → (a == b) ≡ false
 unequal a b h = grind (arith, nat_tests)
 
 pub put_other : (slots : ℕ → ℕ) (k x t : ℕ) → t < k → put slots k x t ≡ slots t
@@ -130,7 +130,7 @@ unfolding give
 give_done code i f v slots taken s size k z h r = (refl, h, r)
 
 -- a number that fits stays
-fits_gives : (around : Around) (z : ℤ) (k : ℕ) (s : State) → IsWide z → M.value_of around (checked 31 z) k s ≡ give z k s
+pub fits_gives : (around : Around) (z : ℤ) (k : ℕ) (s : State) → IsWide z → M.value_of around (checked 31 z) k s ≡ give z k s
 unfolding M.value_of
 fits_gives around z k s h = ap (λ (t : Bool). M.value_of around (cond t (Gives z) (Raises C.FixedOverflow 20 (wrapped 31 z))) k s) h
 
