@@ -7,3 +7,4 @@ pub mod Operators
 pub mod Values
 pub mod Assignments
 pub mod Fields
+pub mod Statements

@@ -144,3 +144,11 @@ reach_map P r h =
       paid = r.paid;
       goes = λ b. record { after = (r.goes b).after; ran = (r.goes b).ran; holds = h b (r.goes b).after (r.goes b).holds };
     }
+
+pub comes_map : {R : Type 0} (code : List Instr) (i : ℕ) (f : Family) (v : Service) (done done' : R → State → Type 0) (flow : Flow R) → ((x : R) (s : State) → done x s → done' x s) → Comes code i f v done flow → Comes code i f v done' flow
+comes_map code i f v done done' (Normal x s) g c = g x s c
+comes_map code i f v done done' (Jump height label s) g c = c
+comes_map code i f v done done' (Return x s) g c = c
+comes_map code i f v done done' (F.Ended s) g c = c
+comes_map code i f v done done' (Paused s) g c = c
+comes_map code i f v done done' Stuck g c = c

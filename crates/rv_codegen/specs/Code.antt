@@ -152,7 +152,7 @@ abbrev pub frame_code : Instr
 frame_code = I.AddUpperToPc frame_register (frame_offset / 4096)
 
 abbrev pub finish_code : List Instr
-finish_code = small a0_register 0 ∷ call 2
+finish_code = small a0_register 0 ∷ small a1_register 0 ∷ call 2
 
 abbrev pub block_code : Block → List Instr
 block_code (BlockOf head body) =
