@@ -1,0 +1,4 @@
+pub mod Pieces
+pub mod Scanning
+pub mod Symbols
+pub mod Words

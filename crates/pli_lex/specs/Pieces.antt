@@ -1,0 +1,34 @@
+-- What stands at the front of bytes that aren't at their end.
+use Rattle.std.specs.Prelude.{◌≡◌, ◌≢◌, ℕ, ◌<◌, ◌≤◌, List, [], ◌∷◌, length, take, ◌⊎◌}
+use Rattle.pli_meaning.specs.declared.fault.SourceFault.{SourceFault}
+use Rattle.pli_meaning.specs.declared.fault.SourceKind.{SourceKind}
+use Rattle.pli_meaning.specs.declared.fault.SourceKind.TheVariants.{Memory}
+use Rattle.pli_meaning.specs.declared.token.Kind.{Kind}
+use Rattle.pli_meaning.specs.Tokens.{IsSeparation, Read, IsLongest, IsShort, Breaks, Refuses}
+use Rattle.pli_lex.specs.declared.piece.Piece.{Piece}
+use Rattle.pli_lex.specs.declared.piece.Piece.TheVariants as P
+
+pub record IsSeparatorAt (s : List ℕ) (n : ℕ) : Type 0 where
+  pub some : 0 < n
+  pub inside : n ≤ length s
+  pub separates : IsSeparation (take n s)
+
+pub record IsTokenOf (s : List ℕ) (kind : Kind) (n : ℕ) : Type 0 where
+  pub some : 0 < n
+  pub inside : n ≤ length s
+  pub longest : IsLongest s n (Read kind)
+  pub short : IsShort kind (take n s)
+
+-- whatever stands before
+pub record IsRefusedAt (s : List ℕ) (kind : SourceKind) : Type 0 where
+  pub breaks : (read : ℕ) → Breaks s read kind
+
+abbrev pub IsPiece : List ℕ → Piece → Type 0
+IsPiece s (P.Separator n) = IsSeparatorAt s n
+IsPiece s (P.Token kind n) = IsTokenOf s kind n
+IsPiece s (P.Refused kind) = IsRefusedAt s kind
+
+-- a fault is want of memory, or the refusal that the source gets
+pub data IsFaultOf (s : List ℕ) (fault : SourceFault) : Type 0 where
+  out_of_memory : fault.line ≡ 0 → fault.column ≡ 0 → fault.kind ≡ Memory → IsFaultOf s fault
+  refused : fault.kind ≢ Memory → Refuses s fault.line fault.column fault.kind → IsFaultOf s fault

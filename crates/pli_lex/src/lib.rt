@@ -1,0 +1,61 @@
+// The tokens of a source.
+#![tactic(auto)]
+
+mod piece;
+mod place;
+mod scan;
+mod symbol;
+mod word;
+
+ghost use Rattle.std.specs.Prelude.{MatchResult};
+ghost use Rattle.pli_lex.specs.Pieces.{IsFaultOf};
+ghost use Rattle.pli_meaning.specs.Tokens.{Tokens};
+
+use pli_meaning::fault::{SourceFault, SourceKind};
+use pli_meaning::token::{Kind, Token};
+use std::alloc::Global;
+
+use crate::piece::{next_piece, Piece};
+use crate::place::Place;
+
+/// The most bytes of a source.
+pub const MOST_BYTES: usize = 1 << 20;
+
+/// The most tokens of a source.
+pub const MOST_TOKENS: usize = 10_000;
+
+const OUT_OF_MEMORY: SourceFault = SourceFault { line: 0, column: 0, kind: SourceKind::Memory };
+
+/// The tokens of a source, in its order, each the longest at its place, with only blanks and comments between them.
+///
+/// # Errors
+///
+/// The first place at which no further token stands, with what is wrong there: a byte that begins none, an unclosed
+/// comment or text, a token past its limit, one token too many, or a form that is left out. A source of more than
+/// 2^20 bytes is `TooLong` at 1:1 before all. `Memory` at 0:0 where memory ran out.
+pub fn tokens(alloc: Global, source: &[u8]) -> Result<Vec<Token>, SourceFault>
+    ensures { MatchResult result (λ v. Tokens source.now v.items) (λ e. IsFaultOf source.now e) }
+{
+    if source.len() > MOST_BYTES {
+        return Err(SourceFault { line: 1, column: 1, kind: SourceKind::TooLong });
+    }
+    let mut tokens = Vec::new(alloc);
+    let mut place = Place { offset: 0, line: 1, column: 1 };
+    while place.offset < source.len() {
+        let rest = &source[place.offset..];
+        let len = match next_piece(rest) {
+            Piece::Separator(len) => len,
+            Piece::Token(kind, len) => {
+                if tokens.len() == MOST_TOKENS {
+                    return Err(place.fault(SourceKind::TooLong));
+                }
+                tokens.push(place.token(kind, len)).map_err(|_| OUT_OF_MEMORY)?;
+                len
+            }
+            Piece::Refused(kind) => return Err(place.fault(kind)),
+        };
+        place = place.behind(&rest[..len]);
+    }
+    Ok(tokens)
+}
+
