@@ -19,7 +19,7 @@ abbrev pub of_length : ℕ → Option Lexeme → Option (ℕ × Lexeme)
 of_length n None = None
 of_length n (Some x) = Some (n, x)
 
-abbrev or_else : Option (ℕ × Lexeme) → Option (ℕ × Lexeme) → Option (ℕ × Lexeme)
+abbrev pub or_else : Option (ℕ × Lexeme) → Option (ℕ × Lexeme) → Option (ℕ × Lexeme)
 or_else None other = other
 or_else (Some x) other = Some x
 
@@ -87,14 +87,14 @@ at_fixed b r other =
 
 -- ---- the longest front that passes a test
 
-one-add : (n : ℕ) → 1 + n ≡ suc n
+pub one-add : (n : ℕ) → 1 + n ≡ suc n
 one-add n = omega arith
 
 prefix_passes_by : (p : ℕ → Bool) (b : ℕ) (r : List ℕ) (t : Bool) → p b ≡ t → list_all p (take (prefix_len p r) r) ≡ true → list_all p (take (cond t (1 + prefix_len p r) 0) (b ∷ r)) ≡ true
 prefix_passes_by p b r true q more = rw (one-add (prefix_len p r)) (and_from _ _ q more)
 prefix_passes_by p b r false q more = refl
 
-prefix_passes : (p : ℕ → Bool) (r : List ℕ) → list_all p (take (prefix_len p r) r) ≡ true
+pub prefix_passes : (p : ℕ → Bool) (r : List ℕ) → list_all p (take (prefix_len p r) r) ≡ true
 prefix_passes p [] = refl
 prefix_passes p (b ∷ r) = prefix_passes_by p b r (p b) refl (prefix_passes p r)
 
@@ -150,11 +150,11 @@ is_letter : (c : ℕ) → (c ≡ 66) ⊎ (c ≡ 98) → (eqb c 66 || eqb c 98) �
 is_letter c (inl e) = or_left _ _ (eq-eqb c 66 e)
 is_letter c (inr e) = or_right _ _ (eq-eqb c 98 e)
 
-bits_together : (c : ℕ) (r : List ℕ) → (c ≡ 66) ⊎ (c ≡ 98) → NameEnds r → stands_as_bits (c ∷ r) ≡ true
+pub bits_together : (c : ℕ) (r : List ℕ) → (c ≡ 66) ⊎ (c ≡ 98) → NameEnds r → stands_as_bits (c ∷ r) ≡ true
 bits_together c [] b ends = is_letter c b
 bits_together c (d ∷ r) b ends = and_from _ _ (is_letter c b) (not_from_false _ ends)
 
-same_bytes-true : (a b : List ℕ) → same_bytes a b ≡ true → a ≡ b
+pub same_bytes-true : (a b : List ℕ) → same_bytes a b ≡ true → a ≡ b
 same_bytes-true [] [] h = refl
 same_bytes-true [] (y ∷ ys) h = absurd (cc)
 same_bytes-true (x ∷ xs) [] h = absurd (cc)
@@ -172,16 +172,16 @@ bits_spelled_by v t rest c h b ends false true e f =
 bits_spelled_by v t rest c h b ends false false e f =
     other_bits v t c h (λ is. both_ways _ e (ap (λ l. same_bytes l (48 ∷ [])) is)) (λ is. both_ways _ f (ap (λ l. same_bytes l (49 ∷ [])) is)) b ends refl
 
-text_of : (v : List ℕ) → list_all on_line v ≡ true → IsTextOf v (quote ∷ (doubled v ++ quote ∷ []))
+pub text_of : (v : List ℕ) → list_all on_line v ≡ true → IsTextOf v (quote ∷ (doubled v ++ quote ∷ []))
 text_of v line = record { spelled = refl; on_one_line = line }
 
 -- the bytes up to and with a closing quote, and those behind
-closed_take : (r v rest : List ℕ) → r ≡ doubled v ++ quote ∷ rest → take (suc (length (doubled v))) r ≡ doubled v ++ quote ∷ []
+pub closed_take : (r v rest : List ℕ) → r ≡ doubled v ++ quote ∷ rest → take (suc (length (doubled v))) r ≡ doubled v ++ quote ∷ []
 closed_take r v rest e =
     let regrouped : r ≡ (doubled v ++ quote ∷ []) ++ rest = e ∙ sym (append_assoc (doubled v) (quote ∷ []) rest) in
     ap (take (suc (length (doubled v)))) regrouped ∙ take_at (doubled v ++ quote ∷ []) rest (suc (length (doubled v))) (simp length-append (omega arith))
 
-closed_drop : (r v rest : List ℕ) → r ≡ doubled v ++ quote ∷ rest → drop (suc (length (doubled v))) r ≡ rest
+pub closed_drop : (r v rest : List ℕ) → r ≡ doubled v ++ quote ∷ rest → drop (suc (length (doubled v))) r ≡ rest
 closed_drop r v rest e =
     let regrouped : r ≡ (doubled v ++ quote ∷ []) ++ rest = e ∙ sym (append_assoc (doubled v) (quote ∷ []) rest) in
     ap (drop (suc (length (doubled v)))) regrouped ∙ drop_at (doubled v ++ quote ∷ []) rest (suc (length (doubled v))) (simp length-append (omega arith))
@@ -396,7 +396,7 @@ longest_bits b r k v c rest h letter ends =
     let here = longest_bits_by r v best.value c rest h.spelled letter ends best.found closes best.at_least (cases_lt _ _) in
     subst (λ x. Longest (x ∷ r) (suc k) (bits_of v)) (sym h.opens) (subst (λ j. Longest (quote ∷ r) (suc j) (bits_of v)) (sym h.size) here)
 
-bits_of_other : (v : List ℕ) → v ≢ 48 ∷ [] → v ≢ 49 ∷ [] → bits_of v ≡ OtherBits v
+pub bits_of_other : (v : List ℕ) → v ≢ 48 ∷ [] → v ≢ 49 ∷ [] → bits_of v ≡ OtherBits v
 bits_of_other v no_zero no_one =
     cond-false _ _ _ (false_from_ne_true _ (λ h. no_zero (same_bytes-true v (48 ∷ []) h))) ∙ cond-false _ _ _ (false_from_ne_true _ (λ h. no_one (same_bytes-true v (49 ∷ []) h)))
 

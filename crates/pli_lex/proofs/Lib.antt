@@ -1,6 +1,7 @@
 pub mod Comments
 pub mod Lexemes
 pub mod Numbers
+pub mod Pieces
 pub mod Symbols
 pub mod Texts
 pub mod Words

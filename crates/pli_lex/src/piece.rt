@@ -1,8 +1,8 @@
 // What stands at the front of what is left of a source.
 
-ghost use Rattle.std.specs.Prelude.{◌≡◌, ◌<◌, length, slice_index, IsTrue, true, false};
+ghost use Rattle.std.specs.Prelude.{◌≡◌, ◌<◌, length, slice_index, IsTrue, MatchOption};
 ghost use Rattle.pli_meaning.specs.Tokens.{is_digit, is_name_start, opens_comment, is_blank};
-ghost use Rattle.pli_lex.specs.Pieces.{IsPiece};
+ghost use Rattle.pli_lex.specs.Pieces.{IsPiece, BeginsOther, BeginsNoPair};
 
 use pli_meaning::fault::SourceKind;
 use pli_meaning::token::{Kind, Symbol};
@@ -101,34 +101,40 @@ fn quoted(bytes: &[u8]) -> Piece
     if !stands_as_bits(&bytes[1 + end..]) {
         return Piece::Token(Kind::Text, 1 + end);
     }
-    match (len, bytes[1]) {
-        (1, b'0') => Piece::Token(Kind::Bit(false), 2 + end),
-        (1, b'1') => Piece::Token(Kind::Bit(true), 2 + end),
+    if len != 1 {
+        return Piece::Refused(SourceKind::LeftOut);
+    }
+    match bytes[1] {
+        b'0' => Piece::Token(Kind::Bit(false), 2 + end),
+        b'1' => Piece::Token(Kind::Bit(true), 2 + end),
         _ => Piece::Refused(SourceKind::LeftOut),
     }
 }
 
+// `**` or a symbol of two bytes.
+fn long_symbol(bytes: &[u8]) -> Option<Piece>
+    requires { BeginsOther bytes.now }
+    ensures { MatchOption result (BeginsNoPair bytes.now) (λ piece. IsPiece bytes.now piece) }
+{
+    if bytes.len() < 2 {
+        return None;
+    }
+    if bytes[0] == b'*' && bytes[1] == b'*' {
+        return Some(Piece::Refused(SourceKind::LeftOut));
+    }
+    let symbol = pair(bytes[0], bytes[1])?;
+    Some(Piece::Token(Kind::Symbol(symbol), 2))
+}
+
 // A symbol, `**`, or a byte that begins no token.
 fn symbol(bytes: &[u8]) -> Piece
-    requires some { 0 < length bytes.now }
-    requires no_blank { is_blank (slice_index bytes.now 0) ≡ false }
-    requires no_comment { opens_comment bytes.now ≡ false }
-    requires no_name { is_name_start (slice_index bytes.now 0) ≡ false }
-    requires no_digit { is_digit (slice_index bytes.now 0) ≡ false }
-    requires no_quote { (slice_index bytes.now 0 ≡ 39) → ⊥ }
+    requires { BeginsOther bytes.now }
     ensures { IsPiece bytes.now result }
 {
-    let first = bytes[0];
-    if bytes.len() > 1 {
-        let second = bytes[1];
-        if first == b'*' && second == b'*' {
-            return Piece::Refused(SourceKind::LeftOut);
-        }
-        if let Some(symbol) = pair(first, second) {
-            return Piece::Token(Kind::Symbol(symbol), 2);
-        }
+    if let Some(piece) = long_symbol(bytes) {
+        return piece;
     }
-    match single(first) {
+    match single(bytes[0]) {
         Some(symbol) => Piece::Token(Kind::Symbol(symbol), 1),
         None => Piece::Refused(SourceKind::BadByte),
     }

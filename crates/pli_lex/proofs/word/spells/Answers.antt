@@ -1,4 +1,3 @@
-use Rattle.pli_lex.proofs.Comments.{separation_join}
 use Rattle.pli_lex.proofs.Words.{spells-other_length}
 use Rattle.pli_lex.proofs.word.spells.Goals as goal
 
