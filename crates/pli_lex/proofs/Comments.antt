@@ -1,10 +1,10 @@
 -- Comments, found by a pass over their bytes.
-use Rattle.std.proofs.Common.{◌≡◌, ℕ, zero, suc, ◌+◌, ◌-◌, ◌<◌, ◌≤◌, ◌⊎◌, inl, inr, ⊎_elim, List, [], ◌∷◌, ◌++◌, length, get_or, take, drop, Bool, true, false, cond, refl, sym, ◌∙◌, ap, subst, eqb, Option, Some, None, arith, append_assoc, length-append}
-use Rattle.std.specs.Prelude.{not, ◌==◌, ◌&&◌, ◌||◌, if◌then◌else◌, IsTrue}
-use Rattle.std.proofs.lemmas.Bool.{eqb-true, eqb-false, cond-true, cond-false, and_parts, and_left, and_right, and_from, or_from, or_left, or_right, or_parts, both_ways}
+use Rattle.std.proofs.Common.{◌≡◌, ℕ, suc, ◌+◌, ◌<◌, List, [], ◌∷◌, ◌++◌, length, get_or, take, drop, Bool, true, false, cond, refl, sym, ◌∙◌, ap, subst, eqb, Some, None, arith, append_assoc, length-append}
+use Rattle.std.specs.Prelude.{◌&&◌, ◌||◌}
+use Rattle.std.proofs.lemmas.Bool.{eqb-true, and_parts, and_from, or_left, or_right, or_parts, both_ways}
 use Rattle.std.proofs.lemmas.List.{take_at, append-nil, append_cancel_left}
 use Rattle.pli_meaning.specs.declared.fault.SourceKind.TheVariants.{UnclosedComment}
-use Rattle.pli_meaning.specs.Tokens.{is_blank, has_close, opens_comment, IsComment, IsSeparation, nothing, blank, comment, Breaks, unclosed_comment}
+use Rattle.pli_meaning.specs.Tokens.{is_blank, has_close, opens_comment, IsComment, IsSeparation, nothing, blank, comment, unclosed_comment}
 use Rattle.pli_lex.specs.Scanning.{comment_end}
 use Rattle.pli_lex.specs.Pieces.{IsSeparatorAt, IsRefusedAt}
 

@@ -1,17 +1,16 @@
 -- The longest lexeme at the front of bytes, computed; and that it is the longest.
-use Rattle.std.proofs.Common.{◌≡◌, ◌≢◌, ℕ, zero, suc, ◌+◌, ◌-◌, ◌<◌, ◌≤◌, ◌⊎◌, inl, inr, ⊎_elim, List, [], ◌∷◌, ◌++◌, length, get_or, take, drop, Bool, true, false, cond, refl, sym, ◌∙◌, ap, subst, eqb, leb, Option, Some, None, arith, append_assoc, length-append, take-append-drop, length-take-le}
-use Rattle.std.specs.Prelude.{not, ◌==◌, ◌&&◌, ◌||◌, if◌then◌else◌, IsTrue, ⊤}
+use Rattle.std.proofs.Common.{◌≡◌, ◌≢◌, ℕ, zero, suc, ◌+◌, ◌<◌, ◌≤◌, ◌⊎◌, inl, inr, ⊎_elim, List, [], ◌∷◌, ◌++◌, length, get_or, take, drop, Bool, true, false, cond, refl, sym, ◌∙◌, ap, subst, eqb, leb, Option, Some, None, arith, append_assoc, length-append, take-append-drop, length-take-le}
+use Rattle.std.specs.Prelude.{not, ◌==◌, ◌||◌, if◌then◌else◌}
 use Rattle.std.specs.List.{list_all, prefix_len}
-use lib.Chars.{codes}
-use Rattle.std.proofs.lemmas.Bool.{eqb-true, eqb-false, eq-eqb, ne_eqb, leb-true, lt-leb, cond-true, cond-false, and_parts, and_left, and_from, or_from, or_left, or_right, or_cases, or_parts, not-true, not_from_false, both_ways, cases_Bool, cases_lt, false_from_ne_true}
-use Rattle.std.proofs.lemmas.List.{take_at, drop_at, get_or_at, append_cancel_right}
+use Rattle.std.proofs.lemmas.Bool.{eqb-true, eq-eqb, ne_eqb, leb-true, lt-leb, cond-true, cond-false, and_parts, and_left, and_from, or_from, or_left, or_right, or_cases, or_parts, not-true, not_from_false, both_ways, cases_lt, false_from_ne_true}
+use Rattle.std.proofs.lemmas.List.{take_at, drop_at, get_or_at}
 use Rattle.std.proofs.lemmas.List.Sums.{prefix_len-le-length}
 use Rattle.pli_meaning.specs.declared.token.Kind.TheVariants as K
 use Rattle.pli_meaning.specs.Keywords.{word_named, in_upper_case, same_bytes}
-use Rattle.pli_meaning.specs.Tokens.{is_digit, is_name_start, is_name_byte, is_line_end, quote, opens_comment, number_from, doubled, IsTextOf, NameEnds, IsName, IsDigits, Lexeme, Read, Power, OtherBits, Spelled, name, number, text, bit, symbol, power, other_bits, IsLongest, BeginsNone}
+use Rattle.pli_meaning.specs.Tokens.{is_digit, is_name_start, is_name_byte, quote, opens_comment, number_from, doubled, IsTextOf, NameEnds, Lexeme, Read, Power, OtherBits, Spelled, name, number, text, bit, symbol, power, other_bits, IsLongest, BeginsNone}
 use Rattle.pli_lex.specs.Scanning.{stands_as_bits}
 use Rattle.pli_lex.proofs.Texts.{on_line, text_value, Closes, text_value-closes, text_value-longest, doubled-injective}
-use Rattle.pli_lex.proofs.Symbols.{fixed, fixed-symbol, fixed-spelled, fixed-apart, begins_other, other_byte}
+use Rattle.pli_lex.proofs.Symbols.{fixed, fixed-symbol, fixed-spelled, fixed-apart, begins_other}
 
 -- ---- the lexeme, computed
 

@@ -1,21 +1,21 @@
 -- What the passes find, as what stands at the front.
-use Rattle.std.proofs.Common.{◌≡◌, ◌≢◌, ℕ, zero, suc, ◌+◌, ◌-◌, ◌<◌, ◌≤◌, ◌⊎◌, inl, inr, ⊎_elim, List, [], ◌∷◌, ◌++◌, length, get_or, take, drop, Bool, true, false, cond, refl, sym, ◌∙◌, ap, subst, eqb, Option, Some, None, arith, length-append, length-take-le}
-use Rattle.std.specs.Prelude.{not, ◌==◌, ◌&&◌, ◌||◌, if◌then◌else◌, IsTrue}
+use Rattle.std.proofs.Common.{◌≡◌, ◌≢◌, ℕ, suc, ◌+◌, ◌<◌, ◌≤◌, List, [], ◌∷◌, ◌++◌, length, get_or, take, drop, Bool, true, false, cond, refl, sym, ◌∙◌, ap, subst, eqb, Option, Some, None, arith, length-append, length-take-le}
+use Rattle.std.specs.Prelude.{◌&&◌}
 use Rattle.std.specs.List.{list_all, prefix_len}
-use Rattle.std.proofs.lemmas.Bool.{eqb-true, eqb-false, eq-eqb, ne_eqb, cond-true, cond-false, and_parts, and_left, and_from, or_from, or_left, or_right, both_ways}
+use Rattle.std.proofs.lemmas.Bool.{eqb-true, ne_eqb, cond-true, cond-false, and_parts, and_left, or_from, or_left, or_right}
 use Rattle.std.proofs.lemmas.List.Sums.{prefix_len-le-length}
 use Rattle.pli_meaning.specs.declared.token.Kind.{Kind}
 use Rattle.pli_meaning.specs.declared.token.Kind.TheVariants as K
 use Rattle.pli_meaning.specs.declared.token.Symbol.{Symbol}
 use Rattle.pli_meaning.specs.declared.fault.SourceKind.TheVariants.{BadByte, UnclosedText, TooLong, LeftOut}
 use Rattle.pli_meaning.specs.Keywords.{word_named, in_upper_case}
-use Rattle.pli_meaning.specs.Tokens.{is_blank, is_digit, is_name_start, is_name_byte, quote, opens_comment, number_from, doubled, IsTextOf, Lexeme, Read, Power, OtherBits, IsLongest, IsShort, Breaks, bad_byte, unclosed_text, too_long, too_long_bits, power, other_bits}
+use Rattle.pli_meaning.specs.Tokens.{is_digit, is_name_start, is_name_byte, quote, opens_comment, number_from, doubled, IsTextOf, Lexeme, Read, Power, OtherBits, IsShort, bad_byte, unclosed_text, too_long, too_long_bits, power, other_bits}
 use Rattle.pli_lex.specs.Scanning.{text_end, stands_as_bits}
 use Rattle.pli_lex.specs.Symbols.{single, pair}
 use Rattle.pli_lex.specs.Pieces.{IsTokenOf, IsRefusedAt, BeginsOther, BeginsNoPair}
-use Rattle.pli_lex.proofs.Texts.{on_line, text_value, Closes, text_value-closes, text_end-is, ended}
+use Rattle.pli_lex.proofs.Texts.{text_value, Closes, text_value-closes, text_end-is, ended}
 use Rattle.pli_lex.proofs.Symbols.{fixed, read_symbol, begins_other, other_byte}
-use Rattle.pli_lex.proofs.Lexemes.{lexeme_at, name_at, number_at, quoted, bits_of, of_length, or_else, at_name, at_digit, at_quote, at_fixed, fixed_at, lexeme_at-spelled, longest_from, none_begins, one-add, prefix_passes, closed_take, closed_drop, text_of, bits_of_other, digit_no_name}
+use Rattle.pli_lex.proofs.Lexemes.{lexeme_at, name_at, number_at, quoted, bits_of, of_length, or_else, at_name, at_digit, at_quote, at_fixed, lexeme_at-spelled, longest_from, none_begins, one-add, prefix_passes, closed_take, text_of, bits_of_other}
 
 -- ---- from the computed lexeme
 

@@ -1,9 +1,9 @@
 -- The symbols and `**` as bytes, against the table of what each symbol is spelled as.
-use Rattle.std.proofs.Common.{◌≡◌, ℕ, zero, suc, ◌+◌, ◌<◌, ◌≤◌, ◌⊎◌, inl, inr, ⊎_elim, List, [], ◌∷◌, ◌++◌, length, take, drop, Bool, true, false, cond, refl, sym, ◌∙◌, ap, subst, eqb, Option, Some, None, arith, lit<}
+use Rattle.std.proofs.Common.{◌≡◌, ℕ, zero, suc, List, [], ◌∷◌, Bool, true, false, cond, refl, sym, ◌∙◌, ap, subst, eqb, Option, Some, None, arith, lit<}
 use Rattle.std.specs.Prelude.{not, ◌==◌, ◌&&◌, ◌||◌, if◌then◌else◌, Contains}
 use Rattle.std.specs.List.{list_all}
 use lib.Chars.{codes}
-use Rattle.std.proofs.lemmas.Bool.{eqb-true, cond-true, cond-false, and_parts, and_left, not-true, both_ways, cases_Bool, or_left, or_right}
+use Rattle.std.proofs.lemmas.Bool.{eqb-true, cond-false, and_parts, and_left, not-true, both_ways}
 use Rattle.pli_meaning.specs.declared.token.Symbol.{Symbol}
 use Rattle.pli_meaning.specs.declared.token.Symbol.TheVariants as S
 use Rattle.pli_meaning.specs.declared.token.Kind.TheVariants as K

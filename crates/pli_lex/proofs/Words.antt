@@ -1,5 +1,5 @@
 -- A name compared with a word, byte by byte.
-use Rattle.std.proofs.Common.{◌≡◌, ℕ, suc, ◌+◌, ◌<◌, List, [], ◌∷◌, length, get_or, drop, Bool, true, false, ◌&&◌, refl, sym, ◌∙◌, ap, eqb, arith}
+use Rattle.std.proofs.Common.{◌≡◌, ℕ, suc, ◌+◌, ◌<◌, List, [], ◌∷◌, length, get_or, drop, false, ◌&&◌, refl, sym, ◌∙◌, ap, eqb, arith}
 use Rattle.std.proofs.lemmas.List.{length-map, drop_more}
 use Rattle.std.proofs.lemmas.Bool.{and_right}
 use Rattle.pli_meaning.specs.Keywords.{in_upper_case, same_bytes, upper}

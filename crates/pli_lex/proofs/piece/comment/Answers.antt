@@ -1,7 +1,6 @@
-use Rattle.std.proofs.Common.{◌≡◌, ◌≤◌, ◌+◌, arith, sym, ap, ◌∙◌, false, length}
+use Rattle.std.proofs.Common.{arith, sym, ap, ◌∙◌, false}
 use Rattle.std.proofs.lemmas.List.{take_rest}
 use Rattle.pli_lex.specs.Scanning.{comment_end}
-use Rattle.pli_lex.specs.Pieces.{IsSeparatorAt}
 use Rattle.pli_lex.proofs.Comments.{comment_at, unclosed_at}
 use Rattle.pli_lex.proofs.piece.comment.Goals as goal
 

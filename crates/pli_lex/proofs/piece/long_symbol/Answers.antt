@@ -1,4 +1,4 @@
-use Rattle.std.proofs.Common.{sym, ◌∙◌, ◌<◌, length, arith}
+use Rattle.std.proofs.Common.{sym, ◌∙◌}
 use Rattle.pli_lex.proofs.Pieces.{power_at, pair_token}
 use Rattle.pli_lex.proofs.piece.long_symbol.Goals as goal
 

@@ -1,7 +1,7 @@
-use Rattle.std.proofs.Common.{◌≡◌, ◌≤◌, ◌+◌, arith, sym, ap, ◌∙◌, false, length, None}
+use Rattle.std.proofs.Common.{◌+◌, arith, sym, ap, ◌∙◌, false, None}
 use Rattle.std.proofs.lemmas.List.{take_rest}
 use Rattle.pli_lex.specs.Scanning.{text_end, stands_as_bits}
-use Rattle.pli_lex.proofs.Pieces.{QuotedAt, quoted_at, unclosed_text_at, length_there, text_token, text_over, zero_bit, one_bit, no_bit}
+use Rattle.pli_lex.proofs.Pieces.{quoted_at, unclosed_text_at, length_there, text_token, text_over, zero_bit, one_bit, no_bit}
 use Rattle.pli_lex.proofs.piece.quoted.Goals as goal
 
 pub returns-in_default : goal.returns-in_default
