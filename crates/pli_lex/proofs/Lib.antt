@@ -5,4 +5,5 @@ pub mod Pieces
 pub mod Reading
 pub mod Symbols
 pub mod Texts
+pub mod Unique
 pub mod Words

@@ -12,7 +12,8 @@ use Rattle.pli_meaning.specs.declared.token.Kind.{Kind}
 use Rattle.pli_meaning.specs.declared.token.Token.{Token}
 use Rattle.pli_meaning.specs.Tokens.{IsSeparation, nothing, Read, IsLongest, IsShort, line_after, column_after, IsTokenAt, Reads, no_more, one_more, most_bytes, most_tokens, Tokens, Breaks, bad_byte, unclosed_comment, unclosed_text, too_long, one_too_many, too_long_bits, power, other_bits, Refuses, source_too_long, at_place}
 use Rattle.pli_lex.specs.Scanning.{line_from, column_from}
-use Rattle.pli_lex.specs.Pieces.{IsSeparatorAt, IsTokenOf, IsFaultOf, refused}
+use Rattle.pli_lex.specs.Faults.{IsFaultOf, refused}
+use Rattle.pli_lex.specs.Pieces.{IsSeparatorAt, IsTokenOf}
 use Rattle.pli_lex.proofs.Comments.{separation_join}
 
 -- ---- lines and columns

@@ -1,10 +1,8 @@
 -- What stands at the front of bytes that aren't at their end.
 use Rattle.std.specs.Prelude.{◌≡◌, ◌≢◌, ℕ, ◌<◌, ◌≤◌, List, length, take, slice_index, false, None}
-use Rattle.pli_meaning.specs.declared.fault.SourceFault.{SourceFault}
 use Rattle.pli_meaning.specs.declared.fault.SourceKind.{SourceKind}
-use Rattle.pli_meaning.specs.declared.fault.SourceKind.TheVariants.{Memory}
 use Rattle.pli_meaning.specs.declared.token.Kind.{Kind}
-use Rattle.pli_meaning.specs.Tokens.{is_blank, is_digit, is_name_start, opens_comment, quote, IsSeparation, Read, IsLongest, IsShort, Breaks, Refuses}
+use Rattle.pli_meaning.specs.Tokens.{is_blank, is_digit, is_name_start, opens_comment, quote, IsSeparation, Read, IsLongest, IsShort, Breaks}
 use Rattle.pli_lex.specs.Symbols.{pair}
 use Rattle.pli_lex.specs.declared.piece.Piece.{Piece}
 use Rattle.pli_lex.specs.declared.piece.Piece.TheVariants as P
@@ -42,8 +40,3 @@ pub record BeginsOther (s : List ℕ) : Type 0 where
 pub record BeginsNoPair (s : List ℕ) : Type 0 where
   pub no_power : 1 < length s → slice_index s 0 ≡ 42 → slice_index s 1 ≡ 42 → ⊥
   pub no_symbol : 1 < length s → pair (slice_index s 0) (slice_index s 1) ≡ None
-
--- a fault is want of memory, or the refusal that the source gets
-pub data IsFaultOf (s : List ℕ) (fault : SourceFault) : Type 0 where
-  out_of_memory : fault.line ≡ 0 → fault.column ≡ 0 → fault.kind ≡ Memory → IsFaultOf s fault
-  refused : fault.kind ≢ Memory → Refuses s fault.line fault.column fault.kind → IsFaultOf s fault

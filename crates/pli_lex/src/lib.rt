@@ -7,9 +7,11 @@ mod scan;
 mod symbol;
 mod word;
 
-ghost use Rattle.std.specs.Prelude.{MatchResult};
-ghost use Rattle.pli_lex.specs.Pieces.{IsFaultOf};
-ghost use Rattle.pli_meaning.specs.Tokens.{Tokens};
+ghost use Rattle.std.specs.Prelude.{◌≡◌, ℕ, List, ◌⊎◌, MatchResult};
+ghost use Rattle.pli_lex.specs.Faults.{IsFaultOf, IsOutOfMemory, IsRefusal};
+ghost use Rattle.pli_meaning.specs.Tokens.{Tokens, Refuses};
+ghost use Rattle.pli_meaning.specs.declared.fault.SourceKind.{SourceKind};
+ghost use Rattle.pli_meaning.specs.declared.token.Token.{Token};
 
 use pli_meaning::fault::{SourceFault, SourceKind};
 use pli_meaning::token::{Kind, Token};
@@ -34,7 +36,25 @@ const OUT_OF_MEMORY: SourceFault = SourceFault { line: 0, column: 0, kind: Sourc
 /// comment or text, a token past its limit, one token too many, or a form that is left out. A source of more than
 /// 2^20 bytes is `TooLong` at 1:1 before all. `Memory` at 0:0 where memory ran out.
 pub fn tokens(alloc: Global, source: &[u8]) -> Result<Vec<Token>, SourceFault>
-    ensures { MatchResult result (λ v. Tokens source.now v.items) (λ e. IsFaultOf source.now e) }
+    ensures read { MatchResult result (λ v. Tokens source.now v.items) (λ fault. IsFaultOf source.now fault) }
+    // The tokens of a source are given, unless memory runs out.
+    ensures only { (ts : List Token) → Tokens source.now ts → MatchResult result (λ v. v.items ≡ ts) (λ fault. IsOutOfMemory fault) }
+    // A source that is to be refused is refused so, unless memory runs out.
+    ensures refused { (line column : ℕ) (kind : SourceKind) → Refuses source.now line column kind → MatchResult result (λ v. ⊥) (λ fault. IsOutOfMemory fault ⊎ IsRefusal line column kind fault) }
+{
+    read(alloc, source)
+}
+
+/// A source has at most one list of tokens or one refusal, and not both.
+pub fn one_answer()
+    ensures one_list { (s : List ℕ) (ts us : List Token) → Tokens s ts → Tokens s us → ts ≡ us }
+    ensures not_both { (s : List ℕ) (ts : List Token) (line column : ℕ) (kind : SourceKind) → Tokens s ts → Refuses s line column kind → ⊥ }
+    ensures one_refusal { (s : List ℕ) (line column line_2 column_2 : ℕ) (kind kind_2 : SourceKind) → Refuses s line column kind → Refuses s line_2 column_2 kind_2 → (line ≡ line_2) × (column ≡ column_2) × (kind ≡ kind_2) }
+{
+}
+
+fn read(alloc: Global, source: &[u8]) -> Result<Vec<Token>, SourceFault>
+    ensures { MatchResult result (λ v. Tokens source.now v.items) (λ fault. IsFaultOf source.now fault) }
 {
     if source.len() > MOST_BYTES {
         return Err(SourceFault { line: 1, column: 1, kind: SourceKind::TooLong });
