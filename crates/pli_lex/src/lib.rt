@@ -13,12 +13,11 @@ ghost use Rattle.pli_meaning.specs.Tokens.{Tokens, Refuses};
 ghost use Rattle.pli_meaning.specs.declared.fault.SourceKind.{SourceKind};
 ghost use Rattle.pli_meaning.specs.declared.token.Token.{Token};
 
-use pli_meaning::fault::{SourceFault, SourceKind};
-use pli_meaning::token::{Kind, Token};
-use std::alloc::Global;
-
-use crate::piece::{next_piece, Piece};
+use crate::piece::{Piece, next_piece};
 use crate::place::Place;
+use pli_meaning::fault::{SourceFault, SourceKind};
+use pli_meaning::token::Token;
+use std::alloc::Global;
 
 /// The most bytes of a source.
 pub const MOST_BYTES: usize = 1 << 20;
@@ -26,7 +25,11 @@ pub const MOST_BYTES: usize = 1 << 20;
 /// The most tokens of a source.
 pub const MOST_TOKENS: usize = 10_000;
 
-const OUT_OF_MEMORY: SourceFault = SourceFault { line: 0, column: 0, kind: SourceKind::Memory };
+const OUT_OF_MEMORY: SourceFault = SourceFault {
+    line: 0,
+    column: 0,
+    kind: SourceKind::Memory,
+};
 
 /// The tokens of a source, in its order, each the longest at its place, with only blanks and comments between them.
 ///
@@ -50,17 +53,20 @@ pub fn one_answer()
     ensures one_list { (s : List ℕ) (ts us : List Token) → Tokens s ts → Tokens s us → ts ≡ us }
     ensures not_both { (s : List ℕ) (ts : List Token) (line column : ℕ) (kind : SourceKind) → Tokens s ts → Refuses s line column kind → ⊥ }
     ensures one_refusal { (s : List ℕ) (line column line_2 column_2 : ℕ) (kind kind_2 : SourceKind) → Refuses s line column kind → Refuses s line_2 column_2 kind_2 → (line ≡ line_2) × (column ≡ column_2) × (kind ≡ kind_2) }
-{
-}
+{}
 
 fn read(alloc: Global, source: &[u8]) -> Result<Vec<Token>, SourceFault>
     ensures { MatchResult result (λ v. Tokens source.now v.items) (λ fault. IsFaultOf source.now fault) }
 {
     if source.len() > MOST_BYTES {
-        return Err(SourceFault { line: 1, column: 1, kind: SourceKind::TooLong });
+        return Err(SourceFault {
+            line: 1,
+            column: 1,
+            kind: SourceKind::TooLong,
+        });
     }
     let mut tokens = Vec::new(alloc);
-    let mut place = Place { offset: 0, line: 1, column: 1 };
+    let mut place = Place::START;
     while place.offset < source.len() {
         let rest = &source[place.offset..];
         let len = match next_piece(rest) {
@@ -69,7 +75,9 @@ fn read(alloc: Global, source: &[u8]) -> Result<Vec<Token>, SourceFault>
                 if tokens.len() == MOST_TOKENS {
                     return Err(place.fault(SourceKind::TooLong));
                 }
-                tokens.push(place.token(kind, len)).map_err(|_| OUT_OF_MEMORY)?;
+                tokens
+                    .push(place.token(kind, len))
+                    .map_err(|_| OUT_OF_MEMORY)?;
                 len
             }
             Piece::Refused(kind) => return Err(place.fault(kind)),
@@ -79,3 +87,5 @@ fn read(alloc: Global, source: &[u8]) -> Result<Vec<Token>, SourceFault>
     Ok(tokens)
 }
 
+#[cfg(test)]
+mod tests;

@@ -4,18 +4,20 @@ ghost use Rattle.std.specs.Prelude.{◌≡◌, ◌<◌, length, slice_index, IsT
 ghost use Rattle.pli_meaning.specs.Tokens.{is_digit, is_name_start, opens_comment, is_blank};
 ghost use Rattle.pli_lex.specs.Pieces.{IsPiece, BeginsOther, BeginsNoPair};
 
+use crate::scan::{
+    comment_end, digits_len, is_blank, is_digit, is_name_start, name_len, number_value,
+    stands_as_bits, text_end,
+};
+use crate::symbol::{pair, single};
+use crate::word::word_of;
 use pli_meaning::fault::SourceKind;
 use pli_meaning::token::{Kind, Symbol};
 
-use crate::scan::{comment_end, digits_len, is_blank, is_digit, is_name_start, name_len, number_value, stands_as_bits, text_end};
-use crate::symbol::{pair, single};
-use crate::word::word_of;
+// The most bytes of a name.
+const MOST_NAME: usize = 31;
 
-/// The most bytes of a name.
-pub const MOST_NAME: usize = 31;
-
-/// The most bytes of a text.
-pub const MOST_TEXT: usize = 1024;
+// The most bytes of a text.
+const MOST_TEXT: usize = 1024;
 
 /// Bytes at the front: a blank or a comment, a token, each with its length in bytes, or what is refused there.
 #[derive(Clone, Copy, PartialEq, Eq, Debug)]

@@ -15,6 +15,12 @@ pub struct Place {
 }
 
 impl Place {
+    pub const START: Place = Place {
+        offset: 0,
+        line: 1,
+        column: 1,
+    };
+
     /// The place behind these bytes, which stand at this place.
     pub fn behind(self, bytes: &[u8]) -> Place
         requires offset { self.offset + length bytes.now < 2 ^ 32 }
@@ -34,7 +40,11 @@ impl Place {
                 column += 1;
             }
         }
-        Place { offset: self.offset + bytes.len(), line, column }
+        Place {
+            offset: self.offset + bytes.len(),
+            line,
+            column,
+        }
     }
 
     /// The token of this kind whose first byte stands here.
@@ -42,13 +52,23 @@ impl Place {
         requires { self.offset + len < 2 ^ 64 }
         ensures { result ≡ record { kind = kind; start = self.offset; end = self.offset + len; line = self.line; column = self.column } }
     {
-        Token { kind, start: self.offset, end: self.offset + len, line: self.line, column: self.column }
+        Token {
+            kind,
+            start: self.offset,
+            end: self.offset + len,
+            line: self.line,
+            column: self.column,
+        }
     }
 
     /// The refusal here.
     pub fn fault(self, kind: SourceKind) -> SourceFault
         ensures { result ≡ record { line = self.line; column = self.column; kind = kind } }
     {
-        SourceFault { line: self.line, column: self.column, kind }
+        SourceFault {
+            line: self.line,
+            column: self.column,
+            kind,
+        }
     }
 }

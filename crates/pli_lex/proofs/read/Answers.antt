@@ -38,12 +38,12 @@ loop-place-preserved c =
     let p = c.behind-place.result in
     let b = c.behind-place.ensures in
     elim c.match-next_piece.branch [
-      in-Separator w ↦
-        subst (λ v. Progress s v.items p.offset p.line p.column) (sym w.tokens-is) (separator_behind s _ _ _ _ _ _ _ _ _ _ c.loop-place.invariant rest w.in-Separator.ensures w.len-is b.offset b.line b.column)
-    | in-Token+else-len-eq-MOST_TOKENS+in_ok-map_err-in-Token w ↦
-        let few = c.loop-place.invariant.few in
-        let room : length c.loop-place.tokens.items < most_tokens = omega (arith, w.len.ensures, w.if-len-eq-MOST_TOKENS.false, c.loop-place.tokens.ok.0) in
-        let pushed = chosen _ _ _ _ w.push.ensures.items (sym w.map_err.ensures.variant ∙ ap is_ok w.in_ok-map_err-in-Token.was) in
-        let items = ap (λ v. v.items) w.tokens-is ∙ pushed ∙ ap (λ t. c.loop-place.tokens.items ++ t ∷ []) w.token.ensures in
-        subst (λ l. Progress s l p.offset p.line p.column) (sym items) (token_behind s _ _ _ _ _ _ _ _ _ _ _ c.loop-place.invariant room rest w.in-Token.ensures w.len-is b.offset b.line b.column)
+      | in-Separator w ↦
+          subst (λ v. Progress s v.items p.offset p.line p.column) (sym w.tokens-is) (separator_behind s _ _ _ _ _ _ _ _ _ _ c.loop-place.invariant rest w.in-Separator.ensures w.len-is b.offset b.line b.column)
+      | in-Token+else-len-eq-MOST_TOKENS+in_ok-map_err-in-Token w ↦
+          let few = c.loop-place.invariant.few in
+          let room : length c.loop-place.tokens.items < most_tokens = omega (arith, w.len.ensures, w.if-len-eq-MOST_TOKENS.false, c.loop-place.tokens.ok.0) in
+          let pushed = chosen _ _ _ _ w.push.ensures.items (sym w.map_err.ensures.variant ∙ ap is_ok w.in_ok-map_err-in-Token.was) in
+          let items = ap (λ v. v.items) w.tokens-is ∙ pushed ∙ ap (λ t. c.loop-place.tokens.items ++ t ∷ []) w.token.ensures in
+          subst (λ l. Progress s l p.offset p.line p.column) (sym items) (token_behind s _ _ _ _ _ _ _ _ _ _ _ c.loop-place.invariant room rest w.in-Token.ensures w.len-is b.offset b.line b.column)
     ]
