@@ -5,5 +5,6 @@ pub mod Pieces
 pub mod Reading
 pub mod Symbols
 pub mod Texts
+pub mod Total
 pub mod Unique
 pub mod Words

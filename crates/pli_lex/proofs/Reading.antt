@@ -173,11 +173,14 @@ no_memory s n kind (other_bits m v longest short) is = cc
 abbrev pub fault_at : ℕ → ℕ → SourceKind → SourceFault
 fault_at line column kind = record { line = line; column = column; kind = kind }
 
+pub progress_refuses : (s : List ℕ) (ts : List Token) (q line column : ℕ) (kind : SourceKind) → Progress s ts q line column → length s ≤ most_bytes → q < length s → Breaks (drop q s) (length ts) kind → Refuses s line column kind
+progress_refuses s ts q line column kind h bytes inside here =
+    let there = at_place ts h.last q kind bytes h.reads h.few h.rising h.gap inside here in
+    subst (λ l. Refuses s l column kind) (sym h.line_is) (subst (λ c. Refuses s (line_after (take q s)) c kind) (sym h.column_is) there)
+
 pub progress_fault : (s : List ℕ) (ts : List Token) (q line column : ℕ) (kind : SourceKind) → Progress s ts q line column → length s ≤ most_bytes → q < length s → Breaks (drop q s) (length ts) kind → IsFaultOf s (fault_at line column kind)
 progress_fault s ts q line column kind h bytes inside here =
-    let there = at_place ts h.last q kind bytes h.reads h.few h.rising h.gap inside here in
-    let placed : Refuses s line column kind = subst (λ l. Refuses s l column kind) (sym h.line_is) (subst (λ c. Refuses s (line_after (take q s)) c kind) (sym h.column_is) there) in
-    refused (no_memory (drop q s) (length ts) kind here) placed
+    refused (no_memory (drop q s) (length ts) kind here) (progress_refuses s ts q line column kind h bytes inside here)
 
 pub source_fault : (s : List ℕ) → most_bytes < length s → IsFaultOf s (fault_at 1 1 TooLong)
 source_fault s over = refused (λ e. cc) (source_too_long over)

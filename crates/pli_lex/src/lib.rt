@@ -8,6 +8,7 @@ mod symbol;
 mod word;
 
 ghost use Rattle.std.specs.Prelude.{◌≡◌, ℕ, List, ◌⊎◌, MatchResult};
+ghost use Rattle.pli_lex.specs.Answers.{HasAnswer};
 ghost use Rattle.pli_lex.specs.Faults.{IsFaultOf, IsOutOfMemory, IsRefusal};
 ghost use Rattle.pli_meaning.specs.Tokens.{Tokens, Refuses};
 ghost use Rattle.pli_meaning.specs.declared.fault.SourceKind.{SourceKind};
@@ -48,8 +49,9 @@ pub fn tokens(alloc: Global, source: &[u8]) -> Result<Vec<Token>, SourceFault>
     read(alloc, source)
 }
 
-/// A source has at most one list of tokens or one refusal, and not both.
+/// A source has one list of tokens or one refusal, and not both.
 pub fn one_answer()
+    ensures some_answer { (s : List ℕ) → HasAnswer s }
     ensures one_list { (s : List ℕ) (ts us : List Token) → Tokens s ts → Tokens s us → ts ≡ us }
     ensures not_both { (s : List ℕ) (ts : List Token) (line column : ℕ) (kind : SourceKind) → Tokens s ts → Refuses s line column kind → ⊥ }
     ensures one_refusal { (s : List ℕ) (line column line_2 column_2 : ℕ) (kind kind_2 : SourceKind) → Refuses s line column kind → Refuses s line_2 column_2 kind_2 → (line ≡ line_2) × (column ≡ column_2) × (kind ≡ kind_2) }
