@@ -1,0 +1,10 @@
+pub mod Comments
+pub mod Lexemes
+pub mod Numbers
+pub mod Pieces
+pub mod Reading
+pub mod Symbols
+pub mod Texts
+pub mod Total
+pub mod Unique
+pub mod Words
