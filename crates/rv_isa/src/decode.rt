@@ -1,6 +1,6 @@
 // The instruction of a word.
 
-ghost use Rattle.std.specs.Prelude.{◌≡◌, ℕ, ◌+◌, ◌-◌, ◌*◌, ◌/◌, ◌%◌, ◌^◌, ◌<◌, ◌≤◌, ℤ, pos, negsuc, nat_lt, if◌then◌else◌, ◌⊎◌, IfSome, IfNone};
+ghost use Rattle.std.specs.Prelude.{◌≡◌, ℕ, ◌+◌, ◌-◌, ◌*◌, ◌/◌, ◌%◌, ◌^◌, ◌<◌, ◌≤◌, ℤ, pos, negsuc, nat_lt, if◌then◌else◌, ◌⊎◌, IfSome, IfNone, Option, Some};
 ghost use Rattle.std.specs.Int.{w32, cast_unsigned};
 ghost use Rattle.pli_meaning.specs.declared.instr.Instr.{Instr};
 ghost use Rattle.pli_meaning.specs.Encoding.{part, word_of, Fits, IsWithin, IsEven};
@@ -11,8 +11,18 @@ use pli_meaning::instr::{
     BranchTest, ImmediateOp, Instr, LoadKind, Register, RegisterOp, ShiftOp, StoreKind,
 };
 
-/// The instruction whose word this is, or `None` where no instruction has it.
+/// The instruction whose word this is, or `None` where no instruction has it. FENCE counts only with rd, rs1 and fm 0,
+/// and of SYSTEM only ECALL and EBREAK.
+#[tactic(auto, using(crate::proofs::Unique::same))]
 pub fn decode(word: u32) -> Option<Instr>
+    ensures found { IfSome result (λ i. Fits i × (word_of i ≡ word)) }
+    ensures missed { IfNone result ((i : Instr) → Fits i → word_of i ≡ word → ⊥) }
+    ensures exact { (i : Instr) → Fits i → word_of i ≡ word → result ≡ Some i }
+{
+    instruction_of(word)
+}
+
+fn instruction_of(word: u32) -> Option<Instr>
     ensures found { IfSome result (λ i. Fits i × (word_of i ≡ word)) }
     ensures missed { IfNone result ((i : Instr) → Fits i → word_of i ≡ word → ⊥) }
 {
