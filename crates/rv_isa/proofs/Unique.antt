@@ -1,7 +1,6 @@
 -- Two instructions whose fields hold their operands are equal where their words are.
-use Rattle.std.proofs.Common.{lit<, ◌≡◌, ◌≢◌, ℕ, ◌+◌, ◌-◌, ◌*◌, ◌/◌, ◌%◌, ◌^◌, ◌<◌, ◌≤◌, ◌==◌, if◌then◌else◌, Option, Some, None, refl, ap, ap₂, subst, sym, ◌∙◌, arith}
+use Rattle.std.proofs.Common.{lit<, ◌≡◌, ◌≢◌, ℕ, ◌%◌, ◌^◌, ◌<◌, ◌==◌, if◌then◌else◌, refl, ap, ap₂, subst, sym, ◌∙◌, arith}
 use Rattle.std.specs.Coded.{le_prop}
-use Rattle.std.proofs.lemmas.Int.{ints}
 use Rattle.std.specs.Prelude.{ℤ, pos, negsuc}
 use Rattle.std.specs.Int.{w32, cast_unsigned}
 use Rattle.pli_meaning.specs.declared.instr.Register.{Register}
@@ -19,7 +18,7 @@ use Rattle.pli_meaning.specs.declared.instr.StoreKind.{StoreKind}
 use Rattle.pli_meaning.specs.declared.instr.StoreKind.TheVariants as Store
 use Rattle.pli_meaning.specs.declared.instr.Instr.{Instr}
 use Rattle.pli_meaning.specs.declared.instr.Instr.TheVariants as I
-use Rattle.pli_meaning.specs.Encoding.{spelled, format_i, word_of, Fits, IsWithin, IsEven, part, branch_funct3, load_funct3, store_funct3, immediate_funct3, shift_funct3, shift_funct7, register_funct3, register_funct7}
+use Rattle.pli_meaning.specs.Encoding.{spelled, format_i, word_of, Fits, IsWithin, branch_funct3, load_funct3, store_funct3, immediate_funct3, shift_funct3, shift_funct7, register_funct3, register_funct7}
 
 -- the operation of a funct3, and of a funct7 and a funct3 joined
 abbrev test_of : ℕ → BranchTest
