@@ -1,5 +1,7 @@
 // A machine that runs RV32IM code over 16 MiB of memory.
 #![tactic(auto)]
 
+mod arithmetic;
 mod bytes;
+mod execute;
 pub mod storage;
