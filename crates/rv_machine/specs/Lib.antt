@@ -1,1 +1,5 @@
+pub mod Fitting
+pub mod Refusals
 pub mod Outcomes
+pub mod Steps
+pub mod Loading

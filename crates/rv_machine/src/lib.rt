@@ -4,4 +4,6 @@
 mod arithmetic;
 mod bytes;
 mod execute;
+pub mod machine;
+pub mod services;
 pub mod storage;
