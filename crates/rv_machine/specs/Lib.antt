@@ -1,3 +1,4 @@
+pub mod Legs
 pub mod Fitting
 pub mod Refusals
 pub mod Outcomes

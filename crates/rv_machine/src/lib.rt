@@ -4,6 +4,7 @@
 mod arithmetic;
 mod bytes;
 mod execute;
+mod leg;
 pub mod machine;
 pub mod services;
 pub mod storage;
