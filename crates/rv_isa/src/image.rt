@@ -1,9 +1,10 @@
 // A program as a machine takes it.
 
-ghost use Rattle.std.specs.Prelude.{◌≡◌, ℕ, ◌+◌, ◌*◌, length, vec_len};
-ghost use Rattle.rv_isa.specs.Images.{Program, program, IsLoadable};
+ghost use Rattle.std.specs.Prelude.{◌≡◌, ℕ, ◌+◌, ◌*◌, ◌↔◌, IsTrue, length, vec_len};
+ghost use Rattle.rv_isa.specs.Images.{Program, program, IsLoadable, AllInstructions};
 
 use crate::code::Code;
+use crate::decode::decode;
 use std::marker::Model;
 
 /// A program that a machine can run: its code words, the bytes of its statics, where it begins, and its table.
@@ -83,4 +84,30 @@ impl Image {
     {
         2 * self.code.len() as u64 + 2
     }
+}
+
+/// Whether a machine can run it: between 1 and 1,048,576 words, each that of an instruction, an entry at one of them, at
+/// most 3 MiB of static bytes and at most 1,048,576 table words.
+pub fn is_loadable(code: &Code) -> bool
+    ensures { IsTrue result ↔ IsLoadable (program code.now.words.items code.now.statics.items code.now.entry code.now.table.items) }
+{
+    let count = code.words.len();
+    1 <= count
+        && count <= 0x10_0000
+        && are_instructions(&code.words)
+        && code.entry % 4 == 0
+        && (code.entry as usize) < 4 * count
+        && code.statics.len() <= 0x30_0000
+        && code.table.len() <= 0x10_0000
+}
+
+fn are_instructions(words: &[u32]) -> bool
+    ensures { IsTrue result ↔ AllInstructions words.now }
+{
+    for word in words {
+        if decode(*word).is_none() {
+            return false;
+        }
+    }
+    true
 }

@@ -1,6 +1,7 @@
-pub mod Legs
 pub mod Fitting
-pub mod Refusals
-pub mod Outcomes
-pub mod Steps
+pub mod Legs
 pub mod Loading
+pub mod Outcomes
+pub mod Placing
+pub mod Refusals
+pub mod Steps

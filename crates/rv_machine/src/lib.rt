@@ -2,9 +2,11 @@
 #![tactic(auto)]
 
 mod arithmetic;
+pub mod base;
 mod bytes;
 mod execute;
 mod leg;
+mod loading;
 pub mod machine;
 pub mod services;
 pub mod storage;

@@ -108,6 +108,14 @@ impl Storage {
             .copy_within(start..start + len as usize, to as usize);
     }
 
+    pub fn write_at(&mut self, at: u32, bytes: &[u8])
+        requires { at + length bytes.now ≤ length self.old }
+        ensures { self.new ≡ take at self.old ++ bytes.now ++ drop (at + length bytes.now) self.old }
+    {
+        let start = at as usize;
+        self.bytes[start..start + bytes.len()].copy_from_slice(bytes);
+    }
+
     pub fn fill(&mut self, at: u32, len: u32, byte: u8)
         requires { at + len ≤ length self.old }
         ensures { self.new ≡ take at self.old ++ replicate len byte ++ drop (at + len) self.old }
