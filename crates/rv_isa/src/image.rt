@@ -92,21 +92,26 @@ pub fn is_loadable(code: &Code) -> bool
     ensures { IsTrue result ↔ IsLoadable (program code.now.words.items code.now.statics.items code.now.entry code.now.table.items) }
 {
     let count = code.words.len();
-    1 <= count
-        && count <= 0x10_0000
-        && are_instructions(&code.words)
-        && code.entry % 4 == 0
-        && (code.entry as usize) < 4 * count
-        && code.statics.len() <= 0x30_0000
-        && code.table.len() <= 0x10_0000
+    if count == 0
+        || count > 0x10_0000
+        || code.statics.len() > 0x30_0000
+        || code.table.len() > 0x10_0000
+    {
+        return false;
+    }
+    if code.entry % 4 != 0 || code.entry as usize >= 4 * count {
+        return false;
+    }
+    are_instructions(&code.words)
 }
 
 fn are_instructions(words: &[u32]) -> bool
     ensures { IsTrue result ↔ AllInstructions words.now }
 {
     for word in words {
-        if decode(*word).is_none() {
-            return false;
+        match decode(*word) {
+            Some(_) => {}
+            None => return false,
         }
     }
     true
