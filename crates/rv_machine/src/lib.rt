@@ -8,5 +8,6 @@ mod execute;
 mod leg;
 mod loading;
 pub mod machine;
+mod operation;
 pub mod services;
 pub mod storage;
