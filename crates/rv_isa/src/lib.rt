@@ -6,3 +6,5 @@ pub mod decode;
 pub mod encode;
 mod fields;
 pub mod image;
+#[cfg(test)]
+mod tests;
