@@ -11,3 +11,5 @@ pub mod machine;
 mod operation;
 pub mod services;
 pub mod storage;
+#[cfg(test)]
+mod tests;
