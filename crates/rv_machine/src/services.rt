@@ -26,7 +26,8 @@ pub trait Services {
     ghost serves: { Self → (ℕ → ℕ) → List ℕ → Served → Self → (ℕ → ℕ) → List ℕ → Type 0 };
 
     fn call(&mut self, registers: &mut [u32; 32], storage: &mut Storage) -> Served
-        ensures meaning { serves self.old (slice_index registers.old) storage.old result self.new (slice_index registers.new) storage.new }
+        ensures meaning { serves self.old (slice_index registers.old) storage.old result
+            self.new (slice_index registers.new) storage.new }
         ensures zero { slice_index registers.new 0 ≡ slice_index registers.old 0 }
         ensures sized { length storage.new ≡ length storage.old }
         ensures refused { KeepsWhereRefused result registers.old storage.old registers.new storage.new };
