@@ -1,6 +1,7 @@
 // What a machine calls at an ECALL.
 
 ghost use Rattle.std.specs.Prelude.{◌≡◌, ℕ, List, length, slice_index};
+ghost use Rattle.pli_meaning.specs.Machine.{memory_size};
 
 use crate::storage::Storage;
 
@@ -25,7 +26,9 @@ pub trait Services {
     // from the services, the registers by number and the bytes of memory, by an answer, to these after the call
     ghost serves: { Self → (ℕ → ℕ) → List ℕ → Served → Self → (ℕ → ℕ) → List ℕ → Type 0 };
 
+    /// Serves the call whose number is in register 17; `storage` is the machine's 16 MiB, code included.
     fn call(&mut self, registers: &mut [u32; 32], storage: &mut Storage) -> Served
+        requires { length storage.old ≡ memory_size }
         ensures meaning { serves self.old (slice_index registers.old) storage.old result
             self.new (slice_index registers.new) storage.new }
         ensures zero { slice_index registers.new 0 ≡ slice_index registers.old 0 }
