@@ -1,0 +1,43 @@
+// The programs that are timed; `count` is in units of 4,096 turns.
+
+ghost use Rattle.std.specs.Prelude.{◌^◌, ◌<◌};
+
+/// Loads, stores and branches.
+pub fn memory_loop(count: u32) -> [u32; 12]
+    requires { count < 2 ^ 20 }
+{
+    [
+        (count << 12) + 0x2b7, // lui x5, count
+        0x0000_1317, // auipc x6, 1
+        0x0003_2383, // lw x7, 0(x6)
+        0x0053_83b3, // add x7, x7, x5
+        0x0073_2023, // sw x7, 0(x6)
+        0x0013_4403, // lbu x8, 1(x6)
+        0x0083_0223, // sb x8, 4(x6)
+        0xfff2_8293, // addi x5, x5, -1
+        0xfe02_94e3, // bne x5, x0, -24
+        0x0003_2503, // lw x10, 0(x6)
+        0x0043_2583, // lw x11, 4(x6)
+        0x0000_0073, // ecall
+    ]
+}
+
+/// Products, quotients, calls and returns.
+pub fn arithmetic_loop(count: u32) -> [u32; 12]
+    requires { count < 2 ^ 20 }
+{
+    [
+        (count << 12) + 0x2b7, // lui x5, count
+        0x0070_0393, // addi x7, x0, 7
+        0x0100_00ef, // jal x1, 16
+        0xfff2_8293, // addi x5, x5, -1
+        0xfe02_9ce3, // bne x5, x0, -8
+        0x0000_0073, // ecall
+        0x0253_83b3, // mul x7, x7, x5
+        0x00d3_8393, // addi x7, x7, 13
+        0x0253_d433, // divu x8, x7, x5
+        0x0085_4533, // xor x10, x10, x8
+        0x0035_1593, // slli x11, x10, 3
+        0x0000_8067, // jalr x0, 0(x1)
+    ]
+}

@@ -1,0 +1,15 @@
+// A machine that runs RV32IM code over 16 MiB of memory.
+#![tactic(auto)]
+
+mod arithmetic;
+pub mod base;
+mod bytes;
+mod execute;
+mod leg;
+mod loading;
+pub mod machine;
+mod operation;
+pub mod services;
+pub mod storage;
+#[cfg(test)]
+mod tests;
