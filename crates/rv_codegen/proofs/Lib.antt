@@ -8,3 +8,5 @@ pub mod Values
 pub mod Assignments
 pub mod Fields
 pub mod Statements
+pub mod Entries
+pub mod Programs
