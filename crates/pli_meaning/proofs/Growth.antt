@@ -163,7 +163,7 @@ entered_agree (suc n) zero h = absurd (omega arith)
 entered_agree (suc n) (suc n') h =
     record { agree = λ b parent oncode. block_run_agrees b parent oncode (record { enters = entered_agree n n' (omega arith); lines = refl }) }
 
-run_agrees : (p : Program) (n n' : ℕ) → n ≤ n' → Agree (M.run p n) (M.run p n')
+pub run_agrees : (p : Program) (n n' : ℕ) → n ≤ n' → Agree (M.run p n) (M.run p n')
 unfolding M.run
 run_agrees p n n' h = then_agrees ((entered_agree n n' h).agree p.main 0 0) (finish_agrees E.Finished (λ e. cc e))
 

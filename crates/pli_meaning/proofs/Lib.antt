@@ -3,6 +3,7 @@ mod MeaningRows
 pub mod Steps
 pub mod Growth
 pub mod Engine
+pub mod Whole
 pub mod MemoryLaws
 pub mod Unique
 pub mod Views

@@ -10,3 +10,4 @@ pub mod Fields
 pub mod Statements
 pub mod Entries
 pub mod Programs
+pub mod Promises

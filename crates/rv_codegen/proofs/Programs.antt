@@ -109,14 +109,13 @@ pub record SupportedBlock (head : BlockHead) (body : Stmts) (n : ℕ) : Type 0 w
 abbrev none : ℕ → ℕ
 none t = 0
 
-pub first_family : (code : List Instr) (input : List ℕ) → Family
+abbrev pub first_family : (code : List Instr) (input : List ℕ) → Family
 first_family code input b = record { machine = first_machine (image_of code) b.at; service = first_service input }
 
 frame_sum : (base : ℕ) → base + memory_size ≤ 2 ^ 32 → sum (base + 4 * 0) (frame_offset / 4096 * 2 ^ 12) ≡ base + frame_offset
 frame_sum base h = omega arith
 
 frame_piece : (code : List Instr) (input : List ℕ) (taken : ℕ) → length code ≤ most_code → 1 ≤ length code → HasAt code 0 (frame_code ∷ []) → Reach code 0 (first_family code input) (first_service input) 1 (first_service input) (λ b w. At b 1 (Body b (first_service input) none taken) w)
-unfolding first_family
 frame_piece code input taken small' inside has =
     straight code 0 (first_family code input) (first_service input) (first_service input) (frame_code ∷ []) (λ b w. Body b (first_service input) none taken w) small' inside has (omega arith) (λ b. omega arith)
     (λ b. record {
