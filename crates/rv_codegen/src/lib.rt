@@ -1,4 +1,4 @@
 // From a program to its code.
 #![tactic(auto)]
 
-pub mod registers;
+mod registers;
