@@ -100,7 +100,7 @@ answered_after w Bad h = tt
 of_effect_after : (p : Loaded) (w : Whole) (e : Effect) → After w (of_effect p w e)
 of_effect_after p w (Goes s) = inl refl
 of_effect_after p w (Faults fault) = tt
-of_effect_after p w Calls = 
+of_effect_after p w Calls =
     answered_after w (S.serves (4 * length p.code) w.machine.memory w.service w.machine.registers) (served_shows (4 * length p.code) w.machine.memory w.service w.machine.registers (duty_of (a7 w.machine.registers)))
 
 next_after : (p : Loaded) (w : Whole) → After w (next p w)
