@@ -1,0 +1,2 @@
+// The compiler and its programs' runs.
+#![tactic(auto)]
