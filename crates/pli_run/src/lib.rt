@@ -4,4 +4,5 @@
 mod edit;
 mod field;
 mod reply;
+pub mod run;
 pub mod runtime;

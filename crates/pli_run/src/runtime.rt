@@ -3,6 +3,7 @@
 ghost use Rattle.std.specs.Prelude.{◌≡◌, true, ℕ, ◌+◌, ◌*◌, ◌^◌, ◌<◌, length, slice_index, IfOk, MatchOption, MatchResult, Option, Some, None, false, nat_lt, if◌then◌else◌};
 ghost use Rattle.pli_meaning.specs.Machine.{memory_size, written};
 ghost use Rattle.pli_meaning.specs.Services as duty;
+ghost use Rattle.pli_run.specs.Running.{world_of};
 ghost use Rattle.pli_run.specs.Serving.{service_of, Replies, Serves, duty_answered};
 
 use crate::edit::{Edit, formats};
@@ -10,7 +11,7 @@ use crate::field::{decimal, finish, put_field};
 use crate::reply::{Refusal, Reply};
 use itoa::Buffer;
 use pli_meaning::condition::Condition;
-use pli_meaning::outcome::End;
+use pli_meaning::outcome::{End, Outcome};
 use rv_machine::services::{Served, Services};
 use rv_machine::storage::Storage;
 use std::alloc::{AllocError, Global};
@@ -48,6 +49,18 @@ impl Runtime {
             line: 0,
             edits: Vec::new(alloc),
         })
+    }
+
+    /// What the run has come to.
+    pub fn into_outcome(self) -> Outcome
+        ensures { world_of result ≡ (service_of self).world }
+    {
+        Outcome {
+            acts: self.acts,
+            output: self.output,
+            raised: self.raised,
+            end: self.end,
+        }
     }
 
     fn serve(

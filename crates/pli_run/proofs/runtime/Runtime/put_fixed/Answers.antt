@@ -2,7 +2,7 @@ use Rattle.std.proofs.Common.{◌≡◌, ◌≢◌, ◌+◌, ◌∷◌, ◌++◌
 use Rattle.pli_run.specs.Serving.{place_of, service_of}
 use Rattle.pli_meaning.specs.Stream.{blanks}
 use Rattle.pli_run.proofs.Places.{newest, newest_done}
-use Rattle.pli_run.proofs.Fields.{asked_wide, asked_narrow, put_wide, put_full, put_narrow, other_mode}
+use Rattle.pli_run.proofs.Fields.{asked_wide, asked_narrow, put_wide}
 use Rattle.pli_run.proofs.runtime.Runtime.put_fixed.Goals as goal
 
 pub returns-then-fits-clause-answer : goal.returns-then-fits-clause-answer
