@@ -4,5 +4,6 @@
 mod edit;
 mod field;
 mod reply;
+pub mod report;
 pub mod run;
 pub mod runtime;
