@@ -1,0 +1,58 @@
+-- An image in instructions has one list of them, and is loaded as a machine loads it.
+use Rattle.std.proofs.Common.{◌≡◌, ℕ, zero, suc, ◌+◌, ◌-◌, ◌*◌, ◌<◌, ◌≤◌, List, [], ◌∷◌, ◌++◌, Some, length, map, replicate, refl, ap, subst, sym, ◌∙◌, arith, append_assoc}
+use Rattle.std.proofs.lemmas.Grind.{common_steps}
+use Rattle.pli_meaning.specs.declared.instr.Instr.{Instr}
+use Rattle.pli_meaning.specs.Encoding.{word_of, Fits}
+use Rattle.pli_meaning.specs.Memory.{bytes_of_words}
+use Rattle.pli_meaning.specs.Machine.{memory_size}
+use Rattle.pli_meaning.specs.Headline.{Picture, first_bytes}
+use Rattle.rv_isa.specs.Images.{Program}
+use Rattle.pli_meaning.specs.Headline.{loaded_at, first_machine, Run, Runs, run_on, run_of, shown_by}
+use Rattle.pli_meaning.specs.Machine.{Loaded, State}
+use Rattle.pli_meaning.specs.Services.{Service, first_service}
+use Rattle.std.proofs.lemmas.List.{length-map}
+use Rattle.rv_machine.specs.Operations.{instr_of}
+use Rattle.rv_machine.specs.Loading.{loaded_of, state_of, moment, IsStarted}
+use Rattle.rv_machine.specs.declared.machine.Machine.{Machine}
+use Rattle.pli_run.specs.declared.runtime.Runtime.{Runtime}
+use Rattle.pli_run.specs.Serving.{service_of}
+use Rattle.pli_run.proofs.Stepping.{whole, OfCode}
+use Rattle.rv_isa.proofs.Unique.{same}
+use Rattle.rv_machine.specs.Fitting.{AllFit}
+use Rattle.rv_machine.specs.Placing.{first_memory, AreDecoded}
+use Rattle.pli_run.specs.Running.{IsPicture}
+
+length-words : (ws : List ℕ) → length (bytes_of_words ws) ≡ 4 * length ws
+length-words [] = refl
+length-words (w ∷ ws) = omega (arith, length-words ws)
+
+pub same_code : (code other : List Instr) → AllFit code → AllFit other → map word_of code ≡ map word_of other → code ≡ other
+same_code [] [] f g e = refl
+same_code [] (j ∷ js) f g e = absurd (cc)
+same_code (i ∷ is) [] f g e = absurd (cc)
+same_code (i ∷ is) (j ∷ js) f g e =
+    let words : word_of i ≡ word_of j = cc in
+    let rest : map word_of is ≡ map word_of js = cc in
+    let first : i ≡ j = same i j (f 0 i refl) (g 0 j refl) words in
+    let behind = same_code is js (λ k. f (suc k)) (λ k. g (suc k)) rest in
+    cc
+
+pub picture_code : (p : Picture) (image : Program) (code : List Instr) → IsPicture p image → AreDecoded image.code code → p.code ≡ code
+picture_code p image code h d = same_code p.code code h.fit d.fit (h.words_are ∙ sym d.words_are)
+
+pub picture_bytes : (p : Picture) (image : Program) → IsPicture p image → first_memory memory_size image ≡ first_bytes p
+picture_bytes p image h = rw (h.words_are, h.statics_are, length-words image.code) (simp append_assoc)
+
+pub started_code : (image : Program) (base : ℕ) (m : Machine) → IsStarted image base m → 4 * length image.code ≡ 4 * length (loaded_of m).code
+started_code image base m h =
+    let words = ap length (sym h.decoded.words_are) ∙ length-map (map instr_of m.code.items) word_of in
+    ap (λ (n : ℕ). 4 * n) words
+
+pub started_run : (p : Picture) (image : Program) (base : ℕ) (input : List ℕ) (bound : ℕ) (m : Machine) (r : Runtime) → IsPicture p image → IsStarted image base m → service_of r ≡ first_service input → run_of p base input bound ≡ run_on bound (loaded_of m) (Runs (whole (moment r m)))
+started_run p image base input bound m r h started service =
+    let code : p.code ≡ map instr_of m.code.items = picture_code p image _ h started.decoded in
+    let place : loaded_at p base ≡ loaded_of m = rw (code, started.based) refl in
+    let state : first_machine p base ≡ state_of m = sym (started.state_is ∙ rw (picture_bytes p image h, h.entry_is) refl) in
+    ap (λ (l : Loaded). run_on bound l (Runs (record { machine = first_machine p base; service = first_service input }))) place
+    ∙ ap (λ (s : State). run_on bound (loaded_of m) (Runs (record { machine = s; service = first_service input }))) state
+    ∙ ap (λ (v : Service). run_on bound (loaded_of m) (Runs (record { machine = state_of m; service = v }))) (sym service)

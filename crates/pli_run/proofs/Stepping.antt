@@ -1,0 +1,128 @@
+-- The steps of a machine with these services are those of the definitions.
+use Rattle.std.proofs.Common.{◌≡◌, ◌≢◌, ℕ, zero, suc, ◌+◌, ◌-◌, ◌*◌, ◌<◌, ◌≤◌, List, length, Option, Some, refl, ap, subst, sym, ◌∙◌, arith, zero-add, ◌⊎◌, inl, inr}
+use Rattle.pli_meaning.specs.declared.instr.Fault.{Fault}
+use Rattle.pli_meaning.specs.declared.instr.Fault.TheVariants.{BadService}
+use Rattle.pli_meaning.specs.Words.{sum}
+use Rattle.pli_meaning.specs.Machine.{Loaded, State, Effect, Goes, Faults, Calls, effect, written}
+use Rattle.pli_meaning.specs.Services.{Service, Answer, Done, Ends, Bad, serves}
+use Rattle.pli_meaning.specs.Headline.{Whole, Run, Runs, Ended as HasEnded, Stopped, answered, of_effect, next, run_on, shown_by}
+use Rattle.rv_machine.specs.declared.services.Served.{Served}
+use Rattle.rv_machine.specs.declared.machine.Step.{Step}
+use Rattle.rv_machine.specs.declared.machine.Step.TheVariants.{Ran, Ended, Fault as Faulted, Refused}
+use Rattle.rv_machine.specs.Steps.{Moment, Makes, Steps, RanFor, RunsFor, Finishes, Answers, start, then}
+use Rattle.pli_run.specs.declared.runtime.Runtime.{Runtime}
+use Rattle.pli_run.specs.Serving.{service_of, Serves, IsServed}
+
+-- a machine and its services, as the definitions see them
+abbrev pub whole : Moment Runtime → Whole
+whole m = record { machine = m.state; service = service_of m.services }
+
+-- what a step, or a run that it finishes, comes to
+abbrev pub Comes : Run → Step → Moment Runtime → Type 0
+Comes r Ran to = r ≡ Runs (whole to)
+Comes r Ended to = shown_by r ≡ Some (service_of to.services).world
+Comes r (Faulted f) to = r ≡ Stopped f
+Comes r Refused to = Unit {0}
+
+-- a state by its parts
+of_parts : (s t : State) (x : ℕ → ℕ) (m : List ℕ) (pc : ℕ) → t.registers ≡ x → t.memory ≡ m → t.pc ≡ pc → t ≡ record { registers = x; memory = m; pc = pc }
+of_parts s t x m pc a b e = λ i. record { registers = a i; memory = b i; pc = e i }
+
+-- the answer to a call, by how it came out
+called_ran : (p : Loaded) (from to : Moment Runtime) (answer : Served) (a : Answer) → IsServed a (service_of from.services) from.state.registers answer (service_of to.services) to.state.registers → to.state.memory ≡ from.state.memory → Answers answer from.state Ran to.state → answered from.state a ≡ Runs (whole to)
+called_ran p from to Served.Done a (x, y, e, r) m (ran, pc) = rw e (ap (λ (s : State). Runs (record { machine = s; service = service_of to.services })) (sym (of_parts from.state to.state _ _ _ r m pc)))
+called_ran p from to Served.Ended a h m (ran, pc) = absurd (cc)
+called_ran p from to Served.Bad a h m (ran, pc) = absurd (cc)
+called_ran p from to Served.Memory a h m (ran, pc) = absurd (cc)
+
+called_ended : (p : Loaded) (from to : Moment Runtime) (answer : Served) (a : Answer) → IsServed a (service_of from.services) from.state.registers answer (service_of to.services) to.state.registers → Answers answer from.state Ended to.state → answered from.state a ≡ HasEnded (record { machine = from.state; service = service_of to.services })
+called_ended p from to Served.Done a h (ran, pc) = absurd (cc)
+called_ended p from to Served.Ended a (e, r) (ran, pc) = rw e refl
+called_ended p from to Served.Bad a h (ran, pc) = absurd (cc)
+called_ended p from to Served.Memory a h (ran, pc) = absurd (cc)
+
+called_faulted : (p : Loaded) (from to : Moment Runtime) (f : Fault) (answer : Served) (a : Answer) → IsServed a (service_of from.services) from.state.registers answer (service_of to.services) to.state.registers → Answers answer from.state (Faulted f) to.state → answered from.state a ≡ Stopped f
+called_faulted p from to f Served.Done a h (ran, pc) = absurd (cc)
+called_faulted p from to f Served.Ended a h (ran, pc) = absurd (cc)
+called_faulted p from to f Served.Bad a (e, v, r) (faulted, pc) = rw e (cc)
+called_faulted p from to f Served.Memory a h (ran, pc) = absurd (cc)
+
+-- services of the program's code
+abbrev pub OfCode : Loaded → Moment Runtime → Type 0
+OfCode p m = m.services.code_bytes ≡ 4 * length p.code
+
+serves_here : (p : Loaded) (from : Moment Runtime) → OfCode p from → serves (4 * length p.code) from.state.memory (service_of from.services) from.state.registers ≡ serves from.services.code_bytes from.state.memory (service_of from.services) from.state.registers
+serves_here p from h = rw h refl
+
+makes_ran : (p : Loaded) (from to : Moment Runtime) (e : Effect) → OfCode p from → Makes Serves e from Ran to → (of_effect p (whole from) e ≡ Runs (whole to)) × OfCode p to
+makes_ran p from to (Goes s) o (ran, state, services) = (rw (state, services) refl, rw services o)
+makes_ran p from to (Faults f) o (ran, state, services) = absurd (cc)
+makes_ran p from to Calls o (answer, serve, zero_kept, sized, answers) =
+    (ap (answered from.state) (serves_here p from o) ∙ called_ran p from to answer _ serve.answered serve.bytes_kept answers, serve.code_kept ∙ o)
+
+makes_ended : (p : Loaded) (from to : Moment Runtime) (e : Effect) → OfCode p from → Makes Serves e from Ended to → of_effect p (whole from) e ≡ HasEnded (record { machine = from.state; service = service_of to.services })
+makes_ended p from to (Goes s) o (ran, state, services) = absurd (cc)
+makes_ended p from to (Faults f) o (ran, state, services) = absurd (cc)
+makes_ended p from to Calls o (answer, serve, zero_kept, sized, answers) =
+    ap (answered from.state) (serves_here p from o) ∙ called_ended p from to answer _ serve.answered answers
+
+makes_faulted : (p : Loaded) (from to : Moment Runtime) (f : Fault) (e : Effect) → OfCode p from → Makes Serves e from (Faulted f) to → of_effect p (whole from) e ≡ Stopped f
+makes_faulted p from to f (Goes s) o (ran, state, services) = absurd (cc)
+makes_faulted p from to f (Faults g) o (faulted, state, services) = cc
+makes_faulted p from to f Calls o (answer, serve, zero_kept, sized, answers) =
+    ap (answered from.state) (serves_here p from o) ∙ called_faulted p from to f answer _ serve.answered answers
+
+-- steps that ran are taken off a run, and keep the services those of the code
+ran_on : (p : Loaded) (n k : ℕ) (from at : Moment Runtime) → OfCode p from → RanFor Serves p n from at → (run_on (n + k) p (Runs (whole from)) ≡ run_on k p (Runs (whole at))) × OfCode p at
+unfolding run_on
+ran_on p zero k from at o start = (rw zero-add refl, o)
+ran_on p (suc n) k from at o (then {u = u} h s) =
+    let before = ran_on p n (suc k) from u o h in
+    let step = makes_ran p u at (effect p u.state) before.1 s in
+    let shift : suc n + k ≡ n + suc k = omega arith in
+    let P : ℕ → Type 0 = λ j. run_on j p (Runs (whole from)) ≡ run_on k p (Runs (whole at)) in
+    (subst P (sym shift) (before.0 ∙ ap (run_on k p) step.0), step.1)
+
+ended_stays : (p : Loaded) (n : ℕ) (w : Whole) → run_on n p (HasEnded w) ≡ HasEnded w
+unfolding run_on
+ended_stays p zero w = refl
+ended_stays p (suc n) w = refl
+
+stopped_stays : (p : Loaded) (n : ℕ) (f : Fault) → run_on n p (Stopped f) ≡ Stopped f
+unfolding run_on
+stopped_stays p zero f = refl
+stopped_stays p (suc n) f = refl
+
+one_on : (p : Loaded) (n : ℕ) (w : Whole) (r : Run) → next p w ≡ r → run_on (suc n) p (Runs w) ≡ run_on n p r
+unfolding run_on
+one_on p n w r e = ap (run_on n p) e
+
+none_on : (p : Loaded) (r : Run) → run_on 0 p r ≡ r
+unfolding run_on
+none_on p r = refl
+
+-- a run of the machine with these services is that of the definitions
+pub runs_are : (p : Loaded) (bound ran : ℕ) (from : Moment Runtime) (last : Step) (to : Moment Runtime) → OfCode p from → RunsFor Serves p bound ran from last to → Comes (run_on bound p (Runs (whole from))) last to
+runs_are p bound ran from Ran to o run =
+    let all = ran_on p ran 0 from run.at o run.all_ran in
+    let whole_bound : ran + 0 ≡ bound = let e = run.finishes.0 in omega arith in
+    let P : ℕ → Type 0 = λ j. run_on j p (Runs (whole from)) ≡ run_on 0 p (Runs (whole run.at)) in
+    subst P whole_bound all.0 ∙ none_on p _ ∙ ap (λ (m : Moment Runtime). Runs (whole m)) (sym run.finishes.1)
+runs_are p bound ran from Ended to o run =
+    let k = bound - (ran + 1) in
+    let all = ran_on p ran (suc k) from run.at o run.all_ran in
+    let whole_bound : ran + suc k ≡ bound = let h = run.finishes.0 in omega arith in
+    let P : ℕ → Type 0 = λ j. run_on j p (Runs (whole from)) ≡ run_on (suc k) p (Runs (whole run.at)) in
+    ap shown_by (subst P whole_bound all.0 ∙ one_on p k (whole run.at) _ (makes_ended p run.at to (effect p run.at.state) all.1 run.finishes.1) ∙ ended_stays p k _)
+runs_are p bound ran from (Faulted f) to o run =
+    let k = bound - (ran + 1) in
+    let all = ran_on p ran (suc k) from run.at o run.all_ran in
+    let whole_bound : ran + suc k ≡ bound = let h = run.finishes.0 in omega arith in
+    let P : ℕ → Type 0 = λ j. run_on j p (Runs (whole from)) ≡ run_on (suc k) p (Runs (whole run.at)) in
+    subst P whole_bound all.0 ∙ one_on p k (whole run.at) _ (makes_faulted p run.at to f (effect p run.at.state) all.1 run.finishes.1) ∙ stopped_stays p k f
+runs_are p bound ran from Refused to o run = tt
+
+-- a run that ran on or ended shows its services' world
+pub shown_where : (r : Run) (last : Step) (to : Moment Runtime) → (last ≡ Ran) ⊎ (last ≡ Ended) → Comes r last to → shown_by r ≡ Some (service_of to.services).world
+shown_where r last to (inl e) comes = ap shown_by (rw e at comes)
+shown_where r last to (inr e) comes = rw e at comes

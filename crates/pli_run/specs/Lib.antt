@@ -1,0 +1,4 @@
+pub mod Serving
+pub mod Reading
+pub mod Running
+pub mod Reporting

@@ -1,0 +1,133 @@
+// How a run is told: an exit status, and a line where it didn't finish.
+
+ghost use Rattle.std.specs.Prelude.{◌≡◌, Some};
+ghost use Rattle.pli_run.specs.declared.report.Line.TheVariants.{Unread, Unwritten};
+ghost use Rattle.pli_run.specs.Reporting.{status_of, line_of, end_status, end_line, refusal_status, refusal_line};
+
+use crate::run::RunFault;
+use pli_meaning::fault::{SourceFault, SourceKind};
+use pli_meaning::instr::Fault;
+use pli_meaning::outcome::{End, Limit, Outcome};
+use std::fmt;
+
+/// Why there is no program that finished.
+#[derive(Clone, Copy, Debug)]
+pub enum Line<'a> {
+    /// The program ended with an error, by its code and its line.
+    Error { code: u16, line: u32 },
+    /// The source is refused.
+    Source(SourceFault),
+    /// As many instructions as were allowed are done.
+    Bound,
+    /// An instruction can't be carried out.
+    Machine(Fault),
+    Memory,
+    /// The base can't hold an image.
+    Base,
+    /// The program passed a limit of its storage.
+    Limit(Limit),
+    /// A file that can't be read, by its name, or `stdin`.
+    Unread(&'a str),
+    /// A file that can't be written, by its name, or `stdout`.
+    Unwritten(&'a str),
+}
+
+impl fmt::Display for Line<'_> {
+    fn fmt<W: fmt::Write>(&self, f: &mut fmt::Formatter<W>) -> fmt::Result {
+        match self {
+            Line::Error { code, line } => write!(f, "ERROR {code} AT LINE {line}"),
+            Line::Source(fault) => write!(f, "{fault}"),
+            Line::Bound => write!(f, "BOUND REACHED"),
+            Line::Machine(fault) => {
+                let number = *fault as u8;
+                write!(f, "MACHINE {number} {fault:?}")
+            }
+            Line::Memory => write!(f, "MEMORY"),
+            Line::Base => write!(f, "BASE"),
+            Line::Limit(Limit::Depth) => write!(f, "LIMIT DEPTH"),
+            Line::Limit(Limit::Automatic) => write!(f, "LIMIT AUTOMATIC"),
+            Line::Unread(name) => write!(f, "CANNOT READ {name}"),
+            Line::Unwritten(name) => write!(f, "CANNOT WRITE {name}"),
+        }
+    }
+}
+
+/// An exit status, with the line that explains it where it isn't 0.
+#[derive(Clone, Copy, Debug)]
+pub struct Notice<'a> {
+    pub status: u8,
+    pub line: Option<Line<'a>>,
+}
+
+/// What is told of a run: 0 where the program finished or stopped, 1 for an error, 2 for a refused source, 3 at the
+/// bound, 4 where it can't be run or run on, 5 at a limit of storage.
+pub fn report(ran: &Result<Outcome, RunFault>) -> Notice<'static>
+    ensures status { result.status ≡ status_of ran.now }
+    ensures line { result.line ≡ line_of ran.now }
+{
+    match ran {
+        Ok(outcome) => ended(outcome.end),
+        Err(RunFault::Source(fault)) => refused(*fault),
+        Err(RunFault::Memory { .. }) => failed(Line::Memory),
+        Err(RunFault::BadBase) => failed(Line::Base),
+        Err(RunFault::Machine { fault, .. }) => failed(Line::Machine(*fault)),
+    }
+}
+
+/// What is told of a file that can't be read, by its name, or of `stdin`.
+pub fn unread(name: &str) -> Notice<'_>
+    ensures status { result.status ≡ 4 }
+    ensures line { result.line ≡ Some (Unread name.entry) }
+{
+    failed(Line::Unread(name))
+}
+
+/// What is told of a file that can't be written, by its name, or of `stdout`.
+pub fn unwritten(name: &str) -> Notice<'_>
+    ensures status { result.status ≡ 4 }
+    ensures line { result.line ≡ Some (Unwritten name.entry) }
+{
+    failed(Line::Unwritten(name))
+}
+
+fn ended(end: End) -> Notice<'static>
+    ensures status { result.status ≡ end_status end }
+    ensures line { result.line ≡ end_line end }
+{
+    match end {
+        End::Finished | End::Stopped => Notice {
+            status: 0,
+            line: None,
+        },
+        End::Error { code, line } => told(1, Line::Error { code, line }),
+        End::Running => told(3, Line::Bound),
+        End::Limit(limit) => told(5, Line::Limit(limit)),
+    }
+}
+
+fn refused(fault: SourceFault) -> Notice<'static>
+    ensures status { result.status ≡ refusal_status fault.kind }
+    ensures line { result.line ≡ Some (refusal_line fault fault.kind) }
+{
+    match fault.kind {
+        SourceKind::Memory => failed(Line::Memory),
+        _ => told(2, Line::Source(fault)),
+    }
+}
+
+fn failed(line: Line<'_>) -> Notice<'_>
+    ensures status { result.status ≡ 4 }
+    ensures line { result.line ≡ Some line.entry }
+{
+    told(4, line)
+}
+
+fn told(status: u8, line: Line<'_>) -> Notice<'_>
+    ensures status { result.status ≡ status }
+    ensures line { result.line ≡ Some line.entry }
+{
+    Notice {
+        status,
+        line: Some(line),
+    }
+}

@@ -1,0 +1,100 @@
+// Runs of images.
+
+ghost use Rattle.std.specs.Prelude.{◌≡◌, ◌↔◌, ◌*◌, length, IsErrOf};
+ghost use Rattle.pli_meaning.specs.Machine.{IsValidBase};
+ghost use Rattle.pli_meaning.specs.Headline.{Picture, run_of};
+ghost use Rattle.pli_run.specs.Running.{number_of, IsMemory, IsPicture, Tells};
+
+use crate::runtime::Runtime;
+use pli_meaning::fault::SourceFault;
+use pli_meaning::instr::Fault;
+use pli_meaning::outcome::Outcome;
+use rv_isa::image::Image;
+use rv_machine::base::valid_base;
+use rv_machine::machine::{Machine, Step};
+use std::alloc::Global;
+use thiserror::Error;
+
+/// Why a source or an image came to no outcome, by its number. Acts and output are those up to there.
+#[derive(Debug, Drop, Error)]
+pub enum RunFault {
+    #[error("MEMORY")]
+    Memory {
+        acts: u64,
+        output: Vec<u8>,
+    },
+    #[error("BASE")]
+    BadBase,
+    #[error("{0}")]
+    Source(SourceFault),
+    #[error("MACHINE {number} {fault:?}", number = *fault as u8)]
+    Machine {
+        fault: Fault,
+        acts: u64,
+        output: Vec<u8>,
+    },
+}
+
+impl RunFault {
+    /// Its number, which is not that of a machine's fault or of a refusal inside it.
+    pub fn number(&self) -> u8
+        ensures { result ≡ number_of self.now }
+    {
+        match self {
+            RunFault::Memory { .. } => 1,
+            RunFault::BadBase => 2,
+            RunFault::Source(_) => 3,
+            RunFault::Machine { .. } => 6,
+        }
+    }
+}
+
+/// Runs an image at a base, on an input, for at most `bound` instructions.
+///
+/// It answers `BadBase` where the base isn't a multiple of 4,096 with 16 MiB of addresses from it on, `Machine` where an
+/// instruction can't be carried out, and `Memory` where there is none for the machine or its services.
+pub fn run(
+    alloc: Global,
+    image: &Image,
+    base: u32,
+    input: &[u8],
+    bound: u64,
+) -> Result<Outcome, RunFault>
+    ensures bad_base { IsErrOf result RunFault.BadBase ↔ ¬ IsValidBase base }
+    ensures told { IsValidBase base → (p : Picture) → IsPicture p image.now → Tells (run_of p base input.now bound) result }
+{
+    if !valid_base(base) {
+        return Err(RunFault::BadBase);
+    }
+    let code_bytes = 4 * image.code().len() as u32;
+    let Ok(mut runtime) = Runtime::new(alloc, code_bytes, input) else {
+        return Err(unstarted(alloc));
+    };
+    let Ok(mut machine) = Machine::new(alloc, image, base) else {
+        return Err(unstarted(alloc));
+    };
+    let last = machine.run_for(&mut runtime, bound).last;
+    let outcome = runtime.into_outcome();
+    match last {
+        Step::Ran | Step::Ended => Ok(outcome),
+        Step::Fault(fault) => Err(RunFault::Machine {
+            fault,
+            acts: outcome.acts,
+            output: outcome.output,
+        }),
+        Step::Refused => Err(RunFault::Memory {
+            acts: outcome.acts,
+            output: outcome.output,
+        }),
+    }
+}
+
+// No memory to start.
+fn unstarted(alloc: Global) -> RunFault
+    ensures { IsMemory result }
+{
+    RunFault::Memory {
+        acts: 0,
+        output: Vec::new(alloc),
+    }
+}
