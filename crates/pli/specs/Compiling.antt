@@ -1,0 +1,68 @@
+-- What is compiled, and what a run of a source is promised to show.
+use Rattle.std.specs.Prelude.{◌≡◌, ◌≢◌, ℕ, ◌+◌, ◌*◌, ◌≤◌, List, length, Option, Some, None, Result, Ok, Err}
+use Rattle.pli_meaning.specs.declared.fault.SourceFault.{SourceFault}
+use Rattle.pli_meaning.specs.declared.outcome.Outcome.{Outcome}
+use Rattle.pli_meaning.specs.declared.token.Token.{Token}
+use Rattle.pli_meaning.specs.Tokens.{Tokens, Refuses}
+use Rattle.pli_meaning.specs.Tree as T
+use Rattle.pli_meaning.specs.Spells.{Spells}
+use Rattle.pli_meaning.specs.Typed.{Program}
+use Rattle.pli_meaning.specs.Typing.{typed}
+use Rattle.pli_meaning.specs.World.{World}
+use Rattle.pli_meaning.specs.Machine.{IsValidBase}
+use Rattle.pli_meaning.specs.Headline.{Picture, Headline, Keeps, run_of, shown_by, step_cost}
+use Rattle.rv_isa.specs.Images as Images
+use Rattle.pli_parse.specs.Answers as Parsing
+use Rattle.pli_parse.specs.Reading.{tree_from}
+use Rattle.pli_run.specs.Running.{IsPicture, world_of}
+use Rattle.pli_run.specs.declared.run.RunFault.{RunFault}
+use Rattle.pli_run.specs.declared.run.RunFault.TheVariants.{Memory, BadBase, Source, Machine}
+
+-- a source has these tokens, which spell a tree that has a type
+pub record Accepts (s : List ℕ) (tokens : List Token) (program : Program) : Type 0 where
+  pub tree : T.Tree
+  pub read : Tokens s tokens
+  pub spelled : Spells s tokens tree
+  pub typed_is : typed tree ≡ Some program
+
+-- the step cost of an image that is compiled from so many tokens
+abbrev pub most_step_cost : ℕ → ℕ
+most_step_cost tokens = 8002 + 208 * tokens
+
+-- an image that keeps the promise for a source
+pub record IsCompiled (s : List ℕ) (image : Images.Program) : Type 0 where
+  pub tokens : List Token
+  pub program : Program
+  pub picture : Picture
+  pub accepted : Accepts s tokens program
+  pub pictured : IsPicture picture image
+  pub keeps : Headline program picture
+  pub cheap : step_cost picture ≤ most_step_cost (length tokens)
+
+-- why a source isn't compiled: no memory; what its bytes are refused for; or its tokens begin no program, at the place
+-- where reading them is stuck, and there is none that they spell
+pub data IsRefused (s : List ℕ) (fault : SourceFault) : Type 0 where
+  out_of_memory : fault ≡ Parsing.out_of_memory → IsRefused s fault
+  no_tokens : Refuses s fault.line fault.column fault.kind → IsRefused s fault
+  no_program : (tokens : List Token) (at : Option Token) → Tokens s tokens → tree_from s tokens ≡ Err at → fault ≡ Parsing.refusal s tokens at → ((program : Program) → ¬ Accepts s tokens program) → IsRefused s fault
+
+-- The world w is what a run of a source's image shows at a base, and at every other valid base. It is the program's at
+-- just its acts; an image still running has done at least the bound divided by the step cost acts; and a program that ends
+-- is seen to end where the bound allows for its acts.
+pub record Means (s input : List ℕ) (bound : ℕ) (w : World) : Type 0 where
+  pub tokens : List Token
+  pub program : Program
+  pub picture : Picture
+  pub accepted : Accepts s tokens program
+  pub cheap : step_cost picture ≤ most_step_cost (length tokens)
+  pub keeps : Keeps program picture input bound w
+  pub anywhere : (base : ℕ) → IsValidBase base → shown_by (run_of picture base input bound) ≡ Some w
+
+-- what is answered at a valid base. No instruction is one that can't be carried out; nothing is claimed where there was
+-- no memory
+abbrev pub Answers : (s input : List ℕ) → (bound : ℕ) → Result Outcome RunFault → Type 0
+Answers s input bound (Ok o) = Means s input bound (world_of o)
+Answers s input bound (Err (Memory acts output)) = Unit {0}
+Answers s input bound (Err (Source fault)) = IsRefused s fault
+Answers s input bound (Err BadBase) = ⊥
+Answers s input bound (Err (Machine fault acts output)) = ⊥
