@@ -2,6 +2,7 @@
 -- behind, or the token at which no compiled source goes on, none where the tokens end there. Only what is compiled is
 -- read: with the names that are declared so far, and with limits.
 use Rattle.std.specs.Prelude.{◌≡◌, ℕ, zero, suc, ◌+◌, List, [], ◌∷◌, ◌++◌, length, map, Bool, true, false, not, ◌&&◌, nat_le, if◌then◌else◌, Option, Some, None, Result, Ok, Err, slice_range}
+use Rattle.std.specs.List.{list_any}
 use Rattle.pli_meaning.specs.declared.token.Kind.{Kind}
 use Rattle.pli_meaning.specs.declared.token.Kind.TheVariants as K
 use Rattle.pli_meaning.specs.declared.token.Symbol.TheVariants as S
@@ -67,8 +68,7 @@ count_from least most ts = do
 -- ---- names
 
 unfoldable pub is_declared : Scope → List ℕ → Bool
-is_declared [] letters = false
-is_declared (n ∷ ns) letters = if same_bytes n letters then true else is_declared ns letters
+is_declared scope letters = list_any (λ n. same_bytes n letters) scope
 
 -- a declared name
 unfoldable pub variable_from : List ℕ → Scope → List Token → Read T.Name
@@ -82,15 +82,14 @@ new_name_from s scope ts = do
   name ← name_from s ts
   if is_declared scope name.0.letters then Err (first ts) else Ok name
 
+abbrev pub is_variable : List ℕ → Scope → Token → Kind → Bool
+is_variable s scope t (K.Name word) = is_declared scope (in_upper_case (slice_range s t.start t.end))
+is_variable s scope t _ = false
+
 -- a declared name with `=` behind it
 unfoldable pub assigns : List ℕ → Scope → List Token → Bool
 assigns s scope [] = false
-assigns s scope (t ∷ []) = false
-assigns s scope (t ∷ u ∷ ts) = is_terminal M.Equal u.kind && is_variable t.kind
-  where
-    is_variable : Kind → Bool
-    is_variable (K.Name word) = is_declared scope (in_upper_case (slice_range s t.start t.end))
-    is_variable _ = false
+assigns s scope (t ∷ ts) = begins M.Equal ts && is_variable s scope t t.kind
 
 -- this word, which begins no assignment
 abbrev pub opens : Terminal → List ℕ → Scope → List Token → Bool

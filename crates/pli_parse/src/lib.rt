@@ -1,6 +1,7 @@
 // The tree of a source's tokens.
 #![tactic(auto)]
 
+mod name;
 mod stop;
 mod terminal;
 mod token;
