@@ -1,1 +1,4 @@
 pub mod Names
+pub mod Tokens
+pub mod Chains
+pub mod Stops

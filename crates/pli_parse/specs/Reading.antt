@@ -16,6 +16,7 @@ use Rattle.pli_meaning.specs.Keywords.{in_upper_case, same_bytes}
 use Rattle.pli_meaning.specs.Spells.{place_of, name_at, item_of}
 use Rattle.pli_meaning.specs.Typing.{Scope, wide, most_parentheses}
 use Rattle.pli_meaning.specs.Tree as T
+use Rattle.pli_parse.specs.declared.expression.Sign.{Sign}
 use Rattle.pli_parse.specs.declared.terminal.Terminal.{Terminal}
 use Rattle.pli_parse.specs.declared.terminal.Terminal.TheVariants as M
 use Rattle.pli_parse.specs.Terminals.{is_terminal}
@@ -106,11 +107,6 @@ abbrev pub infix_sign : Kind → Option InfixOp
 infix_sign (K.Symbol S.Plus) = Some I.Add
 infix_sign (K.Symbol S.Minus) = Some I.Subtract
 infix_sign _ = None
-
--- a sign before an operand, and its place
-pub record Sign : Type 0 where
-  pub op : PrefixOp
-  pub place : Place
 
 abbrev pub signs_behind : Option PrefixOp → Token → List Token → List Sign × List Token → List Sign × List Token
 signs_behind None t ts more = ([], t ∷ ts)
