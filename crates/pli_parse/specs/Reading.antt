@@ -181,13 +181,33 @@ expr_until depth close s scope ts = expr_within close (λ u rest. inner_at depth
 abbrev pub declared_name : T.Name → T.DeclaredName
 declared_name name = record { name = name; dimensions = [] }
 
--- a name and those behind commas, up to the parenthesis that closes them, and the names declared with them
-unfoldable pub names_from : ℕ → List ℕ → Scope → List Token → Read (List T.DeclaredName × Scope)
-names_from zero s scope ts = Err (first ts)
-names_from (suc n) s scope ts = do
+-- a name, and the names declared with it
+unfoldable pub one_from : List ℕ → Scope → List Token → Read (T.DeclaredName × Scope)
+one_from s scope ts = do
   name ← new_name_from s scope ts
-  let scope' = scope ++ name.0.letters ∷ []
-  if begins M.Comma name.1 then (taken M.Comma name.1 >>= λ comma. names_from n s scope' comma.1 >>= λ more. Ok ((declared_name name.0 ∷ more.0.0, more.0.1), more.1)) else (taken M.CloseParenthesis name.1 >>= λ close_token. Ok ((declared_name name.0 ∷ [], scope'), close_token.1))
+  Ok ((declared_name name.0, scope ++ name.0.letters ∷ []), name.1)
+
+-- reads one of a list, with the names declared before and behind it
+abbrev pub One : Type 0 → Type 0
+One X = Scope → List Token → Read (X × Scope)
+
+abbrev pub with_front : {X : Type 0} → List X → Read (List X × Scope) → Read (List X × Scope)
+with_front front r = r >>= λ xs. Ok ((front ++ xs.0.0, xs.0.1), xs.1)
+
+-- those behind commas, up to the token that closes the list
+unfoldable pub further_from : {X : Type 0} → One X → Terminal → ℕ → Scope → List Token → Read (List X × Scope)
+further_from one close zero scope ts = Err (first ts)
+further_from one close (suc n) scope ts =
+    if begins M.Comma ts then (taken M.Comma ts >>= λ comma. one scope comma.1 >>= λ x. with_front (x.0.0 ∷ []) (further_from one close n x.0.1 x.1)) else (taken close ts >>= λ u. Ok (([], scope), u.1))
+
+-- one, and those behind commas
+unfoldable pub list_from : {X : Type 0} → One X → Terminal → Scope → List Token → Read (List X × Scope)
+list_from one close scope ts =
+    one scope ts >>= λ x. with_front (x.0.0 ∷ []) (further_from one close (suc (length x.1)) x.0.1 x.1)
+
+-- names up to the parenthesis that closes them
+unfoldable pub names_from : List ℕ → Scope → List Token → Read (List T.DeclaredName × Scope)
+names_from s scope ts = list_from (λ before rest. one_from s before rest) M.CloseParenthesis scope ts
 
 -- FIXED BINARY(31)
 unfoldable pub attributes_from : List Token → Read (List T.Attribute)
@@ -200,7 +220,7 @@ attributes_from ts = do
 -- a name, or names in parentheses
 unfoldable pub declared_from : List ℕ → Scope → List Token → Read (List T.DeclaredName × Scope)
 declared_from s scope ts =
-    if begins M.OpenParenthesis ts then (taken M.OpenParenthesis ts >>= λ open_token. names_from (suc (length open_token.1)) s scope open_token.1) else (new_name_from s scope ts >>= λ name. Ok ((declared_name name.0 ∷ [], scope ++ name.0.letters ∷ []), name.1))
+    if begins M.OpenParenthesis ts then (taken M.OpenParenthesis ts >>= λ open_token. names_from s scope open_token.1) else (one_from s scope ts >>= λ x. Ok ((x.0.0 ∷ [], x.0.1), x.1))
 
 unfoldable pub item_from : List ℕ → Scope → List Token → Read (T.DeclareItem × Scope)
 item_from s scope ts = do
@@ -209,16 +229,13 @@ item_from s scope ts = do
   Ok ((item_of names.0.0 attributes.0, names.0.1), attributes.1)
 
 -- items of DECLARE, up to the semicolon
-unfoldable pub items_from : ℕ → List ℕ → Scope → List Token → Read (List T.DeclareItem × Scope)
-items_from zero s scope ts = Err (first ts)
-items_from (suc n) s scope ts = do
-  item ← item_from s scope ts
-  if begins M.Comma item.1 then (taken M.Comma item.1 >>= λ comma. items_from n s item.0.1 comma.1 >>= λ more. Ok ((item.0.0 ∷ more.0.0, more.0.1), more.1)) else (taken M.Semicolon item.1 >>= λ semicolon. Ok ((item.0.0 ∷ [], item.0.1), semicolon.1))
+unfoldable pub items_from : List ℕ → Scope → List Token → Read (List T.DeclareItem × Scope)
+items_from s scope ts = list_from (λ before rest. item_from s before rest) M.Semicolon scope ts
 
 unfoldable pub declare_from : List ℕ → Scope → List Token → Read (T.Item × Scope)
 declare_from s scope ts = do
   declare ← taken M.Declare ts
-  items ← items_from (suc (length declare.1)) s scope declare.1
+  items ← items_from s scope declare.1
   Ok ((T.Declare items.0.0 (place_of declare.0), items.0.1), items.1)
 
 -- ---- statements

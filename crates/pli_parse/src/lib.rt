@@ -1,8 +1,10 @@
 // The tree of a source's tokens.
 #![tactic(auto)]
 
+mod declaration;
 mod expression;
 mod name;
+mod statement;
 mod stop;
 mod terminal;
 mod token;
