@@ -4,3 +4,4 @@ pub mod Chains
 pub mod Stops
 pub mod Lists
 pub mod Shorter
+pub mod Items

@@ -97,3 +97,64 @@ declare_shorter s scope ts x e =
     let i = listed_shorter (λ before rest. item_from s before rest) M.Semicolon (item_shrinks s) scope a.value.1 b.value b.part in
     let k : ((T.Declare b.value.0.0 (G.place_of a.value.0), b.value.0.1), b.value.1) ≡ x = cc (b.whole) in
     omega (arith, h, i, ap (λ u. length u.1) k)
+
+-- ---- statements
+
+assignment_shorter : (s : List ℕ) (scope : Scope) (ts : List Token) (x : T.Stmt × List Token) → assignment_from s scope ts ≡ Ok x → length x.1 < length ts
+unfolding assignment_from
+assignment_shorter s scope ts x e =
+    let a = bind_ok (variable_from s scope ts) (λ v. taken M.Equal v.1 >>= λ equal. expr_until most_parentheses M.Semicolon s scope equal.1 >>= λ e. Ok (T.Assign (T.Plain (T.Last v.0 T.Absent)) e.0 v.0.place, e.1)) x e in
+    let b = bind_ok (taken M.Equal a.value.1) (λ equal. expr_until most_parentheses M.Semicolon s scope equal.1 >>= λ e. Ok (T.Assign (T.Plain (T.Last a.value.0 T.Absent)) e.0 a.value.0.place, e.1)) x a.whole in
+    let d = bind_ok (expr_until most_parentheses M.Semicolon s scope b.value.1) (λ e. Ok (T.Assign (T.Plain (T.Last a.value.0 T.Absent)) e.0 a.value.0.place, e.1)) x b.whole in
+    let h = variable_shorter s scope ts {x = a.value} a.part in
+    let i = taken_shorter M.Equal a.value.1 {x = b.value} b.part in
+    let j = until_shorter most_parentheses M.Semicolon s scope b.value.1 d.value d.part in
+    let k : (T.Assign (T.Plain (T.Last a.value.0 T.Absent)) d.value.0 a.value.0.place, d.value.1) ≡ x = cc (d.whole) in
+    omega (arith, h, i, j, ap (λ u. length u.1) k)
+
+format_shorter : (ts : List Token) (x : T.Formats × List Token) → format_from ts ≡ Ok x → length x.1 < length ts
+unfolding format_from
+format_shorter ts x e =
+    let a = bind_ok (taken M.OpenParenthesis ts) (λ o. taken M.F o.1 >>= λ f. count_from 1 1024 f.1 >>= λ w. taken M.CloseParenthesis w.1 >>= λ z. Ok (T.FormatThen 1 (T.FixedFormat w.0) T.NoFormat, z.1)) x e in
+    let b = bind_ok (taken M.F a.value.1) (λ f. count_from 1 1024 f.1 >>= λ w. taken M.CloseParenthesis w.1 >>= λ z. Ok (T.FormatThen 1 (T.FixedFormat w.0) T.NoFormat, z.1)) x a.whole in
+    let d = bind_ok (count_from 1 1024 b.value.1) (λ w. taken M.CloseParenthesis w.1 >>= λ z. Ok (T.FormatThen 1 (T.FixedFormat w.0) T.NoFormat, z.1)) x b.whole in
+    let f = bind_ok (taken M.CloseParenthesis d.value.1) (λ z. Ok (T.FormatThen 1 (T.FixedFormat d.value.0) T.NoFormat, z.1)) x d.whole in
+    let h = taken_shorter M.OpenParenthesis ts {x = a.value} a.part in
+    let i = taken_shorter M.F a.value.1 {x = b.value} b.part in
+    let j = count_shorter 1 1024 b.value.1 d.value d.part in
+    let m = taken_shorter M.CloseParenthesis d.value.1 {x = f.value} f.part in
+    let k : (T.FormatThen 1 (T.FixedFormat d.value.0) T.NoFormat, f.value.1) ≡ x = cc (f.whole) in
+    omega (arith, h, i, j, m, ap (λ u. length u.1) k)
+
+paired : T.Expr → T.Formats → T.EditPair
+paired e f = record { items = T.ExprThen e T.NoExpr; formats = f }
+
+pair_shorter : (s : List ℕ) (scope : Scope) (ts : List Token) (x : T.EditPair × List Token) → pair_from s scope ts ≡ Ok x → length x.1 < length ts
+unfolding pair_from paired
+pair_shorter s scope ts x e =
+    let a = bind_ok (taken M.OpenParenthesis ts) (λ o. expr_until 31 M.CloseParenthesis s scope o.1 >>= λ e. format_from e.1 >>= λ f. Ok (paired e.0 f.0, f.1)) x e in
+    let b = bind_ok (expr_until 31 M.CloseParenthesis s scope a.value.1) (λ e. format_from e.1 >>= λ f. Ok (paired e.0 f.0, f.1)) x a.whole in
+    let d = bind_ok (format_from b.value.1) (λ f. Ok (paired b.value.0 f.0, f.1)) x b.whole in
+    let h = taken_shorter M.OpenParenthesis ts {x = a.value} a.part in
+    let i = until_shorter 31 M.CloseParenthesis s scope a.value.1 b.value b.part in
+    let j = format_shorter b.value.1 d.value d.part in
+    let k : (paired b.value.0 d.value.0, d.value.1) ≡ x = cc (d.whole) in
+    omega (arith, h, i, j, ap (λ u. length u.1) k)
+
+put_shorter : (s : List ℕ) (scope : Scope) (ts : List Token) (x : T.Stmt × List Token) → put_from s scope ts ≡ Ok x → length x.1 < length ts
+unfolding put_from
+put_shorter s scope ts x e =
+    let a = bind_ok (taken M.Put ts) (λ p. taken M.Edit p.1 >>= λ d. pair_from s scope d.1 >>= λ q. taken M.Semicolon q.1 >>= λ z. Ok (T.Put None (q.0 ∷ []) (G.place_of p.0), z.1)) x e in
+    let b = bind_ok (taken M.Edit a.value.1) (λ d. pair_from s scope d.1 >>= λ q. taken M.Semicolon q.1 >>= λ z. Ok (T.Put None (q.0 ∷ []) (G.place_of a.value.0), z.1)) x a.whole in
+    let d = bind_ok (pair_from s scope b.value.1) (λ q. taken M.Semicolon q.1 >>= λ z. Ok (T.Put None (q.0 ∷ []) (G.place_of a.value.0), z.1)) x b.whole in
+    let f = bind_ok (taken M.Semicolon d.value.1) (λ z. Ok (T.Put None (d.value.0 ∷ []) (G.place_of a.value.0), z.1)) x d.whole in
+    let h = taken_shorter M.Put ts {x = a.value} a.part in
+    let i = taken_shorter M.Edit a.value.1 {x = b.value} b.part in
+    let j = pair_shorter s scope b.value.1 d.value d.part in
+    let m = taken_shorter M.Semicolon d.value.1 {x = f.value} f.part in
+    let k : (T.Put None (d.value.0 ∷ []) (G.place_of a.value.0), f.value.1) ≡ x = cc (f.whole) in
+    omega (arith, h, i, j, m, ap (λ u. length u.1) k)
+
+pub statement_shorter : (s : List ℕ) (scope : Scope) (ts : List Token) (x : T.Stmt × List Token) → statement_from s scope ts ≡ Ok x → length x.1 < length ts
+unfolding statement_from
+statement_shorter s scope ts x e = either_shorter (opens M.Put s scope ts) (put_from s scope ts) (assignment_from s scope ts) (length ts) x (put_shorter s scope ts x) (assignment_shorter s scope ts x) e

@@ -288,16 +288,24 @@ end_from s label ts = do
 
 -- ---- programs
 
+-- items before others
+abbrev pub joined : List T.Item → T.Items → T.Items
+joined [] more = more
+joined (i ∷ is) more = T.ItemThen i (joined is more)
+
+abbrev pub with_items : List T.Item → Read T.Items → Read T.Items
+with_items front r = r >>= λ more. Ok (joined front more.0, more.1)
+
 unfoldable pub statements_from : ℕ → List ℕ → List ℕ → Scope → List Token → Read T.Items
 statements_from zero s label scope ts = Err (first ts)
 statements_from (suc n) s label scope ts =
-    if opens M.End s scope ts then (end_from s label ts >>= λ end. Ok (T.NoItem, end.1)) else (statement_from s scope ts >>= λ x. statements_from n s label scope x.1 >>= λ more. Ok (T.ItemThen (T.Statement [] x.0) more.0, more.1))
+    if opens M.End s scope ts then (end_from s label ts >>= λ end. Ok (T.NoItem, end.1)) else (statement_from s scope ts >>= λ x. with_items (T.Statement [] x.0 ∷ []) (statements_from n s label scope x.1))
 
 -- declarations, and statements behind them
 unfoldable pub body_from : ℕ → List ℕ → List ℕ → Scope → List Token → Read T.Items
 body_from zero s label scope ts = Err (first ts)
 body_from (suc n) s label scope ts =
-    if opens M.Declare s scope ts then (declare_from s scope ts >>= λ x. body_from n s label x.0.1 x.1 >>= λ more. Ok (T.ItemThen x.0.0 more.0, more.1)) else statements_from (suc (length ts)) s label scope ts
+    if opens M.Declare s scope ts then (declare_from s scope ts >>= λ x. with_items (x.0.0 ∷ []) (body_from n s label x.0.1 x.1)) else statements_from (length ts + 1) s label scope ts
 
 -- OPTIONS(MAIN) and a semicolon
 unfoldable pub options_from : List Token → Read Token
@@ -330,5 +338,5 @@ if_ended (t ∷ ts) x = Err (Some t)
 unfoldable pub tree_from : List ℕ → List Token → Result T.Tree (Option Token)
 tree_from s ts = do
   head ← head_from s ts
-  body ← body_from (suc (length head.1)) s head.0.0.letters [] head.1
+  body ← body_from (length head.1 + 1) s head.0.0.letters [] head.1
   if_ended body.1 (tree_with (T.Procedure (head_of head.0.0 head.0.1) body.0))

@@ -4,7 +4,44 @@
 mod declaration;
 mod expression;
 mod name;
+mod program;
 mod statement;
 mod stop;
 mod terminal;
 mod token;
+
+ghost use Rattle.std.specs.Prelude.{◌≡◌, ◌≢◌, IfErr, IfOk, IsSome, None};
+ghost use Rattle.pli_meaning.specs.Spells.{Spells};
+ghost use Rattle.pli_meaning.specs.Tokens.{Tokens};
+ghost use Rattle.pli_meaning.specs.Tree as T;
+ghost use Rattle.pli_meaning.specs.Typing.{typed};
+ghost use Rattle.pli_meaning.specs.View.{tree_of};
+ghost use Rattle.pli_parse.specs.Answers.{Answers, out_of_memory};
+ghost use Rattle.pli_parse.specs.Reading.{tree_from};
+
+use pli_meaning::fault::{SourceFault, SourceKind};
+use pli_meaning::stmt::Tree;
+use pli_meaning::token::Token;
+use std::alloc::Global;
+
+use crate::program::{refusal, tree};
+use crate::stop::Stop;
+
+const OUT_OF_MEMORY: SourceFault = SourceFault { line: 0, column: 0, kind: SourceKind::Memory };
+
+/// The tree of a source's tokens.
+///
+/// # Errors
+///
+/// `NoMain` at 1:1 where there is no token. `LeftOut` at the first token with which no compiled source goes on, or
+/// behind the source's last byte where the tokens end too early. `Memory` at 0:0 where memory ran out.
+pub fn parse(alloc: Global, source: &[u8], tokens: &[Token]) -> Result<Tree, SourceFault>
+    requires { Tokens source.now tokens.now }
+    ensures read { Answers source.now tokens.now result (tree_from source.now tokens.now) }
+{
+    match tree(alloc, source, tokens) {
+        Ok(tree) => Ok(tree),
+        Err(Stop::Memory) => Err(OUT_OF_MEMORY),
+        Err(Stop::At(at)) => Err(refusal(source, tokens, at)),
+    }
+}
