@@ -5,3 +5,6 @@ pub mod Stops
 pub mod Lists
 pub mod Shorter
 pub mod Items
+pub mod Options
+pub mod Endings
+pub mod SoundExpressions
