@@ -8,3 +8,5 @@ pub mod Items
 pub mod Options
 pub mod Endings
 pub mod SoundExpressions
+pub mod Beginnings
+pub mod SoundStatements
