@@ -1,4 +1,4 @@
 mod MachineRows
 mod MeaningRows
-mod Unique
+pub mod Unique
 pub mod Views

@@ -10,3 +10,5 @@ pub mod Endings
 pub mod SoundExpressions
 pub mod Beginnings
 pub mod SoundStatements
+pub mod SoundDeclarations
+pub mod SoundProgram
