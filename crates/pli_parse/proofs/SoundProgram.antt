@@ -1,6 +1,6 @@
 -- What is read as a program is spelled so and has a type.
 use Rattle.std.proofs.Common.{◌≡◌, ◌≢◌, ℕ, zero, suc, ◌+◌, ◌⊎◌, inl, inr, List, [], ◌∷◌, ◌++◌, length, map, Option, Some, None, Ok, Err, Bool, true, false, refl, sym, ap, ◌∙◌, subst, arith}
-use Rattle.std.specs.Prelude.{if◌then◌else◌}
+use Rattle.std.specs.Prelude.{if◌then◌else◌, IsSome}
 use Rattle.pli_meaning.specs.declared.token.Word.{Word}
 use Rattle.pli_meaning.specs.declared.token.Word.TheVariants as W
 use Rattle.pli_meaning.specs.declared.token.Symbol.TheVariants as S
@@ -32,7 +32,7 @@ record AsExprs (s : List ℕ) (ts rest : List Token) : Type 0 where
   spelled : G.SpellsExprs s ts exprs rest
 
 name_expr : (s : List ℕ) (ts rest : List Token) (d : T.DeclaredName) (k : Kind) → G.SpellsDeclaredName s ts d rest → next_kind rest ≡ Some k → (k ≡ K.Symbol S.Comma) ⊎ (k ≡ K.Symbol S.CloseParenthesis) → G.SpellsExpr s ts (T.Refers (T.Plain (T.Last d.name T.Absent))) rest
-name_expr s ts rest d k (G.declared_name ts rest t word take) n either = with_kind (elim either [ inl h ↦ inl (n ∙ ap Some h) | inr h ↦ inr (n ∙ ap Some h) ])
+name_expr s ts rest d k (G.declared_name ts' rest' t word take) n either = with_kind (elim either [ inl h ↦ inl (n ∙ ap Some h) | inr h ↦ inr (n ∙ ap Some h) ])
   where
     e : T.Expr
     e = T.Refers (T.Plain (T.Last (G.name_at s t word) T.Absent))
@@ -58,8 +58,8 @@ names_exprs {s} (G.more_names ts mid after rest t d ds n comma others) z =
     record { exprs = T.ExprThen (T.Refers (T.Plain (T.Last d.name T.Absent))) r.exprs; spelled = G.more ts mid after rest t (T.Refers (T.Plain (T.Last d.name T.Absent))) r.exprs (name_expr s ts mid d (K.Symbol S.Comma) n (next_taken comma) (inl refl)) comma r.spelled }
 
 names_word : {s : List ℕ} {ts rest : List Token} {ds : List T.DeclaredName} → G.SpellsDeclaredNames s ts ds rest → next_kind ts ≡ Some (K.Symbol S.CloseParenthesis) → ⊥
-names_word (G.one_name ts rest d (G.declared_name ts rest t word take) stop) z = cc (next_taken take, z)
-names_word (G.more_names ts mid after rest t d ds (G.declared_name ts mid u word take) comma others) z = cc (next_taken take, z)
+names_word (G.one_name ts rest d (G.declared_name ts' rest' t word take) stop) z = cc (next_taken take, z)
+names_word (G.more_names ts mid after rest t d ds (G.declared_name ts' mid' u word take) comma others) z = cc (next_taken take, z)
 
 take_rest : {ts r r' : List Token} {t t' : Token} {k k' : Kind} → Takes ts k t r → Takes ts k' t' r' → r ≡ r'
 take_rest a b = cc (a.is, b.is)
@@ -79,25 +79,25 @@ arguments_behind {s} (G.listed ts after' mid' rest t' u' es take begins inner' c
     take_rest (take_along f.rest close) z
 
 declare_begins : {s : List ℕ} {ts after inner mid behind : List Token} {t u v : Token} {ds : List T.DeclaredName} → Takes ts (K.Name W.Declare) t after → Takes after (K.Symbol S.OpenParenthesis) u inner → G.SpellsDeclaredNames s inner ds mid → Takes mid (K.Symbol S.CloseParenthesis) v behind → next_kind behind ≡ Some (K.Name W.Fixed) → ¬ G.BeginsAssignment s ts
-declare_begins {s} {ts} {after} {inner} {mid} {behind} take o n z fixed begins = by_reference begins.reference begins.behind begins.spelled begins.equal
+declare_begins {s} {ts} {after} {inner} {mid} {behind} take o n z fixed free = by_reference free.reference free.behind free.spelled free.equal
   where
     qualified_behind : (q : T.Qualified) (rest : List Token) → G.SpellsQualified s ts q rest → rest ≡ behind
-    qualified_behind q rest (G.last ts after' rest t' word a take' args stop) = arguments_behind args (take_along (take_rest take take') o) n z
-    qualified_behind q rest (G.of ts after' mid' point rest t' u' word a q' take' args dot more) =
+    qualified_behind q rest (G.last ts' after' rest' t' word a take' args stop) = arguments_behind args (take_along (take_rest take take') o) n z
+    qualified_behind q rest (G.of ts' after' mid' point rest' t' u' word a q' take' args dot more) =
         let e = arguments_behind args (take_along (take_rest take take') o) n z in
         absurd (cc (ap next_kind e, next_taken dot, fixed))
     by_reference : (r : T.Reference) (rest : List Token) → G.SpellsReference s ts r rest → next_kind rest ≡ Some (K.Symbol S.Equal) → ⊥
-    by_reference r rest (G.basic ts mid' rest q r' first (G.no_arrow r'' ts' stop)) equal =
+    by_reference r rest (G.basic ts' mid' rest' q r' first (G.no_arrow r'' ts'' stop)) equal =
         let e = qualified_behind q mid' first in
         cc (ap next_kind e, equal, fixed)
-    by_reference r rest (G.basic ts mid' rest q r' first (G.arrow l r'' ts' after' mid'' rest' t' q' arrow target more)) equal =
+    by_reference r rest (G.basic ts' mid' rest' q r' first (G.arrow l r'' ts'' after' mid'' rest'' t' q' arrow target more)) equal =
         let e = qualified_behind q mid' first in
         cc (ap next_kind e, next_taken arrow, fixed)
 
 free_names : {s : List ℕ} {ts after middle : List Token} {t : Token} {ds : List T.DeclaredName} → Takes ts (K.Name W.Declare) t after → SpellsNames s after ds middle → next_kind middle ≡ Some (K.Name W.Fixed) → ¬ G.BeginsAssignment s ts
-free_names take (alone after rest d (G.declared_name after rest t word name)) fixed =
+free_names {after = after} take (alone after' rest d (G.declared_name after'' rest' t word name)) fixed =
     begins_none take (other_bare (next_kind after) (K.Name word) (next_taken name) (λ h. cc h) (λ h. cc h) (λ h. cc h)) (next_taken name) (λ h. cc h)
-free_names take (grouped after inner mid rest t u ds o n z) fixed = declare_begins take o n z fixed
+free_names take (grouped after' inner mid rest t u ds o n z) fixed = declare_begins take o n z fixed
 
 -- ---- bodies
 
@@ -195,3 +195,9 @@ tree_sound s ts tree e =
     let all = G.procedure_then ts [] (T.Procedure (head_of a.value.0.0 a.value.0.1) b.value.0) T.NoItem p3 G.no_procedure in
     let w : GoodTree s ts (tree_with (T.Procedure (head_of a.value.0.0 a.value.0.1) b.value.0)) = record { spelled = all; typed_so = body.typed_so } in
     subst (GoodTree s ts) z.is w
+
+pub tree_spelled : (s : List ℕ) (ts : List Token) (tree : T.Tree) → tree_from s ts ≡ Ok tree → G.Spells s ts tree
+tree_spelled s ts tree e = (tree_sound s ts tree e).spelled
+
+pub tree_compiled : (s : List ℕ) (ts : List Token) (tree : T.Tree) → tree_from s ts ≡ Ok tree → IsSome (typed tree)
+tree_compiled s ts tree e = subst (λ o. IsSome o) (sym (tree_sound s ts tree e).typed_so.is) refl

@@ -1,0 +1,9 @@
+use Rattle.pli_meaning.specs.View.{tree_of}
+use Rattle.pli_parse.proofs.SoundProgram.{tree_spelled, tree_compiled}
+use Rattle.pli_parse.proofs.answered.Goals as goal
+
+pub returns-in-Ok-clause-spelled : goal.returns-in-Ok-clause-spelled
+returns-in-Ok-clause-spelled c = tree_spelled c.args.source.now c.args.tokens.now (tree_of c.in-Ok.tree) c.in-Ok.ensures
+
+pub returns-in-Ok-clause-compiled : goal.returns-in-Ok-clause-compiled
+returns-in-Ok-clause-compiled c = tree_compiled c.args.source.now c.args.tokens.now (tree_of c.in-Ok.tree) c.in-Ok.ensures
