@@ -12,3 +12,4 @@ pub mod Beginnings
 pub mod SoundStatements
 pub mod SoundDeclarations
 pub mod SoundProgram
+pub mod CompleteExpressions
