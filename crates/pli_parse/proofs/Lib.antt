@@ -13,3 +13,5 @@ pub mod SoundStatements
 pub mod SoundDeclarations
 pub mod SoundProgram
 pub mod CompleteExpressions
+pub mod CompleteStatements
+pub mod CompleteDeclarations
