@@ -15,3 +15,4 @@ pub mod SoundProgram
 pub mod CompleteExpressions
 pub mod CompleteStatements
 pub mod CompleteDeclarations
+pub mod CompleteProgram

@@ -10,12 +10,13 @@ mod stop;
 mod terminal;
 mod token;
 
-ghost use Rattle.std.specs.Prelude.{◌≡◌, ◌≤◌, IfOk, IsSome, length};
+ghost use Rattle.std.specs.Prelude.{◌≡◌, ◌≢◌, ◌≤◌, IfErr, IfOk, IsSome, None, length};
 ghost use Rattle.pli_meaning.specs.Spells.{Spells};
 ghost use Rattle.pli_meaning.specs.Tokens.{Tokens, most_bytes};
+ghost use Rattle.pli_meaning.specs.Tree as T;
 ghost use Rattle.pli_meaning.specs.Typing.{typed};
 ghost use Rattle.pli_meaning.specs.View.{tree_of};
-ghost use Rattle.pli_parse.specs.Answers.{Answers};
+ghost use Rattle.pli_parse.specs.Answers.{Answers, out_of_memory};
 ghost use Rattle.pli_parse.specs.Reading.{tree_from};
 
 use pli_meaning::fault::{SourceFault, SourceKind};
@@ -41,6 +42,8 @@ pub fn parse(alloc: Global, source: &[u8], tokens: &[Token]) -> Result<Tree, Sou
     // The tokens spell the tree, and it is compiled.
     ensures spelled { IfOk result (λ tree. Spells source.now tokens.now (tree_of tree)) }
     ensures compiled { IfOk result (λ tree. IsSome (typed (tree_of tree))) }
+    // Unless memory ran out, a source is refused only if no tree that its tokens spell is compiled.
+    ensures refused { IfErr result (λ e. e ≢ out_of_memory → (tree : T.Tree) → Spells source.now tokens.now tree → typed tree ≡ None) }
 {
     answered(alloc, source, tokens)
 }
@@ -51,6 +54,8 @@ fn answered(alloc: Global, source: &[u8], tokens: &[Token]) -> Result<Tree, Sour
     ensures read { Answers source.now tokens.now result (tree_from source.now tokens.now) }
     ensures spelled { IfOk result (λ tree. Spells source.now tokens.now (tree_of tree)) }
     ensures compiled { IfOk result (λ tree. IsSome (typed (tree_of tree))) }
+    // Unless memory ran out, a source is refused only if no tree that its tokens spell is compiled.
+    ensures refused { IfErr result (λ e. e ≢ out_of_memory → (tree : T.Tree) → Spells source.now tokens.now tree → typed tree ≡ None) }
 {
     match tree(alloc, source, tokens) {
         Ok(tree) => Ok(tree),
