@@ -1,22 +1,21 @@
 -- Declarations that are spelled and declare new names are read.
-use Rattle.std.proofs.Common.{◌≡◌, ◌≢◌, ℕ, zero, suc, ◌+◌, ◌-◌, ◌<◌, ◌≤◌, List, [], ◌∷◌, ◌++◌, length, Option, Some, None, Ok, Err, Bool, true, false, refl, sym, ap, ◌∙◌, subst, arith}
+use Rattle.std.proofs.Common.{◌≡◌, ◌≢◌, ℕ, zero, suc, ◌<◌, List, [], ◌∷◌, ◌++◌, length, Option, Some, None, Ok, Err, Bool, true, false, refl, sym, ap, ◌∙◌, arith}
 use Rattle.std.specs.Prelude.{◌&&◌, ◌==◌, nat_le, if◌then◌else◌}
 use Rattle.std.proofs.lemmas.Bool.{eqb-true}
 use Rattle.pli_meaning.specs.declared.token.Word.TheVariants as W
 use Rattle.pli_meaning.specs.declared.token.Symbol.TheVariants as S
-use Rattle.pli_meaning.specs.declared.token.Kind.{Kind}
 use Rattle.pli_meaning.specs.declared.token.Kind.TheVariants as K
 use Rattle.pli_meaning.specs.declared.token.Token.{Token}
 use Rattle.pli_meaning.specs.Tree as T
 use Rattle.pli_meaning.specs.Spells as G
 use Rattle.pli_meaning.specs.Spells.{Takes, next_kind}
-use Rattle.pli_meaning.specs.Typing.{◌and_then◌, Scope, index_of, with_name, with_names, is_wide_fixed, item_declared, with_declared, wide}
+use Rattle.pli_meaning.specs.Typing.{Scope, index_of, with_name, with_names, is_wide_fixed, item_declared, with_declared, wide}
 use Rattle.pli_parse.specs.declared.terminal.Terminal.{Terminal}
 use Rattle.pli_parse.specs.declared.terminal.Terminal.TheVariants as M
-use Rattle.pli_parse.specs.Terminals.{kind_of, is_terminal}
+use Rattle.pli_parse.specs.Terminals.{is_terminal}
 use Rattle.pli_parse.specs.Reading.{Read, One, ◌>>=◌, with_front, first, begins, taken, name_from, is_declared, new_name_from, one_from, declared_name, further_from, list_from, names_from, count_from, attributes_from, declared_from, item_from, items_from, declare_from}
 use Rattle.pli_parse.proofs.Tokens.{bind_to, if_true, if_false, takes_taken, takes_begins, takes_name, taken_shorter, next_taken, terminal_kind}
-use Rattle.pli_parse.proofs.Options.{Has, HasBoth, then_has, no_index_undeclared}
+use Rattle.pli_parse.proofs.Options.{then_has, no_index_undeclared}
 use Rattle.pli_parse.proofs.Beginnings.{le_true, and_true}
 use Rattle.pli_parse.proofs.Lists.{ShrinksOne}
 use Rattle.pli_parse.proofs.Shorter.{one_shrinks, item_shrinks}
@@ -51,7 +50,7 @@ module _ {X : Type 0} (one : One X) (close : Terminal) (shrinks : ShrinksOne one
       let z : Read (List X × Scope) = Ok ((x ∷ xs, scope'), rest) in
       if_true (begins M.Comma ts) (taken M.Comma ts >>= λ comma. one scope comma.1 >>= λ x. with_front (x.0.0 ∷ []) (further_from one close n x.0.1 x.1)) (taken close ts >>= λ u. Ok (([], scope), u.1)) b
       ∙ bind_to (taken M.Comma ts) (λ comma. one scope comma.1 >>= λ x. with_front (x.0.0 ∷ []) (further_from one close n x.0.1 x.1)) (t, after) z e
-        (bind_to (one scope after) (λ x. with_front (x.0.0 ∷ []) (further_from one close n x.0.1 x.1)) ((x, scope1), mid) z f (ap (with_front (x ∷ [])) m))
+      (bind_to (one scope after) (λ x. with_front (x.0.0 ∷ []) (further_from one close n x.0.1 x.1)) ((x, scope1), mid) z f (ap (with_front (x ∷ [])) m))
 
   list_last : (scope scope1 : Scope) (ts mid rest : List Token) (u : Token) (x : X) → one scope ts ≡ Ok ((x, scope1), mid) → begins M.Comma mid ≡ false → taken close mid ≡ Ok (u, rest) → ListRead one close scope ts (x ∷ []) scope1 rest
   list_last scope scope1 ts mid rest u x e b h = record { x = x; xs = []; scope1 = scope1; mid = mid; is = refl; one_read = e; rest_read = λ n l. further_last n scope1 mid rest u b h l }

@@ -1,5 +1,5 @@
 -- An expression that is spelled, has a type and stays within the limit of parentheses is read.
-use Rattle.std.proofs.Common.{◌≡◌, ◌≢◌, ℕ, zero, suc, ◌+◌, ◌-◌, ◌<◌, ◌≤◌, List, [], ◌∷◌, length, max, Option, Some, None, Ok, Err, Bool, true, false, refl, sym, ap, ◌∙◌, subst, arith}
+use Rattle.std.proofs.Common.{◌≡◌, ◌≢◌, ℕ, zero, suc, ◌<◌, ◌≤◌, List, [], ◌∷◌, length, Option, Some, None, Ok, Err, true, refl, sym, ap, ◌∙◌, subst, arith}
 use Rattle.std.specs.Prelude.{if◌then◌else◌}
 use Rattle.pli_meaning.specs.declared.token.Symbol.TheVariants as S
 use Rattle.pli_meaning.specs.declared.token.Kind.{Kind}
@@ -9,7 +9,6 @@ use Rattle.pli_meaning.specs.declared.expr.PrefixOp.{PrefixOp}
 use Rattle.pli_meaning.specs.declared.expr.InfixOp.{InfixOp}
 use Rattle.pli_meaning.specs.Tree as T
 use Rattle.pli_meaning.specs.Typed as Y
-use Rattle.pli_meaning.specs.Numbers.{Sign as SignOf, Operator}
 use Rattle.pli_meaning.specs.Spells as G
 use Rattle.pli_meaning.specs.Spells.{Takes, next_kind, infix_op, prefix_op, below, Level, Multiplying, Adding, Joining, Comparing, Conjoining, Disjoining, SpellsAt, SpellsChain, SpellsPrimary, SpellsReference, SpellsArrows, SpellsQualified, SpellsArguments}
 use Rattle.pli_meaning.specs.Typing.{◌and_then◌, Scope, index_of, variable_named, typed_expr, nesting, sign_of, operator_of, typed_reference, main_level, wide}
@@ -17,9 +16,9 @@ use Rattle.pli_parse.specs.declared.expression.Sign.{Sign}
 use Rattle.pli_parse.specs.declared.terminal.Terminal.{Terminal}
 use Rattle.pli_parse.specs.declared.terminal.Terminal.TheVariants as M
 use Rattle.pli_parse.specs.Terminals.{kind_of}
-use Rattle.pli_parse.specs.Reading.{Read, ◌>>=◌, Inner, first, name_from, is_declared, variable_from, signs_from, signs_behind, prefix_sign, signed, primary_from, primary_of, operand_from, chain_from, chain_step, next_infix, behind, expr_within, inner_at, expr_until, taken}
+use Rattle.pli_parse.specs.Reading.{Read, ◌>>=◌, Inner, first, name_from, is_declared, variable_from, signs_from, signs_behind, prefix_sign, signed, primary_from, primary_of, operand_from, chain_from, chain_step, next_infix, expr_within, inner_at, expr_until}
 use Rattle.pli_parse.proofs.Tokens.{if_true, bind_to, takes_taken, takes_name, next_taken}
-use Rattle.pli_parse.proofs.Options.{Has, HasBoth, then_has, index_declared}
+use Rattle.pli_parse.proofs.Options.{Has, then_has, index_declared}
 use Rattle.pli_parse.proofs.SoundExpressions.{variable_sound}
 use Rattle.pli_parse.proofs.Endings.{closes, closes_parenthesis, no_adding, next_adding, prefix_is_sign, only_adding}
 use Rattle.pli_parse.proofs.Chains.{Shrinks, operand_shorter, inner_shrinks}

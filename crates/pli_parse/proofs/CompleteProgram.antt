@@ -1,7 +1,5 @@
 -- A tree that is spelled and has a type is read.
-use Rattle.std.proofs.Common.{◌≡◌, ◌≢◌, ℕ, zero, suc, ◌+◌, ◌<◌, ◌≤◌, List, [], ◌∷◌, length, Option, Some, None, Ok, Err, Bool, true, false, refl, sym, ap, ◌∙◌, subst, arith}
-use Rattle.std.specs.Prelude.{if◌then◌else◌}
-use Rattle.pli_meaning.specs.declared.token.Word.TheVariants as W
+use Rattle.std.proofs.Common.{◌≡◌, ℕ, zero, suc, ◌+◌, ◌<◌, List, [], ◌∷◌, length, Option, Some, None, Ok, Err, true, false, refl, sym, ap, ◌∙◌, subst, arith}
 use Rattle.pli_meaning.specs.declared.token.Symbol.TheVariants as S
 use Rattle.pli_meaning.specs.declared.token.Kind.TheVariants as K
 use Rattle.pli_meaning.specs.declared.token.Token.{Token}
@@ -12,8 +10,8 @@ use Rattle.pli_meaning.specs.Spells as G
 use Rattle.pli_meaning.specs.Spells.{Takes, next_kind}
 use Rattle.pli_meaning.specs.Typing.{◌and_then◌, Scope, with_declared, typed_stmt, typed_items, typed_body, typed_procedure, typed_tree, typed, main_program}
 use Rattle.pli_parse.specs.declared.terminal.Terminal.TheVariants as M
-use Rattle.pli_parse.specs.Reading.{Read, ◌>>=◌, with_items, taken, name_from, opens, declare_from, statement_from, end_from, statements_from, body_from, options_from, head_from, head_of, tree_with, if_ended, tree_from}
-use Rattle.pli_parse.proofs.Tokens.{bind_to, takes_taken, takes_name, next_taken}
+use Rattle.pli_parse.specs.Reading.{Read, ◌>>=◌, with_items, taken, name_from, opens, declare_from, end_from, statements_from, body_from, options_from, head_from, head_of, tree_with, if_ended, tree_from}
+use Rattle.pli_parse.proofs.Tokens.{bind_to, takes_taken, takes_name}
 use Rattle.pli_parse.proofs.Options.{Has, then_has}
 use Rattle.pli_parse.proofs.Items.{statement_on, statements_end, declaration_on, declarations_end}
 use Rattle.pli_parse.proofs.Shorter.{statement_shorter, declare_shorter}

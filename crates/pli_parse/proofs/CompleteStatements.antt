@@ -1,5 +1,5 @@
 -- A statement, and the END of a procedure, that is spelled and has a type is read.
-use Rattle.std.proofs.Common.{◌≡◌, ◌≢◌, ℕ, zero, suc, ◌+◌, ◌<◌, ◌≤◌, ◌⊎◌, inl, inr, List, [], ◌∷◌, length, map, Option, Some, None, Ok, Err, Bool, true, false, refl, sym, ap, ◌∙◌, subst, arith}
+use Rattle.std.proofs.Common.{◌≡◌, ℕ, ◌+◌, ◌≤◌, inl, inr, List, [], ◌∷◌, map, Option, Some, None, Ok, Err, Bool, true, false, refl, sym, ap, ◌∙◌, subst, arith}
 use Rattle.std.specs.Prelude.{◌&&◌, not, nat_le, if◌then◌else◌, Contains}
 use Rattle.std.proofs.lemmas.List.Elements.{Contains-push_cases}
 use Rattle.pli_meaning.specs.declared.token.Word.{Word}
@@ -9,23 +9,22 @@ use Rattle.pli_meaning.specs.declared.token.Kind.{Kind}
 use Rattle.pli_meaning.specs.declared.token.Kind.TheVariants as K
 use Rattle.pli_meaning.specs.declared.token.Token.{Token}
 use Rattle.pli_meaning.specs.declared.expr.Place.{Place}
-use Rattle.pli_meaning.specs.Keywords.{same_bytes, in_upper_case}
+use Rattle.pli_meaning.specs.Keywords.{same_bytes}
 use Rattle.pli_meaning.specs.Tree as T
 use Rattle.pli_meaning.specs.Typed as Y
 use Rattle.pli_meaning.specs.Spells as G
 use Rattle.pli_meaning.specs.Spells.{Takes, next_kind}
-use Rattle.pli_meaning.specs.Typing.{◌and_then◌, Scope, typed_expr, nesting, typed_within, typed_reference, typed_format, typed_pair, pair_typed, typed_stmt, typed_items, most_parentheses, is_width}
+use Rattle.pli_meaning.specs.Typing.{◌and_then◌, Scope, typed_expr, nesting, typed_within, typed_reference, typed_format, typed_pair, pair_typed, typed_stmt, most_parentheses, is_width}
 use Rattle.pli_parse.specs.declared.terminal.Terminal.{Terminal}
 use Rattle.pli_parse.specs.declared.terminal.Terminal.TheVariants as M
 use Rattle.pli_parse.specs.Terminals.{kind_of, is_terminal}
-use Rattle.pli_parse.specs.Reading.{Read, ◌>>=◌, first, begins, taken, name_from, number_from, variable_from, is_declared, is_variable, assigns, expr_until, count_from, assignment_from, format_from, pair_from, put_from, statement_from, opens, closing_name_from, end_from, statements_from, with_items}
+use Rattle.pli_parse.specs.Reading.{Read, ◌>>=◌, first, begins, taken, name_from, number_from, variable_from, is_declared, is_variable, assigns, expr_until, count_from, assignment_from, format_from, pair_from, put_from, statement_from, opens, closing_name_from, end_from}
 use Rattle.pli_parse.proofs.Tokens.{bind_ok, then_ok, bind_to, if_true, if_false, takes_taken, takes_begins, takes_name, takes_number, next_taken, terminal_kind}
 use Rattle.pli_parse.proofs.Options.{Has, then_has}
-use Rattle.pli_parse.proofs.Endings.{closes_semicolon, closes_parenthesis, other_bare, follows}
+use Rattle.pli_parse.proofs.Endings.{closes_semicolon, closes_parenthesis, other_bare}
 use Rattle.pli_parse.proofs.Beginnings.{true_le, and_left, and_right, and_true, same_bytes_self}
 use Rattle.pli_parse.proofs.SoundExpressions.{variable_sound, name_spelled}
-use Rattle.pli_parse.proofs.CompleteExpressions.{PlainName, reference_plain, until_complete}
-use Rattle.pli_parse.proofs.Shorter.{statement_shorter}
+use Rattle.pli_parse.proofs.CompleteExpressions.{reference_plain, until_complete}
 
 -- ---- which statement begins
 

@@ -1,5 +1,5 @@
 -- Which tokens stand behind an operand, and what they are to the grammar.
-use Rattle.std.proofs.Common.{◌≡◌, ◌≢◌, List, [], ◌∷◌, Option, Some, None, Bool, true, false, refl, sym, ap, ◌∙◌}
+use Rattle.std.proofs.Common.{◌≡◌, ◌≢◌, List, [], ◌∷◌, Option, Some, None, Bool, true, false, refl, sym, ap}
 use Rattle.pli_meaning.specs.declared.token.Symbol.TheVariants as S
 use Rattle.pli_meaning.specs.declared.token.Kind.{Kind}
 use Rattle.pli_meaning.specs.declared.token.Kind.TheVariants as K
@@ -8,10 +8,9 @@ use Rattle.pli_meaning.specs.declared.expr.PrefixOp.{PrefixOp}
 use Rattle.pli_meaning.specs.declared.expr.PrefixOp.TheVariants as P
 use Rattle.pli_meaning.specs.declared.expr.InfixOp.{InfixOp}
 use Rattle.pli_meaning.specs.declared.expr.InfixOp.TheVariants as I
-use Rattle.pli_meaning.specs.Spells as G
 use Rattle.pli_meaning.specs.Spells.{next_kind, prefix_op, infix_op, Level, Multiplying, Adding, Joining, Comparing, Conjoining, Disjoining}
 use Rattle.pli_meaning.specs.Typing.{sign_of, operator_of}
-use Rattle.pli_meaning.specs.Numbers.{Sign, Positive, Negative, Operator, Add, Subtract}
+use Rattle.pli_meaning.specs.Numbers.{Positive, Negative, Add, Subtract}
 use Rattle.pli_parse.specs.Reading.{prefix_sign, infix_sign, next_infix}
 use Rattle.pli_parse.proofs.Options.{Has}
 

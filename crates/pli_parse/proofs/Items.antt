@@ -1,6 +1,5 @@
 -- Laws of the loops of declarations and statements.
-use Rattle.std.proofs.Common.{◌≡◌, ℕ, zero, suc, ◌+◌, ◌-◌, ◌<◌, ◌≤◌, List, [], ◌∷◌, ◌++◌, length, Option, Ok, Err, Bool, true, false, refl, sym, ap, ◌∙◌, arith}
-use Rattle.std.specs.Prelude.{if◌then◌else◌}
+use Rattle.std.proofs.Common.{◌≡◌, ℕ, suc, ◌+◌, ◌-◌, ◌<◌, List, [], ◌∷◌, ◌++◌, length, Option, Ok, Err, true, false, refl, sym, ap, ◌∙◌, arith}
 use Rattle.pli_meaning.specs.Typing.{Scope}
 use Rattle.pli_meaning.specs.Tree as T
 use Rattle.pli_meaning.specs.declared.token.Token.{Token}

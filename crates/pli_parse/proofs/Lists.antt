@@ -1,11 +1,11 @@
 -- Laws of the loops of lists.
-use Rattle.std.proofs.Common.{◌≡◌, ℕ, zero, suc, ◌-◌, ◌<◌, ◌≤◌, List, [], ◌∷◌, ◌++◌, length, Option, Ok, Err, Bool, true, false, refl, sym, ap, ◌∙◌, arith, append_assoc}
+use Rattle.std.proofs.Common.{◌≡◌, ℕ, zero, suc, ◌-◌, ◌<◌, List, [], ◌∷◌, ◌++◌, length, Option, Ok, Err, Bool, true, false, refl, sym, ap, ◌∙◌, arith, append_assoc}
 use Rattle.std.specs.Prelude.{if◌then◌else◌}
 use Rattle.pli_meaning.specs.Typing.{Scope}
 use Rattle.pli_meaning.specs.declared.token.Token.{Token}
 use Rattle.pli_parse.specs.declared.terminal.Terminal.{Terminal}
 use Rattle.pli_parse.specs.declared.terminal.Terminal.TheVariants as M
-use Rattle.pli_parse.specs.Reading.{Read, One, with_front, further_from, list_from, ◌>>=◌, taken, begins, first}
+use Rattle.pli_parse.specs.Reading.{Read, One, with_front, further_from, list_from, ◌>>=◌, taken, begins}
 use Rattle.pli_parse.proofs.Tokens.{if_true, if_false, bind_ok, taken_shorter}
 
 with_both : {X : Type 0} (front more : List X) (r : Read (List X × Scope)) → with_front front (with_front more r) ≡ with_front (front ++ more) r
@@ -85,19 +85,19 @@ further_shorter one close shrinks zero scope ts x e = absurd (cc e)
 further_shorter {X} one close shrinks (suc n) scope ts x e =
     branch (begins M.Comma ts) (taken M.Comma ts >>= λ comma. one scope comma.1 >>= λ x. with_front (x.0.0 ∷ []) (further_from one close n x.0.1 x.1)) (taken close ts >>= λ u. Ok (([], scope), u.1)) ts x
     (λ f.
-      let a = bind_ok (taken M.Comma ts) (λ comma. one scope comma.1 >>= λ x. with_front (x.0.0 ∷ []) (further_from one close n x.0.1 x.1)) x f in
-      let b = bind_ok (one scope a.value.1) (λ x. with_front (x.0.0 ∷ []) (further_from one close n x.0.1 x.1)) x a.whole in
-      let d = bind_ok (further_from one close n b.value.0.1 b.value.1) (λ xs. Ok ((b.value.0.0 ∷ xs.0.0, xs.0.1), xs.1)) x b.whole in
-      let k : ((b.value.0.0 ∷ d.value.0.0, d.value.0.1), d.value.1) ≡ x = cc (d.whole) in
-      let i = further_shorter one close shrinks n b.value.0.1 b.value.1 d.value d.part in
-      let j = shrinks scope a.value.1 b.value b.part in
-      let m = taken_shorter M.Comma ts {x = a.value} a.part in
-      omega (arith, i, j, m, ap (λ u. length u.1) k))
+    let a = bind_ok (taken M.Comma ts) (λ comma. one scope comma.1 >>= λ x. with_front (x.0.0 ∷ []) (further_from one close n x.0.1 x.1)) x f in
+    let b = bind_ok (one scope a.value.1) (λ x. with_front (x.0.0 ∷ []) (further_from one close n x.0.1 x.1)) x a.whole in
+    let d = bind_ok (further_from one close n b.value.0.1 b.value.1) (λ xs. Ok ((b.value.0.0 ∷ xs.0.0, xs.0.1), xs.1)) x b.whole in
+    let k : ((b.value.0.0 ∷ d.value.0.0, d.value.0.1), d.value.1) ≡ x = cc (d.whole) in
+    let i = further_shorter one close shrinks n b.value.0.1 b.value.1 d.value d.part in
+    let j = shrinks scope a.value.1 b.value b.part in
+    let m = taken_shorter M.Comma ts {x = a.value} a.part in
+    omega (arith, i, j, m, ap (λ u. length u.1) k))
     (λ f.
-      let a = bind_ok (taken close ts) (λ u. Ok (([], scope), u.1)) x f in
-      let k : (([], scope), a.value.1) ≡ x = cc (a.whole) in
-      let m = taken_shorter close ts {x = a.value} a.part in
-      omega (arith, m, ap (λ u. length u.1) k))
+    let a = bind_ok (taken close ts) (λ u. Ok (([], scope), u.1)) x f in
+    let k : (([], scope), a.value.1) ≡ x = cc (a.whole) in
+    let m = taken_shorter close ts {x = a.value} a.part in
+    omega (arith, m, ap (λ u. length u.1) k))
     e
   where
     branch : (b : Bool) (p q : Read (List X × Scope)) (ts : List Token) (x : (List X × Scope) × List Token) → (p ≡ Ok x → length x.1 < length ts) → (q ≡ Ok x → length x.1 < length ts) → (if b then p else q) ≡ Ok x → length x.1 < length ts

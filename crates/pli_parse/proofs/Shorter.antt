@@ -1,13 +1,12 @@
 -- Each reader leaves fewer tokens.
-use Rattle.std.proofs.Common.{◌≡◌, ℕ, zero, suc, ◌<◌, ◌≤◌, List, [], ◌∷◌, ◌++◌, length, Option, None, Some, Ok, Err, Bool, true, false, refl, sym, ap, ◌∙◌, arith}
+use Rattle.std.proofs.Common.{◌≡◌, ℕ, ◌<◌, List, [], ◌∷◌, ◌++◌, length, None, Some, Ok, Err, Bool, true, false, ap, arith}
 use Rattle.std.specs.Prelude.{if◌then◌else◌}
-use Rattle.pli_meaning.specs.Keywords.{same_bytes}
 use Rattle.pli_meaning.specs.Spells as G
 use Rattle.pli_meaning.specs.Typing.{Scope, wide, most_parentheses}
 use Rattle.pli_meaning.specs.Tree as T
 use Rattle.pli_meaning.specs.declared.token.Token.{Token}
 use Rattle.pli_parse.specs.declared.terminal.Terminal.TheVariants as M
-use Rattle.pli_parse.specs.Reading.{Read, ◌>>=◌, taken, begins, first, name_from, is_declared, variable_from, new_name_from, count_from, one_from, declared_name, names_from, attributes_from, declared_from, item_from, items_from, declare_from, assigns, opens, expr_until, assignment_from, format_from, pair_from, put_from, statement_from}
+use Rattle.pli_parse.specs.Reading.{Read, ◌>>=◌, taken, begins, first, name_from, is_declared, variable_from, new_name_from, count_from, one_from, declared_name, names_from, attributes_from, declared_from, item_from, items_from, declare_from, opens, expr_until, assignment_from, format_from, pair_from, put_from, statement_from}
 use Rattle.pli_parse.proofs.Tokens.{bind_ok, else_ok, name_takes, takes_shorter, taken_shorter, count_counted}
 use Rattle.pli_parse.proofs.Chains.{variable_shorter, until_shorter}
 use Rattle.pli_parse.proofs.Lists.{ShrinksOne, listed_shorter}
@@ -67,15 +66,15 @@ unfolding declared_from
 declared_shorter s scope ts x e =
     either_shorter (begins M.OpenParenthesis ts) (taken M.OpenParenthesis ts >>= λ open_token. names_from s scope open_token.1) (one_from s scope ts >>= λ x. Ok ((x.0.0 ∷ [], x.0.1), x.1)) (length ts) x
     (λ f.
-      let a = bind_ok (taken M.OpenParenthesis ts) (λ open_token. names_from s scope open_token.1) x f in
-      let h = taken_shorter M.OpenParenthesis ts {x = a.value} a.part in
-      let i = names_shorter s scope a.value.1 x a.whole in
-      omega (arith, h, i))
+    let a = bind_ok (taken M.OpenParenthesis ts) (λ open_token. names_from s scope open_token.1) x f in
+    let h = taken_shorter M.OpenParenthesis ts {x = a.value} a.part in
+    let i = names_shorter s scope a.value.1 x a.whole in
+    omega (arith, h, i))
     (λ f.
-      let a = bind_ok (one_from s scope ts) (λ x. Ok ((x.0.0 ∷ [], x.0.1), x.1)) x f in
-      let h = one_shorter s scope ts a.value a.part in
-      let k : ((a.value.0.0 ∷ [], a.value.0.1), a.value.1) ≡ x = cc (a.whole) in
-      omega (arith, h, ap (λ u. length u.1) k))
+    let a = bind_ok (one_from s scope ts) (λ x. Ok ((x.0.0 ∷ [], x.0.1), x.1)) x f in
+    let h = one_shorter s scope ts a.value a.part in
+    let k : ((a.value.0.0 ∷ [], a.value.0.1), a.value.1) ≡ x = cc (a.whole) in
+    omega (arith, h, ap (λ u. length u.1) k))
     e
 
 pub item_shrinks : (s : List ℕ) → ShrinksOne (λ before rest. item_from s before rest)

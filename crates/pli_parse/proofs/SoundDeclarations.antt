@@ -1,8 +1,7 @@
 -- What is read as declarations is spelled so, and declares new names.
-use Rattle.std.proofs.Common.{◌≡◌, ◌≢◌, ℕ, zero, suc, ◌+◌, ◌≤◌, List, [], ◌∷◌, ◌++◌, length, Option, Some, None, Ok, Err, Bool, true, false, refl, sym, ap, ◌∙◌, subst, arith}
-use Rattle.std.specs.Prelude.{◌&&◌, ◌==◌, nat_le, if◌then◌else◌, IsTrue}
-use Rattle.std.proofs.lemmas.Bool.{eqb-true, eq-eqb}
-use Rattle.pli_meaning.specs.declared.token.Word.{Word}
+use Rattle.std.proofs.Common.{◌≡◌, ◌≢◌, ℕ, zero, suc, List, [], ◌∷◌, ◌++◌, length, Option, Some, None, Ok, Err, Bool, true, false, refl, sym, ap, ◌∙◌, subst, arith}
+use Rattle.std.specs.Prelude.{◌&&◌, nat_le, if◌then◌else◌, IsTrue}
+use Rattle.std.proofs.lemmas.Bool.{eq-eqb}
 use Rattle.pli_meaning.specs.declared.token.Word.TheVariants as W
 use Rattle.pli_meaning.specs.declared.token.Symbol.TheVariants as S
 use Rattle.pli_meaning.specs.declared.token.Kind.{Kind}
@@ -12,16 +11,13 @@ use Rattle.pli_meaning.specs.Tree as T
 use Rattle.pli_meaning.specs.Spells as G
 use Rattle.pli_meaning.specs.Spells.{Takes, next_kind, ends_item, infix_op, Multiplying, Adding, Joining, Comparing, Conjoining, Disjoining}
 use Rattle.pli_meaning.specs.Typing.{◌and_then◌, Scope, index_of, with_name, with_names, is_wide_fixed, item_declared, with_declared, wide}
-use Rattle.pli_meaning.proofs.Unique.{Same, exprs_same}
 use Rattle.pli_parse.specs.declared.terminal.Terminal.{Terminal}
 use Rattle.pli_parse.specs.declared.terminal.Terminal.TheVariants as M
-use Rattle.pli_parse.specs.Terminals.{kind_of, is_terminal}
-use Rattle.pli_parse.specs.Reading.{Read, One, ◌>>=◌, with_front, first, begins, taken, name_from, is_declared, new_name_from, one_from, declared_name, further_from, list_from, names_from, count_from, attributes_from, declared_from, item_from, items_from, declare_from}
+use Rattle.pli_parse.specs.Terminals.{kind_of}
+use Rattle.pli_parse.specs.Reading.{Read, One, ◌>>=◌, with_front, first, begins, taken, name_from, is_declared, new_name_from, one_from, declared_name, further_from, list_from, names_from, count_from, attributes_from, declared_from, item_from, items_from}
 use Rattle.pli_parse.proofs.Tokens.{TakesName, bind_ok, else_ok, name_takes, taken_takes, next_taken, count_counted, terminal_kind}
-use Rattle.pli_parse.proofs.Options.{Has, undeclared_index}
-use Rattle.pli_parse.proofs.Endings.{Bare, other_bare}
-use Rattle.pli_parse.proofs.Beginnings.{true_le, and_left, and_right, begins_none}
-use Rattle.pli_parse.proofs.SoundExpressions.{name_spelled}
+use Rattle.pli_parse.proofs.Options.{undeclared_index}
+use Rattle.pli_parse.proofs.Beginnings.{true_le, and_left, and_right}
 
 begins_next : (m : Terminal) (ts : List Token) → begins m ts ≡ true → next_kind ts ≡ Some (kind_of m)
 begins_next m [] e = absurd (cc e)
@@ -43,51 +39,51 @@ module _ {X : Type 0} (one : One X) (close : Terminal) (other : kind_of close �
     (total_none : (scope : Scope) → total scope [] ≡ Some scope)
     (total_more : (scope : Scope) (x : X) (xs : List X) → total scope (x ∷ xs) ≡ (step scope x and_then (λ scope'. total scope' xs)))
   where
-  further_sound : (n : ℕ) (scope scope' : Scope) (start ts : List Token) (x : X) (y : (List X × Scope) × List Token) → one scope start ≡ Ok ((x, scope'), ts) → further_from one close n scope' ts ≡ Ok y → GoodList P close total scope start (x ∷ y.0.0) y.0.1 y.1
-  unfolding further_from
-  further_sound zero scope scope' start ts x y e h = absurd (cc h)
-  further_sound (suc n) scope scope' start ts x y e h = further_case (begins M.Comma ts) refl (λ scope scope' start ts x y e h. further_sound n scope scope' start ts x y e h) h
-    where
-      further_case : (b : Bool) → begins M.Comma ts ≡ b → ((scope scope' : Scope) (start ts : List Token) (x : X) (y : (List X × Scope) × List Token) → one scope start ≡ Ok ((x, scope'), ts) → further_from one close n scope' ts ≡ Ok y → GoodList P close total scope start (x ∷ y.0.0) y.0.1 y.1) → (if b then (taken M.Comma ts >>= λ comma. one scope' comma.1 >>= λ z. with_front (z.0.0 ∷ []) (further_from one close n z.0.1 z.1)) else (taken close ts >>= λ u. Ok (([], scope'), u.1))) ≡ Ok y → GoodList P close total scope start (x ∷ y.0.0) y.0.1 y.1
-      further_case true b rec h =
-          let a = bind_ok (taken M.Comma ts) (λ comma. one scope' comma.1 >>= λ z. with_front (z.0.0 ∷ []) (further_from one close n z.0.1 z.1)) y h in
-          let d = bind_ok (one scope' a.value.1) (λ z. with_front (z.0.0 ∷ []) (further_from one close n z.0.1 z.1)) y a.whole in
-          let f = bind_ok (further_from one close n d.value.0.1 d.value.1) (λ xs. Ok ((d.value.0.0 ∷ xs.0.0, xs.0.1), xs.1)) y d.whole in
-          let r = rec scope' d.value.0.1 a.value.1 d.value.1 d.value.0.0 f.value d.part f.part in
-          let comma = taken_takes M.Comma ts {x = a.value} a.part in
-          let g = good scope start ((x, scope'), ts) (K.Symbol S.Comma) e (next_taken comma) in
-          let k : ((d.value.0.0 ∷ f.value.0.0, f.value.0.1), f.value.1) ≡ y = cc (f.whole) in
-          let w : GoodList P close total scope start (x ∷ d.value.0.0 ∷ f.value.0.0) f.value.0.1 f.value.1 = record {
-            end = r.end;
-            token = r.token;
-            spelled = more start ts a.value.1 r.end a.value.0 x (d.value.0.0 ∷ f.value.0.0) (g.0 refl) comma r.spelled;
-            closed = r.closed;
-            declared = total_more scope x (d.value.0.0 ∷ f.value.0.0) ∙ ap (λ o. o and_then (λ u. total u (d.value.0.0 ∷ f.value.0.0))) g.2 ∙ r.declared;
-          } in
-          subst (λ u. GoodList P close total scope start (x ∷ u.0.0) u.0.1 u.1) k w
-      further_case false b rec h =
-          let a = bind_ok (taken close ts) (λ u. Ok (([], scope'), u.1)) y h in
-          let z = taken_takes close ts {x = a.value} a.part in
-          let g = good scope start ((x, scope'), ts) (kind_of close) e (next_taken z) in
-          let no_comma : next_kind ts ≢ Some (K.Symbol S.Comma) = λ i. other (cc (next_taken z, i)) in
-          let k : (([], scope'), a.value.1) ≡ y = cc (a.whole) in
-          let w : GoodList P close total scope start (x ∷ []) scope' a.value.1 = record {
-            end = ts;
-            token = a.value.0;
-            spelled = last start ts x (g.1 refl) no_comma;
-            closed = z;
-            declared = total_more scope x [] ∙ ap (λ o. o and_then (λ u. total u [])) g.2 ∙ total_none scope';
-          } in
-          subst (λ u. GoodList P close total scope start (x ∷ u.0.0) u.0.1 u.1) k w
+    further_sound : (n : ℕ) (scope scope' : Scope) (start ts : List Token) (x : X) (y : (List X × Scope) × List Token) → one scope start ≡ Ok ((x, scope'), ts) → further_from one close n scope' ts ≡ Ok y → GoodList P close total scope start (x ∷ y.0.0) y.0.1 y.1
+    unfolding further_from
+    further_sound zero scope scope' start ts x y e h = absurd (cc h)
+    further_sound (suc n) scope scope' start ts x y e h = further_case (begins M.Comma ts) refl (λ scope scope' start ts x y e h. further_sound n scope scope' start ts x y e h) h
+      where
+        further_case : (b : Bool) → begins M.Comma ts ≡ b → ((scope scope' : Scope) (start ts : List Token) (x : X) (y : (List X × Scope) × List Token) → one scope start ≡ Ok ((x, scope'), ts) → further_from one close n scope' ts ≡ Ok y → GoodList P close total scope start (x ∷ y.0.0) y.0.1 y.1) → (if b then (taken M.Comma ts >>= λ comma. one scope' comma.1 >>= λ z. with_front (z.0.0 ∷ []) (further_from one close n z.0.1 z.1)) else (taken close ts >>= λ u. Ok (([], scope'), u.1))) ≡ Ok y → GoodList P close total scope start (x ∷ y.0.0) y.0.1 y.1
+        further_case true b rec h =
+            let a = bind_ok (taken M.Comma ts) (λ comma. one scope' comma.1 >>= λ z. with_front (z.0.0 ∷ []) (further_from one close n z.0.1 z.1)) y h in
+            let d = bind_ok (one scope' a.value.1) (λ z. with_front (z.0.0 ∷ []) (further_from one close n z.0.1 z.1)) y a.whole in
+            let f = bind_ok (further_from one close n d.value.0.1 d.value.1) (λ xs. Ok ((d.value.0.0 ∷ xs.0.0, xs.0.1), xs.1)) y d.whole in
+            let r = rec scope' d.value.0.1 a.value.1 d.value.1 d.value.0.0 f.value d.part f.part in
+            let comma = taken_takes M.Comma ts {x = a.value} a.part in
+            let g = good scope start ((x, scope'), ts) (K.Symbol S.Comma) e (next_taken comma) in
+            let k : ((d.value.0.0 ∷ f.value.0.0, f.value.0.1), f.value.1) ≡ y = cc (f.whole) in
+            let w : GoodList P close total scope start (x ∷ d.value.0.0 ∷ f.value.0.0) f.value.0.1 f.value.1 = record {
+              end = r.end;
+              token = r.token;
+              spelled = more start ts a.value.1 r.end a.value.0 x (d.value.0.0 ∷ f.value.0.0) (g.0 refl) comma r.spelled;
+              closed = r.closed;
+              declared = total_more scope x (d.value.0.0 ∷ f.value.0.0) ∙ ap (λ o. o and_then (λ u. total u (d.value.0.0 ∷ f.value.0.0))) g.2 ∙ r.declared;
+            } in
+            subst (λ u. GoodList P close total scope start (x ∷ u.0.0) u.0.1 u.1) k w
+        further_case false b rec h =
+            let a = bind_ok (taken close ts) (λ u. Ok (([], scope'), u.1)) y h in
+            let z = taken_takes close ts {x = a.value} a.part in
+            let g = good scope start ((x, scope'), ts) (kind_of close) e (next_taken z) in
+            let no_comma : next_kind ts ≢ Some (K.Symbol S.Comma) = λ i. other (cc (next_taken z, i)) in
+            let k : (([], scope'), a.value.1) ≡ y = cc (a.whole) in
+            let w : GoodList P close total scope start (x ∷ []) scope' a.value.1 = record {
+              end = ts;
+              token = a.value.0;
+              spelled = last start ts x (g.1 refl) no_comma;
+              closed = z;
+              declared = total_more scope x [] ∙ ap (λ o. o and_then (λ u. total u [])) g.2 ∙ total_none scope';
+            } in
+            subst (λ u. GoodList P close total scope start (x ∷ u.0.0) u.0.1 u.1) k w
 
-  pub list_sound : (scope : Scope) (ts : List Token) (y : (List X × Scope) × List Token) → list_from one close scope ts ≡ Ok y → GoodList P close total scope ts y.0.0 y.0.1 y.1
-  unfolding list_from
-  list_sound scope ts y e =
-      let a = bind_ok (one scope ts) (λ x. with_front (x.0.0 ∷ []) (further_from one close (suc (length x.1)) x.0.1 x.1)) y e in
-      let f = bind_ok (further_from one close (suc (length a.value.1)) a.value.0.1 a.value.1) (λ xs. Ok ((a.value.0.0 ∷ xs.0.0, xs.0.1), xs.1)) y a.whole in
-      let r = further_sound (suc (length a.value.1)) scope a.value.0.1 ts a.value.1 a.value.0.0 f.value a.part f.part in
-      let k : ((a.value.0.0 ∷ f.value.0.0, f.value.0.1), f.value.1) ≡ y = cc (f.whole) in
-      subst (λ u. GoodList P close total scope ts u.0.0 u.0.1 u.1) k r
+    pub list_sound : (scope : Scope) (ts : List Token) (y : (List X × Scope) × List Token) → list_from one close scope ts ≡ Ok y → GoodList P close total scope ts y.0.0 y.0.1 y.1
+    unfolding list_from
+    list_sound scope ts y e =
+        let a = bind_ok (one scope ts) (λ x. with_front (x.0.0 ∷ []) (further_from one close (suc (length x.1)) x.0.1 x.1)) y e in
+        let f = bind_ok (further_from one close (suc (length a.value.1)) a.value.0.1 a.value.1) (λ xs. Ok ((a.value.0.0 ∷ xs.0.0, xs.0.1), xs.1)) y a.whole in
+        let r = further_sound (suc (length a.value.1)) scope a.value.0.1 ts a.value.1 a.value.0.0 f.value a.part f.part in
+        let k : ((a.value.0.0 ∷ f.value.0.0, f.value.0.1), f.value.1) ≡ y = cc (f.whole) in
+        subst (λ u. GoodList P close total scope ts u.0.0 u.0.1 u.1) k r
 
 -- ---- names
 
@@ -172,15 +168,15 @@ unfolding declared_from
 declared_sound s scope ts x e =
     names_either (begins M.OpenParenthesis ts) (taken M.OpenParenthesis ts >>= λ open_token. names_from s scope open_token.1) (one_from s scope ts >>= λ x. Ok ((x.0.0 ∷ [], x.0.1), x.1)) s scope ts x
     (λ f.
-      let a = bind_ok (taken M.OpenParenthesis ts) (λ open_token. names_from s scope open_token.1) x f in
-      let g = names_sound s scope a.value.1 x a.whole in
-      record { spelled = grouped ts a.value.1 g.end x.1 a.value.0 g.token x.0.0 (taken_takes M.OpenParenthesis ts {x = a.value} a.part) g.spelled g.closed; declared = g.declared })
+    let a = bind_ok (taken M.OpenParenthesis ts) (λ open_token. names_from s scope open_token.1) x f in
+    let g = names_sound s scope a.value.1 x a.whole in
+    record { spelled = grouped ts a.value.1 g.end x.1 a.value.0 g.token x.0.0 (taken_takes M.OpenParenthesis ts {x = a.value} a.part) g.spelled g.closed; declared = g.declared })
     (λ f.
-      let a = bind_ok (one_from s scope ts) (λ x. Ok ((x.0.0 ∷ [], x.0.1), x.1)) x f in
-      let g = one_sound s scope ts a.value a.part in
-      let k : ((a.value.0.0 ∷ [], a.value.0.1), a.value.1) ≡ x = cc (a.whole) in
-      let w : GoodNames s scope ts (a.value.0.0 ∷ []) a.value.0.1 a.value.1 = record { spelled = alone ts a.value.1 a.value.0.0 g.spelled; declared = ap (λ o. o and_then (λ u. with_names u [])) g.declared } in
-      subst (λ u. GoodNames s scope ts u.0.0 u.0.1 u.1) k w)
+    let a = bind_ok (one_from s scope ts) (λ x. Ok ((x.0.0 ∷ [], x.0.1), x.1)) x f in
+    let g = one_sound s scope ts a.value a.part in
+    let k : ((a.value.0.0 ∷ [], a.value.0.1), a.value.1) ≡ x = cc (a.whole) in
+    let w : GoodNames s scope ts (a.value.0.0 ∷ []) a.value.0.1 a.value.1 = record { spelled = alone ts a.value.1 a.value.0.0 g.spelled; declared = ap (λ o. o and_then (λ u. with_names u [])) g.declared } in
+    subst (λ u. GoodNames s scope ts u.0.0 u.0.1 u.1) k w)
     e
 
 pub record GoodItem (s : List ℕ) (scope : Scope) (ts : List Token) (d : T.DeclareItem) (scope' : Scope) (rest : List Token) : Type 0 where

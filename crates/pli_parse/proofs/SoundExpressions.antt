@@ -1,5 +1,5 @@
 -- What is read as an expression is spelled so, has a type, and stays within the limit of parentheses.
-use Rattle.std.proofs.Common.{◌≡◌, ◌≢◌, ℕ, zero, suc, ◌+◌, ◌-◌, ◌<◌, ◌≤◌, List, [], ◌∷◌, length, max, Option, Some, None, Ok, Err, Bool, true, false, refl, sym, ap, ◌∙◌, subst, arith}
+use Rattle.std.proofs.Common.{◌≡◌, ℕ, zero, suc, ◌≤◌, List, [], ◌∷◌, length, Option, Some, None, Ok, Err, true, refl, sym, ap, ◌∙◌, subst, arith}
 use Rattle.std.specs.Prelude.{if◌then◌else◌}
 use Rattle.pli_meaning.specs.declared.token.Symbol.TheVariants as S
 use Rattle.pli_meaning.specs.declared.token.Kind.{Kind}
@@ -11,15 +11,15 @@ use Rattle.pli_meaning.specs.Tree as T
 use Rattle.pli_meaning.specs.Typed as Y
 use Rattle.pli_meaning.specs.Spells as G
 use Rattle.pli_meaning.specs.Spells.{Takes, next_kind, infix_op, Level, Multiplying, Adding, Joining, Comparing, Conjoining, Disjoining, SpellsAt, SpellsChain, SpellsPrimary, SpellsReference}
-use Rattle.pli_meaning.specs.Typing.{◌and_then◌, Scope, index_of, variable_named, typed_expr, nesting, sign_of, operator_of, typed_reference, main_level, wide}
+use Rattle.pli_meaning.specs.Typing.{◌and_then◌, Scope, index_of, variable_named, typed_expr, nesting, sign_of, operator_of, main_level, wide}
 use Rattle.pli_parse.specs.declared.expression.Sign.{Sign}
 use Rattle.pli_parse.specs.declared.terminal.Terminal.{Terminal}
 use Rattle.pli_parse.specs.declared.terminal.Terminal.TheVariants as M
 use Rattle.pli_parse.specs.Terminals.{kind_of}
-use Rattle.pli_parse.specs.Reading.{Read, ◌>>=◌, Inner, first, name_from, is_declared, variable_from, signs_from, signs_behind, prefix_sign, signed, primary_from, primary_of, operand_from, chain_from, chain_step, next_infix, behind, expr_within, inner_at, expr_until, taken}
+use Rattle.pli_parse.specs.Reading.{Inner, first, name_from, is_declared, variable_from, signs_from, signs_behind, prefix_sign, signed, primary_from, primary_of, operand_from, chain_from, chain_step, next_infix, expr_within, inner_at, taken}
 use Rattle.pli_parse.proofs.Tokens.{TakesName, bind_ok, then_ok, name_takes, taken_takes, next_taken}
-use Rattle.pli_parse.proofs.Options.{Has, has_then, has_along, declared_index}
-use Rattle.pli_parse.proofs.Endings.{follows, closes, closes_follows, closes_parenthesis, no_adding, no_multiplying, Stops, closes_stops, Bare, follows_bare, next_adding, adding_follows, adding_operator, sign_prefix, sign_typed}
+use Rattle.pli_parse.proofs.Options.{Has, has_then, declared_index}
+use Rattle.pli_parse.proofs.Endings.{follows, closes, closes_follows, closes_parenthesis, no_multiplying, closes_stops, Bare, follows_bare, next_adding, adding_follows, adding_operator, sign_prefix, sign_typed}
 
 -- ---- names
 

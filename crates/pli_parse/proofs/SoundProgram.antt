@@ -1,7 +1,6 @@
 -- What is read as a program is spelled so and has a type.
-use Rattle.std.proofs.Common.{◌≡◌, ◌≢◌, ℕ, zero, suc, ◌+◌, ◌⊎◌, inl, inr, List, [], ◌∷◌, ◌++◌, length, map, Option, Some, None, Ok, Err, Bool, true, false, refl, sym, ap, ◌∙◌, subst, arith}
+use Rattle.std.proofs.Common.{◌≡◌, ℕ, zero, suc, ◌+◌, ◌⊎◌, inl, inr, List, [], ◌∷◌, length, Some, None, Ok, Bool, true, false, refl, sym, ap, ◌∙◌, subst}
 use Rattle.std.specs.Prelude.{if◌then◌else◌, IsSome}
-use Rattle.pli_meaning.specs.declared.token.Word.{Word}
 use Rattle.pli_meaning.specs.declared.token.Word.TheVariants as W
 use Rattle.pli_meaning.specs.declared.token.Symbol.TheVariants as S
 use Rattle.pli_meaning.specs.declared.token.Kind.{Kind}
@@ -9,20 +8,19 @@ use Rattle.pli_meaning.specs.declared.token.Kind.TheVariants as K
 use Rattle.pli_meaning.specs.declared.token.Token.{Token}
 use Rattle.pli_meaning.specs.declared.expr.Place.{Place}
 use Rattle.pli_meaning.specs.Tree as T
-use Rattle.pli_meaning.specs.Typed as Y
 use Rattle.pli_meaning.specs.Spells as G
 use Rattle.pli_meaning.specs.Spells.{Takes, next_kind, infix_op, Multiplying, Adding, Joining, Comparing, Conjoining, Disjoining}
-use Rattle.pli_meaning.specs.Typing.{◌and_then◌, Scope, index_of, with_declared, typed_items, typed_body, typed_procedure, typed_tree, typed, main_program}
-use Rattle.pli_meaning.proofs.Unique.{Same, exprs_same}
+use Rattle.pli_meaning.specs.Typing.{◌and_then◌, Scope, with_declared, typed_items, typed_body, typed, main_program}
+use Rattle.pli_meaning.proofs.Unique.{exprs_same}
 use Rattle.pli_parse.specs.declared.terminal.Terminal.TheVariants as M
-use Rattle.pli_parse.specs.Reading.{Read, ◌>>=◌, with_items, begins, taken, name_from, opens, declare_from, items_from, item_from, statements_from, body_from, options_from, head_from, head_of, tree_with, if_ended, tree_from, further_from, list_from, with_front}
-use Rattle.pli_parse.proofs.Tokens.{TakesName, Both, bind_ok, name_takes, taken_takes, next_taken}
+use Rattle.pli_parse.specs.Reading.{Read, ◌>>=◌, with_items, begins, taken, name_from, opens, declare_from, items_from, statements_from, body_from, options_from, head_from, head_of, tree_with, if_ended, tree_from}
+use Rattle.pli_parse.proofs.Tokens.{bind_ok, name_takes, taken_takes, next_taken}
 use Rattle.pli_parse.proofs.Options.{Has, has_then, has_along}
 use Rattle.pli_parse.proofs.Endings.{Bare, other_bare}
 use Rattle.pli_parse.proofs.Beginnings.{begins_none}
 use Rattle.pli_parse.proofs.SoundExpressions.{name_spelled}
-use Rattle.pli_parse.proofs.SoundStatements.{GoodItems, statements_sound}
-use Rattle.pli_parse.proofs.SoundDeclarations.{GoodList, items_sound, SpellsNames, alone, grouped, first_names, FirstNames}
+use Rattle.pli_parse.proofs.SoundStatements.{statements_sound}
+use Rattle.pli_parse.proofs.SoundDeclarations.{items_sound, SpellsNames, alone, grouped, first_names}
 
 -- ---- DECLARE begins no assignment
 
@@ -36,6 +34,7 @@ name_expr s ts rest d k (G.declared_name ts' rest' t word take) n either = with_
   where
     e : T.Expr
     e = T.Refers (T.Plain (T.Last (G.name_at s t word) T.Absent))
+
     build : Bare (next_kind rest) → infix_op Multiplying (next_kind rest) ≡ None → infix_op Adding (next_kind rest) ≡ None → infix_op Joining (next_kind rest) ≡ None → infix_op Comparing (next_kind rest) ≡ None → infix_op Conjoining (next_kind rest) ≡ None → infix_op Disjoining (next_kind rest) ≡ None → G.SpellsExpr s ts e rest
     build b m a j c o i =
         let r = name_spelled s ts rest (G.name_at s t word) (record { token = t; word = word; take = take; is = refl }) b in
@@ -46,6 +45,7 @@ name_expr s ts rest d k (G.declared_name ts' rest' t word take) n either = with_
         let x4 = G.chain Comparing ts rest rest e e x3 (G.stops Comparing e rest c) in
         let x5 = G.chain Conjoining ts rest rest e e x4 (G.stops Conjoining e rest o) in
         G.chain Disjoining ts rest rest e e x5 (G.stops Disjoining e rest i)
+
     with_kind : (next_kind rest ≡ Some (K.Symbol S.Comma)) ⊎ (next_kind rest ≡ Some (K.Symbol S.CloseParenthesis)) → G.SpellsExpr s ts e rest
     with_kind (inl h) = build (other_bare (next_kind rest) (K.Symbol S.Comma) h (λ u. cc u) (λ u. cc u) (λ u. cc u)) (ap (infix_op Multiplying) h) (ap (infix_op Adding) h) (ap (infix_op Joining) h) (ap (infix_op Comparing) h) (ap (infix_op Conjoining) h) (ap (infix_op Disjoining) h)
     with_kind (inr h) = build (other_bare (next_kind rest) (K.Symbol S.CloseParenthesis) h (λ u. cc u) (λ u. cc u) (λ u. cc u)) (ap (infix_op Multiplying) h) (ap (infix_op Adding) h) (ap (infix_op Joining) h) (ap (infix_op Comparing) h) (ap (infix_op Conjoining) h) (ap (infix_op Disjoining) h)
@@ -86,6 +86,7 @@ declare_begins {s} {ts} {after} {inner} {mid} {behind} take o n z fixed free = b
     qualified_behind q rest (G.of ts' after' mid' point rest' t' u' word a q' take' args dot more) =
         let e = arguments_behind args (take_along (take_rest take take') o) n z in
         absurd (cc (ap next_kind e, next_taken dot, fixed))
+
     by_reference : (r : T.Reference) (rest : List Token) → G.SpellsReference s ts r rest → next_kind rest ≡ Some (K.Symbol S.Equal) → ⊥
     by_reference r rest (G.basic ts' mid' rest' q r' first (G.no_arrow r'' ts'' stop)) equal =
         let e = qualified_behind q mid' first in
@@ -122,26 +123,26 @@ body_sound zero s label place scope ts x e = absurd (cc e)
 body_sound (suc n) s label place scope ts x e =
     body_either (opens M.Declare s scope ts) (declare_from s scope ts >>= λ x. with_items (x.0.0 ∷ []) (body_from n s label.letters x.0.1 x.1)) (statements_from (length ts + 1) s label.letters scope ts) s label place scope ts x
     (λ h.
-      let a = bind_ok (declare_from s scope ts) (λ x. with_items (x.0.0 ∷ []) (body_from n s label.letters x.0.1 x.1)) x h in
-      let b = bind_ok (body_from n s label.letters a.value.0.1 a.value.1) (λ more. Ok (T.ItemThen a.value.0.0 more.0, more.1)) x a.whole in
-      let others = body_sound n s label place a.value.0.1 a.value.1 b.value b.part in
-      let d = bind_ok (taken M.Declare ts) (λ declare. items_from s scope declare.1 >>= λ items. Ok ((T.Declare items.0.0 (G.place_of declare.0), items.0.1), items.1)) a.value a.part in
-      let f = bind_ok (items_from s scope d.value.1) (λ items. Ok ((T.Declare items.0.0 (G.place_of d.value.0), items.0.1), items.1)) a.value d.whole in
-      let take = taken_takes M.Declare ts {x = d.value} d.part in
-      let g = items_sound s scope d.value.1 f.value f.part in
-      let m = first_names s scope d.value.1 f.value f.part in
-      let j : ((T.Declare f.value.0.0 (G.place_of d.value.0), f.value.0.1), f.value.1) ≡ a.value = cc (f.whole) in
-      let others' = subst (λ u. GoodBody s label place u.0.1 u.1 b.value.0 b.value.1) (sym j) others in
-      let k : (T.ItemThen a.value.0.0 b.value.0, b.value.1) ≡ x = cc (b.whole) in
-      let spelled = G.declare ts d.value.1 g.end f.value.1 b.value.1 d.value.0 g.token f.value.0.0 b.value.0 (free_names take m.names m.fixed) take g.spelled g.closed others'.spelled in
-      let typed_so = has_then (with_declared scope f.value.0.0) (λ scope'. typed_body place scope' b.value.0) (record { value = f.value.0.1; is = g.declared }) in
-      let at_declared : Has (typed_body place scope (T.ItemThen (T.Declare f.value.0.0 (G.place_of d.value.0)) b.value.0)) = has_along (with_declared scope f.value.0.0 and_then (λ scope'. typed_body place scope' b.value.0)) (typed_body place f.value.0.1 b.value.0) (ap (λ o. o and_then (λ scope'. typed_body place scope' b.value.0)) g.declared) others'.typed_so in
-      let w : GoodBody s label place scope ts (T.ItemThen (T.Declare f.value.0.0 (G.place_of d.value.0)) b.value.0) b.value.1 = record { spelled = spelled; typed_so = at_declared } in
-      let w' = subst (λ u. GoodBody s label place scope ts (T.ItemThen u.0.0 b.value.0) b.value.1) j w in
-      subst (λ u. GoodBody s label place scope ts u.0 u.1) k w')
+    let a = bind_ok (declare_from s scope ts) (λ x. with_items (x.0.0 ∷ []) (body_from n s label.letters x.0.1 x.1)) x h in
+    let b = bind_ok (body_from n s label.letters a.value.0.1 a.value.1) (λ more. Ok (T.ItemThen a.value.0.0 more.0, more.1)) x a.whole in
+    let others = body_sound n s label place a.value.0.1 a.value.1 b.value b.part in
+    let d = bind_ok (taken M.Declare ts) (λ declare. items_from s scope declare.1 >>= λ items. Ok ((T.Declare items.0.0 (G.place_of declare.0), items.0.1), items.1)) a.value a.part in
+    let f = bind_ok (items_from s scope d.value.1) (λ items. Ok ((T.Declare items.0.0 (G.place_of d.value.0), items.0.1), items.1)) a.value d.whole in
+    let take = taken_takes M.Declare ts {x = d.value} d.part in
+    let g = items_sound s scope d.value.1 f.value f.part in
+    let m = first_names s scope d.value.1 f.value f.part in
+    let j : ((T.Declare f.value.0.0 (G.place_of d.value.0), f.value.0.1), f.value.1) ≡ a.value = cc (f.whole) in
+    let others' = subst (λ u. GoodBody s label place u.0.1 u.1 b.value.0 b.value.1) (sym j) others in
+    let k : (T.ItemThen a.value.0.0 b.value.0, b.value.1) ≡ x = cc (b.whole) in
+    let spelled = G.declare ts d.value.1 g.end f.value.1 b.value.1 d.value.0 g.token f.value.0.0 b.value.0 (free_names take m.names m.fixed) take g.spelled g.closed others'.spelled in
+    let typed_so = has_then (with_declared scope f.value.0.0) (λ scope'. typed_body place scope' b.value.0) (record { value = f.value.0.1; is = g.declared }) in
+    let at_declared : Has (typed_body place scope (T.ItemThen (T.Declare f.value.0.0 (G.place_of d.value.0)) b.value.0)) = has_along (with_declared scope f.value.0.0 and_then (λ scope'. typed_body place scope' b.value.0)) (typed_body place f.value.0.1 b.value.0) (ap (λ o. o and_then (λ scope'. typed_body place scope' b.value.0)) g.declared) others'.typed_so in
+    let w : GoodBody s label place scope ts (T.ItemThen (T.Declare f.value.0.0 (G.place_of d.value.0)) b.value.0) b.value.1 = record { spelled = spelled; typed_so = at_declared } in
+    let w' = subst (λ u. GoodBody s label place scope ts (T.ItemThen u.0.0 b.value.0) b.value.1) j w in
+    subst (λ u. GoodBody s label place scope ts u.0 u.1) k w')
     (λ h.
-      let g = statements_sound (length ts + 1) s label scope ts x h in
-      record { spelled = g.spelled; typed_so = body_of_items place scope x.0 g.typed })
+    let g = statements_sound (length ts + 1) s label scope ts x h in
+    record { spelled = g.spelled; typed_so = body_of_items place scope x.0 g.typed })
     e
 
 -- ---- programs

@@ -1,10 +1,9 @@
 -- What is read as a statement, or as the END of a procedure, is spelled so and has a type.
-use Rattle.std.proofs.Common.{◌≡◌, ◌≢◌, ℕ, zero, suc, ◌+◌, ◌≤◌, List, [], ◌∷◌, Option, Some, None, Ok, Err, Bool, true, false, refl, sym, ap, ◌∙◌, subst, arith, map}
-use Rattle.std.specs.Prelude.{◌&&◌, nat_le, if◌then◌else◌, Contains}
+use Rattle.std.proofs.Common.{◌≡◌, ℕ, zero, suc, ◌+◌, ◌≤◌, List, [], ◌∷◌, Option, Some, None, Ok, Err, Bool, true, false, refl, sym, ap, ◌∙◌, subst, arith}
+use Rattle.std.specs.Prelude.{nat_le, if◌then◌else◌, Contains}
 use Rattle.std.proofs.lemmas.List.Elements.{Contains-push}
 use Rattle.pli_meaning.specs.declared.token.Word.TheVariants as W
 use Rattle.pli_meaning.specs.declared.token.Symbol.TheVariants as S
-use Rattle.pli_meaning.specs.declared.token.Kind.{Kind}
 use Rattle.pli_meaning.specs.declared.token.Kind.TheVariants as K
 use Rattle.pli_meaning.specs.declared.token.Token.{Token}
 use Rattle.pli_meaning.specs.declared.expr.Place.{Place}
@@ -13,14 +12,14 @@ use Rattle.pli_meaning.specs.Tree as T
 use Rattle.pli_meaning.specs.Typed as Y
 use Rattle.pli_meaning.specs.Spells as G
 use Rattle.pli_meaning.specs.Spells.{Takes, next_kind}
-use Rattle.pli_meaning.specs.Typing.{◌and_then◌, Scope, variable_named, typed_expr, nesting, typed_within, typed_reference, typed_format, typed_pair, pair_typed, typed_stmt, typed_items, most_parentheses, is_width}
+use Rattle.pli_meaning.specs.Typing.{◌and_then◌, Scope, variable_named, typed_expr, nesting, typed_within, typed_format, typed_pair, pair_typed, typed_stmt, typed_items, most_parentheses, is_width}
 use Rattle.pli_parse.specs.declared.terminal.Terminal.TheVariants as M
-use Rattle.pli_parse.specs.Reading.{Read, ◌>>=◌, first, begins, taken, name_from, variable_from, inner_at, expr_within, expr_until, count_from, assignment_from, format_from, pair_from, put_from, statement_from, opens, closing_name_from, end_from, statements_from, with_items}
-use Rattle.pli_parse.proofs.Tokens.{TakesName, Both, bind_ok, then_ok, if_true, name_takes, taken_takes, next_taken, count_counted}
+use Rattle.pli_parse.specs.Reading.{Read, ◌>>=◌, first, begins, taken, name_from, variable_from, inner_at, expr_until, count_from, assignment_from, format_from, pair_from, put_from, statement_from, opens, closing_name_from, end_from, statements_from, with_items}
+use Rattle.pli_parse.proofs.Tokens.{bind_ok, then_ok, if_true, name_takes, taken_takes, next_taken, count_counted}
 use Rattle.pli_parse.proofs.Options.{Has, has_then, has_along}
-use Rattle.pli_parse.proofs.Endings.{closes, closes_semicolon, closes_parenthesis, Bare, other_bare}
+use Rattle.pli_parse.proofs.Endings.{closes_semicolon, closes_parenthesis, other_bare}
 use Rattle.pli_parse.proofs.Beginnings.{le_true, bytes_same, begins_none}
-use Rattle.pli_parse.proofs.SoundExpressions.{Variable, variable_sound, name_spelled, Fine, GoodExpr, within_sound, inner_good}
+use Rattle.pli_parse.proofs.SoundExpressions.{variable_sound, name_spelled, GoodExpr, within_sound, inner_good}
 
 pub until_sound : (d : ℕ) (s : List ℕ) (scope : Scope) (ts : List Token) (x : T.Expr × List Token) → expr_until d M.Semicolon s scope ts ≡ Ok x → GoodExpr s scope d (λ u rest. inner_at d s scope u rest) (inner_good d s scope) M.Semicolon ts x.0 x.1
 unfolding expr_until
@@ -186,19 +185,19 @@ statements_sound zero s label scope ts x e = absurd (cc e)
 statements_sound (suc n) s label scope ts x e =
     items_either (opens M.End s scope ts) (end_from s label.letters ts >>= λ end. Ok (T.NoItem, end.1)) (statement_from s scope ts >>= λ x. with_items (T.Statement [] x.0 ∷ []) (statements_from n s label.letters scope x.1)) s label scope ts x
     (λ h.
-      let a = bind_ok (end_from s label.letters ts) (λ end. Ok (T.NoItem, end.1)) x h in
-      let k : (T.NoItem, a.value.1) ≡ x = cc (a.whole) in
-      let w : GoodItems s label scope ts T.NoItem a.value.1 = record { spelled = G.ends ts a.value.1 (end_sound s label ts a.value a.part); typed = record { value = Y.NoStmt; is = refl } } in
-      subst (λ u. GoodItems s label scope ts u.0 u.1) k w)
+    let a = bind_ok (end_from s label.letters ts) (λ end. Ok (T.NoItem, end.1)) x h in
+    let k : (T.NoItem, a.value.1) ≡ x = cc (a.whole) in
+    let w : GoodItems s label scope ts T.NoItem a.value.1 = record { spelled = G.ends ts a.value.1 (end_sound s label ts a.value a.part); typed = record { value = Y.NoStmt; is = refl } } in
+    subst (λ u. GoodItems s label scope ts u.0 u.1) k w)
     (λ h.
-      let a = bind_ok (statement_from s scope ts) (λ x. with_items (T.Statement [] x.0 ∷ []) (statements_from n s label.letters scope x.1)) x h in
-      let b = bind_ok (statements_from n s label.letters scope a.value.1) (λ more. Ok (T.ItemThen (T.Statement [] a.value.0) more.0, more.1)) x a.whole in
-      let first_one = statement_sound s scope ts a.value a.part in
-      let others = statements_sound n s label scope a.value.1 b.value b.part in
-      let k : (T.ItemThen (T.Statement [] a.value.0) b.value.0, b.value.1) ≡ x = cc (b.whole) in
-      let w : GoodItems s label scope ts (T.ItemThen (T.Statement [] a.value.0) b.value.0) b.value.1 = record {
-        spelled = G.statement ts a.value.1 b.value.1 a.value.0 b.value.0 first_one.spelled others.spelled;
-        typed = has_then (typed_stmt scope a.value.0) (λ st. typed_items scope b.value.0 and_then (λ ss. Some (Y.StmtThen [] st ss))) first_one.typed (λ st. has_then (typed_items scope b.value.0) (λ ss. Some (Y.StmtThen [] st ss)) others.typed (λ ss. record { value = Y.StmtThen [] st ss; is = refl }));
-      } in
-      subst (λ u. GoodItems s label scope ts u.0 u.1) k w)
+    let a = bind_ok (statement_from s scope ts) (λ x. with_items (T.Statement [] x.0 ∷ []) (statements_from n s label.letters scope x.1)) x h in
+    let b = bind_ok (statements_from n s label.letters scope a.value.1) (λ more. Ok (T.ItemThen (T.Statement [] a.value.0) more.0, more.1)) x a.whole in
+    let first_one = statement_sound s scope ts a.value a.part in
+    let others = statements_sound n s label scope a.value.1 b.value b.part in
+    let k : (T.ItemThen (T.Statement [] a.value.0) b.value.0, b.value.1) ≡ x = cc (b.whole) in
+    let w : GoodItems s label scope ts (T.ItemThen (T.Statement [] a.value.0) b.value.0) b.value.1 = record {
+      spelled = G.statement ts a.value.1 b.value.1 a.value.0 b.value.0 first_one.spelled others.spelled;
+      typed = has_then (typed_stmt scope a.value.0) (λ st. typed_items scope b.value.0 and_then (λ ss. Some (Y.StmtThen [] st ss))) first_one.typed (λ st. has_then (typed_items scope b.value.0) (λ ss. Some (Y.StmtThen [] st ss)) others.typed (λ ss. record { value = Y.StmtThen [] st ss; is = refl }));
+    } in
+    subst (λ u. GoodItems s label scope ts u.0 u.1) k w)
     e

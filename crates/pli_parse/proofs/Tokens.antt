@@ -1,9 +1,8 @@
 -- Laws of the readers of single tokens, and of readers that fail where a part fails.
-use Rattle.std.proofs.Common.{◌≡◌, ℕ, suc, ◌<◌, ◌≤◌, List, [], ◌∷◌, length, Option, Some, None, Bool, true, false, refl, sym, ap, ◌∙◌, arith, Result, Ok, Err}
+use Rattle.std.proofs.Common.{◌≡◌, ℕ, ◌<◌, List, [], ◌∷◌, length, Option, Some, Bool, true, false, refl, sym, ap, ◌∙◌, arith, Result, Ok, Err}
 use Rattle.std.specs.Prelude.{◌&&◌, nat_le, if◌then◌else◌}
 use Rattle.pli_meaning.specs.declared.token.Word.{Word}
 use Rattle.pli_meaning.specs.declared.token.Word.TheVariants as W
-use Rattle.pli_meaning.specs.declared.token.Symbol.{Symbol}
 use Rattle.pli_meaning.specs.declared.token.Symbol.TheVariants as S
 use Rattle.pli_meaning.specs.declared.token.Kind.{Kind}
 use Rattle.pli_meaning.specs.declared.token.Kind.TheVariants as K
@@ -14,7 +13,7 @@ use Rattle.pli_meaning.specs.Tree as T
 use Rattle.pli_parse.specs.declared.terminal.Terminal.{Terminal}
 use Rattle.pli_parse.specs.declared.terminal.Terminal.TheVariants as M
 use Rattle.pli_parse.specs.Terminals.{kind_of, is_terminal}
-use Rattle.pli_parse.specs.Reading.{Read, ◌>>=◌, taken, begins, named, name_from, numbered, number_from, count_from, first}
+use Rattle.pli_parse.specs.Reading.{◌>>=◌, taken, begins, named, name_from, numbered, number_from, count_from}
 
 -- ---- parts
 

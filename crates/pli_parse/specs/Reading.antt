@@ -1,7 +1,7 @@
 -- What is read from tokens, rule by rule: from the tokens from a place on, what the first of them spell and the tokens
 -- behind, or the token at which no compiled source goes on, none where the tokens end there. Only what is compiled is
 -- read: with the names that are declared so far, and with limits.
-use Rattle.std.specs.Prelude.{◌≡◌, ℕ, zero, suc, ◌+◌, List, [], ◌∷◌, ◌++◌, length, map, Bool, true, false, not, ◌&&◌, nat_le, if◌then◌else◌, Option, Some, None, Result, Ok, Err, slice_range}
+use Rattle.std.specs.Prelude.{ℕ, zero, suc, ◌+◌, List, [], ◌∷◌, ◌++◌, length, Bool, false, not, ◌&&◌, nat_le, if◌then◌else◌, Option, Some, None, Result, Ok, Err, slice_range}
 use Rattle.std.specs.List.{list_any}
 use Rattle.pli_meaning.specs.declared.token.Kind.{Kind}
 use Rattle.pli_meaning.specs.declared.token.Kind.TheVariants as K

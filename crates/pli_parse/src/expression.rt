@@ -8,14 +8,13 @@ ghost use Rattle.pli_meaning.specs.Spells.{place_of};
 ghost use Rattle.pli_parse.specs.Answers.{Gives};
 ghost use Rattle.pli_parse.specs.Reading.{behind, expr_until, infix_sign, inner_at, next_infix, operand_from, prefix_sign, primary_from, signed, signs_from};
 
-use pli_meaning::expr::{Arguments, Expr, InfixOp, Name, Place, PrefixOp, Qualified, Reference};
-use pli_meaning::token::{Kind, Symbol, Token};
-use std::alloc::{AllocError, Global};
-
 use crate::name::variable;
 use crate::stop::Stop;
 use crate::terminal::Terminal;
 use crate::token::{place, taken};
+use pli_meaning::expr::{Arguments, Expr, InfixOp, Name, Place, PrefixOp, Qualified, Reference};
+use pli_meaning::token::{Kind, Symbol, Token};
+use std::alloc::{AllocError, Global};
 
 /// A sign before an operand, and its place.
 #[derive(Clone, Copy)]
@@ -49,7 +48,10 @@ fn infix_sign(kind: Kind) -> Option<InfixOp>
 pub fn reference(name: Name) -> Reference
     ensures { reference_of result ≡ Plain (Last (name_of name) Absent) }
 {
-    Reference::Plain(Qualified::Last { name, arguments: Arguments::Absent })
+    Reference::Plain(Qualified::Last {
+        name,
+        arguments: Arguments::Absent,
+    })
 }
 
 /// The sign at the front, and the tokens behind it.
@@ -60,7 +62,13 @@ fn first_sign(tokens: &[Token]) -> Option<(Sign, &[Token])>
 {
     let (first, rest) = tokens.split_first()?;
     let op = prefix_sign(first.kind)?;
-    Some((Sign { op, place: place(first) }, rest))
+    Some((
+        Sign {
+            op,
+            place: place(first),
+        },
+        rest,
+    ))
 }
 
 /// The signs at the front.
@@ -81,7 +89,11 @@ fn signs(alloc: Global, tokens: &[Token]) -> Result<(Vec<Sign>, &[Token]), Alloc
 fn prefixed(alloc: Global, sign: Sign, operand: Expr) -> Result<Expr, Stop>
     ensures { MatchResult result (λ e. expr_of e ≡ Prefix sign.op (expr_of operand) sign.place) (λ e. e ≡ Memory) }
 {
-    Ok(Expr::Prefix { op: sign.op, operand: Box::new(alloc, operand)?, place: sign.place })
+    Ok(Expr::Prefix {
+        op: sign.op,
+        operand: Box::new(alloc, operand)?,
+        place: sign.place,
+    })
 }
 
 /// An operator between its operands.
@@ -89,7 +101,11 @@ fn prefixed(alloc: Global, sign: Sign, operand: Expr) -> Result<Expr, Stop>
 fn infix(alloc: Global, op: InfixOp, left: Expr, right: Expr) -> Result<Expr, Stop>
     ensures { MatchResult result (λ e. expr_of e ≡ Infix op (expr_of left) (expr_of right)) (λ e. e ≡ Memory) }
 {
-    Ok(Expr::Infix { op, left: Box::new(alloc, left)?, right: Box::new(alloc, right)? })
+    Ok(Expr::Infix {
+        op,
+        left: Box::new(alloc, left)?,
+        right: Box::new(alloc, right)?,
+    })
 }
 
 /// An expression in parentheses.
@@ -97,7 +113,10 @@ fn infix(alloc: Global, op: InfixOp, left: Expr, right: Expr) -> Result<Expr, St
 fn grouped(alloc: Global, inner: Expr, place: Place) -> Result<Expr, Stop>
     ensures { MatchResult result (λ e. expr_of e ≡ Parenthesized (expr_of inner) place) (λ e. e ≡ Memory) }
 {
-    Ok(Expr::Parenthesized { inner: Box::new(alloc, inner)?, place })
+    Ok(Expr::Parenthesized {
+        inner: Box::new(alloc, inner)?,
+        place,
+    })
 }
 
 /// A number.
@@ -105,7 +124,10 @@ fn grouped(alloc: Global, inner: Expr, place: Place) -> Result<Expr, Stop>
 fn constant(value: u32, place: Place) -> Expr
     ensures { expr_of result ≡ Number value place }
 {
-    Expr::Number { value: u64::from(value), place }
+    Expr::Number {
+        value: u64::from(value),
+        place,
+    }
 }
 
 /// The value of a variable.
@@ -140,7 +162,13 @@ fn first_infix(tokens: &[Token]) -> Option<(InfixOp, &[Token])>
 /// A number, a variable, or an expression in parentheses, of which this many more may be open at once.
 #[cycle(expression)]
 #[tactic(auto, unfolding(crate::specs::Reading::primary_from))]
-fn primary<'a>(alloc: Global, source: &[u8], scope: &[Vec<u8>], depth: u32, tokens: &'a [Token]) -> Result<(Expr, &'a [Token]), Stop>
+fn primary<'a>(
+    alloc: Global,
+    source: &[u8],
+    scope: &[Vec<u8>],
+    depth: u32,
+    tokens: &'a [Token],
+) -> Result<(Expr, &'a [Token]), Stop>
     ensures { Gives (λ x. (expr_of x.0, x.1.now)) result (primary_from (λ u rest. inner_at depth source.now (map (λ v. v.items) scope.now) u rest) source.now (map (λ v. v.items) scope.now) tokens.now) }
 {
     let Some((first, rest)) = tokens.split_first() else {
@@ -152,7 +180,9 @@ fn primary<'a>(alloc: Global, source: &[u8], scope: &[Vec<u8>], depth: u32, toke
             let (name, rest) = variable(alloc, source, scope, tokens)?;
             Ok((fetched(name), rest))
         }
-        Kind::Symbol(Symbol::OpenParenthesis) => parenthesized(alloc, source, scope, depth, first, rest),
+        Kind::Symbol(Symbol::OpenParenthesis) => parenthesized(
+            alloc, source, scope, depth, first, rest,
+        ),
         _ => Err(Stop::At(Some(*first))),
     }
 }
@@ -160,20 +190,40 @@ fn primary<'a>(alloc: Global, source: &[u8], scope: &[Vec<u8>], depth: u32, toke
 /// What stands behind an open parenthesis, up to the one that closes it.
 #[cycle(expression)]
 #[tactic(auto, using(crate::proofs::Chains::inner_none, crate::proofs::Chains::inner_some))]
-fn parenthesized<'a>(alloc: Global, source: &[u8], scope: &[Vec<u8>], depth: u32, opened: &Token, tokens: &'a [Token]) -> Result<(Expr, &'a [Token]), Stop>
+fn parenthesized<'a>(
+    alloc: Global,
+    source: &[u8],
+    scope: &[Vec<u8>],
+    depth: u32,
+    opened: &Token,
+    tokens: &'a [Token],
+) -> Result<(Expr, &'a [Token]), Stop>
     ensures { Gives (λ x. (expr_of x.0, x.1.now)) result (inner_at depth source.now (map (λ v. v.items) scope.now) opened.now tokens.now) }
 {
     if depth == 0 {
         return Err(Stop::At(Some(*opened)));
     }
-    let (inner, rest) = expression(alloc, source, scope, depth - 1, Terminal::CloseParenthesis, tokens)?;
+    let (inner, rest) = expression(
+        alloc,
+        source,
+        scope,
+        depth - 1,
+        Terminal::CloseParenthesis,
+        tokens,
+    )?;
     Ok((grouped(alloc, inner, place(opened))?, rest))
 }
 
 /// A primary with its signs before it.
 #[cycle(expression)]
 #[tactic(auto, unfolding(crate::specs::Reading::operand_from))]
-fn operand<'a>(alloc: Global, source: &[u8], scope: &[Vec<u8>], depth: u32, tokens: &'a [Token]) -> Result<(Expr, &'a [Token]), Stop>
+fn operand<'a>(
+    alloc: Global,
+    source: &[u8],
+    scope: &[Vec<u8>],
+    depth: u32,
+    tokens: &'a [Token],
+) -> Result<(Expr, &'a [Token]), Stop>
     ensures { Gives (λ x. (expr_of x.0, x.1.now)) result (operand_from (λ u rest. inner_at depth source.now (map (λ v. v.items) scope.now) u rest) source.now (map (λ v. v.items) scope.now) tokens.now) }
 {
     let (signs, rest) = signs(alloc, tokens)?;
@@ -185,7 +235,14 @@ fn operand<'a>(alloc: Global, source: &[u8], scope: &[Vec<u8>], depth: u32, toke
 /// open at once.
 #[cycle(expression)]
 #[tactic(auto, unfolding(crate::specs::Reading::expr_until, crate::specs::Reading::expr_within))]
-pub fn expression<'a>(alloc: Global, source: &[u8], scope: &[Vec<u8>], depth: u32, close: Terminal, tokens: &'a [Token]) -> Result<(Expr, &'a [Token]), Stop>
+pub fn expression<'a>(
+    alloc: Global,
+    source: &[u8],
+    scope: &[Vec<u8>],
+    depth: u32,
+    close: Terminal,
+    tokens: &'a [Token],
+) -> Result<(Expr, &'a [Token]), Stop>
     ensures { Gives (λ x. (expr_of x.0, x.1.now)) result (expr_until depth close source.now (map (λ v. v.items) scope.now) tokens.now) }
 {
     let (mut left, mut rest) = operand(alloc, source, scope, depth, tokens)?;

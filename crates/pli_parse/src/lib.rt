@@ -19,15 +19,18 @@ ghost use Rattle.pli_meaning.specs.View.{tree_of};
 ghost use Rattle.pli_parse.specs.Answers.{Answers, out_of_memory};
 ghost use Rattle.pli_parse.specs.Reading.{tree_from};
 
+use crate::program::{refusal, tree};
+use crate::stop::Stop;
 use pli_meaning::fault::{SourceFault, SourceKind};
 use pli_meaning::stmt::Tree;
 use pli_meaning::token::Token;
 use std::alloc::Global;
 
-use crate::program::{refusal, tree};
-use crate::stop::Stop;
-
-const OUT_OF_MEMORY: SourceFault = SourceFault { line: 0, column: 0, kind: SourceKind::Memory };
+const OUT_OF_MEMORY: SourceFault = SourceFault {
+    line: 0,
+    column: 0,
+    kind: SourceKind::Memory,
+};
 
 /// The tree of a source's tokens.
 ///

@@ -6,13 +6,12 @@ ghost use Rattle.pli_meaning.specs.View.{name_of};
 ghost use Rattle.pli_parse.specs.Answers.{Gives};
 ghost use Rattle.pli_parse.specs.Reading.{assigns, is_declared, new_name_from, opens, variable_from, closing_name_from};
 
-use pli_meaning::expr::Name;
-use pli_meaning::token::{Kind, Token};
-use std::alloc::{AllocError, Global};
-
 use crate::stop::Stop;
 use crate::terminal::Terminal;
 use crate::token::{begins, letters, name};
+use pli_meaning::expr::Name;
+use pli_meaning::token::{Kind, Token};
+use std::alloc::{AllocError, Global};
 
 pub fn same_bytes(a: &[u8], b: &[u8]) -> bool
     ensures { result ≡ same_bytes a.now b.now }
@@ -34,7 +33,12 @@ pub fn is_declared(scope: &[Vec<u8>], letters: &[u8]) -> bool
 
 /// A declared name.
 #[tactic(auto, unfolding(crate::specs::Reading::variable_from))]
-pub fn variable<'a>(alloc: Global, source: &[u8], scope: &[Vec<u8>], tokens: &'a [Token]) -> Result<(Name, &'a [Token]), Stop>
+pub fn variable<'a>(
+    alloc: Global,
+    source: &[u8],
+    scope: &[Vec<u8>],
+    tokens: &'a [Token],
+) -> Result<(Name, &'a [Token]), Stop>
     ensures { Gives (λ x. (name_of x.0, x.1.now)) result (variable_from source.now (map (λ v. v.items) scope.now) tokens.now) }
 {
     let (name, rest) = name(alloc, source, tokens)?;
@@ -46,7 +50,12 @@ pub fn variable<'a>(alloc: Global, source: &[u8], scope: &[Vec<u8>], tokens: &'a
 
 /// A name that is not yet declared.
 #[tactic(auto, unfolding(crate::specs::Reading::new_name_from))]
-pub fn new_name<'a>(alloc: Global, source: &[u8], scope: &[Vec<u8>], tokens: &'a [Token]) -> Result<(Name, &'a [Token]), Stop>
+pub fn new_name<'a>(
+    alloc: Global,
+    source: &[u8],
+    scope: &[Vec<u8>],
+    tokens: &'a [Token],
+) -> Result<(Name, &'a [Token]), Stop>
     ensures { Gives (λ x. (name_of x.0, x.1.now)) result (new_name_from source.now (map (λ v. v.items) scope.now) tokens.now) }
 {
     let (name, rest) = name(alloc, source, tokens)?;
@@ -58,7 +67,12 @@ pub fn new_name<'a>(alloc: Global, source: &[u8], scope: &[Vec<u8>], tokens: &'a
 
 /// The name of what END closes, which has these letters.
 #[tactic(auto, unfolding(crate::specs::Reading::closing_name_from))]
-pub fn closing_name<'a>(alloc: Global, source: &[u8], label: &[u8], tokens: &'a [Token]) -> Result<(Name, &'a [Token]), Stop>
+pub fn closing_name<'a>(
+    alloc: Global,
+    source: &[u8],
+    label: &[u8],
+    tokens: &'a [Token],
+) -> Result<(Name, &'a [Token]), Stop>
     ensures { Gives (λ x. (name_of x.0, x.1.now)) result (closing_name_from source.now label.now tokens.now) }
 {
     let (name, rest) = name(alloc, source, tokens)?;
@@ -70,7 +84,12 @@ pub fn closing_name<'a>(alloc: Global, source: &[u8], label: &[u8], tokens: &'a 
 
 /// An assignment to a declared name begins here.
 #[tactic(auto, unfolding(crate::specs::Reading::assigns))]
-fn assigns(alloc: Global, source: &[u8], scope: &[Vec<u8>], tokens: &[Token]) -> Result<bool, AllocError>
+fn assigns(
+    alloc: Global,
+    source: &[u8],
+    scope: &[Vec<u8>],
+    tokens: &[Token],
+) -> Result<bool, AllocError>
     ensures { IfOk result (λ b. b ≡ assigns source.now (map (λ v. v.items) scope.now) tokens.now) }
 {
     let Some((first, rest)) = tokens.split_first() else {
@@ -87,7 +106,13 @@ fn assigns(alloc: Global, source: &[u8], scope: &[Vec<u8>], tokens: &[Token]) ->
 }
 
 /// This word begins a statement here, which is no assignment to a declared name.
-pub fn opens(alloc: Global, terminal: Terminal, source: &[u8], scope: &[Vec<u8>], tokens: &[Token]) -> Result<bool, AllocError>
+pub fn opens(
+    alloc: Global,
+    terminal: Terminal,
+    source: &[u8],
+    scope: &[Vec<u8>],
+    tokens: &[Token],
+) -> Result<bool, AllocError>
     ensures { IfOk result (λ b. b ≡ opens terminal source.now (map (λ v. v.items) scope.now) tokens.now) }
 {
     if !begins(terminal, tokens) {

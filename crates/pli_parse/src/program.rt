@@ -9,25 +9,27 @@ ghost use Rattle.pli_parse.specs.declared.stop.Stop.TheVariants.{Memory};
 ghost use Rattle.pli_meaning.specs.declared.fault.SourceKind.TheVariants.{LeftOut};
 ghost use Rattle.pli_parse.specs.Reading.{body_from, head_from, head_of, joined, options_from, statements_from, tree_from};
 
-use pli_meaning::expr::{Name, Place};
-use pli_meaning::fault::{SourceFault, SourceKind};
-use pli_meaning::stmt::{Item, Items, ProcedureHead, ProcedureOption, Tree};
-use pli_meaning::token::Token;
-use std::alloc::Global;
-
 use crate::declaration::declare;
 use crate::name::opens;
 use crate::statement::{end, statement};
 use crate::stop::Stop;
 use crate::terminal::Terminal;
 use crate::token::{name, place, taken};
+use pli_meaning::expr::{Name, Place};
+use pli_meaning::fault::{SourceFault, SourceKind};
+use pli_meaning::stmt::{Item, Items, ProcedureHead, ProcedureOption, Tree};
+use pli_meaning::token::Token;
+use std::alloc::Global;
 
 /// An item before others.
 #[tactic(auto, using(pli_meaning::proofs::Views::views))]
 fn item_then(alloc: Global, first: Item, rest: Items) -> Result<Items, Stop>
     ensures { MatchResult result (λ is. items_of is ≡ ItemThen (item_of first) (items_of rest)) (λ e. e ≡ Memory) }
 {
-    Ok(Items::More { first: Box::new(alloc, first)?, rest: Box::new(alloc, rest)? })
+    Ok(Items::More {
+        first: Box::new(alloc, first)?,
+        rest: Box::new(alloc, rest)?,
+    })
 }
 
 /// Items before others.
@@ -43,14 +45,23 @@ fn joined(alloc: Global, mut items: Vec<Item>, rest: Items) -> Result<Items, Sto
 }
 
 /// Statements up to the END that closes them.
-fn statements<'a>(alloc: Global, source: &[u8], label: &[u8], scope: &[Vec<u8>], tokens: &'a [Token]) -> Result<(Items, &'a [Token]), Stop>
+fn statements<'a>(
+    alloc: Global,
+    source: &[u8],
+    label: &[u8],
+    scope: &[Vec<u8>],
+    tokens: &'a [Token],
+) -> Result<(Items, &'a [Token]), Stop>
     ensures { Gives (λ x. (items_of x.0, x.1.now)) result (statements_from (length tokens.now + 1) source.now label.now (map (λ v. v.items) scope.now) tokens.now) }
 {
     let mut items = Vec::new(alloc);
     let mut rest = tokens;
     'statements: while !opens(alloc, Terminal::End, source, scope, rest)? {
         let (statement, behind) = statement(alloc, source, scope, rest)?;
-        items.push(Item::Statement { labels: Vec::new(alloc), statement })?;
+        items.push(Item::Statement {
+            labels: Vec::new(alloc),
+            statement,
+        })?;
         rest = behind;
     }
     let (_, rest) = end(alloc, source, label, rest)?;
@@ -58,7 +69,12 @@ fn statements<'a>(alloc: Global, source: &[u8], label: &[u8], scope: &[Vec<u8>],
 }
 
 /// Declarations and statements, up to the END that closes them.
-fn body<'a>(alloc: Global, source: &[u8], label: &[u8], tokens: &'a [Token]) -> Result<(Items, &'a [Token]), Stop>
+fn body<'a>(
+    alloc: Global,
+    source: &[u8],
+    label: &[u8],
+    tokens: &'a [Token],
+) -> Result<(Items, &'a [Token]), Stop>
     ensures { Gives (λ x. (items_of x.0, x.1.now)) result (body_from (length tokens.now + 1) source.now label.now [] tokens.now) }
 {
     let mut scope = Vec::new(alloc);
@@ -87,7 +103,11 @@ fn options(tokens: &[Token]) -> Result<(Token, &[Token]), Stop>
 
 /// The label and the place of the word PROCEDURE, up to the semicolon behind its options.
 #[tactic(auto, unfolding(crate::specs::Reading::head_from))]
-fn head<'a>(alloc: Global, source: &[u8], tokens: &'a [Token]) -> Result<((Name, Place), &'a [Token]), Stop>
+fn head<'a>(
+    alloc: Global,
+    source: &[u8],
+    tokens: &'a [Token],
+) -> Result<((Name, Place), &'a [Token]), Stop>
     ensures { Gives (λ x. ((name_of x.0.0, x.0.1), x.1.now)) result (head_from source.now tokens.now) }
 {
     let (label, rest) = name(alloc, source, tokens)?;
@@ -105,7 +125,12 @@ fn main_head(alloc: Global, label: Name, place: Place) -> Result<ProcedureHead, 
     labels.push(label)?;
     let mut options = Vec::new(alloc);
     options.push(ProcedureOption::Main)?;
-    Ok(ProcedureHead { labels, place, parameters: Vec::new(alloc), options })
+    Ok(ProcedureHead {
+        labels,
+        place,
+        parameters: Vec::new(alloc),
+        options,
+    })
 }
 
 /// The tree of all tokens.
@@ -119,7 +144,9 @@ pub fn tree(alloc: Global, source: &[u8], tokens: &[Token]) -> Result<Tree, Stop
         return Err(Stop::At(Some(*first)));
     }
     let head = main_head(alloc, label, place)?;
-    Ok(Tree { procedures: item_then(alloc, Item::Procedure { head, body }, Items::End)? })
+    Ok(Tree {
+        procedures: item_then(alloc, Item::Procedure { head, body }, Items::End)?,
+    })
 }
 
 /// The LF bytes.
@@ -133,7 +160,11 @@ fn line_ends(source: &[u8]) -> usize
 fn last_line(source: &[u8]) -> usize
     ensures { result ≡ length (take_while (λ b. not (b == 10)) (reverse source.now)) }
 {
-    source.iter().rev().take_while(|byte| **byte != b'\n').count()
+    source
+        .iter()
+        .rev()
+        .take_while(|byte| **byte != b'\n')
+        .count()
 }
 
 /// The place behind the last byte.
@@ -154,10 +185,18 @@ pub fn refusal(source: &[u8], tokens: &[Token], at: Option<Token>) -> SourceFaul
     ensures { result ≡ refusal source.now tokens.now at }
 {
     if tokens.is_empty() {
-        return SourceFault { line: 1, column: 1, kind: SourceKind::NoMain };
+        return SourceFault {
+            line: 1,
+            column: 1,
+            kind: SourceKind::NoMain,
+        };
     }
     match at {
-        Some(token) => SourceFault { line: token.line, column: token.column, kind: SourceKind::LeftOut },
+        Some(token) => SourceFault {
+            line: token.line,
+            column: token.column,
+            kind: SourceKind::LeftOut,
+        },
         None => end_fault(source),
     }
 }

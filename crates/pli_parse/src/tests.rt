@@ -52,7 +52,9 @@ fn kind_of(part: &[u8]) -> Kind {
     }
     let mut value: u32 = 0;
     for byte in part {
-        value = value.saturating_mul(10).saturating_add(u32::from(byte.saturating_sub(b'0')));
+        value = value
+            .saturating_mul(10)
+            .saturating_add(u32::from(byte.saturating_sub(b'0')));
     }
     Kind::Number(value)
 }
@@ -64,7 +66,13 @@ fn split(alloc: Global, source: &[u8]) -> Result<Vec<Token>, AllocError> {
         if *byte == b' ' {
             let part = source.get(start..end).unwrap_or(&[]);
             let column = u32::try_from(start).unwrap_or(0).saturating_add(1);
-            tokens.push(Token { kind: kind_of(part), start, end, line: 1, column })?;
+            tokens.push(Token {
+                kind: kind_of(part),
+                start,
+                end,
+                line: 1,
+                column,
+            })?;
             start = end.saturating_add(1);
         }
     }
@@ -103,8 +111,10 @@ fn items_of(procedures: &Items) -> usize {
 
 #[test]
 fn programs(rt: HostRuntime) {
-    let sum = b"T : PROCEDURE OPTIONS ( MAIN ) ; PUT EDIT ( 1 + 2 ) ( F ( 5 ) ) ; END T ; ".as_slice();
-    let declared = b"T : PROCEDURE OPTIONS ( MAIN ) ; DECLARE ( A , B ) FIXED BINARY ( 31 ) , PUT FIXED BINARY ( 31 ) ; A = 1 ; PUT = - A ; B = ( A - PUT ) ; END ; ".as_slice();
+    let sum =
+        b"T : PROCEDURE OPTIONS ( MAIN ) ; PUT EDIT ( 1 + 2 ) ( F ( 5 ) ) ; END T ; ".as_slice();
+    let declared =
+        b"T : PROCEDURE OPTIONS ( MAIN ) ; DECLARE ( A , B ) FIXED BINARY ( 31 ) , PUT FIXED BINARY ( 31 ) ; A = 1 ; PUT = - A ; B = ( A - PUT ) ; END ; ".as_slice();
     for (source, items) in [(sum, 1), (declared, 4)] {
         match answer(rt.alloc(), source) {
             Ok(number) => assert_eq!(rt; number, items),
@@ -118,15 +128,39 @@ const REFUSED: [(&[u8], &[u8]); 14] = [
     (b"T : ", b"F ( 1 ) ; "),
     (b"T : PROCEDURE OPTIONS ( MAIN ) ; ", b"X = 1 ; END ; "),
     (b"T : PROCEDURE OPTIONS ( MAIN ) ; PUT ", b"= 1 ; END ; "),
-    (b"T : PROCEDURE OPTIONS ( MAIN ) ; PUT EDIT ( ", b"X ) ( F ( 5 ) ) ; END ; "),
-    (b"T : PROCEDURE OPTIONS ( MAIN ) ; PUT EDIT ( 1 ", b"* 2 ) ( F ( 5 ) ) ; END ; "),
-    (b"T : PROCEDURE OPTIONS ( MAIN ) ; PUT EDIT ( 1 ) ( F ( ", b"0 ) ) ; END ; "),
-    (b"T : PROCEDURE OPTIONS ( MAIN ) ; PUT EDIT ( 1 ) ( F ( ", b"1025 ) ) ; END ; "),
+    (
+        b"T : PROCEDURE OPTIONS ( MAIN ) ; PUT EDIT ( ",
+        b"X ) ( F ( 5 ) ) ; END ; ",
+    ),
+    (
+        b"T : PROCEDURE OPTIONS ( MAIN ) ; PUT EDIT ( 1 ",
+        b"* 2 ) ( F ( 5 ) ) ; END ; ",
+    ),
+    (
+        b"T : PROCEDURE OPTIONS ( MAIN ) ; PUT EDIT ( 1 ) ( F ( ",
+        b"0 ) ) ; END ; ",
+    ),
+    (
+        b"T : PROCEDURE OPTIONS ( MAIN ) ; PUT EDIT ( 1 ) ( F ( ",
+        b"1025 ) ) ; END ; ",
+    ),
     (b"T : PROCEDURE OPTIONS ( MAIN ) ; END ", b"U ; "),
-    (b"T : PROCEDURE OPTIONS ( MAIN ) ; END T ; ", b"T : PROCEDURE "),
-    (b"T : PROCEDURE OPTIONS ( MAIN ) ; DECLARE ( A , ", b"A ) FIXED BINARY ( 31 ) ; END ; "),
-    (b"T : PROCEDURE OPTIONS ( MAIN ) ; DECLARE A FIXED BINARY ( ", b"15 ) ; END ; "),
-    (b"T : PROCEDURE OPTIONS ( MAIN ) ; PUT EDIT ( ( ( ( ( ( ( ( ( ( ( ( ( ( ( ( ( ( ( ( ( ( ( ( ( ( ( ( ( ( ( ( ", b"( 1 "),
+    (
+        b"T : PROCEDURE OPTIONS ( MAIN ) ; END T ; ",
+        b"T : PROCEDURE ",
+    ),
+    (
+        b"T : PROCEDURE OPTIONS ( MAIN ) ; DECLARE ( A , ",
+        b"A ) FIXED BINARY ( 31 ) ; END ; ",
+    ),
+    (
+        b"T : PROCEDURE OPTIONS ( MAIN ) ; DECLARE A FIXED BINARY ( ",
+        b"15 ) ; END ; ",
+    ),
+    (
+        b"T : PROCEDURE OPTIONS ( MAIN ) ; PUT EDIT ( ( ( ( ( ( ( ( ( ( ( ( ( ( ( ( ( ( ( ( ( ( ( ( ( ( ( ( ( ( ( ( ",
+        b"( 1 ",
+    ),
     (b"T : PROCEDURE OPTIONS ( MAIN ) ; ", b""),
     (b"T : PROCEDURE OPTIONS ( MAIN ) ; END T ", b""),
 ];
@@ -140,9 +174,24 @@ fn refusals(rt: HostRuntime) -> Result<(), Fail> {
         match answer(rt.alloc(), &source) {
             Ok(number) => assert_eq!(rt; number, usize::MAX, "at {column}"),
             Err(fault) if fault.kind == SourceKind::Memory => {}
-            Err(fault) => assert!(rt; fault == SourceFault { line: 1, column, kind: SourceKind::LeftOut }, "at {fault}"),
+            Err(fault) => assert!(rt;
+                fault
+                    == SourceFault {
+                        line: 1,
+                        column,
+                        kind: SourceKind::LeftOut
+                    },
+                "at {fault}"
+            ),
         }
     }
-    assert!(rt; answer(rt.alloc(), b"") == Err(SourceFault { line: 1, column: 1, kind: SourceKind::NoMain }));
+    assert!(rt;
+        answer(rt.alloc(), b"")
+            == Err(SourceFault {
+                line: 1,
+                column: 1,
+                kind: SourceKind::NoMain
+            })
+    );
     Ok(())
 }

@@ -7,18 +7,20 @@ ghost use Rattle.pli_meaning.specs.View.{name_of};
 ghost use Rattle.pli_parse.specs.Answers.{Gives};
 ghost use Rattle.pli_parse.specs.Reading.{begins, taken, name_from, number_from, count_from};
 
+use crate::stop::Stop;
+use crate::terminal::{Terminal, is_terminal};
 use pli_meaning::expr::{Name, Place};
 use pli_meaning::token::{Kind, Token};
 use std::alloc::{AllocError, Global};
-
-use crate::stop::Stop;
-use crate::terminal::{is_terminal, Terminal};
 
 /// The place of a token.
 pub fn place(token: &Token) -> Place
     ensures { result ≡ place_of token.now }
 {
-    Place { line: token.line, column: token.column }
+    Place {
+        line: token.line,
+        column: token.column,
+    }
 }
 
 /// The bytes of a token, of which none stand outside the source.
@@ -34,7 +36,10 @@ pub fn spelling<'a>(source: &'a [u8], token: &Token) -> &'a [u8]
 pub fn letters(alloc: Global, source: &[u8], token: &Token) -> Result<Vec<u8>, AllocError>
     ensures { IfOk result (λ v. v.items ≡ in_upper_case (slice_range source.now token.now.start token.now.end)) }
 {
-    spelling(source, token).iter().map(|byte| byte.to_ascii_uppercase()).collect(alloc)
+    spelling(source, token)
+        .iter()
+        .map(|byte| byte.to_ascii_uppercase())
+        .collect(alloc)
 }
 
 /// The first token is this one.
@@ -61,7 +66,11 @@ pub fn taken(terminal: Terminal, tokens: &[Token]) -> Result<(Token, &[Token]), 
 
 /// A name.
 #[tactic(auto, unfolding(crate::specs::Reading::name_from))]
-pub fn name<'a>(alloc: Global, source: &[u8], tokens: &'a [Token]) -> Result<(Name, &'a [Token]), Stop>
+pub fn name<'a>(
+    alloc: Global,
+    source: &[u8],
+    tokens: &'a [Token],
+) -> Result<(Name, &'a [Token]), Stop>
     ensures { Gives (λ x. (name_of x.0, x.1.now)) result (name_from source.now tokens.now) }
 {
     let Some((first, rest)) = tokens.split_first() else {
@@ -71,7 +80,14 @@ pub fn name<'a>(alloc: Global, source: &[u8], tokens: &'a [Token]) -> Result<(Na
         return Err(Stop::At(Some(*first)));
     };
     let letters = letters(alloc, source, first)?;
-    Ok((Name { letters, word, place: place(first) }, rest))
+    Ok((
+        Name {
+            letters,
+            word,
+            place: place(first),
+        },
+        rest,
+    ))
 }
 
 #[tactic(auto, unfolding(crate::specs::Reading::number_from))]

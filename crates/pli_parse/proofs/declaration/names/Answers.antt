@@ -1,4 +1,4 @@
-use Rattle.std.proofs.Common.{arith, ◌≡◌, ◌<◌, map, length, suc, refl, sym, ap, ◌∙◌, subst, List, [], ◌∷◌, ◌++◌, append-nil, ℕ, Ok, Err, true, false}
+use Rattle.std.proofs.Common.{arith, ◌≡◌, map, length, suc, refl, sym, ap, ◌∙◌, subst, List, [], ◌∷◌, ◌++◌, append-nil, ℕ, Ok}
 use Rattle.std.proofs.lemmas.Result.{err_from_is_err_and}
 use Rattle.std.proofs.lemmas.List.{map_push}
 use Rattle.pli_meaning.specs.View.{declared_name_of}
@@ -6,7 +6,7 @@ use Rattle.pli_meaning.specs.Typing.{Scope}
 use Rattle.pli_meaning.specs.Tree as T
 use Rattle.pli_meaning.specs.declared.token.Token.{Token}
 use Rattle.pli_parse.specs.declared.terminal.Terminal.TheVariants as M
-use Rattle.pli_parse.specs.Reading.{One, Read, names_from, one_from, begins, taken, with_front, further_from, list_from, ◌>>=◌}
+use Rattle.pli_parse.specs.Reading.{One, Read, names_from, one_from, taken, with_front, further_from, list_from, ◌>>=◌}
 use Rattle.pli_parse.proofs.Lists.{OnList, list_start, list_on, list_no_comma, list_fails, list_ends, list_shorter}
 use Rattle.pli_parse.proofs.Shorter.{one_shrinks}
 use Rattle.pli_parse.proofs.Stops.{fails_on}

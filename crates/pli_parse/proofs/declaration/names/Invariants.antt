@@ -1,7 +1,7 @@
 use Rattle.std.proofs.Common.{length, map}
-use Rattle.pli_meaning.specs.View.{declared_name_of, declare_item_of}
+use Rattle.pli_meaning.specs.View.{declared_name_of}
 use Rattle.pli_parse.specs.declared.terminal.Terminal.TheVariants as M
-use Rattle.pli_parse.specs.Reading.{names_from, one_from, item_from}
+use Rattle.pli_parse.specs.Reading.{names_from, one_from}
 use Rattle.pli_parse.proofs.Lists.{OnList}
 use Rattle.pli_parse.proofs.declaration.names.Given as goal
 

@@ -1,11 +1,10 @@
-use Rattle.std.proofs.Common.{rules, arith, ◌≡◌, ◌<◌, map, length, refl, sym, ap, ◌∙◌, subst, List, ℕ, Ok, Err, Option}
+use Rattle.std.proofs.Common.{arith, ◌<◌, map, length, sym, ap, ◌∙◌, subst, List, ℕ, Ok}
 use Rattle.std.proofs.lemmas.Result.{err_from_is_err_and}
 use Rattle.pli_meaning.specs.View.{expr_of}
 use Rattle.pli_meaning.specs.Typing.{Scope}
 use Rattle.pli_meaning.specs.Tree as T
-use Rattle.pli_meaning.specs.declared.token.Token.{Token}
-use Rattle.pli_parse.specs.Reading.{Inner, Read, expr_until, inner_at, operand_from, chain_from, expr_within, taken, ◌>>=◌}
-use Rattle.pli_parse.proofs.Chains.{OnWay, way_start, way_on, way_fails, way_ends, operand_shorter, inner_shrinks}
+use Rattle.pli_parse.specs.Reading.{Inner, Read, expr_until, inner_at, operand_from, taken, ◌>>=◌}
+use Rattle.pli_parse.proofs.Chains.{OnWay, way_on, way_fails, way_ends, operand_shorter, inner_shrinks}
 use Rattle.pli_parse.proofs.Stops.{fails_on}
 use Rattle.pli_parse.proofs.expression.+expression.Goals as goal
 

@@ -1,4 +1,4 @@
-use Rattle.std.proofs.Common.{rules, arith, ◌≡◌, ◌<◌, map, sym, ◌∙◌, List, ℕ, true, false, get_or, length, take, Bool}
+use Rattle.std.proofs.Common.{arith, ◌≡◌, sym, ◌∙◌, List, ℕ, true, false, Bool}
 use Rattle.std.proofs.lemmas.Grind.{common_steps}
 use Rattle.std.proofs.lemmas.List.Folds.{list_any_at}
 use Rattle.std.specs.List.{list_any}

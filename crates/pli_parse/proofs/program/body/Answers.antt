@@ -1,12 +1,12 @@
-use Rattle.std.proofs.Common.{arith, ◌≡◌, ◌<◌, ◌+◌, map, length, refl, sym, ap, ◌∙◌, subst, List, [], ◌∷◌, ◌++◌, ℕ, Ok, Err, true, false}
+use Rattle.std.proofs.Common.{arith, ◌≡◌, ◌+◌, map, length, sym, ap, ◌∙◌, subst, List, [], ◌∷◌, ◌++◌, ℕ, Ok, Err, true, false}
 use Rattle.std.proofs.lemmas.Result.{err_from_is_err_and}
 use Rattle.std.proofs.lemmas.List.{map_push}
-use Rattle.pli_meaning.specs.View.{item_of, items_of}
+use Rattle.pli_meaning.specs.View.{item_of}
 use Rattle.pli_meaning.specs.Typing.{Scope}
 use Rattle.pli_meaning.specs.Tree as T
 use Rattle.pli_meaning.specs.declared.token.Token.{Token}
 use Rattle.pli_parse.specs.declared.terminal.Terminal.TheVariants as M
-use Rattle.pli_parse.specs.Reading.{Read, opens, declare_from, statements_from, body_from, with_items, joined}
+use Rattle.pli_parse.specs.Reading.{Read, opens, declare_from, statements_from, body_from, with_items}
 use Rattle.pli_parse.proofs.Items.{Fuelled, OnItems, items_on, items_end, declaration_on, declaration_fails, declarations_end}
 use Rattle.pli_parse.proofs.Shorter.{declare_shorter}
 use Rattle.pli_parse.proofs.Stops.{fails_on}

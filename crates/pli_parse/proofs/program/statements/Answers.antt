@@ -1,7 +1,7 @@
-use Rattle.std.proofs.Common.{arith, ◌≡◌, ◌<◌, ◌+◌, map, length, refl, sym, ap, ◌∙◌, subst, List, [], ◌∷◌, ◌++◌, append-nil, ℕ, Ok, Err, true, false}
+use Rattle.std.proofs.Common.{arith, ◌≡◌, ◌+◌, map, length, sym, ap, ◌∙◌, subst, List, [], ◌∷◌, ◌++◌, ℕ, Ok, Err, true, false}
 use Rattle.std.proofs.lemmas.Result.{err_from_is_err_and}
 use Rattle.std.proofs.lemmas.List.{map_push}
-use Rattle.pli_meaning.specs.View.{item_of, items_of, name_of, stmt_of}
+use Rattle.pli_meaning.specs.View.{item_of, name_of, stmt_of}
 use Rattle.pli_meaning.specs.declared.stmt.Item.{Item as ItemHeld}
 use Rattle.pli_meaning.specs.declared.stmt.Item as I
 use Rattle.pli_meaning.specs.Typing.{Scope}
