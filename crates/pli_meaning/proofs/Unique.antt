@@ -15,9 +15,9 @@ use Rattle.pli_meaning.specs.Spells as G
 use Rattle.pli_meaning.specs.Spells.{Takes, next_kind, prefix_op, infix_op, below, Level, SpellsAt, SpellsChain, SpellsPrimary, SpellsReference, SpellsArrows, SpellsQualified, SpellsArguments, SpellsExprs}
 
 -- two readings give one value and end at one place
-record Same {X : Type 0} (x y : X) (r r' : List Token) : Type 0 where
-  value : x ≡ y
-  rest : r ≡ r'
+pub record Same {X : Type 0} (x y : X) (r r' : List Token) : Type 0 where
+  pub value : x ≡ y
+  pub rest : r ≡ r'
 
 -- the first token and those behind it
 record SameTake (t t' : Token) (k k' : Kind) (r r' : List Token) : Type 0 where
@@ -263,7 +263,7 @@ mutual
       let c = same_take f.rest close close' in
       record { value = ap T.Listed f.value; rest = c.rest }
 
-  exprs_same : {s : List ℕ} {ts ts' r r' : List Token} {e e' : T.Exprs} → ts ≡ ts' → SpellsExprs s ts e r → SpellsExprs s ts' e' r' → Same e e' r r'
+  pub exprs_same : {s : List ℕ} {ts ts' r r' : List Token} {e e' : T.Exprs} → ts ≡ ts' → SpellsExprs s ts e r → SpellsExprs s ts' e' r' → Same e e' r r'
   exprs_same k (G.one ts rest e of stop) (G.one ts' rest' e' of' stop') =
       let f = at_same refl k of of' in
       record { value = ap (λ u. T.ExprThen u T.NoExpr) f.value; rest = f.rest }
