@@ -1,10 +1,10 @@
 -- Laws of the loops of expressions.
-use Rattle.std.specs.Prelude.{if◌then◌else◌}
+use Rattle.std.specs.Prelude.{nat_lt, ◌^◌, if◌then◌else◌}
 use Rattle.std.proofs.Common.{◌≡◌, ℕ, zero, suc, ◌<◌, ◌≤◌, ◌-◌, Ok, Err, List, [], ◌∷◌, ◌++◌, length, Option, Some, None, refl, sym, ap, ◌∙◌, arith}
 use Rattle.pli_meaning.specs.Tree as T
 use Rattle.pli_parse.specs.declared.expression.Sign.{Sign}
 use Rattle.pli_meaning.specs.Spells as G
-use Rattle.pli_meaning.specs.Typing.{Scope}
+use Rattle.pli_meaning.specs.Typing.{wide, Scope}
 use Rattle.pli_meaning.specs.declared.token.Token.{Token}
 use Rattle.pli_parse.specs.declared.terminal.Terminal.TheVariants as M
 use Rattle.pli_meaning.specs.declared.token.Kind.{Kind}
@@ -67,7 +67,8 @@ module _ (inner : Inner) (s : List ℕ) (scope : Scope) (shrinks : Shrinks inner
   primary_step : (t : Token) (k : Kind) (ts : List Token) (x : T.Expr × List Token) → primary_of inner s scope t k ts ≡ Ok x → length x.1 < length (t ∷ ts)
   unfolding Shrinks
   primary_step t (K.Number n) ts x e =
-      let k : (T.Number n (G.place_of t), ts) ≡ x = cc (e) in
+      let c = then_ok (nat_lt n (2 ^ wide)) (Ok (T.Number n (G.place_of t), ts)) (Some t) x e in
+      let k : (T.Number n (G.place_of t), ts) ≡ x = cc (c.value) in
       omega (arith, ap (λ u. length u.1) k)
   primary_step t (K.Name word) ts x e =
       let a = bind_ok (variable_from s scope (t ∷ ts)) (λ v. Ok (T.Refers (T.Plain (T.Last v.0 T.Absent)), v.1)) x e in

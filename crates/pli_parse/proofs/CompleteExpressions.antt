@@ -1,6 +1,6 @@
 -- An expression that is spelled, has a type and stays within the limit of parentheses is read.
 use Rattle.std.proofs.Common.{◌≡◌, ◌≢◌, ℕ, zero, suc, ◌<◌, ◌≤◌, List, [], ◌∷◌, length, Option, Some, None, Ok, Err, true, refl, sym, ap, ◌∙◌, subst, arith}
-use Rattle.std.specs.Prelude.{if◌then◌else◌}
+use Rattle.std.specs.Prelude.{nat_lt, ◌^◌, if◌then◌else◌}
 use Rattle.pli_meaning.specs.declared.token.Symbol.TheVariants as S
 use Rattle.pli_meaning.specs.declared.token.Kind.{Kind}
 use Rattle.pli_meaning.specs.declared.token.Kind.TheVariants as K
@@ -17,7 +17,7 @@ use Rattle.pli_parse.specs.declared.terminal.Terminal.{Terminal}
 use Rattle.pli_parse.specs.declared.terminal.Terminal.TheVariants as M
 use Rattle.pli_parse.specs.Terminals.{kind_of}
 use Rattle.pli_parse.specs.Reading.{Read, ◌>>=◌, Inner, first, name_from, is_declared, variable_from, signs_from, signs_behind, prefix_sign, signed, primary_from, primary_of, operand_from, chain_from, chain_step, next_infix, expr_within, inner_at, expr_until}
-use Rattle.pli_parse.proofs.Tokens.{if_true, bind_to, takes_taken, takes_name, next_taken}
+use Rattle.pli_parse.proofs.Tokens.{then_some, if_true, bind_to, takes_taken, takes_name, next_taken}
 use Rattle.pli_parse.proofs.Options.{Has, then_has, index_declared}
 use Rattle.pli_parse.proofs.SoundExpressions.{variable_sound}
 use Rattle.pli_parse.proofs.Endings.{closes, closes_parenthesis, no_adding, next_adding, prefix_is_sign, only_adding}
@@ -178,7 +178,9 @@ module _ (s : List ℕ) (scope : Scope) (d : ℕ) (inner : Inner) (complete : Co
   complete_at t u ts mid rest e x z h l = complete t u ts mid rest e x z h l
 
   primary_complete : {ts rest : List Token} {e : T.Expr} → SpellsPrimary s ts e rest → Has (typed_expr scope e) → nesting e ≤ d → operand_from inner s scope ts ≡ Ok (e, rest)
-  primary_complete (G.number ts rest t n take) h l = front (T.Number n (G.place_of t)) rest take refl refl
+  primary_complete (G.number ts rest t n take) h l =
+      let small = then_some (nat_lt n (2 ^ wide)) (Y.Constant n) h.value h.is in
+      front (T.Number n (G.place_of t)) rest take refl (ap (λ b. if b then Ok (T.Number n (G.place_of t), rest) else Err (Some t)) small)
   primary_complete (G.text ts rest t v take of) h l = absurd (cc (h.is))
   primary_complete (G.bit ts rest t b take) h l = absurd (cc (h.is))
   primary_complete (G.parenthesized ts after mid rest t u e open' inside close) h l =

@@ -1,6 +1,6 @@
 -- What is read as an expression is spelled so, has a type, and stays within the limit of parentheses.
 use Rattle.std.proofs.Common.{◌≡◌, ℕ, zero, suc, ◌≤◌, List, [], ◌∷◌, length, Option, Some, None, Ok, Err, true, refl, sym, ap, ◌∙◌, subst, arith}
-use Rattle.std.specs.Prelude.{if◌then◌else◌}
+use Rattle.std.specs.Prelude.{nat_lt, ◌^◌, if◌then◌else◌}
 use Rattle.pli_meaning.specs.declared.token.Symbol.TheVariants as S
 use Rattle.pli_meaning.specs.declared.token.Kind.{Kind}
 use Rattle.pli_meaning.specs.declared.token.Kind.TheVariants as K
@@ -65,10 +65,11 @@ module _ (s : List ℕ) (scope : Scope) (d : ℕ) (inner : Inner) (good : GoodIn
   primary_kind : (t : Token) (k : Kind) (ts : List Token) (x : T.Expr × List Token) → t.kind ≡ k → primary_of inner s scope t k ts ≡ Ok x → follows (next_kind x.1) ≡ true → GoodPrimary s scope d (t ∷ ts) x.0 x.1
   unfolding GoodInner
   primary_kind t (K.Number n) ts x h e f =
-      let k : (T.Number n (G.place_of t), ts) ≡ x = cc (e) in
+      let c = then_ok (nat_lt n (2 ^ wide)) (Ok (T.Number n (G.place_of t), ts)) (Some t) x e in
+      let k : (T.Number n (G.place_of t), ts) ≡ x = cc (c.value) in
       let g : GoodPrimary s scope d (t ∷ ts) (T.Number n (G.place_of t)) ts = record {
         spelled = G.number (t ∷ ts) ts t n (record { is = refl; of_kind = h });
-        fine = record { typed = record { value = Y.Constant n; is = refl }; nested = omega arith };
+        fine = record { typed = record { value = Y.Constant n; is = ap (λ b. if b then Some (Y.Constant n) else None) c.test }; nested = omega arith };
       } in
       subst (λ u. GoodPrimary s scope d (t ∷ ts) u.0 u.1) k g
   primary_kind t (K.Name word) ts x h e f =

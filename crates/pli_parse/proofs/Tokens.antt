@@ -1,5 +1,5 @@
 -- Laws of the readers of single tokens, and of readers that fail where a part fails.
-use Rattle.std.proofs.Common.{◌≡◌, ℕ, ◌<◌, List, [], ◌∷◌, length, Option, Some, Bool, true, false, refl, sym, ap, ◌∙◌, arith, Result, Ok, Err}
+use Rattle.std.proofs.Common.{◌≡◌, ℕ, ◌<◌, List, [], ◌∷◌, length, Option, Some, None, Bool, true, false, refl, sym, ap, ◌∙◌, arith, Result, Ok, Err}
 use Rattle.std.specs.Prelude.{◌&&◌, nat_le, if◌then◌else◌}
 use Rattle.pli_meaning.specs.declared.token.Word.{Word}
 use Rattle.pli_meaning.specs.declared.token.Word.TheVariants as W
@@ -220,3 +220,7 @@ count_counted least most ts {x} e =
           };
       within = ap (λ k. nat_le least k && nat_le k most) (sym n) ∙ c.test;
     }
+
+pub then_some : {X : Type 0} (b : Bool) (y x : X) → (if b then Some y else None) ≡ Some x → b ≡ true
+then_some true y x e = refl
+then_some false y x e = absurd (cc e)

@@ -1,7 +1,7 @@
 -- What is read from tokens, rule by rule: from the tokens from a place on, what the first of them spell and the tokens
 -- behind, or the token at which no compiled source goes on, none where the tokens end there. Only what is compiled is
 -- read: with the names that are declared so far, and with limits.
-use Rattle.std.specs.Prelude.{ℕ, zero, suc, ◌+◌, List, [], ◌∷◌, ◌++◌, length, Bool, false, not, ◌&&◌, nat_le, if◌then◌else◌, Option, Some, None, Result, Ok, Err, slice_range}
+use Rattle.std.specs.Prelude.{ℕ, zero, suc, ◌+◌, List, [], ◌∷◌, ◌++◌, length, Bool, false, not, ◌&&◌, nat_le, nat_lt, ◌^◌, if◌then◌else◌, Option, Some, None, Result, Ok, Err, slice_range}
 use Rattle.std.specs.List.{list_any}
 use Rattle.pli_meaning.specs.declared.token.Kind.{Kind}
 use Rattle.pli_meaning.specs.declared.token.Kind.TheVariants as K
@@ -126,8 +126,12 @@ signed (sign ∷ signs) e = T.Prefix sign.op (signed signs e) sign.place
 abbrev pub Inner : Type 0
 Inner = Token → List Token → Read T.Expr
 
+-- a constant of 31 bits
+abbrev pub constant_of : Token → ℕ → List Token → Read T.Expr
+constant_of t n ts = if nat_lt n (2 ^ wide) then Ok (T.Number n (place_of t), ts) else Err (Some t)
+
 abbrev pub primary_of : Inner → List ℕ → Scope → Token → Kind → List Token → Read T.Expr
-primary_of inner s scope t (K.Number n) ts = Ok (T.Number n (place_of t), ts)
+primary_of inner s scope t (K.Number n) ts = constant_of t n ts
 primary_of inner s scope t (K.Name word) ts =
     variable_from s scope (t ∷ ts) >>= λ v. Ok (T.Refers (T.Plain (T.Last v.0 T.Absent)), v.1)
 primary_of inner s scope t (K.Symbol S.OpenParenthesis) ts = inner t ts

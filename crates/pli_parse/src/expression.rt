@@ -175,7 +175,7 @@ fn primary<'a>(
         return Err(Stop::At(None));
     };
     match first.kind {
-        Kind::Number(value) => Ok((constant(value, place(first)), rest)),
+        Kind::Number(value) if value < 0x8000_0000 => Ok((constant(value, place(first)), rest)),
         Kind::Name(_) => {
             let (name, rest) = variable(alloc, source, scope, tokens)?;
             Ok((fetched(name), rest))
