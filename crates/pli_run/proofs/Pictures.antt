@@ -1,8 +1,7 @@
 -- An image in instructions has one list of them, and is loaded as a machine loads it.
-use Rattle.std.proofs.Common.{◌≡◌, ℕ, zero, suc, ◌+◌, ◌-◌, ◌*◌, ◌<◌, ◌≤◌, List, [], ◌∷◌, ◌++◌, Some, Err, length, map, replicate, refl, ap, subst, sym, ◌∙◌, arith, append_assoc}
-use Rattle.std.proofs.lemmas.Grind.{common_steps}
+use Rattle.std.proofs.Common.{◌≡◌, ℕ, suc, ◌*◌, List, [], ◌∷◌, Err, length, map, refl, ap, subst, sym, ◌∙◌, arith, append_assoc}
 use Rattle.pli_meaning.specs.declared.instr.Instr.{Instr}
-use Rattle.pli_meaning.specs.Encoding.{word_of, Fits}
+use Rattle.pli_meaning.specs.Encoding.{word_of}
 use Rattle.pli_meaning.specs.Memory.{bytes_of_words}
 use Rattle.pli_meaning.specs.Machine.{memory_size}
 use Rattle.pli_meaning.specs.Headline.{Picture, first_bytes}

@@ -1,19 +1,17 @@
 -- The steps of a machine with these services are those of the definitions.
-use Rattle.std.proofs.Common.{◌≡◌, ◌≢◌, ℕ, zero, suc, ◌+◌, ◌-◌, ◌*◌, ◌<◌, ◌≤◌, List, length, Option, Some, refl, ap, subst, sym, ◌∙◌, arith, zero-add, add-zero, ◌⊎◌, inl, inr}
+use Rattle.std.proofs.Common.{◌≡◌, ℕ, zero, suc, ◌+◌, ◌-◌, ◌*◌, List, length, Some, refl, ap, subst, sym, ◌∙◌, arith, zero-add, add-zero, ◌⊎◌, inl, inr}
 use Rattle.pli_meaning.specs.declared.instr.Fault.{Fault}
-use Rattle.pli_meaning.specs.declared.instr.Fault.TheVariants.{BadService}
-use Rattle.pli_meaning.specs.Words.{sum}
-use Rattle.pli_meaning.specs.Machine.{Loaded, State, Effect, Goes, Faults, Calls, effect, written}
-use Rattle.pli_meaning.specs.Services.{Service, Answer, Done, Ends, Bad, serves}
+use Rattle.pli_meaning.specs.Machine.{Loaded, State, Effect, Goes, Faults, Calls, effect}
+use Rattle.pli_meaning.specs.Services.{Service, Answer, serves}
 use Rattle.pli_meaning.specs.Headline.{Whole, Run, Runs, Ended as HasEnded, Stopped, answered, of_effect, next, run_on, shown_by}
 use Rattle.rv_machine.specs.declared.services.Served.{Served}
 use Rattle.rv_machine.specs.declared.machine.Step.{Step}
 use Rattle.rv_machine.specs.declared.machine.Step.TheVariants.{Ran, Ended, Fault as Faulted, Refused}
-use Rattle.rv_machine.specs.Steps.{Moment, Makes, Steps, RanFor, RunsFor, Finishes, Answers, start, then}
+use Rattle.rv_machine.specs.Steps.{Moment, Makes, RanFor, RunsFor, Answers, start, then}
 use Rattle.pli_run.specs.declared.runtime.Runtime.{Runtime}
 use Rattle.pli_meaning.specs.World.{World}
 use Rattle.pli_meaning.specs.declared.outcome.Outcome.{Outcome}
-use Rattle.pli_run.specs.Running.{world_of, ShowsAfter, Meets, ShowsWithin}
+use Rattle.pli_run.specs.Running.{world_of, Meets, ShowsWithin}
 use Rattle.pli_run.specs.Serving.{service_of, Serves, IsServed}
 
 -- a machine and its services, as the definitions see them

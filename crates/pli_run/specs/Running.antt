@@ -1,5 +1,5 @@
 -- What a run of an image comes to.
-use Rattle.std.specs.Prelude.{◌≡◌, ℕ, ◌+◌, ◌<◌, ◌≤◌, List, [], map, Option, Some, None, Result, Ok, Err}
+use Rattle.std.specs.Prelude.{◌≡◌, ℕ, ◌+◌, ◌<◌, ◌≤◌, List, [], map, Some, Result, Ok, Err}
 use Rattle.pli_meaning.specs.declared.outcome.Outcome.{Outcome}
 use Rattle.pli_meaning.specs.declared.instr.Fault.{Fault}
 use Rattle.pli_meaning.specs.Encoding.{word_of}

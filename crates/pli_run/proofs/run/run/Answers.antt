@@ -1,4 +1,4 @@
-use Rattle.std.proofs.Common.{rules, ◌≡◌, ◌*◌, length, Some, ap, ◌∙◌, sym}
+use Rattle.std.proofs.Common.{◌*◌, length, Some, ap, ◌∙◌, sym}
 use Rattle.pli_meaning.specs.Headline.{shown_by}
 use Rattle.pli_run.proofs.Pictures.{started_code, started_run, started_meets, started_shows, unstarted_told}
 use Rattle.pli_run.proofs.Stepping.{runs_are, run_meets, run_refused, shown_where}
