@@ -1,12 +1,12 @@
 -- What a call for a field of a number comes to, by the text of the number.
-use Rattle.std.proofs.Common.{◌≡◌, ◌≢◌, ℕ, ◌+◌, ◌-◌, ◌^◌, ◌<◌, ◌≤◌, List, ◌∷◌, ◌++◌, length, Option, Some, None, true, false, nat_lt, nat_le, ◌==◌, if◌then◌else◌, refl, ap, ◌∙◌, sym, arith}
+use Rattle.std.proofs.Common.{◌≡◌, ℕ, ◌+◌, ◌-◌, ◌^◌, ◌<◌, ◌≤◌, List, ◌∷◌, ◌++◌, length, Some, None, true, nat_lt, ◌==◌, if◌then◌else◌, refl, ◌∙◌, arith}
 use Rattle.std.proofs.lemmas.Bool.Decides.{nat_tests}
 use Rattle.pli_meaning.specs.Typed.{FixedItem}
 use Rattle.pli_meaning.specs.Words.{signed}
 use Rattle.pli_meaning.specs.Codes.{too_wide_code}
 use Rattle.pli_meaning.specs.Stream.{decimal_text, right_justified, blanks, with_field}
 use Rattle.pli_meaning.specs.World.{written}
-use Rattle.pli_meaning.specs.Services.{Service, EditPlace, Answer, Done, Bad, next_item, field_asked, field_put, fixed_served}
+use Rattle.pli_meaning.specs.Services.{Service, EditPlace, Done, Bad, next_item, field_asked, field_put, fixed_served}
 
 fixed_is : (v : Service) (place : EditPlace) (places : List EditPlace) (width : ℕ) (behind : EditPlace) (number mode : ℕ) (t : List ℕ) → v.edits ≡ place ∷ places → next_item place ≡ Some (FixedItem width, behind) → decimal_text (signed number) ≡ t
     → fixed_served v v.edits number mode ≡ (if mode == 0 then field_asked v (right_justified width t) number else (if mode == 1 then field_put v (right_justified width t) (behind ∷ places) number else Bad))

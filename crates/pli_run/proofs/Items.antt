@@ -1,9 +1,9 @@
 -- Format lists are read item by item.
-use Rattle.std.proofs.Common.{◌≡◌, ℕ, zero, suc, ◌+◌, ◌-◌, ◌*◌, ◌<◌, ◌≤◌, List, [], ◌∷◌, ◌++◌, Option, Some, None, refl, ap, subst, sym, ◌∙◌, arith}
+use Rattle.std.proofs.Common.{◌≡◌, ℕ, suc, ◌+◌, ◌-◌, ◌*◌, ◌<◌, ◌≤◌, List, [], ◌∷◌, ◌++◌, Option, Some, None, refl, ap, subst, sym, ◌∙◌, arith}
 use Rattle.pli_meaning.specs.Typed.{FormatItem, FixedItem}
 use Rattle.pli_meaning.specs.Services.{item_at, item_then, items_at}
 use Rattle.pli_run.specs.Serving.{items_of}
-use Rattle.pli_run.specs.Reading.{behind_items, IsWidthAt}
+use Rattle.pli_run.specs.Reading.{behind_items}
 
 pub behind_none : (ws : List ℕ) → behind_items ws None ≡ None
 behind_none [] = refl

@@ -1,8 +1,7 @@
 -- An image in instructions has one list of them, and is loaded as a machine loads it.
-use Rattle.std.proofs.Common.{◌≡◌, ℕ, zero, suc, ◌+◌, ◌-◌, ◌*◌, ◌<◌, ◌≤◌, List, [], ◌∷◌, ◌++◌, Some, length, map, replicate, refl, ap, subst, sym, ◌∙◌, arith, append_assoc}
-use Rattle.std.proofs.lemmas.Grind.{common_steps}
+use Rattle.std.proofs.Common.{◌≡◌, ℕ, suc, ◌*◌, List, [], ◌∷◌, Err, length, map, refl, ap, subst, sym, ◌∙◌, arith, append_assoc}
 use Rattle.pli_meaning.specs.declared.instr.Instr.{Instr}
-use Rattle.pli_meaning.specs.Encoding.{word_of, Fits}
+use Rattle.pli_meaning.specs.Encoding.{word_of}
 use Rattle.pli_meaning.specs.Memory.{bytes_of_words}
 use Rattle.pli_meaning.specs.Machine.{memory_size}
 use Rattle.pli_meaning.specs.Headline.{Picture, first_bytes}
@@ -16,11 +15,15 @@ use Rattle.rv_machine.specs.Loading.{loaded_of, state_of, moment, IsStarted}
 use Rattle.rv_machine.specs.declared.machine.Machine.{Machine}
 use Rattle.pli_run.specs.declared.runtime.Runtime.{Runtime}
 use Rattle.pli_run.specs.Serving.{service_of}
-use Rattle.pli_run.proofs.Stepping.{whole, OfCode}
+use Rattle.pli_run.proofs.Stepping.{whole, none_on}
 use Rattle.rv_isa.proofs.Unique.{same}
 use Rattle.rv_machine.specs.Fitting.{AllFit}
 use Rattle.rv_machine.specs.Placing.{first_memory, AreDecoded}
-use Rattle.pli_run.specs.Running.{IsPicture}
+use Rattle.pli_meaning.specs.World.{first_world}
+use Rattle.pli_meaning.specs.declared.instr.Fault.{Fault}
+use Rattle.pli_run.specs.declared.run.RunFault.{RunFault}
+use Rattle.pli_run.specs.declared.run.RunFault.TheVariants.{Memory, BadBase, Source, Machine as Fails}
+use Rattle.pli_run.specs.Running.{IsPicture, IsUnstarted, Tells, Meets, ShowsWithin}
 
 length-words : (ws : List ℕ) → length (bytes_of_words ws) ≡ 4 * length ws
 length-words [] = refl
@@ -56,3 +59,27 @@ started_run p image base input bound m r h started service =
     ap (λ (l : Loaded). run_on bound l (Runs (record { machine = first_machine p base; service = first_service input }))) place
     ∙ ap (λ (s : State). run_on bound (loaded_of m) (Runs (record { machine = s; service = first_service input }))) state
     ∙ ap (λ (v : Service). run_on bound (loaded_of m) (Runs (record { machine = state_of m; service = v }))) (sym service)
+
+pub unstarted_told : (p : Picture) (base : ℕ) (input : List ℕ) (bound : ℕ) (f : RunFault) → IsUnstarted f → Tells (run_of p base input) bound (Err f)
+unstarted_told p base input bound (Memory acts output) h = record {
+  done = 0;
+  within = omega arith;
+  shows = record { world = first_world; shown = ap shown_by (none_on (loaded_at p base) _); acts_are = h.0; output_is = h.1 };
+}
+unstarted_told p base input bound BadBase h = absurd h
+unstarted_told p base input bound (Source fault) h = absurd h
+unstarted_told p base input bound (Fails fault acts output) h = absurd h
+
+-- a run as the definitions name it, by the bound
+runs_alike : (p : Picture) (image : Program) (base : ℕ) (input : List ℕ) (m : Machine) (r : Runtime) → IsPicture p image → IsStarted image base m → service_of r ≡ first_service input → run_of p base input ≡ (λ (n : ℕ). run_on n (loaded_of m) (Runs (whole (moment r m))))
+runs_alike p image base input m r h started service = λ i n. started_run p image base input n m r h started service i
+
+pub started_meets : (p : Picture) (image : Program) (base : ℕ) (input : List ℕ) (m : Machine) (r : Runtime) (bound : ℕ) (f : Fault) (acts : ℕ) (output : List ℕ) → IsPicture p image → IsStarted image base m → service_of r ≡ first_service input → Meets (λ (n : ℕ). run_on n (loaded_of m) (Runs (whole (moment r m)))) bound f acts output → Meets (run_of p base input) bound f acts output
+started_meets p image base input m r bound f acts output h started service meets =
+    let P : (ℕ → Run) → Type 0 = λ run. Meets run bound f acts output in
+    subst P (sym (runs_alike p image base input m r h started service)) meets
+
+pub started_shows : (p : Picture) (image : Program) (base : ℕ) (input : List ℕ) (m : Machine) (r : Runtime) (bound : ℕ) (acts : ℕ) (output : List ℕ) → IsPicture p image → IsStarted image base m → service_of r ≡ first_service input → ShowsWithin (λ (n : ℕ). run_on n (loaded_of m) (Runs (whole (moment r m)))) bound acts output → ShowsWithin (run_of p base input) bound acts output
+started_shows p image base input m r bound acts output h started service shows =
+    let P : (ℕ → Run) → Type 0 = λ run. ShowsWithin run bound acts output in
+    subst P (sym (runs_alike p image base input m r h started service)) shows

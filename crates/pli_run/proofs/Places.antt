@@ -1,8 +1,7 @@
 -- The newest of the places, which stands last.
-use Rattle.std.proofs.Common.{◌≡◌, ℕ, zero, suc, ◌+◌, ◌-◌, ◌<◌, ◌≤◌, List, [], ◌∷◌, ◌++◌, Option, Some, None, length, take, set, get_or, map, reverse, refl, ap, subst, sym, ◌∙◌, arith, length-set, drop}
+use Rattle.std.proofs.Common.{◌≡◌, ℕ, zero, suc, ◌+◌, ◌<◌, List, [], ◌∷◌, ◌++◌, length, take, set, get_or, map, reverse, refl, ap, sym, ◌∙◌, arith, length-set, drop}
 use Rattle.std.proofs.lemmas.Grind.{common_steps}
 use Rattle.std.proofs.lemmas.List.{take_more, reverse-append, map-append}
-use Rattle.pli_meaning.specs.Services.{EditPlace}
 use Rattle.pli_run.specs.declared.edit.Edit.{Edit}
 use Rattle.pli_run.specs.Serving.{place_of, items_of}
 

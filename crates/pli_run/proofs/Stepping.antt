@@ -1,16 +1,17 @@
 -- The steps of a machine with these services are those of the definitions.
-use Rattle.std.proofs.Common.{◌≡◌, ◌≢◌, ℕ, zero, suc, ◌+◌, ◌-◌, ◌*◌, ◌<◌, ◌≤◌, List, length, Option, Some, refl, ap, subst, sym, ◌∙◌, arith, zero-add, ◌⊎◌, inl, inr}
+use Rattle.std.proofs.Common.{◌≡◌, ℕ, zero, suc, ◌+◌, ◌-◌, ◌*◌, List, length, Some, refl, ap, subst, sym, ◌∙◌, arith, zero-add, add-zero, ◌⊎◌, inl, inr}
 use Rattle.pli_meaning.specs.declared.instr.Fault.{Fault}
-use Rattle.pli_meaning.specs.declared.instr.Fault.TheVariants.{BadService}
-use Rattle.pli_meaning.specs.Words.{sum}
-use Rattle.pli_meaning.specs.Machine.{Loaded, State, Effect, Goes, Faults, Calls, effect, written}
-use Rattle.pli_meaning.specs.Services.{Service, Answer, Done, Ends, Bad, serves}
+use Rattle.pli_meaning.specs.Machine.{Loaded, State, Effect, Goes, Faults, Calls, effect}
+use Rattle.pli_meaning.specs.Services.{Service, Answer, serves}
 use Rattle.pli_meaning.specs.Headline.{Whole, Run, Runs, Ended as HasEnded, Stopped, answered, of_effect, next, run_on, shown_by}
 use Rattle.rv_machine.specs.declared.services.Served.{Served}
 use Rattle.rv_machine.specs.declared.machine.Step.{Step}
 use Rattle.rv_machine.specs.declared.machine.Step.TheVariants.{Ran, Ended, Fault as Faulted, Refused}
-use Rattle.rv_machine.specs.Steps.{Moment, Makes, Steps, RanFor, RunsFor, Finishes, Answers, start, then}
+use Rattle.rv_machine.specs.Steps.{Moment, Makes, RanFor, RunsFor, Answers, start, then}
 use Rattle.pli_run.specs.declared.runtime.Runtime.{Runtime}
+use Rattle.pli_meaning.specs.World.{World}
+use Rattle.pli_meaning.specs.declared.outcome.Outcome.{Outcome}
+use Rattle.pli_run.specs.Running.{world_of, Meets, ShowsWithin}
 use Rattle.pli_run.specs.Serving.{service_of, Serves, IsServed}
 
 -- a machine and its services, as the definitions see them
@@ -97,7 +98,7 @@ one_on : (p : Loaded) (n : ℕ) (w : Whole) (r : Run) → next p w ≡ r → run
 unfolding run_on
 one_on p n w r e = ap (run_on n p) e
 
-none_on : (p : Loaded) (r : Run) → run_on 0 p r ≡ r
+pub none_on : (p : Loaded) (r : Run) → run_on 0 p r ≡ r
 unfolding run_on
 none_on p r = refl
 
@@ -121,6 +122,56 @@ runs_are p bound ran from (Faulted f) to o run =
     let P : ℕ → Type 0 = λ j. run_on j p (Runs (whole from)) ≡ run_on (suc k) p (Runs (whole run.at)) in
     subst P whole_bound all.0 ∙ one_on p k (whole run.at) _ (makes_faulted p run.at to f (effect p run.at.state) all.1 run.finishes.1) ∙ stopped_stays p k f
 runs_are p bound ran from Refused to o run = tt
+
+-- a step that is none leaves the services as they were
+faulted_kept : (from to : Moment Runtime) (f : Fault) (e : Effect) → Makes Serves e from (Faulted f) to → service_of to.services ≡ service_of from.services
+faulted_kept from to f (Goes s) (ran, state, services) = absurd (cc)
+faulted_kept from to f (Faults g) (faulted, state, services) = ap service_of services
+faulted_kept from to f Calls (Served.Done, serve, zero_kept, sized, (ran, pc)) = absurd (cc)
+faulted_kept from to f Calls (Served.Ended, serve, zero_kept, sized, (ended, pc)) = absurd (cc)
+faulted_kept from to f Calls (Served.Bad, serve, zero_kept, sized, answers) = serve.answered.1
+faulted_kept from to f Calls (Served.Memory, serve, zero_kept, sized, (refused, pc)) = absurd (cc)
+
+refused_kept : (from to : Moment Runtime) (e : Effect) → Makes Serves e from Refused to → service_of to.services ≡ service_of from.services
+refused_kept from to (Goes s) (ran, state, services) = absurd (cc)
+refused_kept from to (Faults g) (faulted, state, services) = absurd (cc)
+refused_kept from to Calls (Served.Done, serve, zero_kept, sized, (ran, pc)) = absurd (cc)
+refused_kept from to Calls (Served.Ended, serve, zero_kept, sized, (ended, pc)) = absurd (cc)
+refused_kept from to Calls (Served.Bad, serve, zero_kept, sized, (faulted, pc)) = absurd (cc)
+refused_kept from to Calls (Served.Memory, serve, zero_kept, sized, answers) = serve.answered.0
+
+-- what the steps that ran show
+ran_shows : (p : Loaded) (ran : ℕ) (from at : Moment Runtime) (v : Service) → OfCode p from → RanFor Serves p ran from at → v ≡ service_of at.services → shown_by (run_on ran p (Runs (whole from))) ≡ Some v.world
+ran_shows p ran from at v o h e =
+    let all = ran_on p ran 0 from at o h in
+    let P : ℕ → Type 0 = λ j. run_on j p (Runs (whole from)) ≡ run_on 0 p (Runs (whole at)) in
+    ap shown_by (subst P (add-zero ran) all.0 ∙ none_on p _) ∙ ap (λ (s : Service). Some s.world) (sym e)
+
+pub run_meets : (p : Loaded) (bound ran : ℕ) (from to : Moment Runtime) (f : Fault) (o : Outcome) → OfCode p from → RunsFor Serves p bound ran from (Faulted f) to → world_of o ≡ (service_of to.services).world → Meets (λ n. run_on n p (Runs (whole from))) bound f o.acts o.output.items
+run_meets p bound ran from to f o code run e = record {
+  done = ran;
+  within = run.finishes.0;
+  shows = record {
+    world = (service_of to.services).world;
+    shown = ran_shows p ran from run.at (service_of to.services) code run.all_ran (faulted_kept run.at to f (effect p run.at.state) run.finishes.1);
+    acts_are = ap (λ (w : World). w.acts) e;
+    output_is = ap (λ (w : World). w.output) e;
+  };
+  stops = (ran_on p ran 1 from run.at code run.all_ran).0 ∙ one_on p 0 (whole run.at) _ (makes_faulted p run.at to f (effect p run.at.state) (ran_on p ran 1 from run.at code run.all_ran).1 run.finishes.1) ∙ none_on p _;
+  stopped = runs_are p bound ran from (Faulted f) to code run;
+}
+
+pub run_refused : (p : Loaded) (bound ran : ℕ) (from to : Moment Runtime) (o : Outcome) → OfCode p from → RunsFor Serves p bound ran from Refused to → world_of o ≡ (service_of to.services).world → ShowsWithin (λ n. run_on n p (Runs (whole from))) bound o.acts o.output.items
+run_refused p bound ran from to o code run e = record {
+  done = ran;
+  within = let h = run.finishes.0 in omega arith;
+  shows = record {
+    world = (service_of to.services).world;
+    shown = ran_shows p ran from run.at (service_of to.services) code run.all_ran (refused_kept run.at to (effect p run.at.state) run.finishes.1);
+    acts_are = ap (λ (w : World). w.acts) e;
+    output_is = ap (λ (w : World). w.output) e;
+  };
+}
 
 -- a run that ran on or ended shows its services' world
 pub shown_where : (r : Run) (last : Step) (to : Moment Runtime) → (last ≡ Ran) ⊎ (last ≡ Ended) → Comes r last to → shown_by r ≡ Some (service_of to.services).world

@@ -1,5 +1,5 @@
 -- The text of a number is the one that std writes.
-use Rattle.std.proofs.Common.{◌≡◌, ℕ, zero, suc, ◌+◌, ◌^◌, ◌<◌, ◌≤◌, List, [], ◌∷◌, ◌++◌, length, ℤ, pos, negsuc, refl, ap, ◌∙◌, sym, arith, rules, SFits, w32}
+use Rattle.std.proofs.Common.{◌≡◌, ℕ, suc, ◌^◌, ◌<◌, List, [], ◌∷◌, ℤ, pos, negsuc, ap, ◌∙◌, arith, rules, SFits, w32}
 use Rattle.std.specs.Fmt.{decimal, signed_decimal}
 use Rattle.std.proofs.lemmas.Fmt.{PrependsLastDigit, decimal_from_prepends, length-decimal-le}
 use Rattle.pli_meaning.specs.Stream.{digits_before, decimal_digits, decimal_text}

@@ -1,5 +1,5 @@
 -- Format lists as a run reads them: by the widths of their items.
-use Rattle.std.specs.Prelude.{◌≡◌, ℕ, List, [], ◌∷◌, map, drop, Option, Some, None}
+use Rattle.std.specs.Prelude.{◌≡◌, ℕ, List, [], ◌∷◌, drop, Option, Some, None}
 use Rattle.pli_meaning.specs.Typed.{FormatItem, FixedItem}
 use Rattle.pli_meaning.specs.Services.{next_item, item_then}
 use Rattle.pli_run.specs.declared.edit.Edit.{Edit}

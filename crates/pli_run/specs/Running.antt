@@ -1,6 +1,7 @@
 -- What a run of an image comes to.
-use Rattle.std.specs.Prelude.{◌≡◌, ℕ, List, length, map, Option, Some, None, Result, Ok, Err}
+use Rattle.std.specs.Prelude.{◌≡◌, ℕ, ◌+◌, ◌<◌, ◌≤◌, List, [], map, Some, Result, Ok, Err}
 use Rattle.pli_meaning.specs.declared.outcome.Outcome.{Outcome}
+use Rattle.pli_meaning.specs.declared.instr.Fault.{Fault}
 use Rattle.pli_meaning.specs.Encoding.{word_of}
 use Rattle.pli_meaning.specs.World.{World}
 use Rattle.pli_meaning.specs.Headline.{Picture, Run, Stopped, shown_by}
@@ -20,18 +21,40 @@ pub record IsPicture (p : Picture) (image : Program) : Type 0 where
   pub statics_are : p.statics ≡ image.statics
   pub entry_is : p.entry ≡ image.entry
 
--- what is answered for a run at a valid base: the world that it shows, or the fault that it met; nothing is claimed
--- where there was no memory
-abbrev pub Tells : Run → Result Outcome RunFault → Type 0
-Tells r (Ok o) = shown_by r ≡ Some (world_of o)
-Tells r (Err (Machine fault acts output)) = r ≡ Stopped fault
-Tells r (Err (Memory acts output)) = Unit {0}
-Tells r (Err BadBase) = ⊥
-Tells r (Err (Source fault)) = ⊥
+-- a run by the number of instructions allowed shows these acts and this output where so many are done
+pub record ShowsAfter (run : ℕ → Run) (done acts : ℕ) (output : List ℕ) : Type 0 where
+  pub world : World
+  pub shown : shown_by (run done) ≡ Some world
+  pub acts_are : acts ≡ world.acts
+  pub output_is : output ≡ world.output
 
-abbrev pub IsMemory : RunFault → Type 0
-IsMemory (Memory acts output) = Unit {0}
-IsMemory _ = ⊥
+-- it meets a fault at the instruction behind those done, up to which it shows these acts and this output
+pub record Meets (run : ℕ → Run) (bound : ℕ) (fault : Fault) (acts : ℕ) (output : List ℕ) : Type 0 where
+  pub done : ℕ
+  pub within : done < bound
+  pub shows : ShowsAfter run done acts output
+  pub stops : run (done + 1) ≡ Stopped fault
+  pub stopped : run bound ≡ Stopped fault
+
+-- it shows these acts and this output after some of the instructions
+pub record ShowsWithin (run : ℕ → Run) (bound acts : ℕ) (output : List ℕ) : Type 0 where
+  pub done : ℕ
+  pub within : done ≤ bound
+  pub shows : ShowsAfter run done acts output
+
+-- what is answered for a run at a valid base: the world that it shows, the fault that it met, or want of memory, with
+-- the acts and the output up to there
+abbrev pub Tells : (ℕ → Run) → (bound : ℕ) → Result Outcome RunFault → Type 0
+Tells run bound (Ok o) = shown_by (run bound) ≡ Some (world_of o)
+Tells run bound (Err (Machine fault acts output)) = Meets run bound fault acts output.items
+Tells run bound (Err (Memory acts output)) = ShowsWithin run bound acts output.items
+Tells run bound (Err BadBase) = ⊥
+Tells run bound (Err (Source fault)) = ⊥
+
+-- want of memory before the first instruction
+abbrev pub IsUnstarted : RunFault → Type 0
+IsUnstarted (Memory acts output) = (acts ≡ 0) × (output.items ≡ [])
+IsUnstarted _ = ⊥
 
 -- the numbers of the ways to come to no outcome
 abbrev pub number_of : RunFault → ℕ

@@ -1,5 +1,5 @@
 -- The services of a run as the definitions see them, and how its calls are answered.
-use Rattle.std.specs.Prelude.{◌≡◌, ℕ, List, length, map, drop, reverse, Result, Ok, Err}
+use Rattle.std.specs.Prelude.{◌≡◌, ℕ, List, map, drop, reverse, Result, Ok, Err}
 use Rattle.pli_meaning.specs.World.{World}
 use Rattle.pli_meaning.specs.Typed.{FormatItem, FixedItem}
 use Rattle.pli_meaning.specs.Machine.{written}

@@ -7,3 +7,5 @@ mod reply;
 pub mod report;
 pub mod run;
 pub mod runtime;
+#[cfg(test)]
+mod tests;

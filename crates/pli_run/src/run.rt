@@ -3,7 +3,7 @@
 ghost use Rattle.std.specs.Prelude.{◌≡◌, ◌↔◌, ◌*◌, length, IsErrOf};
 ghost use Rattle.pli_meaning.specs.Machine.{IsValidBase};
 ghost use Rattle.pli_meaning.specs.Headline.{Picture, run_of};
-ghost use Rattle.pli_run.specs.Running.{number_of, IsMemory, IsPicture, Tells};
+ghost use Rattle.pli_run.specs.Running.{number_of, IsUnstarted, IsPicture, Tells};
 
 use crate::runtime::Runtime;
 use pli_meaning::fault::SourceFault;
@@ -61,7 +61,7 @@ pub fn run(
     bound: u64,
 ) -> Result<Outcome, RunFault>
     ensures bad_base { IsErrOf result RunFault.BadBase ↔ ¬ IsValidBase base }
-    ensures told { IsValidBase base → (p : Picture) → IsPicture p image.now → Tells (run_of p base input.now bound) result }
+    ensures told { IsValidBase base → (p : Picture) → IsPicture p image.now → Tells (run_of p base input.now) bound result }
 {
     if !valid_base(base) {
         return Err(RunFault::BadBase);
@@ -91,7 +91,7 @@ pub fn run(
 
 // No memory to start.
 fn unstarted(alloc: Global) -> RunFault
-    ensures { IsMemory result }
+    ensures { IsUnstarted result }
 {
     RunFault::Memory {
         acts: 0,

@@ -34,9 +34,10 @@ pub struct Runtime {
 }
 
 impl Runtime {
-    /// For code of this many bytes, with nothing done yet.
+    /// For an image with this many bytes of code, with nothing done yet; without memory an `AllocError`.
     pub fn new(alloc: Global, code_bytes: u32, input: &[u8]) -> Result<Runtime, AllocError>
-        ensures { IfOk result (λ r. (service_of r ≡ duty.first_service input.now) × (r.code_bytes ≡ code_bytes)) }
+        ensures service { IfOk result (λ r. service_of r ≡ duty.first_service input.now) }
+        ensures code { IfOk result (λ r. r.code_bytes ≡ code_bytes) }
     {
         Ok(Runtime {
             alloc,

@@ -1,5 +1,3 @@
-use Rattle.std.proofs.Common.{arith, ◌≡◌, None}
-use Rattle.pli_meaning.specs.Services.{item_at}
 use Rattle.pli_run.proofs.Items.{item_read, item_refused, items_read}
 use Rattle.pli_run.proofs.edit.items.Goals as goal
 

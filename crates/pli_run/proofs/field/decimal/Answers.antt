@@ -1,4 +1,4 @@
-use Rattle.std.proofs.Common.{◌≡◌, ap, ◌∙◌, sym, rules, SFits, w32}
+use Rattle.std.proofs.Common.{ap, ◌∙◌, sym, rules, SFits, w32}
 use Rattle.std.proofs.lemmas.Int.{to_z-of_z}
 use Rattle.pli_meaning.specs.Stream.{decimal_text}
 use Rattle.pli_run.proofs.Texts.{text_is}

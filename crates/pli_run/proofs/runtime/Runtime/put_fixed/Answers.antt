@@ -1,5 +1,5 @@
-use Rattle.std.proofs.Common.{◌≡◌, ◌≢◌, ◌+◌, ◌∷◌, ◌++◌, ◌-◌, ◌≤◌, refl, ap, ◌∙◌, sym, arith, rules, length, take, map, reverse, vec_len}
-use Rattle.pli_run.specs.Serving.{place_of, service_of}
+use Rattle.std.proofs.Common.{◌≡◌, ◌+◌, ◌++◌, ◌-◌, ◌≤◌, refl, ◌∙◌, sym, rules, length}
+use Rattle.pli_run.specs.Serving.{service_of}
 use Rattle.pli_meaning.specs.Stream.{blanks}
 use Rattle.pli_run.proofs.Places.{newest, newest_done}
 use Rattle.pli_run.proofs.Fields.{asked_wide, asked_narrow, put_wide}
