@@ -1,2 +1,0 @@
-// The compiler and its programs' runs.
-#![tactic(auto)]

@@ -1,0 +1,93 @@
+// `pli`: compiles programs and runs them.
+#![tactic(auto)]
+
+mod command;
+pub mod compile;
+
+use clap::ArgMatches;
+use compile::compile_and_run;
+use pli_meaning::outcome::Outcome;
+use pli_run::report::{Line, Notice, report, unread, unwritten};
+use pli_run::run::RunFault;
+use std::alloc::Global;
+use std::process::ExitCode;
+use std::{env, fs, io};
+
+/// The status where the words ask for nothing that the program does.
+const USAGE: u8 = 64;
+
+// The status, told with its line on standard error.
+fn tell(rt: &HostRuntime, notice: Notice<'_>) -> u8 {
+    if let Some(line) = notice.line {
+        let _ = eprintln!(rt; "{line}");
+    }
+    notice.status
+}
+
+// The whole input: of the file that is named, or standard input.
+fn input_of(rt: &HostRuntime, file: Option<&str>) -> io::Result<Vec<u8>> {
+    match file {
+        Some(name) => fs::read(rt, name),
+        None => {
+            let mut bytes = Vec::new(rt.alloc());
+            rt.reader().read_to_end(&mut bytes)?;
+            Ok(bytes)
+        }
+    }
+}
+
+fn output_of(ran: &Result<Outcome, RunFault>) -> &[u8] {
+    match ran {
+        Ok(outcome) => &outcome.output,
+        Err(RunFault::Memory { output, .. } | RunFault::Machine { output, .. }) => output,
+        Err(_) => &[],
+    }
+}
+
+// Writes what a run has shown and tells how it ended; what is told of the run comes first.
+fn shown(rt: &HostRuntime, ran: &Result<Outcome, RunFault>) -> u8 {
+    let written = rt.write_all(output_of(ran));
+    let notice = report(ran);
+    if written.is_err() && notice.line.is_none() {
+        return tell(rt, unwritten("stdout"));
+    }
+    tell(rt, notice)
+}
+
+// `pli run`.
+fn run(rt: &HostRuntime, matches: &ArgMatches<'_>) -> u8 {
+    let name = matches.get_str(command::SOURCE).unwrap_or("");
+    let Ok(source) = fs::read(rt, name) else {
+        return tell(rt, unread(name));
+    };
+    let file = matches.get_str(command::INPUT);
+    let Ok(input) = input_of(rt, file) else {
+        return tell(rt, unread(file.unwrap_or("stdin")));
+    };
+    let bound = matches.get_one::<u64>(command::BOUND).unwrap_or(0);
+    let base = matches.get_one::<u32>(command::BASE).unwrap_or(0);
+    shown(rt, &compile_and_run(rt.alloc(), &source, &input, base, bound))
+}
+
+// Parses the words, and does what they ask for.
+fn answer(rt: &HostRuntime, words: &[String]) -> io::Result<u8> {
+    let command = command::command(rt.alloc())?;
+    match command.try_get_matches_from(words) {
+        Ok(matches) => match matches.subcommand() {
+            Some((_, matches)) => Ok(run(rt, matches)),
+            None => Ok(USAGE),
+        },
+        Err(error) => {
+            error.print(rt)?;
+            Ok(if error.use_stderr() { USAGE } else { 0 })
+        }
+    }
+}
+
+fn main(rt: HostRuntime) -> io::Result<ExitCode> {
+    let words: Vec<String> = env::args(&rt)?.collect(rt.alloc())?;
+    match answer(&rt, &words) {
+        Ok(status) => Ok(ExitCode::from(status)),
+        Err(_) => Ok(ExitCode::from(tell(&rt, Notice { status: 4, line: Some(Line::Memory) }))),
+    }
+}
