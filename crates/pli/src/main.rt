@@ -9,7 +9,7 @@ use compile::compile_and_run;
 use pli_meaning::outcome::Outcome;
 use pli_run::report::{Line, Notice, report, unread, unwritten};
 use pli_run::run::RunFault;
-use std::alloc::Global;
+use std::io::Read;
 use std::process::ExitCode;
 use std::{env, fs, io};
 
@@ -66,7 +66,10 @@ fn run(rt: &HostRuntime, matches: &ArgMatches<'_>) -> u8 {
     };
     let bound = matches.get_one::<u64>(command::BOUND).unwrap_or(0);
     let base = matches.get_one::<u32>(command::BASE).unwrap_or(0);
-    shown(rt, &compile_and_run(rt.alloc(), &source, &input, base, bound))
+    shown(
+        rt,
+        &compile_and_run(rt.alloc(), &source, &input, base, bound),
+    )
 }
 
 // Parses the words, and does what they ask for.
@@ -88,6 +91,12 @@ fn main(rt: HostRuntime) -> io::Result<ExitCode> {
     let words: Vec<String> = env::args(&rt)?.collect(rt.alloc())?;
     match answer(&rt, &words) {
         Ok(status) => Ok(ExitCode::from(status)),
-        Err(_) => Ok(ExitCode::from(tell(&rt, Notice { status: 4, line: Some(Line::Memory) }))),
+        Err(_) => Ok(ExitCode::from(tell(
+            &rt,
+            Notice {
+                status: 4,
+                line: Some(Line::Memory),
+            },
+        ))),
     }
 }
