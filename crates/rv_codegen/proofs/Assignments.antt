@@ -43,12 +43,12 @@ pub act_piece : (code : List Instr) (i : ℕ) (f : Family) (v : Service) (slots 
 act_piece code i f v slots taken k line s small' inside has here world allowed fits =
     let front = large a0_register line ++ (small a1_register 0 ∷ small a7_register 1 ∷ []) in
     let r = straight code i f v v front (λ b w. Args b v slots taken line 0 1 w) here.small' (omega (arith, inside)) (has.0, (has.1.0, (has.1.1.0, (has.1.1.1.0, tt)))) (omega arith) (λ b. (here.at b).pc)
-        (λ b. let o = (here.at b).holds in record {
-          body = record { service = o.service; zero' = o.zero'; frame = o.frame; bytes = o.bytes; slots_are = o.slots_are };
-          first = large_sum line small';
-          second = small_sum ((f b).machine.registers 0) 0 o.zero' (lit< tt);
-          number = small_sum ((f b).machine.registers 0) 1 o.zero' (lit< tt);
-        }) in
+    (λ b. let o = (here.at b).holds in record {
+      body = record { service = o.service; zero' = o.zero'; frame = o.frame; bytes = o.bytes; slots_are = o.slots_are };
+      first = large_sum line small';
+      second = small_sum ((f b).machine.registers 0) 0 o.zero' (lit< tt);
+      number = small_sum ((f b).machine.registers 0) 1 o.zero' (lit< tt);
+    }) in
     let c : Calling code (i + 4) (reached r) v slots taken 1 (Done (acted line v) line 0) = record {
       inside = omega (arith, inside);
       has = along code (suc (suc (suc (suc i)))) (i + 4) (I.Ecall ∷ []) (omega arith) (has.1.1.1.1.0, tt);
@@ -62,7 +62,7 @@ act_piece code i f v slots taken k line s small' inside has here world allowed f
     let rq = reach_map (λ b w. At b (i + 4 + 1) (Body b (acted line v) slots taken) w) (reach_then r q) (λ b w h. record { pc = h.pc; holds = h.holds.body }) in
     let e : i + 4 + 1 ≡ i + 5 = omega arith in
     comes_act code i f v (λ x t. ActDone code i f v slots taken k line s t) counted k s world pauses
-        (λ below. record { state = refl; below = below; reach = subst (λ n. Reach code i f v n (acted line v) (λ b w. At b n (Body b (acted line v) slots taken) w)) e rq })
+    (λ below. record { state = refl; below = below; reach = subst (λ n. Reach code i f v n (acted line v) (λ b w. At b n (Body b (acted line v) slots taken) w)) e rq })
 
 -- ---- what a statement leaves
 
@@ -219,44 +219,44 @@ assign_piece code i f v slots variables taken k around s numbers target source l
     let s' = with_world counted s in
     let done = λ (x : Unit {0}) (t : State). StmtDone code i f v v.edits variables taken k size t in
     comes_on code i f v (λ x t. ActDone code i f v slots taken k line s t) done k (act counted k s) (λ x. ◌>>=◌ (M.number around' source) (λ z. assigning around' target z))
-        (act_piece code i f v slots taken k line s sup.line_small (omega (arith, inside, len)) (has_front code i front (middle ++ last) has) here begins.world begins.allowed begins.fits)
-        (λ x t d.
-            let r = d.reach in
-            let scene = scene_of line begins d.below in
-            let here' : Here code (i + 5) (reached r) v' slots taken = record { small' = here.small'; room = here.room; at = reached_holds r } in
-            let ih = number_piece source code (i + 5) (reached r) v' slots variables taken k around' s' numbers sup.source' (omega (arith, inside, len)) (has_front code (i + 5) middle last at_middle) here' scene in
-            let done' = λ (y : Unit {0}) (u : State). StmtDone code (i + 5) (reached r) v' v.edits variables taken k (n + 3) u in
-            let rest = comes_on code (i + 5) (reached r) v' (NumberDone code (i + 5) (reached r) v' slots taken s' n) done' k (M.number around' source k s') (λ z. assigning around' target z) ih
-                (λ z u e.
-                    let q = e.2 in
-                    let store' = store_piece code (i + 5 + n) (reached q) v' slots taken taken (first_variable + target.index) (word z) (record { small' = here.small'; room = here.room; at = λ b. record { pc = (reached_holds q b).pc; holds = (reached_holds q b).holds.body } }) (λ b. (reached_holds q b).holds.value) (word_small z e.1) (omega (arith, sup.index, begins.held.room, here.room)) (λ t' h' e'. h') (omega (arith, inside, len)) at_last in
-                    let qs = reach_map (λ b w. At b (i + 5 + n + 3) (Body b v' (put slots (first_variable + target.index) (word z)) taken) w) (reach_then q store') (λ b w h. record { pc = h.pc; holds = h.holds.body }) in
-                    let gives = assigning_gives around' target z k s' variables numbers scene.variables_are sup.level sup.index sup.precision e.1 in
-                    let finished : StmtDone code (i + 5) (reached r) v' v.edits variables taken k (n + 3) (with_number s' (suc target.index) z) = record {
-                      services = v';
-                      slots = put slots (first_variable + target.index) (word z);
-                      numbers = numbers_with numbers target.index z;
-                      world = scene.serving.world;
-                      allowed = scene.serving.allowed;
-                      edits = refl;
-                      alone = record { none = scene.alone.none };
-                      variables_are = variables_after s' variables target.index numbers z scene.variables_are e.1;
-                      held = held_after slots variables taken target.index numbers z scene.slots_hold;
-                      reach = subst (λ m. Reach code (i + 5) (reached r) v' m v' (λ b w. At b m (Body b v' (put slots (first_variable + target.index) (word z)) taken) w)) (omega arith) qs;
-                    } in
-                    let flow = subst (Comes code (i + 5) (reached r) v' done') (sym gives) finished in
-                    subst (λ w. Comes code (i + 5) (reached r) v' done' (assigning around' target z k w)) (sym e.0) flow) in
-            let whole = comes_from done' done (flow_on k (M.number around' source k s') (λ z. assigning around' target z)) r
-                (λ y u e. record {
-                  services = e.services;
-                  slots = e.slots;
-                  numbers = e.numbers;
-                  world = e.world;
-                  allowed = e.allowed;
-                  edits = e.edits;
-                  alone = e.alone;
-                  variables_are = e.variables_are;
-                  held = e.held;
-                  reach = subst (λ m. Reach code i f v m e.services (λ b w. At b m (Body b e.services e.slots taken) w)) (omega (arith, len)) (reach_then r e.reach);
-                }) rest in
-            subst (λ u. Comes code i f v done (flow_on k (M.number around' source k u) (λ z. assigning around' target z))) (sym d.state) whole)
+    (act_piece code i f v slots taken k line s sup.line_small (omega (arith, inside, len)) (has_front code i front (middle ++ last) has) here begins.world begins.allowed begins.fits)
+    (λ x t d.
+    let r = d.reach in
+    let scene = scene_of line begins d.below in
+    let here' : Here code (i + 5) (reached r) v' slots taken = record { small' = here.small'; room = here.room; at = reached_holds r } in
+    let ih = number_piece source code (i + 5) (reached r) v' slots variables taken k around' s' numbers sup.source' (omega (arith, inside, len)) (has_front code (i + 5) middle last at_middle) here' scene in
+    let done' = λ (y : Unit {0}) (u : State). StmtDone code (i + 5) (reached r) v' v.edits variables taken k (n + 3) u in
+    let rest = comes_on code (i + 5) (reached r) v' (NumberDone code (i + 5) (reached r) v' slots taken s' n) done' k (M.number around' source k s') (λ z. assigning around' target z) ih
+    (λ z u e.
+    let q = e.2 in
+    let store' = store_piece code (i + 5 + n) (reached q) v' slots taken taken (first_variable + target.index) (word z) (record { small' = here.small'; room = here.room; at = λ b. record { pc = (reached_holds q b).pc; holds = (reached_holds q b).holds.body } }) (λ b. (reached_holds q b).holds.value) (word_small z e.1) (omega (arith, sup.index, begins.held.room, here.room)) (λ t' h' e'. h') (omega (arith, inside, len)) at_last in
+    let qs = reach_map (λ b w. At b (i + 5 + n + 3) (Body b v' (put slots (first_variable + target.index) (word z)) taken) w) (reach_then q store') (λ b w h. record { pc = h.pc; holds = h.holds.body }) in
+    let gives = assigning_gives around' target z k s' variables numbers scene.variables_are sup.level sup.index sup.precision e.1 in
+    let finished : StmtDone code (i + 5) (reached r) v' v.edits variables taken k (n + 3) (with_number s' (suc target.index) z) = record {
+      services = v';
+      slots = put slots (first_variable + target.index) (word z);
+      numbers = numbers_with numbers target.index z;
+      world = scene.serving.world;
+      allowed = scene.serving.allowed;
+      edits = refl;
+      alone = record { none = scene.alone.none };
+      variables_are = variables_after s' variables target.index numbers z scene.variables_are e.1;
+      held = held_after slots variables taken target.index numbers z scene.slots_hold;
+      reach = subst (λ m. Reach code (i + 5) (reached r) v' m v' (λ b w. At b m (Body b v' (put slots (first_variable + target.index) (word z)) taken) w)) (omega arith) qs;
+    } in
+    let flow = subst (Comes code (i + 5) (reached r) v' done') (sym gives) finished in
+    subst (λ w. Comes code (i + 5) (reached r) v' done' (assigning around' target z k w)) (sym e.0) flow) in
+    let whole = comes_from done' done (flow_on k (M.number around' source k s') (λ z. assigning around' target z)) r
+    (λ y u e. record {
+      services = e.services;
+      slots = e.slots;
+      numbers = e.numbers;
+      world = e.world;
+      allowed = e.allowed;
+      edits = e.edits;
+      alone = e.alone;
+      variables_are = e.variables_are;
+      held = e.held;
+      reach = subst (λ m. Reach code i f v m e.services (λ b w. At b m (Body b e.services e.slots taken) w)) (omega (arith, len)) (reach_then r e.reach);
+    }) rest in
+    subst (λ u. Comes code i f v done (flow_on k (M.number around' source k u) (λ z. assigning around' target z))) (sym d.state) whole)

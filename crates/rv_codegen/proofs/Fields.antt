@@ -126,12 +126,12 @@ begin_piece : (code : List Instr) (i : ℕ) (f : Family) (v : Service) (slots : 
 begin_piece code i f v slots taken width here four wide inside has =
     let front = large a0_register frame_offset ++ (small a1_register 1 ∷ small a7_register 34 ∷ []) in
     let r = straight code i f v v front (λ b w. Args b v (listed slots width) taken frame_offset 1 34 w) here.small' (omega (arith, inside)) (has.0, (has.1.0, (has.1.1.0, (has.1.1.1.0, tt)))) (omega arith) (λ b. (here.at b).pc)
-        (λ b. let o = (here.at b).holds in record {
-          body = record { service = o.service; zero' = o.zero'; frame = o.frame; bytes = o.bytes; slots_are = o.slots_are };
-          first = large_sum frame_offset (lit< tt);
-          second = small_sum ((f b).machine.registers 0) 1 o.zero' (lit< tt);
-          number = small_sum ((f b).machine.registers 0) 34 o.zero' (lit< tt);
-        }) in
+    (λ b. let o = (here.at b).holds in record {
+      body = record { service = o.service; zero' = o.zero'; frame = o.frame; bytes = o.bytes; slots_are = o.slots_are };
+      first = large_sum frame_offset (lit< tt);
+      second = small_sum ((f b).machine.registers 0) 1 o.zero' (lit< tt);
+      number = small_sum ((f b).machine.registers 0) 34 o.zero' (lit< tt);
+    }) in
     let c : Calling code (i + 4) (reached r) v (listed slots width) taken 34 (Done (begun width v) frame_offset 1) = record {
       inside = omega (arith, inside);
       has = along code (suc (suc (suc (suc i)))) (i + 4) (I.Ecall ∷ []) (omega arith) (has.1.1.1.1.0, tt);
@@ -156,12 +156,12 @@ dropped places v = record { world = v.world; input = v.input; line = v.line; edi
 end_piece : (code : List Instr) (i : ℕ) (f : Family) (v : Service) (slots : ℕ → ℕ) (taken x y n : ℕ) (place : EditPlace) (places : List EditPlace) → length code ≤ most_code → v.edits ≡ place ∷ places → i + 2 ≤ length code → HasAt code i (call 38) → ((b : Base) → At b i (Results b v slots taken x y n) (f b)) → Reach code i f v (i + 2) (dropped places v) (λ b w. At b (i + 2) (Body b (dropped places v) slots taken) w)
 end_piece code i f v slots taken x y n place places small' e inside has at =
     let r = straight code i f v v (small a7_register 38 ∷ []) (λ b w. Args b v slots taken x y 38 w) small' (omega (arith, inside)) (has.0, tt) (omega arith) (λ b. (at b).pc)
-        (λ b. let o = (at b).holds.body in record {
-          body = record { service = o.service; zero' = o.zero'; frame = o.frame; bytes = o.bytes; slots_are = o.slots_are };
-          first = (at b).holds.first;
-          second = (at b).holds.second;
-          number = small_sum ((f b).machine.registers 0) 38 o.zero' (lit< tt);
-        }) in
+    (λ b. let o = (at b).holds.body in record {
+      body = record { service = o.service; zero' = o.zero'; frame = o.frame; bytes = o.bytes; slots_are = o.slots_are };
+      first = (at b).holds.first;
+      second = (at b).holds.second;
+      number = small_sum ((f b).machine.registers 0) 38 o.zero' (lit< tt);
+    }) in
     let c : Calling code (i + 1) (reached r) v slots taken 38 (Done (dropped places v) x y) = record {
       inside = omega (arith, inside);
       has = along code (suc i) (i + 1) (I.Ecall ∷ []) (omega arith) (has.1.0, tt);
@@ -202,12 +202,12 @@ put_answer width z field v places k e wide found allowed fits =
 ask_piece : (code : List Instr) (i : ℕ) (f : Family) (v : Service) (slots : ℕ → ℕ) (taken width y : ℕ) (z : ℤ) (places : List EditPlace) → length code ≤ most_code → v.edits ≡ place_of width ∷ places → IsWide z → S.field_asked v (fixed_field width z) (word z) ≡ Done v (word z) y → i + 3 ≤ length code → HasAt code i (small a1_register 0 ∷ call 36) → ((b : Base) → At b i (Valued b v slots taken (word z)) (f b)) → Reach code i f v (i + 3) v (λ b w. At b (i + 3) (Results b v slots taken (word z) y 36) w)
 ask_piece code i f v slots taken width y z places small' e wide answer inside has at =
     let r = straight code i f v v (small a1_register 0 ∷ small a7_register 36 ∷ []) (λ b w. Args b v slots taken (word z) 0 36 w) small' (omega (arith, inside)) (has.0, (has.1.0, tt)) (omega arith) (λ b. (at b).pc)
-        (λ b. let o = (at b).holds.body in record {
-          body = record { service = o.service; zero' = o.zero'; frame = o.frame; bytes = o.bytes; slots_are = o.slots_are };
-          first = (at b).holds.value;
-          second = small_sum ((f b).machine.registers 0) 0 o.zero' (lit< tt);
-          number = small_sum ((f b).machine.registers 0) 36 o.zero' (lit< tt);
-        }) in
+    (λ b. let o = (at b).holds.body in record {
+      body = record { service = o.service; zero' = o.zero'; frame = o.frame; bytes = o.bytes; slots_are = o.slots_are };
+      first = (at b).holds.value;
+      second = small_sum ((f b).machine.registers 0) 0 o.zero' (lit< tt);
+      number = small_sum ((f b).machine.registers 0) 36 o.zero' (lit< tt);
+    }) in
     let c : Calling code (i + 2) (reached r) v slots taken 36 (Done v (word z) y) = record {
       inside = omega (arith, inside);
       has = along code (suc (suc i)) (i + 2) (I.Ecall ∷ []) (omega arith) (has.1.1.0, tt);
@@ -236,7 +236,7 @@ field_by None code i f v slots taken width k z places around s found small' e wi
     let p = reached r in
     let j : (b : Base) → ((p b).machine.registers 11 == (p b).machine.registers 0) ≡ false = λ b. ap (λ u. u == (p b).machine.registers 0) (reached_holds r b).holds.second ∙ ap (λ u. 105 == u) (reached_holds r b).holds.body.zero' in
     let q = hop code (i + 3) (suc (i + 3)) p v (λ b w. At b (suc (i + 3)) (Coded b v slots taken 105) w) (omega arith) (λ b. let h = reached_holds r b in let m = h.holds.body in
-        (_, branch_passed code b (i + 3) Test.Equal a1_register zero_register _ (p b) (omega (arith, inside, small')) h.pc at_test.0 (j b), record { pc = refl; holds = record { body = record { service = m.service; zero' = m.zero'; frame = m.frame; bytes = m.bytes; slots_are = m.slots_are }; code_is = h.holds.second } })) in
+    (_, branch_passed code b (i + 3) Test.Equal a1_register zero_register _ (p b) (omega (arith, inside, small')) h.pc at_test.0 (j b), record { pc = refl; holds = record { body = record { service = m.service; zero' = m.zero'; frame = m.frame; bytes = m.bytes; slots_are = m.slots_are }; code_is = h.holds.second } })) in
     let rq = reach_then r q in
     let done = λ (x : Unit {0}) (t : State). FieldDone code i f v slots taken width k z places s t in
     comes_from done done (M.error_raised around 105 k s) rq (λ x t d. d) (error_piece code (suc (i + 3)) (reached rq) v slots taken 105 k around s (Unit {0}) done small' (lit< tt) (omega (arith, inside)) (has_front code (suc (i + 3)) error_code (small a1_register 1 ∷ I.Ecall ∷ []) at_test.1) serving alone (reached_holds rq))
@@ -250,15 +250,15 @@ field_by (Some field) code i f v slots taken width k z places around s found sma
     let p = reached r in
     let j : (b : Base) → ((p b).machine.registers 11 == (p b).machine.registers 0) ≡ true = λ b. ap (λ u. u == (p b).machine.registers 0) (reached_holds r b).holds.second ∙ ap (λ u. 0 == u) (reached_holds r b).holds.body.zero' in
     let q = hop code (i + 3) (i + 10) p v (λ b w. At b (i + 10) (Results b v slots taken (word z) 0 36) w) (omega arith) (λ b. let h = reached_holds r b in let m = h.holds.body in
-        (_, branch_taken code b (i + 3) (i + 10) Test.Equal a1_register zero_register _ (p b) h.pc at_test.0 (j b) (skip_sum b (i + 3) 6 (omega (arith, inside, small')) ∙ ap (address b) (omega arith)), record { pc = refl; holds = record { body = record { service = m.service; zero' = m.zero'; frame = m.frame; bytes = m.bytes; slots_are = m.slots_are }; first = h.holds.first; second = h.holds.second; number = h.holds.number } })) in
+    (_, branch_taken code b (i + 3) (i + 10) Test.Equal a1_register zero_register _ (p b) h.pc at_test.0 (j b) (skip_sum b (i + 3) 6 (omega (arith, inside, small')) ∙ ap (address b) (omega arith)), record { pc = refl; holds = record { body = record { service = m.service; zero' = m.zero'; frame = m.frame; bytes = m.bytes; slots_are = m.slots_are }; first = h.holds.first; second = h.holds.second; number = h.holds.number } })) in
     let rq = reach_then r q in
     let x = straight code (i + 10) (reached rq) v v (small a1_register 1 ∷ []) (λ b w. Args b v slots taken (word z) 1 36 w) small' (omega (arith, inside)) (at_last.0, tt) (omega arith) (λ b. (reached_holds rq b).pc)
-        (λ b. let h = (reached_holds rq b).holds in let m = h.body in record {
-          body = record { service = m.service; zero' = m.zero'; frame = m.frame; bytes = m.bytes; slots_are = m.slots_are };
-          first = h.first;
-          second = small_sum ((reached rq b).machine.registers 0) 1 m.zero' (lit< tt);
-          number = h.number;
-        }) in
+    (λ b. let h = (reached_holds rq b).holds in let m = h.body in record {
+      body = record { service = m.service; zero' = m.zero'; frame = m.frame; bytes = m.bytes; slots_are = m.slots_are };
+      first = h.first;
+      second = small_sum ((reached rq b).machine.registers 0) 1 m.zero' (lit< tt);
+      number = h.number;
+    }) in
     let rx = reach_then rq x in
     let v' = fielded width field v places in
     let c : Calling code (i + 10 + 1) (reached rx) v slots taken 36 (Done v' (word z) 1) = record {
@@ -274,7 +274,7 @@ field_by (Some field) code i f v slots taken width k z places around s found sma
     let ry = reach_then rx y in
     let e' : i + 10 + 1 + 1 ≡ i + 12 = omega arith in
     comes_act code i f v (λ u t. FieldDone code i f v slots taken width k z places s t) (written (with_field field)) k s serving.world pauses
-        (λ below. record { field = field; state = refl; below = below; reach = subst (λ n. Reach code i f v n v' (λ b w. At b n (Results b v' slots taken (word z) 1 36) w)) e' ry })
+    (λ below. record { field = field; state = refl; below = below; reach = subst (λ n. Reach code i f v n v' (λ b w. At b n (Results b v' slots taken (word z) 1 36) w)) e' ry })
 
 -- ---- the statement
 
@@ -348,23 +348,23 @@ field_rest code i f v slots variables taken width k around s numbers n z u small
     let dq = λ (x : Unit {0}) (t : State). StmtDone code (i + n) (reached q) v1 v.edits variables taken k 14 t in
     let done = λ (x : Unit {0}) (t : State). StmtDone code i f v1 v.edits variables taken k (n + 14) t in
     let settle : (t : State) → FieldDone code (i + n) (reached q) v1 (listed slots width) taken width k z v.edits s t → StmtDone code (i + n) (reached q) v1 v.edits variables taken k 14 t = λ t d'.
-        let v2 = fielded width d'.field v1 v.edits in
-        let v3 = dropped v.edits v2 in
-        let x = end_piece code (i + n + 12) (reached d'.reach) v2 (listed slots width) taken (word z) 1 36 (record { formats = FixedItem width ∷ []; rest = [] }) v.edits small' refl (omega (arith, inside)) at_end (reached_holds d'.reach) in
-        let w = reach_then d'.reach x in
-        let e : i + n + 12 + 2 ≡ i + n + 14 = omega arith in
-        record {
-          services = v3;
-          slots = listed slots width;
-          numbers = numbers;
-          world = ap (written (with_field d'.field)) scene.serving.world ∙ ap (λ (a : State). a.world) (sym d'.state);
-          allowed = below_more v s k scene.serving.world d'.below;
-          edits = refl;
-          alone = subst Alone (sym d'.state) (alone_kept (written (with_field d'.field)) s scene.alone);
-          variables_are = subst (λ a. Variables a variables numbers) (sym d'.state) (record { names = scene.variables_are.names; found = scene.variables_are.found; wide = scene.variables_are.wide });
-          held = held_listed slots variables taken width numbers scene.slots_hold;
-          reach = subst (λ m. Reach code (i + n) (reached q) v1 m v3 (λ b y. At b m (Body b v3 (listed slots width) taken) y)) e w;
-        } in
+    let v2 = fielded width d'.field v1 v.edits in
+    let v3 = dropped v.edits v2 in
+    let x = end_piece code (i + n + 12) (reached d'.reach) v2 (listed slots width) taken (word z) 1 36 (record { formats = FixedItem width ∷ []; rest = [] }) v.edits small' refl (omega (arith, inside)) at_end (reached_holds d'.reach) in
+    let w = reach_then d'.reach x in
+    let e : i + n + 12 + 2 ≡ i + n + 14 = omega arith in
+    record {
+      services = v3;
+      slots = listed slots width;
+      numbers = numbers;
+      world = ap (written (with_field d'.field)) scene.serving.world ∙ ap (λ (a : State). a.world) (sym d'.state);
+      allowed = below_more v s k scene.serving.world d'.below;
+      edits = refl;
+      alone = subst Alone (sym d'.state) (alone_kept (written (with_field d'.field)) s scene.alone);
+      variables_are = subst (λ a. Variables a variables numbers) (sym d'.state) (record { names = scene.variables_are.names; found = scene.variables_are.found; wide = scene.variables_are.wide });
+      held = held_listed slots variables taken width numbers scene.slots_hold;
+      reach = subst (λ m. Reach code (i + n) (reached q) v1 m v3 (λ b y. At b m (Body b v3 (listed slots width) taken) y)) e w;
+    } in
     let flow = comes_on code (i + n) (reached q) v1 fd dq k (M.field_written around (fixed_field width z) k s) nothing_more fp (λ x t d'. settle t d') in
     let flow' = comes_from dq done (flow_on k (M.field_written around (fixed_field width z) k s) nothing_more) q (λ x t d'. stmt_from v.edits variables taken k (n + 14) 14 t q (omega arith) d') flow in
     subst (λ a. Comes code i f v1 done (flow_on k (M.field_written around (fixed_field width z) k a) nothing_more)) (sym d.0) flow'
@@ -393,7 +393,7 @@ put_piece_after code i f v slots variables taken k around s numbers e width line
     let done = λ (x : Unit {0}) (t : State). StmtDone code i f v v.edits variables taken k (33 + n) t in
     let tail : ℤ → Meaning (Unit {0}) = λ z m u. flow_on m (M.field_written around (fixed_field width z) m u) nothing_more in
     let rest = comes_on code (i + 14 + 5) (reached r) v1 (NumberDone code (i + 14 + 5) (reached r) v1 (listed slots width) taken s n) done' k (M.number around e k s) tail ih
-        (λ z u d. field_rest code (i + 14 + 5) (reached r) v slots variables taken width k around s numbers n z u here.small' (omega (arith, inside)) h3 scene d) in
+    (λ z u d. field_rest code (i + 14 + 5) (reached r) v slots variables taken width k around s numbers n z u here.small' (omega (arith, inside)) h3 scene d) in
     let whole = comes_from done' done (flow_on k (M.number around e k s) tail) r (λ x t d. stmt_from v.edits variables taken k (33 + n) (n + 14) t r (omega arith) d) rest in
     comes_on code i f v done done k (flow_on k (M.number around e k s) tail) nothing_more whole (λ x t d. d)
 
@@ -412,11 +412,11 @@ put_piece code i f v slots variables taken k around s numbers e width line sup i
     let at_behind = along code (i + length front) (i + 5) behind refl (has_back code i front behind has) in
     let done = λ (x : Unit {0}) (t : State). StmtDone code i f v v.edits variables taken k size t in
     comes_on code i f v (λ x t. ActDone code i f v slots taken k line s t) done k (act counted k s) (λ x. M.pairs_put around' (put_of e width))
-        (act_piece code i f v slots taken k line s sup.line_small (omega (arith, inside, len)) (has_front code i front behind has) here begins.world begins.allowed begins.fits)
-        (λ x t d.
-            let r = d.reach in
-            let here' : Here code (i + 5) (reached r) v' slots taken = record { small' = here.small'; room = here.room; at = reached_holds r } in
-            let rest = put_piece_after code (i + 5) (reached r) v' slots variables taken k around' s' numbers e width line sup (omega (arith, inside, len)) at_behind here' (scene_of line begins d.below) in
-            let done' = λ (y : Unit {0}) (u : State). StmtDone code (i + 5) (reached r) v' v.edits variables taken k (33 + n) u in
-            let whole = comes_from done' done (M.pairs_put around' (put_of e width) k s') r (λ y u e'. stmt_from v.edits variables taken k size (33 + n) u r (omega (arith, len)) e') rest in
-            subst (λ u. Comes code i f v done (M.pairs_put around' (put_of e width) k u)) (sym d.state) whole)
+    (act_piece code i f v slots taken k line s sup.line_small (omega (arith, inside, len)) (has_front code i front behind has) here begins.world begins.allowed begins.fits)
+    (λ x t d.
+    let r = d.reach in
+    let here' : Here code (i + 5) (reached r) v' slots taken = record { small' = here.small'; room = here.room; at = reached_holds r } in
+    let rest = put_piece_after code (i + 5) (reached r) v' slots variables taken k around' s' numbers e width line sup (omega (arith, inside, len)) at_behind here' (scene_of line begins d.below) in
+    let done' = λ (y : Unit {0}) (u : State). StmtDone code (i + 5) (reached r) v' v.edits variables taken k (33 + n) u in
+    let whole = comes_from done' done (M.pairs_put around' (put_of e width) k s') r (λ y u e'. stmt_from v.edits variables taken k size (33 + n) u r (omega (arith, len)) e') rest in
+    subst (λ u. Comes code i f v done (M.pairs_put around' (put_of e width) k u)) (sym d.state) whole)

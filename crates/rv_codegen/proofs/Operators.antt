@@ -107,15 +107,15 @@ fitting o code i f v slots taken x y small' inside has wx wy wz at =
     let test = test_fits o x y wx wy wz in
     let j : (b : Base) → ((p b).machine.registers 13 == (p b).machine.registers 14) ≡ true = λ b. let h = (reached_holds c b).holds in ap (λ u. u == (p b).machine.registers 14) h.one ∙ ap (λ u. one_of o (word x) (word y) == u) h.other ∙ test in
     let q = hop code (i + 3) (i + 14) p v (λ b w. At b (i + 14) (Compared b v slots taken (result_of o (word x) (word y)) (one_of o (word x) (word y)) (other_of (word y))) w) (omega arith) (λ b. let h = reached_holds c b in let m = h.holds.body in
-        (_, branch_taken code b (i + 3) (i + 14) Test.Equal a3_register a4_register (pos 44) (p b) h.pc at_test.0 (j b) (skip_sum b (i + 3) 10 (omega (arith, inside, small')) ∙ ap (address b) (omega arith)), record { pc = refl; holds = record { body = record { service = m.service; zero' = m.zero'; frame = m.frame; bytes = m.bytes; slots_are = m.slots_are }; result = h.holds.result; one = h.holds.one; other = h.holds.other } })) in
+    (_, branch_taken code b (i + 3) (i + 14) Test.Equal a3_register a4_register (pos 44) (p b) h.pc at_test.0 (j b) (skip_sum b (i + 3) 10 (omega (arith, inside, small')) ∙ ap (address b) (omega arith)), record { pc = refl; holds = record { body = record { service = m.service; zero' = m.zero'; frame = m.frame; bytes = m.bytes; slots_are = m.slots_are }; result = h.holds.result; one = h.holds.one; other = h.holds.other } })) in
     let cq = reach_then c q in
     let last = I.Immediate Imm.Add a0_register a2_register (pos 0) ∷ [] in
     let at_last = along code (suc (i + 3) + length overflow_code) (i + 14) last (omega arith) (has_back code (suc (i + 3)) overflow_code last at_test.1) in
     let r = straight code (i + 14) (reached cq) v v last (λ b w. Valued b v slots taken (word (operator_result o x y)) w) small' (omega (arith, inside)) at_last (omega arith) (λ b. (reached_holds cq b).pc)
-        (λ b. let h = (reached_holds cq b).holds in let m = h.body in record {
-          body = record { service = m.service; zero' = m.zero'; frame = m.frame; bytes = m.bytes; slots_are = m.slots_are };
-          value = ap (λ u. sum u (word (pos 0))) (h.result ∙ result_fits o x y wx wy wz) ∙ moved_sum (word (operator_result o x y)) (word_small (operator_result o x y) wz);
-        }) in
+    (λ b. let h = (reached_holds cq b).holds in let m = h.body in record {
+      body = record { service = m.service; zero' = m.zero'; frame = m.frame; bytes = m.bytes; slots_are = m.slots_are };
+      value = ap (λ u. sum u (word (pos 0))) (h.result ∙ result_fits o x y wx wy wz) ∙ moved_sum (word (operator_result o x y)) (word_small (operator_result o x y) wz);
+    }) in
     let whole = reach_then cq r in
     let e : i + 14 + 1 ≡ i + 15 = omega arith in
     subst (λ n. Reach code i f v n v (λ b w. At b n (Valued b v slots taken (word (operator_result o x y))) w)) e whole
@@ -130,7 +130,7 @@ overflowing o code i f v slots taken k around s done x y small' room inside has 
     let test = test_over o x y wx wy over in
     let j : (b : Base) → ((p b).machine.registers 13 == (p b).machine.registers 14) ≡ false = λ b. let h = (reached_holds c b).holds in ap (λ u. u == (p b).machine.registers 14) h.one ∙ ap (λ u. one_of o (word x) (word y) == u) h.other ∙ test in
     let q = hop code (i + 3) (suc (i + 3)) p v (λ b w. At b (suc (i + 3)) (Body b v slots taken) w) (omega arith) (λ b. let h = reached_holds c b in let m = h.holds.body in
-        (_, branch_passed code b (i + 3) Test.Equal a3_register a4_register (pos 44) (p b) (omega (arith, inside, small')) h.pc at_test.0 (j b), record { pc = refl; holds = record { service = m.service; zero' = m.zero'; frame = m.frame; bytes = m.bytes; slots_are = m.slots_are } })) in
+    (_, branch_passed code b (i + 3) Test.Equal a3_register a4_register (pos 44) (p b) (omega (arith, inside, small')) h.pc at_test.0 (j b), record { pc = refl; holds = record { service = m.service; zero' = m.zero'; frame = m.frame; bytes = m.bytes; slots_are = m.slots_are } })) in
     let cq = reach_then c q in
     let here : Here code (suc (i + 3)) (reached cq) v slots taken = record { small' = small'; room = room; at = reached_holds cq } in
     comes_from done done (M.raised around C.FixedOverflow 20 k s) cq (λ u t d. d) (overflow_piece code (suc (i + 3)) (reached cq) v slots taken k around s done (omega (arith, inside)) (has_front code (suc (i + 3)) overflow_code (I.Immediate Imm.Add a0_register a2_register (pos 0) ∷ []) at_test.1) serving alone here)
@@ -141,8 +141,8 @@ value_by o true code i f v slots taken k around s x y e small' room inside has w
     (refl, e, fitting o code i f v slots taken x y small' inside has wx wy e at)
 value_by o false code i f v slots taken k around s x y e small' room inside has wx wy serving alone at =
     comes_on code i f v (λ u t. ⊥) (OperatorDone code i f v slots taken s) k (M.raised around C.FixedOverflow 20 k s) (λ u. give (wrapped 31 (operator_result o x y)))
-        (overflowing o code i f v slots taken k around s (λ u t. ⊥) x y small' room inside has wx wy e serving alone at)
-        (λ u t d. absurd d)
+    (overflowing o code i f v slots taken k around s (λ u t. ⊥) x y small' room inside has wx wy e serving alone at)
+    (λ u t d. absurd d)
 
 -- an operator on a1 and a0
 pub operator_piece : (o : Operator) (code : List Instr) (i : ℕ) (f : Family) (v : Service) (slots : ℕ → ℕ) (taken k : ℕ) (around : Around) (s : State) (x y : ℤ) → length code ≤ most_code → taken ≤ most_slots → i + 15 ≤ length code → HasAt code i (checked_code o) → IsWide x → IsWide y → Serving k s v around.line → Alone s → ((b : Base) → At b i (Paired b v slots taken (word x) (word y)) (f b)) → Comes code i f v (OperatorDone code i f v slots taken s) (M.value_of around (operator_applied o x y) k s)

@@ -93,20 +93,26 @@ constant_piece code i f v slots taken n h small' inside has =
 pub load_piece : (code : List Instr) (i : ℕ) (f : Family) (v : Service) (slots : ℕ → ℕ) (taken k : ℕ) → Here code i f v slots taken → k < taken → i + 3 ≤ length code → HasAt code i (slot_load a0_register k) → Reach code i f v (i + 3) v (λ b w. At b (i + 3) (Valued b v slots taken (slots k)) w)
 load_piece code i f v slots taken k h below inside has =
     straight code i f v v (slot_load a0_register k) (λ b w. Valued b v slots taken (slots k) w) h.small' inside has (omega arith) (λ b. (h.at b).pc)
-    (λ b. let o = (h.at b).holds in (slot_word b k _ (omega (arith, h.room)) o.frame, record {
-      body = record { service = o.service; zero' = o.zero'; frame = o.frame; bytes = o.bytes; slots_are = o.slots_are };
-      value = o.slots_are k below;
-    }))
+    (λ b. let o = (h.at b).holds in (
+      slot_word b k _ (omega (arith, h.room)) o.frame,
+      record {
+        body = record { service = o.service; zero' = o.zero'; frame = o.frame; bytes = o.bytes; slots_are = o.slots_are };
+        value = o.slots_are k below;
+      },
+    ))
 
 -- the operand that waits comes in a1
 pub load_left_piece : (code : List Instr) (i : ℕ) (f : Family) (v : Service) (slots : ℕ → ℕ) (taken k y : ℕ) → Here code i f v slots taken → ((b : Base) → (f b).machine.registers 10 ≡ y) → k < taken → i + 3 ≤ length code → HasAt code i (slot_load a1_register k) → Reach code i f v (i + 3) v (λ b w. At b (i + 3) (Paired b v slots taken (slots k) y) w)
 load_left_piece code i f v slots taken k y h value below inside has =
     straight code i f v v (slot_load a1_register k) (λ b w. Paired b v slots taken (slots k) y w) h.small' inside has (omega arith) (λ b. (h.at b).pc)
-    (λ b. let o = (h.at b).holds in (slot_word b k _ (omega (arith, h.room)) o.frame, record {
-      body = record { service = o.service; zero' = o.zero'; frame = o.frame; bytes = o.bytes; slots_are = o.slots_are };
-      left = o.slots_are k below;
-      right = value b;
-    }))
+    (λ b. let o = (h.at b).holds in (
+      slot_word b k _ (omega (arith, h.room)) o.frame,
+      record {
+        body = record { service = o.service; zero' = o.zero'; frame = o.frame; bytes = o.bytes; slots_are = o.slots_are };
+        left = o.slots_are k below;
+        right = value b;
+      },
+    ))
 
 apart : (t k : ℕ) → (t == k) ≡ false → (frame_offset + slot_bytes t + 4 ≤ frame_offset + slot_bytes k) ⊎ (frame_offset + slot_bytes k + 4 ≤ frame_offset + slot_bytes t)
 apart t k e = grind (arith, nat_tests)
@@ -131,21 +137,24 @@ pub store_piece : (code : List Instr) (i : ℕ) (f : Family) (v : Service) (slot
 store_piece code i f v slots taken taken' k x h value fits below grows inside has =
     straight code i f v v (slot_store a0_register k) (λ b w. Valued b v (put slots k x) taken' x w) h.small' inside has (omega arith) (λ b. (h.at b).pc)
     (λ b. let o = (h.at b).holds in
-        let m = (f b).machine.memory in
-        let e = value b in
-        (slot_word b k _ below o.frame, omega (arith, h.small'), record {
-          body = record {
-            service = o.service;
-            zero' = o.zero';
-            frame = o.frame;
-            bytes = length-store 4 m (frame_offset + slot_bytes k) ((f b).machine.registers 10) ∙ o.bytes;
-            slots_are = λ t u.
-                ap (λ y. load 4 (store 4 m (frame_offset + slot_bytes k) y) (frame_offset + slot_bytes t)) e
-                ∙ slot_stored m k x t o.bytes fits below
-                ∙ slots_put m slots k x t (t == k) (λ q. o.slots_are t (grows t u q));
-          };
-          value = e;
-        }))
+    let m = (f b).machine.memory in
+    let e = value b in (
+      slot_word b k _ below o.frame,
+      omega (arith, h.small'),
+      record {
+        body = record {
+          service = o.service;
+          zero' = o.zero';
+          frame = o.frame;
+          bytes = length-store 4 m (frame_offset + slot_bytes k) ((f b).machine.registers 10) ∙ o.bytes;
+          slots_are = λ t u.
+              ap (λ y. load 4 (store 4 m (frame_offset + slot_bytes k) y) (frame_offset + slot_bytes t)) e
+              ∙ slot_stored m k x t o.bytes fits below
+              ∙ slots_put m slots k x t (t == k) (λ q. o.slots_are t (grows t u q));
+        };
+        value = e;
+      },
+    ))
 
 pub small_sum : (z n : ℕ) → z ≡ 0 → n < 2 ^ 32 → sum z n ≡ n
 small_sum z n e h = omega (arith, e, h)

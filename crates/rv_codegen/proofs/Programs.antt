@@ -132,12 +132,12 @@ end_finish : (code : List Instr) (i : ℕ) (f : Family) (v : Service) (slots : �
 end_finish code i f v slots taken k s done inside has here world allowed fits =
     let front = small a0_register 0 ∷ small a1_register 0 ∷ small a7_register 2 ∷ [] in
     let r = straight code i f v v front (λ b w. Args b v slots taken 0 0 2 w) here.small' (omega (arith, inside)) (has.0, (has.1.0, (has.1.1.0, tt))) (omega arith) (λ b. (here.at b).pc)
-        (λ b. let o = (here.at b).holds in record {
-          body = record { service = o.service; zero' = o.zero'; frame = o.frame; bytes = o.bytes; slots_are = o.slots_are };
-          first = small_sum ((f b).machine.registers 0) 0 o.zero' (lit< tt);
-          second = small_sum ((f b).machine.registers 0) 0 o.zero' (lit< tt);
-          number = small_sum ((f b).machine.registers 0) 2 o.zero' (lit< tt);
-        }) in
+    (λ b. let o = (here.at b).holds in record {
+      body = record { service = o.service; zero' = o.zero'; frame = o.frame; bytes = o.bytes; slots_are = o.slots_are };
+      first = small_sum ((f b).machine.registers 0) 0 o.zero' (lit< tt);
+      second = small_sum ((f b).machine.registers 0) 0 o.zero' (lit< tt);
+      number = small_sum ((f b).machine.registers 0) 2 o.zero' (lit< tt);
+    }) in
     let v' = S.with_world (ending E.Finished v.world) v in
     let c : Calling code (i + 3) (reached r) v slots taken 2 (Ends v') = record {
       inside = omega (arith, inside);
@@ -218,25 +218,25 @@ body_piece n k m head body input t sup small' fits made =
     let done = λ (x : Unit {0}) (u : State). BodyDone code f v taken k (6 + size) u in
     let done1 = λ (x : Unit {0}) (u : State). BodyDone1 code (reached r) v taken k (6 + size) u in
     let flow = comes_on code 1 (reached r) v (λ x u. ActDone code 1 (reached r) v none taken k head.line t u) done1 k (act counted k t) (λ x. M.statements around body)
-        (act_piece code 1 (reached r) v none taken k head.line t sup.line_small (omega (arith, len)) (has_front code 1 front (middle ++ finish_code) at_front) here (sym made.world) (omega arith) fits)
-        (λ x u d.
-            let q = d.reach in
-            let here' : Here code 6 (reached q) v' none taken = record { small' = small'; room = room; at = reached_holds q } in
-            let vars = numbers_made t m made in
-            let alone = alone_made t m made in
-            let begins : Begins k t' v' none m taken (λ j. pos 0) = record {
-              world = ap counted (sym made.world);
-              allowed = below_more v t k (sym made.world) d.below;
-              fits = fits;
-              alone = alone_kept counted t alone;
-              variables_are = record { names = vars.names; found = vars.found; wide = vars.wide };
-              held = record { room = omega arith; held = λ j h. refl };
-            } in
-            let c = stmts_piece body code 6 (reached q) v' none m taken k around t' (λ j. pos 0) sup.statements (omega (arith, len, size')) at_middle' here' begins in
-            let done2 = λ (y : Unit {0}) (w : State). StmtDone code 6 (reached q) v' v'.edits m taken k (length middle') w in
-            let e : 6 + length middle' ≡ 6 + size = omega (arith, size') in
-            let whole = comes_from done2 done1 (M.statements around body k t') q (λ y w e'. record { services = e'.services; slots = e'.slots; world = e'.world; allowed = e'.allowed; reach = subst (λ z. Reach code 1 (reached r) v z e'.services (λ b y'. At b z (Body b e'.services e'.slots taken) y')) e (reach_then q e'.reach) }) c in
-            subst (λ w. Comes code 1 (reached r) v done1 (M.statements around body k w)) (sym d.state) whole) in
+    (act_piece code 1 (reached r) v none taken k head.line t sup.line_small (omega (arith, len)) (has_front code 1 front (middle ++ finish_code) at_front) here (sym made.world) (omega arith) fits)
+    (λ x u d.
+    let q = d.reach in
+    let here' : Here code 6 (reached q) v' none taken = record { small' = small'; room = room; at = reached_holds q } in
+    let vars = numbers_made t m made in
+    let alone = alone_made t m made in
+    let begins : Begins k t' v' none m taken (λ j. pos 0) = record {
+      world = ap counted (sym made.world);
+      allowed = below_more v t k (sym made.world) d.below;
+      fits = fits;
+      alone = alone_kept counted t alone;
+      variables_are = record { names = vars.names; found = vars.found; wide = vars.wide };
+      held = record { room = omega arith; held = λ j h. refl };
+    } in
+    let c = stmts_piece body code 6 (reached q) v' none m taken k around t' (λ j. pos 0) sup.statements (omega (arith, len, size')) at_middle' here' begins in
+    let done2 = λ (y : Unit {0}) (w : State). StmtDone code 6 (reached q) v' v'.edits m taken k (length middle') w in
+    let e : 6 + length middle' ≡ 6 + size = omega (arith, size') in
+    let whole = comes_from done2 done1 (M.statements around body k t') q (λ y w e'. record { services = e'.services; slots = e'.slots; world = e'.world; allowed = e'.allowed; reach = subst (λ z. Reach code 1 (reached r) v z e'.services (λ b y'. At b z (Body b e'.services e'.slots taken) y')) e (reach_then q e'.reach) }) c in
+    subst (λ w. Comes code 1 (reached r) v done1 (M.statements around body k w)) (sym d.state) whole) in
     comes_from done1 done (flow_on k (act counted k t) (λ x. M.statements around body)) r (λ x u d. record { services = d.services; slots = d.slots; world = d.world; allowed = d.allowed; reach = reach_then r d.reach }) flow
 
 -- leaving a block shows nothing
@@ -281,7 +281,7 @@ simulates k m head body input sup small' fits =
     let middle = stmts_code (first_variable + length head.variables) body in
     let at_end = has_back code 6 middle finish_code (along code (1 + length front) 6 (middle ++ finish_code) refl (has_back code 1 front (middle ++ finish_code) all.1)) in
     let flow = comes_on code 0 f v done' none' k (left M.with_newest_closed inner) (λ x. finish E.Finished) l
-        (λ x u d.
-            let here : Here code size (reached d.reach) d.services d.slots taken = record { small' = small'; room = omega (arith, sup.room); at = reached_holds d.reach } in
-            comes_from none' none' (finish E.Finished k u) d.reach (λ y w e. e) (end_finish code size (reached d.reach) d.services d.slots taken k u none' (omega (arith, len)) at_end here d.world d.allowed fits)) in
+    (λ x u d.
+    let here : Here code size (reached d.reach) d.services d.slots taken = record { small' = small'; room = omega (arith, sup.room); at = reached_holds d.reach } in
+    comes_from none' none' (finish E.Finished k u) d.reach (λ y w e. e) (end_finish code size (reached d.reach) d.services d.slots taken k u none' (omega (arith, len)) at_end here d.world d.allowed fits)) in
     subst (Comes code 0 f v none') (sym whole) flow

@@ -112,14 +112,14 @@ error_piece code i f v slots taken n k around s R done small' coded inside has s
     let rq = reach_then r q in
     let s' = with_world (raising C.Error n) s in
     let rest : s.world.acts < k → Comes code i f v done (M.error_unit_run {R = R} around n (force s.activations C.Error) k s') = λ below.
-        let serving' : Serving k s' v' around.line = record { world = ap (raising C.Error n) serving.world; line_is = serving.line_is; allowed = below_more v s k serving.world below; fits = serving.fits } in
-        let e = error_end code (i + 2 + 1) (reached rq) v' slots taken n k around.line s' R done small' coded (omega (arith, inside)) (along code (suc (suc (suc i))) (i + 2 + 1) (small a0_register 2 ∷ call 2) (omega arith) has.1.1.1) serving' (λ b. record { pc = (reached_holds rq b).pc; holds = record { body = (reached_holds rq b).holds.body; code_is = (reached_holds rq b).holds.second } }) in
-        let here = comes_from done done (finish {R = R} (E.Error n around.line) k s') rq (λ x t d. d) e in
-        subst (λ u. Comes code i f v done (M.error_unit_run {R = R} around n u k s')) (sym (alone.none C.Error)) here in
+    let serving' : Serving k s' v' around.line = record { world = ap (raising C.Error n) serving.world; line_is = serving.line_is; allowed = below_more v s k serving.world below; fits = serving.fits } in
+    let e = error_end code (i + 2 + 1) (reached rq) v' slots taken n k around.line s' R done small' coded (omega (arith, inside)) (along code (suc (suc (suc i))) (i + 2 + 1) (small a0_register 2 ∷ call 2) (omega arith) has.1.1.1) serving' (λ b. record { pc = (reached_holds rq b).pc; holds = record { body = (reached_holds rq b).holds.body; code_is = (reached_holds rq b).holds.second } }) in
+    let here = comes_from done done (finish {R = R} (E.Error n around.line) k s') rq (λ x t d. d) e in
+    subst (λ u. Comes code i f v done (M.error_unit_run {R = R} around n u k s')) (sym (alone.none C.Error)) here in
     let done' : Unit {0} → State → Type 0 = λ x t. (t ≡ s') × (s.world.acts < k) in
     comes_on code i f v done' done k (act (raising C.Error n) k s) (λ x. ◌>>=◌ looked (λ t. M.error_unit_run {R = R} around n (force t.activations C.Error)))
-        (comes_act code i f v done' (raising C.Error n) k s serving.world pauses (λ below. (refl, below)))
-        (λ x t d. subst (λ u. Comes code i f v done (M.error_unit_run {R = R} around n (force u.activations C.Error) k u)) (sym d.0) (rest d.1))
+    (comes_act code i f v done' (raising C.Error n) k s serving.world pauses (λ below. (refl, below)))
+    (λ x t d. subst (λ u. Comes code i f v done (M.error_unit_run {R = R} around n (force u.activations C.Error) k u)) (sym d.0) (rest d.1))
 
 -- FIXEDOVERFLOW is raised; without a unit ERROR follows
 pub overflow_piece : (code : List Instr) (i : ℕ) (f : Family) (v : Service) (slots : ℕ → ℕ) (taken k : ℕ) (around : Around) (s : State) (done : Unit {0} → State → Type 0) → i + 10 ≤ length code → HasAt code i overflow_code → Serving k s v around.line → Alone s → Here code i f v slots taken → Comes code i f v done (M.raised around C.FixedOverflow 20 k s)
@@ -127,11 +127,11 @@ unfolding M.raised M.unit_run ◌>>◌ ◌>>=◌ looked
 overflow_piece code i f v slots taken k around s done inside has serving alone h =
     let front = small a0_register 2 ∷ small a1_register 20 ∷ small a7_register 30 ∷ [] in
     let r = straight code i f v v front (λ b w. Args b v slots taken 2 20 30 w) h.small' (omega (arith, inside)) (has.0, (has.1.0, (has.1.1.0, tt))) (omega arith) (λ b. (h.at b).pc) (λ b. let o = (h.at b).holds in record {
-        body = record { service = o.service; zero' = o.zero'; frame = o.frame; bytes = o.bytes; slots_are = o.slots_are };
-        first = small_sum ((f b).machine.registers 0) 2 o.zero' (lit< tt);
-        second = small_sum ((f b).machine.registers 0) 20 o.zero' (lit< tt);
-        number = small_sum ((f b).machine.registers 0) 30 o.zero' (lit< tt);
-      }) in
+      body = record { service = o.service; zero' = o.zero'; frame = o.frame; bytes = o.bytes; slots_are = o.slots_are };
+      first = small_sum ((f b).machine.registers 0) 2 o.zero' (lit< tt);
+      second = small_sum ((f b).machine.registers 0) 20 o.zero' (lit< tt);
+      number = small_sum ((f b).machine.registers 0) 30 o.zero' (lit< tt);
+    }) in
     let v' = raised_by C.FixedOverflow 20 v in
     let c = raise_calling code (i + 3) (reached r) v slots taken 2 20 k C.FixedOverflow (omega (arith, inside)) (along code (suc (suc (suc i))) (i + 3) (I.Ecall ∷ []) (omega arith) (has.1.1.1.0, tt)) refl (lit< tt) serving.allowed serving.fits (reached_holds r) in
     let pauses = pausing_then r (call_pauses code (i + 3) (reached r) v v' slots taken 30 0 20 (add-one v.world.acts) c) in
@@ -139,11 +139,11 @@ overflow_piece code i f v slots taken k around s done inside has serving alone h
     let rq = reach_then r q in
     let s' = with_world (raising C.FixedOverflow 20) s in
     let rest : s.world.acts < k → Comes code i f v done (M.unit_run around 20 (force s.activations C.FixedOverflow) k s') = λ below.
-        let serving' : Serving k s' v' around.line = record { world = ap (raising C.FixedOverflow 20) serving.world; line_is = serving.line_is; allowed = below_more v s k serving.world below; fits = serving.fits } in
-        let e = error_piece code (i + 3 + 1) (reached rq) v' slots taken 20 k around s' (Unit {0}) done h.small' (lit< tt) (omega (arith, inside)) (along code (suc (suc (suc (suc i)))) (i + 3 + 1) error_code (omega arith) has.1.1.1.1) serving' (alone_kept (raising C.FixedOverflow 20) s alone) (λ b. record { pc = (reached_holds rq b).pc; holds = record { body = (reached_holds rq b).holds.body; code_is = (reached_holds rq b).holds.second } }) in
-        let here = comes_from done done (M.error_raised around 20 k s') rq (λ x t d. d) e in
-        subst (λ u. Comes code i f v done (M.unit_run around 20 u k s')) (sym (alone.none C.FixedOverflow)) here in
+    let serving' : Serving k s' v' around.line = record { world = ap (raising C.FixedOverflow 20) serving.world; line_is = serving.line_is; allowed = below_more v s k serving.world below; fits = serving.fits } in
+    let e = error_piece code (i + 3 + 1) (reached rq) v' slots taken 20 k around s' (Unit {0}) done h.small' (lit< tt) (omega (arith, inside)) (along code (suc (suc (suc (suc i)))) (i + 3 + 1) error_code (omega arith) has.1.1.1.1) serving' (alone_kept (raising C.FixedOverflow 20) s alone) (λ b. record { pc = (reached_holds rq b).pc; holds = record { body = (reached_holds rq b).holds.body; code_is = (reached_holds rq b).holds.second } }) in
+    let here = comes_from done done (M.error_raised around 20 k s') rq (λ x t d. d) e in
+    subst (λ u. Comes code i f v done (M.unit_run around 20 u k s')) (sym (alone.none C.FixedOverflow)) here in
     let done' : Unit {0} → State → Type 0 = λ x t. (t ≡ s') × (s.world.acts < k) in
     comes_on code i f v done' done k (act (raising C.FixedOverflow 20) k s) (λ x. ◌>>=◌ looked (λ t. M.unit_run around 20 (force t.activations C.FixedOverflow)))
-        (comes_act code i f v done' (raising C.FixedOverflow 20) k s serving.world pauses (λ below. (refl, below)))
-        (λ x t d. subst (λ u. Comes code i f v done (M.unit_run around 20 (force u.activations C.FixedOverflow) k u)) (sym d.0) (rest d.1))
+    (comes_act code i f v done' (raising C.FixedOverflow 20) k s serving.world pauses (λ below. (refl, below)))
+    (λ x t d. subst (λ u. Comes code i f v done (M.unit_run around 20 (force u.activations C.FixedOverflow) k u)) (sym d.0) (rest d.1))

@@ -124,9 +124,9 @@ stmts_piece (StmtThen labels first rest) code i f v slots variables taken k arou
     let size = length (a ++ c) in
     let done = λ (y : Unit {0}) (t : State). StmtDone code i f v v.edits variables taken k size t in
     comes_on code i f v (λ y t. StmtDone code i f v v.edits variables taken k (length a) t) done k (M.statement around first k s) (λ y. M.statements around rest)
-        (stmt_piece first code i f v slots variables taken k around s numbers sup.0 (omega (arith, inside, len)) (has_front code i a c has) here begins)
-        (λ y t d.
-            let here' : Here code (i + length a) (reached d.reach) d.services d.slots taken = record { small' = here.small'; room = here.room; at = reached_holds d.reach } in
-            let r = stmts_piece rest code (i + length a) (reached d.reach) d.services d.slots variables taken k around t d.numbers sup.1 (omega (arith, inside, len)) (has_back code i a c has) here' (next_begins begins.fits d) in
-            let done' = λ (z : Unit {0}) (u : State). StmtDone code (i + length a) (reached d.reach) d.services d.services.edits variables taken k (length c) u in
-            comes_from done' done (M.statements around rest k t) d.reach (λ z u e. stmt_from v.edits variables taken k size (length c) u d.reach (omega (arith, len)) (with_edits d.edits e)) r)
+    (stmt_piece first code i f v slots variables taken k around s numbers sup.0 (omega (arith, inside, len)) (has_front code i a c has) here begins)
+    (λ y t d.
+    let here' : Here code (i + length a) (reached d.reach) d.services d.slots taken = record { small' = here.small'; room = here.room; at = reached_holds d.reach } in
+    let r = stmts_piece rest code (i + length a) (reached d.reach) d.services d.slots variables taken k around t d.numbers sup.1 (omega (arith, inside, len)) (has_back code i a c has) here' (next_begins begins.fits d) in
+    let done' = λ (z : Unit {0}) (u : State). StmtDone code (i + length a) (reached d.reach) d.services d.services.edits variables taken k (length c) u in
+    comes_from done' done (M.statements around rest k t) d.reach (λ z u e. stmt_from v.edits variables taken k size (length c) u d.reach (omega (arith, len)) (with_edits d.edits e)) r)

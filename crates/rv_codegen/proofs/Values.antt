@@ -150,8 +150,8 @@ number_piece (Signed Positive e) code i f v slots variables taken k around s num
     let size = length (number_code taken e) in
     let done = NumberDone code i f v slots taken s size in
     comes_on code i f v done done k (M.number around e k s) (λ z. M.value_of around (sign_applied Positive z))
-        (number_piece e code i f v slots variables taken k around s numbers sup inside has here scene)
-        (λ z t d. subst (Comes code i f v done) (sym (fits_gives around z k t d.1)) (subst (λ u. Comes code i f v done (give z k u)) (sym d.0) (give_done code i f v slots taken s size k z d.1 d.2)))
+    (number_piece e code i f v slots variables taken k around s numbers sup inside has here scene)
+    (λ z t d. subst (Comes code i f v done) (sym (fits_gives around z k t d.1)) (subst (λ u. Comes code i f v done (give z k u)) (sym d.0) (give_done code i f v slots taken s size k z d.1 d.2)))
 number_piece (Signed Negative e) code i f v slots variables taken k around s numbers sup inside has here scene =
     let first = number_code taken e in
     let last = small a1_register 0 ∷ checked_code Subtract in
@@ -159,22 +159,22 @@ number_piece (Signed Negative e) code i f v slots variables taken k around s num
     let len : length (number_code taken (Signed Negative e)) ≡ n + 16 = length-append first last in
     let done = NumberDone code i f v slots taken s (length (number_code taken (Signed Negative e))) in
     comes_on code i f v (NumberDone code i f v slots taken s n) done k (M.number around e k s) (λ z. M.value_of around (sign_applied Negative z))
-        (number_piece e code i f v slots variables taken k around s numbers sup (omega (arith, inside, len)) (has_front code i first last has) here scene)
-        (λ z t d.
-            let r = d.2 in
-            let at_last = has_back code i first last has in
-            let q = straight code (i + n) (reached r) v v (small a1_register 0 ∷ []) (λ b w. Paired b v slots taken (word (pos 0)) (word z) w) here.small' (omega (arith, inside, len)) (at_last.0, tt) (omega arith) (λ b. (reached_holds r b).pc)
-                (λ b. let o = (reached_holds r b).holds in let m = o.body in record {
-                  body = record { service = m.service; zero' = m.zero'; frame = m.frame; bytes = m.bytes; slots_are = m.slots_are };
-                  left = small_sum ((reached r b).machine.registers 0) 0 m.zero' (lit< tt);
-                  right = o.value;
-                }) in
-            let rq = reach_then r q in
-            let o = operator_piece Subtract code (i + n + 1) (reached rq) v slots taken k around s (pos 0) z here.small' here.room (omega (arith, inside, len)) (along code (suc (i + n)) (i + n + 1) (checked_code Subtract) (omega arith) at_last.1) refl d.1 scene.serving scene.alone (reached_holds rq) in
-            let c = comes_from (OperatorDone code (i + n + 1) (reached rq) v slots taken s) done (M.value_of around (operator_applied Subtract (pos 0) z) k s) rq
-                (λ z' t' d'. (d'.0, d'.1, subst (λ m. Reach code i f v m v (λ b w. At b m (Valued b v slots taken (word z')) w)) (omega (arith, len)) (reach_then rq d'.2))) o in
-            let c' = subst (λ u. Comes code i f v done (M.value_of around (checked 31 u) k s)) (negated z) c in
-            subst (λ u. Comes code i f v done (M.value_of around (sign_applied Negative z) k u)) (sym d.0) c')
+    (number_piece e code i f v slots variables taken k around s numbers sup (omega (arith, inside, len)) (has_front code i first last has) here scene)
+    (λ z t d.
+    let r = d.2 in
+    let at_last = has_back code i first last has in
+    let q = straight code (i + n) (reached r) v v (small a1_register 0 ∷ []) (λ b w. Paired b v slots taken (word (pos 0)) (word z) w) here.small' (omega (arith, inside, len)) (at_last.0, tt) (omega arith) (λ b. (reached_holds r b).pc)
+    (λ b. let o = (reached_holds r b).holds in let m = o.body in record {
+      body = record { service = m.service; zero' = m.zero'; frame = m.frame; bytes = m.bytes; slots_are = m.slots_are };
+      left = small_sum ((reached r b).machine.registers 0) 0 m.zero' (lit< tt);
+      right = o.value;
+    }) in
+    let rq = reach_then r q in
+    let o = operator_piece Subtract code (i + n + 1) (reached rq) v slots taken k around s (pos 0) z here.small' here.room (omega (arith, inside, len)) (along code (suc (i + n)) (i + n + 1) (checked_code Subtract) (omega arith) at_last.1) refl d.1 scene.serving scene.alone (reached_holds rq) in
+    let c = comes_from (OperatorDone code (i + n + 1) (reached rq) v slots taken s) done (M.value_of around (operator_applied Subtract (pos 0) z) k s) rq
+    (λ z' t' d'. (d'.0, d'.1, subst (λ m. Reach code i f v m v (λ b w. At b m (Valued b v slots taken (word z')) w)) (omega (arith, len)) (reach_then rq d'.2))) o in
+    let c' = subst (λ u. Comes code i f v done (M.value_of around (checked 31 u) k s)) (negated z) c in
+    subst (λ u. Comes code i f v done (M.value_of around (sign_applied Negative z) k u)) (sym d.0) c')
 number_piece (Operated operator left right) code i f v slots variables taken k around s numbers sup inside has here scene =
     let a = number_code taken left in
     let c = number_code (suc taken) right in
@@ -191,24 +191,24 @@ number_piece (Operated operator left right) code i f v slots variables taken k a
     let at_back = has_back code (i + n + 3) c (back ++ last) at_right in
     let at_last = along code (i + n + 3 + m + length back) (i + n + 3 + m + 3) last refl (has_back code (i + n + 3 + m) back last at_back) in
     comes_on code i f v (NumberDone code i f v slots taken s n) done k (M.number around left k s) (λ x. ◌>>=◌ (M.number around right) (λ y. M.value_of around (operator_applied operator x y)))
-        (number_piece left code i f v slots variables taken k around s numbers sup.1 (omega (arith, inside, len)) (has_front code i a behind has) here scene)
-        (λ x t d.
-            let r = d.2 in
-            let slots' = put slots taken (word x) in
-            let stored = store_piece code (i + n) (reached r) v slots taken (suc taken) taken (word x) (record { small' = here.small'; room = here.room; at = λ b. record { pc = (reached_holds r b).pc; holds = (reached_holds r b).holds.body } }) (λ b. (reached_holds r b).holds.value) (word_small x d.1) (omega (arith, sup.0)) (λ u h e. grows u taken h e) (omega (arith, inside, len)) (has_front code (i + n) save (c ++ (back ++ last)) at_save) in
-            let rs = reach_then r stored in
-            let here' : Here code (i + n + 3) (reached rs) v slots' (suc taken) = record { small' = here.small'; room = sup.0; at = λ b. record { pc = (reached_holds rs b).pc; holds = (reached_holds rs b).holds.body } } in
-            let ih = number_piece right code (i + n + 3) (reached rs) v slots' variables (suc taken) k around s numbers sup.2 (omega (arith, inside, len)) (has_front code (i + n + 3) c (back ++ last) at_right) here' (scene_put (word x) scene) in
-            let done' = NumberDone code (i + n + 3) (reached rs) v slots' (suc taken) s m in
-            let both = comes_on code (i + n + 3) (reached rs) v done' (λ z u. (u ≡ s) × IsWide z × Reach code (i + n + 3) (reached rs) v (i + n + 3 + m + 3 + 15) v (λ b w. At b (i + n + 3 + m + 3 + 15) (Valued b v slots taken (word z)) w)) k (M.number around right k s) (λ y. M.value_of around (operator_applied operator x y)) ih
-                (λ y u d'.
-                    let r' = d'.2 in
-                    let loaded = load_left_piece code (i + n + 3 + m) (reached r') v slots' (suc taken) taken (word y) (record { small' = here.small'; room = sup.0; at = λ b. record { pc = (reached_holds r' b).pc; holds = (reached_holds r' b).holds.body } }) (λ b. (reached_holds r' b).holds.value) (omega arith) (omega (arith, inside, len)) (has_front code (i + n + 3 + m) back last at_back) in
-                    let paired = reach_map (λ b w. At b (i + n + 3 + m + 3) (Paired b v slots taken (word x) (word y)) w) loaded (λ b w h. record { pc = h.pc; holds = record { body = body_less b v slots taken (word x) w h.holds.body; left = h.holds.left ∙ put_same slots taken (word x); right = h.holds.right } }) in
-                    let rp = reach_then r' paired in
-                    let o = operator_piece operator code (i + n + 3 + m + 3) (reached rp) v slots taken k around s x y here.small' here.room (omega (arith, inside, len)) at_last d.1 d'.1 scene.serving scene.alone (reached_holds rp) in
-                    let e = comes_from (OperatorDone code (i + n + 3 + m + 3) (reached rp) v slots taken s) (λ z w. (w ≡ s) × IsWide z × Reach code (i + n + 3) (reached rs) v (i + n + 3 + m + 3 + 15) v (λ b w'. At b (i + n + 3 + m + 3 + 15) (Valued b v slots taken (word z)) w')) (M.value_of around (operator_applied operator x y) k s) rp (λ z w d''. (d''.0, d''.1, reach_then rp d''.2)) o in
-                    subst (λ w. Comes code (i + n + 3) (reached rs) v (λ z w. (w ≡ s) × IsWide z × Reach code (i + n + 3) (reached rs) v (i + n + 3 + m + 3 + 15) v (λ b w'. At b (i + n + 3 + m + 3 + 15) (Valued b v slots taken (word z)) w')) (M.value_of around (operator_applied operator x y) k w)) (sym d'.0) e) in
-            let whole = comes_from (λ z u. (u ≡ s) × IsWide z × Reach code (i + n + 3) (reached rs) v (i + n + 3 + m + 3 + 15) v (λ b w. At b (i + n + 3 + m + 3 + 15) (Valued b v slots taken (word z)) w)) done (flow_on k (M.number around right k s) (λ y. M.value_of around (operator_applied operator x y))) rs
-                (λ z u d'. (d'.0, d'.1, subst (λ w. Reach code i f v w v (λ b w'. At b w (Valued b v slots taken (word z)) w')) (omega (arith, len)) (reach_then rs d'.2))) both in
-            subst (λ u. Comes code i f v done (flow_on k (M.number around right k u) (λ y. M.value_of around (operator_applied operator x y)))) (sym d.0) whole)
+    (number_piece left code i f v slots variables taken k around s numbers sup.1 (omega (arith, inside, len)) (has_front code i a behind has) here scene)
+    (λ x t d.
+    let r = d.2 in
+    let slots' = put slots taken (word x) in
+    let stored = store_piece code (i + n) (reached r) v slots taken (suc taken) taken (word x) (record { small' = here.small'; room = here.room; at = λ b. record { pc = (reached_holds r b).pc; holds = (reached_holds r b).holds.body } }) (λ b. (reached_holds r b).holds.value) (word_small x d.1) (omega (arith, sup.0)) (λ u h e. grows u taken h e) (omega (arith, inside, len)) (has_front code (i + n) save (c ++ (back ++ last)) at_save) in
+    let rs = reach_then r stored in
+    let here' : Here code (i + n + 3) (reached rs) v slots' (suc taken) = record { small' = here.small'; room = sup.0; at = λ b. record { pc = (reached_holds rs b).pc; holds = (reached_holds rs b).holds.body } } in
+    let ih = number_piece right code (i + n + 3) (reached rs) v slots' variables (suc taken) k around s numbers sup.2 (omega (arith, inside, len)) (has_front code (i + n + 3) c (back ++ last) at_right) here' (scene_put (word x) scene) in
+    let done' = NumberDone code (i + n + 3) (reached rs) v slots' (suc taken) s m in
+    let both = comes_on code (i + n + 3) (reached rs) v done' (λ z u. (u ≡ s) × IsWide z × Reach code (i + n + 3) (reached rs) v (i + n + 3 + m + 3 + 15) v (λ b w. At b (i + n + 3 + m + 3 + 15) (Valued b v slots taken (word z)) w)) k (M.number around right k s) (λ y. M.value_of around (operator_applied operator x y)) ih
+    (λ y u d'.
+    let r' = d'.2 in
+    let loaded = load_left_piece code (i + n + 3 + m) (reached r') v slots' (suc taken) taken (word y) (record { small' = here.small'; room = sup.0; at = λ b. record { pc = (reached_holds r' b).pc; holds = (reached_holds r' b).holds.body } }) (λ b. (reached_holds r' b).holds.value) (omega arith) (omega (arith, inside, len)) (has_front code (i + n + 3 + m) back last at_back) in
+    let paired = reach_map (λ b w. At b (i + n + 3 + m + 3) (Paired b v slots taken (word x) (word y)) w) loaded (λ b w h. record { pc = h.pc; holds = record { body = body_less b v slots taken (word x) w h.holds.body; left = h.holds.left ∙ put_same slots taken (word x); right = h.holds.right } }) in
+    let rp = reach_then r' paired in
+    let o = operator_piece operator code (i + n + 3 + m + 3) (reached rp) v slots taken k around s x y here.small' here.room (omega (arith, inside, len)) at_last d.1 d'.1 scene.serving scene.alone (reached_holds rp) in
+    let e = comes_from (OperatorDone code (i + n + 3 + m + 3) (reached rp) v slots taken s) (λ z w. (w ≡ s) × IsWide z × Reach code (i + n + 3) (reached rs) v (i + n + 3 + m + 3 + 15) v (λ b w'. At b (i + n + 3 + m + 3 + 15) (Valued b v slots taken (word z)) w')) (M.value_of around (operator_applied operator x y) k s) rp (λ z w d''. (d''.0, d''.1, reach_then rp d''.2)) o in
+    subst (λ w. Comes code (i + n + 3) (reached rs) v (λ z w. (w ≡ s) × IsWide z × Reach code (i + n + 3) (reached rs) v (i + n + 3 + m + 3 + 15) v (λ b w'. At b (i + n + 3 + m + 3 + 15) (Valued b v slots taken (word z)) w')) (M.value_of around (operator_applied operator x y) k w)) (sym d'.0) e) in
+    let whole = comes_from (λ z u. (u ≡ s) × IsWide z × Reach code (i + n + 3) (reached rs) v (i + n + 3 + m + 3 + 15) v (λ b w. At b (i + n + 3 + m + 3 + 15) (Valued b v slots taken (word z)) w)) done (flow_on k (M.number around right k s) (λ y. M.value_of around (operator_applied operator x y))) rs
+    (λ z u d'. (d'.0, d'.1, subst (λ w. Reach code i f v w v (λ b w'. At b w (Valued b v slots taken (word z)) w')) (omega (arith, len)) (reach_then rs d'.2))) both in
+    subst (λ u. Comes code i f v done (flow_on k (M.number around right k u) (λ y. M.value_of around (operator_applied operator x y)))) (sym d.0) whole)

@@ -1,4 +1,5 @@
 // From a program to its code.
 #![tactic(auto)]
 
+mod parts;
 mod registers;
