@@ -11,3 +11,4 @@ pub mod Statements
 pub mod Entries
 pub mod Programs
 pub mod Promises
+pub mod Places

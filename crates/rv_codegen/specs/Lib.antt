@@ -1,2 +1,4 @@
 pub mod Registers
 pub mod Code
+pub mod Weights
+pub mod Emitted

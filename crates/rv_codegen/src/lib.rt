@@ -1,5 +1,7 @@
 // From a program to its code.
 #![tactic(auto)]
 
+mod expressions;
+mod names;
 mod parts;
 mod registers;
