@@ -1,6 +1,6 @@
 -- The typed tree of a tree, for the sources that are compiled so far: one procedure with OPTIONS(MAIN) and one label;
 -- in it declarations of FIXED BINARY(31), then assignments, and PUT EDIT of one expression by one F(w).
-use Rattle.std.specs.Prelude.{ℕ, zero, suc, ◌+◌, List, [], ◌∷◌, ◌++◌, map, Option, Some, None, Bool, true, false, ◌==◌, ◌&&◌, nat_le, max, if◌then◌else◌}
+use Rattle.std.specs.Prelude.{ℕ, zero, suc, ◌+◌, ◌^◌, List, [], ◌∷◌, ◌++◌, map, Option, Some, None, Bool, true, false, ◌==◌, ◌&&◌, nat_le, nat_lt, max, if◌then◌else◌}
 use Rattle.std.specs.Option.{option_and_then}
 use Rattle.pli_meaning.specs.declared.expr.PrefixOp.TheVariants as P
 use Rattle.pli_meaning.specs.declared.expr.PrefixOp.{PrefixOp}
@@ -51,8 +51,12 @@ abbrev pub typed_reference : Scope → T.Reference → Option Y.Variable
 typed_reference scope (T.Plain (T.Last name T.Absent)) = variable_named scope name.letters
 typed_reference scope _ = None
 
+-- a constant of 31 bits
+abbrev pub typed_constant : ℕ → Option Y.Number
+typed_constant n = if nat_lt n (2 ^ wide) then Some (Y.Constant n) else None
+
 abbrev pub typed_expr : Scope → T.Expr → Option Y.Number
-typed_expr scope (T.Number n place) = Some (Y.Constant n)
+typed_expr scope (T.Number n place) = typed_constant n
 typed_expr scope (T.Parenthesized e place) = typed_expr scope e and_then (λ e'. Some (Y.Grouped e'))
 typed_expr scope (T.Prefix op e place) =
     sign_of op and_then (λ s. typed_expr scope e and_then (λ e'. Some (Y.Signed s e')))

@@ -12,3 +12,4 @@ pub mod Entries
 pub mod Programs
 pub mod Promises
 pub mod Places
+pub mod Counts

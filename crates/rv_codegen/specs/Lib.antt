@@ -2,3 +2,4 @@ pub mod Registers
 pub mod Code
 pub mod Weights
 pub mod Emitted
+pub mod Promise
