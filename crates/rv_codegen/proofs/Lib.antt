@@ -12,4 +12,7 @@ pub mod Entries
 pub mod Programs
 pub mod Promises
 pub mod Places
+pub mod Fitting
+pub mod Expressions
+pub mod Bodies
 pub mod Counts
