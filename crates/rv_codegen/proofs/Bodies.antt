@@ -112,3 +112,81 @@ pair_emits scope taken line (T.ExprThen e T.NoExpr) f (Some formats) p g few fou
     subst (λ n. StmtEmits (length scope) taken n (act_code line ++ (pair_put scope taken (T.ExprThen e T.NoExpr) (width_of f) ++ [])) (Y.Put (p ∷ []) line)) w
     (subst (λ c. StmtEmits (length scope) taken (1 + expr_weight e) (act_code line ++ (c ++ [])) (Y.Put (p ∷ []) line)) at
      (subst (λ q. StmtEmits (length scope) taken (1 + expr_weight e) (act_code line ++ (pair_put scope taken (T.ExprThen e T.NoExpr) (Some d.width) ++ [])) (Y.Put (q ∷ []) line)) same made))
+
+-- ---- statements
+
+pub stmt_emits : (scope : Scope) (taken : ℕ) (s : T.Stmt) (x : Y.Stmt) → first_variable + length scope ≤ 2 ^ 20 → 4 ≤ taken → stmt_line s < 2 ^ 31 → taken + stmt_weight s ≤ 2 ^ 20 → typed_stmt scope s ≡ Some x → StmtEmits (length scope) taken (stmt_weight s) (stmt_put scope taken s) x
+stmt_emits scope taken (T.Assign target source place) x few four small' room h =
+    let a = came (typed_reference scope target) (λ v. typed_within 0 scope source and_then (λ e. Some (Y.Assign v e place.line))) x h in
+    let b = came (typed_within 0 scope source) (λ e. Some (Y.Assign a.0 e place.line)) x a.2 in
+    let d = where_true (nat_le (0 + nesting source) most_parentheses) (typed_expr scope source) b.0 b.1 in
+    let i = expr_emits scope taken source b.0 few (omega (arith, room)) d.1 in
+    let same : Y.Assign a.0 b.0 place.line ≡ x = cc (b.2) in
+    subst (StmtEmits (length scope) taken (1 + expr_weight source) (act_code place.line ++ (expr_code scope taken source ++ store_code (index_at scope target)))) same
+    (assign_emits scope taken (expr_weight source) place.line (expr_code scope taken source) target a.0 b.0 few small' (located scope target a.0 a.1) i)
+stmt_emits scope taken (T.Put None (p ∷ []) place) x few four small' room h =
+    let a = came (typed_pair scope p) (λ p'. Some (Y.Put (p' ∷ []) place.line)) x h in
+    let i = pair_emits scope taken place.line p.items p.formats (typed_format p.formats) a.0 refl few four small' (omega (arith, room)) a.1 in
+    let same : Y.Put (a.0 ∷ []) place.line ≡ x = cc (a.2) in
+    let w : 1 + exprs_weight p.items ≡ 1 + (exprs_weight p.items + 0) = omega arith in
+    let code = act_code place.line ++ (pair_put scope taken p.items (width_of p.formats) ++ []) in
+    subst (λ n. StmtEmits (length scope) taken n code x) w (subst (StmtEmits (length scope) taken (1 + exprs_weight p.items) code) same i)
+stmt_emits scope taken (T.Put None [] place) x few four small' room h = absurd (cc h)
+stmt_emits scope taken (T.Put None (p ∷ (q ∷ ps)) place) x few four small' room h = absurd (cc h)
+stmt_emits scope taken (T.Put (Some n) pairs place) x few four small' room h = absurd (cc h)
+stmt_emits scope taken (T.Null place) x few four small' room h = absurd (cc h)
+stmt_emits scope taken (T.If e u place) x few four small' room h = absurd (cc h)
+stmt_emits scope taken (T.IfElse e u o place) x few four small' room h = absurd (cc h)
+stmt_emits scope taken (T.Do body place) x few four small' room h = absurd (cc h)
+stmt_emits scope taken (T.DoWhile e body place) x few four small' room h = absurd (cc h)
+stmt_emits scope taken (T.DoCount counting body place) x few four small' room h = absurd (cc h)
+stmt_emits scope taken (T.Begin body place) x few four small' room h = absurd (cc h)
+stmt_emits scope taken (T.OnSystem c place) x few four small' room h = absurd (cc h)
+stmt_emits scope taken (T.OnUnit c u place) x few four small' room h = absurd (cc h)
+stmt_emits scope taken (T.Call n arguments place) x few four small' room h = absurd (cc h)
+stmt_emits scope taken (T.Return e place) x few four small' room h = absurd (cc h)
+stmt_emits scope taken (T.Goto n place) x few four small' room h = absurd (cc h)
+stmt_emits scope taken (T.Stop place) x few four small' room h = absurd (cc h)
+stmt_emits scope taken (T.Signal c place) x few four small' room h = absurd (cc h)
+stmt_emits scope taken (T.Revert c place) x few four small' room h = absurd (cc h)
+stmt_emits scope taken (T.Allocate made place) x few four small' room h = absurd (cc h)
+stmt_emits scope taken (T.Free fs place) x few four small' room h = absurd (cc h)
+stmt_emits scope taken (T.Get n ps place) x few four small' room h = absurd (cc h)
+
+-- the code of statements, so many slots being taken; they declare nothing
+pub record StmtsEmits (variables taken weight : ℕ) (names : Scope) (code : List Instr) (xs : Y.Stmts) : Type 0 where
+  pub is : code ≡ stmts_code taken xs
+  pub supported : SupportedStmts variables taken xs
+  pub short : length (stmts_code taken xs) ≤ 40 * weight
+  pub fits : AllFit (stmts_code taken xs)
+  pub no_names : names ≡ []
+
+both_emit : (variables taken m n : ℕ) (names : Scope) (code rest : List Instr) (labels : List (List ℕ)) (x : Y.Stmt) (xs : Y.Stmts) → StmtEmits variables taken m code x → StmtsEmits variables taken n names rest xs → StmtsEmits variables taken (m + n) names (code ++ rest) (Y.StmtThen labels x xs)
+both_emit variables taken m n names code rest labels x xs h i =
+    let l = length-append (stmt_code taken x) (stmts_code taken xs) in
+    let u = h.short in
+    let v = i.short in
+    record {
+      is = ap (λ c. c ++ rest) h.is ∙ ap (λ c. stmt_code taken x ++ c) i.is;
+      supported = (h.supported, i.supported);
+      short = omega (arith, l, u, v);
+      fits = fit_both (stmt_code taken x) (stmts_code taken xs) h.fits i.fits;
+      no_names = i.no_names;
+    }
+
+pub items_emit : (scope : Scope) (taken : ℕ) (items : T.Items) (xs : Y.Stmts) → first_variable + length scope ≤ 2 ^ 20 → 4 ≤ taken → SmallLines items → taken + items_weight items ≤ 2 ^ 20 → typed_items scope items ≡ Some xs → StmtsEmits (length scope) taken (items_weight items) (items_names items) (items_put scope taken items) xs
+items_emit scope taken T.NoItem xs few four lines room h =
+    let same : Y.NoStmt ≡ xs = cc h in
+    subst (StmtsEmits (length scope) taken 0 [] []) same (record { is = refl; supported = tt; short = omega arith; fits = tt; no_names = refl })
+items_emit scope taken (T.ItemThen (T.Statement [] s) rest) xs few four lines room h =
+    let a = came (typed_stmt scope s) (λ x. typed_items scope rest and_then (λ ss. Some (Y.StmtThen [] x ss))) xs h in
+    let b = came (typed_items scope rest) (λ ss. Some (Y.StmtThen [] a.0 ss)) xs a.2 in
+    let i = stmt_emits scope taken s a.0 few four lines.0 (omega (arith, room)) a.1 in
+    let j = items_emit scope taken rest b.0 few four lines.1 (omega (arith, room)) b.1 in
+    let same : Y.StmtThen [] a.0 b.0 ≡ xs = cc (b.2) in
+    subst (StmtsEmits (length scope) taken (stmt_weight s + items_weight rest) (items_names rest) (stmt_put scope taken s ++ items_put scope taken rest)) same
+    (both_emit (length scope) taken (stmt_weight s) (items_weight rest) (items_names rest) (stmt_put scope taken s) (items_put scope taken rest) [] a.0 b.0 i j)
+items_emit scope taken (T.ItemThen (T.Statement (l ∷ ls) s) rest) xs few four lines room h = absurd (cc h)
+items_emit scope taken (T.ItemThen (T.Procedure head body) rest) xs few four lines room h = absurd (cc h)
+items_emit scope taken (T.ItemThen (T.Declare declared place) rest) xs few four lines room h = absurd (cc h)
+items_emit scope taken (T.ItemThen (T.EndLabels labels) rest) xs few four lines room h = absurd (cc h)

@@ -4,7 +4,7 @@ use Rattle.pli_meaning.specs.Tree as T
 use Rattle.rv_codegen.specs.Emitted.{declared_names, item_names, items_names}
 use Rattle.rv_codegen.specs.Weights.{declared_weight, item_weight, items_weight}
 
-mapped : {X Y : Type 0} (f : X → Y) (xs : List X) → length (map f xs) ≡ length xs
+pub mapped : {X Y : Type 0} (f : X → Y) (xs : List X) → length (map f xs) ≡ length xs
 mapped f [] = refl
 mapped f (x ∷ xs) = ap suc (mapped f xs)
 

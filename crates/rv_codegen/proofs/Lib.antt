@@ -15,4 +15,5 @@ pub mod Places
 pub mod Fitting
 pub mod Expressions
 pub mod Bodies
+pub mod Trees
 pub mod Counts
