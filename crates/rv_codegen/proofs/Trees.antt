@@ -1,6 +1,6 @@
 -- The code of a whole tree as it is written is that of its typed program, and keeps the promise.
 use Rattle.std.proofs.Common.{◌≡◌, ℕ, zero, suc, ◌+◌, ◌*◌, ◌^◌, ◌<◌, ◌≤◌, List, [], ◌∷◌, ◌++◌, length, map, replicate, Option, Some, None, Bool, true, false, refl, sym, ap, ◌∙◌, subst, arith, lit<, append-nil, append_assoc, length-append}
-use Rattle.std.specs.Prelude.{◌==◌, if◌then◌else◌}
+use Rattle.std.specs.Prelude.{◌==◌, if◌then◌else◌, vec_len}
 use Rattle.pli_meaning.specs.declared.instr.Instr.{Instr}
 use Rattle.pli_meaning.specs.declared.expr.Place.{Place}
 use Rattle.pli_meaning.specs.Signatures.{Signature}
@@ -9,11 +9,14 @@ use Rattle.pli_meaning.specs.Typed as Y
 use Rattle.pli_meaning.specs.Typed.{Program, BlockHead, BlockOf}
 use Rattle.pli_meaning.specs.Typing.{◌and_then◌, Scope, index_of, wide_fixed, with_name, with_names, is_wide_fixed, item_declared, with_declared, main_program, typed_items, typed_body, typed_procedure, typed_tree}
 use Rattle.pli_meaning.specs.Headline.{Headline}
+use Rattle.pli_meaning.specs.Encoding.{word_of}
+use Rattle.rv_isa.specs.declared.code.Code.{Code}
+use Rattle.rv_isa.specs.Images.{program, IsLoadable}
 use Rattle.rv_codegen.specs.Code.{first_variable, act_code, stmts_code, finish_code, frame_code, block_code, program_code}
 use Rattle.rv_codegen.specs.Emitted.{items_put, declared_names, items_names, body_put, procedures_put}
-use Rattle.rv_codegen.specs.Promise.{AllFit, picture_of}
+use Rattle.rv_codegen.specs.Promise.{AllFit, picture_of, IsCodeOf}
 use Rattle.rv_codegen.specs.Weights.{items_weight, SmallLines}
-use Rattle.rv_codegen.proofs.Fitting.{fit_both, act_fits, finish_fits}
+use Rattle.rv_codegen.proofs.Fitting.{fit_both, act_fits, finish_fits, fit_at}
 use Rattle.rv_codegen.proofs.Expressions.{came}
 use Rattle.rv_codegen.proofs.Bodies.{StmtsEmits, items_emit}
 use Rattle.rv_codegen.proofs.Counts.{names_few, mapped}
@@ -149,3 +152,38 @@ tree_emits (T.ItemThen (T.Procedure head body) (T.ItemThen i is)) p room lines h
 tree_emits (T.ItemThen (T.Statement labels s) rest) p room lines h = absurd (cc h)
 tree_emits (T.ItemThen (T.Declare declared place) rest) p room lines h = absurd (cc h)
 tree_emits (T.ItemThen (T.EndLabels labels) rest) p room lines h = absurd (cc h)
+
+-- what a machine asks of the words of a program's code
+pub loadable_words : (code : List Instr) (p : Program) → ProgramEmits code p → IsLoadable (program (map word_of (program_code p)) [] 0 [])
+loadable_words code p h =
+    let c = program_code p in
+    let l = mapped word_of c in
+    let some = h.some in
+    let short = h.short in
+    record {
+      some_code = omega (arith, l, some);
+      code_fits = omega (arith, l, short);
+      decodable = fit_at c h.fits;
+      entry_aligned = refl;
+      entry_in_code = omega (arith, l, some);
+      statics_fit = omega arith;
+      table_fits = omega arith;
+    }
+
+-- words of this code with nothing beside them
+pub code_of : (code : List Instr) (p : Program) (made : Code) → ProgramEmits code p → made.words.items ≡ map word_of code → made.statics.items ≡ [] → made.table.items ≡ [] → vec_len made.calls ≡ 0 → made.entry ≡ 0 → IsCodeOf p made
+code_of code p made h words statics table calls entry =
+    let e = words ∙ ap (map word_of) h.is in
+    let l = loadable_words code p h in
+    let a = subst (λ w. IsLoadable (program w [] 0 [])) (sym e) l in
+    let b = subst (λ s. IsLoadable (program made.words.items s 0 [])) (sym statics) a in
+    let d = subst (λ n. IsLoadable (program made.words.items made.statics.items n [])) (sym entry) b in
+    record {
+      words = e;
+      no_statics = statics;
+      no_table = table;
+      no_calls = calls;
+      entered_first = entry;
+      loadable = subst (λ t. IsLoadable (program made.words.items made.statics.items made.entry t)) (sym table) d;
+      promised = h.promised;
+    }

@@ -100,3 +100,23 @@ fn words_of(alloc: Global, code: &[Instr]) -> Result<Vec<u32>, AllocError>
     }
     Ok(words)
 }
+
+/// The code of a program that has a type. It does what the program means.
+pub fn generate(alloc: Global, tree: &Tree) -> Result<Code, GenFault>
+    requires typed { (p : Program) × (typed (tree_of tree.now) ≡ Some p) }
+    requires small { weight (tree_of tree.now) ≤ most_weight }
+    requires lines_small { SmallLines (tree_of tree.now).procedures }
+    ensures { IfOk result (λ code. (p : Program) → typed (tree_of tree.now) ≡ Some p → IsCodeOf p code) }
+{
+    let code = instructions(alloc, &tree.procedures)?;
+    let words = words_of(alloc, &code)?;
+    Ok(
+        Code {
+            words,
+            statics: Vec::new(alloc),
+            entry: 0,
+            table: Vec::new(alloc),
+            calls: Vec::new(alloc),
+        },
+    )
+}
