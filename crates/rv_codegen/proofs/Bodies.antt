@@ -1,5 +1,5 @@
 -- The code of statements as they are written is that of their typed statements, which are ones that are compiled.
-use Rattle.std.proofs.Common.{◌≡◌, ℕ, zero, suc, ◌+◌, ◌-◌, ◌*◌, ◌^◌, ◌<◌, ◌≤◌, List, [], ◌∷◌, ◌++◌, length, Option, Some, None, Bool, true, false, refl, sym, ap, ◌∙◌, subst, arith, lit<, append-nil, length-append}
+use Rattle.std.proofs.Common.{◌≡◌, ℕ, zero, suc, ◌+◌, ◌*◌, ◌^◌, ◌<◌, ◌≤◌, List, [], ◌∷◌, ◌++◌, length, Option, Some, None, Bool, true, false, refl, sym, ap, ◌∙◌, subst, arith, lit<, append-nil, length-append}
 use Rattle.std.specs.Prelude.{nat_le, if◌then◌else◌}
 use Rattle.std.proofs.lemmas.Bool.Decides.{nat_tests}
 use Rattle.pli_meaning.specs.declared.instr.Instr.{Instr}
@@ -8,8 +8,8 @@ use Rattle.pli_meaning.specs.Typed as Y
 use Rattle.pli_meaning.specs.Typed.{Variable, Number, FormatItem, FixedItem}
 use Rattle.pli_meaning.specs.Typing.{◌and_then◌, Scope, typed_reference, typed_expr, nesting, most_parentheses, typed_within, is_width, typed_format, pair_typed, typed_pair, typed_stmt, typed_items}
 use Rattle.rv_codegen.specs.Registers.{a0_register, a1_register}
-use Rattle.rv_codegen.specs.Code.{first_variable, small, large, slot_store, call, number_code, act_code, format_code, frame_offset, field_code, put_code, stmt_code, stmts_code}
-use Rattle.rv_codegen.specs.Emitted.{index_at, store_code, expr_code, width_of, field_put, pair_put, pairs_put, stmt_put, items_put, items_names}
+use Rattle.rv_codegen.specs.Code.{first_variable, small, large, slot_store, call, number_code, act_code, format_code, frame_offset, field_code, stmt_code, stmts_code}
+use Rattle.rv_codegen.specs.Emitted.{index_at, store_code, expr_code, width_of, pair_put, stmt_put, items_put, items_names}
 use Rattle.rv_codegen.specs.Promise.{AllFit}
 use Rattle.rv_codegen.specs.Weights.{expr_weight, exprs_weight, stmt_weight, stmt_line, items_weight, SmallLines}
 use Rattle.rv_codegen.proofs.Statements.{SupportedStmt, SupportedStmts}
@@ -91,8 +91,8 @@ put_emits variables taken weight line width code e four small' wide h =
       fits =
           fit_both (act_code line) (format_code width ++ begun) (act_fits line small')
           (fit_both (format_code width) begun (format_fits width (width_narrow width wide))
-           (fit_both (large a0_register frame_offset) asked (large_fits a0_register frame_offset (lit< tt))
-            (one, fit_both (call 34) (x ++ last) (call_fits 34 (lit< tt)) (fit_both x last h.fits (fit_both field_code (call 38) field_fits (call_fits 38 (lit< tt)))))));
+          (fit_both (large a0_register frame_offset) asked (large_fits a0_register frame_offset (lit< tt))
+          (one, fit_both (call 34) (x ++ last) (call_fits 34 (lit< tt)) (fit_both x last h.fits (fit_both field_code (call 38) field_fits (call_fits 38 (lit< tt)))))));
     }
 
 pair_emits : (scope : Scope) (taken line : ℕ) (items : T.Exprs) (f : T.Formats) (o : Option (List FormatItem)) (p : Y.EditPair) → typed_format f ≡ o → first_variable + length scope ≤ 2 ^ 20 → 4 ≤ taken → line < 2 ^ 31 → taken + exprs_weight items ≤ 2 ^ 20 → pair_typed scope items o ≡ Some p → StmtEmits (length scope) taken (1 + exprs_weight items) (act_code line ++ (pair_put scope taken items (width_of f) ++ [])) (Y.Put (p ∷ []) line)
@@ -111,7 +111,7 @@ pair_emits scope taken line (T.ExprThen e T.NoExpr) f (Some formats) p g few fou
     let w : 1 + expr_weight e ≡ 1 + (expr_weight e + 0) = omega arith in
     subst (λ n. StmtEmits (length scope) taken n (act_code line ++ (pair_put scope taken (T.ExprThen e T.NoExpr) (width_of f) ++ [])) (Y.Put (p ∷ []) line)) w
     (subst (λ c. StmtEmits (length scope) taken (1 + expr_weight e) (act_code line ++ (c ++ [])) (Y.Put (p ∷ []) line)) at
-     (subst (λ q. StmtEmits (length scope) taken (1 + expr_weight e) (act_code line ++ (pair_put scope taken (T.ExprThen e T.NoExpr) (Some d.width) ++ [])) (Y.Put (q ∷ []) line)) same made))
+    (subst (λ q. StmtEmits (length scope) taken (1 + expr_weight e) (act_code line ++ (pair_put scope taken (T.ExprThen e T.NoExpr) (Some d.width) ++ [])) (Y.Put (q ∷ []) line)) same made))
 
 -- ---- statements
 

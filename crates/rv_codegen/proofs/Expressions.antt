@@ -1,5 +1,5 @@
 -- The code of an expression as it is written is that of its typed expression, which is one that is compiled.
-use Rattle.std.proofs.Common.{◌≡◌, ℕ, zero, suc, ◌+◌, ◌-◌, ◌*◌, ◌^◌, ◌<◌, ◌≤◌, List, [], ◌∷◌, ◌++◌, length, Option, Some, None, Bool, true, false, refl, sym, ap, ◌∙◌, subst, arith, append-nil, length-append}
+use Rattle.std.proofs.Common.{◌≡◌, ℕ, suc, ◌+◌, ◌*◌, ◌^◌, ◌<◌, ◌≤◌, List, [], ◌∷◌, ◌++◌, length, Option, Some, None, Bool, true, false, refl, sym, ap, ◌∙◌, subst, arith, append-nil, length-append}
 use Rattle.std.specs.Prelude.{nat_lt, if◌then◌else◌}
 use Rattle.std.proofs.lemmas.Bool.Decides.{nat_tests}
 use Rattle.pli_meaning.specs.declared.instr.Instr.{Instr}
@@ -10,12 +10,11 @@ use Rattle.pli_meaning.specs.declared.expr.InfixOp.TheVariants as O
 use Rattle.pli_meaning.specs.Keywords.{same_bytes}
 use Rattle.pli_meaning.specs.Numbers.{Sign, Positive, Negative, Operator, Add, Subtract}
 use Rattle.pli_meaning.specs.Tree as T
-use Rattle.pli_meaning.specs.Typed as Y
 use Rattle.pli_meaning.specs.Typed.{Variable, Number, Constant, Fetched, Grouped, Signed, Operated}
-use Rattle.pli_meaning.specs.Typing.{◌and_then◌, Scope, index_of, variable_named, sign_of, operator_of, typed_reference, typed_constant, typed_expr}
+use Rattle.pli_meaning.specs.Typing.{◌and_then◌, Scope, index_of, variable_named, sign_of, operator_of, typed_reference, typed_expr}
 use Rattle.rv_codegen.specs.Registers.{a0_register, a1_register}
 use Rattle.rv_codegen.specs.Code.{first_variable, small, large, slot_load, slot_store, checked_code, number_code}
-use Rattle.rv_codegen.specs.Emitted.{constant_code, index_at, fetch_code, prefix_code, infix_code, expr_code}
+use Rattle.rv_codegen.specs.Emitted.{index_at, fetch_code, prefix_code, infix_code, expr_code}
 use Rattle.rv_codegen.specs.Promise.{AllFit}
 use Rattle.rv_codegen.specs.Weights.{expr_weight}
 use Rattle.rv_codegen.proofs.Values.{Supported}
@@ -149,7 +148,7 @@ operated_emits variables taken left_weight right_weight left right op o l r q ro
       fits =
           fit_both x _ h.fits
           (fit_both (slot_store a0_register taken) _ (store_fits a0_register taken (omega (arith, room)))
-           (fit_both y last i'.fits (fit_both (slot_load a1_register taken) (checked_code o) (load_fits a1_register taken (omega (arith, room))) (checked_fits o))));
+          (fit_both y last i'.fits (fit_both (slot_load a1_register taken) (checked_code o) (load_fits a1_register taken (omega (arith, room))) (checked_fits o))));
     }
 
 some_weight : (e : T.Expr) → 1 ≤ expr_weight e

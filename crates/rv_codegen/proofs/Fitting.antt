@@ -1,14 +1,14 @@
 -- The instructions of all code fit their words.
-use Rattle.std.proofs.Common.{◌≡◌, ℕ, zero, suc, ◌+◌, ◌-◌, ◌*◌, ◌/◌, ◌%◌, ◌^◌, ◌<◌, ◌≤◌, List, [], ◌∷◌, ◌++◌, length, map, get_or, slice_index, refl, sym, ap, ◌∙◌, subst, arith, lit<}
-use Rattle.std.specs.Prelude.{ℤ, pos, negsuc, ◌-ℤ◌}
+use Rattle.std.proofs.Common.{◌≡◌, ℕ, zero, suc, ◌*◌, ◌^◌, ◌<◌, List, [], ◌∷◌, ◌++◌, map, refl, arith, lit<}
+use Rattle.std.specs.Prelude.{ℤ, pos, negsuc}
 use Rattle.std.proofs.lemmas.Int.{ints}
 use Rattle.pli_meaning.specs.declared.instr.Register.{Register}
 use Rattle.pli_meaning.specs.declared.instr.Instr.{Instr}
-use Rattle.pli_meaning.specs.Encoding.{Fits, IsWithin, word_of}
+use Rattle.pli_meaning.specs.Encoding.{IsWithin, word_of}
 use Rattle.pli_meaning.specs.Numbers.{Operator, Add, Subtract}
-use Rattle.rv_isa.specs.Images.{IsInstruction, AllInstructions}
+use Rattle.rv_isa.specs.Images.{AllInstructions}
 use Rattle.rv_codegen.specs.Registers.{a0_register, a1_register}
-use Rattle.rv_codegen.specs.Code.{upper_part, lower_part, large, slot_load, slot_store, call, error_code, overflow_code, checked_code, operator_code, act_code, format_code, field_code, finish_code, frame_code, small}
+use Rattle.rv_codegen.specs.Code.{lower_part, large, slot_load, slot_store, call, checked_code, act_code, format_code, field_code, finish_code, small}
 use Rattle.rv_codegen.specs.Promise.{AllFit}
 
 within : (z : ℤ) (n : ℕ) → z ≡ lower_part n → IsWithin 11 z

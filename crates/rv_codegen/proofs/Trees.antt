@@ -1,9 +1,8 @@
 -- The code of a whole tree as it is written is that of its typed program, and keeps the promise.
-use Rattle.std.proofs.Common.{◌≡◌, ℕ, zero, suc, ◌+◌, ◌*◌, ◌^◌, ◌<◌, ◌≤◌, List, [], ◌∷◌, ◌++◌, length, map, replicate, Option, Some, None, Bool, true, false, refl, sym, ap, ◌∙◌, subst, arith, lit<, append-nil, append_assoc, length-append}
-use Rattle.std.specs.Prelude.{◌==◌, if◌then◌else◌, vec_len}
+use Rattle.std.proofs.Common.{◌≡◌, ℕ, ◌+◌, ◌*◌, ◌^◌, ◌<◌, ◌≤◌, List, [], ◌∷◌, ◌++◌, length, map, replicate, Option, Some, None, Bool, true, false, refl, sym, ap, ◌∙◌, subst, arith, lit<, append-nil, append_assoc, length-append}
+use Rattle.std.specs.Prelude.{vec_len}
 use Rattle.pli_meaning.specs.declared.instr.Instr.{Instr}
 use Rattle.pli_meaning.specs.declared.expr.Place.{Place}
-use Rattle.pli_meaning.specs.Signatures.{Signature}
 use Rattle.pli_meaning.specs.Tree as T
 use Rattle.pli_meaning.specs.Typed as Y
 use Rattle.pli_meaning.specs.Typed.{Program, BlockHead, BlockOf}
@@ -20,7 +19,6 @@ use Rattle.rv_codegen.proofs.Fitting.{fit_both, act_fits, finish_fits, fit_at}
 use Rattle.rv_codegen.proofs.Expressions.{came}
 use Rattle.rv_codegen.proofs.Bodies.{StmtsEmits, items_emit}
 use Rattle.rv_codegen.proofs.Counts.{names_few, mapped}
-use Rattle.rv_codegen.proofs.Programs.{SupportedBlock}
 use Rattle.rv_codegen.proofs.Promises.{headline}
 
 -- ---- declarations

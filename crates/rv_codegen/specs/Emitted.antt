@@ -1,5 +1,5 @@
 -- The code of a tree as it is written, which is that of its typed program where it has one.
-use Rattle.std.specs.Prelude.{ℕ, suc, ◌+◌, ◌^◌, List, [], ◌∷◌, ◌++◌, map, length, Option, Some, None, nat_lt, pos, ◌==◌, ◌&&◌, if◌then◌else◌}
+use Rattle.std.specs.Prelude.{ℕ, ◌+◌, ◌^◌, List, [], ◌∷◌, ◌++◌, map, length, Option, Some, None, nat_lt, pos, ◌==◌, ◌&&◌, if◌then◌else◌}
 use Rattle.pli_meaning.specs.declared.instr.Instr.{Instr}
 use Rattle.pli_meaning.specs.declared.instr.Instr.TheVariants as I
 use Rattle.pli_meaning.specs.declared.instr.ImmediateOp.TheVariants as Imm

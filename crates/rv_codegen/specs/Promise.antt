@@ -1,5 +1,5 @@
 -- What is promised of code that is generated.
-use Rattle.std.specs.Prelude.{◌≡◌, ℕ, List, [], ◌∷◌, map, vec_len}
+use Rattle.std.specs.Prelude.{◌≡◌, List, [], ◌∷◌, map, vec_len}
 use Rattle.pli_meaning.specs.declared.instr.Instr.{Instr}
 use Rattle.pli_meaning.specs.Encoding.{word_of, Fits}
 use Rattle.pli_meaning.specs.Typed.{Program}

@@ -110,13 +110,11 @@ pub fn generate(alloc: Global, tree: &Tree) -> Result<Code, GenFault>
 {
     let code = instructions(alloc, &tree.procedures)?;
     let words = words_of(alloc, &code)?;
-    Ok(
-        Code {
-            words,
-            statics: Vec::new(alloc),
-            entry: 0,
-            table: Vec::new(alloc),
-            calls: Vec::new(alloc),
-        },
-    )
+    Ok(Code {
+        words,
+        statics: Vec::new(alloc),
+        entry: 0,
+        table: Vec::new(alloc),
+        calls: Vec::new(alloc),
+    })
 }

@@ -37,9 +37,12 @@ pub(crate) fn position_of(scope: &[&[u8]], reference: &Reference) -> Option<usiz
     ensures below { MatchOption result (Unit {0}) (λ i. i < length scope.now) }
 {
     match reference {
-        Reference::Plain(Qualified::Last { name, arguments: Arguments::Absent }) => {
-            position(scope, &name.letters)
-        }
+        Reference::Plain(
+            Qualified::Last {
+                name,
+                arguments: Arguments::Absent,
+            },
+        ) => { position(scope, &name.letters) }
         _ => None,
     }
 }
@@ -54,7 +57,10 @@ fn add_names<'a>(scope: &mut Vec<&'a [u8]>, names: &'a [DeclaredName]) -> Result
     Ok(())
 }
 
-fn add_declared<'a>(scope: &mut Vec<&'a [u8]>, declared: &'a [DeclareItem]) -> Result<(), AllocError>
+fn add_declared<'a>(
+    scope: &mut Vec<&'a [u8]>,
+    declared: &'a [DeclareItem],
+) -> Result<(), AllocError>
     ensures { OnOk result (map (λ n. n.now) scope.new.items ≡ map (λ n. n.now) scope.old.items ++ declared_names (map declare_item_of declared.now)) }
 {
     for item in declared {

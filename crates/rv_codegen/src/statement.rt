@@ -59,7 +59,13 @@ fn put_field(code: &mut Vec<Instr>) -> Result<(), AllocError>
 }
 
 // One expression by one F(width).
-fn put_edited(code: &mut Vec<Instr>, scope: &[&[u8]], taken: u32, width: u32, e: &Expr) -> Result<(), AllocError>
+fn put_edited(
+    code: &mut Vec<Instr>,
+    scope: &[&[u8]],
+    taken: u32,
+    width: u32,
+    e: &Expr,
+) -> Result<(), AllocError>
     requires scope_small { length scope.now ≤ 10000 }
     requires room { taken + expr_weight (expr_of e.now) ≤ 2 ^ 20 }
     requires narrow { width < 2048 }
@@ -75,7 +81,13 @@ fn put_edited(code: &mut Vec<Instr>, scope: &[&[u8]], taken: u32, width: u32, e:
 }
 
 #[tactic(auto, unfolding(pli_meaning::specs::View::exprs_of))]
-fn put_single(code: &mut Vec<Instr>, scope: &[&[u8]], taken: u32, width: u32, items: &Exprs) -> Result<(), AllocError>
+fn put_single(
+    code: &mut Vec<Instr>,
+    scope: &[&[u8]],
+    taken: u32,
+    width: u32,
+    items: &Exprs,
+) -> Result<(), AllocError>
     requires scope_small { length scope.now ≤ 10000 }
     requires room { taken + exprs_weight (exprs_of items.now) ≤ 2 ^ 20 }
     requires narrow { width < 2048 }
@@ -107,7 +119,12 @@ fn width_of(formats: &Formats) -> Option<u32>
     ensures value { result ≡ width_of (formats_of formats.now) }
     ensures narrow { MatchOption result (Unit {0}) (λ w. w < 2048) }
 {
-    let Formats::More { repetition, first: Format::Fixed { width }, rest } = formats else {
+    let Formats::More {
+        repetition,
+        first: Format::Fixed { width },
+        rest,
+    } = formats
+    else {
         return None;
     };
     match **rest {
@@ -116,7 +133,12 @@ fn width_of(formats: &Formats) -> Option<u32>
     }
 }
 
-fn put_pair(code: &mut Vec<Instr>, scope: &[&[u8]], taken: u32, pair: &EditPair) -> Result<(), AllocError>
+fn put_pair(
+    code: &mut Vec<Instr>,
+    scope: &[&[u8]],
+    taken: u32,
+    pair: &EditPair,
+) -> Result<(), AllocError>
     requires scope_small { length scope.now ≤ 10000 }
     requires room { taken + exprs_weight (exprs_of pair.now.items) ≤ 2 ^ 20 }
     ensures { OnOk result (code.new.items ≡ code.old.items ++ pair_put (map (λ n. n.now) scope.now) taken (exprs_of pair.now.items) (width_of (formats_of pair.now.formats))) }
@@ -127,7 +149,12 @@ fn put_pair(code: &mut Vec<Instr>, scope: &[&[u8]], taken: u32, pair: &EditPair)
     }
 }
 
-fn put_pairs(code: &mut Vec<Instr>, scope: &[&[u8]], taken: u32, pairs: &[EditPair]) -> Result<(), AllocError>
+fn put_pairs(
+    code: &mut Vec<Instr>,
+    scope: &[&[u8]],
+    taken: u32,
+    pairs: &[EditPair],
+) -> Result<(), AllocError>
     requires scope_small { length scope.now ≤ 10000 }
     requires room { taken + pairs_weight (map edit_pair_of pairs.now) ≤ 2 ^ 20 }
     ensures { OnOk result (code.new.items ≡ code.old.items ++ pairs_put (map (λ n. n.now) scope.now) taken (map edit_pair_of pairs.now)) }
@@ -150,14 +177,23 @@ fn put_store(code: &mut Vec<Instr>, scope: &[&[u8]], target: &Reference) -> Resu
 }
 
 #[tactic(auto, unfolding(pli_meaning::specs::View::stmt_of))]
-fn put_stmt(code: &mut Vec<Instr>, scope: &[&[u8]], taken: u32, statement: &Stmt) -> Result<(), AllocError>
+fn put_stmt(
+    code: &mut Vec<Instr>,
+    scope: &[&[u8]],
+    taken: u32,
+    statement: &Stmt,
+) -> Result<(), AllocError>
     requires scope_small { length scope.now ≤ 10000 }
     requires room { taken + stmt_weight (stmt_of statement.now) ≤ 2 ^ 20 }
     requires line_small { stmt_line (stmt_of statement.now) < 2 ^ 31 }
     ensures { OnOk result (code.new.items ≡ code.old.items ++ stmt_put (map (λ n. n.now) scope.now) taken (stmt_of statement.now)) }
 {
     match statement {
-        Stmt::Assign { target, source, place } => {
+        Stmt::Assign {
+            target,
+            source,
+            place,
+        } => {
             put_act(code, place.line)?;
             put_expr(code, scope, taken, source)?;
             put_store(code, scope, target)
@@ -171,7 +207,12 @@ fn put_stmt(code: &mut Vec<Instr>, scope: &[&[u8]], taken: u32, statement: &Stmt
 }
 
 #[tactic(auto, unfolding(pli_meaning::specs::View::item_of))]
-fn put_item(code: &mut Vec<Instr>, scope: &[&[u8]], taken: u32, item: &Item) -> Result<(), AllocError>
+fn put_item(
+    code: &mut Vec<Instr>,
+    scope: &[&[u8]],
+    taken: u32,
+    item: &Item,
+) -> Result<(), AllocError>
     requires scope_small { length scope.now ≤ 10000 }
     requires room { taken + item_weight (item_of item.now) ≤ 2 ^ 20 }
     requires lines_small { ItemLines (item_of item.now) }
@@ -185,7 +226,12 @@ fn put_item(code: &mut Vec<Instr>, scope: &[&[u8]], taken: u32, item: &Item) -> 
 
 // The statements of a body. Names and procedures have no code of their own there.
 #[tactic(auto, unfolding(pli_meaning::specs::View::items_of))]
-pub(crate) fn put_items(code: &mut Vec<Instr>, scope: &[&[u8]], taken: u32, items: &Items) -> Result<(), AllocError>
+pub(crate) fn put_items(
+    code: &mut Vec<Instr>,
+    scope: &[&[u8]],
+    taken: u32,
+    items: &Items,
+) -> Result<(), AllocError>
     requires scope_small { length scope.now ≤ 10000 }
     requires room { taken + items_weight (items_of items.now) ≤ 2 ^ 20 }
     requires lines_small { SmallLines (items_of items.now) }

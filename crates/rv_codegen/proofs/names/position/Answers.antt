@@ -1,5 +1,4 @@
-use Rattle.std.proofs.Common.{rules, ◌≡◌, ◌∙◌, sym, true, false, get_or, length, ◌<◌, ◌+◌, suc, arith, subst, take, map, None, ℕ}
-use Rattle.pli_meaning.specs.Keywords.{same_bytes}
+use Rattle.std.proofs.Common.{◌≡◌, ◌∙◌, sym, ◌+◌, suc, arith, subst, take, map, None}
 use Rattle.pli_meaning.specs.Typing.{index_of}
 use Rattle.rv_codegen.proofs.Places.{place_found, place_missed}
 use Rattle.rv_codegen.proofs.names.position.Goals as goal
