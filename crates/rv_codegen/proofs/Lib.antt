@@ -11,3 +11,9 @@ pub mod Statements
 pub mod Entries
 pub mod Programs
 pub mod Promises
+pub mod Places
+pub mod Fitting
+pub mod Expressions
+pub mod Bodies
+pub mod Trees
+pub mod Counts

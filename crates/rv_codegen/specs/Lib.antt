@@ -1,3 +1,5 @@
 pub mod Registers
 pub mod Code
 pub mod Weights
+pub mod Emitted
+pub mod Promise

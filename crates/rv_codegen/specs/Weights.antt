@@ -1,5 +1,5 @@
 -- How much of a tree is compiled: its expressions' nodes, its statements and its declared names.
-use Rattle.std.specs.Prelude.{ℕ, ◌+◌, ◌≤◌, ◌<◌, ◌^◌, List, [], ◌∷◌, length}
+use Rattle.std.specs.Prelude.{ℕ, ◌+◌, ◌<◌, ◌^◌, List, [], ◌∷◌, length}
 use Rattle.pli_meaning.specs.Tree as T
 
 abbrev pub expr_weight : T.Expr → ℕ
