@@ -13,7 +13,7 @@ use Rattle.rv_isa.specs.declared.code.Code.{Code}
 use Rattle.rv_isa.specs.Images.{program, IsLoadable}
 use Rattle.rv_codegen.specs.Code.{first_variable, act_code, stmts_code, finish_code, frame_code, block_code, program_code}
 use Rattle.rv_codegen.specs.Emitted.{items_put, declared_names, items_names, body_put, procedures_put}
-use Rattle.rv_codegen.specs.Promise.{AllFit, picture_of, IsCodeOf}
+use Rattle.rv_codegen.specs.Promise.{most_words, AllFit, picture_of, IsCodeOf}
 use Rattle.rv_codegen.specs.Weights.{items_weight, SmallLines}
 use Rattle.rv_codegen.proofs.Fitting.{fit_both, act_fits, finish_fits, fit_at}
 use Rattle.rv_codegen.proofs.Expressions.{came}
@@ -96,10 +96,11 @@ body_emits place scope full (T.ItemThen (T.EndLabels labels) rest) p names few l
 -- ---- programs
 
 -- the code of a program
-pub record ProgramEmits (code : List Instr) (p : Program) : Type 0 where
+pub record ProgramEmits (weight : ℕ) (code : List Instr) (p : Program) : Type 0 where
   pub is : code ≡ program_code p
   pub some : 1 ≤ length (program_code p)
-  pub short : length (program_code p) ≤ 2 ^ 20
+  pub room : weight ≤ 10000
+  pub short : length (program_code p) ≤ most_words weight
   pub fits : AllFit (program_code p)
   pub promised : Headline p (picture_of (program_code p))
 
@@ -107,7 +108,7 @@ all_wide : (scope : Scope) → map (λ letters. wide_fixed) scope ≡ replicate 
 all_wide [] = refl
 all_wide (n ∷ ns) = ap (λ s. wide_fixed ∷ s) (all_wide ns)
 
-main_emits : (place : Place) (full : Scope) (weight : ℕ) (code : List Instr) (body : Y.Stmts) → length full ≤ 10000 → weight ≤ 10000 → place.line < 2 ^ 31 → StmtsEmits (length full) (first_variable + length full) weight [] code body → ProgramEmits (frame_code ∷ (act_code place.line ++ (code ++ finish_code))) (main_program place full body)
+main_emits : (place : Place) (full : Scope) (weight : ℕ) (code : List Instr) (body : Y.Stmts) → length full ≤ 10000 → weight ≤ 10000 → place.line < 2 ^ 31 → StmtsEmits (length full) (first_variable + length full) weight [] code body → ProgramEmits weight (frame_code ∷ (act_code place.line ++ (code ++ finish_code))) (main_program place full body)
 main_emits place full weight code body few room small' h =
     let n = length full in
     let head : BlockHead = record { kind = Y.ProcedureBlock; level = 0; line = place.line; variables = map (λ letters. wide_fixed) full } in
@@ -122,7 +123,8 @@ main_emits place full weight code body few room small' h =
     record {
       is = ap (λ c. frame_code ∷ (act_code place.line ++ (c ++ finish_code))) (h.is ∙ e);
       some = omega arith;
-      short = short';
+      room = room;
+      short = omega (arith, l, u);
       fits = (upper, fit_both (act_code place.line) (x ++ finish_code) (act_fits place.line small') (fit_both x finish_code fits' finish_fits));
       promised = headline n head body (record { kind = refl; level = refl; line_small = small'; variables = all_wide full; room = omega (arith, few); statements = h.supported }) short';
     }
@@ -137,14 +139,18 @@ procedure_typed (label ∷ []) place (x ∷ xs) options body p h = absurd (cc h)
 procedure_typed (label ∷ (l ∷ ls)) place parameters options body p h = absurd (cc h)
 procedure_typed [] place parameters options body p h = absurd (cc h)
 
-pub tree_emits : (procedures : T.Items) (p : Program) → items_weight procedures ≤ 10000 → SmallLines procedures → typed_tree procedures ≡ Some p → ProgramEmits (procedures_put procedures) p
+pub tree_emits : (procedures : T.Items) (p : Program) → items_weight procedures ≤ 10000 → SmallLines procedures → typed_tree procedures ≡ Some p → ProgramEmits (items_weight procedures) (procedures_put procedures) p
 tree_emits (T.ItemThen (T.Procedure head body) T.NoItem) p room lines h =
     let full = items_names body in
     let b = procedure_typed head.labels head.place head.parameters head.options body p h in
     let few = names_few body in
     let e = body_emits head.place [] full body p refl (omega (arith, few, room)) lines.0.1 (omega (arith, room)) b in
-    subst (ProgramEmits (body_put full head.place.line body)) e.program
-    (main_emits head.place full (items_weight body) (items_put full (first_variable + length full) body) e.body (omega (arith, few, room)) (omega (arith, room)) lines.0.0 e.emits)
+    let w : items_weight body ≡ items_weight body + 0 = omega arith in
+    let made =
+        main_emits head.place full (items_weight body) (items_put full (first_variable + length full) body) e.body (omega (arith, few, room)) (omega (arith, room)) lines.0.0 e.emits
+    in
+    subst (λ n. ProgramEmits n (body_put full head.place.line body) p) w
+    (subst (ProgramEmits (items_weight body) (body_put full head.place.line body)) e.program made)
 tree_emits T.NoItem p room lines h = absurd (cc h)
 tree_emits (T.ItemThen (T.Procedure head body) (T.ItemThen i is)) p room lines h = absurd (cc h)
 tree_emits (T.ItemThen (T.Statement labels s) rest) p room lines h = absurd (cc h)
@@ -152,15 +158,16 @@ tree_emits (T.ItemThen (T.Declare declared place) rest) p room lines h = absurd 
 tree_emits (T.ItemThen (T.EndLabels labels) rest) p room lines h = absurd (cc h)
 
 -- what a machine asks of the words of a program's code
-pub loadable_words : (code : List Instr) (p : Program) → ProgramEmits code p → IsLoadable (program (map word_of (program_code p)) [] 0 [])
-loadable_words code p h =
+pub loadable_words : (weight : ℕ) (code : List Instr) (p : Program) → ProgramEmits weight code p → IsLoadable (program (map word_of (program_code p)) [] 0 [])
+loadable_words weight code p h =
     let c = program_code p in
     let l = mapped word_of c in
     let some = h.some in
     let short = h.short in
+    let room = h.room in
     record {
       some_code = omega (arith, l, some);
-      code_fits = omega (arith, l, short);
+      code_fits = omega (arith, l, short, room);
       decodable = fit_at c h.fits;
       entry_aligned = refl;
       entry_in_code = omega (arith, l, some);
@@ -169,10 +176,10 @@ loadable_words code p h =
     }
 
 -- words of this code with nothing beside them
-pub code_of : (code : List Instr) (p : Program) (made : Code) → ProgramEmits code p → made.words.items ≡ map word_of code → made.statics.items ≡ [] → made.table.items ≡ [] → vec_len made.calls ≡ 0 → made.entry ≡ 0 → IsCodeOf p made
-code_of code p made h words statics table calls entry =
+pub code_of : (weight : ℕ) (code : List Instr) (p : Program) (made : Code) → ProgramEmits weight code p → made.words.items ≡ map word_of code → made.statics.items ≡ [] → made.table.items ≡ [] → vec_len made.calls ≡ 0 → made.entry ≡ 0 → IsCodeOf p weight made
+code_of weight code p made h words statics table calls entry =
     let e = words ∙ ap (map word_of) h.is in
-    let l = loadable_words code p h in
+    let l = loadable_words weight code p h in
     let a = subst (λ w. IsLoadable (program w [] 0 [])) (sym e) l in
     let b = subst (λ s. IsLoadable (program made.words.items s 0 [])) (sym statics) a in
     let d = subst (λ n. IsLoadable (program made.words.items made.statics.items n [])) (sym entry) b in
@@ -183,5 +190,6 @@ code_of code p made h words statics table calls entry =
       no_calls = calls;
       entered_first = entry;
       loadable = subst (λ t. IsLoadable (program made.words.items made.statics.items made.entry t)) (sym table) d;
+      short = h.short;
       promised = h.promised;
     }

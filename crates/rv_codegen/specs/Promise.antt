@@ -1,5 +1,5 @@
 -- What is promised of code that is generated.
-use Rattle.std.specs.Prelude.{◌≡◌, List, [], ◌∷◌, map, vec_len}
+use Rattle.std.specs.Prelude.{◌≡◌, ℕ, ◌+◌, ◌*◌, ◌≤◌, List, [], ◌∷◌, length, map, vec_len}
 use Rattle.pli_meaning.specs.declared.instr.Instr.{Instr}
 use Rattle.pli_meaning.specs.Encoding.{word_of, Fits}
 use Rattle.pli_meaning.specs.Typed.{Program}
@@ -17,13 +17,18 @@ AllFit (i ∷ is) = Fits i × AllFit is
 abbrev pub picture_of : List Instr → Picture
 picture_of code = record { code = code; statics = []; entry = 0 }
 
+-- the words that the code of a tree takes at most, by its weight
+abbrev pub most_words : ℕ → ℕ
+most_words weight = 40 * weight + 12
+
 -- The words of a program's code, with nothing beside them: a machine can run them, and what a run shows is what the
 -- program means.
-pub record IsCodeOf (p : Program) (code : Code) : Type 0 where
+pub record IsCodeOf (p : Program) (weight : ℕ) (code : Code) : Type 0 where
   pub words : code.words.items ≡ map word_of (program_code p)
   pub no_statics : code.statics.items ≡ []
   pub no_table : code.table.items ≡ []
   pub no_calls : vec_len code.calls ≡ 0
   pub entered_first : code.entry ≡ 0
   pub loadable : IsLoadable (program code.words.items code.statics.items code.entry code.table.items)
+  pub short : length (program_code p) ≤ most_words weight
   pub promised : Headline p (picture_of (program_code p))

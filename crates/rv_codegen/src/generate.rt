@@ -106,7 +106,7 @@ pub fn generate(alloc: Global, tree: &Tree) -> Result<Code, GenFault>
     requires typed { (p : Program) × (typed (tree_of tree.now) ≡ Some p) }
     requires small { weight (tree_of tree.now) ≤ most_weight }
     requires lines_small { SmallLines (tree_of tree.now).procedures }
-    ensures { IfOk result (λ code. (p : Program) → typed (tree_of tree.now) ≡ Some p → IsCodeOf p code) }
+    ensures { IfOk result (λ code. (p : Program) → typed (tree_of tree.now) ≡ Some p → IsCodeOf p (weight (tree_of tree.now)) code) }
 {
     let code = instructions(alloc, &tree.procedures)?;
     let words = words_of(alloc, &code)?;

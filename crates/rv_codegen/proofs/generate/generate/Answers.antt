@@ -12,4 +12,4 @@ words_of-requires c =
 pub returns : goal.returns
 returns c = λ p h.
     let e = tree_emits _ p c.requires.small c.requires.lines_small h in
-    code_of _ p _ e (c.in_ok-words.ensures ∙ ap (map word_of) (c.deref.ensures.value ∙ c.in_ok-code.ensures)) c.new.ensures.items c.new-2.ensures.items c.new-3.ensures.len refl
+    code_of _ _ p _ e (c.in_ok-words.ensures ∙ ap (map word_of) (c.deref.ensures.value ∙ c.in_ok-code.ensures)) c.new.ensures.items c.new-2.ensures.items c.new-3.ensures.len refl
