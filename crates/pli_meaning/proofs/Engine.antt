@@ -1,6 +1,6 @@
 -- Runs of straight code: which conditions let a list of instructions run, and that it then does.
-use Rattle.std.proofs.Common.{◌≡◌, ◌≢◌, ℕ, zero, suc, ◌+◌, ◌-◌, ◌*◌, ◌/◌, ◌%◌, ◌^◌, ◌<◌, ◌≤◌, List, [], ◌∷◌, ◌++◌, length, Option, Some, None, Bool, true, false, refl, sym, ap, ◌∙◌, subst, arith, zero-add, suc-add}
-use Rattle.std.specs.Prelude.{ℤ, slice_get, nat_le, nat_lt, ◌==◌, cond, Result, Ok, Err}
+use Rattle.std.proofs.Common.{◌≡◌, ℕ, zero, suc, ◌+◌, ◌-◌, ◌*◌, ◌/◌, ◌%◌, ◌^◌, ◌<◌, ◌≤◌, List, [], ◌∷◌, ◌++◌, length, Some, None, true, false, refl, sym, ap, ◌∙◌, subst, arith, zero-add, suc-add}
+use Rattle.std.specs.Prelude.{ℤ, slice_get, nat_le, nat_lt, ◌==◌, cond, Ok}
 use Rattle.std.proofs.lemmas.Bool.Decides.{nat_tests}
 use Rattle.std.proofs.lemmas.Bool.{eq-eqb, le-leb, le-ltb}
 use Rattle.std.proofs.Math.Nat.{mod-eq_of_lt}
@@ -14,8 +14,8 @@ use Rattle.pli_meaning.specs.declared.instr.Instr.{Instr}
 use Rattle.pli_meaning.specs.declared.instr.Instr.TheVariants as I
 use Rattle.pli_meaning.specs.Words.{word, sum, operated, immediate_operated, shift_operated, holds_of}
 use Rattle.pli_meaning.specs.Memory.{load, store}
-use Rattle.pli_meaning.specs.Machine.{Loaded, State, Effect, Goes, Faults, Calls, memory_size, IsValidBase, effect, of_fetched, fetched, executed, written, value, place_of, with_value, stored, loaded, branched}
-use Rattle.pli_meaning.specs.Services.{Service, Answer, Done, Ends, Bad, serves}
+use Rattle.pli_meaning.specs.Machine.{Loaded, State, Effect, Goes, Faults, memory_size, IsValidBase, effect, of_fetched, fetched, executed, written, place_of, with_value, stored, loaded, branched}
+use Rattle.pli_meaning.specs.Services.{Service, Done, serves}
 use Rattle.pli_meaning.specs.Headline.{Whole, Run, Runs, Ended, Stopped, next, of_effect, answered, run_on}
 
 -- a base at which programs run

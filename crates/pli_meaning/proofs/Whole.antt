@@ -1,18 +1,17 @@
 -- Runs of a machine with the services of images: what is shown changes with an act alone, and acts only grow.
-use Rattle.std.proofs.Common.{◌≡◌, ◌≢◌, ℕ, zero, suc, ◌+◌, ◌-◌, ◌*◌, ◌^◌, ◌<◌, ◌≤◌, ◌⊎◌, inl, inr, List, [], ◌∷◌, length, Option, Some, None, Bool, true, false, refl, sym, ap, ◌∙◌, subst, arith}
+use Rattle.std.proofs.Common.{◌≡◌, ℕ, zero, suc, ◌+◌, ◌*◌, ◌^◌, ◌≤◌, ◌⊎◌, inl, inr, List, [], ◌∷◌, length, Option, Some, None, Bool, true, false, refl, sym, ap, ◌∙◌, subst, arith}
 use Rattle.std.specs.Prelude.{cond, nat_lt, ◌==◌}
 use Rattle.pli_meaning.specs.Words.{signed}
 use Rattle.pli_meaning.specs.Stream.{fixed_field, with_field}
 use Rattle.pli_meaning.specs.declared.condition.Condition.{Condition}
 use Rattle.pli_meaning.specs.declared.outcome.End.{End}
-use Rattle.pli_meaning.specs.declared.instr.Fault.{Fault}
 use Rattle.pli_meaning.specs.Machine.{Loaded, Effect, Goes, Faults, Calls, effect}
 use Rattle.pli_meaning.specs.World.{World, counted, ending, raising, written}
 use Rattle.pli_meaning.specs.Typed.{FormatItem, FixedItem}
 use Rattle.pli_meaning.specs.Services as S
 use Rattle.pli_meaning.specs.Services.{Service, EditPlace, Answer, Done, Ends, Bad, Duty, ActDuty, EndDuty, RaiseDuty, EditBeginDuty, FixedDuty, EditEndDuty, OtherDuty, duty_of, a7}
 use Rattle.pli_meaning.specs.Headline.{Whole, Run, Runs, Ended, Stopped, next, of_effect, answered, run_on}
-use Rattle.pli_meaning.proofs.Engine.{run_on-add, run_on-ended, run_on-stopped}
+use Rattle.pli_meaning.proofs.Engine.{run_on-ended, run_on-stopped}
 
 -- what an answer shows: nothing new, or one act more; an end is an act
 abbrev Shows : Service → Answer → Type 0

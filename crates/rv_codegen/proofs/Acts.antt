@@ -1,9 +1,8 @@
 -- Calls of services that make acts, beside the acts of the meaning.
-use Rattle.std.proofs.Common.{◌≡◌, ◌≢◌, ℕ, zero, suc, ◌+◌, ◌-◌, ◌*◌, ◌^◌, ◌<◌, ◌≤◌, List, [], ◌∷◌, ◌++◌, length, Option, Some, None, Bool, true, false, refl, sym, ap, ◌∙◌, subst, arith}
+use Rattle.std.proofs.Common.{◌≡◌, ℕ, suc, ◌+◌, ◌*◌, ◌^◌, ◌<◌, ◌≤◌, List, [], ◌∷◌, length, Some, Bool, true, false, refl, ap, ◌∙◌, arith}
 use Rattle.std.specs.Prelude.{nat_lt, cond}
 use Rattle.std.proofs.Math.Nat.{mul-le-mul_left}
-use Rattle.std.proofs.lemmas.Bool.Decides.{nat_tests}
-use Rattle.std.proofs.lemmas.Bool.{ltb-true, ltb-false, lt-ltb}
+use Rattle.std.proofs.lemmas.Bool.{ltb-true, lt-ltb}
 use Rattle.pli_meaning.specs.declared.instr.Instr.{Instr}
 use Rattle.pli_meaning.specs.declared.instr.Instr.TheVariants as I
 use Rattle.pli_meaning.specs.declared.outcome.End.{End}
@@ -13,10 +12,10 @@ use Rattle.pli_meaning.specs.Services.{Service, Answer, Done, Ends, Bad, serves,
 use Rattle.pli_meaning.specs.Storage.{State}
 use Rattle.pli_meaning.specs.Flow as F
 use Rattle.pli_meaning.specs.Flow.{Flow, Normal, Paused, act, finish, with_world}
-use Rattle.pli_meaning.specs.Headline.{Whole, Run, Runs, Ended, answered, next, run_on}
-use Rattle.pli_meaning.proofs.Engine.{Base, at_base, HasAt, address, most_code, call_next, with_answer, next_address}
-use Rattle.rv_codegen.proofs.Reach.{Family, cost, acts_of, ActNext, Pausing, Ending, Gone, Going, Reach, reached, reached_holds, reach_then, stay, Comes, pausing_then, ending_then}
-use Rattle.rv_codegen.proofs.Pieces.{Body, At, Here}
+use Rattle.pli_meaning.specs.Headline.{Whole, Runs, answered, run_on}
+use Rattle.pli_meaning.proofs.Engine.{Base, HasAt, address, most_code, call_next, with_answer, next_address}
+use Rattle.rv_codegen.proofs.Reach.{Family, cost, acts_of, ActNext, Pausing, Ending, Reach, stay, Comes}
+use Rattle.rv_codegen.proofs.Pieces.{Body, At}
 
 -- ---- the acts of the meaning
 

@@ -1,31 +1,29 @@
 -- Statements' acts, and assignments.
-use Rattle.std.proofs.Common.{◌≡◌, ◌≢◌, ℕ, zero, suc, ◌+◌, ◌-◌, ◌*◌, ◌^◌, ◌<◌, ◌≤◌, List, [], ◌∷◌, ◌++◌, length, Option, Some, None, Bool, true, false, refl, sym, ap, ◌∙◌, subst, arith, lit<, add-one, length-append}
+use Rattle.std.proofs.Common.{◌≡◌, ℕ, suc, ◌+◌, ◌^◌, ◌<◌, ◌≤◌, List, [], ◌∷◌, ◌++◌, length, Option, Some, Bool, true, false, refl, sym, ap, ◌∙◌, subst, arith, lit<, add-one, length-append}
 use Rattle.std.specs.Prelude.{ℤ, cond, ◌==◌, if◌then◌else◌}
-use Rattle.std.proofs.lemmas.Bool.{eqb-true, eq-eqb}
 use Rattle.std.proofs.lemmas.Bool.Decides.{nat_tests}
 use Rattle.pli_meaning.specs.declared.instr.Instr.{Instr}
 use Rattle.pli_meaning.specs.declared.instr.Instr.TheVariants as I
 use Rattle.pli_meaning.specs.Words.{word}
-use Rattle.pli_meaning.specs.World.{World, counted}
+use Rattle.pli_meaning.specs.World.{counted}
 use Rattle.pli_meaning.specs.Numbers.{checked}
 use Rattle.pli_meaning.specs.Services as S
 use Rattle.pli_meaning.specs.Services.{Service, Answer, Done, Ends, Bad}
-use Rattle.pli_meaning.specs.Typed.{Variable, Number, Stmt, Null, Assign, Put}
-use Rattle.pli_meaning.specs.Storage.{State, Generation, Living, Value, NumberValue, VariableName, generation_of, updated, with_scalar, named, number_in}
-use Rattle.pli_meaning.specs.Flow.{Flow, Normal, give, stored, act, with_world, looked, flow_on, ◌>>=◌, ◌>>◌, Meaning}
+use Rattle.pli_meaning.specs.Typed.{Variable, Number, Assign}
+use Rattle.pli_meaning.specs.Storage.{State, Generation, Living, NumberValue, generation_of, updated, with_scalar, number_in}
+use Rattle.pli_meaning.specs.Flow.{Normal, give, stored, act, with_world, looked, flow_on, ◌>>=◌, ◌>>◌, Meaning}
 use Rattle.pli_meaning.specs.Meaning as M
 use Rattle.pli_meaning.specs.Meaning.{Around, at_line}
-use Rattle.pli_meaning.specs.Headline.{Whole}
-use Rattle.pli_meaning.proofs.Engine.{Base, HasAt, address, has_front, has_back, most_code}
+use Rattle.pli_meaning.proofs.Engine.{HasAt, has_front, has_back}
 use Rattle.rv_codegen.specs.Registers.{a0_register, a1_register, a7_register}
 use Rattle.rv_codegen.specs.Code.{first_variable, small, large, slot_store, number_code, act_code}
 use Rattle.rv_codegen.proofs.Numbers.{IsWide, large_sum}
 use Rattle.rv_codegen.proofs.Reach.{Family, Reach, reached, reached_holds, reach_then, reach_map, Comes, comes_on, comes_from, pausing_then}
-use Rattle.rv_codegen.proofs.Pieces.{most_slots, put, Body, At, Here, Valued, straight, small_sum, store_piece}
+use Rattle.rv_codegen.proofs.Pieces.{put, Body, At, Here, straight, small_sum, store_piece}
 use Rattle.rv_codegen.proofs.Acts.{comes_act, Args, called, Calling, call_done, call_pauses, acts}
-use Rattle.rv_codegen.proofs.Raising.{Alone, Serving, along, alone_kept, below_more}
+use Rattle.rv_codegen.proofs.Raising.{Alone, along, alone_kept, below_more}
 use Rattle.rv_codegen.proofs.Operators.{word_small}
-use Rattle.rv_codegen.proofs.Values.{Supported, Variables, Held, Scene, NumberDone, number_piece, fits_gives, put_other, put_same, unequal}
+use Rattle.rv_codegen.proofs.Values.{Supported, Variables, Held, Scene, NumberDone, number_piece, fits_gives}
 
 -- ---- the act of a statement
 

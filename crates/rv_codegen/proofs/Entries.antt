@@ -1,21 +1,18 @@
 -- The entry of the main procedure: its activation and its variables, in the meaning.
-use Rattle.std.proofs.Common.{◌≡◌, ◌≢◌, ℕ, zero, suc, ◌+◌, ◌-◌, ◌*◌, ◌/◌, ◌^◌, ◌<◌, ◌≤◌, List, [], ◌∷◌, ◌++◌, length, replicate, Option, Some, None, Bool, true, false, refl, sym, ap, ◌∙◌, subst, arith, lit<, length-append}
-use Rattle.std.specs.Prelude.{ℤ, pos, cond, nat_le, nat_lt, ◌==◌, slice_get}
-use Rattle.std.proofs.lemmas.Bool.{le-leb, eq-eqb}
+use Rattle.std.proofs.Common.{◌≡◌, ℕ, zero, suc, ◌+◌, ◌*◌, ◌<◌, ◌≤◌, List, [], ◌∷◌, ◌++◌, length, replicate, Option, Some, Bool, true, false, refl, sym, ap, ◌∙◌, subst, arith, length-append}
+use Rattle.std.specs.Prelude.{pos, cond, nat_le, ◌==◌, slice_get}
+use Rattle.std.proofs.lemmas.Bool.{le-leb}
 use Rattle.std.proofs.lemmas.Bool.Decides.{nat_tests}
-use Rattle.pli_meaning.specs.declared.condition.Condition.{Condition}
 use Rattle.pli_meaning.specs.declared.outcome.End.TheVariants as E
 use Rattle.pli_meaning.specs.declared.outcome.Limit.TheVariants as L
-use Rattle.pli_meaning.specs.World.{World, first_world}
-use Rattle.pli_meaning.specs.Signatures.{Signature}
+use Rattle.pli_meaning.specs.World.{first_world}
 use Rattle.pli_meaning.specs.Typing.{wide_fixed}
-use Rattle.pli_meaning.specs.Typed.{Variable, BlockHead}
-use Rattle.pli_meaning.specs.Storage.{State, Name, VariableName, Generation, Living, AutomaticData, Activation, fresh, first_state, generation_of, named, number_in, force, most_activations, most_automatic, automatic_size, automatic_in_use}
-use Rattle.pli_meaning.specs.Flow.{Flow, Normal, give, looked, stored, choose, finish, flow_on, ◌>>=◌, ◌>>◌, Meaning}
+use Rattle.pli_meaning.specs.Typed.{BlockHead}
+use Rattle.pli_meaning.specs.Storage.{State, Name, VariableName, Living, Activation, fresh, first_state, generation_of, named, force, most_automatic, automatic_in_use}
+use Rattle.pli_meaning.specs.Flow.{Normal, give, looked, stored, choose, finish, ◌>>=◌, ◌>>◌}
 use Rattle.pli_meaning.specs.Meaning as M
 use Rattle.rv_codegen.proofs.Raising.{Alone}
-use Rattle.rv_codegen.proofs.Values.{Variables, unequal}
-use Rattle.rv_codegen.proofs.Numbers.{IsWide}
+use Rattle.rv_codegen.proofs.Values.{Variables}
 
 -- ---- lists of names
 

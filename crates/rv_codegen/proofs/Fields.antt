@@ -1,34 +1,34 @@
 -- PUT EDIT of one expression by one F(width).
-use Rattle.std.proofs.Common.{◌≡◌, ◌≢◌, ℕ, zero, suc, ◌+◌, ◌-◌, ◌*◌, ◌^◌, ◌<◌, ◌≤◌, List, [], ◌∷◌, ◌++◌, length, Option, Some, None, Bool, true, false, refl, sym, ap, ◌∙◌, subst, arith, lit<, add-one, length-append}
+use Rattle.std.proofs.Common.{◌≡◌, ℕ, suc, ◌+◌, ◌*◌, ◌^◌, ◌<◌, ◌≤◌, List, [], ◌∷◌, ◌++◌, length, Option, Some, None, true, false, refl, sym, ap, ◌∙◌, subst, arith, lit<, add-one, length-append}
 use Rattle.std.specs.Prelude.{ℤ, cond, ◌==◌, ◌&&◌, nat_le, if◌then◌else◌}
-use Rattle.std.proofs.lemmas.Bool.{eqb-true, eq-eqb, le-leb}
+use Rattle.std.proofs.lemmas.Bool.{eq-eqb, le-leb}
 use Rattle.std.proofs.lemmas.Bool.Decides.{nat_tests}
 use Rattle.pli_meaning.specs.declared.instr.Instr.{Instr}
 use Rattle.pli_meaning.specs.declared.instr.Instr.TheVariants as I
 use Rattle.pli_meaning.specs.declared.instr.BranchTest.TheVariants as Test
-use Rattle.pli_meaning.specs.Words.{word, signed}
+use Rattle.pli_meaning.specs.Words.{word}
 use Rattle.pli_meaning.specs.Memory.{load}
 use Rattle.pli_meaning.specs.Machine.{memory_size}
-use Rattle.pli_meaning.specs.World.{World, counted, written}
+use Rattle.pli_meaning.specs.World.{counted, written}
 use Rattle.pli_meaning.specs.Stream.{fixed_field, with_field}
 use Rattle.pli_meaning.specs.Services as S
 use Rattle.pli_meaning.specs.Services.{Service, EditPlace, Answer, Done, Ends, Bad}
 use Rattle.pli_meaning.specs.Typing.{is_width}
-use Rattle.pli_meaning.specs.Typed.{Number, FormatItem, FixedItem, EditPair, Stmt, Null, Assign, Put}
+use Rattle.pli_meaning.specs.Typed.{Number, FixedItem, EditPair, Put}
 use Rattle.pli_meaning.specs.Storage.{State}
-use Rattle.pli_meaning.specs.Flow.{Flow, Normal, give, act, with_world, flow_on, ◌>>=◌, ◌>>◌, Meaning}
+use Rattle.pli_meaning.specs.Flow.{give, act, with_world, flow_on, ◌>>=◌, ◌>>◌, Meaning}
 use Rattle.pli_meaning.specs.Meaning as M
 use Rattle.pli_meaning.specs.Meaning.{Around, at_line}
 use Rattle.pli_meaning.specs.Headline.{Whole}
 use Rattle.pli_meaning.proofs.Engine.{Base, HasAt, address, has_front, has_back, most_code, branch_taken, branch_passed}
 use Rattle.rv_codegen.specs.Registers.{zero_register, a0_register, a1_register, a7_register}
-use Rattle.rv_codegen.specs.Code.{first_variable, frame_offset, slot_bytes, small, large, call, slot_store, number_code, act_code, format_code, field_code, put_code, error_code}
+use Rattle.rv_codegen.specs.Code.{first_variable, frame_offset, small, large, call, slot_store, number_code, act_code, format_code, field_code, put_code, error_code}
 use Rattle.rv_codegen.proofs.Numbers.{IsWide, large_sum, signed-word}
 use Rattle.rv_codegen.proofs.Reach.{Family, Reach, reached, reached_holds, reach_then, reach_map, Comes, comes_on, comes_from, pausing_then}
 use Rattle.rv_codegen.proofs.Pieces.{most_slots, put, Body, At, Here, Valued, straight, small_sum, small_piece, store_piece}
 use Rattle.rv_codegen.proofs.Acts.{comes_act, Args, Results, called, Calling, call_done, call_pauses, acts}
 use Rattle.rv_codegen.proofs.Raising.{Alone, Serving, Coded, along, alone_kept, below_more, error_piece}
-use Rattle.rv_codegen.proofs.Operators.{hop, skip_sum, word_small}
+use Rattle.rv_codegen.proofs.Operators.{hop, skip_sum}
 use Rattle.rv_codegen.proofs.Values.{Supported, Variables, Held, Scene, NumberDone, number_piece, unequal}
 use Rattle.rv_codegen.proofs.Assignments.{acted, ActDone, act_piece, StmtDone, Begins, scene_of}
 

@@ -1,6 +1,6 @@
 -- Operators: the code gives the value of the definition, or raises where it doesn't fit.
-use Rattle.std.proofs.Common.{◌≡◌, ◌≢◌, ℕ, zero, suc, ◌+◌, ◌-◌, ◌*◌, ◌^◌, ◌%◌, ◌<◌, ◌≤◌, List, [], ◌∷◌, ◌++◌, length, Option, Some, None, Bool, true, false, refl, sym, ap, ◌∙◌, subst, arith, lit<, add-one}
-use Rattle.std.specs.Prelude.{ℤ, pos, negsuc, ◌+ℤ◌, ◌-ℤ◌, cond, ◌==◌, int_lt}
+use Rattle.std.proofs.Common.{◌≡◌, ℕ, suc, ◌+◌, ◌*◌, ◌^◌, ◌<◌, ◌≤◌, List, [], ◌∷◌, ◌++◌, length, Bool, true, false, refl, ap, ◌∙◌, subst, arith}
+use Rattle.std.specs.Prelude.{ℤ, pos, cond, ◌==◌, int_lt}
 use Rattle.pli_meaning.specs.declared.condition.Condition.TheVariants as C
 use Rattle.pli_meaning.specs.declared.instr.Instr.{Instr}
 use Rattle.pli_meaning.specs.declared.instr.Instr.TheVariants as I
@@ -8,7 +8,7 @@ use Rattle.pli_meaning.specs.declared.instr.BranchTest.TheVariants as Test
 use Rattle.pli_meaning.specs.declared.instr.ImmediateOp.TheVariants as Imm
 use Rattle.pli_meaning.specs.declared.instr.RegisterOp.TheVariants as Op
 use Rattle.pli_meaning.specs.Words.{word, signed, sum, flag, operated}
-use Rattle.pli_meaning.specs.Numbers.{is_of_precision, wrapped, Checked, Gives, Raises, checked, Operator, Add, Subtract, operator_result, operator_applied}
+use Rattle.pli_meaning.specs.Numbers.{is_of_precision, wrapped, Gives, Raises, Operator, Add, Subtract, operator_result, operator_applied}
 use Rattle.pli_meaning.specs.Services.{Service}
 use Rattle.pli_meaning.specs.Storage.{State}
 use Rattle.pli_meaning.specs.Flow.{give, ◌>>◌}
@@ -16,10 +16,10 @@ use Rattle.pli_meaning.specs.Meaning as M
 use Rattle.pli_meaning.specs.Meaning.{Around}
 use Rattle.pli_meaning.specs.Headline.{Whole, Runs, next, run_on}
 use Rattle.pli_meaning.proofs.Engine.{Base, at_base, HasAt, address, has_front, has_back, most_code, branch_taken, branch_passed}
-use Rattle.rv_codegen.specs.Registers.{zero_register, a0_register, a1_register, a2_register, a3_register, a4_register, a7_register}
+use Rattle.rv_codegen.specs.Registers.{a0_register, a2_register, a3_register, a4_register}
 use Rattle.rv_codegen.specs.Code.{overflow_code, operator_code, checked_code, skip_if_equal}
-use Rattle.rv_codegen.proofs.Numbers.{IsWide, sum_test, difference_test, sum-word, difference-word, sum_fits, sum_over, difference_fits, difference_over}
-use Rattle.rv_codegen.proofs.Reach.{Family, Reach, Going, reached, reached_holds, reach_then, Comes, comes_on, comes_from}
+use Rattle.rv_codegen.proofs.Numbers.{IsWide, sum-word, difference-word, sum_fits, sum_over, difference_fits, difference_over}
+use Rattle.rv_codegen.proofs.Reach.{Family, Reach, reached, reached_holds, reach_then, Comes, comes_on, comes_from}
 use Rattle.std.proofs.lemmas.Int.{ints}
 use Rattle.std.proofs.lemmas.Bool.Decides.{nat_tests}
 use Rattle.rv_codegen.proofs.Pieces.{most_slots, Body, At, Here, Valued, Paired, straight}

@@ -1,23 +1,21 @@
 -- The pieces of code: what holds behind each, where it stands in the code.
-use Rattle.std.proofs.Common.{◌≡◌, ◌≢◌, ℕ, zero, suc, ◌+◌, ◌-◌, ◌*◌, ◌/◌, ◌%◌, ◌^◌, ◌<◌, ◌≤◌, ◌⊎◌, inl, inr, List, [], ◌∷◌, ◌++◌, length, Option, Some, None, Bool, true, false, refl, sym, ap, ◌∙◌, subst, arith}
-use Rattle.std.specs.Prelude.{ℤ, pos, negsuc, slice_get, ◌==◌, if◌then◌else◌, cond}
+use Rattle.std.proofs.Common.{◌≡◌, ℕ, ◌+◌, ◌*◌, ◌^◌, ◌<◌, ◌≤◌, ◌⊎◌, List, [], ◌∷◌, length, Bool, true, false, refl, ap, ◌∙◌, arith}
+use Rattle.std.specs.Prelude.{◌==◌, if◌then◌else◌}
 use Rattle.std.proofs.Math.Nat.{mul-le-mul_left}
-use Rattle.std.proofs.lemmas.Bool.{eq-eqb, eqb-true}
+use Rattle.std.proofs.lemmas.Bool.{eqb-true}
 use Rattle.std.proofs.lemmas.Bool.Decides.{nat_tests}
 use Rattle.pli_meaning.specs.declared.instr.Instr.{Instr}
-use Rattle.pli_meaning.specs.declared.instr.Instr.TheVariants as I
 use Rattle.pli_meaning.specs.Words.{word, sum}
 use Rattle.pli_meaning.specs.Memory.{load, store}
 use Rattle.pli_meaning.specs.Machine.{memory_size}
-use Rattle.pli_meaning.specs.World.{World}
 use Rattle.pli_meaning.specs.Services.{Service}
-use Rattle.pli_meaning.specs.Headline.{Whole, Run, Runs, run_on}
-use Rattle.pli_meaning.proofs.Engine.{Base, at_base, HasAt, address, Path, WordAt, most_code, Passed, passes}
+use Rattle.pli_meaning.specs.Headline.{Whole}
+use Rattle.pli_meaning.proofs.Engine.{Base, HasAt, address, Path, WordAt, most_code, passes}
 use Rattle.pli_meaning.proofs.MemoryLaws.{length-store, load-store_same, load-store_other}
 use Rattle.rv_codegen.specs.Registers.{a0_register, a1_register}
 use Rattle.rv_codegen.specs.Code.{small, large, upper_part, lower_part, slot_bytes, slot_load, slot_store, frame_offset}
 use Rattle.rv_codegen.proofs.Numbers.{large_sum, slot_sum}
-use Rattle.rv_codegen.proofs.Reach.{Family, cost, Going, Reach, reached, reached_holds, reach_then}
+use Rattle.rv_codegen.proofs.Reach.{Family, cost, Reach}
 
 -- ---- what holds of a machine between two pieces
 

@@ -1,34 +1,31 @@
 -- Whole programs: the code does what the program means, with any number of acts allowed.
-use Rattle.std.proofs.Common.{◌≡◌, ◌≢◌, ℕ, zero, suc, ◌+◌, ◌-◌, ◌*◌, ◌/◌, ◌%◌, ◌^◌, ◌<◌, ◌≤◌, List, [], ◌∷◌, ◌++◌, length, replicate, map, Option, Some, None, Bool, true, false, refl, sym, ap, ◌∙◌, subst, arith, lit<, lit≤, length-append, get_or, add-one}
-use Rattle.std.specs.Prelude.{ℤ, pos, cond, nat_lt, slice_index}
+use Rattle.std.proofs.Common.{◌≡◌, ℕ, zero, suc, ◌+◌, ◌-◌, ◌*◌, ◌/◌, ◌^◌, ◌<◌, ◌≤◌, List, [], ◌∷◌, ◌++◌, length, replicate, map, Option, None, refl, sym, ap, ◌∙◌, subst, arith, lit<, length-append, add-one}
+use Rattle.std.specs.Prelude.{pos, slice_index}
 use Rattle.pli_meaning.specs.declared.instr.Instr.{Instr}
 use Rattle.pli_meaning.specs.declared.instr.Instr.TheVariants as I
 use Rattle.pli_meaning.specs.declared.outcome.End.TheVariants as E
-use Rattle.pli_meaning.specs.declared.outcome.Limit.TheVariants as L
-use Rattle.pli_meaning.specs.Words.{word, sum}
-use Rattle.pli_meaning.specs.Memory.{load, bytes_of_word, bytes_of_words}
+use Rattle.pli_meaning.specs.Words.{sum}
+use Rattle.pli_meaning.specs.Memory.{load, bytes_of_words}
 use Rattle.pli_meaning.specs.Encoding.{word_of}
 use Rattle.pli_meaning.specs.Machine.{memory_size}
-use Rattle.pli_meaning.specs.World.{World, first_world, counted, ending}
+use Rattle.pli_meaning.specs.World.{counted, ending}
 use Rattle.pli_meaning.specs.Services as S
 use Rattle.pli_meaning.specs.Services.{Service, first_service, Answer, Done, Ends, Bad}
-use Rattle.pli_meaning.specs.Signatures.{rounded_up}
 use Rattle.pli_meaning.specs.Typing.{wide_fixed}
-use Rattle.pli_meaning.specs.Typed.{Program, Block, BlockOf, BlockHead, ProcedureBlock, Stmts}
+use Rattle.pli_meaning.specs.Typed.{BlockOf, BlockHead, ProcedureBlock, Stmts}
 use Rattle.pli_meaning.specs.Storage.{State, Value, first_state, most_automatic}
 use Rattle.pli_meaning.specs.Flow as F
 use Rattle.pli_meaning.specs.Flow.{Flow, Normal, Jump, Return, Paused, Stuck, give, looked, stored, act, choose, finish, left, leaving, flow_on, with_world, ◌>>=◌, ◌>>◌, Meaning}
 use Rattle.pli_meaning.specs.Meaning as M
 use Rattle.pli_meaning.specs.Meaning.{Around, at_line}
-use Rattle.pli_meaning.specs.Headline.{Picture, Whole, first_bytes, first_machine}
-use Rattle.pli_meaning.proofs.Engine.{Base, HasAt, address, has_front, has_back, has_all, most_code}
-use Rattle.rv_codegen.specs.Registers.{zero_register, frame_register, a0_register, a1_register, a7_register}
-use Rattle.rv_codegen.specs.Code.{first_variable, frame_offset, slot_bytes, small, call, act_code, stmts_code, frame_code, finish_code, block_code, program_code}
-use Rattle.rv_codegen.proofs.Reach.{Family, Reach, reached, reached_holds, reach_then, reach_map, Comes, comes_on, comes_map, comes_from, pausing_then, ending_then}
+use Rattle.pli_meaning.specs.Headline.{Picture, first_bytes, first_machine}
+use Rattle.pli_meaning.proofs.Engine.{HasAt, has_front, has_back, has_all, most_code}
+use Rattle.rv_codegen.specs.Registers.{a0_register, a1_register, a7_register}
+use Rattle.rv_codegen.specs.Code.{first_variable, frame_offset, slot_bytes, small, act_code, stmts_code, frame_code, finish_code, block_code}
+use Rattle.rv_codegen.proofs.Reach.{Family, Reach, reached, reached_holds, reach_then, Comes, comes_on, comes_from, pausing_then, ending_then}
 use Rattle.rv_codegen.proofs.Pieces.{most_slots, Body, At, Here, straight, small_sum}
-use Rattle.rv_codegen.proofs.Acts.{comes_act, comes_finish, Args, called, Calling, call_ends, end_pauses, acts}
-use Rattle.rv_codegen.proofs.Raising.{Alone, along, alone_kept, below_more}
-use Rattle.rv_codegen.proofs.Values.{Variables, Held}
+use Rattle.rv_codegen.proofs.Acts.{comes_finish, Args, called, Calling, call_ends, end_pauses, acts}
+use Rattle.rv_codegen.proofs.Raising.{along, alone_kept, below_more}
 use Rattle.rv_codegen.proofs.Assignments.{acted, ActDone, act_piece, StmtDone, Begins}
 use Rattle.rv_codegen.proofs.Statements.{SupportedStmts, stmts_piece}
 use Rattle.rv_codegen.proofs.Entries.{Made, made_all, alone_made, numbers_made, first_made}

@@ -1,26 +1,25 @@
 -- The promise to a program and its image, from what its code does at every number of acts.
-use Rattle.std.proofs.Common.{◌≡◌, ◌≢◌, ℕ, zero, suc, ◌+◌, ◌-◌, ◌*◌, ◌/◌, ◌^◌, ◌<◌, ◌≤◌, ◌⊎◌, inl, inr, List, [], ◌∷◌, length, Option, Some, None, Bool, true, false, refl, sym, ap, ◌∙◌, subst, arith}
+use Rattle.std.proofs.Common.{◌≡◌, ◌≢◌, ℕ, zero, suc, ◌+◌, ◌-◌, ◌*◌, ◌/◌, ◌^◌, ◌<◌, ◌≤◌, ◌⊎◌, inl, inr, List, [], ◌∷◌, length, Some, refl, sym, ap, ◌∙◌, subst, arith}
 use Rattle.std.proofs.lemmas.Bool.{cases_lt}
 use Rattle.std.proofs.Math.Nat.{mul_comm, div-lt_iff_lt-mul, le-div_iff_mul-le}
 use Rattle.pli_meaning.specs.declared.instr.Instr.{Instr}
 use Rattle.pli_meaning.specs.declared.instr.Fault.{Fault}
 use Rattle.pli_meaning.specs.declared.outcome.End.TheVariants as E
-use Rattle.pli_meaning.specs.Machine.{IsValidBase}
 use Rattle.pli_meaning.specs.World.{World, first_world}
 use Rattle.pli_meaning.specs.Services.{Service, first_service}
-use Rattle.pli_meaning.specs.Typed.{Program, Block, BlockOf, BlockHead, Stmts}
-use Rattle.pli_meaning.specs.Storage.{State, first_state}
+use Rattle.pli_meaning.specs.Typed.{Program, BlockOf, BlockHead, Stmts}
+use Rattle.pli_meaning.specs.Storage.{first_state}
 use Rattle.pli_meaning.specs.Flow as F
 use Rattle.pli_meaning.specs.Flow.{Flow, Normal, Jump, Return, Paused, Stuck}
 use Rattle.pli_meaning.specs.Meaning as M
 use Rattle.pli_meaning.specs.Meaning.{meaning, run}
-use Rattle.pli_meaning.specs.Headline.{Picture, step_cost, Whole, Run, Runs, Ended, Stopped, next, run_on, run_of, shown_by, first_machine, Keeps, Shown, Headline}
-use Rattle.pli_meaning.proofs.Engine.{Base, at_base, has_all, Passed, passes, most_code, address, run_on-add, run_on-ended, run_on-stopped}
+use Rattle.pli_meaning.specs.Headline.{Whole, Run, Runs, Ended, Stopped, next, run_on, shown_by, Keeps, Headline}
+use Rattle.pli_meaning.proofs.Engine.{Base, at_base, has_all, passes, most_code, run_on-add, run_on-ended, run_on-stopped}
 use Rattle.pli_meaning.proofs.Whole.{Grows, runs_grow}
-use Rattle.pli_meaning.proofs.Steps.{Agree, Kept}
+use Rattle.pli_meaning.proofs.Steps.{Kept}
 use Rattle.pli_meaning.proofs.Growth.{run_agrees, ended_stays}
-use Rattle.rv_codegen.specs.Code.{block_code, program_code, frame_code}
-use Rattle.rv_codegen.proofs.Reach.{Family, cost, acts_of, ActNext, Going, Gone, Reach, Pausing, Ending, Comes}
+use Rattle.rv_codegen.specs.Code.{block_code, frame_code}
+use Rattle.rv_codegen.proofs.Reach.{cost, acts_of, Pausing, Ending, Comes}
 use Rattle.rv_codegen.proofs.Programs.{image_of, first_family, SupportedBlock, simulates}
 
 -- ---- what comes at a number of acts

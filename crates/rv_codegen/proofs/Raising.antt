@@ -1,6 +1,6 @@
 -- Conditions are raised: without a unit in force the run ends.
-use Rattle.std.proofs.Common.{◌≡◌, ◌≢◌, ℕ, zero, suc, ◌+◌, ◌-◌, ◌*◌, ◌^◌, ◌<◌, ◌≤◌, List, [], ◌∷◌, ◌++◌, length, Option, Some, None, Bool, true, false, refl, sym, ap, ◌∙◌, subst, arith, lit<, add-one}
-use Rattle.std.specs.Prelude.{nat_lt, cond}
+use Rattle.std.proofs.Common.{◌≡◌, ℕ, suc, ◌+◌, ◌^◌, ◌<◌, ◌≤◌, List, [], ◌∷◌, length, Some, None, true, refl, sym, ap, ◌∙◌, subst, arith, lit<, add-one}
+use Rattle.std.specs.Prelude.{cond}
 use Rattle.std.proofs.lemmas.Bool.{lt-ltb}
 use Rattle.pli_meaning.specs.declared.condition.Condition.{Condition}
 use Rattle.pli_meaning.specs.declared.condition.Condition.TheVariants as C
@@ -10,18 +10,17 @@ use Rattle.pli_meaning.specs.declared.instr.Instr.TheVariants as I
 use Rattle.pli_meaning.specs.World.{World, raising, ending}
 use Rattle.pli_meaning.specs.Services as S
 use Rattle.pli_meaning.specs.Services.{Service, Answer, Done, Ends, Bad}
-use Rattle.pli_meaning.specs.Storage.{State, Activation, OnUnit, force}
-use Rattle.pli_meaning.specs.Flow as F
-use Rattle.pli_meaning.specs.Flow.{Flow, Normal, Paused, with_world, act, looked, finish, flow_on, ◌>>=◌, ◌>>◌, Meaning}
+use Rattle.pli_meaning.specs.Storage.{State, force}
+use Rattle.pli_meaning.specs.Flow.{with_world, act, looked, finish, ◌>>=◌, ◌>>◌}
 use Rattle.pli_meaning.specs.Meaning as M
 use Rattle.pli_meaning.specs.Meaning.{Around}
 use Rattle.pli_meaning.specs.Headline.{Whole}
-use Rattle.pli_meaning.proofs.Engine.{Base, HasAt, address, has_front, has_back, most_code}
+use Rattle.pli_meaning.proofs.Engine.{Base, HasAt, most_code}
 use Rattle.rv_codegen.specs.Registers.{a0_register, a1_register, a7_register}
 use Rattle.rv_codegen.specs.Code.{small, call, error_code, overflow_code}
-use Rattle.rv_codegen.proofs.Reach.{Family, Reach, reached, reached_holds, reach_then, Comes, comes_on, comes_from, Pausing, Ending, pausing_then, ending_then}
+use Rattle.rv_codegen.proofs.Reach.{Family, Reach, reached, reached_holds, reach_then, Comes, comes_on, comes_from, pausing_then, ending_then}
 use Rattle.rv_codegen.proofs.Pieces.{Body, At, Here, straight, small_sum}
-use Rattle.rv_codegen.proofs.Acts.{comes_act, comes_finish, Args, Results, called, Calling, call_done, call_pauses, call_ends, end_pauses, acts}
+use Rattle.rv_codegen.proofs.Acts.{comes_act, comes_finish, Args, called, Calling, call_done, call_pauses, call_ends, end_pauses, acts}
 
 -- no unit is in force
 pub record Alone (s : State) : Type 0 where

@@ -1,18 +1,13 @@
 -- From one place of a run to another, at every base at once. Instructions are paid by credits: an index of the code is
 -- worth itself, an act twice the code and 2.
-use Rattle.std.proofs.Common.{◌≡◌, ◌≢◌, ℕ, zero, suc, ◌+◌, ◌-◌, ◌*◌, ◌^◌, ◌<◌, ◌≤◌, List, [], ◌∷◌, ◌++◌, length, Option, Some, None, Bool, true, false, refl, sym, ap, ◌∙◌, subst, arith}
-use Rattle.std.specs.Prelude.{slice_get}
+use Rattle.std.proofs.Common.{◌≡◌, ℕ, suc, ◌+◌, ◌*◌, ◌≤◌, List, length, Option, Some, None, refl, ap, ◌∙◌, arith}
 use Rattle.pli_meaning.specs.declared.instr.Instr.{Instr}
-use Rattle.pli_meaning.specs.declared.instr.Instr.TheVariants as I
-use Rattle.pli_meaning.specs.Memory.{load}
-use Rattle.pli_meaning.specs.Machine as M
-use Rattle.pli_meaning.specs.World.{World}
-use Rattle.pli_meaning.specs.Services.{Service, Answer, Done, Ends, Bad, serves}
+use Rattle.pli_meaning.specs.Services.{Service}
 use Rattle.pli_meaning.specs.Storage.{State}
 use Rattle.pli_meaning.specs.Flow as F
 use Rattle.pli_meaning.specs.Flow.{Flow, Normal, Jump, Return, Paused, Stuck, flow_on, Meaning}
 use Rattle.pli_meaning.specs.Headline.{Whole, Run, Runs, Ended, Stopped, next, run_on}
-use Rattle.pli_meaning.proofs.Engine.{Base, at_base, HasAt, address, run_on-add, run_on-ended}
+use Rattle.pli_meaning.proofs.Engine.{Base, at_base, run_on-add}
 
 -- a machine with its services at each base
 abbrev pub Family : Type 0

@@ -1,21 +1,20 @@
 -- Lists of statements.
-use Rattle.std.proofs.Common.{◌≡◌, ◌≢◌, ℕ, zero, suc, ◌+◌, ◌-◌, ◌*◌, ◌^◌, ◌<◌, ◌≤◌, List, [], ◌∷◌, ◌++◌, length, Option, Some, None, Bool, true, false, refl, sym, ap, ◌∙◌, subst, arith, lit<, length-append}
+use Rattle.std.proofs.Common.{◌≡◌, ℕ, ◌+◌, ◌^◌, ◌<◌, ◌≤◌, List, [], ◌∷◌, ◌++◌, length, refl, sym, ap, ◌∙◌, subst, arith, length-append}
 use Rattle.std.specs.Prelude.{ℤ}
 use Rattle.pli_meaning.specs.declared.instr.Instr.{Instr}
-use Rattle.pli_meaning.specs.World.{World, counted}
+use Rattle.pli_meaning.specs.World.{counted}
 use Rattle.pli_meaning.specs.Services.{Service, EditPlace}
 use Rattle.pli_meaning.specs.Typed.{Number, FormatItem, FixedItem, EditPair, Stmt, Null, Assign, Put, Stmts, NoStmt, StmtThen}
 use Rattle.pli_meaning.specs.Storage.{State}
-use Rattle.pli_meaning.specs.Flow.{give, act, with_world, flow_on, ◌>>=◌, ◌>>◌, Meaning}
+use Rattle.pli_meaning.specs.Flow.{give, act, ◌>>◌}
 use Rattle.pli_meaning.specs.Meaning as M
 use Rattle.pli_meaning.specs.Meaning.{Around}
-use Rattle.pli_meaning.specs.Headline.{Whole}
-use Rattle.pli_meaning.proofs.Engine.{Base, HasAt, address, has_front, has_back, most_code}
-use Rattle.rv_codegen.specs.Code.{act_code, pair_code, pairs_code, stmt_code, stmts_code}
-use Rattle.rv_codegen.proofs.Reach.{Family, Reach, reached, reached_holds, reach_then, reach_map, stay, Comes, comes_on, comes_map, comes_from}
-use Rattle.rv_codegen.proofs.Pieces.{most_slots, Body, At, Here}
-use Rattle.rv_codegen.proofs.Raising.{Alone, along, alone_kept, below_more}
-use Rattle.rv_codegen.proofs.Values.{Variables, Held}
+use Rattle.pli_meaning.proofs.Engine.{HasAt, has_front, has_back}
+use Rattle.rv_codegen.specs.Code.{stmt_code, stmts_code}
+use Rattle.rv_codegen.proofs.Reach.{Family, Reach, reached, reached_holds, stay, Comes, comes_on, comes_map, comes_from}
+use Rattle.rv_codegen.proofs.Pieces.{Body, At, Here}
+use Rattle.rv_codegen.proofs.Raising.{Alone, alone_kept, below_more}
+use Rattle.rv_codegen.proofs.Values.{Variables}
 use Rattle.rv_codegen.proofs.Assignments.{acted, ActDone, act_piece, StmtDone, Assignable, Begins, assign_piece}
 use Rattle.rv_codegen.proofs.Fields.{Puttable, put_piece, stmt_from}
 

@@ -147,7 +147,7 @@ tree_emits (T.ItemThen (T.Procedure head body) T.NoItem) p room lines h =
     let e = body_emits head.place [] full body p refl (omega (arith, few, room)) lines.0.1 (omega (arith, room)) b in
     let w : items_weight body ≡ items_weight body + 0 = omega arith in
     let made =
-        main_emits head.place full (items_weight body) (items_put full (first_variable + length full) body) e.body (omega (arith, few, room)) (omega (arith, room)) lines.0.0 e.emits
+    main_emits head.place full (items_weight body) (items_put full (first_variable + length full) body) e.body (omega (arith, few, room)) (omega (arith, room)) lines.0.0 e.emits
     in
     subst (λ n. ProgramEmits n (body_put full head.place.line body) p) w
     (subst (ProgramEmits (items_weight body) (body_put full head.place.line body)) e.program made)

@@ -1,21 +1,21 @@
 -- Expressions: the code gives the number of the definition in a0, or the run ends with it.
-use Rattle.std.proofs.Common.{◌≡◌, ◌≢◌, ℕ, zero, suc, ◌+◌, ◌-◌, ◌*◌, ◌^◌, ◌<◌, ◌≤◌, List, [], ◌∷◌, ◌++◌, length, Option, Some, None, Bool, true, false, refl, sym, ap, ◌∙◌, subst, arith, lit<, length-append}
-use Rattle.std.specs.Prelude.{ℤ, pos, negsuc, ◌-ℤ◌, neg_ℤ, cond, ◌==◌, if◌then◌else◌}
+use Rattle.std.proofs.Common.{◌≡◌, ◌≢◌, ℕ, suc, ◌+◌, ◌^◌, ◌<◌, ◌≤◌, List, [], ◌∷◌, ◌++◌, length, Option, Some, Bool, false, refl, sym, ap, ◌∙◌, subst, arith, lit<, length-append}
+use Rattle.std.specs.Prelude.{ℤ, pos, ◌-ℤ◌, neg_ℤ, cond, ◌==◌, if◌then◌else◌}
 use Rattle.std.proofs.lemmas.Int.{ints}
 use Rattle.std.proofs.lemmas.Bool.{eq-eqb}
 use Rattle.std.proofs.lemmas.Bool.Decides.{nat_tests}
 use Rattle.pli_meaning.specs.declared.condition.Condition.TheVariants as C
 use Rattle.pli_meaning.specs.declared.instr.Instr.{Instr}
 use Rattle.pli_meaning.specs.Words.{word}
-use Rattle.pli_meaning.specs.Numbers.{is_of_precision, wrapped, Checked, Gives, Raises, checked, Sign, Positive, Negative, Operator, Add, Subtract, sign_applied, operator_applied}
+use Rattle.pli_meaning.specs.Numbers.{wrapped, Gives, Raises, checked, Positive, Negative, Operator, Add, Subtract, sign_applied, operator_applied}
 use Rattle.pli_meaning.specs.Services.{Service}
 use Rattle.pli_meaning.specs.Typed.{Variable, Number, Constant, Fetched, Grouped, Signed, Operated}
 use Rattle.pli_meaning.specs.Storage.{State, Generation, VariableName, generation_of, named, number_in}
-use Rattle.pli_meaning.specs.Flow.{give, looked, flow_on, ◌>>=◌, ◌>>◌, Meaning}
+use Rattle.pli_meaning.specs.Flow.{give, looked, flow_on, ◌>>=◌, Meaning}
 use Rattle.pli_meaning.specs.Meaning as M
 use Rattle.pli_meaning.specs.Meaning.{Around}
 use Rattle.pli_meaning.specs.Headline.{Whole}
-use Rattle.pli_meaning.proofs.Engine.{Base, HasAt, address, has_front, has_back, most_code}
+use Rattle.pli_meaning.proofs.Engine.{Base, HasAt, has_front, has_back}
 use Rattle.rv_codegen.specs.Registers.{a0_register, a1_register}
 use Rattle.rv_codegen.specs.Code.{first_variable, small, slot_load, slot_store, checked_code, number_code}
 use Rattle.rv_codegen.proofs.Numbers.{IsWide}
