@@ -11,7 +11,7 @@ pub const BOUND: &str = "bound";
 
 pub const BASE: &str = "base";
 
-fn run(alloc: Global) -> Result<Command<'static>, AllocError> {
+fn run<'a>(alloc: Global) -> Result<Command<'a>, AllocError> {
     let source = Arg::new(alloc, SOURCE)
         .required(true)
         .action(ArgAction::Set)
@@ -44,7 +44,7 @@ fn run(alloc: Global) -> Result<Command<'static>, AllocError> {
 }
 
 /// `pli` with its subcommands.
-pub fn command(alloc: Global) -> Result<Command<'static>, AllocError> {
+pub fn command<'a>(alloc: Global) -> Result<Command<'a>, AllocError> {
     Command::new(alloc, "pli")
         .version("0.1.0")
         .about("Compiles whole-number PL/I to RV32IM and runs it")

@@ -10,6 +10,7 @@ use pli_meaning::fault::{SourceFault, SourceKind};
 use pli_meaning::outcome::Outcome;
 use pli_parse::parse;
 use pli_run::run::{RunFault, run};
+use rv_codegen::generate::{GenFault, generate};
 use rv_isa::image::Image;
 use rv_machine::base::valid_base;
 use std::alloc::Global;
@@ -30,8 +31,10 @@ pub fn compile(alloc: Global, source: &[u8]) -> Result<Image, SourceFault>
 {
     let tokens = tokens(alloc, source)?;
     let tree = parse(alloc, source, &tokens)?;
-    let _ = tree;
-    Err(OUT_OF_MEMORY)
+    match generate(alloc, &tree) {
+        Ok(code) => Ok(Image::from_code(code)),
+        Err(GenFault::Memory) => Err(OUT_OF_MEMORY),
+    }
 }
 
 /// Compiles a source and runs it at a base, on an input, for at most `bound` instructions. What it answers shows the

@@ -190,6 +190,7 @@ code_of weight code p made h words statics table calls entry =
       no_calls = calls;
       entered_first = entry;
       loadable = subst (λ t. IsLoadable (program made.words.items made.statics.items made.entry t)) (sym table) d;
+      fits = h.fits;
       short = h.short;
       promised = h.promised;
     }

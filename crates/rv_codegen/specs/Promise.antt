@@ -30,5 +30,6 @@ pub record IsCodeOf (p : Program) (weight : ℕ) (code : Code) : Type 0 where
   pub no_calls : vec_len code.calls ≡ 0
   pub entered_first : code.entry ≡ 0
   pub loadable : IsLoadable (program code.words.items code.statics.items code.entry code.table.items)
+  pub fits : AllFit (program_code p)
   pub short : length (program_code p) ≤ most_words weight
   pub promised : Headline p (picture_of (program_code p))
