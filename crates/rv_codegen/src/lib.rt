@@ -7,3 +7,5 @@ mod names;
 mod parts;
 mod registers;
 mod statement;
+#[cfg(test)]
+mod tests;
