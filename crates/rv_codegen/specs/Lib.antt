@@ -3,3 +3,4 @@ pub mod Code
 pub mod Weights
 pub mod Emitted
 pub mod Promise
+pub mod Example

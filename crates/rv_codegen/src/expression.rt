@@ -8,6 +8,7 @@ ghost use Rattle.rv_codegen.specs.Code.{checked_code, operator_code};
 ghost use Rattle.rv_codegen.specs.Emitted.{right_test, check_code, constant_code, prefix_code, infix_code, expr_code, fetch_code, index_at};
 ghost use Rattle.rv_codegen.specs.Weights.{expr_weight};
 
+use crate::frame;
 use crate::names::position_of;
 use crate::parts::{
     put, put_large, put_overflow, put_skip, put_slot_load, put_slot_store, put_small,
@@ -125,7 +126,7 @@ fn put_fetch(
     ensures { OnOk result (code.new.items ≡ code.old.items ++ fetch_code (index_at (map (λ n. n.now) scope.now) (reference_of reference.now))) }
 {
     match position_of(scope, reference) {
-        Some(index) => put_slot_load(code, a0(), 4 + index as u32),
+        Some(index) => put_slot_load(code, a0(), frame::FIRST_VARIABLE + index as u32),
         None => Ok(()),
     }
 }

@@ -12,8 +12,8 @@ ghost use Rattle.rv_codegen.specs.Weights.{item_weight, items_weight, ItemLines,
 
 use crate::names::add_items;
 use crate::parts::{put, put_call, put_small};
-use crate::registers;
 use crate::statement::{put_act, put_items};
+use crate::{frame, registers, service};
 use pli_meaning::instr::Instr;
 use pli_meaning::stmt::{Item, Items, Tree};
 use rv_isa::code::Code;
@@ -40,7 +40,7 @@ fn put_finish(code: &mut Vec<Instr>) -> Result<(), AllocError>
 {
     put_small(code, registers::a0(), 0)?;
     put_small(code, registers::a1(), 0)?;
-    put_call(code, 2)
+    put_call(code, service::FINISH)
 }
 
 // The main procedure, entered on this line.
@@ -57,11 +57,16 @@ fn put_body(alloc: Global, code: &mut Vec<Instr>, line: u32, body: &Items) -> Re
         code,
         Instr::AddUpperToPc {
             rd: registers::frame(),
-            upper: 7 << 8,
+            upper: frame::OFFSET >> 12,
         },
     )?;
     put_act(code, line)?;
-    put_items(code, &scope, 4 + scope.len() as u32, body)?;
+    put_items(
+        code,
+        &scope,
+        frame::FIRST_VARIABLE + scope.len() as u32,
+        body,
+    )?;
     put_finish(code)
 }
 

@@ -2,8 +2,12 @@
 #![tactic(auto)]
 
 mod expression;
+mod frame;
 pub mod generate;
 mod names;
 mod parts;
 mod registers;
+mod service;
 mod statement;
+#[cfg(test)]
+mod tests;

@@ -3,7 +3,7 @@
 ghost use Rattle.std.specs.Prelude.{◌≡◌, ◌+◌, ◌^◌, ◌<◌, ◌≤◌, [], ◌∷◌, ◌++◌, pos, OnOk};
 ghost use Rattle.rv_codegen.specs.Code.{small, upper_part, lower_part, large, slot_address, slot_load, slot_store, call, error_code, overflow_code, skip_if_equal};
 
-use crate::registers;
+use crate::{registers, service};
 use pli_meaning::instr::{
     BranchTest, ImmediateOp, Instr, LoadKind, Register, RegisterOp, StoreKind,
 };
@@ -178,9 +178,9 @@ pub(crate) fn put_error(code: &mut Vec<Instr>) -> Result<(), AllocError>
     ensures { OnOk result (code.new.items ≡ code.old.items ++ error_code) }
 {
     put_small(code, registers::a0(), 5)?;
-    put_call(code, 30)?;
+    put_call(code, service::RAISE)?;
     put_small(code, registers::a0(), 2)?;
-    put_call(code, 2)
+    put_call(code, service::FINISH)
 }
 
 // FIXEDOVERFLOW is raised, and then ERROR.
@@ -189,6 +189,6 @@ pub(crate) fn put_overflow(code: &mut Vec<Instr>) -> Result<(), AllocError>
 {
     put_small(code, registers::a0(), 2)?;
     put_small(code, registers::a1(), 20)?;
-    put_call(code, 30)?;
+    put_call(code, service::RAISE)?;
     put_error(code)
 }

@@ -10,7 +10,7 @@ ghost use Rattle.rv_codegen.specs.Weights.{expr_weight, exprs_weight, pairs_weig
 use crate::expression::put_expr;
 use crate::names::position_of;
 use crate::parts::{put, put_call, put_error, put_large, put_skip, put_slot_store, put_small};
-use crate::registers;
+use crate::{frame, registers, service};
 use pli_meaning::expr::{Expr, Exprs, Reference};
 use pli_meaning::instr::Instr;
 use pli_meaning::stmt::{EditPair, Format, Formats, Item, Items, Stmt};
@@ -23,7 +23,7 @@ pub(crate) fn put_act(code: &mut Vec<Instr>, line: u32) -> Result<(), AllocError
 {
     put_large(code, registers::a0(), line)?;
     put_small(code, registers::a1(), 0)?;
-    put_call(code, 1)
+    put_call(code, service::ACT)
 }
 
 // One item of kind 1, once.
@@ -51,7 +51,7 @@ fn put_field(code: &mut Vec<Instr>) -> Result<(), AllocError>
     ensures { OnOk result (code.new.items ≡ code.old.items ++ field_code) }
 {
     put_small(code, registers::a1(), 0)?;
-    put_call(code, 36)?;
+    put_call(code, service::EDIT_NUMBER)?;
     put_skip(code, registers::a1(), registers::zero(), 6)?;
     put_error(code)?;
     put_small(code, registers::a1(), 1)?;
@@ -72,12 +72,12 @@ fn put_edited(
     ensures { OnOk result (code.new.items ≡ code.old.items ++ field_put (map (λ n. n.now) scope.now) taken width (expr_of e.now)) }
 {
     put_format(code, width)?;
-    put_large(code, registers::a0(), 7 << 20)?;
+    put_large(code, registers::a0(), frame::OFFSET)?;
     put_small(code, registers::a1(), 1)?;
-    put_call(code, 34)?;
+    put_call(code, service::BEGIN_EDIT)?;
     put_expr(code, scope, taken, e)?;
     put_field(code)?;
-    put_call(code, 38)
+    put_call(code, service::FINISH_EDIT)
 }
 
 #[tactic(auto, unfolding(pli_meaning::specs::View::exprs_of))]
@@ -171,7 +171,7 @@ fn put_store(code: &mut Vec<Instr>, scope: &[&[u8]], target: &Reference) -> Resu
     ensures { OnOk result (code.new.items ≡ code.old.items ++ store_code (index_at (map (λ n. n.now) scope.now) (reference_of target.now))) }
 {
     match position_of(scope, target) {
-        Some(index) => put_slot_store(code, registers::a0(), 4 + index as u32),
+        Some(index) => put_slot_store(code, registers::a0(), frame::FIRST_VARIABLE + index as u32),
         None => Ok(()),
     }
 }
