@@ -3,6 +3,8 @@
 
 mod command;
 pub mod compile;
+#[cfg(test)]
+mod tests;
 
 use clap::ArgMatches;
 use compile::compile_and_run;

@@ -1,0 +1,111 @@
+// Whole sources, from their bytes to what a run of them shows.
+
+use crate::compile::{compile, compile_and_run};
+use pli_meaning::condition::Condition;
+use pli_meaning::fault::{SourceFault, SourceKind};
+use pli_meaning::outcome::{End, Outcome};
+use pli_run::run::RunFault;
+use std::alloc::Global;
+use std::test::Fail;
+
+const PUT_SUM: &str = "T: PROCEDURE OPTIONS(MAIN); PUT EDIT (1+2) (F(5)); END T;";
+
+const SUM_TOO_LARGE: &str = "T: PROC OPTIONS(MAIN);\nPUT EDIT (2147483647+1) (F(9));\nEND T;\n";
+
+const TOO_WIDE: &str = "T: PROC OPTIONS(MAIN);\nPUT EDIT (12345) (F(4));\nEND T;\n";
+
+const ASSIGNED: &str =
+    "T: PROC OPTIONS(MAIN); DCL (A, B) FIXED BIN(31); A = 1; B = A + 2;\nPUT EDIT (B - -4) (F(5)); END;";
+
+const BASES: [u32; 4] = [0, 4096, 65536, 0xff00_0000];
+
+fn ran(rt: &HostRuntime, source: &str, base: u32, bound: u64) -> Result<Outcome, RunFault> {
+    compile_and_run(rt.alloc(), source.as_bytes(), &[], base, bound)
+}
+
+#[test]
+fn a_sum_is_printed_at_every_base(rt: HostRuntime) -> Result<(), Fail> {
+    for base in BASES {
+        let Ok(outcome) = ran(&rt, PUT_SUM, base, 1000) else {
+            return Err(Fail::from("an outcome"));
+        };
+        assert!(rt; outcome.output.as_slice() == b"    3\n".as_slice());
+        assert!(rt; outcome.acts == 4 && outcome.end == End::Finished);
+        assert!(rt; outcome.raised.is_empty());
+    }
+    Ok(())
+}
+
+#[test]
+fn a_base_is_judged_before_the_source(rt: HostRuntime) {
+    assert!(rt; matches!(ran(&rt, PUT_SUM, 1, 1000), Err(RunFault::BadBase)));
+    assert!(rt; matches!(ran(&rt, "?", 0xff00_1000, 1000), Err(RunFault::BadBase)));
+}
+
+#[test]
+fn what_does_not_fit_ends_the_run(rt: HostRuntime) -> Result<(), Fail> {
+    let Ok(large) = ran(&rt, SUM_TOO_LARGE, 65536, 1000) else {
+        return Err(Fail::from("an outcome"));
+    };
+    let raised = [(Condition::FixedOverflow, 20), (Condition::Error, 20)];
+    assert!(rt; large.raised.as_slice() == raised.as_slice() && large.acts == 5);
+    assert!(rt; large.end == End::Error { code: 20, line: 2 });
+    let Ok(wide) = ran(&rt, TOO_WIDE, 65536, 1000) else {
+        return Err(Fail::from("an outcome"));
+    };
+    let raised = [(Condition::Error, 105)];
+    assert!(rt; wide.raised.as_slice() == raised.as_slice() && wide.acts == 4);
+    assert!(rt; wide.end == End::Error { code: 105, line: 2 } && wide.output.is_empty());
+    Ok(())
+}
+
+#[test]
+fn variables_keep_their_values(rt: HostRuntime) -> Result<(), Fail> {
+    let Ok(outcome) = ran(&rt, ASSIGNED, 65536, 10_000) else {
+        return Err(Fail::from("an outcome"));
+    };
+    assert!(rt; outcome.output.as_slice() == b"    7\n".as_slice() && outcome.acts == 6);
+    Ok(())
+}
+
+#[test]
+fn a_bound_leaves_the_run_going(rt: HostRuntime) -> Result<(), Fail> {
+    let Ok(image) = compile(rt.alloc(), PUT_SUM.as_bytes()) else {
+        return Err(Fail::from("an image"));
+    };
+    let cost = image.step_cost();
+    for bound in 0..200 {
+        let Ok(outcome) = ran(&rt, PUT_SUM, 65536, bound) else {
+            return Err(Fail::from("an outcome"));
+        };
+        assert!(rt; outcome.end != End::Running || outcome.acts >= bound / cost);
+    }
+    Ok(())
+}
+
+#[test]
+fn refusals_have_their_places(rt: HostRuntime) -> Result<(), Fail> {
+    let Err(fault) = compile(rt.alloc(), b"T: PROC OPTIONS(MAIN); STOP; END;") else {
+        return Err(Fail::from("a refusal"));
+    };
+    assert!(rt;
+        fault
+            == SourceFault {
+                line: 1,
+                column: 24,
+                kind: SourceKind::LeftOut
+            }
+    );
+    let Err(empty) = compile(rt.alloc(), b" /* nothing */ ") else {
+        return Err(Fail::from("a refusal"));
+    };
+    assert!(rt;
+        empty
+            == SourceFault {
+                line: 1,
+                column: 1,
+                kind: SourceKind::NoMain
+            }
+    );
+    Ok(())
+}
