@@ -74,6 +74,10 @@ fn a_bound_leaves_the_run_going(rt: HostRuntime) -> Result<(), Fail> {
         return Err(Fail::from("an image"));
     };
     let cost = image.step_cost();
+    let Ok(none) = ran(&rt, PUT_SUM, 65536, 0) else {
+        return Err(Fail::from("an outcome"));
+    };
+    assert!(rt; none.end == End::Running && none.acts == 0 && none.output.is_empty());
     for bound in 0..200 {
         let Ok(outcome) = ran(&rt, PUT_SUM, 65536, bound) else {
             return Err(Fail::from("an outcome"));
