@@ -75,9 +75,10 @@ fn run(rt: &HostRuntime, matches: &ArgMatches<'_>) -> u8 {
 }
 
 // Parses the words, and does what they ask for.
-fn answer(rt: &HostRuntime, words: &[String]) -> io::Result<u8> {
+fn answer(rt: &HostRuntime) -> io::Result<u8> {
+    let words: Vec<String> = env::args(rt)?.collect(rt.alloc())?;
     let command = command::command(rt.alloc())?;
-    match command.try_get_matches_from(words) {
+    match command.try_get_matches_from(words.as_slice()) {
         Ok(matches) => match matches.subcommand() {
             Some((_, matches)) => Ok(run(rt, matches)),
             None => Ok(USAGE),
@@ -89,16 +90,15 @@ fn answer(rt: &HostRuntime, words: &[String]) -> io::Result<u8> {
     }
 }
 
-fn main(rt: HostRuntime) -> io::Result<ExitCode> {
-    let words: Vec<String> = env::args(&rt)?.collect(rt.alloc())?;
-    match answer(&rt, &words) {
-        Ok(status) => Ok(ExitCode::from(status)),
-        Err(_) => Ok(ExitCode::from(tell(
+fn main(rt: HostRuntime) -> ExitCode {
+    match answer(&rt) {
+        Ok(status) => ExitCode::from(status),
+        Err(_) => ExitCode::from(tell(
             &rt,
             Notice {
                 status: 4,
                 line: Some(Line::Memory),
             },
-        ))),
+        )),
     }
 }
