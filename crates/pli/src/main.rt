@@ -7,6 +7,7 @@ pub mod compile;
 mod tests;
 
 use clap::ArgMatches;
+use clap::error::ErrorKind;
 use compile::compile_and_run;
 use pli_meaning::outcome::Outcome;
 use pli_run::report::{Line, Notice, report, unread, unwritten};
@@ -74,6 +75,15 @@ fn run(rt: &HostRuntime, matches: &ArgMatches<'_>) -> u8 {
     )
 }
 
+// Help, the version, or what is wrong with the words.
+fn told(rt: &HostRuntime, error: &clap::Error) -> io::Result<u8> {
+    if error.kind() == ErrorKind::OutOfMemory {
+        return Err(io::Error::from(io::ErrorKind::OutOfMemory));
+    }
+    error.print(rt)?;
+    Ok(if error.use_stderr() { USAGE } else { 0 })
+}
+
 // Parses the words, and does what they ask for.
 fn answer(rt: &HostRuntime) -> io::Result<u8> {
     let words: Vec<String> = env::args(rt)?.collect(rt.alloc())?;
@@ -83,10 +93,7 @@ fn answer(rt: &HostRuntime) -> io::Result<u8> {
             Some((_, matches)) => Ok(run(rt, matches)),
             None => Ok(USAGE),
         },
-        Err(error) => {
-            error.print(rt)?;
-            Ok(if error.use_stderr() { USAGE } else { 0 })
-        }
+        Err(error) => told(rt, &error),
     }
 }
 
