@@ -7,6 +7,7 @@ pub mod compile;
 mod tests;
 
 use clap::ArgMatches;
+use clap::error::ErrorKind;
 use compile::compile_and_run;
 use pli_meaning::outcome::Outcome;
 use pli_run::report::{Line, Notice, report, unread, unwritten};
@@ -74,31 +75,37 @@ fn run(rt: &HostRuntime, matches: &ArgMatches<'_>) -> u8 {
     )
 }
 
+// Help, the version, or what is wrong with the words.
+fn told(rt: &HostRuntime, error: &clap::Error) -> io::Result<u8> {
+    if error.kind() == ErrorKind::OutOfMemory {
+        return Err(io::Error::from(io::ErrorKind::OutOfMemory));
+    }
+    error.print(rt)?;
+    Ok(if error.use_stderr() { USAGE } else { 0 })
+}
+
 // Parses the words, and does what they ask for.
-fn answer(rt: &HostRuntime, words: &[String]) -> io::Result<u8> {
+fn answer(rt: &HostRuntime) -> io::Result<u8> {
+    let words: Vec<String> = env::args(rt)?.collect(rt.alloc())?;
     let command = command::command(rt.alloc())?;
-    match command.try_get_matches_from(words) {
+    match command.try_get_matches_from(words.as_slice()) {
         Ok(matches) => match matches.subcommand() {
             Some((_, matches)) => Ok(run(rt, matches)),
             None => Ok(USAGE),
         },
-        Err(error) => {
-            error.print(rt)?;
-            Ok(if error.use_stderr() { USAGE } else { 0 })
-        }
+        Err(error) => told(rt, &error),
     }
 }
 
-fn main(rt: HostRuntime) -> io::Result<ExitCode> {
-    let words: Vec<String> = env::args(&rt)?.collect(rt.alloc())?;
-    match answer(&rt, &words) {
-        Ok(status) => Ok(ExitCode::from(status)),
-        Err(_) => Ok(ExitCode::from(tell(
+fn main(rt: HostRuntime) -> ExitCode {
+    match answer(&rt) {
+        Ok(status) => ExitCode::from(status),
+        Err(_) => ExitCode::from(tell(
             &rt,
             Notice {
                 status: 4,
                 line: Some(Line::Memory),
             },
-        ))),
+        )),
     }
 }
