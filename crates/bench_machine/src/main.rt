@@ -7,8 +7,8 @@ ghost use Rattle.std.specs.Prelude.{◌≡◌, ℕ, ◌^◌, ◌<◌, List, leng
 
 use anyhow::anyhow;
 use programs::{arithmetic_loop, memory_loop};
+use rv_image::image::{Image, is_loadable};
 use rv_isa::code::Code;
-use rv_isa::image::{Image, is_loadable};
 use rv_machine::machine::{Machine, Step};
 use rv_machine::services::{Served, Services};
 use rv_machine::storage::Storage;

@@ -8,13 +8,13 @@ use Rattle.pli_meaning.specs.declared.instr.Instr.{Instr}
 use Rattle.pli_meaning.specs.Encoding.{Fits}
 use Rattle.pli_meaning.specs.Tokens.{Tokens}
 use Rattle.pli_meaning.specs.Tree as T
-use Rattle.pli_meaning.specs.Spells.{Spells}
+use Rattle.pli_meaning.specs.FirstPath.{Spells}
 use Rattle.pli_meaning.specs.Typed.{Program}
 use Rattle.pli_meaning.specs.Typing.{typed}
 use Rattle.pli_meaning.specs.Machine.{IsValidBase}
 use Rattle.pli_meaning.specs.Headline.{Picture, Headline, Keeps, Run, Stopped, run_of, shown_by}
 use Rattle.rv_isa.specs.declared.code.Code.{Code}
-use Rattle.rv_isa.specs.Images as Images
+use Rattle.pli_meaning.specs.Images as Images
 use Rattle.rv_machine.specs.Fitting as Fitting
 use Rattle.rv_codegen.specs.Code.{program_code}
 use Rattle.rv_codegen.specs.Promise.{AllFit, IsCodeOf, picture_of}
@@ -36,7 +36,7 @@ all_fit (x ∷ xs) h zero i e =
 all_fit (x ∷ xs) h (suc k) i e = all_fit xs h.1 k i e
 
 -- the image of the code that is generated for a source's tree
-pub compiled : {s : List ℕ} {ts : List Token} {tree : T.Tree} {made : Code} (p : Program) → Tokens s ts → Spells s ts tree → typed tree ≡ Some p → IsCodeOf p (weight tree) made → IsCompiled s (Images.program made.words.items made.statics.items made.entry made.table.items)
+pub compiled : {s : List ℕ} {ts : List Token} {tree : T.Tree} {made : Code} (p : Program) → Tokens s ts → Spells s ts tree → typed tree ≡ Some p → IsCodeOf p (weight tree) made → IsCompiled s (Images.image made.words.items made.statics.items made.entry made.table.items)
 compiled {ts = ts} {tree = tree} p read spelled is made =
     let short = made.short in
     let small = tree_weighs spelled in
@@ -72,7 +72,7 @@ refused {s = s} {ts = ts} (Err at) e t (inr h) k =
     no_program ts at t e h (λ program a. absurd (cc (k (λ m. apart s ts at (sym h ∙ m)) a.tree a.spelled, a.typed_is)))
 
 -- what a run of a compiled source's image tells
-pub answered : {s : List ℕ} {image : Images.Program} (c : IsCompiled s image) (base : ℕ) (input : List ℕ) (bound : ℕ) (r : Result Outcome RunFault) → IsValidBase base → bound < 2 ^ 64 → Tells (run_of c.picture base input) bound r → Answers s input bound r
+pub answered : {s : List ℕ} {image : Images.Image} (c : IsCompiled s image) (base : ℕ) (input : List ℕ) (bound : ℕ) (r : Result Outcome RunFault) → IsValidBase base → bound < 2 ^ 64 → Tells (run_of c.picture base input) bound r → Answers s input bound r
 answered c base input bound (Ok o) valid fits told =
     let shown = c.keeps base input bound valid fits in
     let same : Some shown.world ≡ Some (world_of o) = sym shown.shows ∙ told in

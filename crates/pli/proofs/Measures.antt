@@ -7,8 +7,8 @@ use Rattle.pli_meaning.specs.declared.token.Kind.{Kind}
 use Rattle.pli_meaning.specs.declared.token.Token.{Token}
 use Rattle.pli_meaning.specs.Tokens.{Tokens, Reads, no_more, one_more, line_after, most_bytes}
 use Rattle.pli_meaning.specs.Tree as T
-use Rattle.pli_meaning.specs.Spells as G
-use Rattle.pli_meaning.specs.Spells.{Takes}
+use Rattle.pli_meaning.specs.FirstPath as G
+use Rattle.pli_meaning.specs.FirstPath.{Takes}
 use Rattle.rv_codegen.specs.Weights.{expr_weight, exprs_weight, pairs_weight, stmt_weight, stmt_line, declared_weight, item_weight, items_weight, weight, ItemLines, SmallLines}
 
 -- the tokens' lines have 31 bits

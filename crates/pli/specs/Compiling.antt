@@ -5,13 +5,13 @@ use Rattle.pli_meaning.specs.declared.outcome.Outcome.{Outcome}
 use Rattle.pli_meaning.specs.declared.token.Token.{Token}
 use Rattle.pli_meaning.specs.Tokens.{Tokens, Refuses}
 use Rattle.pli_meaning.specs.Tree as T
-use Rattle.pli_meaning.specs.Spells.{Spells}
+use Rattle.pli_meaning.specs.FirstPath.{Spells}
 use Rattle.pli_meaning.specs.Typed.{Program}
 use Rattle.pli_meaning.specs.Typing.{typed}
 use Rattle.pli_meaning.specs.World.{World}
 use Rattle.pli_meaning.specs.Machine.{IsValidBase}
 use Rattle.pli_meaning.specs.Headline.{Picture, Headline, Keeps, run_of, shown_by, step_cost}
-use Rattle.rv_isa.specs.Images as Images
+use Rattle.pli_meaning.specs.Images as Images
 use Rattle.pli_parse.specs.Answers as Parsing
 use Rattle.pli_parse.specs.Reading.{tree_from}
 use Rattle.pli_run.specs.Running.{IsPicture, world_of}
@@ -30,7 +30,7 @@ abbrev pub most_step_cost : ℕ → ℕ
 most_step_cost tokens = 8002 + 208 * tokens
 
 -- an image that keeps the promise for a source
-pub record IsCompiled (s : List ℕ) (image : Images.Program) : Type 0 where
+pub record IsCompiled (s : List ℕ) (image : Images.Image) : Type 0 where
   pub tokens : List Token
   pub program : Program
   pub picture : Picture

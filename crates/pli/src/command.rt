@@ -5,17 +5,25 @@ use std::alloc::{AllocError, Global};
 
 pub const SOURCE: &str = "SRC";
 
+pub const IMAGE: &str = "IMG";
+
+pub const OUTPUT: &str = "output";
+
 pub const INPUT: &str = "input";
 
 pub const BOUND: &str = "bound";
 
 pub const BASE: &str = "base";
 
-fn run<'a>(alloc: Global) -> Result<Command<'a>, AllocError> {
-    let source = Arg::new(alloc, SOURCE)
+fn source<'a>(alloc: Global) -> Arg<'a> {
+    Arg::new(alloc, SOURCE)
         .required(true)
         .action(ArgAction::Set)
-        .help("The source");
+        .help("The source")
+}
+
+// What a run is told beside what it runs.
+fn with_run<'a>(command: Command<'a>, alloc: Global) -> Result<Command<'a>, AllocError> {
     let input = Arg::new(alloc, INPUT)
         .long(INPUT)
         .value_name("F")
@@ -35,12 +43,44 @@ fn run<'a>(alloc: Global) -> Result<Command<'a>, AllocError> {
         .value_parser(value_parser!(u32))
         .default_value("65536")
         .help("Where the program stands in the machine's memory");
-    Command::new(alloc, "run")
+    command.arg(input)?.arg(bound)?.arg(base)
+}
+
+fn compile<'a>(alloc: Global) -> Result<Command<'a>, AllocError> {
+    let output = Arg::new(alloc, OUTPUT)
+        .short('o')
+        .value_name(IMAGE)
+        .required(true)
+        .action(ArgAction::Set)
+        .help("The file that the image is written to");
+    Command::new(alloc, "compile")
+        .about("Compiles a source to an image")
+        .arg(source(alloc))?
+        .arg(output)
+}
+
+fn run<'a>(alloc: Global) -> Result<Command<'a>, AllocError> {
+    let command = Command::new(alloc, "run")
         .about("Compiles a source and runs it")
-        .arg(source)?
-        .arg(input)?
-        .arg(bound)?
-        .arg(base)
+        .arg(source(alloc))?;
+    with_run(command, alloc)
+}
+
+fn exec<'a>(alloc: Global) -> Result<Command<'a>, AllocError> {
+    let image = Arg::new(alloc, IMAGE)
+        .required(true)
+        .action(ArgAction::Set)
+        .help("The image");
+    let command = Command::new(alloc, "exec")
+        .about("Runs an image")
+        .arg(image)?;
+    with_run(command, alloc)
+}
+
+fn list<'a>(alloc: Global) -> Result<Command<'a>, AllocError> {
+    Command::new(alloc, "list")
+        .about("Compiles a source and lists its code words")
+        .arg(source(alloc))
 }
 
 /// `pli` with its subcommands.
@@ -49,5 +89,8 @@ pub fn command<'a>(alloc: Global) -> Result<Command<'a>, AllocError> {
         .version("0.1.0")
         .about("Compiles whole-number PL/I to RV32IM and runs it")
         .subcommand_required(true)
-        .subcommand(run(alloc)?)
+        .subcommand(compile(alloc)?)?
+        .subcommand(run(alloc)?)?
+        .subcommand(exec(alloc)?)?
+        .subcommand(list(alloc)?)
 }

@@ -11,7 +11,7 @@ use pli_meaning::outcome::Outcome;
 use pli_parse::parse;
 use pli_run::run::{RunFault, run};
 use rv_codegen::generate::{GenFault, generate};
-use rv_isa::image::Image;
+use rv_image::image::Image;
 use rv_machine::base::valid_base;
 use std::alloc::Global;
 

@@ -3,14 +3,18 @@
 
 mod command;
 pub mod compile;
+pub mod image_file;
+#[cfg(test)]
+mod image_tests;
 #[cfg(test)]
 mod tests;
 
 use clap::ArgMatches;
 use clap::error::ErrorKind;
-use compile::compile_and_run;
+use compile::{compile, compile_and_run};
+use image_file::{compiled_bytes, listing, run_bytes};
 use pli_meaning::outcome::Outcome;
-use pli_run::report::{Line, Notice, report, unread, unwritten};
+use pli_run::report::{Line, Notice, refused_image, refused_source, report, unread, unwritten};
 use pli_run::run::RunFault;
 use std::io::Read;
 use std::process::ExitCode;
@@ -75,6 +79,58 @@ fn run(rt: &HostRuntime, matches: &ArgMatches<'_>) -> u8 {
     )
 }
 
+// `pli compile`.
+fn write_image(rt: &HostRuntime, matches: &ArgMatches<'_>) -> u8 {
+    let name = matches.get_str(command::SOURCE).unwrap_or("");
+    let Ok(source) = fs::read(rt, name) else {
+        return tell(rt, unread(name));
+    };
+    let bytes = match compiled_bytes(rt.alloc(), &source) {
+        Ok(bytes) => bytes,
+        Err(fault) => return tell(rt, refused_source(fault)),
+    };
+    let file = matches.get_str(command::OUTPUT).unwrap_or("");
+    match fs::write(rt, file, bytes.as_slice()) {
+        Ok(()) => 0,
+        Err(_) => tell(rt, unwritten(file)),
+    }
+}
+
+// `pli exec`.
+fn exec(rt: &HostRuntime, matches: &ArgMatches<'_>) -> u8 {
+    let name = matches.get_str(command::IMAGE).unwrap_or("");
+    let Ok(image) = fs::read(rt, name) else {
+        return tell(rt, unread(name));
+    };
+    let file = matches.get_str(command::INPUT);
+    let Ok(input) = input_of(rt, file) else {
+        return tell(rt, unread(file.unwrap_or("stdin")));
+    };
+    let bound = matches.get_one::<u64>(command::BOUND).unwrap_or(0);
+    let base = matches.get_one::<u32>(command::BASE).unwrap_or(0);
+    match run_bytes(rt.alloc(), &image, &input, base, bound) {
+        Ok(ran) => shown(rt, &ran),
+        Err(fault) => tell(rt, refused_image(fault)),
+    }
+}
+
+// `pli list`.
+fn list(rt: &HostRuntime, matches: &ArgMatches<'_>) -> io::Result<u8> {
+    let name = matches.get_str(command::SOURCE).unwrap_or("");
+    let Ok(source) = fs::read(rt, name) else {
+        return Ok(tell(rt, unread(name)));
+    };
+    let image = match compile(rt.alloc(), &source) {
+        Ok(image) => image,
+        Err(fault) => return Ok(tell(rt, refused_source(fault))),
+    };
+    let text = listing(rt.alloc(), &image)?;
+    match rt.write_all(text.as_bytes()) {
+        Ok(()) => Ok(0),
+        Err(_) => Ok(tell(rt, unwritten("stdout"))),
+    }
+}
+
 // Help, the version, or what is wrong with the words.
 fn told(rt: &HostRuntime, error: &clap::Error) -> io::Result<u8> {
     if error.kind() == ErrorKind::OutOfMemory {
@@ -90,6 +146,9 @@ fn answer(rt: &HostRuntime) -> io::Result<u8> {
     let command = command::command(rt.alloc())?;
     match command.try_get_matches_from(words.as_slice()) {
         Ok(matches) => match matches.subcommand() {
+            Some(("compile", matches)) => Ok(write_image(rt, matches)),
+            Some(("exec", matches)) => Ok(exec(rt, matches)),
+            Some(("list", matches)) => list(rt, matches),
             Some((_, matches)) => Ok(run(rt, matches)),
             None => Ok(USAGE),
         },

@@ -1,5 +1,9 @@
 mod MachineRows
+mod GrammarRows
+mod HeadRows
+mod SourceRows
 mod MeaningRows
+mod DeclaringRows
 pub mod Steps
 pub mod Growth
 pub mod Engine
@@ -7,3 +11,11 @@ pub mod Whole
 pub mod MemoryLaws
 pub mod Unique
 pub mod Views
+pub mod Least
+pub mod UniqueFormats
+pub mod UniqueAttributes
+pub mod UniqueParts
+pub mod UniqueHeads
+pub mod UniqueLeftOut
+pub mod UniqueSource
+pub mod ImageBytes

@@ -40,7 +40,8 @@ then' s items = T.ItemThen (T.Statement [] s) items
 abbrev put : T.Expr → ℕ → ℕ → T.Stmt
 put e width line = T.Put None (record {
   items = T.ExprThen e T.NoExpr;
-  formats = T.FormatThen 1 (T.FixedFormat width) T.NoFormat;
+  formats = T.FormatThen (at line 1) 1 (T.FixedFormat width) T.NoFormat;
+  place = at line 1;
 } ∷ []) (at line 1)
 
 abbrev number : ℕ → T.Expr

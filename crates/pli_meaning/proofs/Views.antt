@@ -22,7 +22,7 @@ use Rattle.pli_meaning.specs.declared.stmt.Item as I
 use Rattle.pli_meaning.specs.declared.stmt.Items.{Items as ItemsHeld}
 use Rattle.pli_meaning.specs.declared.stmt.Items as J
 use Rattle.pli_meaning.specs.Tree.{FormatList, FixedFormat, TextFormat, SpaceFormat, SkipFormat, ColumnFormat, NoFormat, FormatThen, Null, Assign, If, IfElse, Do, DoWhile, DoCount, Begin, OnSystem, OnUnit, Call, Return, Goto, Stop, Signal, Revert, Allocate, Free, Get, Put, Procedure, Declare, Statement, EndLabels, NoItem, ItemThen}
-use Rattle.pli_meaning.specs.View.{name_of, expr_of, reference_of, qualified_of, arguments_of, exprs_of, option_of, declare_item_of, allocation_of, freeing_of, format_of, formats_of, edit_pair_of, procedure_head_of, counting_of, stmt_of, item_of, items_of}
+use Rattle.pli_meaning.specs.View.{name_of, expr_of, reference_of, qualified_of, arguments_of, exprs_of, option_of, declare_item_of, allocation_of, freeing_of, format_of, formats_of, edit_pair_of, skip_of, procedure_head_of, counting_of, stmt_of, item_of, items_of}
 
 pub expr_of-Number : (v : _) (p : _) → expr_of (E.Number v p) ≡ Number v p
 unfolding expr_of
@@ -112,9 +112,9 @@ pub formats_of-End : formats_of G.End ≡ NoFormat
 unfolding formats_of
 formats_of-End = refl
 
-pub formats_of-More : (n : _) (f : _) (a : _) (fs : _) → formats_of (G.More' n f a fs) ≡ FormatThen n (format_of f) (formats_of fs)
+pub formats_of-More : (p : _) (n : _) (f : _) (a : _) (fs : _) → formats_of (G.More' p n f a fs) ≡ FormatThen p n (format_of f) (formats_of fs)
 unfolding formats_of
-formats_of-More n f a fs = refl
+formats_of-More p n f a fs = refl
 
 pub stmt_of-Null : (p : _) → stmt_of (S.Null p) ≡ Null p
 unfolding stmt_of
@@ -188,11 +188,11 @@ pub stmt_of-Free : (fs : _) (p : _) → stmt_of (S.Free fs p) ≡ Free (map free
 unfolding stmt_of
 stmt_of-Free fs p = refl
 
-pub stmt_of-Get : (n : _) (ps : _) (p : _) → stmt_of (S.Get n ps p) ≡ Get n (map edit_pair_of ps.items) p
+pub stmt_of-Get : (n : _) (ps : _) (p : _) → stmt_of (S.Get n ps p) ≡ Get (option_of skip_of n) (map edit_pair_of ps.items) p
 unfolding stmt_of
 stmt_of-Get n ps p = refl
 
-pub stmt_of-Put : (n : _) (ps : _) (p : _) → stmt_of (S.Put n ps p) ≡ Put n (map edit_pair_of ps.items) p
+pub stmt_of-Put : (n : _) (ps : _) (p : _) → stmt_of (S.Put n ps p) ≡ Put (option_of skip_of n) (map edit_pair_of ps.items) p
 unfolding stmt_of
 stmt_of-Put n ps p = refl
 
@@ -208,9 +208,9 @@ pub item_of-Statement : (ls : _) (s : _) → item_of (I.Statement ls s) ≡ Stat
 unfolding item_of
 item_of-Statement ls s = refl
 
-pub item_of-EndLabels : (ls : _) → item_of (I.EndLabels ls) ≡ EndLabels (map name_of ls.items)
+pub item_of-EndLabels : (ls : _) (p : _) → item_of (I.EndLabels ls p) ≡ EndLabels (map name_of ls.items) p
 unfolding item_of
-item_of-EndLabels ls = refl
+item_of-EndLabels ls p = refl
 
 pub items_of-End : items_of J.End ≡ NoItem
 unfolding items_of

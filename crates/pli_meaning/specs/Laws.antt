@@ -1,16 +1,28 @@
 -- Laws of the definitions, each of which a function of `src/laws.rt` carries.
-use Rattle.std.specs.Prelude.{◌≡◌, ◌≢◌, ℕ, suc, ◌≤◌, List, ◌++◌, Some}
+use Rattle.std.specs.Prelude.{◌≡◌, ◌≢◌, ℕ, suc, ◌≤◌, List, [], ◌++◌, Option, Some}
+use Rattle.pli_meaning.specs.declared.fault.SourceFault.{SourceFault}
 use Rattle.pli_meaning.specs.declared.outcome.End.TheVariants.{Running}
+use Rattle.pli_meaning.specs.declared.image.ImageFault.{ImageFault}
 use Rattle.pli_meaning.specs.declared.token.Token.{Token}
 use Rattle.pli_meaning.specs.World.{World}
 use Rattle.pli_meaning.specs.Tree.{Tree}
 use Rattle.pli_meaning.specs.Typed.{Program}
-use Rattle.pli_meaning.specs.Spells.{Spells}
+use Rattle.pli_meaning.specs.Nesting.{outermost}
+use Rattle.pli_meaning.specs.Parsing.{Reads, Spells, RefusesTokens}
 use Rattle.pli_meaning.specs.Meaning.{meaning}
+use Rattle.pli_meaning.specs.Images.{Image, HasBytes, Keeps}
 
 -- a token list spells at most one tree
 abbrev pub SpelledOnce : Type 0
 SpelledOnce = (source : List ℕ) (tokens : List Token) (tree tree' : Tree) → Spells source tokens tree → Spells source tokens tree' → tree ≡ tree'
+
+-- a token list that spells a tree is read no other way: no reading of it has a refusal, or another tree, or none
+abbrev pub ReadOnce : Type 0
+ReadOnce = (source : List ℕ) (tokens : List Token) (tree : Tree) (faults : List SourceFault) (found : Option Tree) → Spells source tokens tree → Reads source outermost tokens faults found → (faults ≡ []) × (found ≡ Some tree)
+
+-- no token list both spells a tree and is refused
+abbrev pub NeverBoth : Type 0
+NeverBoth = (source : List ℕ) (tokens : List Token) (tree : Tree) (f : SourceFault) → Spells source tokens tree → ¬ RefusesTokens source tokens f
 
 -- ys begins with xs
 pub record IsPrefix {X : Type 0} (xs ys : List X) : Type 0 where
@@ -34,3 +46,12 @@ EndedStays = (program : Program) (input : List ℕ) (k : ℕ) (w : World) → me
 -- a program does at most the acts that are allowed, and exactly those where it is still running
 abbrev pub ActsAllowed : Type 0
 ActsAllowed = (program : Program) (input : List ℕ) (k : ℕ) (w : World) → meaning program input k ≡ Some w → (w.acts ≤ k) × (w.end ≡ Running → w.acts ≡ k)
+
+-- an image has one list of bytes, and a list of bytes is that of one image at most
+pub record OneToOne : Type 0 where
+  pub one_spelling : (i : Image) (b c : List ℕ) → HasBytes i b → HasBytes i c → b ≡ c
+  pub one_image : (i j : Image) (b : List ℕ) → HasBytes i b → HasBytes j b → i ≡ j
+
+-- the bytes of an image keep all the rules for whose breach bytes are refused
+abbrev pub KeepsAll : Type 0
+KeepsAll = (i : Image) (b : List ℕ) (fault : ImageFault) → HasBytes i b → Keeps fault b

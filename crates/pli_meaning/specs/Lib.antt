@@ -6,6 +6,10 @@ pub mod Keywords
 pub mod Tokens
 pub mod Tree
 pub mod View
+pub mod Refusals
+pub mod Declarations
+pub mod Means
+pub mod Declaring
 pub mod Stream
 pub mod World
 pub mod Codes
@@ -17,6 +21,15 @@ pub mod Flow
 pub mod Meaning
 pub mod Typing
 pub mod Spells
+pub mod FirstPath
+pub mod Marks
+pub mod Attributes
+pub mod Formats
+pub mod Heads
+pub mod Nesting
+pub mod Parsing
 pub mod Laws
 pub mod Services
+pub mod Tables
+pub mod Images
 pub mod Headline

@@ -113,11 +113,16 @@ mutual
 
   pub data Formats : Type 0 where
     NoFormat : Formats
-    FormatThen : (repetition : ℕ) → (first : Format) → (rest : Formats) → Formats
+    FormatThen : (place : Place) → (repetition : ℕ) → (first : Format) → (rest : Formats) → Formats
 
 pub record EditPair : Type 0 where
   pub items : Exprs
   pub formats : Formats
+  pub place : Place
+
+pub record Skip : Type 0 where
+  pub number : ℕ
+  pub place : Place
 
 pub data ProcedureOption : Type 0 where
   Main Recursive : ProcedureOption
@@ -156,14 +161,14 @@ mutual
     Revert : (condition : Condition) → (place : Place) → Stmt
     Allocate : (allocations : List Allocation) → (place : Place) → Stmt
     Free : (freeings : List Freeing) → (place : Place) → Stmt
-    Get : (skip : Option ℕ) → (pairs : List EditPair) → (place : Place) → Stmt
-    Put : (skip : Option ℕ) → (pairs : List EditPair) → (place : Place) → Stmt
+    Get : (skip : Option Skip) → (pairs : List EditPair) → (place : Place) → Stmt
+    Put : (skip : Option Skip) → (pairs : List EditPair) → (place : Place) → Stmt
 
   pub data Item : Type 0 where
     Procedure : (head : ProcedureHead) → (body : Items) → Item
     Declare : (items : List DeclareItem) → (place : Place) → Item
     Statement : (labels : List Name) → (statement : Stmt) → Item
-    EndLabels : (labels : List Name) → Item
+    EndLabels : (labels : List Name) → (place : Place) → Item
 
   pub data Items : Type 0 where
     NoItem : Items

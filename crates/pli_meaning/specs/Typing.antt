@@ -87,7 +87,7 @@ abbrev pub is_width : ℕ → Bool
 is_width n = nat_le 1 n && nat_le n 1024
 
 abbrev pub typed_format : T.Formats → Option (List Y.FormatItem)
-typed_format (T.FormatThen (suc zero) (T.FixedFormat width) T.NoFormat) =
+typed_format (T.FormatThen place (suc zero) (T.FixedFormat width) T.NoFormat) =
     if is_width width then Some (Y.FixedItem width ∷ []) else None
 typed_format _ = None
 

@@ -32,6 +32,7 @@ use Rattle.pli_meaning.specs.declared.stmt.Format as F
 use Rattle.pli_meaning.specs.declared.stmt.Formats.{Formats as FormatsHeld}
 use Rattle.pli_meaning.specs.declared.stmt.Formats as G
 use Rattle.pli_meaning.specs.declared.stmt.EditPair.{EditPair as EditPairHeld}
+use Rattle.pli_meaning.specs.declared.stmt.Skip.{Skip as SkipHeld}
 use Rattle.pli_meaning.specs.declared.stmt.ProcedureOption.{ProcedureOption as ProcedureOptionHeld}
 use Rattle.pli_meaning.specs.declared.stmt.ProcedureOption.TheVariants as O
 use Rattle.pli_meaning.specs.declared.stmt.ProcedureHead.{ProcedureHead as ProcedureHeadHeld}
@@ -44,7 +45,7 @@ use Rattle.pli_meaning.specs.declared.stmt.Items.{Items as ItemsHeld}
 use Rattle.pli_meaning.specs.declared.stmt.Items as J
 use Rattle.pli_meaning.specs.declared.stmt.Tree.{Tree as TreeHeld}
 use Rattle.pli_meaning.specs.Tree.{Refer, Extent, Bound, StarBound, Upper, Both, Size, StarSize, Given, InitialValue, InitialNumber, InitialText, InitialBit, InitialSkip, InitialNull, InitialEmpty, InitialItem, Attribute, Fixed, Binary, Character, Varying, BitOne, Pointer, Offset, Area, Automatic, Static, Controlled, Based, Initial, Builtin, Aligned, Unaligned, Internal, DeclaredName, DeclareItem, Allocation, Freeing}
-use Rattle.pli_meaning.specs.Tree.{Format, FormatList, FixedFormat, TextFormat, SpaceFormat, SkipFormat, ColumnFormat, Formats, NoFormat, FormatThen, EditPair, ProcedureOption, Main, Recursive, Returns, ProcedureHead, Counting, Stmt, Null, Assign, If, IfElse, Do, DoWhile, DoCount, Begin, OnSystem, OnUnit, Call, Return, Goto, Stop, Signal, Revert, Allocate, Free, Get, Put, Item, Procedure, Declare, Statement, EndLabels, Items, NoItem, ItemThen, Tree}
+use Rattle.pli_meaning.specs.Tree.{Format, FormatList, FixedFormat, TextFormat, SpaceFormat, SkipFormat, ColumnFormat, Formats, NoFormat, FormatThen, EditPair, Skip, ProcedureOption, Main, Recursive, Returns, ProcedureHead, Counting, Stmt, Null, Assign, If, IfElse, Do, DoWhile, DoCount, Begin, OnSystem, OnUnit, Call, Return, Goto, Stop, Signal, Revert, Allocate, Free, Get, Put, Item, Procedure, Declare, Statement, EndLabels, Items, NoItem, ItemThen, Tree}
 
 abbrev pub name_of : NameHeld → Name
 name_of n = record { letters = n.letters.items; word = n.word; place = n.place }
@@ -160,10 +161,13 @@ unfoldable mutual
 
   pub formats_of : FormatsHeld → Formats
   formats_of G.End = NoFormat
-  formats_of (G.More' n f a fs) = FormatThen n (format_of f) (formats_of fs)
+  formats_of (G.More' p n f a fs) = FormatThen p n (format_of f) (formats_of fs)
 
 abbrev pub edit_pair_of : EditPairHeld → EditPair
-edit_pair_of p = record { items = exprs_of p.items; formats = formats_of p.formats }
+edit_pair_of p = record { items = exprs_of p.items; formats = formats_of p.formats; place = p.place }
+
+abbrev pub skip_of : SkipHeld → Skip
+skip_of s = record { number = s.number; place = s.place }
 
 abbrev pub procedure_option_of : ProcedureOptionHeld → ProcedureOption
 procedure_option_of O.Main = Main
@@ -207,14 +211,14 @@ unfoldable mutual
   stmt_of (S.Revert c p) = Revert c p
   stmt_of (S.Allocate made p) = Allocate (map allocation_of made.items) p
   stmt_of (S.Free fs p) = Free (map freeing_of fs.items) p
-  stmt_of (S.Get n ps p) = Get n (map edit_pair_of ps.items) p
-  stmt_of (S.Put n ps p) = Put n (map edit_pair_of ps.items) p
+  stmt_of (S.Get n ps p) = Get (option_of skip_of n) (map edit_pair_of ps.items) p
+  stmt_of (S.Put n ps p) = Put (option_of skip_of n) (map edit_pair_of ps.items) p
 
   pub item_of : ItemHeld → Item
   item_of (I.Procedure h b) = Procedure (procedure_head_of h) (items_of b)
   item_of (I.Declare ds p) = Declare (map declare_item_of ds.items) p
   item_of (I.Statement ls s) = Statement (map name_of ls.items) (stmt_of s)
-  item_of (I.EndLabels ls) = EndLabels (map name_of ls.items)
+  item_of (I.EndLabels ls p) = EndLabels (map name_of ls.items) p
 
   pub items_of : ItemsHeld → Items
   items_of J.End = NoItem

@@ -1,10 +1,21 @@
 // Laws of the definitions: each function's contract is one law, and calling it does nothing.
 
-ghost use Rattle.pli_meaning.specs.Laws.{SpelledOnce, MeaningGrows, EndedStays, ActsAllowed};
+ghost use Rattle.pli_meaning.specs.Laws.{SpelledOnce, ReadOnce, NeverBoth, MeaningGrows, EndedStays, ActsAllowed, OneToOne, KeepsAll};
+ghost use Rattle.pli_meaning.specs.Refusals.{LeastFound};
 
 /// A token list spells at most one tree.
 pub fn spelled_once()
     ensures { SpelledOnce }
+{}
+
+/// A token list that spells a tree is read no other way: no reading of it has a refusal, or another tree, or none.
+pub fn read_once()
+    ensures { ReadOnce }
+{}
+
+/// No token list both spells a tree and is refused.
+pub fn never_both()
+    ensures { NeverBoth }
 {}
 
 /// The output and the raised conditions of a program at k acts are prefixes of those at k + 1.
@@ -20,4 +31,19 @@ pub fn ended_stays()
 /// A program does at most the acts that are allowed, and exactly those where it is still running.
 pub fn acts_allowed()
     ensures { ActsAllowed }
+{}
+
+/// The least of a list of refusals is one of them, and none of them stands before it; only an empty list has none.
+pub fn least_found()
+    ensures { LeastFound }
+{}
+
+/// An image has one list of bytes, and a list of bytes is that of one image at most.
+pub fn one_to_one()
+    ensures { OneToOne }
+{}
+
+/// The bytes of an image keep every rule for whose breach bytes are refused.
+pub fn keeps_all()
+    ensures { KeepsAll }
 {}

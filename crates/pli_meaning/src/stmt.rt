@@ -16,23 +16,33 @@ pub enum Format {
     Column { number: u64 },
 }
 
-/// A format list; each item is repeated as often as the number before it says, which is 1 where none stands.
+/// A format list; each item is repeated as often as the number before it says, which is 1 where none stands. An item's
+/// place is that of its first token, the number before it included.
 #[cycle(format)]
 #[derive(Debug, Drop)]
 pub enum Formats {
     End,
     More {
+        place: Place,
         repetition: u64,
         first: Format,
         rest: Box<Formats>,
     },
 }
 
-/// A data list and the format list that it goes by.
+/// A data list and the format list that it goes by, with the place where the latter is opened.
 #[derive(Debug, Drop)]
 pub struct EditPair {
     pub items: Exprs,
     pub formats: Formats,
+    pub place: Place,
+}
+
+/// How many line ends SKIP goes past, 1 where no number stands, and the place of the word.
+#[derive(Clone, Copy, PartialEq, Eq, Debug)]
+pub struct Skip {
+    pub number: u64,
+    pub place: Place,
 }
 
 /// An option behind PROCEDURE.
@@ -145,18 +155,19 @@ pub enum Stmt {
         place: Place,
     },
     Get {
-        skip: Option<u64>,
+        skip: Option<Skip>,
         pairs: Vec<EditPair>,
         place: Place,
     },
     Put {
-        skip: Option<u64>,
+        skip: Option<Skip>,
         pairs: Vec<EditPair>,
         place: Place,
     },
 }
 
-/// An item of a list: a procedure, declarations, a labelled statement, or the labels of the END that closes the list.
+/// An item of a list: a procedure, declarations, a labelled statement, or the labels of the END that closes the list, with
+/// the place of that word.
 #[cycle(stmt)]
 #[derive(Debug, Drop)]
 pub enum Item {
@@ -174,6 +185,7 @@ pub enum Item {
     },
     EndLabels {
         labels: Vec<Name>,
+        place: Place,
     },
 }
 

@@ -10,8 +10,8 @@ use Rattle.pli_meaning.specs.declared.token.Kind.TheVariants as K
 use Rattle.pli_meaning.specs.declared.token.Token.{Token}
 use Rattle.pli_meaning.specs.Keywords.{same_bytes}
 use Rattle.pli_meaning.specs.Tree as T
-use Rattle.pli_meaning.specs.Spells as G
-use Rattle.pli_meaning.specs.Spells.{Takes, next_kind, SpellsReference, SpellsArrows, SpellsQualified, SpellsArguments}
+use Rattle.pli_meaning.specs.FirstPath as G
+use Rattle.pli_meaning.specs.FirstPath.{Takes, next_kind, SpellsReference, SpellsArrows, SpellsQualified, SpellsArguments}
 use Rattle.pli_parse.proofs.Tokens.{next_taken}
 use Rattle.pli_parse.proofs.Endings.{Bare}
 

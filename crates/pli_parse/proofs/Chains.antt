@@ -3,7 +3,7 @@ use Rattle.std.specs.Prelude.{nat_lt, ◌^◌, if◌then◌else◌}
 use Rattle.std.proofs.Common.{◌≡◌, ℕ, zero, suc, ◌<◌, ◌≤◌, ◌-◌, Ok, Err, List, [], ◌∷◌, ◌++◌, length, Option, Some, None, refl, sym, ap, ◌∙◌, arith}
 use Rattle.pli_meaning.specs.Tree as T
 use Rattle.pli_parse.specs.declared.expression.Sign.{Sign}
-use Rattle.pli_meaning.specs.Spells as G
+use Rattle.pli_meaning.specs.FirstPath as G
 use Rattle.pli_meaning.specs.Typing.{wide, Scope}
 use Rattle.pli_meaning.specs.declared.token.Token.{Token}
 use Rattle.pli_parse.specs.declared.terminal.Terminal.TheVariants as M

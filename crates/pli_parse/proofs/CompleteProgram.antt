@@ -6,8 +6,8 @@ use Rattle.pli_meaning.specs.declared.token.Token.{Token}
 use Rattle.pli_meaning.specs.declared.expr.Place.{Place}
 use Rattle.pli_meaning.specs.Tree as T
 use Rattle.pli_meaning.specs.Typed as Y
-use Rattle.pli_meaning.specs.Spells as G
-use Rattle.pli_meaning.specs.Spells.{Takes, next_kind}
+use Rattle.pli_meaning.specs.FirstPath as G
+use Rattle.pli_meaning.specs.FirstPath.{Takes, next_kind}
 use Rattle.pli_meaning.specs.Typing.{◌and_then◌, Scope, with_declared, typed_stmt, typed_items, typed_body, typed_procedure, typed_tree, typed, main_program}
 use Rattle.pli_parse.specs.declared.terminal.Terminal.TheVariants as M
 use Rattle.pli_parse.specs.Reading.{Read, ◌>>=◌, with_items, taken, name_from, opens, declare_from, end_from, statements_from, body_from, options_from, head_from, head_of, tree_with, if_ended, tree_from}
@@ -127,7 +127,7 @@ procedures_complete (G.procedure_then ts mid first rest of G.no_procedure) h = p
 procedures_complete (G.procedure_then ts mid (T.Procedure head body) rest of (G.procedure_then mid' next second others of' more)) h = absurd (cc (h.is))
 procedures_complete (G.procedure_then ts mid (T.Declare items place) rest of (G.procedure_then mid' next second others of' more)) h = elim of [ ]
 procedures_complete (G.procedure_then ts mid (T.Statement labels statement) rest of (G.procedure_then mid' next second others of' more)) h = elim of [ ]
-procedures_complete (G.procedure_then ts mid (T.EndLabels labels) rest of (G.procedure_then mid' next second others of' more)) h = elim of [ ]
+procedures_complete (G.procedure_then ts mid (T.EndLabels labels at) rest of (G.procedure_then mid' next second others of' more)) h = elim of [ ]
 
 pub tree_complete : (s : List ℕ) (ts : List Token) (tree : T.Tree) → G.Spells s ts tree → Has (typed tree) → tree_from s ts ≡ Ok tree
 unfolding items_tree

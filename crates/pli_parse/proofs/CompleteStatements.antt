@@ -12,8 +12,8 @@ use Rattle.pli_meaning.specs.declared.expr.Place.{Place}
 use Rattle.pli_meaning.specs.Keywords.{same_bytes}
 use Rattle.pli_meaning.specs.Tree as T
 use Rattle.pli_meaning.specs.Typed as Y
-use Rattle.pli_meaning.specs.Spells as G
-use Rattle.pli_meaning.specs.Spells.{Takes, next_kind}
+use Rattle.pli_meaning.specs.FirstPath as G
+use Rattle.pli_meaning.specs.FirstPath.{Takes, next_kind}
 use Rattle.pli_meaning.specs.Typing.{◌and_then◌, Scope, typed_expr, nesting, typed_within, typed_reference, typed_format, typed_pair, pair_typed, typed_stmt, most_parentheses, is_width}
 use Rattle.pli_parse.specs.declared.terminal.Terminal.{Terminal}
 use Rattle.pli_parse.specs.declared.terminal.Terminal.TheVariants as M
@@ -141,8 +141,8 @@ count_complete least most {ts} {rest} {n} c e =
     (bind_to (number_from c.after) (λ n. if nat_le least n.0 && nat_le n.0 most then (taken M.CloseParenthesis n.1 >>= λ z. Ok (n.0, z.1)) else Err (first c.after)) (n, c.mid) z (takes_number c.counted)
     (if_true (nat_le least n && nat_le n most) (taken M.CloseParenthesis c.mid >>= λ z. Ok (n, z.1)) (Err (first c.after)) e ∙ ap (λ r. r >>= λ z. Ok (n, z.1)) (takes_taken M.CloseParenthesis c.closed)))
 
-width_of : (width : ℕ) → Has (typed_format (T.FormatThen 1 (T.FixedFormat width) T.NoFormat)) → is_width width ≡ true
-width_of width h = by_test (is_width width) refl h.is
+width_of : (at : Place) (width : ℕ) → Has (typed_format (T.FormatThen at 1 (T.FixedFormat width) T.NoFormat)) → is_width width ≡ true
+width_of at width h = by_test (is_width width) refl h.is
   where
     by_test : (b : Bool) → is_width width ≡ b → (if b then Some (Y.FixedItem width ∷ []) else None) ≡ Some h.value → is_width width ≡ true
     by_test true t i = t
@@ -151,12 +151,12 @@ width_of width h = by_test (is_width width) refl h.is
 format_complete : {s : List ℕ} {ts rest : List Token} {f : T.Formats} → G.SpellsFormats s ts f rest → Has (typed_format f) → format_from ts ≡ Ok (f, rest)
 unfolding format_from
 format_complete (G.fixed_format ts after mid behind rest t u v width o f c close) h =
-    let e = count_complete 1 1024 c (width_of width h) in
-    let z : Read T.Formats = Ok (T.FormatThen 1 (T.FixedFormat width) T.NoFormat, rest) in
-    bind_to (taken M.OpenParenthesis ts) (λ o. taken M.F o.1 >>= λ f. count_from 1 1024 f.1 >>= λ w. taken M.CloseParenthesis w.1 >>= λ z. Ok (T.FormatThen 1 (T.FixedFormat w.0) T.NoFormat, z.1)) (t, after) z (takes_taken M.OpenParenthesis o)
-    (bind_to (taken M.F after) (λ f. count_from 1 1024 f.1 >>= λ w. taken M.CloseParenthesis w.1 >>= λ z. Ok (T.FormatThen 1 (T.FixedFormat w.0) T.NoFormat, z.1)) (u, mid) z (takes_taken M.F f)
-    (bind_to (count_from 1 1024 mid) (λ w. taken M.CloseParenthesis w.1 >>= λ z. Ok (T.FormatThen 1 (T.FixedFormat w.0) T.NoFormat, z.1)) (width, behind) z e
-    (bind_to (taken M.CloseParenthesis behind) (λ z. Ok (T.FormatThen 1 (T.FixedFormat width) T.NoFormat, z.1)) (v, rest) z (takes_taken M.CloseParenthesis close) refl)))
+    let e = count_complete 1 1024 c (width_of (G.place_of u) width h) in
+    let z : Read T.Formats = Ok (T.FormatThen (G.place_of u) 1 (T.FixedFormat width) T.NoFormat, rest) in
+    bind_to (taken M.OpenParenthesis ts) (λ o. taken M.F o.1 >>= λ f. count_from 1 1024 f.1 >>= λ w. taken M.CloseParenthesis w.1 >>= λ z. Ok (T.FormatThen (G.place_of f.0) 1 (T.FixedFormat w.0) T.NoFormat, z.1)) (t, after) z (takes_taken M.OpenParenthesis o)
+    (bind_to (taken M.F after) (λ f. count_from 1 1024 f.1 >>= λ w. taken M.CloseParenthesis w.1 >>= λ z. Ok (T.FormatThen (G.place_of f.0) 1 (T.FixedFormat w.0) T.NoFormat, z.1)) (u, mid) z (takes_taken M.F f)
+    (bind_to (count_from 1 1024 mid) (λ w. taken M.CloseParenthesis w.1 >>= λ z. Ok (T.FormatThen (G.place_of u) 1 (T.FixedFormat w.0) T.NoFormat, z.1)) (width, behind) z e
+    (bind_to (taken M.CloseParenthesis behind) (λ z. Ok (T.FormatThen (G.place_of u) 1 (T.FixedFormat width) T.NoFormat, z.1)) (v, rest) z (takes_taken M.CloseParenthesis close) refl)))
 
 record OnePair (scope : Scope) (e : T.Expr) (o : Option (List Y.FormatItem)) : Type 0 where
   formats : Has o
@@ -174,16 +174,16 @@ two_exprs scope e (Some fs) (G.one ts rest e' of stop) h = cc (h.is)
 two_exprs scope e None (G.more ts mid after rest t e' es of comma others) h = cc (h.is)
 two_exprs scope e (Some fs) (G.more ts mid after rest t e' es of comma others) h = cc (h.is)
 
-paired : T.Expr → T.Formats → T.EditPair
-paired e f = record { items = T.ExprThen e T.NoExpr; formats = f }
+paired : T.Expr → T.Formats → List Token → T.EditPair
+paired e f ts = record { items = T.ExprThen e T.NoExpr; formats = f; place = G.place_ahead ts }
 
-pair_read : (s : List ℕ) (scope : Scope) (ts after behind rest : List Token) (t : Token) (e : T.Expr) (f : T.Formats) → taken M.OpenParenthesis ts ≡ Ok (t, after) → expr_until 31 M.CloseParenthesis s scope after ≡ Ok (e, behind) → format_from behind ≡ Ok (f, rest) → pair_from s scope ts ≡ Ok (paired e f, rest)
+pair_read : (s : List ℕ) (scope : Scope) (ts after behind rest : List Token) (t : Token) (e : T.Expr) (f : T.Formats) → taken M.OpenParenthesis ts ≡ Ok (t, after) → expr_until 31 M.CloseParenthesis s scope after ≡ Ok (e, behind) → format_from behind ≡ Ok (f, rest) → pair_from s scope ts ≡ Ok (paired e f behind, rest)
 unfolding pair_from paired
 pair_read s scope ts after behind rest t e f h i j =
-    let z : Read T.EditPair = Ok (paired e f, rest) in
-    bind_to (taken M.OpenParenthesis ts) (λ o. expr_until 31 M.CloseParenthesis s scope o.1 >>= λ e. format_from e.1 >>= λ f. Ok (paired e.0 f.0, f.1)) (t, after) z h
-    (bind_to (expr_until 31 M.CloseParenthesis s scope after) (λ e. format_from e.1 >>= λ f. Ok (paired e.0 f.0, f.1)) (e, behind) z i
-    (bind_to (format_from behind) (λ f. Ok (paired e f.0, f.1)) (f, rest) z j refl))
+    let z : Read T.EditPair = Ok (paired e f behind, rest) in
+    bind_to (taken M.OpenParenthesis ts) (λ o. expr_until 31 M.CloseParenthesis s scope o.1 >>= λ e. format_from e.1 >>= λ f. Ok (paired e.0 f.0 e.1, f.1)) (t, after) z h
+    (bind_to (expr_until 31 M.CloseParenthesis s scope after) (λ e. format_from e.1 >>= λ f. Ok (paired e.0 f.0 e.1, f.1)) (e, behind) z i
+    (bind_to (format_from behind) (λ f. Ok (paired e f.0 behind, f.1)) (f, rest) z j refl))
 
 pair_complete : {s : List ℕ} {ts rest : List Token} {p : T.EditPair} (scope : Scope) → G.SpellsPair s ts p rest → Has (typed_pair scope p) → pair_from s scope ts ≡ Ok (p, rest)
 unfolding paired

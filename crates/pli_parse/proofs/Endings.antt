@@ -8,7 +8,7 @@ use Rattle.pli_meaning.specs.declared.expr.PrefixOp.{PrefixOp}
 use Rattle.pli_meaning.specs.declared.expr.PrefixOp.TheVariants as P
 use Rattle.pli_meaning.specs.declared.expr.InfixOp.{InfixOp}
 use Rattle.pli_meaning.specs.declared.expr.InfixOp.TheVariants as I
-use Rattle.pli_meaning.specs.Spells.{next_kind, prefix_op, infix_op, Level, Multiplying, Adding, Joining, Comparing, Conjoining, Disjoining}
+use Rattle.pli_meaning.specs.FirstPath.{next_kind, prefix_op, infix_op, Level, Multiplying, Adding, Joining, Comparing, Conjoining, Disjoining}
 use Rattle.pli_meaning.specs.Typing.{sign_of, operator_of}
 use Rattle.pli_meaning.specs.Numbers.{Positive, Negative, Add, Subtract}
 use Rattle.pli_parse.specs.Reading.{prefix_sign, infix_sign, next_infix}

@@ -1,7 +1,7 @@
 -- Each reader leaves fewer tokens.
 use Rattle.std.proofs.Common.{◌≡◌, ℕ, ◌<◌, List, [], ◌∷◌, ◌++◌, length, None, Some, Ok, Err, Bool, true, false, ap, arith}
 use Rattle.std.specs.Prelude.{if◌then◌else◌}
-use Rattle.pli_meaning.specs.Spells as G
+use Rattle.pli_meaning.specs.FirstPath as G
 use Rattle.pli_meaning.specs.Typing.{Scope, wide, most_parentheses}
 use Rattle.pli_meaning.specs.Tree as T
 use Rattle.pli_meaning.specs.declared.token.Token.{Token}
@@ -114,30 +114,30 @@ assignment_shorter s scope ts x e =
 format_shorter : (ts : List Token) (x : T.Formats × List Token) → format_from ts ≡ Ok x → length x.1 < length ts
 unfolding format_from
 format_shorter ts x e =
-    let a = bind_ok (taken M.OpenParenthesis ts) (λ o. taken M.F o.1 >>= λ f. count_from 1 1024 f.1 >>= λ w. taken M.CloseParenthesis w.1 >>= λ z. Ok (T.FormatThen 1 (T.FixedFormat w.0) T.NoFormat, z.1)) x e in
-    let b = bind_ok (taken M.F a.value.1) (λ f. count_from 1 1024 f.1 >>= λ w. taken M.CloseParenthesis w.1 >>= λ z. Ok (T.FormatThen 1 (T.FixedFormat w.0) T.NoFormat, z.1)) x a.whole in
-    let d = bind_ok (count_from 1 1024 b.value.1) (λ w. taken M.CloseParenthesis w.1 >>= λ z. Ok (T.FormatThen 1 (T.FixedFormat w.0) T.NoFormat, z.1)) x b.whole in
-    let f = bind_ok (taken M.CloseParenthesis d.value.1) (λ z. Ok (T.FormatThen 1 (T.FixedFormat d.value.0) T.NoFormat, z.1)) x d.whole in
+    let a = bind_ok (taken M.OpenParenthesis ts) (λ o. taken M.F o.1 >>= λ f. count_from 1 1024 f.1 >>= λ w. taken M.CloseParenthesis w.1 >>= λ z. Ok (T.FormatThen (G.place_of f.0) 1 (T.FixedFormat w.0) T.NoFormat, z.1)) x e in
+    let b = bind_ok (taken M.F a.value.1) (λ f. count_from 1 1024 f.1 >>= λ w. taken M.CloseParenthesis w.1 >>= λ z. Ok (T.FormatThen (G.place_of f.0) 1 (T.FixedFormat w.0) T.NoFormat, z.1)) x a.whole in
+    let d = bind_ok (count_from 1 1024 b.value.1) (λ w. taken M.CloseParenthesis w.1 >>= λ z. Ok (T.FormatThen (G.place_of b.value.0) 1 (T.FixedFormat w.0) T.NoFormat, z.1)) x b.whole in
+    let f = bind_ok (taken M.CloseParenthesis d.value.1) (λ z. Ok (T.FormatThen (G.place_of b.value.0) 1 (T.FixedFormat d.value.0) T.NoFormat, z.1)) x d.whole in
     let h = taken_shorter M.OpenParenthesis ts {x = a.value} a.part in
     let i = taken_shorter M.F a.value.1 {x = b.value} b.part in
     let j = count_shorter 1 1024 b.value.1 d.value d.part in
     let m = taken_shorter M.CloseParenthesis d.value.1 {x = f.value} f.part in
-    let k : (T.FormatThen 1 (T.FixedFormat d.value.0) T.NoFormat, f.value.1) ≡ x = cc (f.whole) in
+    let k : (T.FormatThen (G.place_of b.value.0) 1 (T.FixedFormat d.value.0) T.NoFormat, f.value.1) ≡ x = cc (f.whole) in
     omega (arith, h, i, j, m, ap (λ u. length u.1) k)
 
-paired : T.Expr → T.Formats → T.EditPair
-paired e f = record { items = T.ExprThen e T.NoExpr; formats = f }
+paired : T.Expr → T.Formats → List Token → T.EditPair
+paired e f ts = record { items = T.ExprThen e T.NoExpr; formats = f; place = G.place_ahead ts }
 
 pair_shorter : (s : List ℕ) (scope : Scope) (ts : List Token) (x : T.EditPair × List Token) → pair_from s scope ts ≡ Ok x → length x.1 < length ts
 unfolding pair_from paired
 pair_shorter s scope ts x e =
-    let a = bind_ok (taken M.OpenParenthesis ts) (λ o. expr_until 31 M.CloseParenthesis s scope o.1 >>= λ e. format_from e.1 >>= λ f. Ok (paired e.0 f.0, f.1)) x e in
-    let b = bind_ok (expr_until 31 M.CloseParenthesis s scope a.value.1) (λ e. format_from e.1 >>= λ f. Ok (paired e.0 f.0, f.1)) x a.whole in
-    let d = bind_ok (format_from b.value.1) (λ f. Ok (paired b.value.0 f.0, f.1)) x b.whole in
+    let a = bind_ok (taken M.OpenParenthesis ts) (λ o. expr_until 31 M.CloseParenthesis s scope o.1 >>= λ e. format_from e.1 >>= λ f. Ok (paired e.0 f.0 e.1, f.1)) x e in
+    let b = bind_ok (expr_until 31 M.CloseParenthesis s scope a.value.1) (λ e. format_from e.1 >>= λ f. Ok (paired e.0 f.0 e.1, f.1)) x a.whole in
+    let d = bind_ok (format_from b.value.1) (λ f. Ok (paired b.value.0 f.0 b.value.1, f.1)) x b.whole in
     let h = taken_shorter M.OpenParenthesis ts {x = a.value} a.part in
     let i = until_shorter 31 M.CloseParenthesis s scope a.value.1 b.value b.part in
     let j = format_shorter b.value.1 d.value d.part in
-    let k : (paired b.value.0 d.value.0, d.value.1) ≡ x = cc (d.whole) in
+    let k : (paired b.value.0 d.value.0 b.value.1, d.value.1) ≡ x = cc (d.whole) in
     omega (arith, h, i, j, ap (λ u. length u.1) k)
 
 put_shorter : (s : List ℕ) (scope : Scope) (ts : List Token) (x : T.Stmt × List Token) → put_from s scope ts ≡ Ok x → length x.1 < length ts

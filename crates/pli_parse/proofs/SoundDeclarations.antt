@@ -8,8 +8,8 @@ use Rattle.pli_meaning.specs.declared.token.Kind.{Kind}
 use Rattle.pli_meaning.specs.declared.token.Kind.TheVariants as K
 use Rattle.pli_meaning.specs.declared.token.Token.{Token}
 use Rattle.pli_meaning.specs.Tree as T
-use Rattle.pli_meaning.specs.Spells as G
-use Rattle.pli_meaning.specs.Spells.{Takes, next_kind, ends_item, infix_op, Multiplying, Adding, Joining, Comparing, Conjoining, Disjoining}
+use Rattle.pli_meaning.specs.FirstPath as G
+use Rattle.pli_meaning.specs.FirstPath.{Takes, next_kind, ends_item, infix_op, Multiplying, Adding, Joining, Comparing, Conjoining, Disjoining}
 use Rattle.pli_meaning.specs.Typing.{◌and_then◌, Scope, index_of, with_name, with_names, is_wide_fixed, item_declared, with_declared, wide}
 use Rattle.pli_parse.specs.declared.terminal.Terminal.{Terminal}
 use Rattle.pli_parse.specs.declared.terminal.Terminal.TheVariants as M

@@ -9,8 +9,8 @@ use Rattle.pli_meaning.specs.declared.expr.PrefixOp.{PrefixOp}
 use Rattle.pli_meaning.specs.declared.expr.InfixOp.{InfixOp}
 use Rattle.pli_meaning.specs.Tree as T
 use Rattle.pli_meaning.specs.Typed as Y
-use Rattle.pli_meaning.specs.Spells as G
-use Rattle.pli_meaning.specs.Spells.{Takes, next_kind, infix_op, Level, Multiplying, Adding, Joining, Comparing, Conjoining, Disjoining, SpellsAt, SpellsChain, SpellsPrimary, SpellsReference}
+use Rattle.pli_meaning.specs.FirstPath as G
+use Rattle.pli_meaning.specs.FirstPath.{Takes, next_kind, infix_op, Level, Multiplying, Adding, Joining, Comparing, Conjoining, Disjoining, SpellsAt, SpellsChain, SpellsPrimary, SpellsReference}
 use Rattle.pli_meaning.specs.Typing.{◌and_then◌, Scope, index_of, variable_named, typed_expr, nesting, sign_of, operator_of, main_level, wide}
 use Rattle.pli_parse.specs.declared.expression.Sign.{Sign}
 use Rattle.pli_parse.specs.declared.terminal.Terminal.{Terminal}

@@ -8,8 +8,8 @@ use Rattle.pli_meaning.specs.declared.token.Kind.TheVariants as K
 use Rattle.pli_meaning.specs.declared.token.Token.{Token}
 use Rattle.pli_meaning.specs.declared.expr.Place.{Place}
 use Rattle.pli_meaning.specs.Tree as T
-use Rattle.pli_meaning.specs.Spells as G
-use Rattle.pli_meaning.specs.Spells.{Takes, next_kind, infix_op, Multiplying, Adding, Joining, Comparing, Conjoining, Disjoining}
+use Rattle.pli_meaning.specs.FirstPath as G
+use Rattle.pli_meaning.specs.FirstPath.{Takes, next_kind, infix_op, Multiplying, Adding, Joining, Comparing, Conjoining, Disjoining}
 use Rattle.pli_meaning.specs.Typing.{◌and_then◌, Scope, with_declared, typed_items, typed_body, typed, main_program}
 use Rattle.pli_meaning.proofs.Unique.{exprs_same}
 use Rattle.pli_parse.specs.declared.terminal.Terminal.TheVariants as M
@@ -107,7 +107,7 @@ body_of_items place scope T.NoItem h = has_then (typed_items scope T.NoItem) (λ
 body_of_items place scope (T.ItemThen (T.Statement ls st) rest) h = has_then (typed_items scope (T.ItemThen (T.Statement ls st) rest)) (λ body. Some (main_program place scope body)) h (λ body. record { value = main_program place scope body; is = refl })
 body_of_items place scope (T.ItemThen (T.Declare ds at) rest) h = absurd (cc (h.is))
 body_of_items place scope (T.ItemThen (T.Procedure head body) rest) h = absurd (cc (h.is))
-body_of_items place scope (T.ItemThen (T.EndLabels ls) rest) h = absurd (cc (h.is))
+body_of_items place scope (T.ItemThen (T.EndLabels ls at) rest) h = absurd (cc (h.is))
 
 record GoodBody (s : List ℕ) (label : T.Name) (place : Place) (scope : Scope) (ts : List Token) (is : T.Items) (rest : List Token) : Type 0 where
   spelled : G.SpellsItems s (label ∷ []) ts is rest

@@ -10,8 +10,8 @@ use Rattle.pli_meaning.specs.declared.expr.Place.{Place}
 use Rattle.pli_meaning.specs.Keywords.{same_bytes}
 use Rattle.pli_meaning.specs.Tree as T
 use Rattle.pli_meaning.specs.Typed as Y
-use Rattle.pli_meaning.specs.Spells as G
-use Rattle.pli_meaning.specs.Spells.{Takes, next_kind}
+use Rattle.pli_meaning.specs.FirstPath as G
+use Rattle.pli_meaning.specs.FirstPath.{Takes, next_kind}
 use Rattle.pli_meaning.specs.Typing.{◌and_then◌, Scope, variable_named, typed_expr, nesting, typed_within, typed_format, typed_pair, pair_typed, typed_stmt, typed_items, most_parentheses, is_width}
 use Rattle.pli_parse.specs.declared.terminal.Terminal.TheVariants as M
 use Rattle.pli_parse.specs.Reading.{Read, ◌>>=◌, first, begins, taken, name_from, variable_from, inner_at, expr_until, count_from, assignment_from, format_from, pair_from, put_from, statement_from, opens, closing_name_from, end_from, statements_from, with_items}
@@ -65,20 +65,20 @@ record GoodFormats (s : List ℕ) (ts : List Token) (f : T.Formats) (rest : List
 format_sound : (s : List ℕ) (ts : List Token) (x : T.Formats × List Token) → format_from ts ≡ Ok x → GoodFormats s ts x.0 x.1
 unfolding format_from
 format_sound s ts x e =
-    let a = bind_ok (taken M.OpenParenthesis ts) (λ o. taken M.F o.1 >>= λ f. count_from 1 1024 f.1 >>= λ w. taken M.CloseParenthesis w.1 >>= λ z. Ok (T.FormatThen 1 (T.FixedFormat w.0) T.NoFormat, z.1)) x e in
-    let b = bind_ok (taken M.F a.value.1) (λ f. count_from 1 1024 f.1 >>= λ w. taken M.CloseParenthesis w.1 >>= λ z. Ok (T.FormatThen 1 (T.FixedFormat w.0) T.NoFormat, z.1)) x a.whole in
-    let d = bind_ok (count_from 1 1024 b.value.1) (λ w. taken M.CloseParenthesis w.1 >>= λ z. Ok (T.FormatThen 1 (T.FixedFormat w.0) T.NoFormat, z.1)) x b.whole in
-    let f = bind_ok (taken M.CloseParenthesis d.value.1) (λ z. Ok (T.FormatThen 1 (T.FixedFormat d.value.0) T.NoFormat, z.1)) x d.whole in
+    let a = bind_ok (taken M.OpenParenthesis ts) (λ o. taken M.F o.1 >>= λ f. count_from 1 1024 f.1 >>= λ w. taken M.CloseParenthesis w.1 >>= λ z. Ok (T.FormatThen (G.place_of f.0) 1 (T.FixedFormat w.0) T.NoFormat, z.1)) x e in
+    let b = bind_ok (taken M.F a.value.1) (λ f. count_from 1 1024 f.1 >>= λ w. taken M.CloseParenthesis w.1 >>= λ z. Ok (T.FormatThen (G.place_of f.0) 1 (T.FixedFormat w.0) T.NoFormat, z.1)) x a.whole in
+    let d = bind_ok (count_from 1 1024 b.value.1) (λ w. taken M.CloseParenthesis w.1 >>= λ z. Ok (T.FormatThen (G.place_of b.value.0) 1 (T.FixedFormat w.0) T.NoFormat, z.1)) x b.whole in
+    let f = bind_ok (taken M.CloseParenthesis d.value.1) (λ z. Ok (T.FormatThen (G.place_of b.value.0) 1 (T.FixedFormat d.value.0) T.NoFormat, z.1)) x d.whole in
     let c = count_counted 1 1024 b.value.1 {x = d.value} d.part in
-    let k : (T.FormatThen 1 (T.FixedFormat d.value.0) T.NoFormat, f.value.1) ≡ x = cc (f.whole) in
-    let w : GoodFormats s ts (T.FormatThen 1 (T.FixedFormat d.value.0) T.NoFormat) f.value.1 = record {
+    let k : (T.FormatThen (G.place_of b.value.0) 1 (T.FixedFormat d.value.0) T.NoFormat, f.value.1) ≡ x = cc (f.whole) in
+    let w : GoodFormats s ts (T.FormatThen (G.place_of b.value.0) 1 (T.FixedFormat d.value.0) T.NoFormat) f.value.1 = record {
       spelled = G.fixed_format ts a.value.1 b.value.1 d.value.1 f.value.1 a.value.0 b.value.0 f.value.0 d.value.0 (taken_takes M.OpenParenthesis ts {x = a.value} a.part) (taken_takes M.F a.value.1 {x = b.value} b.part) c.spelled (taken_takes M.CloseParenthesis d.value.1 {x = f.value} f.part);
       typed = record { value = Y.FixedItem d.value.0 ∷ []; is = if_true (is_width d.value.0) (Some (Y.FixedItem d.value.0 ∷ [])) None c.within };
     } in
     subst (λ u. GoodFormats s ts u.0 u.1) k w
 
-paired : T.Expr → T.Formats → T.EditPair
-paired e f = record { items = T.ExprThen e T.NoExpr; formats = f }
+paired : T.Expr → T.Formats → List Token → T.EditPair
+paired e f ts = record { items = T.ExprThen e T.NoExpr; formats = f; place = G.place_ahead ts }
 
 record GoodPair (s : List ℕ) (scope : Scope) (ts : List Token) (p : T.EditPair) (rest : List Token) : Type 0 where
   spelled : G.SpellsPair s ts p rest
@@ -91,15 +91,15 @@ pair_has scope e (Some fs) h w = has_then (typed_within 1 scope e) (λ e'. Some 
 pair_sound : (s : List ℕ) (scope : Scope) (ts : List Token) (x : T.EditPair × List Token) → pair_from s scope ts ≡ Ok x → GoodPair s scope ts x.0 x.1
 unfolding pair_from paired
 pair_sound s scope ts x e =
-    let a = bind_ok (taken M.OpenParenthesis ts) (λ o. expr_until 31 M.CloseParenthesis s scope o.1 >>= λ e. format_from e.1 >>= λ f. Ok (paired e.0 f.0, f.1)) x e in
-    let b = bind_ok (expr_until 31 M.CloseParenthesis s scope a.value.1) (λ e. format_from e.1 >>= λ f. Ok (paired e.0 f.0, f.1)) x a.whole in
-    let d = bind_ok (format_from b.value.1) (λ f. Ok (paired b.value.0 f.0, f.1)) x b.whole in
+    let a = bind_ok (taken M.OpenParenthesis ts) (λ o. expr_until 31 M.CloseParenthesis s scope o.1 >>= λ e. format_from e.1 >>= λ f. Ok (paired e.0 f.0 e.1, f.1)) x e in
+    let b = bind_ok (expr_until 31 M.CloseParenthesis s scope a.value.1) (λ e. format_from e.1 >>= λ f. Ok (paired e.0 f.0 e.1, f.1)) x a.whole in
+    let d = bind_ok (format_from b.value.1) (λ f. Ok (paired b.value.0 f.0 b.value.1, f.1)) x b.whole in
     let q = until_parenthesis_sound 31 s scope a.value.1 b.value b.part in
     let f = format_sound s b.value.1 d.value d.part in
     let close : next_kind q.end ≡ Some (K.Symbol S.CloseParenthesis) = next_taken q.closed in
     let es = G.one a.value.1 q.end b.value.0 q.spelled (λ h. cc (close, h)) in
-    let k : (paired b.value.0 d.value.0, d.value.1) ≡ x = cc (d.whole) in
-    let w : GoodPair s scope ts (paired b.value.0 d.value.0) d.value.1 = record {
+    let k : (paired b.value.0 d.value.0 b.value.1, d.value.1) ≡ x = cc (d.whole) in
+    let w : GoodPair s scope ts (paired b.value.0 d.value.0 b.value.1) d.value.1 = record {
       spelled = G.pair ts a.value.1 q.end b.value.1 d.value.1 a.value.0 q.token (T.ExprThen b.value.0 T.NoExpr) d.value.0 (taken_takes M.OpenParenthesis ts {x = a.value} a.part) es q.closed f.spelled;
       typed = pair_has scope b.value.0 (typed_format d.value.0) f.typed (within_typed 1 scope b.value.0 (omega (arith, q.fine.nested)) q.fine.typed);
     } in

@@ -13,7 +13,7 @@ use Rattle.pli_meaning.specs.declared.expr.PrefixOp.TheVariants as P
 use Rattle.pli_meaning.specs.declared.expr.InfixOp.{InfixOp}
 use Rattle.pli_meaning.specs.declared.expr.InfixOp.TheVariants as I
 use Rattle.pli_meaning.specs.Keywords.{in_upper_case, same_bytes}
-use Rattle.pli_meaning.specs.Spells.{place_of, name_at, item_of}
+use Rattle.pli_meaning.specs.FirstPath.{place_of, place_ahead, name_at, item_of}
 use Rattle.pli_meaning.specs.Typing.{Scope, wide, most_parentheses}
 use Rattle.pli_meaning.specs.Tree as T
 use Rattle.pli_parse.specs.declared.expression.Sign.{Sign}
@@ -258,7 +258,7 @@ format_from ts = do
   f ← taken M.F open_token.1
   width ← count_from 1 1024 f.1
   close_token ← taken M.CloseParenthesis width.1
-  Ok (T.FormatThen 1 (T.FixedFormat width.0) T.NoFormat, close_token.1)
+  Ok (T.FormatThen (place_of f.0) 1 (T.FixedFormat width.0) T.NoFormat, close_token.1)
 
 -- an expression in parentheses and its format
 unfoldable pub pair_from : List ℕ → Scope → List Token → Read T.EditPair
@@ -266,7 +266,7 @@ pair_from s scope ts = do
   open_token ← taken M.OpenParenthesis ts
   e ← expr_until 31 M.CloseParenthesis s scope open_token.1
   formats ← format_from e.1
-  Ok (record { items = T.ExprThen e.0 T.NoExpr; formats = formats.0 }, formats.1)
+  Ok (record { items = T.ExprThen e.0 T.NoExpr; formats = formats.0; place = place_ahead e.1 }, formats.1)
 
 unfoldable pub put_from : List ℕ → Scope → List Token → Read T.Stmt
 put_from s scope ts = do

@@ -4,7 +4,7 @@ ghost use Rattle.std.specs.Prelude.{◌≡◌, ◌<◌, ◌≤◌, IfOk, MatchOp
 ghost use Rattle.pli_parse.specs.declared.stop.Stop.TheVariants.{Memory};
 ghost use Rattle.pli_meaning.specs.View.{expr_of, name_of, reference_of};
 ghost use Rattle.pli_meaning.specs.Tree.{Plain, Last, Absent, Number, Refers, Parenthesized, Prefix, Infix};
-ghost use Rattle.pli_meaning.specs.Spells.{place_of};
+ghost use Rattle.pli_meaning.specs.FirstPath.{place_of};
 ghost use Rattle.pli_parse.specs.Answers.{Gives};
 ghost use Rattle.pli_parse.specs.Reading.{behind, expr_until, infix_sign, inner_at, next_infix, operand_from, prefix_sign, primary_from, signed, signs_from};
 

@@ -11,7 +11,7 @@ mod terminal;
 mod token;
 
 ghost use Rattle.std.specs.Prelude.{◌≡◌, ◌≢◌, ◌≤◌, IfErr, IfOk, IsSome, None, length};
-ghost use Rattle.pli_meaning.specs.Spells.{Spells};
+ghost use Rattle.pli_meaning.specs.FirstPath.{Spells};
 ghost use Rattle.pli_meaning.specs.Tokens.{Tokens, most_bytes};
 ghost use Rattle.pli_meaning.specs.Tree as T;
 ghost use Rattle.pli_meaning.specs.Typing.{typed};

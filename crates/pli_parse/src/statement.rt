@@ -11,7 +11,7 @@ use crate::expression::{expression, reference};
 use crate::name::{closing_name, opens, variable};
 use crate::stop::Stop;
 use crate::terminal::Terminal;
-use crate::token::{begins, count, place, taken};
+use crate::token::{begins, count, place, place_ahead, taken};
 use pli_meaning::expr::{Expr, Exprs};
 use pli_meaning::stmt::{EditPair, Format, Formats, Stmt};
 use pli_meaning::token::Token;
@@ -60,7 +60,7 @@ fn format(alloc: Global, tokens: &[Token]) -> Result<(Formats, &[Token]), Stop>
     ensures { Gives (λ x. (formats_of x.0, x.1.now)) result (format_from tokens.now) }
 {
     let (_, rest) = taken(Terminal::OpenParenthesis, tokens)?;
-    let (_, rest) = taken(Terminal::F, rest)?;
+    let (f, rest) = taken(Terminal::F, rest)?;
     let (width, rest) = count(1, WIDEST, rest)?;
     let (_, rest) = taken(Terminal::CloseParenthesis, rest)?;
     let first = Format::Fixed {
@@ -68,6 +68,7 @@ fn format(alloc: Global, tokens: &[Token]) -> Result<(Formats, &[Token]), Stop>
     };
     Ok((
         Formats::More {
+            place: place(&f),
             repetition: 1,
             first,
             rest: Box::new(alloc, Formats::End)?,
@@ -106,11 +107,13 @@ fn pair<'a>(
         Terminal::CloseParenthesis,
         rest,
     )?;
+    let place = place_ahead(rest);
     let (formats, rest) = format(alloc, rest)?;
     Ok((
         EditPair {
             items: single(alloc, value)?,
             formats,
+            place,
         },
         rest,
     ))

@@ -2,7 +2,7 @@
 
 ghost use Rattle.std.specs.Prelude.{◌≡◌, IfOk, map, slice_range};
 ghost use Rattle.pli_meaning.specs.Keywords.{in_upper_case};
-ghost use Rattle.pli_meaning.specs.Spells.{place_of};
+ghost use Rattle.pli_meaning.specs.FirstPath.{place_ahead, place_of};
 ghost use Rattle.pli_meaning.specs.View.{name_of};
 ghost use Rattle.pli_parse.specs.Answers.{Gives};
 ghost use Rattle.pli_parse.specs.Reading.{begins, taken, name_from, number_from, count_from};
@@ -20,6 +20,16 @@ pub fn place(token: &Token) -> Place
     Place {
         line: token.line,
         column: token.column,
+    }
+}
+
+/// The place of the first token.
+pub fn place_ahead(tokens: &[Token]) -> Place
+    ensures { result ≡ place_ahead tokens.now }
+{
+    match tokens.split_first() {
+        Some((first, _)) => place(first),
+        None => Place { line: 0, column: 0 },
     }
 }
 

@@ -5,7 +5,7 @@ use Rattle.pli_meaning.specs.Encoding.{word_of}
 use Rattle.pli_meaning.specs.Memory.{bytes_of_words}
 use Rattle.pli_meaning.specs.Machine.{memory_size}
 use Rattle.pli_meaning.specs.Headline.{Picture, first_bytes}
-use Rattle.rv_isa.specs.Images.{Program}
+use Rattle.pli_meaning.specs.Images.{Image}
 use Rattle.pli_meaning.specs.Headline.{loaded_at, first_machine, Run, Runs, run_on, run_of, shown_by}
 use Rattle.pli_meaning.specs.Machine.{Loaded, State}
 use Rattle.pli_meaning.specs.Services.{Service, first_service}
@@ -40,18 +40,18 @@ same_code (i ∷ is) (j ∷ js) f g e =
     let behind = same_code is js (λ k. f (suc k)) (λ k. g (suc k)) rest in
     cc
 
-pub picture_code : (p : Picture) (image : Program) (code : List Instr) → IsPicture p image → AreDecoded image.code code → p.code ≡ code
+pub picture_code : (p : Picture) (image : Image) (code : List Instr) → IsPicture p image → AreDecoded image.code code → p.code ≡ code
 picture_code p image code h d = same_code p.code code h.fit d.fit (h.words_are ∙ sym d.words_are)
 
-pub picture_bytes : (p : Picture) (image : Program) → IsPicture p image → first_memory memory_size image ≡ first_bytes p
+pub picture_bytes : (p : Picture) (image : Image) → IsPicture p image → first_memory memory_size image ≡ first_bytes p
 picture_bytes p image h = rw (h.words_are, h.statics_are, length-words image.code) (simp append_assoc)
 
-pub started_code : (image : Program) (base : ℕ) (m : Machine) → IsStarted image base m → 4 * length image.code ≡ 4 * length (loaded_of m).code
+pub started_code : (image : Image) (base : ℕ) (m : Machine) → IsStarted image base m → 4 * length image.code ≡ 4 * length (loaded_of m).code
 started_code image base m h =
     let words = ap length (sym h.decoded.words_are) ∙ length-map (map instr_of m.code.items) word_of in
     ap (λ (n : ℕ). 4 * n) words
 
-pub started_run : (p : Picture) (image : Program) (base : ℕ) (input : List ℕ) (bound : ℕ) (m : Machine) (r : Runtime) → IsPicture p image → IsStarted image base m → service_of r ≡ first_service input → run_of p base input bound ≡ run_on bound (loaded_of m) (Runs (whole (moment r m)))
+pub started_run : (p : Picture) (image : Image) (base : ℕ) (input : List ℕ) (bound : ℕ) (m : Machine) (r : Runtime) → IsPicture p image → IsStarted image base m → service_of r ≡ first_service input → run_of p base input bound ≡ run_on bound (loaded_of m) (Runs (whole (moment r m)))
 started_run p image base input bound m r h started service =
     let code : p.code ≡ map instr_of m.code.items = picture_code p image _ h started.decoded in
     let place : loaded_at p base ≡ loaded_of m = rw (code, started.based) refl in
@@ -71,15 +71,15 @@ unstarted_told p base input bound (Source fault) h = absurd h
 unstarted_told p base input bound (Fails fault acts output) h = absurd h
 
 -- a run as the definitions name it, by the bound
-runs_alike : (p : Picture) (image : Program) (base : ℕ) (input : List ℕ) (m : Machine) (r : Runtime) → IsPicture p image → IsStarted image base m → service_of r ≡ first_service input → run_of p base input ≡ (λ (n : ℕ). run_on n (loaded_of m) (Runs (whole (moment r m))))
+runs_alike : (p : Picture) (image : Image) (base : ℕ) (input : List ℕ) (m : Machine) (r : Runtime) → IsPicture p image → IsStarted image base m → service_of r ≡ first_service input → run_of p base input ≡ (λ (n : ℕ). run_on n (loaded_of m) (Runs (whole (moment r m))))
 runs_alike p image base input m r h started service = λ i n. started_run p image base input n m r h started service i
 
-pub started_meets : (p : Picture) (image : Program) (base : ℕ) (input : List ℕ) (m : Machine) (r : Runtime) (bound : ℕ) (f : Fault) (acts : ℕ) (output : List ℕ) → IsPicture p image → IsStarted image base m → service_of r ≡ first_service input → Meets (λ (n : ℕ). run_on n (loaded_of m) (Runs (whole (moment r m)))) bound f acts output → Meets (run_of p base input) bound f acts output
+pub started_meets : (p : Picture) (image : Image) (base : ℕ) (input : List ℕ) (m : Machine) (r : Runtime) (bound : ℕ) (f : Fault) (acts : ℕ) (output : List ℕ) → IsPicture p image → IsStarted image base m → service_of r ≡ first_service input → Meets (λ (n : ℕ). run_on n (loaded_of m) (Runs (whole (moment r m)))) bound f acts output → Meets (run_of p base input) bound f acts output
 started_meets p image base input m r bound f acts output h started service meets =
     let P : (ℕ → Run) → Type 0 = λ run. Meets run bound f acts output in
     subst P (sym (runs_alike p image base input m r h started service)) meets
 
-pub started_shows : (p : Picture) (image : Program) (base : ℕ) (input : List ℕ) (m : Machine) (r : Runtime) (bound : ℕ) (acts : ℕ) (output : List ℕ) → IsPicture p image → IsStarted image base m → service_of r ≡ first_service input → ShowsWithin (λ (n : ℕ). run_on n (loaded_of m) (Runs (whole (moment r m)))) bound acts output → ShowsWithin (run_of p base input) bound acts output
+pub started_shows : (p : Picture) (image : Image) (base : ℕ) (input : List ℕ) (m : Machine) (r : Runtime) (bound : ℕ) (acts : ℕ) (output : List ℕ) → IsPicture p image → IsStarted image base m → service_of r ≡ first_service input → ShowsWithin (λ (n : ℕ). run_on n (loaded_of m) (Runs (whole (moment r m)))) bound acts output → ShowsWithin (run_of p base input) bound acts output
 started_shows p image base input m r bound acts output h started service shows =
     let P : (ℕ → Run) → Type 0 = λ run. ShowsWithin run bound acts output in
     subst P (sym (runs_alike p image base input m r h started service)) shows

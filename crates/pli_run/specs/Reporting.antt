@@ -6,6 +6,8 @@ use Rattle.pli_meaning.specs.declared.outcome.End.TheVariants as E
 use Rattle.pli_meaning.specs.declared.fault.SourceFault.{SourceFault}
 use Rattle.pli_meaning.specs.declared.fault.SourceKind.{SourceKind}
 use Rattle.pli_meaning.specs.declared.fault.SourceKind.TheVariants as K
+use Rattle.pli_meaning.specs.declared.image.ImageFault.{ImageFault}
+use Rattle.pli_meaning.specs.declared.image.ImageFault.TheVariants as I
 use Rattle.pli_run.specs.declared.run.RunFault.{RunFault}
 use Rattle.pli_run.specs.declared.run.RunFault.TheVariants as F
 use Rattle.pli_run.specs.declared.report.Line.{Line}
@@ -33,6 +35,10 @@ refusal_status _ = 2
 abbrev pub refusal_line : SourceFault → SourceKind → Line
 refusal_line fault K.Memory = L.Memory
 refusal_line fault _ = L.Source fault
+
+abbrev pub image_line : ImageFault → Line
+image_line I.Memory = L.Memory
+image_line fault = L.Image fault
 
 abbrev pub status_of : Result Outcome RunFault → ℕ
 status_of (Ok o) = end_status o.end

@@ -5,7 +5,7 @@ use Rattle.pli_meaning.specs.declared.instr.Fault.{Fault}
 use Rattle.pli_meaning.specs.Encoding.{word_of}
 use Rattle.pli_meaning.specs.World.{World}
 use Rattle.pli_meaning.specs.Headline.{Picture, Run, Stopped, shown_by}
-use Rattle.rv_isa.specs.Images.{Program}
+use Rattle.pli_meaning.specs.Images.{Image}
 use Rattle.rv_machine.specs.Fitting.{AllFit}
 use Rattle.pli_run.specs.declared.run.RunFault.{RunFault}
 use Rattle.pli_run.specs.declared.run.RunFault.TheVariants.{Memory, BadBase, Source, Machine}
@@ -15,7 +15,7 @@ abbrev pub world_of : Outcome → World
 world_of o = record { acts = o.acts; output = o.output.items; raised = o.raised.items; end = o.end }
 
 -- the image in instructions; there is one such list of instructions for its words
-pub record IsPicture (p : Picture) (image : Program) : Type 0 where
+pub record IsPicture (p : Picture) (image : Image) : Type 0 where
   pub words_are : map word_of p.code ≡ image.code
   pub fit : AllFit p.code
   pub statics_are : p.statics ≡ image.statics

@@ -2,10 +2,11 @@
 
 ghost use Rattle.std.specs.Prelude.{◌≡◌, Some};
 ghost use Rattle.pli_run.specs.declared.report.Line.TheVariants.{Unread, Unwritten};
-ghost use Rattle.pli_run.specs.Reporting.{status_of, line_of, end_status, end_line, refusal_status, refusal_line};
+ghost use Rattle.pli_run.specs.Reporting.{status_of, line_of, end_status, end_line, refusal_status, refusal_line, image_line};
 
 use crate::run::RunFault;
 use pli_meaning::fault::{SourceFault, SourceKind};
+use pli_meaning::image::ImageFault;
 use pli_meaning::instr::Fault;
 use pli_meaning::outcome::{End, Limit, Outcome};
 use std::fmt;
@@ -17,6 +18,8 @@ pub enum Line<'a> {
     Error { code: u16, line: u32 },
     /// The source is refused.
     Source(SourceFault),
+    /// The bytes are no image.
+    Image(ImageFault),
     /// As many instructions as were allowed are done.
     Bound,
     /// An instruction can't be carried out.
@@ -37,6 +40,7 @@ impl fmt::Display for Line<'_> {
         match self {
             Line::Error { code, line } => write!(f, "ERROR {code} AT LINE {line}"),
             Line::Source(fault) => write!(f, "{fault}"),
+            Line::Image(fault) => write!(f, "IMAGE {fault}"),
             Line::Bound => write!(f, "BOUND REACHED"),
             Line::Machine(fault) => {
                 let number = *fault as u8;
@@ -67,10 +71,21 @@ pub fn report(ran: &Result<Outcome, RunFault>) -> Notice<'static>
 {
     match ran {
         Ok(outcome) => ended(outcome.end),
-        Err(RunFault::Source(fault)) => refused(*fault),
+        Err(RunFault::Source(fault)) => refused_source(*fault),
         Err(RunFault::Memory { .. }) => failed(Line::Memory),
         Err(RunFault::BadBase) => failed(Line::Base),
         Err(RunFault::Machine { fault, .. }) => failed(Line::Machine(*fault)),
+    }
+}
+
+/// What is told of an image that is refused, or for which there is no memory.
+pub fn refused_image(fault: ImageFault) -> Notice<'static>
+    ensures status { result.status ≡ 4 }
+    ensures line { result.line ≡ Some (image_line fault) }
+{
+    match fault {
+        ImageFault::Memory => failed(Line::Memory),
+        _ => failed(Line::Image(fault)),
     }
 }
 
@@ -105,7 +120,8 @@ fn ended(end: End) -> Notice<'static>
     }
 }
 
-fn refused(fault: SourceFault) -> Notice<'static>
+/// What is told of a source that is refused, or for which there is no memory.
+pub fn refused_source(fault: SourceFault) -> Notice<'static>
     ensures status { result.status ≡ refusal_status fault.kind }
     ensures line { result.line ≡ Some (refusal_line fault fault.kind) }
 {

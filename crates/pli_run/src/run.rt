@@ -9,7 +9,7 @@ use crate::runtime::Runtime;
 use pli_meaning::fault::SourceFault;
 use pli_meaning::instr::Fault;
 use pli_meaning::outcome::Outcome;
-use rv_isa::image::Image;
+use rv_image::image::Image;
 use rv_machine::base::valid_base;
 use rv_machine::machine::{Machine, Step};
 use std::alloc::Global;

@@ -2,15 +2,16 @@
 
 ghost use Rattle.std.specs.Prelude.{◌<◌, ◌≡◌, IfOk, IfSome, vec_len};
 
-use crate::report::{report, unread, unwritten};
+use crate::report::{refused_image, report, unread, unwritten};
 use crate::run::{RunFault, run};
 use pli_meaning::condition::Condition;
 use pli_meaning::fault::{SourceFault, SourceKind};
+use pli_meaning::image::ImageFault;
 use pli_meaning::instr::{Fault, ImmediateOp, Instr, Register};
 use pli_meaning::outcome::{End, Limit, Outcome};
+use rv_image::image::{Image, is_loadable};
 use rv_isa::code::Code;
 use rv_isa::encode::encode;
-use rv_isa::image::{Image, is_loadable};
 use std::alloc::{AllocError, Global};
 use std::test::Fail;
 
@@ -191,9 +192,11 @@ fn lines_are_printed(rt: HostRuntime) -> Result<(), Fail> {
 }
 
 #[test]
-fn files_are_named(rt: HostRuntime) -> Result<(), Fail> {
+fn files_and_images_are_told(rt: HostRuntime) -> Result<(), Fail> {
     let alloc = rt.alloc();
     for (notice, text) in [
+        (refused_image(ImageFault::Length), "IMAGE 3 Length"),
+        (refused_image(ImageFault::Memory), "MEMORY"),
         (unread("stdin"), "CANNOT READ stdin"),
         (unwritten("a.out"), "CANNOT WRITE a.out"),
     ] {

@@ -3,6 +3,7 @@ use Rattle.std.proofs.Common.{◌≡◌, ℕ, zero, suc, ◌+◌, ◌*◌, ◌^�
 use Rattle.std.specs.Prelude.{nat_le, if◌then◌else◌}
 use Rattle.std.proofs.lemmas.Bool.Decides.{nat_tests}
 use Rattle.pli_meaning.specs.declared.instr.Instr.{Instr}
+use Rattle.pli_meaning.specs.declared.expr.Place.{Place}
 use Rattle.pli_meaning.specs.Tree as T
 use Rattle.pli_meaning.specs.Typed as Y
 use Rattle.pli_meaning.specs.Typed.{Variable, Number, FormatItem, FixedItem}
@@ -53,22 +54,22 @@ record OneField (f : T.Formats) (items : List FormatItem) : Type 0 where
   wide : is_width width ≡ true
   is : items ≡ FixedItem width ∷ []
 
-one_field : (width : ℕ) (items : List FormatItem) → (if is_width width then Some (FixedItem width ∷ []) else None) ≡ Some items → OneField (T.FormatThen 1 (T.FixedFormat width) T.NoFormat) items
-one_field width items e =
+one_field : (at : Place) (width : ℕ) (items : List FormatItem) → (if is_width width then Some (FixedItem width ∷ []) else None) ≡ Some items → OneField (T.FormatThen at 1 (T.FixedFormat width) T.NoFormat) items
+one_field at width items e =
     let a = where_true (is_width width) (Some (FixedItem width ∷ [])) items e in
     record { width = width; at = ap (λ b. if b then Some width else None) a.0; wide = a.0; is = cc (a.1) }
 
 format_typed : (f : T.Formats) (items : List FormatItem) → typed_format f ≡ Some items → OneField f items
 format_typed T.NoFormat items e = absurd (cc e)
-format_typed (T.FormatThen zero first rest) items e = absurd (cc e)
-format_typed (T.FormatThen (suc zero) (T.FixedFormat width) T.NoFormat) items e = one_field width items e
-format_typed (T.FormatThen (suc zero) (T.FixedFormat width) (T.FormatThen n f fs)) items e = absurd (cc e)
-format_typed (T.FormatThen (suc zero) (T.FormatList fs) rest) items e = absurd (cc e)
-format_typed (T.FormatThen (suc zero) (T.TextFormat w) rest) items e = absurd (cc e)
-format_typed (T.FormatThen (suc zero) (T.SpaceFormat n) rest) items e = absurd (cc e)
-format_typed (T.FormatThen (suc zero) (T.SkipFormat n) rest) items e = absurd (cc e)
-format_typed (T.FormatThen (suc zero) (T.ColumnFormat n) rest) items e = absurd (cc e)
-format_typed (T.FormatThen (suc (suc n)) first rest) items e = absurd (cc e)
+format_typed (T.FormatThen at zero first rest) items e = absurd (cc e)
+format_typed (T.FormatThen at (suc zero) (T.FixedFormat width) T.NoFormat) items e = one_field at width items e
+format_typed (T.FormatThen at (suc zero) (T.FixedFormat width) (T.FormatThen behind n f fs)) items e = absurd (cc e)
+format_typed (T.FormatThen at (suc zero) (T.FormatList fs) rest) items e = absurd (cc e)
+format_typed (T.FormatThen at (suc zero) (T.TextFormat w) rest) items e = absurd (cc e)
+format_typed (T.FormatThen at (suc zero) (T.SpaceFormat n) rest) items e = absurd (cc e)
+format_typed (T.FormatThen at (suc zero) (T.SkipFormat n) rest) items e = absurd (cc e)
+format_typed (T.FormatThen at (suc zero) (T.ColumnFormat n) rest) items e = absurd (cc e)
+format_typed (T.FormatThen at (suc (suc n)) first rest) items e = absurd (cc e)
 
 width_narrow : (width : ℕ) → is_width width ≡ true → width < 2048
 width_narrow width e = grind (arith, nat_tests)
@@ -189,4 +190,4 @@ items_emit scope taken (T.ItemThen (T.Statement [] s) rest) xs few four lines ro
 items_emit scope taken (T.ItemThen (T.Statement (l ∷ ls) s) rest) xs few four lines room h = absurd (cc h)
 items_emit scope taken (T.ItemThen (T.Procedure head body) rest) xs few four lines room h = absurd (cc h)
 items_emit scope taken (T.ItemThen (T.Declare declared place) rest) xs few four lines room h = absurd (cc h)
-items_emit scope taken (T.ItemThen (T.EndLabels labels) rest) xs few four lines room h = absurd (cc h)
+items_emit scope taken (T.ItemThen (T.EndLabels labels at) rest) xs few four lines room h = absurd (cc h)

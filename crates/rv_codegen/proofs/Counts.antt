@@ -16,7 +16,7 @@ item_few : (i : T.Item) → length (item_names i) ≤ item_weight i
 item_few (T.Procedure head body) = omega arith
 item_few (T.Declare declared place) = let e = declared_few declared in omega (arith, e)
 item_few (T.Statement labels statement) = omega arith
-item_few (T.EndLabels labels) = omega arith
+item_few (T.EndLabels labels place) = omega arith
 
 pub names_few : (items : T.Items) → length (items_names items) ≤ items_weight items
 names_few T.NoItem = omega arith

@@ -6,7 +6,7 @@ use Rattle.pli_meaning.specs.declared.instr.Register.{Register}
 use Rattle.pli_meaning.specs.declared.instr.Instr.{Instr}
 use Rattle.pli_meaning.specs.Encoding.{IsWithin, word_of}
 use Rattle.pli_meaning.specs.Numbers.{Operator, Add, Subtract}
-use Rattle.rv_isa.specs.Images.{AllInstructions}
+use Rattle.pli_meaning.specs.Images.{AllInstructions}
 use Rattle.rv_codegen.specs.Registers.{a0_register, a1_register}
 use Rattle.rv_codegen.specs.Code.{lower_part, large, slot_load, slot_store, call, checked_code, act_code, format_code, field_code, finish_code, small}
 use Rattle.rv_codegen.specs.Promise.{AllFit}

@@ -10,7 +10,7 @@ use Rattle.pli_meaning.specs.Typing.{◌and_then◌, Scope, index_of, wide_fixed
 use Rattle.pli_meaning.specs.Headline.{Headline}
 use Rattle.pli_meaning.specs.Encoding.{word_of}
 use Rattle.rv_isa.specs.declared.code.Code.{Code}
-use Rattle.rv_isa.specs.Images.{program, IsLoadable}
+use Rattle.pli_meaning.specs.Images.{image, IsLoadable}
 use Rattle.rv_codegen.specs.Code.{first_variable, act_code, stmts_code, finish_code, frame_code, block_code, program_code}
 use Rattle.rv_codegen.specs.Emitted.{items_put, declared_names, items_names, body_put, procedures_put}
 use Rattle.rv_codegen.specs.Promise.{most_words, AllFit, picture_of, IsCodeOf}
@@ -91,7 +91,7 @@ body_emits place scope full (T.ItemThen (T.Declare declared at) rest) p names fe
 body_emits place scope full T.NoItem p names few lines room h = plain_body place scope full T.NoItem p names few lines room h
 body_emits place scope full (T.ItemThen (T.Statement labels s) rest) p names few lines room h = plain_body place scope full (T.ItemThen (T.Statement labels s) rest) p names few lines room h
 body_emits place scope full (T.ItemThen (T.Procedure head body) rest) p names few lines room h = plain_body place scope full (T.ItemThen (T.Procedure head body) rest) p names few lines room h
-body_emits place scope full (T.ItemThen (T.EndLabels labels) rest) p names few lines room h = plain_body place scope full (T.ItemThen (T.EndLabels labels) rest) p names few lines room h
+body_emits place scope full (T.ItemThen (T.EndLabels labels at) rest) p names few lines room h = plain_body place scope full (T.ItemThen (T.EndLabels labels at) rest) p names few lines room h
 
 -- ---- programs
 
@@ -155,10 +155,10 @@ tree_emits T.NoItem p room lines h = absurd (cc h)
 tree_emits (T.ItemThen (T.Procedure head body) (T.ItemThen i is)) p room lines h = absurd (cc h)
 tree_emits (T.ItemThen (T.Statement labels s) rest) p room lines h = absurd (cc h)
 tree_emits (T.ItemThen (T.Declare declared place) rest) p room lines h = absurd (cc h)
-tree_emits (T.ItemThen (T.EndLabels labels) rest) p room lines h = absurd (cc h)
+tree_emits (T.ItemThen (T.EndLabels labels at) rest) p room lines h = absurd (cc h)
 
 -- what a machine asks of the words of a program's code
-pub loadable_words : (weight : ℕ) (code : List Instr) (p : Program) → ProgramEmits weight code p → IsLoadable (program (map word_of (program_code p)) [] 0 [])
+pub loadable_words : (weight : ℕ) (code : List Instr) (p : Program) → ProgramEmits weight code p → IsLoadable (image (map word_of (program_code p)) [] 0 [])
 loadable_words weight code p h =
     let c = program_code p in
     let l = mapped word_of c in
@@ -173,6 +173,7 @@ loadable_words weight code p h =
       entry_in_code = omega (arith, l, some);
       statics_fit = omega arith;
       table_fits = omega arith;
+      table_lists = record { signatures = []; fit = tt; spelled = refl };
     }
 
 -- words of this code with nothing beside them
@@ -180,16 +181,16 @@ pub code_of : (weight : ℕ) (code : List Instr) (p : Program) (made : Code) →
 code_of weight code p made h words statics table calls entry =
     let e = words ∙ ap (map word_of) h.is in
     let l = loadable_words weight code p h in
-    let a = subst (λ w. IsLoadable (program w [] 0 [])) (sym e) l in
-    let b = subst (λ s. IsLoadable (program made.words.items s 0 [])) (sym statics) a in
-    let d = subst (λ n. IsLoadable (program made.words.items made.statics.items n [])) (sym entry) b in
+    let a = subst (λ w. IsLoadable (image w [] 0 [])) (sym e) l in
+    let b = subst (λ s. IsLoadable (image made.words.items s 0 [])) (sym statics) a in
+    let d = subst (λ n. IsLoadable (image made.words.items made.statics.items n [])) (sym entry) b in
     record {
       words = e;
       no_statics = statics;
       no_table = table;
       no_calls = calls;
       entered_first = entry;
-      loadable = subst (λ t. IsLoadable (program made.words.items made.statics.items made.entry t)) (sym table) d;
+      loadable = subst (λ t. IsLoadable (image made.words.items made.statics.items made.entry t)) (sym table) d;
       fits = h.fits;
       short = h.short;
       promised = h.promised;

@@ -63,7 +63,7 @@ one_item = small a0_register 1 ∷ (slot_store a0_register 0 ++ (slot_store a0_r
 
 -- the width of a format list that is compiled
 abbrev pub width_of : T.Formats → Option ℕ
-width_of (T.FormatThen repetition (T.FixedFormat width) T.NoFormat) =
+width_of (T.FormatThen place repetition (T.FixedFormat width) T.NoFormat) =
     if (repetition == 1) && is_width width then Some width else None
 width_of _ = None
 

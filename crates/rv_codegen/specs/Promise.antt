@@ -5,7 +5,7 @@ use Rattle.pli_meaning.specs.Encoding.{word_of, Fits}
 use Rattle.pli_meaning.specs.Typed.{Program}
 use Rattle.pli_meaning.specs.Headline.{Picture, Headline}
 use Rattle.rv_isa.specs.declared.code.Code.{Code}
-use Rattle.rv_isa.specs.Images.{program, IsLoadable}
+use Rattle.pli_meaning.specs.Images.{image, IsLoadable}
 use Rattle.rv_codegen.specs.Code.{program_code}
 
 -- each instruction's fields hold its operands
@@ -29,7 +29,7 @@ pub record IsCodeOf (p : Program) (weight : ℕ) (code : Code) : Type 0 where
   pub no_table : code.table.items ≡ []
   pub no_calls : vec_len code.calls ≡ 0
   pub entered_first : code.entry ≡ 0
-  pub loadable : IsLoadable (program code.words.items code.statics.items code.entry code.table.items)
+  pub loadable : IsLoadable (image code.words.items code.statics.items code.entry code.table.items)
   pub fits : AllFit (program_code p)
   pub short : length (program_code p) ≤ most_words weight
   pub promised : Headline p (picture_of (program_code p))

@@ -30,7 +30,7 @@ abbrev mutual
   item_weight (T.Procedure head body) = items_weight body
   item_weight (T.Declare declared place) = declared_weight declared
   item_weight (T.Statement labels statement) = stmt_weight statement
-  item_weight (T.EndLabels labels) = 0
+  item_weight (T.EndLabels labels place) = 0
 
   pub items_weight : T.Items → ℕ
   items_weight T.NoItem = 0
@@ -51,7 +51,7 @@ abbrev mutual
   ItemLines (T.Procedure head body) = (head.place.line < 2 ^ 31) × SmallLines body
   ItemLines (T.Declare declared place) = Unit {0}
   ItemLines (T.Statement labels statement) = stmt_line statement < 2 ^ 31
-  ItemLines (T.EndLabels labels) = Unit {0}
+  ItemLines (T.EndLabels labels place) = Unit {0}
 
   pub SmallLines : T.Items → Type 0
   SmallLines T.NoItem = Unit {0}

@@ -123,6 +123,7 @@ fn width_of(formats: &Formats) -> Option<u32>
         repetition,
         first: Format::Fixed { width },
         rest,
+        ..
     } = formats
     else {
         return None;

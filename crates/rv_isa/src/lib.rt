@@ -5,6 +5,5 @@ pub mod code;
 pub mod decode;
 pub mod encode;
 mod fields;
-pub mod image;
 #[cfg(test)]
 mod tests;

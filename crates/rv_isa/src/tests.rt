@@ -1,9 +1,7 @@
 // Words against what an assembler makes of their text. The words are LLVM's, for RV32IM, with distances written out.
 
-use crate::code::Code;
 use crate::decode::decode;
 use crate::encode::encode;
-use crate::image::{Image, is_loadable};
 use pli_meaning::instr::{
     BranchTest, ImmediateOp, Instr, LoadKind, RegisterOp, ShiftOp, StoreKind,
 };
@@ -388,26 +386,4 @@ fn other_words_are_no_instructions(rt: HostRuntime) {
     for word in OTHERS.iter() {
         assert!(rt; decode(*word).is_none(), "at {word:#010x}");
     }
-}
-
-#[test]
-fn images_show_their_parts(rt: HostRuntime) -> Result<(), Fail> {
-    let alloc = rt.alloc();
-    let code = Code {
-        words: [0x0000_0013, 0x0000_0073].to_vec(alloc)?,
-        statics: [1, 2, 3].to_vec(alloc)?,
-        entry: 4,
-        table: [9].to_vec(alloc)?,
-        calls: Vec::new(alloc),
-    };
-    if !is_loadable(&code) {
-        return Err("refused")?;
-    }
-    let image = Image::from_code(code);
-    assert_eq!(rt; image.code(), [0x0000_0013, 0x0000_0073].as_slice());
-    assert_eq!(rt; image.statics(), [1, 2, 3].as_slice());
-    assert_eq!(rt; image.table(), [9].as_slice());
-    assert_eq!(rt; image.entry(), 4);
-    assert_eq!(rt; image.step_cost(), 6);
-    Ok(())
 }

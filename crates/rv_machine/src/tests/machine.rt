@@ -5,8 +5,8 @@ use crate::machine::{Machine, Step};
 use crate::services::{Served, Services};
 use crate::storage::Storage;
 use pli_meaning::instr::Fault;
+use rv_image::image::{Image, is_loadable};
 use rv_isa::code::Code;
-use rv_isa::image::{Image, is_loadable};
 use std::alloc::Global;
 use std::test::Fail;
 

@@ -1,4 +1,4 @@
-use Rattle.pli_meaning.proofs.Unique.{spelled_once}
+use Rattle.pli_meaning.proofs.UniqueSource.{spelled_once}
 use Rattle.pli_meaning.proofs.laws.spelled_once.Goals as goal
 
 pub returns : goal.returns

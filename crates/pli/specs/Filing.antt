@@ -1,0 +1,30 @@
+-- Images in files: what bytes a source is compiled to, and what a run of bytes is promised to show.
+use Rattle.std.specs.Prelude.{ℕ, List, Result, IsErrOf, ◌↔◌}
+use Rattle.pli_meaning.specs.declared.outcome.Outcome.{Outcome}
+use Rattle.pli_meaning.specs.Machine.{IsValidBase}
+use Rattle.pli_meaning.specs.Images.{Image, HasBytes}
+use Rattle.pli_meaning.specs.Headline.{Picture, run_of}
+use Rattle.pli_run.specs.Running.{IsPicture, Tells}
+use Rattle.pli_run.specs.declared.run.RunFault.{RunFault}
+use Rattle.pli_run.specs.declared.run.RunFault.TheVariants as R
+use Rattle.pli.specs.Compiling.{IsCompiled, Answers}
+
+-- the bytes of an image that keeps the promise for a source
+pub record IsCompiledTo (s : List ℕ) (bytes : List ℕ) : Type 0 where
+  pub image : Image
+  pub compiled : IsCompiled s image
+  pub spelled : HasBytes image bytes
+
+-- what is answered for a run of bytes that are an image's, whatever its code: just what the machine and its services,
+-- which are the definitions', come to
+pub record IsRunOf (bytes input : List ℕ) (base bound : ℕ) (ran : Result Outcome RunFault) : Type 0 where
+  pub image : Image
+  pub spelled : HasBytes image bytes
+  pub picture : Picture
+  pub pictured : IsPicture picture image
+  pub bad_base : IsErrOf ran R.BadBase ↔ ¬ IsValidBase base
+  pub told : IsValidBase base → Tells (run_of picture base input) bound ran
+
+-- and where they are those of a source's image, what the source means
+abbrev pub IsRunFor : (bytes input : List ℕ) → (base bound : ℕ) → Result Outcome RunFault → Type 0
+IsRunFor bytes input base bound ran = (s : List ℕ) → IsCompiledTo s bytes → IsValidBase base → Answers s input bound ran

@@ -1,0 +1,12 @@
+pub mod Posts
+pub mod Tokens
+pub mod Lists
+pub mod Enclosed
+pub mod Expressions
+pub mod Extents
+pub mod Words
+pub mod Initials
+pub mod AttributeLaws
+pub mod Items
+pub mod Loops
+pub mod Laws

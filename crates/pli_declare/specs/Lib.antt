@@ -1,0 +1,4 @@
+pub mod Shown
+pub mod Index
+pub mod ShownBlocks
+pub mod Among

@@ -1,0 +1,14 @@
+pub mod Texts
+pub mod Operators
+pub mod Newest
+pub mod Runs
+pub mod Spelled
+pub mod TextValues
+pub mod CompleteExpressions
+pub mod SoundExpressions
+pub mod Expressions
+pub mod Tokens
+pub mod Lists
+pub mod Stops
+pub mod Arguments
+pub mod Beginnings

@@ -1,0 +1,5 @@
+pub mod Words
+pub mod Loops
+pub mod Tables
+pub mod Refusing
+pub mod Parts

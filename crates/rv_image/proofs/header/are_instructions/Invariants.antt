@@ -1,0 +1,7 @@
+use Rattle.std.proofs.Common.{ℕ, ◌<◌, ◌+◌, ◌*◌}
+use Rattle.pli_meaning.specs.Memory.{load}
+use Rattle.pli_meaning.specs.Images.{IsInstruction}
+use Rattle.rv_image.proofs.header.are_instructions.Given as goal
+
+abbrev pub invariant-loop-k : goal.invariant-loop-k
+invariant-loop-k l = (j : ℕ) → j < l.k → IsInstruction (load 4 l.bytes (24 + 4 * j))
