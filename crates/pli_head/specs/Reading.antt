@@ -7,7 +7,8 @@ use Rattle.pli_meaning.specs.declared.token.Symbol.TheVariants as S
 use Rattle.pli_meaning.specs.declared.token.Kind.TheVariants as K
 use Rattle.pli_meaning.specs.declared.token.Token.{Token}
 use Rattle.pli_meaning.specs.Spells.{place_of}
-use Rattle.pli_meaning.specs.Heads.{Head, ProcedureFront, Declaring, Simple, IfThen, Else, DoGroup, DoWhileGroup, DoCountGroup, BeginBlock, On, System, EndOf, is_left_out_head}
+use Rattle.pli_meaning.specs.Heads.{Head, ProcedureFront, Declaring, Simple, IfThen, Else, DoGroup, DoWhileGroup, DoCountGroup, BeginBlock, On, System, EndOf, is_left_out_head, moving}
+use Rattle.pli_meaning.specs.Formats.{Direction, Getting, Putting}
 use Rattle.pli_meaning.specs.Tree as T
 use Rattle.pli_phrase.specs.Cursor.{Cursor, Missed, Stuck, Ended, LeavesOut, Read, ◌>>=◌, onto}
 use Rattle.pli_phrase.specs.Tokens.{is_terminal, begins, taken, name_from}
@@ -15,6 +16,7 @@ use Rattle.pli_phrase.specs.declared.expression.Beginning.{Beginning}
 use Rattle.pli_phrase.specs.declared.expression.Beginning.TheVariants.{Begins, Differs, Unknown}
 use Rattle.pli_phrase.specs.Reading.{expr_from, reference_from, arguments_from, assignment_begins}
 use Rattle.pli_attributes.specs.Reading.{declare_items_from}
+use Rattle.pli_stream.specs.Reading.{transfer_from}
 use Rattle.pli_clause.specs.Parts.{word_from}
 use Rattle.pli_clause.specs.Reading.{condition_from, parameters_from, options_from, in_parentheses_from, counting_from, allocations_from, freeings_from, value_from}
 
@@ -75,6 +77,9 @@ allocate_from s p c = allocations_from s c >>= λ a. Ok (T.Allocate a.0 p, a.1)
 abbrev pub free_from : List ℕ → Place → Cursor → Read T.Stmt
 free_from s p c = freeings_from s c >>= λ f. Ok (T.Free f.0 p, f.1)
 
+abbrev pub moved_from : List ℕ → Direction → Place → Cursor → Read T.Stmt
+moved_from s d p c = transfer_from s d c >>= λ x. Ok (moving d x.0.skip x.0.pairs p, x.1)
+
 -- where no form goes on with a word: the tokens end inside what could still be an assignment, or they don't
 abbrev pub missed : Beginning → Missed
 missed Unknown = Ended
@@ -94,6 +99,8 @@ simple_behind s b at p W.Signal c = signal_from p c
 simple_behind s b at p W.Revert c = revert_from p c
 simple_behind s b at p W.Allocate c = allocate_from s p c
 simple_behind s b at p W.Free c = free_from s p c
+simple_behind s b at p W.Get c = moved_from s Getting p c
+simple_behind s b at p W.Put c = moved_from s Putting p c
 simple_behind s b at p word c = other_from b at word c
 
 -- ---- the other heads, behind their words

@@ -1,11 +1,12 @@
 // Simple statements, up to their semicolons.
 
 ghost use Rattle.std.specs.Prelude.{◌≡◌};
+ghost use Rattle.pli_meaning.specs.Formats.{Getting, Putting};
 ghost use Rattle.pli_meaning.specs.Heads.{is_left_out_head};
 ghost use Rattle.pli_meaning.specs.View.{stmt_of};
 ghost use Rattle.pli_phrase.specs.Answers.{Gives};
 ghost use Rattle.pli_phrase.specs.View.{cursor_of};
-ghost use Rattle.pli_head.specs.Reading.{allocate_from, assignment_from, call_from, free_from, go_from, label_from, other_from, return_from, revert_from, signal_from, simple_behind};
+ghost use Rattle.pli_head.specs.Reading.{allocate_from, assignment_from, call_from, free_from, go_from, label_from, moved_from, other_from, return_from, revert_from, signal_from, simple_behind};
 
 use pli_clause::{allocations, condition, freeings, value};
 use pli_meaning::expr::Place;
@@ -15,6 +16,7 @@ use pli_phrase::cursor::Cursor;
 use pli_phrase::expression::{Beginning, arguments, expression, reference};
 use pli_phrase::stop::Stop;
 use pli_phrase::token::{name, taken};
+use pli_stream::{Direction, transfer};
 use std::alloc::Global;
 
 /// A reference, `=` and an expression.
@@ -149,6 +151,44 @@ fn free<'a>(
     Ok((Stmt::Free { freeings, place }, cursor))
 }
 
+/// Behind GET.
+#[tactic(auto, unfolding(pli_meaning::specs::View::stmt_of))]
+fn get<'a>(
+    alloc: Global,
+    source: &[u8],
+    place: Place,
+    cursor: Cursor<'a>,
+) -> Result<(Stmt, Cursor<'a>), Stop<'a>>
+    ensures { Gives (λ x. (stmt_of x.0, cursor_of x.1)) result (moved_from source.now Getting place (cursor_of cursor.entry)) }
+{
+    let (transfer, cursor) = transfer(alloc, source, Direction::Getting, cursor)?;
+    let statement = Stmt::Get {
+        skip: transfer.skip,
+        pairs: transfer.pairs,
+        place,
+    };
+    Ok((statement, cursor))
+}
+
+/// Behind PUT.
+#[tactic(auto, unfolding(pli_meaning::specs::View::stmt_of))]
+fn put<'a>(
+    alloc: Global,
+    source: &[u8],
+    place: Place,
+    cursor: Cursor<'a>,
+) -> Result<(Stmt, Cursor<'a>), Stop<'a>>
+    ensures { Gives (λ x. (stmt_of x.0, cursor_of x.1)) result (moved_from source.now Putting place (cursor_of cursor.entry)) }
+{
+    let (transfer, cursor) = transfer(alloc, source, Direction::Putting, cursor)?;
+    let statement = Stmt::Put {
+        skip: transfer.skip,
+        pairs: transfer.pairs,
+        place,
+    };
+    Ok((statement, cursor))
+}
+
 /// The words with which heads begin that are left out.
 fn is_left_out(word: Word) -> bool
     ensures { result ≡ is_left_out_head word }
@@ -215,6 +255,8 @@ pub fn worded_statement<'a>(
         Word::Revert => revert(place, cursor),
         Word::Allocate => allocate(alloc, source, place, cursor),
         Word::Free => free(alloc, source, place, cursor),
+        Word::Get => get(alloc, source, place, cursor),
+        Word::Put => put(alloc, source, place, cursor),
         _ => other(beginning, at, word, cursor),
     }
 }
