@@ -1,9 +1,8 @@
 -- Options of procedures: what is read is spelled so, what is spelled is read, and what is left out is where it is said to
 -- be.
-use Rattle.std.proofs.Common.{◌≡◌, ℕ, zero, suc, ◌<◌, List, [], ◌∷◌, length, Some, true, false, refl, ap, ◌∙◌, subst, arith, Ok, Err}
+use Rattle.std.proofs.Common.{◌≡◌, ℕ, zero, suc, ◌<◌, List, [], ◌∷◌, length, false, refl, ap, ◌∙◌, subst, arith, Ok, Err}
 use Rattle.pli_meaning.specs.declared.token.Word.{Word}
 use Rattle.pli_meaning.specs.declared.token.Word.TheVariants as W
-use Rattle.pli_meaning.specs.declared.token.Symbol.{Symbol}
 use Rattle.pli_meaning.specs.declared.token.Symbol.TheVariants as S
 use Rattle.pli_meaning.specs.declared.token.Kind.TheVariants as K
 use Rattle.pli_meaning.specs.declared.token.Token.{Token}
@@ -15,14 +14,14 @@ use Rattle.pli_meaning.specs.Heads.{SpellsOption, SpellsOptions, LeavesOutOption
 use Rattle.pli_meaning.specs.Tree as T
 use Rattle.pli_meaning.proofs.UniqueParts.{option_begins}
 use Rattle.pli_phrase.specs.Cursor.{Cursor, LeavesOut, ◌>>=◌}
-use Rattle.pli_phrase.specs.Tokens.{is_terminal, starts, taken}
+use Rattle.pli_phrase.specs.Tokens.{starts, taken}
 use Rattle.pli_attributes.proofs.Posts.{Post, never, post_ok, post_stuck, post_ended, post_bind, post_if, post_weaken, post_is}
-use Rattle.pli_attributes.proofs.Tokens.{TakenBy, terminal_is, is_symbol, taken_post, not_begins, symbol_read, word_read}
+use Rattle.pli_attributes.proofs.Tokens.{TakenBy, taken_post, not_begins, symbol_read, word_read}
 use Rattle.pli_attributes.proofs.Lists.{Reads}
 use Rattle.pli_attributes.proofs.Enclosed.{EnclosedBy, enclosed, enclosed_post, enclosed_read}
 use Rattle.pli_attributes.proofs.AttributeLaws.{LeavesAmong, attributes_post, attributes_complete, attributes_left_out}
 use Rattle.pli_clause.specs.Reading.{returning, returns_from, option_behind, option_from, options_at, options_from}
-use Rattle.pli_clause.proofs.Parts.{word_post, word_taken}
+use Rattle.pli_clause.proofs.Parts.{word_post, word_taken, next_symbol, symbol_next}
 
 -- an option was read, and its word taken
 pub record OptionBy (s : List ℕ) (c : Cursor) (x : T.ProcedureOption × Cursor) : Type 0 where
@@ -92,16 +91,6 @@ option_complete {s} m (G.returns ts after mid behind rest t u v x others a o h z
 
 leaves_later : (s : List ℕ) (c d : Cursor) (o : T.ProcedureOption × Cursor) → OptionBy s c o → LeavesOptions s o.1 d → LeavesOptions s c d
 leaves_later s c d o g l = record { leaves = G.behind_option c.tokens o.1.tokens d.tokens c.marks d.marks o.0 g.spelled (subst (λ m. LeavesOutOptions s o.1.tokens m d.tokens d.marks) g.marked l.leaves) }
-
-next_symbol : (y : Symbol) (ts : List Token) → starts (K.Symbol y) ts ≡ true → next_kind ts ≡ Some (K.Symbol y)
-next_symbol y [] e = absurd (cc e)
-next_symbol y (t ∷ ts) e = ap Some (terminal_is (K.Symbol y) t.kind e)
-
-symbol_next : (y : Symbol) (ts : List Token) → next_kind ts ≡ Some (K.Symbol y) → starts (K.Symbol y) ts ≡ true
-symbol_next y [] e = absurd (cc e)
-symbol_next y (t ∷ ts) e =
-    let k : t.kind ≡ K.Symbol y = cc e in
-    ap (is_terminal (K.Symbol y)) k ∙ is_symbol y
 
 options_at_post : (n : ℕ) (s : List ℕ) (c : Cursor) → Post (Reads (SpellsOptions s) options_marks c) (LeavesOptions s c) (options_at n s c)
 unfolding options_at

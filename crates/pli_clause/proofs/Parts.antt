@@ -1,6 +1,7 @@
 -- Laws of the readers of words, and of what may stand behind words.
 use Rattle.std.proofs.Common.{◌≡◌, ◌≢◌, ◌<◌, ◌≤◌, List, [], ◌∷◌, length, Option, Some, None, true, refl, sym, ap, ◌∙◌, subst, arith, Ok}
 use Rattle.pli_meaning.specs.declared.token.Word.{Word}
+use Rattle.pli_meaning.specs.declared.token.Symbol.{Symbol}
 use Rattle.pli_meaning.specs.declared.token.Kind.{Kind}
 use Rattle.pli_meaning.specs.declared.token.Kind.TheVariants as K
 use Rattle.pli_meaning.specs.declared.token.Token.{Token}
@@ -10,7 +11,7 @@ use Rattle.pli_meaning.specs.Spells.{Takes, next_kind}
 use Rattle.pli_phrase.specs.Cursor.{Cursor, Read, ◌>>=◌, onto}
 use Rattle.pli_phrase.specs.Tokens.{is_terminal, starts}
 use Rattle.pli_attributes.proofs.Posts.{Post, Never, post_ok, post_stuck, post_ended, post_bind, post_if}
-use Rattle.pli_attributes.proofs.Tokens.{terminal_is, is_word, not_word, not_begins, begins_word, word_read, taken_post, takes_next}
+use Rattle.pli_attributes.proofs.Tokens.{terminal_is, is_word, is_symbol, not_word, not_begins, begins_word, word_read, taken_post, takes_next}
 use Rattle.pli_attributes.proofs.Lists.{Reads}
 use Rattle.pli_clause.specs.Parts.{word_of_kind, word_at, word_from, behind_word, ended_by, both_from}
 
@@ -53,6 +54,17 @@ next_starts w [] e = absurd (cc e)
 next_starts w (t ∷ ts) e =
     let k : t.kind ≡ K.Name w = cc e in
     ap (is_terminal (K.Name w)) k ∙ is_word w
+
+-- the first token is this symbol
+pub next_symbol : (y : Symbol) (ts : List Token) → starts (K.Symbol y) ts ≡ true → next_kind ts ≡ Some (K.Symbol y)
+next_symbol y [] e = absurd (cc e)
+next_symbol y (t ∷ ts) e = ap Some (terminal_is (K.Symbol y) t.kind e)
+
+pub symbol_next : (y : Symbol) (ts : List Token) → next_kind ts ≡ Some (K.Symbol y) → starts (K.Symbol y) ts ≡ true
+symbol_next y [] e = absurd (cc e)
+symbol_next y (t ∷ ts) e =
+    let k : t.kind ≡ K.Symbol y = cc e in
+    ap (is_terminal (K.Symbol y)) k ∙ is_symbol y
 
 -- ---- behind a word that may stand
 
