@@ -6,7 +6,7 @@ use Rattle.pli_meaning.specs.declared.token.Kind.TheVariants as K
 use Rattle.pli_meaning.specs.declared.token.Token.{Token}
 use Rattle.pli_meaning.specs.declared.expr.Place.{Place}
 use Rattle.pli_meaning.specs.Marks.{Marks}
-use Rattle.pli_meaning.specs.Spells.{Takes, next_kind, place_of}
+use Rattle.pli_meaning.specs.Spells.{Takes, place_of}
 use Rattle.pli_meaning.specs.Formats as D
 use Rattle.pli_meaning.specs.Formats.{SpellsTimes, SpellsFormat, SpellsFormatItems, is_times, times_marks, Direction, format_marks, formats_marks, format_moves_data, formats_move_data}
 use Rattle.pli_meaning.specs.Tree as T

@@ -1,6 +1,5 @@
 -- Laws of the reader of lists of expressions, in the form of this crate's.
-use Rattle.std.specs.Prelude.{if◌then◌else◌}
-use Rattle.std.proofs.Common.{◌≡◌, ℕ, zero, suc, List, [], ◌∷◌, length, false, arith, Ok}
+use Rattle.std.proofs.Common.{ℕ, zero, suc, List, [], ◌∷◌, length, false, arith, Ok}
 use Rattle.pli_meaning.specs.declared.token.Symbol.TheVariants as S
 use Rattle.pli_meaning.specs.declared.token.Kind.TheVariants as K
 use Rattle.pli_meaning.specs.Marks.{exprs_marks}

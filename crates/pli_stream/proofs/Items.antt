@@ -1,5 +1,5 @@
 -- Numbers, and items of format lists that are no lists: what is read is spelled so, and what is spelled is read.
-use Rattle.std.proofs.Common.{◌≡◌, ◌≢◌, ℕ, ◌<◌, ◌≤◌, List, [], ◌∷◌, length, Option, Some, None, Bool, true, false, refl, sym, ap, ◌∙◌, subst, arith, Ok, Err}
+use Rattle.std.proofs.Common.{◌≡◌, ◌≢◌, ℕ, ◌<◌, ◌≤◌, List, [], ◌∷◌, length, Option, Some, None, Bool, true, false, refl, ap, ◌∙◌, arith, Ok}
 use Rattle.pli_meaning.specs.declared.token.Word.{Word}
 use Rattle.pli_meaning.specs.declared.token.Word.TheVariants as W
 use Rattle.pli_meaning.specs.declared.token.Symbol.TheVariants as S

@@ -1,6 +1,6 @@
 -- The laws of what stands behind GET and PUT: what is read is spelled so and marked so, what is spelled is read, and LIST
 -- and DATA alone are left out.
-use Rattle.std.proofs.Common.{◌≡◌, ◌≢◌, ℕ, ◌≤◌, List, [], ◌∷◌, length, Option, Some, None, Bool, true, false, refl, sym, ap, ◌∙◌, subst, arith, Ok, Err}
+use Rattle.std.proofs.Common.{◌≡◌, ℕ, ◌≤◌, List, [], ◌∷◌, length, Option, Some, None, true, false, refl, ap, ◌∙◌, arith, Ok, Err}
 use Rattle.pli_meaning.specs.declared.token.Word.{Word}
 use Rattle.pli_meaning.specs.declared.token.Word.TheVariants as W
 use Rattle.pli_meaning.specs.declared.token.Kind.{Kind}
@@ -16,7 +16,7 @@ use Rattle.pli_phrase.specs.Cursor.{Cursor, LeavesOut}
 use Rattle.pli_attributes.proofs.Posts.{Post, Never, never, post_ok, post_stuck, post_ended, post_left, post_bind, post_if, post_weaken, post_is, post_leaves}
 use Rattle.pli_attributes.proofs.Tokens.{taken_post, not_word, not_begins, begins_word, word_read, takes_next}
 use Rattle.pli_attributes.proofs.Lists.{Reads}
-use Rattle.pli_stream.specs.Reading.{Transfer, options_from, edit_from, missing, moved, is_left_out_kind, transfer_from}
+use Rattle.pli_stream.specs.Reading.{Transfer, edit_from, missing, moved, is_left_out_kind, transfer_from}
 use Rattle.pli_stream.proofs.Pairs.{pairs_post, pairs_complete}
 use Rattle.pli_stream.proofs.Options.{options_post, options_complete}
 

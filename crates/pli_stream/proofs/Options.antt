@@ -1,5 +1,5 @@
 -- Options of GET and PUT: what is read is spelled so, and what is spelled is read.
-use Rattle.std.proofs.Common.{◌≡◌, ◌≢◌, ℕ, ◌≤◌, List, length, Option, Some, None, Bool, true, false, refl, sym, ap, ◌∙◌, subst, arith, Ok}
+use Rattle.std.proofs.Common.{◌≡◌, ◌≢◌, ℕ, List, Option, Some, None, Bool, true, false, refl, ap, ◌∙◌, arith, Ok}
 use Rattle.std.specs.Prelude.{◌||◌}
 use Rattle.pli_meaning.specs.declared.token.Word.TheVariants as W
 use Rattle.pli_meaning.specs.declared.token.Symbol.TheVariants as S
@@ -14,11 +14,11 @@ use Rattle.pli_meaning.specs.Tree as T
 use Rattle.pli_phrase.specs.Cursor.{Cursor}
 use Rattle.pli_phrase.specs.Tokens.{taken}
 use Rattle.pli_attributes.proofs.Posts.{Post, Never, post_ok, post_stuck, post_bind, post_if, post_weaken}
-use Rattle.pli_attributes.proofs.Tokens.{TakenBy, taken_post, not_word, not_begins, begins_word, word_read, symbol_read, takes_next}
+use Rattle.pli_attributes.proofs.Tokens.{TakenBy, taken_post, not_word, not_begins, begins_word, word_read, takes_next}
 use Rattle.pli_attributes.proofs.Lists.{Reads}
 use Rattle.pli_attributes.proofs.Enclosed.{EnclosedBy, enclosed, enclosed_post, enclosed_read}
 use Rattle.pli_attributes.proofs.Words.{unmarked}
-use Rattle.pli_stream.specs.Reading.{file_from, skip_from, late_file_from, options_end, options_from}
+use Rattle.pli_stream.specs.Reading.{file_from, skip_from, late_file_from, options_from}
 use Rattle.pli_stream.proofs.Items.{number_or_one_post, number_or_one_complete}
 
 abbrev one_skip : Token → ℕ → T.Skip

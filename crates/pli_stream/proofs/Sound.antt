@@ -1,9 +1,8 @@
 -- Format lists: what is read is spelled so.
-use Rattle.std.proofs.Common.{◌≡◌, ℕ, zero, suc, ◌<◌, ◌≤◌, List, [], ◌∷◌, length, Bool, true, false, refl, sym, ap, ◌∙◌, subst, arith, Ok, Err}
+use Rattle.std.proofs.Common.{◌≡◌, ℕ, zero, suc, ◌<◌, ◌≤◌, List, [], ◌∷◌, length, Bool, true, false, refl, subst, arith}
 use Rattle.pli_meaning.specs.declared.token.Symbol.TheVariants as S
 use Rattle.pli_meaning.specs.declared.token.Kind.TheVariants as K
 use Rattle.pli_meaning.specs.declared.token.Token.{Token}
-use Rattle.pli_meaning.specs.declared.expr.Place.{Place}
 use Rattle.pli_meaning.specs.Spells.{Takes, place_of}
 use Rattle.pli_meaning.specs.Formats as D
 use Rattle.pli_meaning.specs.Formats.{SpellsTimes, SpellsFormat, SpellsFormatItems, is_times, Direction}
@@ -13,7 +12,7 @@ use Rattle.pli_attributes.proofs.Posts.{Post, Never, post_ok, post_ended, post_b
 use Rattle.pli_attributes.proofs.Tokens.{TakenBy, taken_post}
 use Rattle.pli_attributes.proofs.Lists.{Reads}
 use Rattle.pli_attributes.proofs.Words.{unmarked}
-use Rattle.pli_stream.specs.Reading.{checked, Item, Outer, State, start, formats_with, listed, Turn, On, Closed, with_item, opened, further, closed, repeated, item_at, item_from, behind_item, turn, follow, run}
+use Rattle.pli_stream.specs.Reading.{checked, Item, Outer, State, formats_with, listed, Turn, On, Closed, with_item, opened, further, closed, item_at, item_from, behind_item, turn, follow, run}
 use Rattle.pli_stream.proofs.Items.{PlainBy, repetition_post, format_post}
 
 -- what stands behind an item: the parenthesis that closes the list, or further items behind a comma

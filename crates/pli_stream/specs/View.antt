@@ -1,5 +1,5 @@
 -- How the values of the code show what is read.
-use Rattle.std.specs.Prelude.{List, map}
+use Rattle.std.specs.Prelude.{map}
 use Rattle.pli_meaning.specs.Formats as D
 use Rattle.pli_meaning.specs.View.{edit_pair_of, format_of, formats_of, option_of, skip_of}
 use Rattle.pli_phrase.specs.View.{newest}
