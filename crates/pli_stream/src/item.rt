@@ -124,6 +124,14 @@ fn is_text_width(direction: Direction, width: Option<u32>) -> bool
     }
 }
 
+/// A number of columns or lines, marked at the place of its item where it is out of its range.
+fn times<'a>(place: Place, number: u32, cursor: Cursor<'a>) -> Result<(u64, Cursor<'a>), AllocError>
+    ensures { IfOk result (λ x. (x.0 ≡ number) × (cursor_of x.1 ≡ checked (is_times number) place (cursor_of cursor.entry))) }
+{
+    let cursor = checked(is_times(number), place, cursor)?;
+    Ok((u64::from(number), cursor))
+}
+
 /// The item of this word, behind it. The item began at the place.
 #[tactic(auto, unfolding(pli_meaning::specs::View::format_of))]
 fn worded<'a>(
@@ -138,52 +146,29 @@ fn worded<'a>(
         Word::F => {
             let (width, cursor) = count(cursor)?;
             let cursor = checked(is_width(width), place, cursor)?;
-            Ok((
-                Format::Fixed {
-                    width: u64::from(width),
-                },
-                cursor,
-            ))
+            let width = u64::from(width);
+            Ok((Format::Fixed { width }, cursor))
         }
         Word::A => {
             let (width, cursor) = width(cursor)?;
             let cursor = checked(is_text_width(direction, width), place, cursor)?;
-            Ok((
-                Format::Text {
-                    width: width.map(u64::from),
-                },
-                cursor,
-            ))
+            let width = width.map(u64::from);
+            Ok((Format::Text { width }, cursor))
         }
         Word::X => {
             let (number, cursor) = count(cursor)?;
-            let cursor = checked(is_times(number), place, cursor)?;
-            Ok((
-                Format::Space {
-                    number: u64::from(number),
-                },
-                cursor,
-            ))
+            let (number, cursor) = times(place, number, cursor)?;
+            Ok((Format::Space { number }, cursor))
         }
         Word::Skip => {
             let (number, cursor) = number_or_one(cursor)?;
-            let cursor = checked(is_times(number), place, cursor)?;
-            Ok((
-                Format::Skip {
-                    number: u64::from(number),
-                },
-                cursor,
-            ))
+            let (number, cursor) = times(place, number, cursor)?;
+            Ok((Format::Skip { number }, cursor))
         }
         Word::Column => {
             let (number, cursor) = count(cursor)?;
-            let cursor = checked(is_times(number), place, cursor)?;
-            Ok((
-                Format::Column {
-                    number: u64::from(number),
-                },
-                cursor,
-            ))
+            let (number, cursor) = times(place, number, cursor)?;
+            Ok((Format::Column { number }, cursor))
         }
         _ => Err(Stop::Stuck),
     }
