@@ -64,10 +64,10 @@ declared_names_complete {s} {ts} {rest} {x} m h =
 
 -- ---- levels
 
-no_number : (k : Option Kind) → starts_number k ≡ false → (n : ℕ) → k ≢ Some (K.Number n)
+pub no_number : (k : Option Kind) → starts_number k ≡ false → (n : ℕ) → k ≢ Some (K.Number n)
 no_number k b n e = let f = ap starts_number e in absurd (cc (f, b))
 
-number_no : (k : Option Kind) → ((n : ℕ) → k ≢ Some (K.Number n)) → starts_number k ≡ false
+pub number_no : (k : Option Kind) → ((n : ℕ) → k ≢ Some (K.Number n)) → starts_number k ≡ false
 number_no None h = refl
 number_no (Some (K.Number n)) h = absurd (h n refl)
 number_no (Some (K.Name w)) h = refl

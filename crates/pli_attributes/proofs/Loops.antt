@@ -27,7 +27,7 @@ fails_on (X.LeftOut c) r r' h on = on _ h
 abbrev pub with_front : {X : Type 0} → List X → Read (List X) → Read (List X)
 with_front front r = r >>= λ xs. Ok (front ++ xs.0, xs.1)
 
-with_one_more : {X : Type 0} (front : List X) (x : X) (r : Read (List X)) → with_front front (r >>= λ xs. Ok (x ∷ xs.0, xs.1)) ≡ with_front (front ++ x ∷ []) r
+pub with_one_more : {X : Type 0} (front : List X) (x : X) (r : Read (List X)) → with_front front (r >>= λ xs. Ok (x ∷ xs.0, xs.1)) ≡ with_front (front ++ x ∷ []) r
 with_one_more front x (Ok xs) =
     let e : (front ++ x ∷ []) ++ xs.0 ≡ front ++ x ∷ xs.0 = rw append_assoc refl in
     ap (λ u. Ok (u, xs.1)) (sym e)
