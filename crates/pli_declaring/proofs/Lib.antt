@@ -1,2 +1,6 @@
 pub mod Shown
 pub mod Precise
+pub mod Faults
+pub mod Next
+pub mod Powers
+pub mod Mains

@@ -1,3 +1,7 @@
 pub mod Rows
 pub mod Precisions
 pub mod Numerals
+pub mod Shown
+pub mod Next
+pub mod Mains
+pub mod Rules

@@ -3,4 +3,10 @@
 
 mod attribute;
 mod constant;
+mod extent;
+mod head;
+mod held;
+mod initial;
 mod least;
+mod program;
+mod variable;

@@ -1,0 +1,21 @@
+-- What a program's values show of the definitions.
+use Rattle.std.specs.Prelude.{ℕ, Bool, true, false, List, [], ◌∷◌, ◌++◌, ℤ, pos, negsuc, nat_lt, not, ◌||◌}
+use Rattle.pli_declaring.specs.declared.extent.Use.{Use as UseHeld}
+use Rattle.pli_declaring.specs.declared.extent.Use.TheVariants as U
+use Rattle.pli_meaning.specs.declared.fault.SourceFault.{SourceFault}
+use Rattle.pli_meaning.specs.declared.fault.SourceKind.TheVariants.{NoMain}
+use Rattle.pli_meaning.specs.Tree.{Item, Procedure, ProcedureHead}
+use Rattle.std.specs.List.{flat_map}
+use Rattle.pli_meaning.specs.Refusals.{fault}
+use Rattle.pli_meaning.specs.Declaring.{Use, Passed, Evaluated, Kept, Returned, has_main, when, at_first}
+
+abbrev pub use_shown : UseHeld → Use
+use_shown U.Passed = Passed
+use_shown U.Evaluated = Evaluated
+use_shown U.Kept = Kept
+use_shown U.Returned = Returned
+
+-- z, or its distance from -1 where it is below 0
+abbrev pub magnitude : ℤ → ℕ
+magnitude (pos n) = n
+magnitude (negsuc n) = n
