@@ -5,3 +5,4 @@ pub mod Shown
 pub mod Next
 pub mod Mains
 pub mod Rules
+pub mod Members

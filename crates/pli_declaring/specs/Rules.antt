@@ -1,7 +1,7 @@
 -- The rules of a variable's attributes, one by one.
 use Rattle.std.specs.Prelude.{Bool, ◌&&◌, ◌||◌, not, nat_lt, List, length}
 use Rattle.std.specs.List.{list_any}
-use Rattle.pli_meaning.specs.Tree.{Name}
+use Rattle.pli_meaning.specs.Tree.{Name, Attribute}
 use Rattle.pli_meaning.specs.Declarations.{Held, Declaration, level_of}
 use Rattle.pli_meaning.specs.Declaring.{has, has_kind, has_class, has_members, is_builtin, is_number_name, is_parameter, initial_fits, own_attributes, own_dimensions, stands_alone}
 
@@ -20,7 +20,11 @@ parameter_is_bad parameters h = is_parameter parameters h && ((stands_alone h &&
 abbrev pub structure_is_bad : Held → Bool
 structure_is_bad h = has_kind (own_attributes h) || has 3 (own_attributes h) || has 12 (own_attributes h)
 
+abbrev pub is_kindless : Held → Bool
+is_kindless h = not (has_kind (own_attributes h)) && not (has 13 (own_attributes h)) && not (is_number_name h.variable.declared.name.letters)
+
+abbrev pub misfits : List Attribute → Bool
+misfits all = list_any (λ a. not (initial_fits all a)) all
+
 abbrev pub leaf_is_bad : Held → Bool
-leaf_is_bad h =
-    (not (has_kind (own_attributes h)) && not (has 13 (own_attributes h)) && not (is_number_name h.variable.declared.name.letters))
-    || list_any (λ a. not (initial_fits (own_attributes h) a)) (own_attributes h)
+leaf_is_bad h = is_kindless h || misfits (own_attributes h)

@@ -1,6 +1,6 @@
 // What stands around a variable.
 
-ghost use Rattle.std.specs.Prelude.{◌≡◌, ◌==◌, ◌&&◌, map, length};
+ghost use Rattle.std.specs.Prelude.{◌≡◌, ◌+◌, ◌==◌, ◌&&◌, map, min, length};
 ghost use Rattle.std.specs.List.{list_any};
 ghost use Rattle.pli_meaning.specs.Declarations.{level_of, dimensions_of};
 ghost use Rattle.pli_meaning.specs.Declaring.{root_of, own_attributes, class_attributes, stands_alone, own_dimensions, inherited_dimensions, is_deeper, has_members, goes_on, is_parameter};
@@ -58,6 +58,25 @@ pub fn dimensions_of(variable: Variable) -> usize
     variable.declared.dimensions.len() + variable.item.dimensions.len()
 }
 
+/// How many dimensions the structures have that hold the variable, as far as a number goes.
+#[tactic(auto, using(pli_declare::proofs::Chains::drop_here, std::proofs::lemmas::List::drop_all))]
+pub fn inherited_dimensions(held: &Held) -> usize
+    ensures { result ≡ min (inherited_dimensions (held_of held.now)) 18446744073709551615 }
+{
+    let mut total: usize = 0;
+    for variable in &held.above {
+        total = total.saturating_add(dimensions_of(*variable));
+    }
+    total
+}
+
+/// How many dimensions an element of the variable has, as far as a number goes.
+pub fn all_dimensions(held: &Held) -> usize
+    ensures { result ≡ min (own_dimensions (held_of held.now) + inherited_dimensions (held_of held.now)) 18446744073709551615 }
+{
+    dimensions_of(held.variable).saturating_add(inherited_dimensions(held))
+}
+
 /// The second, declared next, belongs to the first.
 pub fn is_deeper(held: &Held, next: &Held) -> bool
     ensures { result ≡ is_deeper (held_of held.now) (held_of next.now) }
@@ -101,7 +120,8 @@ pub fn goes_on(after: &[Declaration]) -> bool
     }
 }
 
-fn same_bytes(a: &[u8], b: &[u8]) -> bool
+/// The letters are the same.
+pub fn same_bytes(a: &[u8], b: &[u8]) -> bool
     ensures { result ≡ same_bytes a.now b.now }
 {
     a == b

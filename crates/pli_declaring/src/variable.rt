@@ -1,13 +1,11 @@
 // What a variable's attributes may not be.
 
 ghost use Rattle.std.specs.Prelude.{◌≡◌, ◌&&◌, ◌||◌, not, map, length, nat_lt, if◌then◌else◌};
-ghost use Rattle.std.specs.List.{list_any};
 ghost use Rattle.pli_meaning.specs.Declarations.{level_of, Held};
-ghost use Rattle.pli_meaning.specs.Tree.{Attribute};
 ghost use Rattle.pli_meaning.specs.Declaring.{has, has_kind, has_class, has_members, is_builtin, is_number_name, is_parameter, initial_fits, level_is_bad, own_attributes, own_dimensions, stands_alone, attributes_are_bad, area_is_nested};
 ghost use Rattle.pli_meaning.specs.View.{attribute_of, name_of};
 ghost use Rattle.pli_declare.specs.Shown.{declaration_of, held_of};
-ghost use Rattle.pli_declaring.specs.Rules.{builtin_is_bad, dimensions_are_bad, class_is_bad, parameter_is_bad, structure_is_bad, leaf_is_bad};
+ghost use Rattle.pli_declaring.specs.Rules.{builtin_is_bad, dimensions_are_bad, class_is_bad, parameter_is_bad, structure_is_bad, is_kindless, leaf_is_bad, misfits};
 
 use crate::attribute::{
     Row, attributes_clash, builtin_clash, has, has_class, has_kind, is_builtin, is_number_name,
@@ -71,20 +69,26 @@ fn structure_is_bad(held: &Held) -> bool
 
 /// A value of INITIAL is of another kind than these name, or doesn't fit it.
 fn misfits(attributes: &[Attribute]) -> bool
-    ensures { result ≡ list_any (λ a. not (initial_fits (map attribute_of attributes.now) a)) (map attribute_of attributes.now) }
+    ensures { result ≡ misfits (map attribute_of attributes.now) }
 {
     attributes.iter().any(|a| !initial_fits(attributes, a))
+}
+
+/// A variable has no kind, and its name gives it none.
+fn is_kindless(held: &Held) -> bool
+    ensures { result ≡ is_kindless (held_of held.now) }
+{
+    let attributes = own_attributes(held);
+    !has_kind(attributes)
+        && !has(Row::Builtin, attributes)
+        && !is_number_name(&held.variable.declared.name.letters)
 }
 
 /// A variable without members has no kind, or INITIAL of another one.
 fn leaf_is_bad(held: &Held) -> bool
     ensures { result ≡ leaf_is_bad (held_of held.now) }
 {
-    let attributes = own_attributes(held);
-    (!has_kind(attributes)
-        && !has(Row::Builtin, attributes)
-        && !is_number_name(&held.variable.declared.name.letters))
-        || misfits(attributes)
+    is_kindless(held) || misfits(own_attributes(held))
 }
 
 /// A variable's kind is bad.
