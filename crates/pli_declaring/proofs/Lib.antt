@@ -4,3 +4,4 @@ pub mod Faults
 pub mod Next
 pub mod Powers
 pub mod Mains
+pub mod Members

@@ -1,13 +1,15 @@
 -- The leaves of a structure, one by one.
 use Rattle.std.proofs.Common.{◌≡◌, Bool, true, false, List, ℕ, [], ◌∷◌, map, drop, filter, refl, sym, ap, ◌∙◌}
 use Rattle.std.specs.Prelude.{if◌then◌else◌, not, ◌&&◌}
+use Rattle.std.proofs.lemmas.List.{drop_all}
+use Rattle.pli_declare.proofs.Chains.{drop_here}
 use Rattle.pli_meaning.specs.Keywords.{same_bytes}
 use Rattle.pli_meaning.specs.Tree.{Refer}
 use Rattle.pli_meaning.specs.Declarations.{Held}
 use Rattle.pli_meaning.specs.Declaring.{is_deeper, is_scalar_number, leaves_before, is_only_number, keeps_extent}
 use Rattle.pli_declaring.specs.declared.refer.Kept.{Kept}
 use Rattle.pli_declaring.specs.declared.refer.Kept.TheVariants as K
-use Rattle.pli_declaring.specs.Members.{first_held, kept_further, keeping}
+use Rattle.pli_declaring.specs.Members.{first_held, kept_further, keeping, of_name, answer}
 
 keeping_other : (ms : List Held) → keeping K.Other ms ≡ false
 keeping_other [] = refl
@@ -31,14 +33,6 @@ pub leaves_on : (a : Held) (rest : List Held) (h : Held) → leaves_before (a �
 leaves_on a [] h = refl
 leaves_on a (b ∷ all) h = refl
 
--- the leaves of the name that REFER writes
-abbrev pub of_name : List ℕ → Held → Bool
-of_name letters m = same_bytes m.variable.declared.name.letters letters
-
--- what is left of the answer
-abbrev pub answer : Kept → List ℕ → List Held → Held → Bool
-answer kept letters rest h = keeping kept (filter (of_name letters) (leaves_before rest h))
-
 at_tests : (kept : Kept) (a : Held) (p : Held → Bool) (ls : List Held) (deeper same : Bool) → p a ≡ same → keeping kept (filter p (if deeper then ls else a ∷ ls)) ≡ keeping (if not deeper && same then kept_further kept (is_scalar_number a) else kept) (filter p ls)
 at_tests kept a p ls true same e = refl
 at_tests kept a p ls false true e = ap (λ (t : Bool). keeping kept (if t then a ∷ filter p ls else filter p ls)) e
@@ -51,3 +45,8 @@ answer_on kept letters a rest h =
 
 pub keeps_is : (earlier : List Held) (h : Held) (refer : Refer) → keeps_extent earlier h refer ≡ answer K.Nothing refer.member.letters earlier h
 keeps_is earlier h refer = only_number_is (filter (of_name refer.member.letters) (leaves_before earlier h))
+
+-- a loop over declarations
+pub ruleset firsts = (drop_here, drop_all)
+
+pub ruleset members = (drop_here, drop_all, answer_on, keeps_is)

@@ -1,15 +1,20 @@
 -- The members of a structure that stand before another, and what an extent is kept in.
-use Rattle.std.specs.Prelude.{Bool, true, false, List, [], ◌∷◌, map}
-use Rattle.std.specs.Borrow.{Bor}
-use Rattle.pli_declare.specs.declared.scope.Held.{Held as HeldHeld}
-use Rattle.pli_declare.specs.Shown.{held_of}
-use Rattle.pli_meaning.specs.Declarations.{Held}
-use Rattle.pli_meaning.specs.Declaring.{is_scalar_number}
+use Rattle.std.specs.Prelude.{Bool, true, false, List, [], ◌∷◌, ℕ, Option, Some, None, filter}
+use Rattle.pli_meaning.specs.Declarations.{Held, Declaration}
+use Rattle.pli_meaning.specs.Keywords.{same_bytes}
+use Rattle.pli_meaning.specs.Declaring.{is_scalar_number, leaves_before}
+use Rattle.pli_declaring.specs.Next.{variable_in}
 use Rattle.pli_declaring.specs.declared.refer.Kept.{Kept}
 use Rattle.pli_declaring.specs.declared.refer.Kept.TheVariants as K
 
-abbrev pub helds_of : List (Bor HeldHeld) → List Held
-helds_of hs = map (λ h. held_of h.now) hs
+-- the variables among these
+abbrev pub before : Option Held → List Held → List Held
+before None hs = hs
+before (Some h) hs = h ∷ hs
+
+abbrev pub variables_in : List Declaration → List Held
+variables_in [] = []
+variables_in (d ∷ ds) = before (variable_in d.what) (variables_in ds)
 
 -- the first of these, or the last one behind them
 abbrev pub first_held : List Held → Held → Held
@@ -32,3 +37,11 @@ is_number K.Other = false
 abbrev pub keeping : Kept → List Held → Bool
 keeping kept [] = is_number kept
 keeping kept (m ∷ ms) = keeping (kept_further kept (is_scalar_number m)) ms
+
+-- the leaves of the name that REFER writes
+abbrev pub of_name : List ℕ → Held → Bool
+of_name letters m = same_bytes m.variable.declared.name.letters letters
+
+-- the answer, where this was found and these are left
+abbrev pub answer : Kept → List ℕ → List Held → Held → Bool
+answer kept letters rest h = keeping kept (filter (of_name letters) (leaves_before rest h))

@@ -6,8 +6,8 @@ ghost use Rattle.pli_meaning.specs.Declarations.{level_of, dimensions_of};
 ghost use Rattle.pli_meaning.specs.Declaring.{root_of, own_attributes, class_attributes, stands_alone, own_dimensions, inherited_dimensions, is_deeper, has_members, goes_on, is_parameter};
 ghost use Rattle.pli_meaning.specs.Keywords.{same_bytes};
 ghost use Rattle.pli_meaning.specs.View.{attribute_of, name_of, option_of};
-ghost use Rattle.pli_declaring.specs.Next.{next_in};
-ghost use Rattle.pli_declare.specs.Shown.{declaration_of, held_of, variable_of};
+ghost use Rattle.pli_declaring.specs.Next.{next_in, variable_in};
+ghost use Rattle.pli_declare.specs.Shown.{declaration_of, held_of, variable_of, what_of};
 
 use pli_declare::scope::{Declaration, Held, Variable, What};
 use pli_meaning::declaration::Attribute;
@@ -84,16 +84,23 @@ pub fn is_deeper(held: &Held, next: &Held) -> bool
     held.above.len() < next.above.len()
 }
 
+/// The variable that is declared, if one is.
+pub fn variable_in<'a, 'b>(what: &'b What<'a>) -> Option<&'b Held<'a>>
+    ensures { option_of (λ h. held_of h.now) result ≡ variable_in (what_of what.now) }
+{
+    match what {
+        What::Variable(held) => Some(held),
+        What::Label => None,
+        What::Procedure(_) => None,
+    }
+}
+
 /// The variable declared next, if a variable is.
 fn next_of<'a, 'b>(after: &'b [Declaration<'a>]) -> Option<&'b Held<'a>>
     ensures { option_of (λ h. held_of h.now) result ≡ next_in (map declaration_of after.now) }
 {
     match after {
-        [next, ..] => match &next.what {
-            What::Variable(held) => Some(held),
-            What::Label => None,
-            What::Procedure(_) => None,
-        },
+        [next, ..] => variable_in(&next.what),
         [] => None,
     }
 }

@@ -9,4 +9,5 @@ mod held;
 mod initial;
 mod least;
 mod program;
+mod refer;
 mod variable;

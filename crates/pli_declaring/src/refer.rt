@@ -1,20 +1,17 @@
 // Where REFER may stand.
 
-ghost use Rattle.std.specs.Prelude.{◌≡◌, ◌==◌, ◌&&◌, Bool, List, not, map, filter, true, false};
+ghost use Rattle.std.specs.Prelude.{◌≡◌, ◌∷◌, not, map};
 ghost use Rattle.std.specs.List.{flat_map};
-ghost use Rattle.pli_meaning.specs.Keywords.{same_bytes};
-ghost use Rattle.pli_meaning.specs.Tree.{Name};
-ghost use Rattle.pli_meaning.specs.Declarations.{Held, Declaration};
 ghost use Rattle.pli_meaning.specs.Declaring.{is_deeper, is_scalar_number, keeps_extent, may_refer, refer_faults, bound_refer_faults, size_refer_faults, attribute_refer_faults, all_refer_faults};
 ghost use Rattle.pli_meaning.specs.Refusals.{soonest};
 ghost use Rattle.pli_meaning.specs.View.{attribute_of, bound_of, name_of, option_of, refer_of, size_of};
 ghost use Rattle.pli_declare.specs.Shown.{declaration_of, held_of};
-ghost use Rattle.pli_declaring.specs.Members.{helds_of, first_held, keeping, kept_further};
+ghost use Rattle.pli_declaring.specs.Members.{answer, first_held, kept_further, variables_in};
 
 use crate::attribute::{Row, has, is_number};
 use crate::held::{
     all_dimensions, class_attributes, dimensions_of, goes_on, inherited_dimensions, is_deeper,
-    is_parameter, own_attributes, same_bytes, stands_alone,
+    is_parameter, own_attributes, same_bytes, stands_alone, variable_in,
 };
 use crate::least::noted;
 use pli_declare::scope::{Declaration, Held};
@@ -38,13 +35,16 @@ fn is_scalar_number(held: &Held) -> bool
 }
 
 /// The member belongs to nothing that is declared next: these, or behind them the last one.
-fn is_leaf(member: &Held, rest: &[&Held], last: &Held) -> bool
-    ensures { result ≡ not (is_deeper (held_of member.now) (first_held (helds_of rest.now) (held_of last.now))) }
+#[tactic(auto, using(crate::proofs::Members::firsts))]
+fn is_leaf(member: &Held, rest: &[Declaration], last: &Held) -> bool
+    ensures { result ≡ not (is_deeper (held_of member.now) (first_held (variables_in (map declaration_of rest.now)) (held_of last.now))) }
 {
-    match rest.first() {
-        Some(next) => !is_deeper(member, next),
-        None => !is_deeper(member, last),
+    for declaration in rest {
+        if let Some(next) = variable_in(&declaration.what) {
+            return !is_deeper(member, next);
+        }
     }
+    !is_deeper(member, last)
 }
 
 /// What was found, with one more leaf of the name.
@@ -59,17 +59,40 @@ fn further(kept: Kept, member: &Held) -> Kept
     }
 }
 
+/// What was found, with one more of these declarations.
+#[tactic(auto, using(crate::proofs::Members::answer_on))]
+fn kept_with(
+    kept: Kept,
+    declaration: &Declaration,
+    rest: &[Declaration],
+    held: &Held,
+    refer: &Refer,
+) -> Kept
+    ensures { answer result (refer_of refer.now).member.letters (variables_in (map declaration_of rest.now)) (held_of held.now) ≡ answer kept (refer_of refer.now).member.letters (variables_in (declaration_of declaration.now ∷ map declaration_of rest.now)) (held_of held.now) }
+{
+    let Some(member) = variable_in(&declaration.what) else {
+        return kept;
+    };
+    let leaf = is_leaf(member, rest, held);
+    if leaf
+        && same_bytes(
+            &member.variable.declared.name.letters,
+            &refer.member.letters,
+        )
+    {
+        return further(kept, member);
+    }
+    kept
+}
+
 /// The member that REFER names is the one earlier leaf of its name, a scalar number.
 #[tactic(auto, using(crate::proofs::Members::members))]
-fn keeps_extent(earlier: &[&Held], held: &Held, refer: &Refer) -> bool
-    ensures { result ≡ keeps_extent (helds_of earlier.now) (held_of held.now) (refer_of refer.now) }
+fn keeps_extent(earlier: &[Declaration], held: &Held, refer: &Refer) -> bool
+    ensures { result ≡ keeps_extent (variables_in (map declaration_of earlier.now)) (held_of held.now) (refer_of refer.now) }
 {
     let mut kept = Kept::Nothing;
-    for (i, member) in earlier.iter().enumerate() {
-        let leaf = is_leaf(member, &earlier[i + 1..], held);
-        if leaf && same_bytes(&member.variable.declared.name.letters, &refer.member.letters) {
-            kept = further(kept, member);
-        }
+    for (i, declaration) in earlier.iter().enumerate() {
+        kept = kept_with(kept, declaration, &earlier[i + 1..], held, refer);
     }
     matches!(kept, Kept::Number)
 }
@@ -89,11 +112,11 @@ fn may_refer(held: &Held, after: &[Declaration]) -> bool
 fn noted_refer(
     found: Option<SourceFault>,
     allowed: bool,
-    earlier: &[&Held],
+    earlier: &[Declaration],
     held: &Held,
     refer: &Option<Refer>,
 ) -> Option<SourceFault>
-    ensures { result ≡ soonest found (refer_faults allowed (helds_of earlier.now) (held_of held.now) (option_of refer_of refer.now)) }
+    ensures { result ≡ soonest found (refer_faults allowed (variables_in (map declaration_of earlier.now)) (held_of held.now) (option_of refer_of refer.now)) }
 {
     match refer {
         None => found,
@@ -108,12 +131,12 @@ fn noted_refer(
 #[tactic(auto, using(crate::proofs::Faults::faults))]
 fn noted_bound(
     found: Option<SourceFault>,
-    earlier: &[&Held],
+    earlier: &[Declaration],
     held: &Held,
     after: &[Declaration],
     bound: &Bound,
 ) -> Option<SourceFault>
-    ensures { result ≡ soonest found (bound_refer_faults (helds_of earlier.now) (held_of held.now) (map declaration_of after.now) (bound_of bound.now)) }
+    ensures { result ≡ soonest found (bound_refer_faults (variables_in (map declaration_of earlier.now)) (held_of held.now) (map declaration_of after.now) (bound_of bound.now)) }
 {
     let allowed = may_refer(held, after) && dimensions_of(held.variable) == 1;
     match bound {
@@ -130,12 +153,12 @@ fn noted_bound(
 #[tactic(auto, using(crate::proofs::Faults::steps))]
 fn noted_bounds(
     found: Option<SourceFault>,
-    earlier: &[&Held],
+    earlier: &[Declaration],
     held: &Held,
     after: &[Declaration],
     bounds: &[Bound],
 ) -> Option<SourceFault>
-    ensures { result ≡ soonest found (flat_map (bound_refer_faults (helds_of earlier.now) (held_of held.now) (map declaration_of after.now)) (map bound_of bounds.now)) }
+    ensures { result ≡ soonest found (flat_map (bound_refer_faults (variables_in (map declaration_of earlier.now)) (held_of held.now) (map declaration_of after.now)) (map bound_of bounds.now)) }
 {
     let mut found = found;
     for bound in bounds {
@@ -149,11 +172,11 @@ fn noted_bounds(
 fn noted_size(
     found: Option<SourceFault>,
     allowed: bool,
-    earlier: &[&Held],
+    earlier: &[Declaration],
     held: &Held,
     size: &Option<Size>,
 ) -> Option<SourceFault>
-    ensures { result ≡ soonest found (size_refer_faults allowed (helds_of earlier.now) (held_of held.now) (option_of size_of size.now)) }
+    ensures { result ≡ soonest found (size_refer_faults allowed (variables_in (map declaration_of earlier.now)) (held_of held.now) (option_of size_of size.now)) }
 {
     match size {
         Some(Size::Given(extent)) => noted_refer(found, allowed, earlier, held, &extent.refer),
@@ -166,12 +189,12 @@ fn noted_size(
 #[tactic(auto, using(crate::proofs::Faults::faults))]
 fn noted_attribute(
     found: Option<SourceFault>,
-    earlier: &[&Held],
+    earlier: &[Declaration],
     held: &Held,
     after: &[Declaration],
     attribute: &Attribute,
 ) -> Option<SourceFault>
-    ensures { result ≡ soonest found (attribute_refer_faults (helds_of earlier.now) (held_of held.now) (map declaration_of after.now) (attribute_of attribute.now)) }
+    ensures { result ≡ soonest found (attribute_refer_faults (variables_in (map declaration_of earlier.now)) (held_of held.now) (map declaration_of after.now) (attribute_of attribute.now)) }
 {
     match attribute {
         Attribute::Character(size) => {
@@ -189,12 +212,12 @@ fn noted_attribute(
 #[tactic(auto, using(crate::proofs::Faults::steps))]
 fn noted_attributes(
     found: Option<SourceFault>,
-    earlier: &[&Held],
+    earlier: &[Declaration],
     held: &Held,
     after: &[Declaration],
     attributes: &[Attribute],
 ) -> Option<SourceFault>
-    ensures { result ≡ soonest found (flat_map (attribute_refer_faults (helds_of earlier.now) (held_of held.now) (map declaration_of after.now)) (map attribute_of attributes.now)) }
+    ensures { result ≡ soonest found (flat_map (attribute_refer_faults (variables_in (map declaration_of earlier.now)) (held_of held.now) (map declaration_of after.now)) (map attribute_of attributes.now)) }
 {
     let mut found = found;
     for attribute in attributes {
@@ -208,16 +231,22 @@ fn noted_attributes(
 pub fn noted_refers(
     found: Option<SourceFault>,
     parameters: &[Name],
-    earlier: &[&Held],
+    earlier: &[Declaration],
     held: &Held,
     after: &[Declaration],
 ) -> Option<SourceFault>
-    ensures { result ≡ soonest found (all_refer_faults (map name_of parameters.now) (helds_of earlier.now) (held_of held.now) (map declaration_of after.now)) }
+    ensures { result ≡ soonest found (all_refer_faults (map name_of parameters.now) (variables_in (map declaration_of earlier.now)) (held_of held.now) (map declaration_of after.now)) }
 {
     if is_parameter(parameters, held) {
         return found;
     }
-    let found = noted_bounds(found, earlier, held, after, &held.variable.declared.dimensions);
+    let found = noted_bounds(
+        found,
+        earlier,
+        held,
+        after,
+        &held.variable.declared.dimensions,
+    );
     let found = noted_bounds(found, earlier, held, after, &held.variable.item.dimensions);
     noted_attributes(found, earlier, held, after, own_attributes(held))
 }
