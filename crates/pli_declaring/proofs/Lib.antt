@@ -5,3 +5,5 @@ pub mod Next
 pub mod Powers
 pub mod Mains
 pub mod Members
+pub mod Starts
+pub mod Repeats

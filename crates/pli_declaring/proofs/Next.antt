@@ -6,7 +6,7 @@ use Rattle.pli_meaning.specs.Declarations.{Held, What, Variable', Label, Procedu
 use Rattle.pli_meaning.specs.Declaring.{held_is, has_members, goes_on, is_deeper, stands_alone, next_is}
 use Rattle.pli_declaring.specs.Next.{variable_in, next_in}
 
-held_by : (test : Held → Bool) (w : What) → held_is test w ≡ option_map_or test (variable_in w) false
+pub held_by : (test : Held → Bool) (w : What) → held_is test w ≡ option_map_or test (variable_in w) false
 held_by test (Variable' h) = refl
 held_by test Label = refl
 held_by test (ProcedureName head) = refl

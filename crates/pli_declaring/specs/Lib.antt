@@ -6,3 +6,5 @@ pub mod Next
 pub mod Mains
 pub mod Rules
 pub mod Members
+pub mod Starts
+pub mod Rivals

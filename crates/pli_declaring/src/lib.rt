@@ -2,6 +2,7 @@
 #![tactic(auto)]
 
 mod attribute;
+mod block;
 mod constant;
 mod extent;
 mod head;
@@ -10,4 +11,6 @@ mod initial;
 mod least;
 mod program;
 mod refer;
+mod structure;
+mod twice;
 mod variable;
