@@ -7,3 +7,4 @@ pub mod Mains
 pub mod Members
 pub mod Starts
 pub mod Repeats
+pub mod Bytes

@@ -8,3 +8,4 @@ pub mod Rules
 pub mod Members
 pub mod Starts
 pub mod Rivals
+pub mod Bytes

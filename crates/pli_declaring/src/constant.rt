@@ -1,6 +1,6 @@
 // Constants, and where expressions begin.
 
-ghost use Rattle.std.specs.Prelude.{◌≡◌};
+ghost use Rattle.std.specs.Prelude.{◌≡◌, ◌≤ℤ◌, neg_ℤ, pos, IfSome};
 ghost use Rattle.pli_meaning.specs.Declaring.{constant, place_of_expr, place_of_qualified, place_of_reference};
 ghost use Rattle.pli_meaning.specs.View.{expr_of, qualified_of, reference_of};
 ghost use Rattle.pli_declaring.specs.Numerals.{number_in};
@@ -65,7 +65,8 @@ fn number_in(expression: &Expr) -> Option<u64>
 /// A constant: a number after at most one sign.
 #[tactic(auto, unfolding(pli_meaning::specs::View::expr_of))]
 pub fn constant(expression: &Expr) -> Option<i128>
-    ensures { result ≡ constant (expr_of expression.now) }
+    ensures value { result ≡ constant (expr_of expression.now) }
+    ensures bounded { IfSome result (λ z. (neg_ℤ (pos 18446744073709551616) ≤ℤ z) × (z ≤ℤ pos 18446744073709551616)) }
 {
     match expression {
         Expr::Number { value, .. } => Some(i128::from(*value)),

@@ -11,6 +11,7 @@ mod initial;
 mod least;
 mod program;
 mod refer;
+mod storage;
 mod structure;
 mod twice;
 mod variable;
