@@ -8,3 +8,4 @@ pub mod Members
 pub mod Starts
 pub mod Repeats
 pub mod Bytes
+pub mod Storing

@@ -9,3 +9,4 @@ pub mod Members
 pub mod Starts
 pub mod Rivals
 pub mod Bytes
+pub mod Statics

@@ -16,7 +16,7 @@ fn number_of(kind: SourceKind) -> u8
 
 /// The first stands before the second.
 #[tactic(auto, unfolding(pli_meaning::specs::Refusals::is_before))]
-fn is_before(f: SourceFault, g: SourceFault) -> bool
+pub fn is_before(f: SourceFault, g: SourceFault) -> bool
     ensures { result ≡ is_before f g }
 {
     if f.line != g.line {

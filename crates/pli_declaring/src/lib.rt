@@ -11,6 +11,7 @@ mod initial;
 mod least;
 mod program;
 mod refer;
+mod statics;
 mod storage;
 mod structure;
 mod twice;

@@ -10,7 +10,7 @@ ghost use Rattle.pli_declaring.specs.Bytes.{capped};
 
 use crate::attribute::{Row, has, is_number, precision_of};
 use crate::constant::constant;
-use crate::held::{has_members, own_attributes, stands_alone, variable_in};
+use crate::held::{has_members, own_attributes};
 use pli_declare::scope::{Declaration, Held, Variable};
 use pli_meaning::declaration::{Attribute, Bound, Size};
 
@@ -25,7 +25,7 @@ fn times(a: u64, b: u64) -> u64
 }
 
 /// The sum, as far as it matters.
-fn plus(a: u64, b: u64) -> u64
+pub fn plus(a: u64, b: u64) -> u64
     ensures { result ≡ capped (a + b) }
 {
     a.saturating_add(b).min(MOST)
@@ -131,7 +131,7 @@ fn in_words(bytes: u64) -> u64
 }
 
 /// What a generation of this much data takes.
-fn footprint(bytes: u64) -> u64
+pub fn footprint(bytes: u64) -> u64
     ensures { result ≡ capped (footprint_of bytes) }
 {
     ((bytes.min(MOST) + 15) / 16 * 16 + 16).min(MOST)
