@@ -9,3 +9,4 @@ pub mod Starts
 pub mod Repeats
 pub mod Bytes
 pub mod Storing
+pub mod Whole

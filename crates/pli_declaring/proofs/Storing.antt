@@ -94,5 +94,5 @@ static_on found next target ts i d broken h inv b n =
     let more : List SourceFault = flat_map rule (map taken_of (drop (i + 1) ts)) in
     let here : Bool → List SourceFault = λ t. when t (fault (get_or ts i d).place TooLarge) in
     let step : flat_map rule (map taken_of (drop i ts)) ≡ here broken ++ more =
-        ap (λ u. flat_map rule (map taken_of u)) (drop_more ts i d h) ∙ ap (λ t. here t ++ more) (sym b) in
+    ap (λ u. flat_map rule (map taken_of u)) (drop_more ts i d h) ∙ ap (λ t. here t ++ more) (sym b) in
     ap (λ o. soonest o more) n ∙ sym (soonest-append found (here broken) more) ∙ ap (soonest found) (sym step) ∙ inv

@@ -11,8 +11,11 @@ mod initial;
 mod least;
 mod program;
 mod refer;
+mod refusal;
 mod statics;
 mod storage;
 mod structure;
 mod twice;
 mod variable;
+
+pub use refusal::declare;
