@@ -1,5 +1,5 @@
 -- What is found in lists of refusals, part by part.
-use Rattle.std.proofs.Common.{◌≡◌, List, [], ◌∷◌, ◌++◌, map, Option, Some, None, refl, sym, ap, ◌∙◌, true≢false}
+use Rattle.std.proofs.Common.{◌≡◌, List, [], ◌∷◌, ◌++◌, map, Option, None, refl, sym, ap, ◌∙◌, true≢false}
 use Rattle.std.specs.Prelude.{is_some, slice_get}
 use Rattle.pli_meaning.specs.declared.expr.Name.{Name as NameHeld}
 use Rattle.pli_meaning.specs.declared.expr.Place.{Place}

@@ -1,12 +1,11 @@
 -- The rule of the main procedure, procedure by procedure.
-use Rattle.std.proofs.Common.{◌≡◌, Bool, true, false, List, [], ◌∷◌, ◌++◌, Option, Some, None, refl, ap, sym, ◌∙◌, append-nil}
+use Rattle.std.proofs.Common.{◌≡◌, true, false, List, [], ◌∷◌, ◌++◌, Option, Some, None, refl, ap}
 use Rattle.std.specs.List.{flat_map}
-use Rattle.pli_meaning.specs.declared.fault.SourceFault.{SourceFault}
 use Rattle.pli_meaning.specs.declared.fault.SourceKind.TheVariants.{NoMain}
 use Rattle.pli_meaning.specs.declared.stmt.Items as J
-use Rattle.pli_meaning.specs.Tree.{Name, Item, Procedure, Declare, Statement, EndLabels, Items, NoItem, ItemThen, ProcedureHead}
+use Rattle.pli_meaning.specs.Tree.{Item, Procedure, Declare, Statement, EndLabels, Items, ItemThen, ProcedureHead}
 use Rattle.pli_meaning.specs.View.{item_of, items_of}
-use Rattle.pli_meaning.specs.Refusals.{fault, soonest}
+use Rattle.pli_meaning.specs.Refusals.{fault}
 use Rattle.pli_meaning.specs.Declaring.{at_first, outer_procedures, main_faults}
 use Rattle.pli_meaning.proofs.Least.{soonest-append}
 use Rattle.pli_declaring.specs.Mains.{procedure_in, of_procedure, main_left}

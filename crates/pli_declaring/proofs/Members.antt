@@ -1,9 +1,8 @@
 -- The leaves of a structure, one by one.
-use Rattle.std.proofs.Common.{◌≡◌, Bool, true, false, List, ℕ, [], ◌∷◌, map, drop, filter, refl, sym, ap, ◌∙◌}
+use Rattle.std.proofs.Common.{◌≡◌, Bool, true, false, List, ℕ, [], ◌∷◌, filter, refl, sym, ap, ◌∙◌}
 use Rattle.std.specs.Prelude.{if◌then◌else◌, not, ◌&&◌}
 use Rattle.std.proofs.lemmas.List.{drop_all}
 use Rattle.pli_declare.proofs.Chains.{drop_here}
-use Rattle.pli_meaning.specs.Keywords.{same_bytes}
 use Rattle.pli_meaning.specs.Tree.{Refer}
 use Rattle.pli_meaning.specs.Declarations.{Held}
 use Rattle.pli_meaning.specs.Declaring.{is_deeper, is_scalar_number, leaves_before, is_only_number, keeps_extent}

@@ -1,5 +1,5 @@
 -- Names that stand twice, place by place.
-use Rattle.std.proofs.Common.{◌≡◌, ◌≢◌, ◌<◌, ◌≤◌, ℕ, zero, suc, ◌+◌, ◌-◌, Bool, true, false, List, [], ◌∷◌, ◌++◌, length, take, drop, get_or, map, Option, Some, None, refl, sym, ap, ◌∙◌, arith, nat_eq, eqb, add-zero, inl, inr, ◌⊎◌}
+use Rattle.std.proofs.Common.{◌≡◌, ◌≢◌, ◌<◌, ◌≤◌, ℕ, zero, suc, ◌+◌, ◌-◌, Bool, true, false, List, [], ◌∷◌, ◌++◌, length, take, drop, get_or, map, Option, Some, refl, sym, ap, ◌∙◌, arith, nat_eq, eqb, add-zero, inl, inr, ◌⊎◌}
 use Rattle.std.specs.Prelude.{if◌then◌else◌, ◌&&◌, ◌||◌, nat_lt, reverse, slice_get}
 use Rattle.std.specs.List.{list_any}
 use Rattle.std.specs.Option.{option_map_or}
@@ -14,7 +14,7 @@ use Rattle.pli_meaning.specs.declared.fault.SourceKind.TheVariants.{DeclaredTwic
 use Rattle.pli_meaning.specs.Keywords.{same_bytes}
 use Rattle.pli_meaning.specs.Tree.{Name}
 use Rattle.pli_meaning.specs.View.{name_of}
-use Rattle.pli_meaning.specs.Declarations.{What, Declaration, Variable}
+use Rattle.pli_meaning.specs.Declarations.{What, Declaration}
 use Rattle.pli_meaning.specs.Means.{places}
 use Rattle.pli_meaning.specs.Declaring.{are_rivals, names_twice, same_place, same_places, twice_faults, when}
 use Rattle.pli_meaning.specs.Refusals.{fault, soonest}

@@ -1,5 +1,5 @@
 -- Outer procedures, one by one.
-use Rattle.std.specs.Prelude.{Bool, true, false, not, ◌||◌, nat_lt, List, [], ◌∷◌, ◌++◌, length, Option, Some, None}
+use Rattle.std.specs.Prelude.{Bool, true, not, ◌||◌, nat_lt, List, [], ◌∷◌, ◌++◌, length, Option, Some, None}
 use Rattle.pli_meaning.specs.declared.fault.SourceFault.{SourceFault}
 use Rattle.pli_meaning.specs.declared.fault.SourceKind.TheVariants.{NoMain}
 use Rattle.pli_meaning.specs.Tree.{Item, Procedure, ProcedureHead}

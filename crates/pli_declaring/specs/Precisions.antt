@@ -1,5 +1,5 @@
 -- The precisions that attributes write, one by one.
-use Rattle.std.specs.Prelude.{ℕ, Bool, true, false, ◌||◌, ◌==◌, nat_lt, List, [], ◌∷◌, Option, Some, None}
+use Rattle.std.specs.Prelude.{ℕ, Bool, true, false, ◌||◌, ◌==◌, nat_lt, List, [], ◌∷◌, Option, None}
 use Rattle.pli_meaning.specs.Tree.{Attribute, Fixed, Binary}
 use Rattle.pli_meaning.specs.Declaring.{most_digits}
 

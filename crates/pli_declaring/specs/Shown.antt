@@ -1,13 +1,8 @@
 -- What a program's values show of the definitions.
-use Rattle.std.specs.Prelude.{ℕ, Bool, true, false, List, [], ◌∷◌, ◌++◌, ℤ, pos, negsuc, nat_lt, not, ◌||◌}
+use Rattle.std.specs.Prelude.{ℕ, ℤ, pos, negsuc}
 use Rattle.pli_declaring.specs.declared.extent.Use.{Use as UseHeld}
 use Rattle.pli_declaring.specs.declared.extent.Use.TheVariants as U
-use Rattle.pli_meaning.specs.declared.fault.SourceFault.{SourceFault}
-use Rattle.pli_meaning.specs.declared.fault.SourceKind.TheVariants.{NoMain}
-use Rattle.pli_meaning.specs.Tree.{Item, Procedure, ProcedureHead}
-use Rattle.std.specs.List.{flat_map}
-use Rattle.pli_meaning.specs.Refusals.{fault}
-use Rattle.pli_meaning.specs.Declaring.{Use, Passed, Evaluated, Kept, Returned, has_main, when, at_first}
+use Rattle.pli_meaning.specs.Declaring.{Use, Passed, Evaluated, Kept, Returned}
 
 abbrev pub use_shown : UseHeld → Use
 use_shown U.Passed = Passed

@@ -1,9 +1,9 @@
-use Rattle.std.proofs.Common.{rules, tests, sym, ap, ◌∙◌, eqb, true}
+use Rattle.std.proofs.Common.{rules, tests, ap, ◌∙◌}
 use Rattle.std.specs.Prelude.{not, ◌||◌, ◌&&◌, ◌==◌}
 use Rattle.std.proofs.lemmas.Iterator.{YieldsList-from_slice}
 use Rattle.std.proofs.lemmas.Iterator.Search.{any_from_yields_List}
 use Rattle.std.specs.List.{list_any}
-use Rattle.pli_meaning.specs.Declaring.{row_of, has}
+use Rattle.pli_meaning.specs.Declaring.{row_of}
 use Rattle.pli_meaning.specs.Tree.{Attribute}
 use Rattle.pli_meaning.specs.View.{attribute_of}
 use Rattle.std.specs.Prelude.{Bool, map}

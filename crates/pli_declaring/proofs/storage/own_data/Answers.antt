@@ -1,4 +1,4 @@
-use Rattle.std.proofs.Common.{◌≡◌, ◌*◌, ap, ◌∙◌, map, List, sym}
+use Rattle.std.proofs.Common.{◌*◌, ap, ◌∙◌, map, List}
 use Rattle.std.specs.Prelude.{if◌then◌else◌, Bool}
 use Rattle.pli_meaning.specs.Tree.{Attribute}
 use Rattle.pli_meaning.specs.Declarations.{dimensions_of}

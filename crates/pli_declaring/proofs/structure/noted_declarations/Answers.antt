@@ -1,4 +1,4 @@
-use Rattle.std.proofs.Common.{◌+◌, map, drop, ◌≤◌, subst, sym, ap, ◌∙◌, List}
+use Rattle.std.proofs.Common.{◌+◌, map, ◌≤◌, subst, sym, ap, ◌∙◌, List}
 use Rattle.std.proofs.lemmas.List.{take_rest}
 use Rattle.pli_meaning.specs.Refusals.{soonest}
 use Rattle.pli_meaning.specs.Declaring.{what_faults}

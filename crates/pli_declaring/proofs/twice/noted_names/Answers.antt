@@ -1,4 +1,4 @@
-use Rattle.std.proofs.Common.{◌≡◌, ap, ◌∙◌, List, ℕ, map, take}
+use Rattle.std.proofs.Common.{ap, ◌∙◌, List, ℕ, map, take}
 use Rattle.std.specs.List.{list_any}
 use Rattle.pli_meaning.specs.Keywords.{same_bytes}
 use Rattle.pli_meaning.specs.View.{name_of}

@@ -1,4 +1,4 @@
-use Rattle.std.proofs.Common.{◌≡◌, ap, ◌∙◌, sym}
+use Rattle.std.proofs.Common.{ap, ◌∙◌, sym}
 use Rattle.std.specs.Prelude.{◌||◌}
 use Rattle.pli_meaning.specs.Declaring.{own_attributes}
 use Rattle.pli_declare.specs.Shown.{held_of}
