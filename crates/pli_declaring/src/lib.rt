@@ -19,3 +19,6 @@ mod twice;
 mod variable;
 
 pub use refusal::declare;
+
+#[cfg(test)]
+mod tests;
