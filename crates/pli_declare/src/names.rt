@@ -1,7 +1,9 @@
 // A block's declarations, with the places of each name.
 
 ghost use Rattle.std.specs.Prelude.{◌≡◌, ◌++◌, ◌∷◌, [], map, IfOk, length};
-ghost use Rattle.pli_meaning.specs.Means.{means_in};
+ghost use Rattle.std.specs.Prelude.{nat_eq};
+ghost use Rattle.std.specs.Cmp.Lexicographic.{pointwise};
+ghost use Rattle.pli_meaning.specs.Means.{means_in, places};
 ghost use Rattle.pli_declare.specs.Among.{letters_of};
 ghost use Rattle.pli_declare.specs.Index.{places_at, IsIndex};
 ghost use Rattle.pli_declare.specs.Shown.{declaration_of};
@@ -69,6 +71,16 @@ impl Names<'_> {
         match self.places.get(last) {
             Some(places) => among(&self.declarations, block, qualifiers, places),
             None => Found::None,
+        }
+    }
+
+    /// Where a name stands among this block's declarations.
+    pub fn places_of(&self, name: &[u8]) -> &[usize]
+        ensures { result.now ≡ places (λ d. pointwise nat_eq name.now d.name.letters) 0 (map declaration_of self.now.declarations.items) }
+    {
+        match self.places.get(name) {
+            Some(places) => places,
+            None => &[],
         }
     }
 }

@@ -1,0 +1,12 @@
+pub mod Shown
+pub mod Precise
+pub mod Faults
+pub mod Next
+pub mod Powers
+pub mod Mains
+pub mod Members
+pub mod Starts
+pub mod Repeats
+pub mod Bytes
+pub mod Storing
+pub mod Whole

@@ -1,0 +1,178 @@
+-- Names that stand twice, place by place.
+use Rattle.std.proofs.Common.{◌≡◌, ◌≢◌, ◌<◌, ◌≤◌, ℕ, zero, suc, ◌+◌, ◌-◌, Bool, true, false, List, [], ◌∷◌, ◌++◌, length, take, drop, get_or, map, Option, Some, refl, sym, ap, ◌∙◌, arith, nat_eq, eqb, add-zero, inl, inr, ◌⊎◌}
+use Rattle.std.specs.Prelude.{if◌then◌else◌, ◌&&◌, ◌||◌, nat_lt, reverse, slice_get}
+use Rattle.std.specs.List.{list_any}
+use Rattle.std.specs.Option.{option_map_or}
+use Rattle.std.specs.Cmp.Lexicographic.{pointwise}
+use Rattle.std.proofs.lemmas.Bool.Decides.{nat_tests}
+use Rattle.std.proofs.lemmas.List.{reverse-append, drop_all, length-map}
+use Rattle.std.proofs.lemmas.List.Folds.{list_any-append}
+use Rattle.pli_meaning.specs.declared.expr.Name.{Name as NameHeld}
+use Rattle.pli_meaning.specs.declared.expr.Place.{Place}
+use Rattle.pli_meaning.specs.declared.fault.SourceFault.{SourceFault}
+use Rattle.pli_meaning.specs.declared.fault.SourceKind.TheVariants.{DeclaredTwice}
+use Rattle.pli_meaning.specs.Keywords.{same_bytes}
+use Rattle.pli_meaning.specs.Tree.{Name}
+use Rattle.pli_meaning.specs.View.{name_of}
+use Rattle.pli_meaning.specs.Declarations.{What, Declaration}
+use Rattle.pli_meaning.specs.Means.{places}
+use Rattle.pli_meaning.specs.Declaring.{are_rivals, names_twice, same_place, same_places, twice_faults, when}
+use Rattle.pli_meaning.specs.Refusals.{fault, soonest}
+use Rattle.pli_meaning.proofs.Least.{soonest-append}
+use Rattle.pli_declare.specs.declared.scope.Declaration.{Declaration as DeclarationHeld}
+use Rattle.pli_declare.specs.declared.scope.Variable.{Variable as VariableHeld}
+use Rattle.pli_declare.specs.Shown.{declaration_of, variable_of, what_of}
+use Rattle.pli_declare.proofs.Chains.{drop_here, take_here}
+use Rattle.pli_declaring.specs.Rivals.{places_above, rival_at}
+
+-- ---- lists from their ends
+
+or_swap : (a b : Bool) → (a || (b || false)) ≡ (b || a)
+or_swap true true = refl
+or_swap true false = refl
+or_swap false true = refl
+or_swap false false = refl
+
+any_reversed : {X : Type 0} (p : X → Bool) (xs : List X) → list_any p (reverse xs) ≡ list_any p xs
+any_reversed p [] = refl
+any_reversed p (x ∷ xs) =
+    ap (list_any p) (reverse-append (x ∷ []) xs) ∙ list_any-append p (reverse xs) (x ∷ []) ∙ or_swap (list_any p (reverse xs)) (p x)
+    ∙ ap (λ t. p x || t) (any_reversed p xs)
+
+reversed_more : {X Y : Type 0} (f : X → Y) (xs : List X) (i : ℕ) (x : X) → i < length xs → x ≡ get_or xs i x → reverse (map f (take (i + 1) xs)) ≡ f x ∷ reverse (map f (take i xs))
+reversed_more f xs i x h e = ap reverse (take_here f xs i x h e) ∙ reverse-append (map f (take i xs)) (f x ∷ [])
+
+-- ---- names
+
+pub names_on : (found next target : Option SourceFault) (ns : List NameHeld) (i : ℕ) (n : NameHeld) (broken : Bool) → i < length ns → n ≡ get_or ns i n → soonest found (names_twice (reverse (map name_of (take i ns))) (map name_of (drop i ns))) ≡ target → broken ≡ list_any (λ b. same_bytes b.letters n.letters.items) (map name_of (take i ns)) → next ≡ soonest found (when broken (fault n.place DeclaredTwice)) → soonest next (names_twice (reverse (map name_of (take (i + 1) ns))) (map name_of (drop (i + 1) ns))) ≡ target
+names_on found next target ns i n broken h e inv b m =
+    let test : Name → Bool = λ a. same_bytes a.letters n.letters.items in
+    let sofar : List Name = map name_of (take i ns) in
+    let rest : List Name = map name_of (drop (i + 1) ns) in
+    let here : Bool → List SourceFault = λ t. when t (fault n.place DeclaredTwice) in
+    let more : List SourceFault = names_twice (name_of n ∷ reverse sofar) rest in
+    let step : names_twice (reverse sofar) (map name_of (drop i ns)) ≡ here broken ++ more =
+    ap (λ u. names_twice (reverse sofar) (map name_of u)) (drop_here ns i n h e) ∙ ap (λ t. here t ++ more) (any_reversed test sofar ∙ sym b) in
+    ap (λ u. soonest next (names_twice u rest)) (reversed_more name_of ns i n h e) ∙ ap (λ o. soonest o more) m ∙ sym (soonest-append found (here broken) more) ∙ ap (soonest found) (sym step) ∙ inv
+
+-- ---- places of a name
+
+equal_swapped : (x y : ℕ) → eqb x y ≡ eqb y x
+equal_swapped x y = grind (arith, nat_tests)
+
+flipped : (q b : List ℕ) → pointwise nat_eq q b ≡ same_bytes b q
+flipped [] [] = refl
+flipped [] (y ∷ ys) = refl
+flipped (x ∷ xs) [] = refl
+flipped (x ∷ xs) (y ∷ ys) = ap (λ t. t && pointwise nat_eq xs ys) (equal_swapped x y) ∙ ap (λ t. eqb y x && t) (flipped xs ys)
+
+not_below : (i n : ℕ) → i ≤ n → nat_lt n i ≡ false
+not_below i n h = grind (arith, nat_tests)
+
+is_below : (i n : ℕ) → n < i → nat_lt n i ≡ true
+is_below i n h = grind (arith, nat_tests)
+
+still_past : (i n : ℕ) → i ≤ n → i ≤ n + 1
+still_past i n h = omega arith
+
+-- no place from i on is before i
+none_past : (i from : ℕ) (t : Declaration → Bool) (r : ℕ → Bool) (ds : List Declaration) → i ≤ from → list_any (λ p. nat_lt p i && r p) (places t from ds) ≡ false
+none_past i from t r [] h = refl
+none_past i from t r (d ∷ ds) h = go (t d) (none_past i (from + 1) t r ds (still_past i from h))
+  where
+    go : (b : Bool) → list_any (λ p. nat_lt p i && r p) (places t (from + 1) ds) ≡ false → list_any (λ p. nat_lt p i && r p) (if b then from ∷ places t (from + 1) ds else places t (from + 1) ds) ≡ false
+    go true e = ap (λ c. c && r from || list_any (λ p. nat_lt p i && r p) (places t (from + 1) ds)) (not_below i from h) ∙ e
+    go false e = e
+
+take_none : {X : Type 0} (n : ℕ) → take {A = X} n [] ≡ []
+take_none zero = refl
+take_none (suc n) = refl
+
+zero_left : (i from : ℕ) → i ≤ from → i - from ≡ 0
+zero_left i from h = omega arith
+
+one_left : (i from : ℕ) → from < i → i - from ≡ suc (i - (from + 1))
+one_left i from h = omega arith
+
+shifted : (n k : ℕ) → n + 1 + k ≡ n + suc k
+shifted n k = omega arith
+
+below_or_past : (i from : ℕ) → (from < i) ⊎ (i ≤ from)
+below_or_past i from = go (nat_lt from i) refl
+  where
+    go : (t : Bool) → nat_lt from i ≡ t → (from < i) ⊎ (i ≤ from)
+    go true e = inl (grind (arith, nat_tests))
+    go false e = inr (grind (arith, nat_tests))
+
+pub any_places : (i from : ℕ) (t m : Declaration → Bool) (r : ℕ → Bool) (ds : List Declaration) → ((k : ℕ) (d : Declaration) → slice_get ds k ≡ Some d → r (from + k) ≡ m d) → list_any (λ p. nat_lt p i && r p) (places t from ds) ≡ list_any (λ d. t d && m d) (take (i - from) ds)
+any_places i from t m r [] h = ap (list_any (λ d. t d && m d)) (sym (take_none (i - from)))
+any_places i from t m r (d ∷ ds) h = go (any_places i (from + 1) t m r ds (λ k e f. ap r (shifted from k) ∙ h (suc k) e f)) (below_or_past i from)
+  where
+    here : (b : Bool) → t d ≡ b → from < i → list_any (λ p. nat_lt p i && r p) (if b then from ∷ places t (from + 1) ds else places t (from + 1) ds) ≡ (t d && m d || list_any (λ p. nat_lt p i && r p) (places t (from + 1) ds))
+    here true e lt =
+        ap (λ c. c && r from || list_any (λ p. nat_lt p i && r p) (places t (from + 1) ds)) (is_below i from lt)
+        ∙ ap (λ c. c || list_any (λ p. nat_lt p i && r p) (places t (from + 1) ds)) (ap r (sym (add-zero from)) ∙ h 0 d refl ∙ ap (λ c. c && m d) (sym e))
+    here false e lt = ap (λ c. c && m d || list_any (λ p. nat_lt p i && r p) (places t (from + 1) ds)) (sym e)
+
+    go : list_any (λ p. nat_lt p i && r p) (places t (from + 1) ds) ≡ list_any (λ e. t e && m e) (take (i - (from + 1)) ds) → (from < i) ⊎ (i ≤ from) → list_any (λ p. nat_lt p i && r p) (places t from (d ∷ ds)) ≡ list_any (λ e. t e && m e) (take (i - from) (d ∷ ds))
+    go more (inl lt) =
+        here (t d) refl lt
+        ∙ ap (λ c. t d && m d || c) more
+        ∙ ap (λ n. list_any (λ e. t e && m e) (take n (d ∷ ds))) (sym (one_left i from lt))
+    go more (inr le) =
+        none_past i from t r (d ∷ ds) le
+        ∙ ap (λ n. list_any (λ e. t e && m e) (take n (d ∷ ds))) (sym (zero_left i from le))
+
+from_nought : (k : ℕ) → 0 + k ≡ k
+from_nought k = omega arith
+
+less_nought : (i : ℕ) → i - 0 ≡ i
+less_nought i = omega arith
+
+any_alike : {X : Type 0} (p q : X → Bool) (xs : List X) → ((x : X) → p x ≡ q x) → list_any p xs ≡ list_any q xs
+any_alike p q [] h = refl
+any_alike p q (x ∷ xs) h = ap (λ t. t || list_any p xs) (h x) ∙ ap (λ t. q x || t) (any_alike p q xs h)
+
+-- the places of a name before i, and the declarations before i
+earlier_rivals : (all : List Declaration) (q : List ℕ) (w : What) (i : ℕ) → list_any (λ p. nat_lt p i && rival_at all w p) (places (λ d. pointwise nat_eq q d.name.letters) 0 all) ≡ list_any (λ b. same_bytes b.name.letters q && are_rivals b.what w) (take i all)
+earlier_rivals all q w i =
+    any_places i 0 (λ d. pointwise nat_eq q d.name.letters) (λ b. are_rivals b.what w) (rival_at all w) all (λ k d e. ap (rival_at all w) (from_nought k) ∙ ap (λ o. option_map_or (λ b. are_rivals b.what w) o false) e)
+    ∙ ap (λ n. list_any (λ b. pointwise nat_eq q b.name.letters && are_rivals b.what w) (take n all)) (less_nought i)
+    ∙ any_alike _ _ (take i all) (λ b. ap (λ t. t && are_rivals b.what w) (flipped q b.name.letters))
+
+take_mapped : {X Y : Type 0} (f : X → Y) (n : ℕ) (xs : List X) → take n (map f xs) ≡ map f (take n xs)
+take_mapped f zero xs = refl
+take_mapped f (suc n) [] = refl
+take_mapped f (suc n) (x ∷ xs) = ap (λ u. f x ∷ u) (take_mapped f n xs)
+
+pub twice_on : (found next target : Option SourceFault) (ds : List DeclarationHeld) (i : ℕ) (d : DeclarationHeld) (broken : Bool) → i < length ds → d ≡ get_or ds i d → soonest found (twice_faults (reverse (map declaration_of (take i ds))) (map declaration_of (drop i ds))) ≡ target → broken ≡ list_any (λ p. nat_lt p i && rival_at (map declaration_of ds) (what_of d.what) p) (places (λ e. pointwise nat_eq d.name.now.letters.items e.name.letters) 0 (map declaration_of ds)) → next ≡ soonest found (when broken (fault d.name.now.place DeclaredTwice)) → soonest next (twice_faults (reverse (map declaration_of (take (i + 1) ds))) (map declaration_of (drop (i + 1) ds))) ≡ target
+twice_on found next target ds i d broken h e inv b m =
+    let test : Declaration → Bool = λ a. same_bytes a.name.letters d.name.now.letters.items && are_rivals a.what (what_of d.what) in
+    let sofar : List Declaration = map declaration_of (take i ds) in
+    let rest : List Declaration = map declaration_of (drop (i + 1) ds) in
+    let here : Bool → List SourceFault = λ t. when t (fault d.name.now.place DeclaredTwice) in
+    let more : List SourceFault = twice_faults (declaration_of d ∷ reverse sofar) rest in
+    let same : list_any test (reverse sofar) ≡ broken = any_reversed test sofar ∙ sym (b ∙ earlier_rivals (map declaration_of ds) d.name.now.letters.items (what_of d.what) i ∙ ap (list_any test) (take_mapped declaration_of i ds)) in
+    let step : twice_faults (reverse sofar) (map declaration_of (drop i ds)) ≡ here broken ++ more =
+    ap (λ u. twice_faults (reverse sofar) (map declaration_of u)) (drop_here ds i d h e) ∙ ap (λ t. here t ++ more) same in
+    ap (λ u. soonest next (twice_faults u rest)) (reversed_more declaration_of ds i d h e) ∙ ap (λ o. soonest o more) m ∙ sym (soonest-append found (here broken) more) ∙ ap (soonest found) (sym step) ∙ inv
+
+-- ---- places of variables
+
+places_unequal : (ps qs : List Place) → length ps ≢ length qs → same_places ps qs ≡ false
+places_unequal [] [] h = absurd (h refl)
+places_unequal [] (q ∷ qs) h = refl
+places_unequal (p ∷ ps) [] h = refl
+places_unequal (p ∷ ps) (q ∷ qs) h = go (same_place p q) (places_unequal ps qs (λ e. h (ap suc e)))
+  where
+    go : (t : Bool) → same_places ps qs ≡ false → (t && same_places ps qs) ≡ false
+    go true e = e
+    go false e = refl
+
+names_length : (vs : List VariableHeld) → length (places_above (map variable_of vs)) ≡ length vs
+names_length vs = length-map (map variable_of vs) _ ∙ length-map vs variable_of
+
+pub places_not_long : (xs ys : List VariableHeld) → length xs ≢ length ys → same_places (places_above (map variable_of xs)) (places_above (map variable_of ys)) ≡ false
+places_not_long xs ys h = places_unequal _ _ (λ e. h (sym (names_length xs) ∙ e ∙ names_length ys))
+
+pub ruleset places_on = (drop_here, drop_all)

@@ -1,0 +1,12 @@
+pub mod Rows
+pub mod Precisions
+pub mod Numerals
+pub mod Shown
+pub mod Next
+pub mod Mains
+pub mod Rules
+pub mod Members
+pub mod Starts
+pub mod Rivals
+pub mod Bytes
+pub mod Statics

@@ -1,0 +1,7 @@
+-- Expressions that are numbers.
+use Rattle.std.specs.Prelude.{ℕ, Option, Some, None}
+use Rattle.pli_meaning.specs.Tree.{Expr, Number}
+
+abbrev pub number_in : Expr → Option ℕ
+number_in (Number v p) = Some v
+number_in _ = None
