@@ -1,6 +1,8 @@
-// How fast sources are read: many statements, and a long comment; for their results, or for the time with the argument
-// `time`.
+// How fast sources are read: many statements, a long comment, and a block of many names; for their results, or for the
+// time with the argument `time`.
 #![tactic(auto)]
+
+mod names;
 
 use anyhow::anyhow;
 use pli_lex::tokens;
@@ -86,5 +88,6 @@ fn main(rt: HostRuntime) -> anyhow::Result<()> {
             timed(&rt, name, &source)?;
         }
     }
-    Ok(())
+    names::block(&rt, 1_000, long)?;
+    names::block(&rt, 2_000, long)
 }
