@@ -3,6 +3,8 @@ pub mod EatingDeclarations
 pub mod EatingHeads
 pub mod Weighing
 pub mod WeighingNests
+pub mod Types
+pub mod Typed
 pub mod Measures
 pub mod FirstMeasures
 pub mod Compiled
