@@ -1,8 +1,7 @@
 -- What is generated for a source keeps the promise, and what is refused is no program.
-use Rattle.std.proofs.Common.{◌≡◌, ◌≢◌, ℕ, zero, suc, ◌+◌, ◌*◌, ◌^◌, ◌<◌, ◌≤◌, List, [], ◌∷◌, length, Option, Some, None, Result, Ok, Err, inl, inr, refl, sym, ap, ◌∙◌, subst, arith}
-use Rattle.std.specs.Prelude.{slice_get, IsSome}
+use Rattle.std.proofs.Common.{◌≡◌, ◌≢◌, ℕ, zero, suc, ◌^◌, ◌<◌, List, [], ◌∷◌, Option, Some, None, Result, Ok, Err, inl, inr, refl, sym, ap, ◌∙◌, subst, arith}
+use Rattle.std.specs.Prelude.{IsSome}
 use Rattle.pli_meaning.specs.declared.fault.SourceFault.{SourceFault}
-use Rattle.pli_meaning.specs.declared.fault.SourceKind.{SourceKind}
 use Rattle.pli_meaning.specs.declared.token.Token.{Token}
 use Rattle.pli_meaning.specs.declared.instr.Instr.{Instr}
 use Rattle.pli_meaning.specs.Encoding.{Fits}
@@ -12,7 +11,7 @@ use Rattle.pli_meaning.specs.FirstPath.{Spells}
 use Rattle.pli_meaning.specs.Typed.{Program}
 use Rattle.pli_meaning.specs.Typing.{typed}
 use Rattle.pli_meaning.specs.Machine.{IsValidBase}
-use Rattle.pli_meaning.specs.Headline.{Picture, Headline, Keeps, Run, Stopped, run_of, shown_by}
+use Rattle.pli_meaning.specs.Headline.{Keeps, run_of, shown_by}
 use Rattle.rv_isa.specs.declared.code.Code.{Code}
 use Rattle.pli_meaning.specs.Images as Images
 use Rattle.rv_machine.specs.Fitting as Fitting
@@ -25,8 +24,8 @@ use Rattle.pli_run.specs.declared.run.RunFault.{RunFault}
 use Rattle.pli_run.specs.declared.run.RunFault.TheVariants as F
 use Rattle.pli_run.specs.Running.{Tells, world_of}
 use Rattle.pli_meaning.specs.declared.outcome.Outcome.{Outcome}
-use Rattle.pli.specs.Compiling.{Accepts, IsCompiled, IsRefused, out_of_memory, no_program, Means, Answers}
-use Rattle.pli.proofs.Measures.{tree_weighs}
+use Rattle.pli.specs.Compiling.{IsCompiled, IsRefused, out_of_memory, no_program, Answers}
+use Rattle.pli.proofs.FirstMeasures.{tree_weighs}
 
 all_fit : (code : List Instr) → AllFit code → Fitting.AllFit code
 all_fit [] h k i e = absurd (cc e)

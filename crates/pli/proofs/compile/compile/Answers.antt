@@ -1,11 +1,11 @@
-use Rattle.std.proofs.Common.{◌≡◌, sym, ap, ◌∙◌, subst, refl, arith, length}
+use Rattle.std.proofs.Common.{sym, subst, refl, arith}
 use Rattle.std.proofs.lemmas.Result.{err_from_is_err_and}
 use Rattle.pli_meaning.specs.Tokens.{Tokens}
 use Rattle.pli_meaning.specs.Typing.{typed}
 use Rattle.pli_meaning.specs.View.{tree_of}
 use Rattle.pli_parse.specs.Reading.{tree_from}
 use Rattle.pli.specs.Compiling.{IsCompiled}
-use Rattle.pli.proofs.Measures.{tree_weighs, lines_small, tokens_small}
+use Rattle.pli.proofs.FirstMeasures.{tree_weighs, lines_small, tokens_small}
 use Rattle.pli.proofs.Compiled.{compiled, refused, program_of}
 use Rattle.pli.proofs.compile.compile.Goals as goal
 
