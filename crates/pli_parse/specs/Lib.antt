@@ -1,3 +1,2 @@
-pub mod Terminals
 pub mod Reading
 pub mod Answers
