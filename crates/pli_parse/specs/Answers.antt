@@ -1,25 +1,35 @@
 -- What the code answers, against what reading gives.
-use Rattle.std.specs.Prelude.{◌≡◌, List, Option, Some, None, Result, Ok, Err}
+use Rattle.std.specs.Prelude.{ℕ, List, Option, Some, None, Result, Ok, Err}
 use Rattle.pli_meaning.specs.declared.fault.SourceFault.{SourceFault}
 use Rattle.pli_meaning.specs.declared.fault.SourceKind.TheVariants.{Memory}
-use Rattle.pli_meaning.specs.declared.stmt.Tree.{Tree}
+use Rattle.pli_meaning.specs.declared.token.Token.{Token}
+use Rattle.pli_meaning.specs.Nesting.{Nest}
 use Rattle.pli_meaning.specs.Refusals.{soonest}
-use Rattle.pli_meaning.specs.Tree as T
-use Rattle.pli_meaning.specs.View.{tree_of}
-use Rattle.pli_parse.specs.Reading.{Parsed}
+use Rattle.pli_meaning.specs.Tree.{Tree}
+use Rattle.pli_parse.specs.Reading.{Parsed, Turn, GoesOn, Over}
 
 abbrev pub out_of_memory : SourceFault
 out_of_memory = record { line = 0; column = 0; kind = Memory }
 
--- what is kept of a reading: the least of what was found so far and of what is broken, and the tree
-pub record Kept : Type 0 where
-  pub least : Option SourceFault
-  pub tree : Option T.Tree
+-- a tree or a refusal, or neither
+abbrev pub Verdict : Type 0
+Verdict = Option (Result Tree SourceFault)
 
-abbrev pub kept : Option SourceFault → Parsed → Kept
-kept found r = record { least = soonest found r.faults; tree = r.tree }
+-- a tree where nothing is broken
+abbrev pub verdict : Option SourceFault → Option Tree → Verdict
+verdict (Some f) tree = Some (Err f)
+verdict None (Some tree) = Some (Ok tree)
+verdict None None = None
 
--- a tree where nothing is broken, else the least that is
-abbrev pub Decides : Kept → Result Tree SourceFault → Type 0
-Decides k (Ok tree) = k ≡ record { least = None; tree = Some (tree_of tree) }
-Decides k (Err f) = k.least ≡ Some f
+-- what a reading comes to behind what was found before it
+abbrev pub answer : Option SourceFault → Parsed → Verdict
+answer found r = verdict (soonest found r.faults) r.tree
+
+-- a turn of which the least refusal so far is kept
+pub data Step : Type 0 where
+  On : (nest : Nest) → (rest : List Token) → (found : Option SourceFault) → Step
+  Ends : Verdict → Step
+
+abbrev pub stepped : Option SourceFault → Turn → Step
+stepped found (GoesOn faults nest rest) = On nest rest (soonest found faults)
+stepped found (Over r) = Ends (answer found r)
