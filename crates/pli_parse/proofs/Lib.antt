@@ -1,3 +1,3 @@
-pub mod Labels
+pub mod LabelLaws
 pub mod Sound
 pub mod Found

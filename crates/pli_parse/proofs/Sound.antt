@@ -19,7 +19,7 @@ use Rattle.pli_head.proofs.Laws.{head_sound, head_leaves}
 use Rattle.pli_head.proofs.CompleteHeads.{head_complete}
 use Rattle.pli_head.proofs.LeftOut.{head_left_out}
 use Rattle.pli_parse.specs.Reading.{Parsed, Turn, GoesOn, Over, ended_in, at_end, breaks_off, broken_place, first_place, entered_with, left_out_in, head_read, head_turn, turn, labels_from, source_from, turned}
-use Rattle.pli_parse.proofs.Labels.{labels_sound}
+use Rattle.pli_parse.proofs.LabelLaws.{labels_sound}
 
 -- ---- one turn
 

@@ -27,6 +27,15 @@ labels_from s [] = ([], [])
 labels_from s (t ∷ []) = ([], t ∷ [])
 labels_from s (t ∷ u ∷ ts) = labelled s (label_of t.kind u.kind) t (labels_from s ts) (t ∷ u ∷ ts)
 
+abbrev pub label_with : Option Word → Token → List Token → Option (Token × Word × List Token)
+label_with None t ts = None
+label_with (Some word) t ts = Some (t, word, ts)
+
+-- the name that is the first label, with its word, and the tokens behind its colon
+abbrev pub label_front : List Token → Option (Token × Word × List Token)
+label_front (t ∷ u ∷ ts) = label_with (label_of t.kind u.kind) t ts
+label_front _ = None
+
 -- ---- what is read from a place on
 
 -- all that is broken, and the tree, where all is read

@@ -1,7 +1,7 @@
 // The tree of a source's tokens.
 #![tactic(auto)]
 
-ghost use Rattle.std.specs.Prelude.{◌≡◌};
-
-/// Nothing.
-pub fn nothing() {}
+mod end;
+mod labels;
+mod least;
+mod parentheses;
