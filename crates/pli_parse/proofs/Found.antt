@@ -14,8 +14,11 @@ use Rattle.pli_parse.proofs.Sound.{TurnReads, turn_sound, source_sound}
 
 -- ---- what was found before
 
+pub soonest_in_two : (found : Option SourceFault) (xs ys : List SourceFault) → soonest found (xs ++ ys) ≡ soonest (soonest found xs) ys
+soonest_in_two found xs ys = soonest-append found xs ys
+
 pub answer_before : (found : Option SourceFault) (fs : List SourceFault) (r : Parsed) → answer found (broken_before fs r) ≡ answer (soonest found fs) r
-answer_before found fs r = ap (λ o. verdict o r.tree) (soonest-append found fs r.faults)
+answer_before found fs r = ap (λ o. verdict o r.tree) (soonest_in_two found fs r.faults)
 
 -- ---- what an answer says
 

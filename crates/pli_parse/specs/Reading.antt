@@ -8,12 +8,13 @@ use Rattle.pli_meaning.specs.declared.token.Word.{Word}
 use Rattle.pli_meaning.specs.declared.token.Token.{Token}
 use Rattle.pli_meaning.specs.Heads.{Head}
 use Rattle.pli_meaning.specs.Marks.{no_marks, fault_at}
-use Rattle.pli_meaning.specs.Nesting.{Frame, Nest, entered, settled, misplaced, nest_faults, items_of_list}
+use Rattle.pli_meaning.specs.Nesting.{Nest, settled, misplaced}
 use Rattle.pli_meaning.specs.Parsing.{label_of, is_semicolon, faults_of, syntax_at, end_of}
 use Rattle.pli_meaning.specs.Spells.{name_at, place_of}
 use Rattle.pli_meaning.specs.Tree.{Name, Tree}
 use Rattle.pli_phrase.specs.Cursor.{Cursor, Stuck, Ended, LeavesOut, Read}
 use Rattle.pli_head.specs.Reading.{head_from}
+use Rattle.pli_nest.specs.Steps.{Entry, EnteredAs, MisplacedAt, entry, whole_tree}
 
 -- ---- labels
 
@@ -52,17 +53,25 @@ pub data Turn : Type 0 where
   GoesOn : (faults : List SourceFault) → (nest : Nest) → (rest : List Token) → Turn
   Over : Parsed → Turn
 
+-- a refusal at the place where reading is stuck
+abbrev pub stuck_at : Place → Parsed
+stuck_at p = record { faults = syntax_at p ∷ []; tree = None }
+
 -- nothing of the kind may stand at this place, behind these labels
 abbrev pub refused_at : Nest → List Name → Place → Parsed
-refused_at n ls p = record { faults = syntax_at (misplaced (settled n.frames) ls p) ∷ []; tree = None }
+refused_at n ls p = stuck_at (misplaced (settled n.frames) ls p)
 
-abbrev pub ended_in : List ℕ → Nest → List Frame → List Name → Parsed
-ended_in s n [] [] = record { faults = []; tree = Some (record { procedures = items_of_list n.outer }) }
-ended_in s n frames ls = refused_at n ls (end_of s)
+abbrev pub whole_with : Tree → Parsed
+whole_with tree = record { faults = []; tree = Some tree }
+
+abbrev pub ended_with : List ℕ → Option Tree → Parsed
+ended_with s (Some tree) = whole_with tree
+ended_with s None = stuck_at (end_of s)
 
 -- where no token is left behind these labels
 abbrev pub at_end : List ℕ → Nest → List Name → Parsed
-at_end s n ls = ended_in s n n.frames ls
+at_end s n [] = ended_with s (whole_tree n)
+at_end s n (l ∷ ls) = refused_at n (l ∷ ls) (end_of s)
 
 -- ---- heads
 
@@ -70,33 +79,33 @@ at_end s n ls = ended_in s n n.frames ls
 abbrev pub breaks_off : List Token → Bool
 breaks_off ts = list_all (λ t. not (is_semicolon t.kind)) ts
 
--- where a head that isn't whole is refused, which begins at the token t
-abbrev pub broken_place : List ℕ → Token → List Token → Place
-broken_place s t ts = if breaks_off (t ∷ ts) then end_of s else place_of t
+-- where a head that isn't whole is refused, which begins at this place with these tokens
+abbrev pub broken_place : List ℕ → Place → List Token → Place
+broken_place s at ts = if breaks_off ts then end_of s else at
 
--- the place of the first of some tokens, or else of t
-abbrev pub first_place : Token → List Token → Place
-first_place t [] = place_of t
-first_place t (u ∷ us) = place_of u
+-- the place of the first of some tokens; that of the head where there is none
+abbrev pub left_out_place : Place → List Token → Place
+left_out_place at [] = at
+left_out_place at (t ∷ ts) = place_of t
 
--- a head that begins at the token t
-abbrev pub entered_with : Option Nest → Nest → List Name → Token → List Token → Head → Cursor → Turn
-entered_with None n ls t ts h c = Over (refused_at n ls (place_of t))
-entered_with (Some n') n ls t ts h c = GoesOn (faults_of (t ∷ ts) c.tokens c.marks ++ nest_faults (settled n.frames) h) n' c.tokens
+-- a head whose first tokens are ts
+abbrev pub placed : Entry → List Token → Cursor → Turn
+placed (EnteredAs n faults) ts c = GoesOn (faults_of ts c.tokens c.marks ++ faults) n c.tokens
+placed (MisplacedAt p) ts c = Over (stuck_at p)
 
-abbrev pub left_out_in : Token → List Token → Cursor → Parsed
-left_out_in t ts c = record { faults = faults_of (t ∷ ts) c.tokens c.marks ++ fault_at (first_place t c.tokens) LeftOut ∷ []; tree = None }
+abbrev pub left_out_in : Place → List Token → Cursor → Parsed
+left_out_in at ts c = record { faults = faults_of ts c.tokens c.marks ++ fault_at (left_out_place at c.tokens) LeftOut ∷ []; tree = None }
 
-abbrev pub head_read : List ℕ → Nest → List Name → Token → List Token → Read Head → Turn
-head_read s n ls t ts (Ok x) = entered_with (entered n ls x.0) n ls t ts x.0 x.1
-head_read s n ls t ts (Err Stuck) = Over (refused_at n ls (place_of t))
-head_read s n ls t ts (Err Ended) = Over (refused_at n ls (broken_place s t ts))
-head_read s n ls t ts (Err (LeavesOut c)) = Over (left_out_in t ts c)
+abbrev pub head_read : List ℕ → Nest → List Name → Place → List Token → Read Head → Turn
+head_read s n ls at ts (Ok x) = placed (entry n ls x.0 at) ts x.1
+head_read s n ls at ts (Err Stuck) = Over (refused_at n ls at)
+head_read s n ls at ts (Err Ended) = Over (refused_at n ls (broken_place s at ts))
+head_read s n ls at ts (Err (LeavesOut c)) = Over (left_out_in at ts c)
 
 -- behind labels
 abbrev pub head_turn : List ℕ → Nest → List Name → List Token → Turn
 head_turn s n ls [] = Over (at_end s n ls)
-head_turn s n ls (t ∷ ts) = head_read s n ls t ts (head_from s (record { tokens = t ∷ ts; marks = no_marks }))
+head_turn s n ls (t ∷ ts) = head_read s n ls (place_of t) (t ∷ ts) (head_from s (record { tokens = t ∷ ts; marks = no_marks }))
 
 -- labels and the head behind them
 unfoldable pub turn : List ℕ → Nest → List Token → Turn

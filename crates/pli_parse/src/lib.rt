@@ -5,3 +5,4 @@ mod end;
 mod labels;
 mod least;
 mod parentheses;
+mod turn;
