@@ -1,5 +1,5 @@
 -- How the values of the code show turns.
-use Rattle.std.specs.Prelude.{Option, Some, Result, Ok, Err}
+use Rattle.std.specs.Prelude.{Some, Result, Ok, Err}
 use Rattle.pli_meaning.specs.declared.fault.SourceFault.{SourceFault}
 use Rattle.pli_meaning.specs.declared.stmt.Tree.{Tree}
 use Rattle.pli_meaning.specs.Tree as T
