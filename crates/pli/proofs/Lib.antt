@@ -6,6 +6,5 @@ pub mod WeighingNests
 pub mod Types
 pub mod Typed
 pub mod Measures
-pub mod FirstMeasures
 pub mod Compiled
 pub mod Filing
