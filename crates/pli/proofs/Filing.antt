@@ -1,5 +1,5 @@
 -- Each image that a machine can load has a picture in instructions.
-use Rattle.std.proofs.Common.{◌≡◌, ℕ, zero, suc, ◌<◌, List, [], ◌∷◌, length, map, Some, refl, ap, subst, sym, ◌∙◌, arith}
+use Rattle.std.proofs.Common.{◌≡◌, ℕ, zero, suc, ◌<◌, List, [], ◌∷◌, length, map, refl, ap, subst, ◌∙◌, arith}
 use Rattle.std.specs.Prelude.{slice_index}
 use Rattle.pli_meaning.specs.declared.instr.Instr.{Instr}
 use Rattle.pli_meaning.specs.Encoding.{word_of, Fits}

@@ -1,2 +1,4 @@
 pub mod Compiling
 pub mod Filing
+pub mod Typable
+pub mod Uncompiled

@@ -3,11 +3,15 @@
 
 mod command;
 pub mod compile;
+mod declared;
 pub mod image_file;
 #[cfg(test)]
 mod image_tests;
+pub mod laws;
 #[cfg(test)]
 mod tests;
+mod typable;
+pub mod uncompiled;
 
 use clap::ArgMatches;
 use clap::error::ErrorKind;

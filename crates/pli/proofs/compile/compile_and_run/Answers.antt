@@ -1,4 +1,3 @@
-use Rattle.std.proofs.Common.{◌≡◌}
 use Rattle.pli.proofs.Compiled.{answered}
 use Rattle.pli.proofs.compile.compile_and_run.Goals as goal
 
