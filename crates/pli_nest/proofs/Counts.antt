@@ -1,5 +1,5 @@
 -- What is open, frame by frame.
-use Rattle.std.proofs.Common.{◌≡◌, ℕ, ◌+◌, List, [], ◌∷◌, Bool, true, false, Option, Some, None, refl}
+use Rattle.std.proofs.Common.{◌≡◌, suc, List, [], ◌∷◌, Bool, true, false, Option, Some, None, refl}
 use Rattle.std.specs.Prelude.{if◌then◌else◌}
 use Rattle.pli_meaning.specs.Nesting as N
 use Rattle.pli_meaning.specs.Nesting.{Frame, InList, ThenDue, ThenWhole, ElseDue, UnitDue, OfProcedure, OfGroup, OfWhile, OfCount, OfBegin}
@@ -29,7 +29,7 @@ returns_around (ElseDue c u p) fs e = refl
 
 -- ---- counts
 
-pub units_step : (f : Frame) (fs : List Frame) → N.units (f ∷ fs) ≡ (if is_unit f then 1 else 0) + N.units fs
+pub units_step : (f : Frame) (fs : List Frame) → N.units (f ∷ fs) ≡ (if is_unit f then suc (N.units fs) else N.units fs)
 units_step (InList (OfProcedure h) labels items pending) fs = refl
 units_step (InList (OfGroup p) labels items pending) fs = refl
 units_step (InList (OfWhile c p) labels items pending) fs = refl
@@ -40,7 +40,7 @@ units_step (ThenWhole c u p) fs = refl
 units_step (ElseDue c u p) fs = refl
 units_step (UnitDue c p) fs = refl
 
-pub blocks_step : (f : Frame) (fs : List Frame) → N.blocks (f ∷ fs) ≡ (if is_block_list f then 1 else 0) + N.blocks fs
+pub blocks_step : (f : Frame) (fs : List Frame) → N.blocks (f ∷ fs) ≡ (if is_block_list f then suc (N.blocks fs) else N.blocks fs)
 blocks_step (InList (OfProcedure h) labels items pending) fs = refl
 blocks_step (InList (OfGroup p) labels items pending) fs = refl
 blocks_step (InList (OfWhile c p) labels items pending) fs = refl

@@ -1,3 +1,4 @@
 pub mod Steps
 pub mod Counts
 pub mod Lists
+pub mod Places

@@ -1,5 +1,5 @@
--- Lists of items, from their last one on.
-use Rattle.std.proofs.Common.{◌≡◌, List, [], ◌∷◌, ◌++◌, refl, ap}
+-- Lists of items, from their last one on; lists without one.
+use Rattle.std.proofs.Common.{◌≡◌, List, [], ◌∷◌, ◌++◌, length, refl, ap, arith}
 use Rattle.pli_meaning.specs.Tree.{Item, Items, NoItem, ItemThen}
 use Rattle.pli_meaning.specs.Nesting.{items_of_list}
 use Rattle.pli_nest.specs.Steps.{items_onto}
@@ -17,3 +17,7 @@ pub onto_list : (is : List Item) → items_onto is NoItem ≡ items_of_list is
 unfolding items_onto
 onto_list [] = refl
 onto_list (i ∷ is) = ap (ItemThen i) (onto_list is)
+
+pub nothing : {X : Type 0} (xs : List X) → length xs ≡ 0 → xs ≡ []
+nothing [] e = refl
+nothing (x ∷ xs) e = absurd (omega (arith, e))

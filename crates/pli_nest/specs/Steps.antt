@@ -4,7 +4,7 @@ use Rattle.pli_meaning.specs.declared.expr.Place.{Place}
 use Rattle.pli_meaning.specs.declared.fault.SourceFault.{SourceFault}
 use Rattle.pli_meaning.specs.Heads.{Head, ProcedureFront, Declaring, Simple, IfThen, Else, DoGroup, DoWhileGroup, DoCountGroup, BeginBlock, On, System, EndOf}
 use Rattle.pli_meaning.specs.Tree.{Name, Stmt, If, IfElse, OnUnit, Return, Revert, Item, Declare, Statement, Items, ItemThen, Tree}
-use Rattle.pli_meaning.specs.Nesting.{Nest, Opener, OfProcedure, OfGroup, OfWhile, OfCount, OfBegin, Frame, InList, ThenDue, ThenWhole, ElseDue, UnitDue, is_block, completed, closed, settled, with_frames, due, opened, whole, may_return, with_labelled_procedure, with_declaration, with_end, with_system, misplaced, nest_faults, entered, items_of_list}
+use Rattle.pli_meaning.specs.Nesting.{Nest, Opener, OfProcedure, OfGroup, OfWhile, OfCount, OfBegin, Frame, InList, ThenDue, ThenWhole, ElseDue, UnitDue, is_block, completed, closed, settled, with_frames, due, opened, whole, may_return, with_labelled_procedure, with_declaration, with_end, with_system, misplaced, nest_faults, end_name_faults, entered, items_of_list}
 
 -- ---- whole statements
 
@@ -78,9 +78,14 @@ is_unit_stmt (Return e p) = false
 is_unit_stmt (Revert c p) = false
 is_unit_stmt _ = true
 
+abbrev pub is_misplaced_return : Stmt → List Frame → Bool
+is_misplaced_return x fs = is_return_stmt x && not (may_return fs)
+
+abbrev pub allowed_in : Nest → List Name → Stmt → Option Nest
+allowed_in n labels x = with_frames n.outer (whole (begun_as n.frames labels (is_unit_stmt x)) x)
+
 abbrev pub simple_in : Nest → List Name → Stmt → Option Nest
-simple_in n labels x =
-    if not (is_return_stmt x) || may_return n.frames then with_frames n.outer (whole (begun_as n.frames labels (is_unit_stmt x)) x) else None
+simple_in n labels x = if is_misplaced_return x n.frames then None else allowed_in n labels x
 
 -- the nest behind a head where no ELSE comes
 abbrev pub entered_settled : Nest → List Name → Head → Option Nest
@@ -96,6 +101,22 @@ entered_settled n labels (DoGroup p) = list_in n labels (OfGroup p) false
 entered_settled n labels (DoWhileGroup e p) = list_in n labels (OfWhile e p) false
 entered_settled n labels (DoCountGroup c p) = list_in n labels (OfCount c p) false
 entered_settled n labels (BeginBlock p) = list_in n labels (OfBegin p) true
+
+-- ---- where a head may not stand, and what END breaks
+
+abbrev pub first_place : List Name → Place → Place
+first_place [] at = at
+first_place (l ∷ ls) at = l.place
+
+-- no label may stand before the unit of the frame
+abbrev pub takes_no_label : Frame → Bool
+takes_no_label (ThenDue e p) = true
+takes_no_label (ElseDue e u p) = true
+takes_no_label (UnitDue c p) = true
+takes_no_label _ = false
+
+abbrev pub end_fault : Name → List Name → List SourceFault
+end_fault n labels = end_name_faults (Some n) labels
 
 -- ---- ELSE
 

@@ -4,9 +4,10 @@
 mod begin;
 mod build;
 mod complete;
-mod enter;
 mod frame;
 mod items;
 mod limits;
+mod place;
+mod statement;
 
 pub use frame::{Entry, Frame, Nest, Opener};

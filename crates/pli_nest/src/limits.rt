@@ -80,7 +80,7 @@ fn blocks(frames: &[Frame]) -> usize
     count
 }
 
-fn fault_at(place: Place, kind: SourceKind) -> SourceFault
+pub fn fault_at(place: Place, kind: SourceKind) -> SourceFault
     ensures { result ≡ fault_at place kind }
 {
     SourceFault {

@@ -1,12 +1,9 @@
-use Rattle.std.proofs.Common.{◌≡◌, List, [], ◌∷◌, length, arith, refl, ap, sym, ◌∙◌}
+use Rattle.std.proofs.Common.{ap, sym, ◌∙◌}
 use Rattle.pli_meaning.specs.Nesting as N
 use Rattle.pli_phrase.proofs.Newest.{newest_none}
+use Rattle.pli_nest.proofs.Lists.{nothing}
 use Rattle.pli_nest.specs.View.{frame_of, frames_of}
 use Rattle.pli_nest.proofs.limits.labels_ended.Goals as goal
-
-nothing : {X : Type 0} (xs : List X) → length xs ≡ 0 → xs ≡ []
-nothing [] e = refl
-nothing (x ∷ xs) e = absurd (omega (arith, e))
 
 pub returns-in-None : goal.returns-in-None
 returns-in-None c =

@@ -4,7 +4,7 @@ use Rattle.pli_nest.specs.View.{frames_of}
 use Rattle.pli_nest.proofs.limits.may_return.Given as goal
 
 abbrev pub invariant-loop-last : goal.invariant-loop-last
-invariant-loop-last l = N.may_return (frames_of l.around.now) ≡ N.may_return (frames_of l.initial.around.now)
+invariant-loop-last l = N.may_return (frames_of l.around) ≡ N.may_return (frames_of l.initial.around)
 
 abbrev pub decreases-loop-last : goal.decreases-loop-last
-decreases-loop-last l = length l.around.now
+decreases-loop-last l = length l.around

@@ -4,7 +4,7 @@ use Rattle.pli_nest.specs.View.{frames_of}
 use Rattle.pli_nest.proofs.limits.units.Given as goal
 
 abbrev pub invariant-loop-last : goal.invariant-loop-last
-invariant-loop-last l = (l.count + N.units (frames_of l.around.now) ≡ N.units (frames_of l.initial.around.now)) × (l.count + length l.around.now ≤ length l.initial.around.now)
+invariant-loop-last l = (l.count + N.units (frames_of l.around) ≡ N.units (frames_of l.initial.around)) × (l.count + length l.around ≤ length l.initial.around)
 
 abbrev pub decreases-loop-last : goal.decreases-loop-last
-decreases-loop-last l = length l.around.now
+decreases-loop-last l = length l.around

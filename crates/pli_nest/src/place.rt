@@ -1,0 +1,74 @@
+// Where a head may not stand, and what the limits say of one that may.
+
+ghost use Rattle.std.specs.Prelude.{◌≡◌, map};
+ghost use Rattle.std.specs.List.{list_any};
+ghost use Rattle.pli_meaning.specs.Keywords.{same_bytes};
+ghost use Rattle.pli_meaning.specs.Nesting as N;
+ghost use Rattle.pli_meaning.specs.View.{name_of, option_of};
+ghost use Rattle.pli_head.specs.View.{head_of};
+ghost use Rattle.pli_nest.specs.Steps as S;
+ghost use Rattle.pli_nest.specs.View.{frame_of, frames_of};
+
+use crate::frame::Frame;
+use crate::limits::{block_fault, fault_at, labels_ended, unit_fault};
+use pli_head::Head;
+use pli_meaning::expr::{Name, Place};
+use pli_meaning::fault::{SourceFault, SourceKind};
+
+/// The place of the first name, else another one.
+fn first_place(names: &[Name], other: Place) -> Place
+    ensures { result ≡ S.first_place (map name_of names.now) other }
+{
+    match names.split_first() {
+        Some((first, _)) => first.place,
+        None => other,
+    }
+}
+
+/// A frame whose unit is due, before which no label may stand.
+fn takes_no_label(frame: &Frame) -> bool
+    ensures { result ≡ S.takes_no_label (frame_of frame.now) }
+{
+    matches!(
+        frame,
+        Frame::ThenDue { .. } | Frame::ElseDue { .. } | Frame::UnitDue { .. }
+    )
+}
+
+/// Behind labels where none may stand: at the first of them; else at the first token behind them.
+#[tactic(auto, using(pli_phrase::proofs::Newest::newest_none, pli_phrase::proofs::Newest::newest_snoc, crate::proofs::Places::misplaced_here, crate::proofs::Places::misplaced_none))]
+pub fn misplaced(frames: &[Frame], labels: &[Name], at: Place) -> Place
+    ensures { result ≡ N.misplaced (frames_of frames.now) (map name_of labels.now) at }
+{
+    match frames.split_last() {
+        Some((last, _)) => {
+            if takes_no_label(last) {
+                first_place(labels, at)
+            } else {
+                at
+            }
+        }
+        None => at,
+    }
+}
+
+/// The names have the same letters.
+fn same_letters(a: &Name, b: &Name) -> bool
+    ensures { result ≡ same_bytes (name_of a.now).letters (name_of b.now).letters }
+{
+    a.letters == b.letters
+}
+
+/// The refusal of a name behind END that is no label of what it ends.
+fn end_fault(name: &Name, labels: &[Name]) -> Option<SourceFault>
+    ensures { S.list_of_option result ≡ S.end_fault (name_of name.now) (map name_of labels.now) }
+{
+    let mut rest = labels;
+    while let Some((first, behind)) = rest.split_first() {
+        if same_letters(first, name) {
+            return None;
+        }
+        rest = behind;
+    }
+    Some(fault_at(name.place, SourceKind::EndName))
+}
