@@ -2,6 +2,7 @@
 use Rattle.std.specs.Prelude.{List, [], ◌∷◌, ◌++◌, Bool, true, false, not, ◌&&◌, ◌||◌, Option, Some, None, if◌then◌else◌}
 use Rattle.pli_meaning.specs.declared.expr.Place.{Place}
 use Rattle.pli_meaning.specs.declared.fault.SourceFault.{SourceFault}
+use Rattle.pli_meaning.specs.Keywords.{same_bytes}
 use Rattle.pli_meaning.specs.Heads.{Head, ProcedureFront, Declaring, Simple, IfThen, Else, DoGroup, DoWhileGroup, DoCountGroup, BeginBlock, On, System, EndOf}
 use Rattle.pli_meaning.specs.Tree.{Name, Stmt, If, IfElse, OnUnit, Return, Revert, Item, Declare, Statement, Items, ItemThen, Tree}
 use Rattle.pli_meaning.specs.Nesting.{Nest, Opener, OfProcedure, OfGroup, OfWhile, OfCount, OfBegin, Frame, InList, ThenDue, ThenWhole, ElseDue, UnitDue, is_block, completed, closed, settled, with_frames, due, opened, whole, may_return, with_labelled_procedure, with_declaration, with_end, with_system, misplaced, nest_faults, end_name_faults, entered, items_of_list}
@@ -117,6 +118,11 @@ takes_no_label _ = false
 
 abbrev pub end_fault : Name → List Name → List SourceFault
 end_fault n labels = end_name_faults (Some n) labels
+
+-- the name has the letters of one of the labels
+unfoldable pub is_among : Name → List Name → Bool
+is_among n [] = false
+is_among n (l ∷ ls) = same_bytes l.letters n.letters || is_among n ls
 
 -- ---- ELSE
 

@@ -1,7 +1,6 @@
 // Where a head may not stand, and what the limits say of one that may.
 
 ghost use Rattle.std.specs.Prelude.{◌≡◌, map};
-ghost use Rattle.std.specs.List.{list_any};
 ghost use Rattle.pli_meaning.specs.Keywords.{same_bytes};
 ghost use Rattle.pli_meaning.specs.Nesting as N;
 ghost use Rattle.pli_meaning.specs.View.{name_of, option_of};
@@ -59,16 +58,46 @@ fn same_letters(a: &Name, b: &Name) -> bool
     a.letters == b.letters
 }
 
-/// The refusal of a name behind END that is no label of what it ends.
-fn end_fault(name: &Name, labels: &[Name]) -> Option<SourceFault>
-    ensures { S.list_of_option result ≡ S.end_fault (name_of name.now) (map name_of labels.now) }
+/// The name has the letters of one of the labels.
+#[tactic(auto, using(crate::proofs::Ends::among_none, crate::proofs::Ends::among_here, crate::proofs::Ends::among_behind))]
+fn is_among(name: &Name, labels: &[Name]) -> bool
+    ensures { result ≡ S.is_among (name_of name.now) (map name_of labels.now) }
 {
     let mut rest = labels;
     while let Some((first, behind)) = rest.split_first() {
         if same_letters(first, name) {
-            return None;
+            return true;
         }
         rest = behind;
     }
-    Some(fault_at(name.place, SourceKind::EndName))
+    false
+}
+
+/// The refusal of a name behind END that is no label of what it ends.
+#[tactic(auto, using(crate::proofs::Ends::end_fault_among))]
+fn end_fault(name: &Name, labels: &[Name]) -> Option<SourceFault>
+    ensures { S.list_of_option result ≡ S.end_fault (name_of name.now) (map name_of labels.now) }
+{
+    if is_among(name, labels) {
+        None
+    } else {
+        Some(fault_at(name.place, SourceKind::EndName))
+    }
+}
+
+/// What END breaks, with a name or without one.
+fn end_name_fault(name: &Option<Name>, labels: &[Name]) -> Option<SourceFault>
+    ensures { S.list_of_option result ≡ N.end_name_faults (option_of name_of name.now) (map name_of labels.now) }
+{
+    match name {
+        Some(name) => end_fault(name, labels),
+        None => None,
+    }
+}
+
+/// What END breaks where these are open.
+fn ended_fault(frames: &[Frame], name: &Option<Name>) -> Option<SourceFault>
+    ensures { S.list_of_option result ≡ N.end_name_faults (option_of name_of name.now) (N.labels_ended (frames_of frames.now)) }
+{
+    end_name_fault(name, labels_ended(frames))
 }

@@ -38,11 +38,7 @@ fn due(frames: Option<Vec<Frame>>, frame: Frame) -> Result<Option<Vec<Frame>>, A
 }
 
 /// IF or ON, whose unit is due.
-pub fn unit_due(
-    nest: Nest,
-    labels: Vec<Name>,
-    frame: Frame,
-) -> Result<Option<Nest>, AllocError>
+pub fn unit_due(nest: Nest, labels: Vec<Name>, frame: Frame) -> Result<Option<Nest>, AllocError>
     ensures { IfOk result (λ o. option_of nest_of o ≡ S.due_in (nest_of nest) (map name_of labels.items) (frame_of frame)) }
 {
     let begun = begun(nest.frames, labels, false)?;
