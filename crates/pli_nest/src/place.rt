@@ -101,3 +101,23 @@ fn ended_fault(frames: &[Frame], name: &Option<Name>) -> Option<SourceFault>
 {
     end_name_fault(name, labels_ended(frames))
 }
+
+/// The rule that a head which may stand breaks where these are open.
+pub fn nest_fault(frames: &[Frame], head: &Head) -> Option<SourceFault>
+    ensures { S.list_of_option result ≡ N.nest_faults (frames_of frames.now) (head_of head.now) }
+{
+    match head {
+        Head::ProcedureFront { place, .. } => block_fault(frames, *place),
+        Head::BeginBlock { place } => block_fault(frames, *place),
+        Head::IfThen { place, .. } => unit_fault(frames, *place),
+        Head::DoGroup { place } => unit_fault(frames, *place),
+        Head::DoWhileGroup { place, .. } => unit_fault(frames, *place),
+        Head::DoCountGroup { place, .. } => unit_fault(frames, *place),
+        Head::On { place, .. } => unit_fault(frames, *place),
+        Head::EndOf { name, .. } => ended_fault(frames, name),
+        Head::Declaring { .. } => None,
+        Head::Simple(_) => None,
+        Head::Else { .. } => None,
+        Head::System { .. } => None,
+    }
+}
