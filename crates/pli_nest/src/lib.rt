@@ -4,10 +4,14 @@
 mod begin;
 mod build;
 mod complete;
+mod ends;
+mod entering;
 mod frame;
 mod items;
 mod limits;
 mod place;
+mod settle;
 mod statement;
 
+pub use entering::{enter, misplaced, outermost, whole_tree};
 pub use frame::{Entry, Frame, Nest, Opener};
