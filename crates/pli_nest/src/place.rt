@@ -107,17 +107,15 @@ pub fn nest_fault(frames: &[Frame], head: &Head) -> Option<SourceFault>
     ensures { S.list_of_option result ≡ N.nest_faults (frames_of frames.now) (head_of head.now) }
 {
     match head {
-        Head::ProcedureFront { place, .. } => block_fault(frames, *place),
-        Head::BeginBlock { place } => block_fault(frames, *place),
-        Head::IfThen { place, .. } => unit_fault(frames, *place),
-        Head::DoGroup { place } => unit_fault(frames, *place),
-        Head::DoWhileGroup { place, .. } => unit_fault(frames, *place),
-        Head::DoCountGroup { place, .. } => unit_fault(frames, *place),
-        Head::On { place, .. } => unit_fault(frames, *place),
+        Head::ProcedureFront { place, .. } | Head::BeginBlock { place } => {
+            block_fault(frames, *place)
+        }
+        Head::IfThen { place, .. }
+        | Head::DoGroup { place }
+        | Head::DoWhileGroup { place, .. }
+        | Head::DoCountGroup { place, .. }
+        | Head::On { place, .. } => unit_fault(frames, *place),
         Head::EndOf { name, .. } => ended_fault(frames, name),
-        Head::Declaring { .. } => None,
-        Head::Simple(_) => None,
-        Head::Else { .. } => None,
-        Head::System { .. } => None,
+        Head::Declaring { .. } | Head::Simple(_) | Head::Else { .. } | Head::System { .. } => None,
     }
 }
