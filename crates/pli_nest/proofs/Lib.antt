@@ -1,6 +1,6 @@
 pub mod Steps
 pub mod Counts
-pub mod Ends
+pub mod EndNames
 pub mod Entries
 pub mod Lists
 pub mod Places
