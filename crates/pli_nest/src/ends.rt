@@ -13,7 +13,7 @@ use crate::complete::finished;
 use crate::frame::{Frame, Nest, Opener};
 use crate::items::{copied, items_in};
 use crate::limits::is_block;
-use crate::settle::pushed;
+use crate::settle::{innermost, pushed};
 use crate::statement::{open_list, with_frames};
 use pli_meaning::condition::Condition;
 use pli_meaning::expr::{Name, Place};
@@ -83,13 +83,11 @@ fn item_in_frame(
 }
 
 /// An item in the innermost list.
-#[tactic(auto, using(pli_phrase::proofs::Newest::newest_none, pli_phrase::proofs::Newest::newest_snoc))]
 fn with_item(frames: Vec<Frame>, item: Item) -> Result<Option<Vec<Frame>>, AllocError>
     ensures { IfOk result (λ o. option_of (λ v. frames_of v.items) o ≡ N.with_item (frames_of frames.items) (item_of item)) }
 {
-    let mut frames = frames;
-    match frames.pop() {
-        Some(frame) => item_in_frame(frame, frames, item),
+    match innermost(frames) {
+        Some((frame, around)) => item_in_frame(frame, around, item),
         None => Ok(None),
     }
 }
@@ -344,7 +342,6 @@ fn frame_ended(
 }
 
 /// END.
-#[tactic(auto, using(pli_phrase::proofs::Newest::newest_none, pli_phrase::proofs::Newest::newest_snoc))]
 pub fn with_end(
     alloc: Global,
     nest: Nest,
@@ -354,9 +351,8 @@ pub fn with_end(
     ensures { IfOk result (λ o. option_of nest_of o ≡ N.with_end (nest_of nest).outer (nest_of nest).frames (map name_of labels.items) place) }
 {
     let outer = nest.outer;
-    let mut frames = nest.frames;
-    match frames.pop() {
-        Some(frame) => frame_ended(alloc, frame, Nest { outer, frames }, labels, place),
+    match innermost(nest.frames) {
+        Some((frame, frames)) => frame_ended(alloc, frame, Nest { outer, frames }, labels, place),
         None => Ok(None),
     }
 }
@@ -391,13 +387,11 @@ fn system_in_frame(
 }
 
 /// SYSTEM without labels.
-#[tactic(auto, using(pli_phrase::proofs::Newest::newest_none, pli_phrase::proofs::Newest::newest_snoc))]
 fn system(alloc: Global, frames: Vec<Frame>) -> Result<Option<Vec<Frame>>, AllocError>
     ensures { IfOk result (λ o. option_of (λ v. frames_of v.items) o ≡ N.with_system (frames_of frames.items) []) }
 {
-    let mut frames = frames;
-    match frames.pop() {
-        Some(frame) => system_in_frame(alloc, frame, frames),
+    match innermost(frames) {
+        Some((frame, around)) => system_in_frame(alloc, frame, around),
         None => Ok(None),
     }
 }

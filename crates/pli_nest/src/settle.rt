@@ -1,6 +1,6 @@
 // What is open where no ELSE comes, and where one does.
 
-ghost use Rattle.std.specs.Prelude.{◌≡◌, IfOk, ◌∷◌, map};
+ghost use Rattle.std.specs.Prelude.{◌≡◌, IfOk, MatchOption, [], ◌∷◌, map};
 ghost use Rattle.pli_head.specs.View.{head_of};
 ghost use Rattle.pli_meaning.specs.Nesting as N;
 ghost use Rattle.pli_meaning.specs.View.{name_of};
@@ -120,4 +120,14 @@ pub fn takes_else(nest: &Nest, labels: &[Name], head: &Head) -> bool
     ensures { result ≡ S.takes_else (nest_of nest.now) (map name_of labels.now) (head_of head.now) }
 {
     is_else(head) && no_name(labels) && is_then_whole(&nest.frames)
+}
+
+/// The innermost frame, and those around it.
+#[tactic(auto, using(pli_phrase::proofs::Newest::newest_none, pli_phrase::proofs::Newest::newest_snoc))]
+pub fn innermost(frames: Vec<Frame>) -> Option<(Frame, Vec<Frame>)>
+    ensures { MatchOption result (frames_of frames.items ≡ []) (λ x. frames_of frames.items ≡ frame_of x.0 ∷ frames_of x.1.items) }
+{
+    let mut frames = frames;
+    let frame = frames.pop()?;
+    Some((frame, frames))
 }
