@@ -77,10 +77,7 @@ fn write_counting(out: &mut String, counting: &Counting) -> Result<(), Fail> {
 /// A statement that holds no other one.
 fn write_simple(out: &mut String, statement: &Stmt) -> Result<(), Fail> {
     match statement {
-        Stmt::Null { place } => {
-            let column = place.column;
-            write!(out, "null@{column}")?;
-        }
+        Stmt::Null { place } => write_opening(out, "null", place, None)?,
         Stmt::Assign {
             target,
             source,
@@ -100,13 +97,7 @@ fn write_simple(out: &mut String, statement: &Stmt) -> Result<(), Fail> {
             write!(out, "call@{column} ")?;
             write_name(out, procedure)?;
         }
-        Stmt::Return { value, place } => {
-            let column = place.column;
-            write!(out, "return@{column}")?;
-            if let Some(expression) = value {
-                write_front(out, expression)?;
-            }
-        }
+        Stmt::Return { value, place } => write_opening(out, "return", place, value.as_ref())?,
         Stmt::Goto { label, place } => {
             let column = place.column;
             write!(out, "goto@{column} ")?;
@@ -119,10 +110,7 @@ fn write_simple(out: &mut String, statement: &Stmt) -> Result<(), Fail> {
 
 fn write_other(out: &mut String, statement: &Stmt) -> Result<(), Fail> {
     match statement {
-        Stmt::Stop { place } => {
-            let column = place.column;
-            write!(out, "stop@{column}")?;
-        }
+        Stmt::Stop { place } => write_opening(out, "stop", place, None)?,
         Stmt::Signal { condition, place } => {
             let column = place.column;
             write!(out, "signal@{column} {condition:?}")?;
@@ -181,6 +169,25 @@ fn write_statement(out: &mut String, statement: &Stmt, depth: u32) -> Result<(),
             out.push_str(" else")?;
             write_unit(out, otherwise, depth)
         }
+        Stmt::OnUnit {
+            condition,
+            unit,
+            place,
+        } => {
+            let column = place.column;
+            write!(out, "on@{column} {condition:?}")?;
+            write_unit(out, unit, depth)
+        }
+        _ => write_group(out, statement, depth),
+    }
+}
+
+#[cycle(walk)]
+fn write_group(out: &mut String, statement: &Stmt, depth: u32) -> Result<(), Fail> {
+    let Some(depth) = depth.checked_sub(1) else {
+        return Ok(());
+    };
+    match statement {
         Stmt::Do { body, place } => {
             write_opening(out, "do", place, None)?;
             write_list(out, body, depth)
@@ -210,15 +217,6 @@ fn write_statement(out: &mut String, statement: &Stmt, depth: u32) -> Result<(),
             let column = place.column;
             write!(out, "on@{column} {condition:?} system")?;
             Ok(())
-        }
-        Stmt::OnUnit {
-            condition,
-            unit,
-            place,
-        } => {
-            let column = place.column;
-            write!(out, "on@{column} {condition:?}")?;
-            write_unit(out, unit, depth)
         }
         _ => write_simple(out, statement),
     }

@@ -14,3 +14,6 @@ decreases-write_item l = l.depth
 
 abbrev pub decreases-write_items : goal.decreases-write_items
 decreases-write_items l = l.depth
+
+abbrev pub decreases-write_group : goal.decreases-write_group
+decreases-write_group l = l.depth
