@@ -133,7 +133,7 @@ enum Answer {
     Stopped(Fault),
 }
 
-fn answer(alloc: Global, bytes: &[u8], bound: u64) -> Result<Answer, Fail> {
+fn come_to(alloc: Global, bytes: &[u8], bound: u64) -> Result<Answer, Fail> {
     match run_bytes(alloc, bytes, &[], 65536, bound) {
         Ok(Ok(_)) => Ok(Answer::Ran),
         Ok(Err(RunFault::Machine { fault, .. })) => Ok(Answer::Stopped(fault)),
@@ -175,7 +175,7 @@ fn the_smallest_images_stop_at_faults(rt: HostRuntime) -> Result<(), Fail> {
     let alloc = rt.alloc();
     for (word, fault) in [(ECALL, Fault::BadService), (EBREAK, Fault::Illegal)] {
         let bytes = bytes_of(alloc, &[MAGIC, 1, 0, 1, 0, 0, word])?;
-        assert_eq!(rt; answer(alloc, &bytes, 10_000)?, Answer::Stopped(fault));
+        assert_eq!(rt; come_to(alloc, &bytes, 10_000)?, Answer::Stopped(fault));
     }
     Ok(())
 }
@@ -193,7 +193,7 @@ fn damaged_images_are_refused(rt: HostRuntime) -> Result<(), Fail> {
             ImageFault::Length
         };
         assert_eq!(rt;
-            answer(alloc, &bytes[..cut], 10_000)?,
+            come_to(alloc, &bytes[..cut], 10_000)?,
             Answer::Refused(want),
             "at {cut}"
         );
@@ -201,7 +201,7 @@ fn damaged_images_are_refused(rt: HostRuntime) -> Result<(), Fail> {
     let mut longer = put_sum(alloc)?;
     longer.push(0)?;
     assert_eq!(rt;
-        answer(alloc, &longer, 10_000)?,
+        come_to(alloc, &longer, 10_000)?,
         Answer::Refused(ImageFault::Trailing)
     );
     let mut no_word = put_sum(alloc)?;
@@ -211,7 +211,7 @@ fn damaged_images_are_refused(rt: HostRuntime) -> Result<(), Fail> {
         }
     }
     assert_eq!(rt;
-        answer(alloc, &no_word, 10_000)?,
+        come_to(alloc, &no_word, 10_000)?,
         Answer::Refused(ImageFault::Word)
     );
     Ok(())
@@ -230,7 +230,7 @@ fn changed_images_come_to_an_end(rt: HostRuntime) -> Result<(), Fail> {
                 *byte = !*byte;
             }
         }
-        match answer(alloc, &other, 10_000)? {
+        match come_to(alloc, &other, 10_000)? {
             Answer::Refused(_) => refused = true,
             Answer::Ran | Answer::Stopped(_) => ran = true,
         }
@@ -291,7 +291,7 @@ fn random_images_come_to_an_end(rt: HostRuntime) -> Result<(), Fail> {
     let mut refused = false;
     let mut stopped = false;
     for _ in 0..1000 {
-        match answer(alloc, &random_image(alloc, &mut seed)?, 1000)? {
+        match come_to(alloc, &random_image(alloc, &mut seed)?, 1000)? {
             Answer::Refused(_) => refused = true,
             Answer::Ran => ran = true,
             Answer::Stopped(_) => stopped = true,
