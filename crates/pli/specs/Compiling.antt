@@ -1,5 +1,5 @@
 -- What is compiled, and what a run of a source is promised to show.
-use Rattle.std.specs.Prelude.{◌≡◌, ◌≢◌, ℕ, ◌+◌, ◌*◌, ◌≤◌, List, length, Some, Result, Ok, Err}
+use Rattle.std.specs.Prelude.{◌≡◌, ◌≢◌, ℕ, ◌+◌, ◌*◌, ◌≤◌, List, [], length, Some, Result, Ok, Err}
 use Rattle.pli_meaning.specs.declared.expr.Place.{Place}
 use Rattle.pli_meaning.specs.declared.fault.SourceFault.{SourceFault}
 use Rattle.pli_meaning.specs.declared.fault.SourceKind.TheVariants.{LeftOut, NoMain}
@@ -57,6 +57,10 @@ pub data IsRefused (s : List ℕ) (f : SourceFault) : Type 0 where
   no_tokens : Refuses s f.line f.column f.kind → IsRefused s f
   no_tree : (tokens : List Token) → Tokens s tokens → RefusesTokens s tokens f → IsRefused s f
   not_compiled : (tokens : List Token) (tree : T.Tree) → Tokens s tokens → Spells s tokens tree → IsUncompiled tree f → IsRefused s f
+
+-- the law: only a source without a token has no procedure
+abbrev pub ProcedureFound : Type 0
+ProcedureFound = (s : List ℕ) (tokens : List Token) (tree : T.Tree) → Spells s tokens tree → tree.procedures ≡ T.NoItem → tokens ≡ []
 
 -- the law: a source that is refused for anything but want of memory is accepted with no tokens and as no program
 abbrev pub RefusedNever : Type 0

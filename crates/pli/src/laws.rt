@@ -1,6 +1,6 @@
 // Laws of what isn't compiled: each function's contract is one law, and calling it does nothing.
 
-ghost use Rattle.pli.specs.Compiling.{RefusedNever};
+ghost use Rattle.pli.specs.Compiling.{ProcedureFound, RefusedNever};
 ghost use Rattle.pli.specs.Uncompiled.{TypedWhole, UncompiledNone};
 
 /// A program of one procedure or more in which nothing is uncompiled has a type.
@@ -16,4 +16,9 @@ pub fn typed_whole()
 /// A source that is refused, for anything but want of memory, is no program that is compiled.
 pub fn refused_never()
     ensures { RefusedNever }
+{}
+
+/// Only a source without a token spells a tree without a procedure.
+pub fn procedure_found()
+    ensures { ProcedureFound }
 {}
