@@ -15,6 +15,7 @@ pub mod World
 pub mod Codes
 pub mod Numbers
 pub mod Signatures
+pub mod Kinds
 pub mod Typed
 pub mod Storage
 pub mod Flow
