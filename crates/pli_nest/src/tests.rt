@@ -147,7 +147,7 @@ fn differing(alloc: Global, rows: &[(&str, &str)]) -> Result<String, Fail> {
 }
 
 #[test]
-fn heads_nest() -> Result<(), Fail> {
+fn heads_nest(rt: HostRuntime) -> Result<(), Fail> {
     let rows = [
         ("", "whole"),
         ("P", "open"),
@@ -173,12 +173,12 @@ fn heads_nest() -> Result<(), Fail> {
         ("Plx", "whole"),
     ];
     let wrong = differing(rt.alloc(), &rows)?;
-    assert_eq!(wrong.as_str(), "");
+    assert_eq!(rt; wrong.as_str(), "");
     Ok(())
 }
 
 #[test]
-fn heads_that_may_not_stand() -> Result<(), Fail> {
+fn heads_that_may_not_stand(rt: HostRuntime) -> Result<(), Fail> {
     let rows = [
         ("N", "misplaced at 1"),
         ("X", "misplaced at 1"),
@@ -204,16 +204,16 @@ fn heads_that_may_not_stand() -> Result<(), Fail> {
         ("POlSX", "misplaced at 3"),
     ];
     let wrong = differing(rt.alloc(), &rows)?;
-    assert_eq!(wrong.as_str(), "");
+    assert_eq!(rt; wrong.as_str(), "");
     Ok(())
 }
 
 #[test]
-fn place_of_the_first_label() -> Result<(), Fail> {
+fn place_of_the_first_label(rt: HostRuntime) -> Result<(), Fail> {
     let alloc = rt.alloc();
     let mut labels = Vec::new(alloc);
     labels.push(named(alloc, b"L", 3)?)?;
     let nest = outermost(alloc);
-    assert_eq!(misplaced(alloc, nest, labels, at(5))?, at(5));
+    assert_eq!(rt; misplaced(alloc, nest, labels, at(5))?, at(5));
     Ok(())
 }

@@ -17,8 +17,8 @@ fn write_name(out: &mut String, name: &Name) -> Result<(), Fail> {
     Ok(())
 }
 
-/// A number, or the first name of an expression that begins with one.
-fn write_front(out: &mut String, expression: &Expr) -> Result<(), Fail> {
+/// A number, or a name, with its arguments where it has any.
+fn write_operand(out: &mut String, expression: &Expr) -> Result<(), Fail> {
     match expression {
         Expr::Number { value, .. } => write!(out, " {value}")?,
         Expr::Refers(Reference::Plain(Qualified::Last { name, arguments })) => {
@@ -33,14 +33,29 @@ fn write_front(out: &mut String, expression: &Expr) -> Result<(), Fail> {
     Ok(())
 }
 
+/// An operand, or two with their operator.
+fn write_front(out: &mut String, expression: &Expr) -> Result<(), Fail> {
+    match expression {
+        Expr::Infix { op, left, right } => {
+            write_operand(out, left)?;
+            write!(out, " {op:?}")?;
+            write_operand(out, right)
+        }
+        _ => write_operand(out, expression),
+    }
+}
+
 fn write_target(out: &mut String, target: &Reference) -> Result<(), Fail> {
     match target {
-        Reference::Plain(Qualified::Last { name, .. }) => write_name(out, name),
-        _ => {
-            out.push_str("..")?;
-            Ok(())
+        Reference::Plain(Qualified::Last { name, arguments }) => {
+            write_name(out, name)?;
+            if let Arguments::Listed(_) = arguments {
+                out.push_str("()")?;
+            }
         }
+        _ => out.push_str("..")?,
     }
+    Ok(())
 }
 
 fn write_labels(out: &mut String, labels: &[Name]) -> Result<(), Fail> {
@@ -303,7 +318,7 @@ fn write_items(out: &mut String, items: &Items, depth: u32) -> Result<(), Fail> 
 }
 
 /// The tree of a source, or its refusal.
-fn shown(alloc: Global, source: &[u8]) -> Result<String, Fail> {
+pub fn shown(alloc: Global, source: &[u8]) -> Result<String, Fail> {
     let mut out = String::new(alloc);
     match tokens(alloc, source) {
         Ok(list) => match parse(alloc, source, &list) {
@@ -316,7 +331,7 @@ fn shown(alloc: Global, source: &[u8]) -> Result<String, Fail> {
 }
 
 /// The sources that don't come to what stands beside them, each with what it comes to.
-fn differing(alloc: Global, rows: &[(&str, &str)]) -> Result<String, Fail> {
+pub fn differing(alloc: Global, rows: &[(&str, &str)]) -> Result<String, Fail> {
     let mut wrong = String::new(alloc);
     for (source, want) in rows {
         let got = shown(alloc, source.as_bytes())?;
@@ -418,7 +433,7 @@ fn trees_of_statements(rt: HostRuntime) -> Result<(), Fail> {
             ),
             (
                 "t:proc;if=1;else=2;end=3;do=4;begin(1)=5;t:on=6;end;",
-                "T@1: procedure@3/0/0 {set@8 IF 1;set@13 ELSE 2;set@20 END 3;set@26 DO 4;set@31 BEGIN 5;T@42: set@44 ON 6;};",
+                "T@1: procedure@3/0/0 {set@8 IF 1;set@13 ELSE 2;set@20 END 3;set@26 DO 4;set@31 BEGIN() 5;T@42: set@44 ON 6;};",
             ),
             (
                 "t:proc;call u(1);go to l;goto l;stop;signal error;revert error;end;",
