@@ -18,7 +18,7 @@ const PLACES: &[&str] = &[
     "if %=% then %=%;else %=%;if %(%) then;else;",
     "%:do;end %;do while(%);end;do %=% to % by % while(%=%);end;",
     "%:q:begin;end %;call %;call %(%,%);goto %;go to %;",
-    "on error %=%;on error begin;end %;allocate %,% in(%) set(%);free %,%->% in(%);",
+    "on error %=%;on error begin;end;allocate %,% in(%) set(%);free %,%->% in(%);",
     "get edit(%,%(1))(f(3));put skip edit(%,% + 1)(a);",
     "%:proc returns(offset(%));return(%);end %;",
     "%:end %;",
