@@ -1,5 +1,5 @@
-// How fast sources are read: many statements, a long comment, and a block of many names; for their results, or for the
-// time with the argument `time`.
+// How fast sources are read: many statements one after the other, many inside one another, a long comment, and a block of
+// many names; for their results, or for the time with the argument `time`.
 #![tactic(auto)]
 
 mod names;
@@ -19,6 +19,15 @@ const END: &[u8] = b"END T;\n";
 
 const STATEMENTS: u32 = 1_660;
 
+const FRONT: &[u8] = b"IF A = 1 THEN DO;\n";
+
+const BACK: &[u8] = b"END;\n";
+
+/// An IF and its group are two of the 64 statements that may be inside one another.
+const DEPTH: u32 = 32;
+
+const NESTS: u32 = 33;
+
 const COMMENT: &[u8] = b"the quick brown fox\n";
 
 const COMMENTS: u32 = 52_000;
@@ -29,6 +38,27 @@ fn flat(alloc: Global, statements: u32) -> Result<Vec<u8>, AllocError> {
     let mut source = Vec::from_slice(alloc, HEAD)?;
     for _i in 0..statements {
         source.extend_from_slice(STATEMENT)?;
+    }
+    source.extend_from_slice(END)?;
+    Ok(source)
+}
+
+/// A statement as deep as one may stand, behind what the source holds.
+fn nest(source: &mut Vec<u8>) -> Result<(), AllocError> {
+    for _i in 0..DEPTH {
+        source.extend_from_slice(FRONT)?;
+    }
+    source.extend_from_slice(STATEMENT)?;
+    for _i in 0..DEPTH {
+        source.extend_from_slice(BACK)?;
+    }
+    Ok(())
+}
+
+fn nested(alloc: Global, nests: u32) -> Result<Vec<u8>, AllocError> {
+    let mut source = Vec::from_slice(alloc, HEAD)?;
+    for _i in 0..nests {
+        nest(&mut source)?;
     }
     source.extend_from_slice(END)?;
     Ok(source)
@@ -80,6 +110,8 @@ fn main(rt: HostRuntime) -> anyhow::Result<()> {
     for (name, source) in [
         ("half", flat(alloc, STATEMENTS / 2)?),
         ("statements", flat(alloc, STATEMENTS)?),
+        ("half nested", nested(alloc, NESTS / 2)?),
+        ("nested", nested(alloc, NESTS)?),
         ("comments", commented(alloc)?),
     ] {
         let count = read(alloc, &source)?;

@@ -1,15 +1,19 @@
 -- What is generated for a source keeps the promise, and what is refused is no program.
-use Rattle.std.proofs.Common.{◌≡◌, ◌≢◌, ℕ, zero, suc, ◌^◌, ◌<◌, List, [], ◌∷◌, Option, Some, None, Result, Ok, Err, inl, inr, refl, sym, ap, ◌∙◌, subst, arith}
-use Rattle.std.specs.Prelude.{IsSome}
+use Rattle.std.proofs.Common.{◌≡◌, ◌≢◌, ◌⊎◌, ℕ, zero, suc, ◌^◌, ◌<◌, List, [], ◌∷◌, Some, Result, Ok, Err, inl, inr, refl, sym, ap, ◌∙◌, subst, arith}
 use Rattle.pli_meaning.specs.declared.fault.SourceFault.{SourceFault}
 use Rattle.pli_meaning.specs.declared.token.Token.{Token}
 use Rattle.pli_meaning.specs.declared.instr.Instr.{Instr}
 use Rattle.pli_meaning.specs.Encoding.{Fits}
 use Rattle.pli_meaning.specs.Tokens.{Tokens}
 use Rattle.pli_meaning.specs.Tree as T
-use Rattle.pli_meaning.specs.FirstPath.{Spells}
+use Rattle.pli_meaning.specs.Parsing.{Spells, RefusesTokens}
+use Rattle.pli_meaning.specs.Refusals.{want_of_memory}
+use Rattle.pli_meaning.proofs.UniqueSource.{never_both, spelled_once}
+use Rattle.pli_lex.proofs.Unique.{one_list, not_both}
+use Rattle.pli_meaning.specs.declared.fault.SourceKind.{SourceKind}
+use Rattle.pli_meaning.specs.declared.fault.SourceKind.TheVariants as K
 use Rattle.pli_meaning.specs.Typed.{Program}
-use Rattle.pli_meaning.specs.Typing.{typed}
+use Rattle.pli_meaning.specs.Typing.{typed, typed_tree}
 use Rattle.pli_meaning.specs.Machine.{IsValidBase}
 use Rattle.pli_meaning.specs.Headline.{Keeps, run_of, shown_by}
 use Rattle.rv_isa.specs.declared.code.Code.{Code}
@@ -18,14 +22,13 @@ use Rattle.rv_machine.specs.Fitting as Fitting
 use Rattle.rv_codegen.specs.Code.{program_code}
 use Rattle.rv_codegen.specs.Promise.{AllFit, IsCodeOf, picture_of}
 use Rattle.rv_codegen.specs.Weights.{weight}
-use Rattle.pli_parse.specs.Answers as Parsing
-use Rattle.pli_parse.specs.Reading.{tree_from}
 use Rattle.pli_run.specs.declared.run.RunFault.{RunFault}
 use Rattle.pli_run.specs.declared.run.RunFault.TheVariants as F
 use Rattle.pli_run.specs.Running.{Tells, world_of}
 use Rattle.pli_meaning.specs.declared.outcome.Outcome.{Outcome}
-use Rattle.pli.specs.Compiling.{IsCompiled, IsRefused, out_of_memory, no_program, Answers}
-use Rattle.pli.proofs.FirstMeasures.{tree_weighs}
+use Rattle.pli.specs.Compiling.{IsCompiled, IsUncompiled, no_main, left_out, IsRefused, out_of_memory, no_tokens, no_tree, not_compiled, RefusedNever, Answers}
+use Rattle.pli.proofs.Measures.{tree_weighs, tokens_small}
+use Rattle.pli.proofs.Typed.{typed_whole}
 
 all_fit : (code : List Instr) → AllFit code → Fitting.AllFit code
 all_fit [] h k i e = absurd (cc e)
@@ -38,7 +41,7 @@ all_fit (x ∷ xs) h (suc k) i e = all_fit xs h.1 k i e
 pub compiled : {s : List ℕ} {ts : List Token} {tree : T.Tree} {made : Code} (p : Program) → Tokens s ts → Spells s ts tree → typed tree ≡ Some p → IsCodeOf p (weight tree) made → IsCompiled s (Images.image made.words.items made.statics.items made.entry made.table.items)
 compiled {ts = ts} {tree = tree} p read spelled is made =
     let short = made.short in
-    let small = tree_weighs spelled in
+    let small = tree_weighs spelled (tokens_small read) in
     record {
       tokens = ts;
       program = p;
@@ -54,21 +57,52 @@ compiled {ts = ts} {tree = tree} p read spelled is made =
       cheap = omega (arith, short, small);
     }
 
-pub program_of : (o : Option Program) → IsSome o → (p : Program) × (o ≡ Some p)
-program_of (Some p) h = (p, refl)
-program_of None h = absurd (cc h)
+-- ---- refusals
 
--- no refusal of a place is want of memory
-apart : (s : List ℕ) (ts : List Token) (at : Option Token) → Parsing.refusal s ts at ≡ Parsing.out_of_memory → ⊥
-apart s [] at e = absurd (cc (ap (λ (f : SourceFault). f.kind) e))
-apart s (t ∷ ts) (Some u) e = absurd (cc (ap (λ (f : SourceFault). f.kind) e))
-apart s (t ∷ ts) None e = absurd (cc (ap (λ (f : SourceFault). f.kind) e))
+memory_kind : (k : SourceKind) → (k ≡ K.Memory) ⊎ (k ≢ K.Memory)
+memory_kind K.Memory = inl refl
+memory_kind _ = inr (λ e. absurd (cc e))
 
-pub refused : {s : List ℕ} {ts : List Token} {fault : SourceFault} (read : Result T.Tree (Option Token)) → tree_from s ts ≡ read → Tokens s ts → Parsing.Refuses s ts fault read → (fault ≢ Parsing.out_of_memory → (tree : T.Tree) → Spells s ts tree → typed tree ≡ None) → IsRefused s fault
-refused (Ok tree) e t h k = out_of_memory h
-refused (Err at) e t (inl h) k = out_of_memory h
-refused {s = s} {ts = ts} (Err at) e t (inr h) k =
-    no_program ts at t e h (λ program a. absurd (cc (k (λ m. apart s ts at (sym h ∙ m)) a.tree a.spelled, a.typed_is)))
+zero_or_not : (n : ℕ) → (n ≡ 0) ⊎ (n ≢ 0)
+zero_or_not zero = inl refl
+zero_or_not (suc n) = inr (λ e. absurd (omega (arith, e)))
+
+want_of : (line column : ℕ) (kind : SourceKind) → (line ≡ 0) ⊎ (line ≢ 0) → (column ≡ 0) ⊎ (column ≢ 0) → (kind ≡ K.Memory) ⊎ (kind ≢ K.Memory) → (◌≡◌ {A = SourceFault} (record { line = line; column = column; kind = kind }) want_of_memory) ⊎ (◌≢◌ {A = SourceFault} (record { line = line; column = column; kind = kind }) want_of_memory)
+want_of line column kind (inl l) (inl c) (inl k) = inl (cc (l, c, k))
+want_of line column kind (inr l) c k = inr (λ e. l (ap (λ (f : SourceFault). f.line) e))
+want_of line column kind (inl l) (inr c) k = inr (λ e. c (ap (λ (f : SourceFault). f.column) e))
+want_of line column kind (inl l) (inl c) (inr k) = inr (λ e. k (ap (λ (f : SourceFault). f.kind) e))
+
+-- a refusal is want of memory, or it isn't
+memory_or_not : (f : SourceFault) → (f ≡ want_of_memory) ⊎ (f ≢ want_of_memory)
+memory_or_not f = want_of f.line f.column f.kind (zero_or_not f.line) (zero_or_not f.column) (memory_kind f.kind)
+
+pub tree_refused : {s : List ℕ} {ts : List Token} {f : SourceFault} → Tokens s ts → (f ≢ want_of_memory → RefusesTokens s ts f) → IsRefused s f
+tree_refused {s = s} {ts = ts} {f = f} read refused = by_memory (memory_or_not f)
+  where
+    by_memory : (f ≡ want_of_memory) ⊎ (f ≢ want_of_memory) → IsRefused s f
+    by_memory (inl e) = out_of_memory e
+    by_memory (inr n) = no_tree ts read (refused n)
+
+pub judged_refused : {s : List ℕ} {ts : List Token} {tree : T.Tree} {f : SourceFault} → Tokens s ts → Spells s ts tree → (f ≡ want_of_memory) ⊎ IsUncompiled tree f → IsRefused s f
+judged_refused read spelled (inl e) = out_of_memory e
+judged_refused {ts = ts} {tree = tree} read spelled (inr why) = not_compiled ts tree read spelled why
+
+-- what isn't compiled has no type
+untyped : {tree : T.Tree} {f : SourceFault} → IsUncompiled tree f → (p : Program) → typed tree ≡ Some p → ⊥
+untyped (no_main e is) p h = absurd (cc (ap typed_tree e, h))
+untyped {tree = tree} (left_out place e is) p h = absurd (cc (typed_whole tree p h, e))
+
+pub refused_never : RefusedNever
+refused_never s f (out_of_memory e) h tokens program a = h e
+refused_never s f (no_tokens refuses) h tokens program a = not_both s tokens f.line f.column f.kind a.read refuses
+refused_never s f (no_tree ts read refused) h tokens program a =
+    let e : ts ≡ tokens = one_list s ts tokens read a.read in
+    never_both a.spelled (subst (λ u. RefusesTokens s u f) e refused)
+refused_never s f (not_compiled ts tree read spelled why) h tokens program a =
+    let e : ts ≡ tokens = one_list s ts tokens read a.read in
+    let t : a.tree ≡ tree = spelled_once a.spelled (subst (λ u. Spells s u tree) e spelled) in
+    untyped why program (subst (λ u. typed u ≡ Some program) t a.typed_is)
 
 -- what a run of a compiled source's image tells
 pub answered : {s : List ℕ} {image : Images.Image} (c : IsCompiled s image) (base : ℕ) (input : List ℕ) (bound : ℕ) (r : Result Outcome RunFault) → IsValidBase base → bound < 2 ^ 64 → Tells (run_of c.picture base input) bound r → Answers s input bound r

@@ -5,7 +5,7 @@ pub mod Weighing
 pub mod WeighingNests
 pub mod Types
 pub mod Typed
+pub mod Based
 pub mod Measures
-pub mod FirstMeasures
 pub mod Compiled
 pub mod Filing

@@ -1,20 +1,22 @@
 -- What is compiled, and what a run of a source is promised to show.
-use Rattle.std.specs.Prelude.{◌≡◌, ℕ, ◌+◌, ◌*◌, ◌≤◌, List, length, Option, Some, Result, Ok, Err}
+use Rattle.std.specs.Prelude.{◌≡◌, ◌≢◌, ℕ, ◌+◌, ◌*◌, ◌≤◌, List, [], length, Some, Result, Ok, Err}
+use Rattle.pli_meaning.specs.declared.expr.Place.{Place}
 use Rattle.pli_meaning.specs.declared.fault.SourceFault.{SourceFault}
+use Rattle.pli_meaning.specs.declared.fault.SourceKind.TheVariants.{LeftOut, NoMain}
 use Rattle.pli_meaning.specs.declared.outcome.Outcome.{Outcome}
 use Rattle.pli_meaning.specs.declared.token.Token.{Token}
 use Rattle.pli_meaning.specs.Tokens.{Tokens, Refuses}
 use Rattle.pli_meaning.specs.Tree as T
-use Rattle.pli_meaning.specs.FirstPath.{Spells}
+use Rattle.pli_meaning.specs.Parsing.{Spells, RefusesTokens}
 use Rattle.pli_meaning.specs.Typed.{Program}
 use Rattle.pli_meaning.specs.Typing.{typed}
 use Rattle.pli_meaning.specs.World.{World}
 use Rattle.pli_meaning.specs.Machine.{IsValidBase}
 use Rattle.pli_meaning.specs.Headline.{Picture, Headline, Keeps, run_of, shown_by, step_cost}
 use Rattle.pli_meaning.specs.Images as Images
-use Rattle.pli_parse.specs.Answers as Parsing
-use Rattle.pli_parse.specs.Reading.{tree_from}
+use Rattle.pli_meaning.specs.Refusals.{fault, want_of_memory}
 use Rattle.pli_run.specs.Running.{IsPicture, world_of}
+use Rattle.pli.specs.Uncompiled.{uncompiled}
 use Rattle.pli_run.specs.declared.run.RunFault.{RunFault}
 use Rattle.pli_run.specs.declared.run.RunFault.TheVariants.{Memory, BadBase, Source, Machine}
 
@@ -39,12 +41,31 @@ pub record IsCompiled (s : List ℕ) (image : Images.Image) : Type 0 where
   pub keeps : Headline program picture
   pub cheap : step_cost picture ≤ most_step_cost (length tokens)
 
--- why a source isn't compiled: no memory; what its bytes are refused for; or its tokens begin no program, at the place
--- where reading them is stuck, and there is none that they spell
-pub data IsRefused (s : List ℕ) (fault : SourceFault) : Type 0 where
-  out_of_memory : fault ≡ Parsing.out_of_memory → IsRefused s fault
-  no_tokens : Refuses s fault.line fault.column fault.kind → IsRefused s fault
-  no_program : (tokens : List Token) (at : Option Token) → Tokens s tokens → tree_from s tokens ≡ Err at → fault ≡ Parsing.refusal s tokens at → ((program : Program) → ¬ Accepts s tokens program) → IsRefused s fault
+-- the place of a source's first byte
+abbrev pub first_place : Place
+first_place = record { line = 1; column = 1 }
+
+-- why a tree isn't compiled: it has no procedure, or the first head that isn't compiled yet is left out
+pub data IsUncompiled (tree : T.Tree) (f : SourceFault) : Type 0 where
+  no_main : tree.procedures ≡ T.NoItem → f ≡ fault first_place NoMain → IsUncompiled tree f
+  left_out : (place : Place) → uncompiled tree ≡ Some place → f ≡ fault place LeftOut → IsUncompiled tree f
+
+-- why a source isn't compiled: no memory; what its bytes are refused for; the least of the rules that its tokens break; or
+-- its tokens spell a tree that isn't compiled
+pub data IsRefused (s : List ℕ) (f : SourceFault) : Type 0 where
+  out_of_memory : f ≡ want_of_memory → IsRefused s f
+  no_tokens : Refuses s f.line f.column f.kind → IsRefused s f
+  no_tree : (tokens : List Token) → Tokens s tokens → RefusesTokens s tokens f → IsRefused s f
+  not_compiled : (tokens : List Token) (tree : T.Tree) → Tokens s tokens → Spells s tokens tree → IsUncompiled tree f → IsRefused s f
+
+-- the law: only a source without a token has no procedure
+abbrev pub ProcedureFound : Type 0
+ProcedureFound = (s : List ℕ) (tokens : List Token) (tree : T.Tree) → Spells s tokens tree → tree.procedures ≡ T.NoItem → tokens ≡ []
+
+-- the law: a source that is refused for anything but want of memory is accepted with no tokens and as no program
+abbrev pub RefusedNever : Type 0
+RefusedNever =
+    (s : List ℕ) (f : SourceFault) → IsRefused s f → f ≢ want_of_memory → (tokens : List Token) (program : Program) → ¬ Accepts s tokens program
 
 -- The world w is what a run of a source's image shows at a base, and at every other valid base. It is the program's at
 -- just its acts; an image still running has done at least the bound divided by the step cost acts; and a program that ends

@@ -87,29 +87,60 @@ fn a_bound_leaves_the_run_going(rt: HostRuntime) -> Result<(), Fail> {
     Ok(())
 }
 
+fn is_refused(rt: &HostRuntime, source: &str, column: u32, kind: SourceKind) -> bool {
+    let expected = SourceFault {
+        line: 1,
+        column,
+        kind,
+    };
+    match compile(rt.alloc(), source.as_bytes()) {
+        Ok(_) => false,
+        Err(fault) => fault == expected,
+    }
+}
+
 #[test]
-fn refusals_have_their_places(rt: HostRuntime) -> Result<(), Fail> {
-    let Err(fault) = compile(rt.alloc(), b"T: PROC OPTIONS(MAIN); STOP; END;") else {
-        return Err(Fail::from("a refusal"));
-    };
-    assert!(rt;
-        fault
-            == SourceFault {
-                line: 1,
-                column: 24,
-                kind: SourceKind::LeftOut
-            }
-    );
-    let Err(empty) = compile(rt.alloc(), b" /* nothing */ ") else {
-        return Err(Fail::from("a refusal"));
-    };
-    assert!(rt;
-        empty
-            == SourceFault {
-                line: 1,
-                column: 1,
-                kind: SourceKind::NoMain
-            }
-    );
-    Ok(())
+fn what_is_not_compiled_is_left_out_at_its_head(rt: HostRuntime) {
+    for (source, column) in [
+        ("T: PROC; END;", 4),
+        ("T: PROC OPTIONS(MAIN); STOP; END;", 24),
+        ("T: PROC OPTIONS(MAIN); A = 1; END;", 24),
+        ("T: PROC OPTIONS(MAIN); IF 1=1 THEN; STOP; END;", 24),
+        ("T: PROC OPTIONS(MAIN); L: PUT EDIT (1) (F(5)); END;", 27),
+        ("T: PROC OPTIONS(MAIN); ; DCL A FIXED BIN(31); END;", 24),
+        ("T: PROC OPTIONS(MAIN); DCL A FIXED BIN(15); END;", 24),
+        ("T: PROC OPTIONS(MAIN); L: END;", 27),
+        ("T: PROC OPTIONS(MAIN); END; U: PROC; END;", 32),
+    ] {
+        assert!(rt; is_refused(&rt, source, column, SourceKind::LeftOut));
+    }
+}
+
+#[test]
+fn rules_are_broken_before_forms_are_left_out(rt: HostRuntime) {
+    for (source, column, kind) in [
+        (" /* nothing */ ", 1, SourceKind::NoMain),
+        (
+            "T: PROC OPTIONS(MAIN); PUT EDIT (1) (F(5)) END;",
+            24,
+            SourceKind::Syntax,
+        ),
+        (
+            "T: PROC OPTIONS(MAIN); STOP; ELSE; END;",
+            30,
+            SourceKind::Syntax,
+        ),
+        (
+            "T: PROC OPTIONS(MAIN); STOP; END U;",
+            34,
+            SourceKind::EndName,
+        ),
+        (
+            "T: PROC OPTIONS(MAIN); STOP; OPEN; END;",
+            30,
+            SourceKind::LeftOut,
+        ),
+    ] {
+        assert!(rt; is_refused(&rt, source, column, kind));
+    }
 }

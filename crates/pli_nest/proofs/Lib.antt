@@ -1,5 +1,6 @@
 pub mod Steps
 pub mod Counts
+pub mod EndNames
+pub mod Entries
 pub mod Lists
 pub mod Places
-pub mod Ends

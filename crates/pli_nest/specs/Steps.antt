@@ -4,7 +4,7 @@ use Rattle.pli_meaning.specs.declared.expr.Place.{Place}
 use Rattle.pli_meaning.specs.declared.fault.SourceFault.{SourceFault}
 use Rattle.pli_meaning.specs.Keywords.{same_bytes}
 use Rattle.pli_meaning.specs.Heads.{Head, ProcedureFront, Declaring, Simple, IfThen, Else, DoGroup, DoWhileGroup, DoCountGroup, BeginBlock, On, System, EndOf}
-use Rattle.pli_meaning.specs.Tree.{Name, Stmt, If, IfElse, OnUnit, Return, Revert, Item, Declare, Statement, Items, ItemThen, Tree}
+use Rattle.pli_meaning.specs.Tree.{Name, ProcedureHead, Stmt, If, IfElse, OnUnit, Return, Revert, Item, Declare, Statement, Items, ItemThen, Tree}
 use Rattle.pli_meaning.specs.Nesting.{Nest, Opener, OfProcedure, OfGroup, OfWhile, OfCount, OfBegin, Frame, InList, ThenDue, ThenWhole, ElseDue, UnitDue, is_block, completed, closed, settled, with_frames, due, opened, whole, may_return, with_labelled_procedure, with_declaration, with_end, with_system, misplaced, nest_faults, end_name_faults, entered, items_of_list}
 
 -- ---- whole statements
@@ -138,6 +138,15 @@ is_then_whole _ = false
 abbrev pub takes_else : Nest → List Name → Head → Bool
 takes_else n labels h = is_else h && (no_name labels && is_then_whole n.frames)
 
+abbrev pub is_whole_if : Frame → Bool
+is_whole_if (ThenWhole e u p) = true
+is_whole_if _ = false
+
+-- an IF whose unit is whole, with its ELSE due
+abbrev pub with_else : Frame → Frame
+with_else (ThenWhole e u p) = ElseDue e u p
+with_else f = f
+
 abbrev pub else_due : List Frame → List Frame
 else_due (ThenWhole e u p ∷ fs) = ElseDue e u p ∷ fs
 else_due fs = fs
@@ -170,6 +179,21 @@ is_none (f ∷ fs) = false
 abbrev pub whole_tree : Nest → Option Tree
 whole_tree n = if is_none n.frames then Some (record { procedures = items_of_list n.outer }) else None
 
+-- ---- procedures
+
+-- a procedure or a begin block
+abbrev pub is_block_list : Frame → Bool
+is_block_list (InList o labels items pending) = is_block o
+is_block_list _ = false
+
+-- a procedure may stand in the outermost list of a block or outside of all
+abbrev pub takes_procedure : List Frame → Bool
+takes_procedure [] = true
+takes_procedure (f ∷ fs) = is_block_list f
+
+abbrev pub procedure_nest : List Item → List Frame → ProcedureHead → Nest
+procedure_nest outer fs h = record { outer = outer; frames = InList (OfProcedure h) h.labels [] [] ∷ fs }
+
 -- ---- what is counted
 
 -- a group, an IF or an on-unit
@@ -177,11 +201,6 @@ abbrev pub is_unit : Frame → Bool
 is_unit (InList o labels items pending) = if is_block o then false else true
 is_unit (ThenWhole e u p) = false
 is_unit _ = true
-
--- a procedure or a begin block
-abbrev pub is_block_list : Frame → Bool
-is_block_list (InList o labels items pending) = is_block o
-is_block_list _ = false
 
 -- whether RETURN may stand in the frame, where it is that which tells
 abbrev pub returning : Frame → Option Bool

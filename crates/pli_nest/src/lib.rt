@@ -4,10 +4,17 @@
 mod begin;
 mod build;
 mod complete;
+mod ends;
+mod entering;
 mod frame;
 mod items;
 mod limits;
-pub mod place;
-pub mod statement;
+mod place;
+mod settle;
+mod statement;
 
+pub use entering::{enter, misplaced, outermost, whole_tree};
 pub use frame::{Entry, Frame, Nest, Opener};
+
+#[cfg(test)]
+mod tests;

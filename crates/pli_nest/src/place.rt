@@ -59,7 +59,7 @@ fn same_letters(a: &Name, b: &Name) -> bool
 }
 
 /// The name has the letters of one of the labels.
-#[tactic(auto, using(crate::proofs::Ends::among_none, crate::proofs::Ends::among_here, crate::proofs::Ends::among_behind))]
+#[tactic(auto, using(crate::proofs::EndNames::among_none, crate::proofs::EndNames::among_here, crate::proofs::EndNames::among_behind))]
 fn is_among(name: &Name, labels: &[Name]) -> bool
     ensures { result ≡ S.is_among (name_of name.now) (map name_of labels.now) }
 {
@@ -74,7 +74,7 @@ fn is_among(name: &Name, labels: &[Name]) -> bool
 }
 
 /// The refusal of a name behind END that is no label of what it ends.
-#[tactic(auto, using(crate::proofs::Ends::end_fault_among))]
+#[tactic(auto, using(crate::proofs::EndNames::end_fault_among))]
 fn end_fault(name: &Name, labels: &[Name]) -> Option<SourceFault>
     ensures { S.list_of_option result ≡ S.end_fault (name_of name.now) (map name_of labels.now) }
 {

@@ -16,7 +16,7 @@ use pli_meaning::stmt::{Item, Stmt};
 use std::alloc::{AllocError, Global};
 
 /// A nest with these frames, where there are any.
-fn with_frames(outer: Vec<Item>, frames: Option<Vec<Frame>>) -> Option<Nest>
+pub fn with_frames(outer: Vec<Item>, frames: Option<Vec<Frame>>) -> Option<Nest>
     ensures { option_of nest_of result ≡ N.with_frames (map item_of outer.items) (option_of (λ v. frames_of v.items) frames) }
 {
     match frames {
@@ -46,7 +46,7 @@ pub fn unit_due(nest: Nest, labels: Vec<Name>, frame: Frame) -> Result<Option<Ne
 }
 
 /// A list that belongs to what these labels stand before.
-fn open_list(alloc: Global, opener: Opener, labels: Vec<Name>) -> Frame
+pub fn open_list(alloc: Global, opener: Opener, labels: Vec<Name>) -> Frame
     ensures { frame_of result ≡ N.InList (opener_of opener) (map name_of labels.items) [] [] }
 {
     Frame::List {

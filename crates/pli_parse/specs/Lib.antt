@@ -1,3 +1,3 @@
-pub mod Terminals
 pub mod Reading
 pub mod Answers
+pub mod View

@@ -3,7 +3,7 @@ use Rattle.std.specs.Prelude.{if◌then◌else◌}
 use Rattle.pli_meaning.specs.declared.fault.SourceKind.TheVariants.{EndName}
 use Rattle.pli_meaning.specs.Marks.{fault_at}
 use Rattle.pli_meaning.specs.View.{name_of}
-use Rattle.pli_nest.proofs.Ends.{end_fault_among}
+use Rattle.pli_nest.proofs.EndNames.{end_fault_among}
 use Rattle.pli_nest.proofs.place.end_fault.Goals as goal
 
 pub returns-then-is_among : goal.returns-then-is_among

@@ -1,7 +1,7 @@
 use Rattle.std.proofs.Common.{map, ap, sym, ◌∙◌}
 use Rattle.pli_meaning.specs.View.{name_of}
 use Rattle.pli_nest.specs.Steps.{is_among}
-use Rattle.pli_nest.proofs.Ends.{among_none}
+use Rattle.pli_nest.proofs.EndNames.{among_none}
 use Rattle.pli_nest.proofs.Lists.{nothing}
 use Rattle.pli_nest.proofs.place.is_among.Goals as goal
 
