@@ -22,7 +22,6 @@ pub mod Flow
 pub mod Meaning
 pub mod Typing
 pub mod Spells
-pub mod FirstPath
 pub mod Marks
 pub mod Attributes
 pub mod Formats
