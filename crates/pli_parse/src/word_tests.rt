@@ -64,8 +64,8 @@ fn names_if_then_else(rt: HostRuntime) -> Result<(), Fail> {
     let wrong = differing(
         rt.alloc(),
         &[(
-            "t:proc;if if=then then then=else;else else=if;end;",
-            "T@1: procedure@3/0/0 {if@8 IF Equal THEN [set@24 THEN ELSE] else [set@39 ELSE IF];};",
+            "T: PROC OPTIONS(MAIN);\nDCL (IF,THEN) FIXED BIN(31) INIT(1), ELSE FIXED BIN(31) INIT(5); IF IF = THEN THEN THEN = ELSE; ELSE ELSE = IF; PUT EDIT (THEN,ELSE) (F(2));\nEND T;",
+            "T@1: procedure@4/0/1 {declare@1/2;if@66 IF Equal THEN [set@84 THEN ELSE] else [set@102 ELSE IF];put@113/1;};",
         )],
     )?;
     assert_eq!(rt; wrong.as_str(), "");
@@ -78,8 +78,8 @@ fn assignment_or_if(rt: HostRuntime) -> Result<(), Fail> {
         rt.alloc(),
         &[
             (
-                "t:proc;if(a)=1 then put edit('y')(a);if(1)=7;end;",
-                "T@1: procedure@3/0/0 {if@8 .. Equal 1 [put@21/1];set@38 IF() 7;};",
+                "T: PROC OPTIONS(MAIN);\nDCL A FIXED BIN(31) INIT(1), IF(2) FIXED BIN(31); IF (A) = 1 THEN PUT EDIT ('Y') (A); IF (1) = 7; PUT EDIT (IF) (F(3));\nEND T;",
+                "T@1: procedure@4/0/1 {declare@1/2;if@51 .. Equal 1 [put@67/1];set@87 IF() 7;put@99/1;};",
             ),
             (
                 "t:proc;a=b=c;x=1;end;",
