@@ -44,100 +44,26 @@ pub fn converted_length(precision: u8) -> u16
     if precision <= 15 { 9 } else { 14 }
 }
 
-fn from_number(precision: u8, to: Kind) -> Option<Conversion>
-    ensures { option_of conversion_of result ≡ conversion (NumberKind precision) (kind_of to) }
-{
-    match to {
-        Kind::Number { .. } => Some(Conversion::Keeps),
-        Kind::Text => Some(Conversion::NumberToText { precision }),
-        Kind::Bit | Kind::Pointer | Kind::Offset { .. } | Kind::Null | Kind::Area => None,
-    }
-}
-
-fn from_text(to: Kind) -> Option<Conversion>
-    ensures { option_of conversion_of result ≡ conversion TextKind (kind_of to) }
-{
-    match to {
-        Kind::Number { .. } => Some(Conversion::TextToNumber),
-        Kind::Text => Some(Conversion::Keeps),
-        Kind::Bit => Some(Conversion::TextToBit),
-        Kind::Pointer | Kind::Offset { .. } | Kind::Null | Kind::Area => None,
-    }
-}
-
-fn from_bit(to: Kind) -> Option<Conversion>
-    ensures { option_of conversion_of result ≡ conversion BitKind (kind_of to) }
-{
-    match to {
-        Kind::Number { .. } => Some(Conversion::BitToNumber),
-        Kind::Text => Some(Conversion::BitToText),
-        Kind::Bit => Some(Conversion::Keeps),
-        Kind::Pointer | Kind::Offset { .. } | Kind::Null | Kind::Area => None,
-    }
-}
-
-fn from_pointer(to: Kind) -> Option<Conversion>
-    ensures { option_of conversion_of result ≡ conversion PointerKind (kind_of to) }
-{
-    match to {
-        Kind::Pointer => Some(Conversion::Keeps),
-        Kind::Offset { has_area } if has_area => Some(Conversion::PointerToOffset),
-        Kind::Number { .. }
-        | Kind::Text
-        | Kind::Bit
-        | Kind::Offset { .. }
-        | Kind::Null
-        | Kind::Area => None,
-    }
-}
-
-fn from_offset(has_area: bool, to: Kind) -> Option<Conversion>
-    ensures { option_of conversion_of result ≡ conversion (OffsetKind has_area) (kind_of to) }
-{
-    match to {
-        Kind::Pointer if has_area => Some(Conversion::OffsetToPointer),
-        Kind::Offset { .. } => Some(Conversion::Keeps),
-        Kind::Number { .. } | Kind::Text | Kind::Bit | Kind::Pointer | Kind::Null | Kind::Area => {
-            None
-        }
-    }
-}
-
-fn from_null(to: Kind) -> Option<Conversion>
-    ensures { option_of conversion_of result ≡ conversion NullKind (kind_of to) }
-{
-    match to {
-        Kind::Pointer | Kind::Offset { .. } => Some(Conversion::Keeps),
-        Kind::Number { .. } | Kind::Text | Kind::Bit | Kind::Null | Kind::Area => None,
-    }
-}
-
-fn from_area(to: Kind) -> Option<Conversion>
-    ensures { option_of conversion_of result ≡ conversion AreaKind (kind_of to) }
-{
-    match to {
-        Kind::Area => Some(Conversion::Keeps),
-        Kind::Number { .. }
-        | Kind::Text
-        | Kind::Bit
-        | Kind::Pointer
-        | Kind::Offset { .. }
-        | Kind::Null => None,
-    }
-}
-
 /// What a kind is converted to, by the definitions' function.
 fn converted(from: Kind, to: Kind) -> Option<Conversion>
     ensures { option_of conversion_of result ≡ conversion (kind_of from) (kind_of to) }
 {
-    match from {
-        Kind::Number { precision } => from_number(precision, to),
-        Kind::Text => from_text(to),
-        Kind::Bit => from_bit(to),
-        Kind::Pointer => from_pointer(to),
-        Kind::Offset { has_area } => from_offset(has_area, to),
-        Kind::Null => from_null(to),
-        Kind::Area => from_area(to),
+    match (from, to) {
+        (Kind::Number { .. }, Kind::Number { .. }) => Some(Conversion::Keeps),
+        (Kind::Number { precision }, Kind::Text) => Some(Conversion::NumberToText { precision }),
+        (Kind::Text, Kind::Number { .. }) => Some(Conversion::TextToNumber),
+        (Kind::Text, Kind::Text) => Some(Conversion::Keeps),
+        (Kind::Text, Kind::Bit) => Some(Conversion::TextToBit),
+        (Kind::Bit, Kind::Number { .. }) => Some(Conversion::BitToNumber),
+        (Kind::Bit, Kind::Text) => Some(Conversion::BitToText),
+        (Kind::Bit, Kind::Bit) => Some(Conversion::Keeps),
+        (Kind::Pointer, Kind::Pointer) => Some(Conversion::Keeps),
+        (Kind::Pointer, Kind::Offset { has_area: true }) => Some(Conversion::PointerToOffset),
+        (Kind::Offset { has_area: true }, Kind::Pointer) => Some(Conversion::OffsetToPointer),
+        (Kind::Offset { .. }, Kind::Offset { .. }) => Some(Conversion::Keeps),
+        (Kind::Null, Kind::Pointer | Kind::Offset { .. }) => Some(Conversion::Keeps),
+        (Kind::Area, Kind::Area) => Some(Conversion::Keeps),
+        _ => None,
     }
 }
 
