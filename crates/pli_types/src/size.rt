@@ -32,6 +32,7 @@ fn span(bounds: Bounds) -> u64
 }
 
 /// The elements of all dimensions together.
+#[tactic(auto, using(crate::proofs::Capping::next_dimension))]
 fn element_count(dimensions: &[Bounds]) -> u64
     ensures { result ≡ capped (element_count (map bounds_of dimensions.now)) }
 {
