@@ -33,7 +33,7 @@ impl LeafKind {
     }
 }
 
-/// The bounds of one dimension.
+/// The bounds of one dimension, both included. Their default only fills the unused places of a small vector.
 #[derive(Clone, Copy, PartialEq, Eq, Debug, Default)]
 pub struct Bounds {
     pub lower: i32,

@@ -1,4 +1,4 @@
-// How many bytes a generation counts for. What 64 bits can't count is taken as their greatest number.
+// How many bytes a generation counts for, up to the greatest number of 64 bits, which stands for all that is more.
 
 ghost use Rattle.std.specs.Prelude.{◌≡◌, map};
 ghost use Rattle.pli_meaning.specs.Signatures.{capped, data_size, element_count, footprint, leaf_bytes, leaf_size, leaves_size, rounded_up, span};
@@ -31,7 +31,7 @@ fn span(bounds: Bounds) -> u64
     u64::from(bounds.upper.abs_diff(bounds.lower)) + 1
 }
 
-/// The elements of all dimensions together.
+/// The elements of all dimensions together: 1 where there is none.
 #[tactic(auto, using(crate::proofs::Capping::next_dimension))]
 fn element_count(dimensions: &[Bounds]) -> u64
     ensures { result ≡ capped (element_count (map bounds_of dimensions.now)) }
@@ -51,7 +51,7 @@ fn leaf_size(leaf: &Leaf) -> u64
     bytes.saturating_mul(element_count(&leaf.bounds))
 }
 
-/// The data size in bytes: what the leaves take together, each element rounded up to 4.
+/// The data size in bytes: what the leaves take together, each element rounded up to 4; `u64::MAX` where it is more.
 pub fn size_of(signature: &Signature) -> u64
     ensures { result ≡ capped (data_size (signature_of signature.now)) }
 {
@@ -62,7 +62,8 @@ pub fn size_of(signature: &Signature) -> u64
     size
 }
 
-/// The bytes that a generation takes in an area, by its data size in bytes: 16, and the size rounded up to 16.
+/// The bytes that a generation takes in an area, by its data size in bytes: 16, and the size rounded up to 16; `u64::MAX`
+/// where they are more.
 pub fn footprint(size: u64) -> u64
     ensures { result ≡ capped (footprint size) }
 {
