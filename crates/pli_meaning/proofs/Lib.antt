@@ -4,6 +4,7 @@ mod HeadRows
 mod SourceRows
 mod MeaningRows
 mod DeclaringRows
+mod TypeRows
 pub mod Steps
 pub mod Growth
 pub mod Engine
@@ -19,3 +20,4 @@ pub mod UniqueHeads
 pub mod UniqueLeftOut
 pub mod UniqueSource
 pub mod ImageBytes
+pub mod Conversions

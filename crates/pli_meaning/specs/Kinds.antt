@@ -1,5 +1,5 @@
 -- The kinds of values, and which converts to which. (X3.53-1976, sections on conversion of data types, cut to these kinds.)
-use Rattle.std.specs.Prelude.{◌≡◌, ℕ, Bool, true, false, Option, Some, None}
+use Rattle.std.specs.Prelude.{ℕ, Bool, true, Option, Some, None, nat_le, if◌then◌else◌}
 
 -- what an expression's value is, or what a value is stored into. Lengths and capacities are no part of it: text of any
 -- length becomes text of any other, and so do areas. An OFFSET is known with its area, or is declared without one; NULL is
@@ -14,11 +14,15 @@ pub data Kind : Type 0 where
 pub data Conversion : Type 0 where
   -- nothing, but that it must fit: precision, length, capacity
   Keeps : Conversion
-  -- decimal, in 9 places for a precision up to 15, else in 14
+  -- decimal, at the right end of as many places as `converted_length` says
   NumberToText : (precision : ℕ) → Conversion
   TextToNumber BitToNumber BitToText TextToBit : Conversion
   -- as the built-ins POINTER and OFFSET do, with the declared area
   OffsetToPointer PointerToOffset : Conversion
+
+-- the length of the text that a number of a precision is converted to
+abbrev pub converted_length : ℕ → ℕ
+converted_length precision = if nat_le precision 15 then 9 else 14
 
 -- the pairs of kinds between which a value converts, and how: there are no others
 pub data Converts : Kind → Kind → Conversion → Type 0 where
@@ -37,6 +41,10 @@ pub data Converts : Kind → Kind → Conversion → Type 0 where
   null_pointer : Converts NullKind PointerKind Keeps
   null_offset : (b : Bool) → Converts NullKind (OffsetKind b) Keeps
   area_area : Converts AreaKind AreaKind Keeps
+
+-- no value of the one kind converts to the other: what needs it is a type mismatch
+abbrev pub NeverConverts : Kind → Kind → Type 0
+NeverConverts from to = (c : Conversion) → ¬ Converts from to c
 
 -- the one conversion of a pair, as a function to compute with
 abbrev pub conversion : Kind → Kind → Option Conversion

@@ -1,5 +1,5 @@
 -- Laws of the definitions, each of which a function of `src/laws.rt` carries.
-use Rattle.std.specs.Prelude.{◌≡◌, ◌≢◌, ℕ, suc, ◌≤◌, List, [], ◌++◌, Option, Some}
+use Rattle.std.specs.Prelude.{◌≡◌, ◌≢◌, ◌↔◌, ℕ, suc, ◌≤◌, List, [], ◌++◌, Option, Some}
 use Rattle.pli_meaning.specs.declared.fault.SourceFault.{SourceFault}
 use Rattle.pli_meaning.specs.declared.outcome.End.TheVariants.{Running}
 use Rattle.pli_meaning.specs.declared.image.ImageFault.{ImageFault}
@@ -11,6 +11,7 @@ use Rattle.pli_meaning.specs.Nesting.{outermost}
 use Rattle.pli_meaning.specs.Parsing.{Reads, Spells, RefusesTokens}
 use Rattle.pli_meaning.specs.Meaning.{meaning}
 use Rattle.pli_meaning.specs.Images.{Image, HasBytes, Keeps}
+use Rattle.pli_meaning.specs.Kinds.{Kind, Conversion, Converts, conversion}
 
 -- a token list spells at most one tree
 abbrev pub SpelledOnce : Type 0
@@ -55,3 +56,11 @@ pub record OneToOne : Type 0 where
 -- the bytes of an image keep all the rules for whose breach bytes are refused
 abbrev pub KeepsAll : Type 0
 KeepsAll = (i : Image) (b : List ℕ) (fault : ImageFault) → HasBytes i b → Keeps fault b
+
+-- a pair of kinds has at most one conversion
+abbrev pub ConvertedOnce : Type 0
+ConvertedOnce = (from to : Kind) (c d : Conversion) → Converts from to c → Converts from to d → c ≡ d
+
+-- the function gives a conversion just where the pair has it
+abbrev pub ConversionExact : Type 0
+ConversionExact = (from to : Kind) (c : Conversion) → (Converts from to c ↔ (conversion from to ≡ Some c))

@@ -3,7 +3,7 @@ use Rattle.std.specs.Prelude.{ℕ, ◌+◌, ◌^◌, ℤ, pos, List, [], ◌∷�
 use Rattle.pli_meaning.specs.declared.condition.Condition.{Condition}
 use Rattle.pli_meaning.specs.declared.condition.Condition.TheVariants as C
 use Rattle.pli_meaning.specs.World.{World, first_world}
-use Rattle.pli_meaning.specs.Signatures.{Signature, data_size, rounded_up}
+use Rattle.pli_meaning.specs.Signatures.{Signature, data_size, footprint}
 use Rattle.pli_meaning.specs.Typed.{Variable, Block}
 
 -- ---- names and generations
@@ -143,9 +143,9 @@ most_activations = 500
 abbrev pub most_automatic : ℕ
 most_automatic = 2 ^ 20
 
--- what a generation counts for: its data size rounded up to 16, and 16 more
+-- what a generation counts for: as much as it would take in an area
 abbrev pub automatic_size : Signature → ℕ
-automatic_size g = rounded_up 16 (data_size g) + 16
+automatic_size g = footprint (data_size g)
 
 abbrev pub counted_size : Living → ℕ
 counted_size l = elim l.storing [ AutomaticData ↦ automatic_size l.generation.signature | StaticData ↦ 0 ]

@@ -1,6 +1,6 @@
 // Laws of the definitions: each function's contract is one law, and calling it does nothing.
 
-ghost use Rattle.pli_meaning.specs.Laws.{SpelledOnce, ReadOnce, NeverBoth, MeaningGrows, EndedStays, ActsAllowed, OneToOne, KeepsAll};
+ghost use Rattle.pli_meaning.specs.Laws.{SpelledOnce, ReadOnce, NeverBoth, MeaningGrows, EndedStays, ActsAllowed, OneToOne, KeepsAll, ConvertedOnce, ConversionExact};
 ghost use Rattle.pli_meaning.specs.Refusals.{LeastFound};
 
 /// A token list spells at most one tree.
@@ -46,4 +46,15 @@ pub fn one_to_one()
 /// The bytes of an image keep every rule for whose breach bytes are refused.
 pub fn keeps_all()
     ensures { KeepsAll }
+{}
+
+/// A pair of kinds has at most one conversion.
+pub fn converted_once()
+    ensures { ConvertedOnce }
+{}
+
+/// The conversion that the definitions compute for a pair of kinds is the one that it has, and they compute none just
+/// where it has none.
+pub fn conversion_exact()
+    ensures { ConversionExact }
 {}
