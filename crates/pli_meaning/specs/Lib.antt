@@ -16,6 +16,7 @@ pub mod Codes
 pub mod Numbers
 pub mod Signatures
 pub mod Kinds
+pub mod TypedTree
 pub mod Typed
 pub mod Storage
 pub mod Flow
