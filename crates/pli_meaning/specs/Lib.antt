@@ -17,6 +17,8 @@ pub mod Numbers
 pub mod Signatures
 pub mod Kinds
 pub mod TypedTree
+pub mod Judging
+pub mod Variables
 pub mod Typed
 pub mod Storage
 pub mod Flow
