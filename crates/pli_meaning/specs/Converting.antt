@@ -252,6 +252,10 @@ operand_stored t o = do
 abbrev pub no_variable : Y.Variable
 no_variable = record { class = Y.AutomaticClass; block = 0; level = 0; index = 0 }
 
+-- stands in for a reference
+abbrev pub no_reference : Y.Reference
+no_reference = Y.Referring no_variable Y.NotLocated (record { first = 0; count = 0 }) Y.NoNumber
+
 abbrev pub area_or_mismatch : Bool → Place → Y.Reference → Judged Y.Variable
 area_or_mismatch true place r = fine (variable_of r)
 area_or_mismatch false place r = broken place TypeMismatch no_variable
