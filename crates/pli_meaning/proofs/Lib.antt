@@ -4,6 +4,11 @@ mod HeadRows
 mod SourceRows
 mod MeaningRows
 mod DeclaringRows
+pub mod RowTrees
+mod TypingRows
+mod BuiltinRows
+mod CallRows
+mod StatementRows
 pub mod Steps
 pub mod Growth
 pub mod Engine
