@@ -1,11 +1,12 @@
 -- Trees for worked rows: each token at its line and column.
-use Rattle.std.specs.Prelude.{ℕ, List, [], ◌∷◌, ◌++◌, Option, Some, None}
+use Rattle.std.specs.Prelude.{◌≡◌, ℕ, List, [], ◌∷◌, ◌++◌, map, Option, Some, None}
 use Rattle.pli_meaning.specs.declared.expr.Place.{Place}
 use Rattle.pli_meaning.specs.declared.token.Word.{Word}
 use Rattle.pli_meaning.specs.declared.token.Word.TheVariants as W
 use Rattle.pli_meaning.specs.declared.fault.SourceFault.{SourceFault}
-use Rattle.pli_meaning.specs.Tree.{Name, Expr, Reference, Plain, Last, Absent, Exprs, NoExpr, ExprThen, Extent, DeclaredName, Main, Item, Procedure, Items, NoItem, ItemThen, Tree}
-use Rattle.pli_meaning.specs.Refusals.{least}
+use Rattle.pli_meaning.specs.declared.fault.SourceKind.{SourceKind}
+use Rattle.pli_meaning.specs.Tree.{Name, Expr, Reference, Plain, Last, Absent, Exprs, NoExpr, ExprThen, Bound, Extent, Attribute, DeclaredName, DeclareItem, Allocation, Freeing, Formats, EditPair, Skip, ProcedureOption, Main, Stmt, DoCount, Item, Procedure, Items, NoItem, ItemThen, Tree}
+use Rattle.pli_meaning.specs.Refusals.{fault, least}
 use Rattle.pli_meaning.specs.Resolving.{typing_faults}
 
 abbrev pub at : ℕ → ℕ → Place
@@ -88,6 +89,16 @@ extent e = record { value = e; refer = None }
 abbrev pub unsubscripted : Name → DeclaredName
 unsubscripted n = record { name = n; dimensions = [] }
 
+abbrev pub dimensioned : Name → List Bound → DeclaredName
+dimensioned n bounds = record { name = n; dimensions = bounds }
+
+-- an extent that a member keeps, with the place of REFER
+abbrev pub kept_extent : Expr → Name → Place → Extent
+kept_extent e member place = record { value = e; refer = Some (record { member = member; place = place }) }
+
+abbrev pub declared : Option ℕ → List DeclaredName → List Bound → List Attribute → DeclareItem
+declared level names dimensions attributes = record { level = level; names = names; dimensions = dimensions; attributes = attributes }
+
 abbrev pub exprs : List Expr → Exprs
 exprs [] = NoExpr
 exprs (e ∷ es) = ExprThen e (exprs es)
@@ -96,14 +107,49 @@ abbrev pub items : List Item → Items
 items [] = NoItem
 items (i ∷ is) = ItemThen i (items is)
 
+abbrev pub procedure : List Name → Place → List Name → List ProcedureOption → List Item → Item
+procedure labels place parameters options body =
+    Procedure (record { labels = labels; place = place; parameters = parameters; options = options }) (items body)
+
+abbrev pub counted : Reference → Expr → Option Expr → Option Expr → Option Expr → Items → Place → Stmt
+counted variable start limit step condition body place =
+    DoCount (record { variable = variable; start = start; limit = limit; step = step; condition = condition }) body place
+
+abbrev pub allocating : Name → Option Reference → Option Reference → Allocation
+allocating variable area locator = record { variable = variable; area = area; locator = locator }
+
+abbrev pub freeing : Reference → Option Reference → Freeing
+freeing generation area = record { generation = generation; area = area }
+
+abbrev pub skipping : ℕ → Place → Option Skip
+skipping number place = Some (record { number = number; place = place })
+
+abbrev pub edited : List Expr → Formats → Place → EditPair
+edited es formats place = record { items = exprs es; formats = formats; place = place }
+
 -- T: PROC OPTIONS(MAIN); on the first line, and then these items
 abbrev pub program : List Item → List Item → Tree
-program declared rest =
-    record {
-      procedures =
-          items (Procedure (record { labels = name (84 ∷ []) (at 1 1) ∷ []; place = at 1 4; parameters = []; options = Main ∷ [] }) (items (declared ++ rest)) ∷ []);
-    }
+program declarations rest =
+    record { procedures = items (procedure (name (84 ∷ []) (at 1 1) ∷ []) (at 1 4) [] (Main ∷ []) (declarations ++ rest) ∷ []) }
 
 -- what refuses it
 unfoldable pub refusal : Tree → Option SourceFault
 refusal tree = least (typing_faults tree)
+
+-- items that stand on the third line behind those of a program, and what is said of them
+pub record Row : Type 0 where
+  pub rest : List Item
+  pub said : Option SourceFault
+
+abbrev pub row : List Item → Option SourceFault → Row
+row rest said = record { rest = rest; said = said }
+
+abbrev pub accepted : Option SourceFault
+accepted = None
+
+abbrev pub refused : ℕ → SourceKind → Option SourceFault
+refused column kind = Some (fault (at 3 column) kind)
+
+-- typing refuses the programs of these rows as they say
+abbrev pub AsSaid : (List Item → Tree) → List Row → Type 0
+AsSaid whole rows = map (λ r. refusal (whole r.rest)) rows ≡ map (λ r. r.said) rows

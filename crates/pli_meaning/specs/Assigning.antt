@@ -1,13 +1,13 @@
 -- Assignments, the variables of DO, and the items of GET and PUT.
 -- (X3.53-1976, chapter 6, the assignment and DO statements, and chapter 8, edit-directed input and output.)
-use Rattle.std.specs.Prelude.{ℕ, Bool, true, false, not, ◌&&◌, ◌||◌, ◌==◌, List, [], ◌∷◌, length, Option, Some, None, if◌then◌else◌}
+use Rattle.std.specs.Prelude.{Bool, true, false, not, ◌&&◌, ◌||◌, ◌==◌, List, [], ◌∷◌, length, Option, Some, None, if◌then◌else◌}
 use Rattle.std.specs.List.{list_any}
 use Rattle.pli_meaning.specs.declared.expr.Place.{Place}
 use Rattle.pli_meaning.specs.declared.fault.SourceKind.TheVariants.{TypeMismatch}
 use Rattle.pli_meaning.specs.Tree as T
 use Rattle.pli_meaning.specs.Judging.{Judged, fine, broken, demand, each, ◌>>=◌, ◌>>◌}
 use Rattle.pli_meaning.specs.TypedTree as Y
-use Rattle.pli_meaning.specs.Converting.{Designated, Referent, Designates, Gives, GivesEmptyArea, GivesNothing, NotKnown, Operand, element_type, scalar_type, is_area, is_aggregate, variable_of, no_reference, value_or_mismatch, value_with_type, operand_value, number_operand, stored_as, operand_stored}
+use Rattle.pli_meaning.specs.Converting.{Designated, Referent, Designates, Gives, GivesEmptyArea, GivesNothing, NotKnown, Operand, element_type, scalar_type, is_area, is_aggregate, variable_of, no_reference, operand_value, stored_as, operand_stored}
 
 -- ---- whole aggregates
 

@@ -1,14 +1,14 @@
 -- The built-in functions: the number and kinds of their arguments, and what they give.
 -- (X3.53-1976, chapter 9, built-in functions, cut to these.)
-use Rattle.std.specs.Prelude.{ℕ, ℤ, pos, negsuc, Bool, true, false, not, ◌&&◌, ◌==◌, nat_le, List, [], ◌∷◌, Option, Some, None, if◌then◌else◌}
+use Rattle.std.specs.Prelude.{ℕ, ℤ, pos, Bool, true, false, not, ◌&&◌, ◌==◌, nat_le, List, [], ◌∷◌, Option, Some, None, if◌then◌else◌}
 use Rattle.pli_meaning.specs.declared.expr.Place.{Place}
 use Rattle.pli_meaning.specs.declared.token.Word.{Word}
 use Rattle.pli_meaning.specs.declared.token.Word.TheVariants as W
-use Rattle.pli_meaning.specs.declared.fault.SourceKind.TheVariants.{TypeMismatch, BadArguments}
+use Rattle.pli_meaning.specs.declared.fault.SourceKind.TheVariants.{BadArguments}
 use Rattle.pli_meaning.specs.Declaring.{most_dimensions}
-use Rattle.pli_meaning.specs.Judging.{Judged, fine, broken, ◌>>=◌, ◌>>◌}
+use Rattle.pli_meaning.specs.Judging.{Judged, fine, broken, ◌>>=◌}
 use Rattle.pli_meaning.specs.TypedTree as Y
-use Rattle.pli_meaning.specs.Converting.{Designated, Referent, Designates, Gives, GivesEmptyArea, GivesNothing, NotKnown, Operand, operator_digits, is_area, variable_of, operand_value, wanted, no_reference, number_operand, text_operand, pointer_operand, area_operand}
+use Rattle.pli_meaning.specs.Converting.{Referent, Designates, Gives, GivesEmptyArea, NotKnown, Operand, operator_digits, is_area, variable_of, operand_value, wanted, no_reference, number_operand, text_operand, pointer_operand, area_operand}
 
 -- ---- answers
 

@@ -1,13 +1,13 @@
 -- References to parts of variables, and calls of procedures with their arguments.
 -- (X3.53-1976, chapter 6, procedure references and the passing of arguments.)
-use Rattle.std.specs.Prelude.{ℕ, ◌+◌, ◌/◌, ℤ, pos, negsuc, Bool, true, false, not, ◌&&◌, ◌==◌, List, [], ◌∷◌, ◌++◌, map, length, Option, Some, None, is_some, if◌then◌else◌, unwrap_or, slice_get}
+use Rattle.std.specs.Prelude.{ℕ, ◌/◌, ℤ, pos, negsuc, Bool, true, false, not, ◌&&◌, ◌==◌, List, [], ◌∷◌, ◌++◌, map, length, Option, Some, None, if◌then◌else◌, unwrap_or, slice_get}
 use Rattle.pli_meaning.specs.declared.expr.Place.{Place}
 use Rattle.pli_meaning.specs.declared.fault.SourceKind.TheVariants.{TypeMismatch, BadArguments}
 use Rattle.pli_meaning.specs.Keywords.{same_bytes}
 use Rattle.pli_meaning.specs.Tree.{Name, Attribute, ProcedureOption, Main, Recursive, Returns, ProcedureHead}
 use Rattle.pli_meaning.specs.Declarations.{Held, Block}
 use Rattle.pli_meaning.specs.Declaring.{is_below, same_place, stands_alone}
-use Rattle.pli_meaning.specs.Judging.{Judged, fine, broken, ◌>>=◌, ◌>>◌}
+use Rattle.pli_meaning.specs.Judging.{Judged, fine, broken, ◌>>=◌}
 use Rattle.pli_meaning.specs.TypedTree as Y
 use Rattle.pli_meaning.specs.Variables.{variable_meant, members_of, part_of, is_structure, from_place, with_members, leaves_of, all_dimensions, variables_in, declarations_at, index_where, level_of_block, type_of}
 use Rattle.pli_meaning.specs.Converting.{Designated, Referent, Designates, Gives, GivesEmptyArea, GivesNothing, NotKnown, Operand, scalar_type, value_with_type, stored_as}

@@ -1,6 +1,6 @@
 -- ALLOCATE and FREE, and the variables of level 1 with their extents, which every generation begins with.
 -- (X3.53-1976, chapter 7, the allocation of storage, and chapter 6, the ALLOCATE and FREE statements.)
-use Rattle.std.specs.Prelude.{ℕ, Bool, true, false, not, ◌&&◌, ◌||◌, ◌==◌, nat_le, List, [], ◌∷◌, ◌++◌, map, Option, Some, None, is_some, if◌then◌else◌}
+use Rattle.std.specs.Prelude.{ℕ, Bool, true, false, not, ◌&&◌, ◌||◌, ◌==◌, nat_le, List, [], ◌∷◌, ◌++◌, Option, Some, None, is_some, if◌then◌else◌}
 use Rattle.std.specs.List.{flat_map, list_any}
 use Rattle.pli_meaning.specs.declared.expr.Place.{Place}
 use Rattle.pli_meaning.specs.declared.scope.Found.{Found}
@@ -8,12 +8,12 @@ use Rattle.pli_meaning.specs.declared.scope.Found.TheVariants as F
 use Rattle.pli_meaning.specs.declared.fault.SourceKind.TheVariants.{Undeclared, Ambiguous, BadAttributes, TypeMismatch, BadExtent}
 use Rattle.pli_meaning.specs.Keywords.{same_bytes}
 use Rattle.pli_meaning.specs.Tree as T
-use Rattle.pli_meaning.specs.Declarations.{dimensions_of, Held, What, Variable', Label, ProcedureName, Block}
+use Rattle.pli_meaning.specs.Declarations.{dimensions_of, Held, What, Variable', Block}
 use Rattle.pli_meaning.specs.Declaring.{own_attributes, class_attributes, stands_alone, is_builtin, place_of_expr}
 use Rattle.pli_meaning.specs.Judging.{Scope, Judged, Mention, MentionsFunction, MentionsVariable, fine, broken, demand, each, ◌>>=◌, ◌>>◌}
 use Rattle.pli_meaning.specs.TypedTree as Y
 use Rattle.pli_meaning.specs.Variables.{WrittenExtent, written_extents, leaves_in, leaves_of, index_where, amount_of, check_of, variables_in, declarations_at, variable_meant, area_found, area_name, locator_name, name_means, what_at}
-use Rattle.pli_meaning.specs.Converting.{Designated, Referent, Designates, Gives, GivesEmptyArea, GivesNothing, NotKnown, Operand, scalar_type, number_operand, area_operand, no_reference, no_variable}
+use Rattle.pli_meaning.specs.Converting.{Designated, Referent, Designates, NotKnown, scalar_type, number_operand, area_operand, no_reference, no_variable}
 use Rattle.pli_meaning.specs.References.{locator_found, operand, referred}
 
 abbrev pub judged_if : {X Z : Type 0} → (X → Judged Z) → Option X → Judged (Option Z)

@@ -3,7 +3,7 @@
 -- A part that breaks a rule comes to something of its kind all the same, so that what stands around it is judged as if the
 -- rule were kept; only what has no kind is none. What stands in for a broken part is never seen: a source with a broken rule
 -- has no typed tree.
-use Rattle.std.specs.Prelude.{ℕ, Bool, true, false, List, [], ◌∷◌, ◌++◌, Option}
+use Rattle.std.specs.Prelude.{ℕ, Bool, true, false, List, [], ◌∷◌, ◌++◌}
 use Rattle.pli_meaning.specs.declared.expr.Place.{Place}
 use Rattle.pli_meaning.specs.declared.fault.SourceFault.{SourceFault}
 use Rattle.pli_meaning.specs.declared.fault.SourceKind.{SourceKind}

@@ -19,6 +19,15 @@ pub mod Kinds
 pub mod TypedTree
 pub mod Judging
 pub mod Variables
+pub mod Converting
+pub mod Calls
+pub mod Builtins
+pub mod Operators
+pub mod References
+pub mod Assigning
+pub mod Generations
+pub mod Directing
+pub mod Resolving
 pub mod Typed
 pub mod Storage
 pub mod Flow

@@ -8,7 +8,7 @@ use Rattle.pli_meaning.specs.declared.expr.InfixOp.{InfixOp}
 use Rattle.pli_meaning.specs.declared.expr.InfixOp.TheVariants as I
 use Rattle.pli_meaning.specs.declared.fault.SourceKind.TheVariants.{TypeMismatch}
 use Rattle.pli_meaning.specs.Numbers.{Positive, Negative}
-use Rattle.pli_meaning.specs.Judging.{Judged, fine, broken, ◌>>=◌, ◌>>◌}
+use Rattle.pli_meaning.specs.Judging.{Judged, fine, broken, ◌>>=◌}
 use Rattle.pli_meaning.specs.TypedTree as Y
 use Rattle.pli_meaning.specs.Converting.{Referent, Gives, Operand, operator_digits, operand_value, number_wanted, text_wanted, own_bit_wanted, pointer_wanted, offset_wanted, number_operand, text_operand, own_bit_operand}
 

@@ -1,12 +1,11 @@
 -- References and expressions: the declaration or built-in at each reference, the kind of each expression, and what they break.
 -- (X3.53-1976, chapter 4, the resolution of references, and chapter 9, expressions.)
-use Rattle.std.specs.Prelude.{ℕ, Bool, true, false, not, ◌&&◌, ◌||◌, ◌==◌, List, [], ◌∷◌, ◌++◌, map, length, Option, Some, None, is_some, if◌then◌else◌}
+use Rattle.std.specs.Prelude.{ℕ, Bool, true, false, not, ◌&&◌, ◌||◌, ◌==◌, List, [], ◌∷◌, map, length, Option, Some, None, is_some, if◌then◌else◌}
 use Rattle.std.specs.List.{flat_map, list_any}
 use Rattle.pli_meaning.specs.declared.expr.Place.{Place}
 use Rattle.pli_meaning.specs.declared.token.Word.{Word}
 use Rattle.pli_meaning.specs.declared.scope.Found.{Found}
 use Rattle.pli_meaning.specs.declared.scope.Found.TheVariants as F
-use Rattle.pli_meaning.specs.declared.scope.DeclarationAt.{DeclarationAt}
 use Rattle.pli_meaning.specs.declared.fault.SourceKind.TheVariants.{Undeclared, Ambiguous, BadAttributes, TypeMismatch, BadArguments}
 use Rattle.pli_meaning.specs.Tree as T
 use Rattle.pli_meaning.specs.Declarations.{Held, What, Variable', Label, ProcedureName, Block}
@@ -42,7 +41,7 @@ locator_if d false = None
 abbrev pub locator_in : List Block → ℕ → Option What → Option Designated
 locator_in blocks b (Some (Variable' h)) =
     locator_if (part_designated blocks b h Y.NotLocated false Y.NoNumber)
-        (not (has 11 (class_attributes h)) && locates (locator_value (part_designated blocks b h Y.NotLocated false Y.NoNumber)))
+    (not (has 11 (class_attributes h)) && locates (locator_value (part_designated blocks b h Y.NotLocated false Y.NoNumber)))
 locator_in blocks b _ = None
 
 abbrev pub locator_found : List Block → Found → Option Designated

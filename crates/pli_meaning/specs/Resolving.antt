@@ -50,7 +50,7 @@ block_with kind blocks number line body =
 abbrev pub simple_unit : Context → ℕ → Y.Stmt → Y.Block
 simple_unit c line s =
     Y.BlockOf (record { kind = Y.SimpleUnit; number = c.scope.block; level = level_of_block c.scope.blocks c.scope.block + 1; line = line })
-        (Y.StmtThen [] s (Y.EndOfList []))
+    (Y.StmtThen [] s (Y.EndOfList []))
 
 abbrev pub letters_of : List T.Name → List (List ℕ)
 letters_of labels = map (λ n. n.letters) labels

@@ -1,12 +1,12 @@
 -- The variables of level 1 that a block declares, with their leaves, and which part of them a declaration is.
 -- (X3.53-1976, chapter 4, the declarations of the concrete program, and chapter 7, storage.)
-use Rattle.std.specs.Prelude.{ℕ, ◌+◌, ◌-◌, ℤ, pos, Bool, true, false, not, ◌&&◌, ◌||◌, ◌==◌, nat_lt, List, [], ◌∷◌, ◌++◌, map, length, Option, Some, None, is_some, unwrap_or, if◌then◌else◌, slice_get}
+use Rattle.std.specs.Prelude.{ℕ, ◌+◌, ◌-◌, ℤ, pos, Bool, false, not, ◌&&◌, ◌==◌, nat_lt, List, [], ◌∷◌, ◌++◌, map, length, Option, Some, None, is_some, unwrap_or, if◌then◌else◌, slice_get}
 use Rattle.std.specs.List.{flat_map}
 use Rattle.pli_meaning.specs.declared.expr.Place.{Place}
 use Rattle.pli_meaning.specs.declared.scope.Found.{Found}
 use Rattle.pli_meaning.specs.declared.scope.Found.TheVariants as F
 use Rattle.pli_meaning.specs.declared.scope.DeclarationAt.{DeclarationAt}
-use Rattle.pli_meaning.specs.Tree.{Name, Expr, Extent, Bound, StarBound, Upper, Both, Size, StarSize, Given, InitialItem, Attribute, Character, Varying, Offset, Area, Based, Initial, ProcedureHead}
+use Rattle.pli_meaning.specs.Tree.{Name, Expr, Extent, Bound, StarBound, Upper, Both, Size, StarSize, Given, InitialItem, Attribute, Character, Offset, Area, Based, Initial, ProcedureHead}
 use Rattle.pli_meaning.specs.Declarations.{dimensions_of, Held, What, Variable', Label, ProcedureName, Declaration, Block}
 use Rattle.pli_meaning.specs.Means.{declarations_of, means}
 use Rattle.pli_meaning.specs.Declaring.{has, own_attributes, root_of, stands_alone, is_deeper, is_parameter, names_of, precision_of, precisions_in, constant, place_of_expr, same_place}
