@@ -9,6 +9,7 @@ mod TypingRows
 mod BuiltinRows
 mod CallRows
 mod StatementRows
+mod TypedRows
 pub mod Steps
 pub mod Growth
 pub mod Engine

@@ -5,7 +5,7 @@ use Rattle.pli_meaning.specs.declared.token.Word.{Word}
 use Rattle.pli_meaning.specs.declared.token.Word.TheVariants as W
 use Rattle.pli_meaning.specs.declared.fault.SourceFault.{SourceFault}
 use Rattle.pli_meaning.specs.declared.fault.SourceKind.{SourceKind}
-use Rattle.pli_meaning.specs.Tree.{Name, Expr, Reference, Plain, Last, Absent, Exprs, NoExpr, ExprThen, Bound, Extent, Attribute, DeclaredName, DeclareItem, Allocation, Freeing, Formats, EditPair, Skip, ProcedureOption, Main, Stmt, DoCount, Item, Procedure, Items, NoItem, ItemThen, Tree}
+use Rattle.pli_meaning.specs.Tree.{Name, Expr, Reference, Plain, Last, Absent, Exprs, NoExpr, ExprThen, Bound, Extent, InitialValue, InitialItem, Attribute, DeclaredName, DeclareItem, Allocation, Freeing, Formats, EditPair, Skip, ProcedureOption, Main, Stmt, DoCount, Item, Procedure, Items, NoItem, ItemThen, Tree}
 use Rattle.pli_meaning.specs.Refusals.{fault, least}
 use Rattle.pli_meaning.specs.Resolving.{typing_faults}
 
@@ -95,6 +95,9 @@ dimensioned n bounds = record { name = n; dimensions = bounds }
 -- an extent that a member keeps, with the place of REFER
 abbrev pub kept_extent : Expr → Name → Place → Extent
 kept_extent e member place = record { value = e; refer = Some (record { member = member; place = place }) }
+
+abbrev pub starting : ℕ → InitialValue → InitialItem
+starting repetition value = record { repetition = repetition; value = value }
 
 abbrev pub declared : Option ℕ → List DeclaredName → List Bound → List Attribute → DeclareItem
 declared level names dimensions attributes = record { level = level; names = names; dimensions = dimensions; attributes = attributes }
