@@ -5,11 +5,16 @@ mod SourceRows
 mod MeaningRows
 mod DeclaringRows
 pub mod RowTrees
-mod TypingRows
+mod ExpressionRows
+mod AssignmentRows
 mod BuiltinRows
+mod StorageRows
+mod LocatorRows
 mod CallRows
 mod StatementRows
+mod ExtentRows
 mod TypedRows
+mod Conversions
 pub mod Steps
 pub mod Growth
 pub mod Engine

@@ -41,17 +41,16 @@ demand false place kind = broken place kind tt
 abbrev pub mention : Mention → Judged (Unit {0})
 mention m = record { faults = []; mentions = m ∷ []; value = tt }
 
+-- what comes behind a judgement, with all that both break
+abbrev pub after : {X Z : Type 0} → Judged X → Judged Z → Judged Z
+after j k = record { faults = j.faults ++ k.faults; mentions = j.mentions ++ k.mentions; value = k.value }
+
 abbrev pub ◌>>=◌ : {X Z : Type 0} → Judged X → (X → Judged Z) → Judged Z
-j >>= next =
-    record {
-      faults = j.faults ++ (next j.value).faults;
-      mentions = j.mentions ++ (next j.value).mentions;
-      value = (next j.value).value;
-    }
+j >>= next = after j (next j.value)
 
 infixl 20 ◌>>=◌
 abbrev pub ◌>>◌ : {X Z : Type 0} → Judged X → Judged Z → Judged Z
-j >> k = j >>= λ x. k
+j >> k = after j k
 
 infixl 20 ◌>>◌
 abbrev pub each : {X Z : Type 0} → (X → Judged Z) → List X → Judged (List Z)

@@ -26,7 +26,7 @@ pub mod Operators
 pub mod References
 pub mod Assigning
 pub mod Generations
-pub mod Directing
+pub mod SingleStatements
 pub mod Resolving
 pub mod Typed
 pub mod Storage

@@ -11,7 +11,7 @@ use Rattle.pli_meaning.specs.TypedTree as Y
 use Rattle.pli_meaning.specs.Variables.{level_of_block}
 use Rattle.pli_meaning.specs.Calls.{result_type, returns_in, parameter_indices}
 use Rattle.pli_meaning.specs.Generations.{names_demanded, declared_variables}
-use Rattle.pli_meaning.specs.Directing.{Context, in_list, in_block, in_unit, labels_in, goto_statement, call_statement, return_statement, condition, turns, do_statement, assign_statement, allocate_statement, free_statement, get_statement, put_statement}
+use Rattle.pli_meaning.specs.SingleStatements.{Context, in_list, in_block, in_unit, labels_in, goto_statement, call_statement, return_statement, condition, turns, do_statement, assign_statement, allocate_statement, free_statement, get_statement, put_statement}
 
 -- ---- statements with the procedures inside them
 
@@ -27,17 +27,15 @@ done x = record { faults = []; procedures = []; value = x }
 abbrev pub of_judged : {X : Type 0} → Judged X → Resolved X
 of_judged j = record { faults = j.faults; procedures = []; value = j.value }
 
+abbrev pub behind : {X Z : Type 0} → Resolved X → Resolved Z → Resolved Z
+behind r k = record { faults = r.faults ++ k.faults; procedures = r.procedures ++ k.procedures; value = k.value }
+
 abbrev pub ◌>>=◌ : {X Z : Type 0} → Resolved X → (X → Resolved Z) → Resolved Z
-r >>= next =
-    record {
-      faults = r.faults ++ (next r.value).faults;
-      procedures = r.procedures ++ (next r.value).procedures;
-      value = (next r.value).value;
-    }
+r >>= next = behind r (next r.value)
 
 infixl 20 ◌>>=◌
 abbrev pub ◌>>◌ : {X Z : Type 0} → Resolved X → Resolved Z → Resolved Z
-r >> k = r >>= λ x. k
+r >> k = behind r k
 
 infixl 20 ◌>>◌
 -- ---- blocks
