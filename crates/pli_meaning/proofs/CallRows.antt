@@ -11,10 +11,10 @@ use Rattle.pli_meaning.specs.Resolving.{statement, statements, resolved}
 use Rattle.pli_meaning.proofs.RowTrees.{Row, row, AsSaid, accepted, refused, at, name, dimensioned, declared, procedure, plain, extent, unsubscripted, exprs, items, program, refusal, abs_at, null_at, empty_at}
 
 -- DCL (N,X) FIXED BIN(31), H FIXED BIN(15), C CHAR(5), P PTR, (L(3),Z(4)) FIXED BIN(31), 1 S, 2 Y FIXED BIN(31), 2 B
--- CHAR(3), 1 W, 2 K, 3 Y FIXED BIN(31), 3 B CHAR(3), R AREA(64), G AREA(70), V AREA(96); E: PROC(A); DCL A FIXED
--- BIN(31); END; F: PROC(A) RETURNS(FIXED BIN(31)); DCL A(*) FIXED BIN(31); RETURN(A(1)); END; I: PROC RETURNS(PTR);
--- RETURN(NULL); END; J: PROC(A); DCL A AREA(64); END; M: PROC(A); DCL 1 A, 2 Y FIXED BIN(31), 2 B CHAR(*); END; U:
--- PROC(A,B); DCL A(3) FIXED BIN(31), B CHAR(*); END;
+-- CHAR(3), 1 W, 2 K, 3 Y FIXED BIN(31), 3 B CHAR(3), 1 T(2), 2 Y FIXED BIN(31), 2 B CHAR(3), R AREA(64), G AREA(70), V
+-- AREA(96); E: PROC(A); DCL A FIXED BIN(31); END; F: PROC(A) RETURNS(FIXED BIN(31)); DCL A(*) FIXED BIN(31);
+-- RETURN(A(1)); END; I: PROC RETURNS(PTR); RETURN(NULL); END; J: PROC(A); DCL A AREA(64); END; M: PROC(A); DCL 1 A, 2 Y
+-- FIXED BIN(31), 2 B CHAR(*); END; U: PROC(A,B); DCL A(3) FIXED BIN(31), B CHAR(*); END;
 abbrev procedures : List Item → Tree
 procedures rest =
     program
@@ -37,33 +37,38 @@ procedures rest =
     ∷ declared (Some 3) (unsubscripted (name (89 ∷ []) (at 2 137)) ∷ []) [] (Fixed None ∷ Binary (Some 31) ∷ [])
     ∷ declared (Some 3) (unsubscripted (name (66 ∷ []) (at 2 156)) ∷ []) [] (Character (Some (Given (extent (Number 3
     (at 2 163))))) ∷ [])
-    ∷ declared None (unsubscripted (name (82 ∷ []) (at 2 167)) ∷ []) [] (Area (Some (Given (extent (Number 64 (at 2
-    174))))) ∷ [])
-    ∷ declared None (unsubscripted (name (71 ∷ []) (at 2 179)) ∷ []) [] (Area (Some (Given (extent (Number 70 (at 2
-    186))))) ∷ [])
-    ∷ declared None (unsubscripted (name (86 ∷ []) (at 2 191)) ∷ []) [] (Area (Some (Given (extent (Number 96 (at 2
-    198))))) ∷ []) ∷ []) (at 2 1) ∷
-    procedure ((name (69 ∷ []) (at 2 203)) ∷ []) (at 2 206) ((name (65 ∷ []) (at 2 211)) ∷ []) [] (Declare (declared
-    None (unsubscripted (name (65 ∷ []) (at 2 219)) ∷ []) [] (Fixed None ∷ Binary (Some 31) ∷ []) ∷ []) (at 2
-    215) ∷ []) ∷
-    procedure ((name (70 ∷ []) (at 2 241)) ∷ []) (at 2 244) ((name (65 ∷ []) (at 2 249)) ∷ []) (Returns (Fixed None ∷
-    Binary (Some 31) ∷ []) ∷ []) (Declare (declared None (dimensioned (name (65 ∷ []) (at 2 280)) (StarBound (at
-    2 282) ∷ []) ∷ []) [] (Fixed None ∷ Binary (Some 31) ∷ []) ∷ []) (at 2 276) ∷ Statement [] (Return (Some
-    (Refers (Plain (Last (name (65 ∷ []) (at 2 307)) (Listed (exprs ((Number 1 (at 2 309)) ∷ []))))))) (at 2
-    300)) ∷ []) ∷
-    procedure ((name (73 ∷ []) (at 2 319)) ∷ []) (at 2 322) [] (Returns (Pointer ∷ []) ∷ []) (Statement [] (Return
-    (Some (Refers (plain (null_at (at 2 348))))) (at 2 341)) ∷ []) ∷
-    procedure ((name (74 ∷ []) (at 2 360)) ∷ []) (at 2 363) ((name (65 ∷ []) (at 2 368)) ∷ []) [] (Declare (declared
-    None (unsubscripted (name (65 ∷ []) (at 2 376)) ∷ []) [] (Area (Some (Given (extent (Number 64 (at 2 383)))))
-    ∷ []) ∷ []) (at 2 372) ∷ []) ∷
-    procedure ((name (77 ∷ []) (at 2 393)) ∷ []) (at 2 396) ((name (65 ∷ []) (at 2 401)) ∷ []) [] (Declare (declared
-    (Some 1) (unsubscripted (name (65 ∷ []) (at 2 411)) ∷ []) [] [] ∷ declared (Some 2) (unsubscripted (name (89
-    ∷ []) (at 2 416)) ∷ []) [] (Fixed None ∷ Binary (Some 31) ∷ []) ∷ declared (Some 2) (unsubscripted (name (66
-    ∷ []) (at 2 435)) ∷ []) [] (Character (Some (StarSize (at 2 442))) ∷ []) ∷ []) (at 2 405) ∷ []) ∷
-    procedure ((name (85 ∷ []) (at 2 451)) ∷ []) (at 2 454) ((name (65 ∷ []) (at 2 459)) ∷ (name (66 ∷ []) (at 2
-    461)) ∷ []) [] (Declare (declared None (dimensioned (name (65 ∷ []) (at 2 469)) (Upper (extent (Number 3 (at
-    2 471))) ∷ []) ∷ []) [] (Fixed None ∷ Binary (Some 31) ∷ []) ∷ declared None (unsubscripted (name (66 ∷ [])
-    (at 2 489)) ∷ []) [] (Character (Some (StarSize (at 2 496))) ∷ []) ∷ []) (at 2 465) ∷ []) ∷
+    ∷ declared (Some 1) (dimensioned (name (84 ∷ []) (at 2 169)) (Upper (extent (Number 2 (at 2 171))) ∷ []) ∷ []) []
+    []
+    ∷ declared (Some 2) (unsubscripted (name (89 ∷ []) (at 2 177)) ∷ []) [] (Fixed None ∷ Binary (Some 31) ∷ [])
+    ∷ declared (Some 2) (unsubscripted (name (66 ∷ []) (at 2 196)) ∷ []) [] (Character (Some (Given (extent (Number 3
+    (at 2 203))))) ∷ [])
+    ∷ declared None (unsubscripted (name (82 ∷ []) (at 2 207)) ∷ []) [] (Area (Some (Given (extent (Number 64 (at 2
+    214))))) ∷ [])
+    ∷ declared None (unsubscripted (name (71 ∷ []) (at 2 219)) ∷ []) [] (Area (Some (Given (extent (Number 70 (at 2
+    226))))) ∷ [])
+    ∷ declared None (unsubscripted (name (86 ∷ []) (at 2 231)) ∷ []) [] (Area (Some (Given (extent (Number 96 (at 2
+    238))))) ∷ []) ∷ []) (at 2 1) ∷
+    procedure ((name (69 ∷ []) (at 2 243)) ∷ []) (at 2 246) ((name (65 ∷ []) (at 2 251)) ∷ []) [] (Declare (declared
+    None (unsubscripted (name (65 ∷ []) (at 2 259)) ∷ []) [] (Fixed None ∷ Binary (Some 31) ∷ []) ∷ []) (at 2
+    255) ∷ []) ∷
+    procedure ((name (70 ∷ []) (at 2 281)) ∷ []) (at 2 284) ((name (65 ∷ []) (at 2 289)) ∷ []) (Returns (Fixed None ∷
+    Binary (Some 31) ∷ []) ∷ []) (Declare (declared None (dimensioned (name (65 ∷ []) (at 2 320)) (StarBound (at
+    2 322) ∷ []) ∷ []) [] (Fixed None ∷ Binary (Some 31) ∷ []) ∷ []) (at 2 316) ∷ Statement [] (Return (Some
+    (Refers (Plain (Last (name (65 ∷ []) (at 2 347)) (Listed (exprs ((Number 1 (at 2 349)) ∷ []))))))) (at 2
+    340)) ∷ []) ∷
+    procedure ((name (73 ∷ []) (at 2 359)) ∷ []) (at 2 362) [] (Returns (Pointer ∷ []) ∷ []) (Statement [] (Return
+    (Some (Refers (plain (null_at (at 2 388))))) (at 2 381)) ∷ []) ∷
+    procedure ((name (74 ∷ []) (at 2 400)) ∷ []) (at 2 403) ((name (65 ∷ []) (at 2 408)) ∷ []) [] (Declare (declared
+    None (unsubscripted (name (65 ∷ []) (at 2 416)) ∷ []) [] (Area (Some (Given (extent (Number 64 (at 2 423)))))
+    ∷ []) ∷ []) (at 2 412) ∷ []) ∷
+    procedure ((name (77 ∷ []) (at 2 433)) ∷ []) (at 2 436) ((name (65 ∷ []) (at 2 441)) ∷ []) [] (Declare (declared
+    (Some 1) (unsubscripted (name (65 ∷ []) (at 2 451)) ∷ []) [] [] ∷ declared (Some 2) (unsubscripted (name (89
+    ∷ []) (at 2 456)) ∷ []) [] (Fixed None ∷ Binary (Some 31) ∷ []) ∷ declared (Some 2) (unsubscripted (name (66
+    ∷ []) (at 2 475)) ∷ []) [] (Character (Some (StarSize (at 2 482))) ∷ []) ∷ []) (at 2 445) ∷ []) ∷
+    procedure ((name (85 ∷ []) (at 2 491)) ∷ []) (at 2 494) ((name (65 ∷ []) (at 2 499)) ∷ (name (66 ∷ []) (at 2
+    501)) ∷ []) [] (Declare (declared None (dimensioned (name (65 ∷ []) (at 2 509)) (Upper (extent (Number 3 (at
+    2 511))) ∷ []) ∷ []) [] (Fixed None ∷ Binary (Some 31) ∷ []) ∷ declared None (unsubscripted (name (66 ∷ [])
+    (at 2 529)) ∷ []) [] (Character (Some (StarSize (at 2 536))) ∷ []) ∷ []) (at 2 505) ∷ []) ∷
     [])
     rest
 
@@ -143,6 +148,22 @@ arguments_of_procedures =
     -- CALL ABS(N);
     ∷ row (Statement [] (Call (abs_at (at 3 6)) (Listed (exprs ((Refers (plain (name (78 ∷ []) (at 3 10)))) ∷ []))) (at 3
     1)) ∷ []) (refused 1 K.TypeMismatch)
+    -- BEGIN; DCL 1 Q, 2 E FIXED; CALL E; END;
+    ∷ row (Statement [] (Begin (items (Declare (declared (Some 1) (unsubscripted (name (81 ∷ []) (at 3 14)) ∷ []) [] [] ∷
+    declared (Some 2) (unsubscripted (name (69 ∷ []) (at 3 19)) ∷ []) [] (Fixed None ∷ []) ∷ []) (at 3 8) ∷ Statement
+    [] (Call (name (69 ∷ []) (at 3 33)) Absent (at 3 28)) ∷ [])) (at 3 1)) ∷ []) (refused 28 K.TypeMismatch)
+    -- BEGIN; DCL 1 Q, 2 E FIXED, 1 T, 2 E FIXED; CALL E; END;
+    ∷ row (Statement [] (Begin (items (Declare (declared (Some 1) (unsubscripted (name (81 ∷ []) (at 3 14)) ∷ []) [] [] ∷
+    declared (Some 2) (unsubscripted (name (69 ∷ []) (at 3 19)) ∷ []) [] (Fixed None ∷ []) ∷ declared (Some 1)
+    (unsubscripted (name (84 ∷ []) (at 3 30)) ∷ []) [] [] ∷ declared (Some 2) (unsubscripted (name (69 ∷ []) (at 3
+    35)) ∷ []) [] (Fixed None ∷ []) ∷ []) (at 3 8) ∷ Statement [] (Call (name (69 ∷ []) (at 3 49)) Absent (at 3 44))
+    ∷ [])) (at 3 1)) ∷ []) (refused 49 K.Ambiguous)
+    -- CALL M(T(1));
+    ∷ row (Statement [] (Call (name (77 ∷ []) (at 3 6)) (Listed (exprs ((Refers (Plain (Last (name (84 ∷ []) (at 3 8))
+    (Listed (exprs ((Number 1 (at 3 10)) ∷ [])))))) ∷ []))) (at 3 1)) ∷ []) (refused 6 K.BadArguments)
+    -- CALL M(P -> S);
+    ∷ row (Statement [] (Call (name (77 ∷ []) (at 3 6)) (Listed (exprs ((Refers (Located (plain (name (80 ∷ []) (at 3
+    8))) (Last (name (83 ∷ []) (at 3 13)) Absent))) ∷ []))) (at 3 1)) ∷ []) (refused 13 K.TypeMismatch)
     ∷ []
 
 arguments_of_procedures_hold : AsSaid procedures arguments_of_procedures

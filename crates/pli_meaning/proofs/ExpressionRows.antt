@@ -92,6 +92,9 @@ ambiguous_names =
     -- N = L(X);
     ∷ row (Statement [] (Assign (plain (name (78 ∷ []) (at 3 1))) (Refers (Plain (Last (name (76 ∷ []) (at 3 5)) (Listed
     (exprs ((Refers (plain (name (88 ∷ []) (at 3 7)))) ∷ [])))))) (at 3 1)) ∷ []) (refused 7 K.Ambiguous)
+    -- N = P -> X;
+    ∷ row (Statement [] (Assign (plain (name (78 ∷ []) (at 3 1))) (Refers (Located (plain (name (80 ∷ []) (at 3 5)))
+    (Last (name (88 ∷ []) (at 3 10)) Absent))) (at 3 1)) ∷ []) (refused 10 K.Ambiguous)
     -- N = S.X;
     ∷ row (Statement [] (Assign (plain (name (78 ∷ []) (at 3 1))) (Refers (Plain (Of (name (83 ∷ []) (at 3 5)) Absent
     (Last (name (88 ∷ []) (at 3 7)) Absent)))) (at 3 1)) ∷ []) accepted

@@ -8,7 +8,7 @@ use Rattle.pli_meaning.specs.Declarations.{held, chain_after, declared_in, decla
 use Rattle.pli_meaning.specs.Means.{means_from}
 use Rattle.pli_meaning.specs.References.{expression, reference, qualified, arguments, expressions}
 use Rattle.pli_meaning.specs.Resolving.{statement, statements, resolved}
-use Rattle.pli_meaning.proofs.RowTrees.{Row, row, AsSaid, accepted, refused, at, name, dimensioned, declared, procedure, plain, extent, unsubscripted, exprs, items, program, refusal, abs_at, length_at, hbound_at, null_at, empty_at}
+use Rattle.pli_meaning.proofs.RowTrees.{Row, row, AsSaid, accepted, refused, at, name, dimensioned, declared, kept_extent, procedure, plain, extent, unsubscripted, exprs, items, program, refusal, abs_at, length_at, hbound_at, addr_at, null_at, empty_at}
 
 -- DCL (N,M) FIXED BIN(31), C CHAR(5), (P,Q) PTR, R AREA(64), O OFFSET(R), W OFFSET, L(3) PTR, 1 S, 2 X PTR, 1 K, 2 X
 -- PTR, D FIXED BIN(31) BASED(P); F: PROC(A) RETURNS(FIXED BIN(31)); DCL A FIXED BIN(31); RETURN(A); END;
@@ -118,6 +118,24 @@ extents =
     (Refers (Plain (Last (abs_at (at 3 14)) (Listed (exprs ((Infix I.Multiply (Number 0 (at 3 18)) (Refers (plain
     (name (73 ∷ []) (at 3 22))))) ∷ []))))))) ∷ []) ∷ []) [] (Fixed None ∷ []) ∷ declared None (unsubscripted (name
     (73 ∷ []) (at 3 33)) ∷ []) [] [] ∷ []) (at 3 8) ∷ [])) (at 3 1)) ∷ []) (refused 14 K.BadExtent)
+    -- BEGIN; DCL 1 A BASED, 2 H, 2 J(I REFER(H)), I; END;
+    ∷ row (Statement [] (Begin (items (Declare (declared (Some 1) (unsubscripted (name (65 ∷ []) (at 3 14)) ∷ []) []
+    (Based None ∷ []) ∷ declared (Some 2) (unsubscripted (name (72 ∷ []) (at 3 25)) ∷ []) [] [] ∷ declared (Some 2)
+    (dimensioned (name (74 ∷ []) (at 3 30)) (Upper (kept_extent (Refers (plain (name (73 ∷ []) (at 3 32)))) (name (72
+    ∷ []) (at 3 40)) (at 3 34)) ∷ []) ∷ []) [] [] ∷ declared None (unsubscripted (name (73 ∷ []) (at 3 45)) ∷ []) []
+    [] ∷ []) (at 3 8) ∷ [])) (at 3 1)) ∷ []) (refused 32 K.BadExtent)
+    -- BEGIN; DCL I, 1 A BASED, 2 H, 2 J(I REFER(H)); END;
+    ∷ row (Statement [] (Begin (items (Declare (declared None (unsubscripted (name (73 ∷ []) (at 3 12)) ∷ []) [] [] ∷
+    declared (Some 1) (unsubscripted (name (65 ∷ []) (at 3 17)) ∷ []) [] (Based None ∷ []) ∷ declared (Some 2)
+    (unsubscripted (name (72 ∷ []) (at 3 28)) ∷ []) [] [] ∷ declared (Some 2) (dimensioned (name (74 ∷ []) (at 3 33))
+    (Upper (kept_extent (Refers (plain (name (73 ∷ []) (at 3 35)))) (name (72 ∷ []) (at 3 43)) (at 3 37)) ∷ []) ∷ [])
+    [] [] ∷ []) (at 3 8) ∷ [])) (at 3 1)) ∷ []) accepted
+    -- BEGIN; DCL A CHAR(ADDR(I) = P), I; END;
+    ∷ row (Statement [] (Begin (items (Declare (declared None (unsubscripted (name (65 ∷ []) (at 3 12)) ∷ []) []
+    (Character (Some (Given (extent (Infix I.Equal (Refers (Plain (Last (addr_at (at 3 19)) (Listed (exprs ((Refers
+    (plain (name (73 ∷ []) (at 3 24)))) ∷ [])))))) (Refers (plain (name (80 ∷ []) (at 3 29)))))))) ∷ []) ∷ declared
+    None (unsubscripted (name (73 ∷ []) (at 3 33)) ∷ []) [] [] ∷ []) (at 3 8) ∷ [])) (at 3 1)) ∷ []) (refused 19
+    K.BadExtent)
     ∷ []
 
 extents_hold : AsSaid declared_inside extents

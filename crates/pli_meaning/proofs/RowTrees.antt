@@ -79,6 +79,10 @@ offset_at = spelled W.Offset (79 ∷ 70 ∷ 70 ∷ 83 ∷ 69 ∷ 84 ∷ [])
 abbrev pub oncode_at : Place → Name
 oncode_at = spelled W.Oncode (79 ∷ 78 ∷ 67 ∷ 79 ∷ 68 ∷ 69 ∷ [])
 
+-- a short form that is no built-in's name
+abbrev pub ptr_at : Place → Name
+ptr_at = spelled W.Ptr (80 ∷ 84 ∷ 82 ∷ [])
+
 -- a name alone as a reference
 abbrev pub plain : Name → Reference
 plain n = Plain (Last n Absent)

@@ -3,7 +3,7 @@ use Rattle.std.proofs.Common.{List, [], ◌∷◌, Some, None, refl}
 use Rattle.pli_meaning.specs.declared.condition.Condition.TheVariants as C
 use Rattle.pli_meaning.specs.declared.fault.SourceKind.TheVariants as K
 use Rattle.pli_meaning.specs.Tree as T
-use Rattle.pli_meaning.specs.Tree.{Number, Parenthesized, Refers, Plain, Last, Listed, Upper, Given, Fixed, Binary, Character, BitOne, Pointer, Area, NoFormat, FormatThen, FormatList, FixedFormat, TextFormat, Assign, Do, Begin, OnUnit, Goto, Get, Put, Item, Declare, Statement, EndLabels, Tree}
+use Rattle.pli_meaning.specs.Tree.{Number, Parenthesized, Refers, Plain, Last, Of, Absent, Listed, Upper, Given, Fixed, Binary, Character, BitOne, Pointer, Area, NoFormat, FormatThen, FormatList, FixedFormat, TextFormat, Assign, Do, Begin, OnUnit, Goto, Get, Put, Item, Declare, Statement, EndLabels, Tree}
 use Rattle.pli_meaning.specs.Refusals.{is_before, sooner, soonest}
 use Rattle.pli_meaning.specs.Declarations.{held, chain_after, declared_in, declared_in_item, declared_in_stmt, blocks_in, blocks_in_item, blocks_in_stmt, blocks_of}
 use Rattle.pli_meaning.specs.Means.{means_from}
@@ -12,7 +12,7 @@ use Rattle.pli_meaning.specs.Resolving.{statement, statements, resolved}
 use Rattle.pli_meaning.proofs.RowTrees.{Row, row, AsSaid, accepted, refused, at, name, dimensioned, declared, procedure, counted, skipping, edited, plain, extent, unsubscripted, exprs, items, program, refusal, abs_at, null_at}
 
 -- DCL N FIXED BIN(31), C CHAR(5), B BIT(1), P PTR, L(3) FIXED BIN(31), R AREA(64), 1 S, 2 X FIXED BIN(31), 2 Y PTR, 1 K,
--- 2 U CHAR(3), 2 V BIT(1);
+-- 2 U CHAR(3), 2 V BIT(1), 1 G(2), 2 W FIXED, 2 J(2) CHAR(3);
 abbrev controlled_by : List Item → Tree
 controlled_by rest =
     program
@@ -32,7 +32,12 @@ controlled_by rest =
     ∷ declared (Some 1) (unsubscripted (name (75 ∷ []) (at 2 117)) ∷ []) [] []
     ∷ declared (Some 2) (unsubscripted (name (85 ∷ []) (at 2 122)) ∷ []) [] (Character (Some (Given (extent (Number 3
     (at 2 129))))) ∷ [])
-    ∷ declared (Some 2) (unsubscripted (name (86 ∷ []) (at 2 135)) ∷ []) [] (BitOne ∷ []) ∷ []) (at 2 1) ∷
+    ∷ declared (Some 2) (unsubscripted (name (86 ∷ []) (at 2 135)) ∷ []) [] (BitOne ∷ [])
+    ∷ declared (Some 1) (dimensioned (name (71 ∷ []) (at 2 147)) (Upper (extent (Number 2 (at 2 149))) ∷ []) ∷ []) []
+    []
+    ∷ declared (Some 2) (unsubscripted (name (87 ∷ []) (at 2 155)) ∷ []) [] (Fixed None ∷ [])
+    ∷ declared (Some 2) (dimensioned (name (74 ∷ []) (at 2 166)) (Upper (extent (Number 2 (at 2 168))) ∷ []) ∷ []) []
+    (Character (Some (Given (extent (Number 3 (at 2 176))))) ∷ []) ∷ []) (at 2 1) ∷
     [])
     rest
 
@@ -73,6 +78,22 @@ labels =
     10)) ∷ []) ∷ Statement ((name (70 ∷ []) (at 3 23)) ∷ []) (T.Null (at 3 26)) ∷ []) accepted
     -- GOTO ABS;
     ∷ row (Statement [] (Goto (abs_at (at 3 6)) (at 3 1)) ∷ []) (refused 6 K.BadLabel)
+    -- E: ; BEGIN; DCL 1 I, 2 E FIXED; GOTO E; END;
+    ∷ row (Statement ((name (69 ∷ []) (at 3 1)) ∷ []) (T.Null (at 3 4)) ∷ Statement [] (Begin (items (Declare (declared
+    (Some 1) (unsubscripted (name (73 ∷ []) (at 3 19)) ∷ []) [] [] ∷ declared (Some 2) (unsubscripted (name (69 ∷ [])
+    (at 3 24)) ∷ []) [] (Fixed None ∷ []) ∷ []) (at 3 13) ∷ Statement [] (Goto (name (69 ∷ []) (at 3 38)) (at 3 33))
+    ∷ [])) (at 3 6)) ∷ []) (refused 38 K.BadLabel)
+    -- E: ; BEGIN; DCL 1 I, 2 F FIXED; GOTO E; END;
+    ∷ row (Statement ((name (69 ∷ []) (at 3 1)) ∷ []) (T.Null (at 3 4)) ∷ Statement [] (Begin (items (Declare (declared
+    (Some 1) (unsubscripted (name (73 ∷ []) (at 3 19)) ∷ []) [] [] ∷ declared (Some 2) (unsubscripted (name (70 ∷ [])
+    (at 3 24)) ∷ []) [] (Fixed None ∷ []) ∷ []) (at 3 13) ∷ Statement [] (Goto (name (69 ∷ []) (at 3 38)) (at 3 33))
+    ∷ [])) (at 3 6)) ∷ []) accepted
+    -- BEGIN; DCL 1 I, 2 E FIXED, 1 H, 2 E FIXED; GOTO E; END;
+    ∷ row (Statement [] (Begin (items (Declare (declared (Some 1) (unsubscripted (name (73 ∷ []) (at 3 14)) ∷ []) [] [] ∷
+    declared (Some 2) (unsubscripted (name (69 ∷ []) (at 3 19)) ∷ []) [] (Fixed None ∷ []) ∷ declared (Some 1)
+    (unsubscripted (name (72 ∷ []) (at 3 30)) ∷ []) [] [] ∷ declared (Some 2) (unsubscripted (name (69 ∷ []) (at 3
+    35)) ∷ []) [] (Fixed None ∷ []) ∷ []) (at 3 8) ∷ Statement [] (Goto (name (69 ∷ []) (at 3 49)) (at 3 44)) ∷ []))
+    (at 3 1)) ∷ []) (refused 49 K.BadLabel)
     ∷ []
 
 labels_hold : AsSaid controlled_by labels
@@ -185,6 +206,10 @@ items_of_put =
     -- PUT EDIT (K) (F(2));
     ∷ row (Statement [] (Put None (edited ((Refers (plain (name (75 ∷ []) (at 3 11)))) ∷ []) (FormatThen (at 3 15) 1
     (FixedFormat 2) NoFormat) (at 3 10) ∷ []) (at 3 1)) ∷ []) accepted
+    -- PUT EDIT (G(1),G) (A);
+    ∷ row (Statement [] (Put None (edited ((Refers (Plain (Last (name (71 ∷ []) (at 3 11)) (Listed (exprs ((Number 1 (at
+    3 13)) ∷ [])))))) ∷ (Refers (plain (name (71 ∷ []) (at 3 16)))) ∷ []) (FormatThen (at 3 20) 1 (TextFormat None)
+    NoFormat) (at 3 10) ∷ []) (at 3 1)) ∷ []) accepted
     -- PUT EDIT (N) (A) (E) (A);
     ∷ row (Statement [] (Put None (edited ((Refers (plain (name (78 ∷ []) (at 3 11)))) ∷ []) (FormatThen (at 3 15) 1
     (TextFormat None) NoFormat) (at 3 10) ∷ edited ((Refers (plain (name (69 ∷ []) (at 3 19)))) ∷ []) (FormatThen (at
@@ -230,6 +255,10 @@ items_of_get =
     -- GET EDIT (L) (F(2));
     ∷ row (Statement [] (Get None (edited ((Refers (plain (name (76 ∷ []) (at 3 11)))) ∷ []) (FormatThen (at 3 15) 1
     (FixedFormat 2) NoFormat) (at 3 10) ∷ []) (at 3 1)) ∷ []) accepted
+    -- GET EDIT (G(1),G.J) (F(2));
+    ∷ row (Statement [] (Get None (edited ((Refers (Plain (Last (name (71 ∷ []) (at 3 11)) (Listed (exprs ((Number 1 (at
+    3 13)) ∷ [])))))) ∷ (Refers (Plain (Of (name (71 ∷ []) (at 3 16)) Absent (Last (name (74 ∷ []) (at 3 18))
+    Absent)))) ∷ []) (FormatThen (at 3 22) 1 (FixedFormat 2) NoFormat) (at 3 10) ∷ []) (at 3 1)) ∷ []) accepted
     -- GET EDIT (ABS(N)) (F(1));
     ∷ row (Statement [] (Get None (edited ((Refers (Plain (Last (abs_at (at 3 11)) (Listed (exprs ((Refers (plain (name
     (78 ∷ []) (at 3 15)))) ∷ [])))))) ∷ []) (FormatThen (at 3 20) 1 (FixedFormat 1) NoFormat) (at 3 10) ∷ []) (at 3

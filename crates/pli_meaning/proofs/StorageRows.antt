@@ -2,13 +2,13 @@
 use Rattle.std.proofs.Common.{List, [], ◌∷◌, Some, None, refl}
 use Rattle.pli_meaning.specs.declared.expr.PrefixOp.TheVariants as P
 use Rattle.pli_meaning.specs.declared.fault.SourceKind.TheVariants as K
-use Rattle.pli_meaning.specs.Tree.{Number, Prefix, Refers, Plain, Last, Of, Absent, Listed, Upper, Both, Given, Fixed, Binary, Character, BitOne, Pointer, Offset, Area, Controlled, Based, Builtin, Assign, Item, Declare, Statement, Tree}
+use Rattle.pli_meaning.specs.Tree.{Number, Parenthesized, Prefix, Refers, Plain, Last, Of, Absent, Listed, Upper, Both, Given, Fixed, Binary, Character, BitOne, Pointer, Offset, Area, Controlled, Based, Builtin, Assign, Item, Declare, Statement, Tree}
 use Rattle.pli_meaning.specs.Refusals.{is_before, sooner, soonest}
 use Rattle.pli_meaning.specs.Declarations.{held, chain_after, declared_in, declared_in_item, declared_in_stmt, blocks_in, blocks_in_item, blocks_in_stmt, blocks_of}
 use Rattle.pli_meaning.specs.Means.{means_from}
 use Rattle.pli_meaning.specs.References.{expression, reference, qualified, arguments, expressions}
 use Rattle.pli_meaning.specs.Resolving.{statement, statements, resolved}
-use Rattle.pli_meaning.proofs.RowTrees.{Row, row, AsSaid, accepted, refused, at, name, dimensioned, declared, plain, extent, unsubscripted, exprs, program, refusal, sign_at, lbound_at, hbound_at, dim_at, allocation_at, addr_at, null_at, empty_at, pointer_at, offset_at, oncode_at}
+use Rattle.pli_meaning.proofs.RowTrees.{ptr_at, Row, row, AsSaid, accepted, refused, at, name, dimensioned, declared, plain, extent, unsubscripted, exprs, program, refusal, sign_at, lbound_at, hbound_at, dim_at, allocation_at, addr_at, null_at, empty_at, pointer_at, offset_at, oncode_at}
 
 -- DCL (N,M) FIXED BIN(31), C CHAR(5), B BIT(1), P PTR, R AREA(64), O OFFSET(R), W OFFSET, L(3) FIXED BIN(31), K(2,0:4)
 -- CHAR(2), X FIXED BIN(31) CTL, Y FIXED BIN(31) BASED(P), 1 S, 2 Z FIXED BIN(31), SIGN BUILTIN;
@@ -122,6 +122,10 @@ generations_and_names =
     ∷ row (Statement [] (Assign (plain (name (80 ∷ []) (at 3 1))) (Refers (Plain (Last (addr_at (at 3 5)) (Listed (exprs
     ((Refers (Plain (Last (name (76 ∷ []) (at 3 10)) (Listed (exprs ((Number 1 (at 3 12)) ∷ [])))))) ∷ [])))))) (at 3
     1)) ∷ []) (refused 5 K.BadArguments)
+    -- P = ADDR((N));
+    ∷ row (Statement [] (Assign (plain (name (80 ∷ []) (at 3 1))) (Refers (Plain (Last (addr_at (at 3 5)) (Listed (exprs
+    ((Parenthesized (Refers (plain (name (78 ∷ []) (at 3 11)))) (at 3 10)) ∷ [])))))) (at 3 1)) ∷ []) (refused 5
+    K.BadArguments)
     -- P = ADDR(R);
     ∷ row (Statement [] (Assign (plain (name (80 ∷ []) (at 3 1))) (Refers (Plain (Last (addr_at (at 3 5)) (Listed (exprs
     ((Refers (plain (name (82 ∷ []) (at 3 10)))) ∷ [])))))) (at 3 1)) ∷ []) (refused 5 K.BadArguments)
@@ -209,6 +213,10 @@ locators =
     ∷ row (Statement [] (Assign (plain (name (79 ∷ []) (at 3 1))) (Refers (Plain (Last (offset_at (at 3 5)) (Listed
     (exprs ((Refers (plain (name (80 ∷ []) (at 3 12)))) ∷ (Refers (plain (name (80 ∷ []) (at 3 14)))) ∷ [])))))) (at
     3 1)) ∷ []) (refused 14 K.TypeMismatch)
+    -- P = PTR(O,R);
+    ∷ row (Statement [] (Assign (plain (name (80 ∷ []) (at 3 1))) (Refers (Plain (Last (ptr_at (at 3 5)) (Listed (exprs
+    ((Refers (plain (name (79 ∷ []) (at 3 9)))) ∷ (Refers (plain (name (82 ∷ []) (at 3 11)))) ∷ [])))))) (at 3 1)) ∷
+    []) (refused 5 K.Undeclared)
     -- N = ONCODE;
     ∷ row (Statement [] (Assign (plain (name (78 ∷ []) (at 3 1))) (Refers (plain (oncode_at (at 3 5)))) (at 3 1)) ∷ [])
     accepted
