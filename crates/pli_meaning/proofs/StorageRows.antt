@@ -64,6 +64,9 @@ bounds_of_arrays =
     ∷ row (Statement [] (Assign (plain (name (78 ∷ []) (at 3 1))) (Refers (Plain (Last (hbound_at (at 3 5)) (Listed
     (exprs ((Refers (plain (name (75 ∷ []) (at 3 12)))) ∷ (Refers (plain (name (78 ∷ []) (at 3 14)))) ∷ [])))))) (at
     3 1)) ∷ []) (refused 5 K.BadArguments)
+    -- N = HBOUND(K);
+    ∷ row (Statement [] (Assign (plain (name (78 ∷ []) (at 3 1))) (Refers (Plain (Last (hbound_at (at 3 5)) (Listed
+    (exprs ((Refers (plain (name (75 ∷ []) (at 3 12)))) ∷ [])))))) (at 3 1)) ∷ []) (refused 5 K.BadArguments)
     -- N = HBOUND(L(1),1);
     ∷ row (Statement [] (Assign (plain (name (78 ∷ []) (at 3 1))) (Refers (Plain (Last (hbound_at (at 3 5)) (Listed
     (exprs ((Refers (Plain (Last (name (76 ∷ []) (at 3 12)) (Listed (exprs ((Number 1 (at 3 14)) ∷ [])))))) ∷ (Number

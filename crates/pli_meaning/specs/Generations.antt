@@ -24,7 +24,7 @@ judged_if judge (Some x) = do
 
 -- ---- the names in attributes
 
--- what is broken where a name must mean something of one kind: none in scope has another kind than a built-in's name has
+-- a name that must mean something of one kind; a built-in has another
 abbrev pub name_demanded : Found → Bool → T.Name → Judged (Unit {0})
 name_demanded (F.One at) is_one name = demand is_one name.place TypeMismatch
 name_demanded F.None is_one name = broken name.place (if is_builtin name.word then TypeMismatch else Undeclared) tt
