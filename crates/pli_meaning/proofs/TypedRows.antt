@@ -3,7 +3,7 @@ use Rattle.std.proofs.Common.{◌≡◌, ℕ, pos, List, [], ◌∷◌, true, fa
 use Rattle.pli_meaning.specs.declared.expr.InfixOp.TheVariants as I
 use Rattle.pli_meaning.specs.declared.condition.Condition.TheVariants as C
 use Rattle.pli_meaning.specs.Tree as T
-use Rattle.pli_meaning.specs.Tree.{Number, Parenthesized, Infix, Refers, Plain, Located, Last, Of, Absent, Listed, Upper, Both, Given, Fixed, Binary, Character, Varying, BitOne, Pointer, Offset, Area, Controlled, Based, Assign, OnUnit, Call, Goto, Allocate, Free, Item, Declare, Statement, Tree}
+use Rattle.pli_meaning.specs.Tree.{Number, Parenthesized, Infix, Refers, Plain, Located, Last, Of, Absent, Listed, Upper, Both, Given, Fixed, Binary, Character, Varying, BitOne, Pointer, Offset, Area, Controlled, Based, Assign, Begin, OnUnit, Call, Goto, Allocate, Free, Item, Declare, Statement, Tree}
 use Rattle.pli_meaning.specs.Refusals.{is_before}
 use Rattle.pli_meaning.specs.Declarations.{held, chain_after, declared_in, declared_in_item, declared_in_stmt, blocks_in, blocks_in_item, blocks_in_stmt, blocks_of}
 use Rattle.pli_meaning.specs.Means.{means_from}
@@ -340,3 +340,45 @@ passing_typed :
     }
 unfolding resolved statement statements expression reference qualified arguments expressions means_from blocks_of declared_in declared_in_item declared_in_stmt blocks_in blocks_in_item blocks_in_stmt held chain_after is_before
 passing_typed = refl
+
+-- E: ; BEGIN; ON ERROR BEGIN; GOTO E; END; CALL K; K: PROC; GOTO E; END; END;
+abbrev nested : Tree
+nested =
+    program
+    []
+    (
+    Statement ((name (69 ∷ []) (at 3 1)) ∷ []) (T.Null (at 3 4)) ∷
+    Statement [] (Begin (items (Statement [] (OnUnit C.Error (Begin (items (Statement [] (Goto (name (69 ∷ []) (at 3
+    34)) (at 3 29)) ∷ [])) (at 3 22)) (at 3 13)) ∷ Statement [] (Call (name (75 ∷ []) (at 3 47)) Absent (at 3
+    42)) ∷ procedure ((name (75 ∷ []) (at 3 50)) ∷ []) (at 3 53) [] [] (Statement [] (Goto (name (69 ∷ []) (at 3
+    64)) (at 3 59)) ∷ []) ∷ [])) (at 3 6)) ∷
+    [])
+
+unfoldable procedures_of : Tree → List Y.Procedure
+procedures_of tree = (typed_tree tree).procedures
+
+abbrev block : Y.BlockKind → (number level line : ℕ) → Y.Stmts → Y.Block
+block kind number level line body = Y.BlockOf (record { kind = kind; number = number; level = level; line = line }) body
+
+abbrev one_statement : Y.Stmt → Y.Stmts
+one_statement s = Y.StmtThen [] s (Y.EndOfList [])
+
+abbrev leaving : Y.Stmt
+leaving = Y.Goto 0 (69 ∷ []) 3
+
+nested_typed :
+    procedures_of nested
+    ≡ record {
+      block =
+          block Y.ProcedureBlock 1 0 1
+          (Y.StmtThen ((69 ∷ []) ∷ []) (Y.Null 3)
+          (one_statement (Y.Begin (block Y.BeginBlock 2 1 3
+          (Y.StmtThen [] (Y.OnUnit C.Error (block Y.UnitBlock 3 2 3 (one_statement leaving)) 3)
+          (one_statement (Y.CallProcedure (Y.Calling 4 1 Y.NoArgument) 3)))))));
+      parameters = [];
+      result = None;
+    }
+    ∷ record { block = block Y.ProcedureBlock 4 2 3 (one_statement leaving); parameters = []; result = None }
+    ∷ []
+unfolding resolved statement statements expression reference qualified arguments expressions means_from blocks_of declared_in declared_in_item declared_in_stmt blocks_in blocks_in_item blocks_in_stmt held chain_after is_before procedures_of
+nested_typed = refl

@@ -9,7 +9,7 @@ use Rattle.pli_meaning.specs.Judging.{Judged, fine, broken, demand, each, ◌>>=
 use Rattle.pli_meaning.specs.TypedTree as Y
 use Rattle.pli_meaning.specs.Converting.{Designated, Referent, Designates, Gives, GivesEmptyArea, GivesNothing, NotKnown, Operand, element_type, scalar_type, is_area, is_aggregate, variable_of, no_reference, operand_value, stored_as, operand_stored}
 
--- ---- whole aggregates
+-- ---- whole aggregates (chapter 9)
 
 -- equal kinds, whatever the lengths of texts
 abbrev pub same_type : Y.LeafType → Y.LeafType → Bool
@@ -27,7 +27,7 @@ leaves_match [] [] = true
 leaves_match (a ∷ as') (b ∷ bs) = same_type a.type b.type && (length a.bounds == length b.bounds) && leaves_match as' bs
 leaves_match _ _ = false
 
--- ---- assignments
+-- ---- assignments (chapter 6)
 
 abbrev pub nothing_done : Place → Y.Stmt
 nothing_done place = Y.Null place.line
@@ -87,7 +87,7 @@ assigned_referent place target_place NotKnown source = fine (nothing_done place)
 abbrev pub assignment : Place → Operand → Operand → Judged Y.Stmt
 assignment place target source = assigned_referent place target.place target.referent source
 
--- ---- the variable of DO
+-- ---- the variable of DO (chapter 6)
 
 -- a scalar that can be assigned to, with its kind
 pub record Scalar : Type 0 where
@@ -116,7 +116,7 @@ counter_of place r (Y.CharacterLeaf n) = fine (Y.TextCounter r)
 counter_of place r (Y.VaryingLeaf n) = fine (Y.TextCounter r)
 counter_of place r _ = broken place TypeMismatch (Y.TextCounter r)
 
--- ---- GET and PUT
+-- ---- GET and PUT (chapter 8)
 
 -- a format list holds an F at some depth
 abbrev mutual

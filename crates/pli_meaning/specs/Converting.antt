@@ -7,7 +7,7 @@ use Rattle.pli_meaning.specs.Kinds.{Kind, NumberKind, TextKind, BitKind, Pointer
 use Rattle.pli_meaning.specs.Judging.{Judged, fine, broken, mention, MentionsVariable, ◌>>=◌, ◌>>◌}
 use Rattle.pli_meaning.specs.TypedTree as Y
 
--- ---- what a reference means
+-- ---- what a reference means (chapter 4)
 
 -- a variable or a part of one: its leaves, the dimensions that no subscripts stand for, whether it has members, and whether
 -- it is a whole variable of level 1
@@ -204,7 +204,7 @@ pointer_operand o = do
   v ← operand_value o
   pointer_wanted o.place v
 
--- ---- values for storage
+-- ---- values for storage (chapter 6, assignment)
 
 abbrev pub number_stored : ℕ → Judged Y.Number → Judged Y.Stored
 number_stored p j = do

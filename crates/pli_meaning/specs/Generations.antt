@@ -22,7 +22,7 @@ judged_if judge (Some x) = do
   z ← judge x
   fine (Some z)
 
--- ---- the names in attributes
+-- ---- the names in attributes (chapter 4)
 
 -- a name that must mean something of one kind; a built-in has another
 abbrev pub name_demanded : Found → Bool → T.Name → Judged (Unit {0})
@@ -45,7 +45,7 @@ names_demanded blocks b attributes = do
   area_demanded blocks b (area_name attributes)
   locator_demanded blocks b (locator_name attributes)
 
--- ---- extents
+-- ---- extents (chapter 7)
 
 abbrev pub is_automatic : Y.StorageClass → Bool
 is_automatic Y.AutomaticClass = true
@@ -108,7 +108,7 @@ refer_among all (k ∷ ks) = Some (record { member = index_where (is_named k.mem
 abbrev pub refer_of : List Held → Option Y.ReferMember
 refer_of all = refer_among all (flat_map kept_in all)
 
--- ---- variables of level 1
+-- ---- variables of level 1 (chapter 4)
 
 -- a variable with its members
 abbrev pub declared_with : Scope → Y.Variable → List Held → Judged Y.DeclaredVariable

@@ -24,7 +24,7 @@ pub record Named : Type 0 where
   pub name : T.Name
   pub arguments : Option (List Operand)
 
--- ---- locators
+-- ---- locators (chapter 4, pointer qualification)
 
 -- what BASED(name) may name: a scalar locator that is no part of a BASED variable
 abbrev pub locates : Option Y.Value → Bool
@@ -74,7 +74,7 @@ locator_of blocks b h true place (Y.LocatedBy p) = fine (Y.LocatedBy p)
 locator_of blocks b h false place Y.NotLocated = fine Y.NotLocated
 locator_of blocks b h false place (Y.LocatedBy p) = broken place TypeMismatch Y.NotLocated
 
--- ---- variables
+-- ---- variables (chapter 4, subscripts)
 
 abbrev pub listed : Option (List Operand) → List Operand
 listed None = []
@@ -109,7 +109,7 @@ variable_referent blocks b h place located names = do
   subscripts ← number_list (all_operands names)
   fine (Designates (part_designated blocks b h locator (list_any is_listed names) subscripts))
 
--- ---- what names mean
+-- ---- what names mean (chapter 4)
 
 -- only a variable is located
 abbrev pub not_located : Place → Y.Locator → Judged (Unit {0})
@@ -165,7 +165,7 @@ names_referent scope located [] = fine NotKnown
 names_referent scope located (n ∷ ns) =
     found_referent scope n.name (names_mean scope.blocks scope.block (map (λ m. m.name.letters) (n ∷ ns))) located (n ∷ ns)
 
--- ---- expressions
+-- ---- expressions (chapter 9)
 
 abbrev pub operand_from : T.Expr → Judged Referent → Judged Operand
 operand_from e j = do

@@ -56,7 +56,7 @@ labels_in (T.ItemThen (T.Declare items place) is) = labels_in is
 labels_in (T.ItemThen (T.Statement labels s) is) = labels ++ labels_in is
 labels_in (T.ItemThen (T.EndLabels labels place) is) = labels ++ labels_in is
 
--- ---- GOTO
+-- ---- GOTO (chapter 6)
 
 abbrev pub is_target : Context → Place → Bool
 is_target c place = list_any (λ n. same_place n.place place) (c.inner ++ c.outermost ++ c.outer)
@@ -87,7 +87,7 @@ jump_found c name place F.Ambiguous = jump c name place 0 false
 abbrev pub goto_statement : Context → T.Name → Place → Judged Y.Stmt
 goto_statement c name place = jump_found c name place (name_means c.scope.blocks c.scope.block name)
 
--- ---- CALL and RETURN
+-- ---- CALL and RETURN (chapter 6)
 
 abbrev pub not_called : Place → Judged Y.Stmt
 not_called place = broken place TypeMismatch (Y.Null place.line)
@@ -143,7 +143,7 @@ return_statement c (Some e) place = do
   o ← operand c.scope e
   returned place (result_around c.scope.blocks c.around) o
 
--- ---- conditions and turns
+-- ---- conditions and turns (chapter 6, IF and DO)
 
 -- the expression of IF and WHILE
 abbrev pub condition : Scope → T.Expr → Judged Y.Bit

@@ -9,7 +9,7 @@ use Rattle.pli_meaning.specs.declared.condition.Condition.{Condition}
 use Rattle.pli_meaning.specs.Numbers.{Sign}
 use Rattle.pli_meaning.specs.Tree.{Formats, InitialItem}
 
--- ---- variables
+-- ---- variables (chapter 7, storage)
 
 pub data StorageClass : Type 0 where
   AutomaticClass ParameterClass StaticClass BasedClass ControlledClass : StorageClass
@@ -27,7 +27,7 @@ pub record Part : Type 0 where
   pub first : ℕ
   pub count : ℕ
 
--- ---- leaves
+-- ---- leaves (chapter 4, data types and bounds)
 
 -- a bound, length or size: a constant, the argument's (`*`), the value of one of its variable's evaluations, or what a member
 -- of the same generation tells (REFER)
@@ -55,7 +55,7 @@ pub record Leaf : Type 0 where
   pub bounds : List Bounds
   pub initial : List InitialItem
 
--- ---- expressions
+-- ---- expressions (chapter 9)
 
 pub data ArithmeticOperator : Type 0 where
   Sum Difference Product Quotient : ArithmeticOperator
@@ -178,7 +178,7 @@ pub data Value : Type 0 where
   OffsetValue : (area : Option Variable) → Offset → Value
   NullValue : Value
 
--- ---- declarations
+-- ---- declarations (chapters 4 and 7)
 
 -- an extent that is evaluated, with what is checked as soon as it is: a length from 0 to 1,024, a size from 0 on, a pair of
 -- bounds, or nothing yet
@@ -202,7 +202,7 @@ pub record DeclaredVariable : Type 0 where
   pub refer : Option ReferMember
   pub evaluations : List Evaluation
 
--- ---- statements
+-- ---- statements (chapters 6 and 8)
 
 -- a locator that ALLOCATE sets
 pub data LocatorTarget : Type 0 where

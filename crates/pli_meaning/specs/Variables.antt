@@ -12,7 +12,7 @@ use Rattle.pli_meaning.specs.Means.{declarations_of, means}
 use Rattle.pli_meaning.specs.Declaring.{has, own_attributes, root_of, stands_alone, is_deeper, is_parameter, names_of, precision_of, precisions_in, constant, place_of_expr, same_place}
 use Rattle.pli_meaning.specs.TypedTree as Y
 
--- ---- structures
+-- ---- structures (chapter 4)
 
 -- the members at the head of what is declared
 abbrev pub member_then : What → List Held → List Held
@@ -88,7 +88,7 @@ index_of_variable blocks b h = index_where (begins_at (root_place h)) (variables
 abbrev pub members_of : List Block → ℕ → Held → List Held
 members_of blocks b h = unwrap_or (slice_get (variables_in (declarations_at blocks b)) (index_of_variable blocks b h)) []
 
--- ---- blocks
+-- ---- blocks and storage classes (chapters 4 and 7)
 
 abbrev pub head_of_block : Option Block → Option ProcedureHead
 head_of_block None = None
@@ -116,7 +116,7 @@ variable_meant blocks b h =
       index = index_of_variable blocks b h;
     }
 
--- ---- extents as they are written
+-- ---- extents as they are written (chapter 7)
 
 -- what is checked behind an extent: a length, a size, or the bounds of a dimension where the last open one of them is known
 pub data WrittenCheck : Type 0 where
@@ -168,7 +168,7 @@ in_order (w ∷ ws) = with_extent w (in_order ws)
 abbrev pub written_extents : List Held → List WrittenExtent
 written_extents all = in_order (flat_map open_in all)
 
--- ---- leaves
+-- ---- leaves (chapter 4)
 
 abbrev pub evaluated : List WrittenExtent → Expr → Option ℤ → Y.Extent
 evaluated written e (Some z) = Y.ConstantExtent z
