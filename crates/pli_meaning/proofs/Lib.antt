@@ -13,7 +13,9 @@ mod LocatorRows
 mod CallRows
 mod StatementRows
 mod ExtentRows
+pub mod TypedPieces
 mod TypedRows
+mod TypedStatementRows
 mod Conversions
 pub mod Steps
 pub mod Growth

@@ -10,56 +10,8 @@ use Rattle.pli_meaning.specs.Means.{means_from}
 use Rattle.pli_meaning.specs.References.{expression, reference, qualified, arguments, expressions}
 use Rattle.pli_meaning.specs.Resolving.{statement, statements, resolved, typed_tree}
 use Rattle.pli_meaning.specs.TypedTree as Y
+use Rattle.pli_meaning.proofs.TypedPieces.{automatic, based_variable, controlled, part_of, scalar, based, constant_then, typed_rest, variables, leaf, up_to, variable}
 use Rattle.pli_meaning.proofs.RowTrees.{at, name, dimensioned, declared, kept_extent, procedure, counted, allocating, freeing, plain, extent, unsubscripted, exprs, items, program, allocation_at, null_at, empty_at}
-
--- the variables that the main procedure declares, and references to scalars and parts of them
-abbrev automatic : ℕ → Y.Variable
-automatic index = record { class = Y.AutomaticClass; block = 1; level = 0; index = index }
-
-abbrev based_variable : ℕ → Y.Variable
-based_variable index = record { class = Y.BasedClass; block = 1; level = 0; index = index }
-
-abbrev controlled : Y.Variable
-controlled = record { class = Y.ControlledClass; block = 1; level = 0; index = 10 }
-
-abbrev part_of : (index first count : ℕ) → Y.Numbers → Y.Reference
-part_of index first count subscripts = Y.Referring (automatic index) Y.NotLocated (record { first = first; count = count }) subscripts
-
-abbrev scalar : ℕ → Y.Reference
-scalar index = part_of index 0 1 Y.NoNumber
-
-abbrev based : (index leaf : ℕ) → Y.Pointer → Y.Reference
-based index leaf p = Y.Referring (based_variable index) (Y.LocatedBy p) (record { first = leaf; count = 1 }) Y.NoNumber
-
-abbrev constant_then : ℕ → Y.Numbers → Y.Numbers
-constant_then n rest = Y.NumberThen (Y.NumberConstant n) rest
-
--- the statements of the main procedure
-abbrev listed_statements : Y.Stmts → List Y.Stmt
-listed_statements (Y.EndOfList labels) = []
-listed_statements (Y.StmtThen labels s ss) = s ∷ listed_statements ss
-
-abbrev body_of : Y.Block → Y.Stmts
-body_of (Y.BlockOf head body) = body
-
-abbrev first_body : List Y.Procedure → List Y.Stmt
-first_body [] = []
-first_body (p ∷ ps) = listed_statements (body_of p.block)
-
-unfoldable typed_rest : Tree → List Y.Stmt
-typed_rest tree = first_body (typed_tree tree).procedures
-
-unfoldable variables : Tree → List (List Y.DeclaredVariable)
-variables tree = (typed_tree tree).variables
-
-abbrev leaf : Y.LeafType → List Y.Bounds → Y.Leaf
-leaf type bounds = record { type = type; bounds = bounds; initial = [] }
-
-abbrev up_to : Y.Extent → Y.Bounds
-up_to upper = record { lower = Y.ConstantExtent (pos 1); upper = upper }
-
-abbrev variable : Y.StorageClass → List Y.Leaf → Y.DeclaredVariable
-variable class leaves = record { class = class; leaves = leaves; refer = None; evaluations = [] }
 
 -- DCL (N,M) FIXED BIN(31), H FIXED BIN(15), C CHAR(5), V CHAR(8) VAR, B BIT(1), (P,Q) PTR, R AREA(64), O OFFSET(R), W
 -- OFFSET, L(3) FIXED BIN(31), 1 S, 2 X FIXED BIN(31), 2 Y(2) CHAR(3), 1 K(2), 2 X FIXED BIN(31), 2 Z(3,4) FIXED BIN(15);
