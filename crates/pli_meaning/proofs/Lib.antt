@@ -17,6 +17,8 @@ pub mod TypedPieces
 mod TypedRows
 mod TypedStatementRows
 mod Conversions
+pub mod Judgements
+pub mod Resolutions
 pub mod Steps
 pub mod Growth
 pub mod Engine

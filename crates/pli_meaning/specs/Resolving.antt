@@ -50,6 +50,11 @@ simple_unit c line s =
     Y.BlockOf (record { kind = Y.SimpleUnit; number = c.scope.block; level = level_of_block c.scope.blocks c.scope.block + 1; line = line })
     (Y.StmtThen [] s (Y.EndOfList []))
 
+-- the block of an on-unit: that of its BEGIN, or one around its single statement
+abbrev pub unit_of : Context → ℕ → Y.Stmt → Y.Block
+unit_of c line (Y.Begin (Y.BlockOf head body)) = Y.BlockOf (record head { kind = Y.UnitBlock }) body
+unit_of c line s = simple_unit c line s
+
 abbrev pub letters_of : List T.Name → List (List ℕ)
 letters_of labels = map (λ n. n.letters) labels
 
@@ -103,12 +108,9 @@ unfoldable mutual
     ss ← statements (in_block c next (labels_in body)) (next + 1) body
     done (Y.Begin (block_with Y.BeginBlock c.scope.blocks next place.line ss))
   statement c next (T.OnSystem on place) = done (Y.OnSystem on place.line)
-  statement c next (T.OnUnit on (T.Begin body begin) place) = do
-    ss ← statements (in_block (in_unit c) next (labels_in body)) (next + 1) body
-    done (Y.OnUnit on (block_with Y.UnitBlock c.scope.blocks next begin.line ss) place.line)
   statement c next (T.OnUnit on unit place) = do
     s ← statement (in_unit c) next unit
-    done (Y.OnUnit on (simple_unit c place.line s) place.line)
+    done (Y.OnUnit on (unit_of c place.line s) place.line)
   statement c next (T.Call name a place) = of_judged (call_statement c.scope name a place)
   statement c next (T.Return value place) = of_judged (return_statement c value place)
   statement c next (T.Goto label place) = of_judged (goto_statement c label place)
