@@ -246,7 +246,7 @@ pub data BlockKind : Type 0 where
   ProcedureBlock BeginBlock UnitBlock SimpleUnit : BlockKind
 
 -- a block's kind, its number among the blocks of the program (a simple unit has that of the block around it), its level, and
--- the line of its first word
+-- the line of its first word (of ON for a simple unit)
 pub record BlockHead : Type 0 where
   pub kind : BlockKind
   pub number : ℕ
