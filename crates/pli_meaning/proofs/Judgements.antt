@@ -1,15 +1,18 @@
 -- What is judged of each form of expression and reference, as a program holds it: one equation for each variant.
-use Rattle.std.proofs.Common.{◌≡◌, [], ◌∷◌, Some, None, refl}
+use Rattle.std.proofs.Common.{◌≡◌, [], ◌∷◌, Option, Some, None, refl}
 use Rattle.pli_meaning.specs.declared.expr.Expr as E
 use Rattle.pli_meaning.specs.declared.expr.Reference as R
 use Rattle.pli_meaning.specs.declared.expr.Qualified as Q
 use Rattle.pli_meaning.specs.declared.expr.Arguments as A
 use Rattle.pli_meaning.specs.declared.expr.Exprs as L
+use Rattle.pli_meaning.specs.declared.fault.SourceFault.{SourceFault}
+use Rattle.pli_meaning.specs.Refusals.{sooner, soonest}
 use Rattle.pli_meaning.specs.View.{name_of, expr_of, reference_of, qualified_of, arguments_of, exprs_of}
 use Rattle.pli_meaning.specs.Judging.{fine, ◌>>=◌}
 use Rattle.pli_meaning.specs.TypedTree as Y
 use Rattle.pli_meaning.specs.Converting.{Gives, operator_digits, operand_value}
 use Rattle.pli_meaning.specs.Operators.{prefixed, infixed}
+use Rattle.pli_meaning.proofs.Least.{soonest-append}
 use Rattle.pli_meaning.specs.References.{expression, reference, qualified, arguments, expressions, given, names_referent, written_locator, operand, referred}
 
 pub expression-Number : (scope : _) (n : _) (p : _) → expression scope (expr_of (E.Number n p)) ≡ fine (Gives (Y.NumberValue operator_digits (Y.NumberConstant n)))
@@ -72,5 +75,14 @@ pub expressions-More : (scope : _) (a : _) (e : _) (b : _) (es : _) → expressi
 unfolding expressions exprs_of
 expressions-More scope a e b es = refl
 
--- the equations of expressions and references
-pub ruleset judgements = (expression-Number, expression-Text, expression-Bit, expression-Parenthesized, expression-Prefix, expression-Infix, expression-Refers, reference-Plain, reference-Located, qualified-Last, qualified-Of, arguments-Absent, arguments-Listed, expressions-End, expressions-More)
+-- the least of what was found and of nothing, or of one
+pub soonest_none : (found : Option SourceFault) → soonest found [] ≡ found
+unfolding soonest
+soonest_none found = refl
+
+pub soonest_one : (found : Option SourceFault) (f : SourceFault) → soonest found (f ∷ []) ≡ sooner found f
+unfolding soonest
+soonest_one found f = refl
+
+-- the equations of expressions and references, and what puts what was found in two parts together
+pub ruleset judgements = (soonest-append, soonest_none, soonest_one, expression-Number, expression-Text, expression-Bit, expression-Parenthesized, expression-Prefix, expression-Infix, expression-Refers, reference-Plain, reference-Located, qualified-Last, qualified-Of, arguments-Absent, arguments-Listed, expressions-End, expressions-More)

@@ -18,6 +18,7 @@ mod TypedRows
 mod TypedStatementRows
 mod Conversions
 pub mod Judgements
+pub mod ExpressionWeights
 pub mod Resolutions
 pub mod Steps
 pub mod Growth
