@@ -1,5 +1,5 @@
 -- What is generated for a source keeps the promise, and what is refused is no program.
-use Rattle.std.proofs.Common.{◌≡◌, ◌≢◌, ◌⊎◌, ℕ, zero, suc, ◌^◌, ◌<◌, List, [], ◌∷◌, Some, Result, Ok, Err, inl, inr, refl, sym, ap, ◌∙◌, subst, arith}
+use Rattle.std.proofs.Common.{◌≡◌, ◌≢◌, ◌⊎◌, ℕ, zero, suc, ◌^◌, ◌<◌, List, [], ◌∷◌, ◌++◌, Some, Result, Ok, Err, inl, inr, refl, sym, ap, ◌∙◌, subst, arith}
 use Rattle.pli_meaning.specs.declared.fault.SourceFault.{SourceFault}
 use Rattle.pli_meaning.specs.declared.token.Token.{Token}
 use Rattle.pli_meaning.specs.declared.instr.Instr.{Instr}
@@ -7,13 +7,18 @@ use Rattle.pli_meaning.specs.Encoding.{Fits}
 use Rattle.pli_meaning.specs.Tokens.{Tokens}
 use Rattle.pli_meaning.specs.Tree as T
 use Rattle.pli_meaning.specs.Parsing.{Spells, RefusesTokens}
-use Rattle.pli_meaning.specs.Refusals.{want_of_memory}
+use Rattle.std.specs.List.{flat_map}
+use Rattle.pli_meaning.specs.Declarations.{blocks_of}
+use Rattle.pli_meaning.specs.Declaring.{block_faults, declaring_faults, main_faults, outer_procedures, static_faults, statics_in}
+use Rattle.std.specs.Prelude.{Contains}
+use Rattle.pli_meaning.proofs.Least.{none_among}
+use Rattle.pli_meaning.specs.Refusals.{IsLeast, want_of_memory}
 use Rattle.pli_meaning.proofs.UniqueSource.{never_both, spelled_once}
 use Rattle.pli_lex.proofs.Unique.{one_list, not_both}
 use Rattle.pli_meaning.specs.declared.fault.SourceKind.{SourceKind}
 use Rattle.pli_meaning.specs.declared.fault.SourceKind.TheVariants as K
 use Rattle.pli_meaning.specs.Typed.{Program}
-use Rattle.pli_meaning.specs.Typing.{typed, typed_tree}
+use Rattle.pli_meaning.specs.Typing.{typed}
 use Rattle.pli_meaning.specs.Machine.{IsValidBase}
 use Rattle.pli_meaning.specs.Headline.{Keeps, run_of, shown_by}
 use Rattle.rv_isa.specs.declared.code.Code.{Code}
@@ -26,7 +31,7 @@ use Rattle.pli_run.specs.declared.run.RunFault.{RunFault}
 use Rattle.pli_run.specs.declared.run.RunFault.TheVariants as F
 use Rattle.pli_run.specs.Running.{Tells, world_of}
 use Rattle.pli_meaning.specs.declared.outcome.Outcome.{Outcome}
-use Rattle.pli.specs.Compiling.{IsCompiled, IsUncompiled, no_main, left_out, IsRefused, out_of_memory, no_tokens, no_tree, not_compiled, RefusedNever, Answers}
+use Rattle.pli.specs.Compiling.{IsCompiled, IsUncompiled, IsRefused, out_of_memory, no_tokens, no_tree, bad_declarations, not_compiled, RefusedNever, Answers}
 use Rattle.pli.proofs.Measures.{tree_weighs, tokens_small}
 use Rattle.pli.proofs.Typed.{typed_whole}
 
@@ -38,15 +43,15 @@ all_fit (x ∷ xs) h zero i e =
 all_fit (x ∷ xs) h (suc k) i e = all_fit xs h.1 k i e
 
 -- the image of the code that is generated for a source's tree
-pub compiled : {s : List ℕ} {ts : List Token} {tree : T.Tree} {made : Code} (p : Program) → Tokens s ts → Spells s ts tree → typed tree ≡ Some p → IsCodeOf p (weight tree) made → IsCompiled s (Images.image made.words.items made.statics.items made.entry made.table.items)
-compiled {ts = ts} {tree = tree} p read spelled is made =
+pub compiled : {s : List ℕ} {ts : List Token} {tree : T.Tree} {made : Code} (p : Program) → Tokens s ts → Spells s ts tree → declaring_faults tree ≡ [] → typed tree ≡ Some p → IsCodeOf p (weight tree) made → IsCompiled s (Images.image made.words.items made.statics.items made.entry made.table.items)
+compiled {ts = ts} {tree = tree} p read spelled declares is made =
     let short = made.short in
     let small = tree_weighs spelled (tokens_small read) in
     record {
       tokens = ts;
       program = p;
       picture = picture_of (program_code p);
-      accepted = record { tree = tree; read = read; spelled = spelled; typed_is = is };
+      accepted = record { tree = tree; read = read; spelled = spelled; declares = declares; typed_is = is };
       pictured = record {
         words_are = sym made.words;
         fit = all_fit (program_code p) made.fits;
@@ -84,14 +89,36 @@ tree_refused {s = s} {ts = ts} {f = f} read refused = by_memory (memory_or_not f
     by_memory (inl e) = out_of_memory e
     by_memory (inr n) = no_tree ts read (refused n)
 
-pub judged_refused : {s : List ℕ} {ts : List Token} {tree : T.Tree} {f : SourceFault} → Tokens s ts → Spells s ts tree → (f ≡ want_of_memory) ⊎ IsUncompiled tree f → IsRefused s f
-judged_refused read spelled (inl e) = out_of_memory e
-judged_refused {ts = ts} {tree = tree} read spelled (inr why) = not_compiled ts tree read spelled why
+pub declarations_refused : {s : List ℕ} {ts : List Token} {tree : T.Tree} {f : SourceFault} → Tokens s ts → Spells s ts tree → (f ≡ want_of_memory) ⊎ IsLeast (declaring_faults tree) f → IsRefused s f
+declarations_refused read spelled (inl e) = out_of_memory e
+declarations_refused {ts = ts} {tree = tree} read spelled (inr least) = bad_declarations ts tree read spelled least
+
+pub judged_refused : {s : List ℕ} {ts : List Token} {tree : T.Tree} {f : SourceFault} → Tokens s ts → Spells s ts tree → declaring_faults tree ≡ [] → (f ≡ want_of_memory) ⊎ IsUncompiled tree f → IsRefused s f
+judged_refused read spelled declares (inl e) = out_of_memory e
+judged_refused {ts = ts} {tree = tree} read spelled declares (inr why) = not_compiled ts tree read spelled declares why
+
+-- a program without a procedure lacks its main one
+no_procedure_faults : (is : T.Items) → is ≡ T.NoItem → main_faults (outer_procedures is) ≢ []
+no_procedure_faults is e h = absurd (cc (e, h))
+
+first_of_append : {X : Type 0} (xs ys : List X) → xs ++ ys ≡ [] → xs ≡ []
+first_of_append [] ys e = refl
+first_of_append (x ∷ xs) ys e = absurd (cc e)
+
+pub has_procedure : (tree : T.Tree) → declaring_faults tree ≡ [] → tree.procedures ≢ T.NoItem
+has_procedure tree e none =
+    let main = main_faults (outer_procedures tree.procedures) in
+    let blocks = flat_map block_faults (blocks_of tree) in
+    let statics = static_faults (flat_map (λ b. statics_in b.declarations) (blocks_of tree)) in
+    no_procedure_faults tree.procedures none (first_of_append main blocks (first_of_append (main ++ blocks) statics e))
 
 -- what isn't compiled has no type
 untyped : {tree : T.Tree} {f : SourceFault} → IsUncompiled tree f → (p : Program) → typed tree ≡ Some p → ⊥
-untyped (no_main e is) p h = absurd (cc (ap typed_tree e, h))
-untyped {tree = tree} (left_out place e is) p h = absurd (cc (typed_whole tree p h, e))
+untyped {tree = tree} why p h = absurd (cc (typed_whole tree p h, why.uncompiled_at))
+
+-- what breaks nothing has no least breach
+none_least : {fs : List SourceFault} {f : SourceFault} → IsLeast fs f → fs ≡ [] → ⊥
+none_least {f = f} least e = none_among f (subst (λ gs. Contains gs f) e least.among)
 
 pub refused_never : RefusedNever
 refused_never s f (out_of_memory e) h tokens program a = h e
@@ -99,7 +126,11 @@ refused_never s f (no_tokens refuses) h tokens program a = not_both s tokens f.l
 refused_never s f (no_tree ts read refused) h tokens program a =
     let e : ts ≡ tokens = one_list s ts tokens read a.read in
     never_both a.spelled (subst (λ u. RefusesTokens s u f) e refused)
-refused_never s f (not_compiled ts tree read spelled why) h tokens program a =
+refused_never s f (bad_declarations ts tree read spelled least) h tokens program a =
+    let e : ts ≡ tokens = one_list s ts tokens read a.read in
+    let t : a.tree ≡ tree = spelled_once a.spelled (subst (λ u. Spells s u tree) e spelled) in
+    none_least least (subst (λ u. declaring_faults u ≡ []) t a.declares)
+refused_never s f (not_compiled ts tree read spelled declares why) h tokens program a =
     let e : ts ≡ tokens = one_list s ts tokens read a.read in
     let t : a.tree ≡ tree = spelled_once a.spelled (subst (λ u. Spells s u tree) e spelled) in
     untyped why program (subst (λ u. typed u ≡ Some program) t a.typed_is)

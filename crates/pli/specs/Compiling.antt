@@ -2,7 +2,7 @@
 use Rattle.std.specs.Prelude.{◌≡◌, ◌≢◌, ℕ, ◌+◌, ◌*◌, ◌≤◌, List, [], length, Some, Result, Ok, Err}
 use Rattle.pli_meaning.specs.declared.expr.Place.{Place}
 use Rattle.pli_meaning.specs.declared.fault.SourceFault.{SourceFault}
-use Rattle.pli_meaning.specs.declared.fault.SourceKind.TheVariants.{LeftOut, NoMain}
+use Rattle.pli_meaning.specs.declared.fault.SourceKind.TheVariants.{LeftOut}
 use Rattle.pli_meaning.specs.declared.outcome.Outcome.{Outcome}
 use Rattle.pli_meaning.specs.declared.token.Token.{Token}
 use Rattle.pli_meaning.specs.Tokens.{Tokens, Refuses}
@@ -14,17 +14,19 @@ use Rattle.pli_meaning.specs.World.{World}
 use Rattle.pli_meaning.specs.Machine.{IsValidBase}
 use Rattle.pli_meaning.specs.Headline.{Picture, Headline, Keeps, run_of, shown_by, step_cost}
 use Rattle.pli_meaning.specs.Images as Images
-use Rattle.pli_meaning.specs.Refusals.{fault, want_of_memory}
+use Rattle.pli_meaning.specs.Declaring.{declaring_faults}
+use Rattle.pli_meaning.specs.Refusals.{IsLeast, fault, want_of_memory}
 use Rattle.pli_run.specs.Running.{IsPicture, world_of}
 use Rattle.pli.specs.Uncompiled.{uncompiled}
 use Rattle.pli_run.specs.declared.run.RunFault.{RunFault}
 use Rattle.pli_run.specs.declared.run.RunFault.TheVariants.{Memory, BadBase, Source, Machine}
 
--- a source has these tokens, which spell a tree that has a type
+-- a source has these tokens, which spell a tree whose declarations break no rule and that has a type
 pub record Accepts (s : List ℕ) (tokens : List Token) (program : Program) : Type 0 where
   pub tree : T.Tree
   pub read : Tokens s tokens
   pub spelled : Spells s tokens tree
+  pub declares : declaring_faults tree ≡ []
   pub typed_is : typed tree ≡ Some program
 
 -- the step cost of an image that is compiled from so many tokens
@@ -41,22 +43,20 @@ pub record IsCompiled (s : List ℕ) (image : Images.Image) : Type 0 where
   pub keeps : Headline program picture
   pub cheap : step_cost picture ≤ most_step_cost (length tokens)
 
--- the place of a source's first byte
-abbrev pub first_place : Place
-first_place = record { line = 1; column = 1 }
+-- why a tree isn't compiled: the first head that isn't compiled yet is left out
+pub record IsUncompiled (tree : T.Tree) (f : SourceFault) : Type 0 where
+  pub place : Place
+  pub uncompiled_at : uncompiled tree ≡ Some place
+  pub left_out : f ≡ fault place LeftOut
 
--- why a tree isn't compiled: it has no procedure, or the first head that isn't compiled yet is left out
-pub data IsUncompiled (tree : T.Tree) (f : SourceFault) : Type 0 where
-  no_main : tree.procedures ≡ T.NoItem → f ≡ fault first_place NoMain → IsUncompiled tree f
-  left_out : (place : Place) → uncompiled tree ≡ Some place → f ≡ fault place LeftOut → IsUncompiled tree f
-
--- why a source isn't compiled: no memory; what its bytes are refused for; the least of the rules that its tokens break; or
--- its tokens spell a tree that isn't compiled
+-- why a source isn't compiled: no memory; what its bytes are refused for; the least of the rules that its tokens break; the
+-- least of those that the declarations of its tree break; or it breaks none of these, and its tree isn't compiled
 pub data IsRefused (s : List ℕ) (f : SourceFault) : Type 0 where
   out_of_memory : f ≡ want_of_memory → IsRefused s f
   no_tokens : Refuses s f.line f.column f.kind → IsRefused s f
   no_tree : (tokens : List Token) → Tokens s tokens → RefusesTokens s tokens f → IsRefused s f
-  not_compiled : (tokens : List Token) (tree : T.Tree) → Tokens s tokens → Spells s tokens tree → IsUncompiled tree f → IsRefused s f
+  bad_declarations : (tokens : List Token) (tree : T.Tree) → Tokens s tokens → Spells s tokens tree → IsLeast (declaring_faults tree) f → IsRefused s f
+  not_compiled : (tokens : List Token) (tree : T.Tree) → Tokens s tokens → Spells s tokens tree → declaring_faults tree ≡ [] → IsUncompiled tree f → IsRefused s f
 
 -- the law: only a source without a token has no procedure
 abbrev pub ProcedureFound : Type 0

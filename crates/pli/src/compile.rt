@@ -1,22 +1,23 @@
 // From a source to its image, and to what a run of it comes to.
 
-ghost use Rattle.std.specs.Prelude.{◌≡◌, ◌≢◌, ◌⊎◌, ◌↔◌, IsErrOf, MatchBool, MatchResult, Some};
+ghost use Rattle.std.specs.Prelude.{◌≡◌, ◌⊎◌, ◌↔◌, [], IsErrOf, MatchResult, Some};
 ghost use Rattle.pli_meaning.specs.declared.fault.SourceKind.TheVariants.{LeftOut};
 ghost use Rattle.pli_meaning.specs.Machine.{IsValidBase};
-ghost use Rattle.pli_meaning.specs.Refusals.{fault, want_of_memory};
-ghost use Rattle.pli_meaning.specs.Tree.{NoItem};
+ghost use Rattle.pli_meaning.specs.Declaring.{declaring_faults};
+ghost use Rattle.pli_meaning.specs.Refusals.{IsLeast, fault, want_of_memory};
 ghost use Rattle.pli_meaning.specs.Typed.{Program};
 ghost use Rattle.pli_meaning.specs.Typing.{typed};
-ghost use Rattle.pli_meaning.specs.View.{items_of, tree_of};
+ghost use Rattle.pli_meaning.specs.View.{tree_of};
 ghost use Rattle.pli_run.specs.declared.run.RunFault as RunFault;
 ghost use Rattle.pli.specs.Compiling.{IsCompiled, IsRefused, IsUncompiled, Answers};
 
 use crate::uncompiled::uncompiled;
+use pli_declaring::declare;
 use pli_lex::tokens;
 use pli_meaning::expr::Place;
 use pli_meaning::fault::{SourceFault, SourceKind};
 use pli_meaning::outcome::Outcome;
-use pli_meaning::stmt::{Items, Tree};
+use pli_meaning::stmt::Tree;
 use pli_parse::parse;
 use pli_run::run::{RunFault, run};
 use rv_codegen::generate::{GenFault, generate};
@@ -30,12 +31,6 @@ const OUT_OF_MEMORY: SourceFault = SourceFault {
     kind: SourceKind::Memory,
 };
 
-const NO_MAIN: SourceFault = SourceFault {
-    line: 1,
-    column: 1,
-    kind: SourceKind::NoMain,
-};
-
 fn left_out(place: Place) -> SourceFault
     ensures { result ≡ fault place LeftOut }
 {
@@ -46,23 +41,21 @@ fn left_out(place: Place) -> SourceFault
     }
 }
 
-#[tactic(auto, unfolding(pli_meaning::specs::View::items_of))]
-fn is_empty(items: &Items) -> bool
-    ensures { MatchBool result (items_of items.now ≡ NoItem) (items_of items.now ≢ NoItem) }
+/// Whether the declarations of a program keep their rules.
+fn declarations_kept(alloc: Global, tree: &Tree) -> Result<(), SourceFault>
+    ensures { MatchResult result (λ _. declaring_faults (tree_of tree.now) ≡ []) (λ f. (f ≡ want_of_memory) ⊎ IsLeast (declaring_faults (tree_of tree.now)) f) }
 {
-    match items {
-        Items::End => true,
-        Items::More { .. } => false,
+    match declare(alloc, tree) {
+        Ok(_) => Ok(()),
+        Err(fault) => Err(fault),
     }
 }
 
-// Whether all of a tree is compiled.
+/// Whether all of a program is compiled.
 fn judged(alloc: Global, tree: &Tree) -> Result<(), SourceFault>
+    requires declares { declaring_faults (tree_of tree.now) ≡ [] }
     ensures { MatchResult result (λ _. (p : Program) × (typed (tree_of tree.now) ≡ Some p)) (λ f. (f ≡ want_of_memory) ⊎ IsUncompiled (tree_of tree.now) f) }
 {
-    if is_empty(&tree.procedures) {
-        return Err(NO_MAIN);
-    }
     match uncompiled(alloc, tree) {
         Ok(None) => Ok(()),
         Ok(Some(place)) => Err(left_out(place)),
@@ -74,13 +67,14 @@ fn judged(alloc: Global, tree: &Tree) -> Result<(), SourceFault>
 ///
 /// # Errors
 ///
-/// The refusals of `tokens`, then those of `parse`; then `NoMain` at 1:1 where there is no procedure, and `LeftOut` at the
-/// first head that isn't compiled yet. `Memory` at 0:0 where memory ran out.
+/// The refusals of `tokens`, then those of `parse`, then those of `declare`; then `LeftOut` at the first head that isn't
+/// compiled yet. `Memory` at 0:0 where memory ran out.
 pub fn compile(alloc: Global, source: &[u8]) -> Result<Image, SourceFault>
     ensures { MatchResult result (λ image. IsCompiled source.now image) (λ fault. IsRefused source.now fault) }
 {
     let tokens = tokens(alloc, source)?;
     let tree = parse(alloc, source, &tokens)?;
+    declarations_kept(alloc, &tree)?;
     judged(alloc, &tree)?;
     match generate(alloc, &tree) {
         Ok(code) => Ok(Image::from_code(code)),

@@ -102,7 +102,7 @@ fn is_refused(rt: &HostRuntime, source: &str, column: u32, kind: SourceKind) -> 
 #[test]
 fn what_is_not_compiled_is_left_out_at_its_head(rt: HostRuntime) {
     for (source, column) in [
-        ("T: PROC; END;", 4),
+        ("T: PROC OPTIONS(MAIN) RECURSIVE; END;", 4),
         ("T: PROC OPTIONS(MAIN); STOP; END;", 24),
         ("T: PROC OPTIONS(MAIN); A = 1; END;", 24),
         ("T: PROC OPTIONS(MAIN); IF 1=1 THEN; STOP; END;", 24),
@@ -110,7 +110,7 @@ fn what_is_not_compiled_is_left_out_at_its_head(rt: HostRuntime) {
         ("T: PROC OPTIONS(MAIN); ; DCL A FIXED BIN(31); END;", 24),
         ("T: PROC OPTIONS(MAIN); DCL A FIXED BIN(15); END;", 24),
         ("T: PROC OPTIONS(MAIN); L: END;", 27),
-        ("T: PROC OPTIONS(MAIN); END; U: PROC; END;", 32),
+        ("T: PROC OPTIONS(MAIN); U: PROC; END; END;", 27),
     ] {
         assert!(rt; is_refused(&rt, source, column, SourceKind::LeftOut));
     }
@@ -139,6 +139,60 @@ fn rules_are_broken_before_forms_are_left_out(rt: HostRuntime) {
             "T: PROC OPTIONS(MAIN); STOP; OPEN; END;",
             30,
             SourceKind::LeftOut,
+        ),
+    ] {
+        assert!(rt; is_refused(&rt, source, column, kind));
+    }
+}
+
+#[test]
+fn declarations_are_judged_before_forms_are_left_out(rt: HostRuntime) {
+    for (source, column, kind) in [
+        ("T: PROC; END;", 1, SourceKind::NoMain),
+        (
+            "T: PROC(A) OPTIONS(MAIN); DCL A PTR; END;",
+            1,
+            SourceKind::NoMain,
+        ),
+        (
+            "T: PROC OPTIONS(MAIN); END; U: PROC; END;",
+            29,
+            SourceKind::NoMain,
+        ),
+        (
+            "T: PROC OPTIONS(MAIN); P: PROC(A); END; END;",
+            32,
+            SourceKind::Undeclared,
+        ),
+        (
+            "T: PROC OPTIONS(MAIN); STOP; DCL A PTR, A PTR; END;",
+            41,
+            SourceKind::DeclaredTwice,
+        ),
+        (
+            "T: PROC OPTIONS(MAIN); DCL X PTR FIXED, X PTR; END;",
+            28,
+            SourceKind::BadAttributes,
+        ),
+        (
+            "T: PROC OPTIONS(MAIN); DCL A(5:3) FIXED; END;",
+            32,
+            SourceKind::BadExtent,
+        ),
+        (
+            "T: PROC OPTIONS(MAIN); DCL 1 S, 2 A AREA(64); END;",
+            35,
+            SourceKind::NestedArea,
+        ),
+        (
+            "T: PROC OPTIONS(MAIN); DCL A(K REFER(N)) FIXED; END;",
+            32,
+            SourceKind::BadRefer,
+        ),
+        (
+            "T: PROC OPTIONS(MAIN); DCL A(262141) FIXED BIN(31) STATIC; END;",
+            28,
+            SourceKind::TooLarge,
         ),
     ] {
         assert!(rt; is_refused(&rt, source, column, kind));
