@@ -7,7 +7,7 @@ use std::test::*;
 
 /// All words of the grammar, short forms among them.
 const WORDS: &str =
-    "procedure proc options main recursive returns end if then else on system do while to by begin call return goto go stop signal revert allocate alloc free in set get put file edit sysin sysprint skip f a x column col area fixedoverflow fofl zerodivide zdiv endfile error refer declare dcl fixed binary bin character char varying var bit pointer ptr offset automatic auto static controlled ctl based initial init builtin aligned unaligned internal null empty abs sign max min mod divide length substr index verify lbound hbound dim allocation addr oncode open close read write rewrite delete locate select leave exit format default entry list data decimal dec float picture pic complex label external ext like defined def union generic";
+    "PROCEDURE PROC OPTIONS MAIN RECURSIVE RETURNS END IF THEN ELSE ON SYSTEM DO WHILE TO BY BEGIN CALL RETURN GOTO GO STOP SIGNAL REVERT ALLOCATE ALLOC FREE IN SET GET PUT FILE EDIT SYSIN SYSPRINT SKIP F A X COLUMN COL AREA FIXEDOVERFLOW FOFL ZERODIVIDE ZDIV ENDFILE ERROR REFER DECLARE DCL FIXED BINARY BIN CHARACTER CHAR VARYING VAR BIT POINTER PTR OFFSET AUTOMATIC AUTO STATIC CONTROLLED CTL BASED INITIAL INIT BUILTIN ALIGNED UNALIGNED INTERNAL NULL EMPTY ABS SIGN MAX MIN MOD DIVIDE LENGTH SUBSTR INDEX VERIFY LBOUND HBOUND DIM ALLOCATION ADDR ONCODE OPEN CLOSE READ WRITE REWRITE DELETE LOCATE SELECT LEAVE EXIT FORMAT DEFAULT ENTRY LIST DATA DECIMAL DEC FLOAT PICTURE PIC COMPLEX LABEL EXTERNAL EXT LIKE DEFINED DEF UNION GENERIC";
 
 /// A name in each place where one may stand, written as %.
 const PLACES: &[&str] = &[
@@ -51,7 +51,7 @@ fn takes_every_word_as_a_name(rt: HostRuntime) -> Result<(), Fail> {
     for word in WORDS.split(' ') {
         let source = named_all(alloc, word)?;
         let got = shown(alloc, source.as_bytes())?;
-        if got.as_str().contains("Syntax") || got.as_str().len() < 300 {
+        if !got.as_str().starts_with(word) {
             write!(wrong, "{word}: {got}\n")?;
         }
     }
