@@ -1,14 +1,14 @@
 // What the declarations of a program may not say.
 #![tactic(auto)]
 
-mod attribute;
+pub mod attribute;
 mod block;
-mod constant;
+pub mod constant;
 mod extent;
 mod head;
-mod held;
+pub mod held;
 mod initial;
-mod least;
+pub mod least;
 mod program;
 mod refer;
 mod refusal;

@@ -28,6 +28,8 @@ pub mod Assigning
 pub mod Generations
 pub mod SingleStatements
 pub mod Resolving
+pub mod TypedView
+pub mod TypedStatementView
 pub mod Typed
 pub mod Storage
 pub mod Flow

@@ -12,3 +12,4 @@ pub mod outcome;
 pub mod scope;
 pub mod stmt;
 pub mod token;
+pub mod typed;
