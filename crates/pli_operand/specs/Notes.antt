@@ -1,0 +1,28 @@
+-- What the judgements so far come to, as far as it matters: the least of what they break, and whether the extent that is
+-- being judged mentions what it may not.
+use Rattle.std.specs.Prelude.{Bool, false, ◌||◌, List, [], ◌∷◌, Option, Some, None}
+use Rattle.std.specs.List.{list_any}
+use Rattle.pli_meaning.specs.declared.expr.Place.{Place}
+use Rattle.pli_meaning.specs.declared.fault.SourceKind.{SourceKind}
+use Rattle.pli_meaning.specs.declared.fault.SourceFault.{SourceFault}
+use Rattle.pli_meaning.specs.Refusals.{fault, soonest}
+use Rattle.pli_meaning.specs.Judging.{Judged, Mention}
+use Rattle.pli_meaning.specs.Generations.{is_forbidden}
+use Rattle.pli_meaning.specs.TypedTree as Y
+
+pub record Noted : Type 0 where
+  pub found : Option SourceFault
+  pub own : Option Y.Variable
+  pub forbidden : Bool
+
+-- outside an extent anything may be mentioned
+abbrev pub any_forbidden : Option Y.Variable → List Mention → Bool
+any_forbidden None mentions = false
+any_forbidden (Some own) mentions = list_any (is_forbidden own) mentions
+
+-- a rule that is broken at a place
+abbrev pub with_fault : Noted → Place → SourceKind → Noted
+with_fault n place kind = record { found = soonest n.found (fault place kind ∷ []); own = n.own; forbidden = n.forbidden }
+
+unfoldable pub noted : {X : Type 0} → Noted → Judged X → Noted
+noted n j = record { found = soonest n.found j.faults; own = n.own; forbidden = n.forbidden || any_forbidden n.own j.mentions }
