@@ -3,16 +3,16 @@ use Rattle.std.proofs.Common.{◌≡◌, ◌∙◌, Bool, true, false, List, [],
 use Rattle.std.specs.Prelude.{◌||◌}
 use Rattle.std.specs.List.{list_any}
 use Rattle.pli_meaning.specs.declared.fault.SourceFault.{SourceFault}
-use Rattle.pli_meaning.specs.Judging.{Judged, Mention, fine, broken, mention, after}
+use Rattle.pli_meaning.specs.declared.typed.Variable.{Variable}
+use Rattle.pli_meaning.specs.Judging.{Mention}
 use Rattle.pli_meaning.specs.Generations.{is_forbidden}
 use Rattle.pli_meaning.specs.TypedTree as Y
+use Rattle.pli_meaning.specs.TypedView.{area_of, variable_of}
 use Rattle.pli_meaning.proofs.Least.{soonest-append}
 use Rattle.pli_meaning.specs.Refusals.{soonest}
-use Rattle.pli_meaning.specs.declared.typed.Variable.{Variable}
-use Rattle.pli_meaning.specs.TypedView.{area_of, variable_of}
 use Rattle.pli_operand.specs.declared.notes.Notes.{Notes}
 use Rattle.pli_operand.specs.Shown.{notes_of}
-use Rattle.pli_operand.specs.Notes.{Noted, with_fault, any_forbidden, noted}
+use Rattle.pli_operand.specs.Notes.{Noted, any_forbidden, with_lists, with_fault, with_mention}
 
 any_append : {X : Type 0} (test : X → Bool) (xs ys : List X) → list_any test (xs ++ ys) ≡ (list_any test xs || list_any test ys)
 any_append test [] ys = refl
@@ -37,35 +37,28 @@ forbidden_none (Some own) = refl
 abbrev made : Noted → Option SourceFault → Bool → Noted
 made n o b = record { found = o; own = n.own; forbidden = b }
 
-noted_by : (n : Noted) (o p : Option SourceFault) (a b : Bool) → o ≡ p → a ≡ b → made n o a ≡ made n p b
-noted_by n o p a b e f = ap₂ (made n) e f
+pub noted_none : (n : Noted) → with_lists n [] [] ≡ n
+unfolding with_lists soonest
+noted_none n = ap (made n n.found) (ap (λ b. n.forbidden || b) (forbidden_none n.own) ∙ or_false n.forbidden)
 
-pub noted_fine : {X : Type 0} (n : Noted) (x : X) → noted n (fine x) ≡ n
-unfolding noted soonest
-noted_fine n x = noted_by n _ _ _ _ refl (ap (λ b. n.forbidden || b) (forbidden_none n.own) ∙ or_false n.forbidden)
+pub noted_append : (n : Noted) (fs gs : List SourceFault) (ms ks : List Mention) → with_lists n (fs ++ gs) (ms ++ ks) ≡ with_lists (with_lists n fs ms) gs ks
+unfolding with_lists
+noted_append n fs gs ms ks = ap₂ (made n) (soonest-append n.found fs gs) (ap (λ b. n.forbidden || b) (forbidden_append n.own ms ks) ∙ or_assoc n.forbidden (any_forbidden n.own ms) (any_forbidden n.own ks))
 
-pub noted_after : {X Z : Type 0} (n : Noted) (j : Judged X) (k : Judged Z) → noted n (after j k) ≡ noted (noted n j) k
-unfolding noted
-noted_after n j k = noted_by n _ _ _ _ (soonest-append n.found j.faults k.faults) (ap (λ b. n.forbidden || b) (forbidden_append n.own j.mentions k.mentions) ∙ or_assoc n.forbidden (any_forbidden n.own j.mentions) (any_forbidden n.own k.mentions))
+pub noted_fault : (n : Noted) (f : SourceFault) (fs : List SourceFault) (ms : List Mention) → with_lists n (f ∷ fs) ms ≡ with_lists (with_fault n f) fs ms
+unfolding with_lists soonest
+noted_fault n f fs ms = refl
 
-pub noted_broken : {X : Type 0} (n : Noted) (place : _) (kind : _) (x : X) → noted n (broken place kind x) ≡ with_fault n place kind
-unfolding noted
-noted_broken n place kind x = noted_by n _ _ _ _ refl (ap (λ b. n.forbidden || b) (forbidden_none n.own) ∙ or_false n.forbidden)
+pub noted_mention : (n : Noted) (m : Mention) (fs : List SourceFault) (ms : List Mention) → with_lists n fs (m ∷ ms) ≡ with_lists (with_mention n m) fs ms
+unfolding with_lists
+noted_mention n m fs ms = ap (made n (soonest n.found fs)) (ap (λ b. n.forbidden || b) (forbidden_append n.own (m ∷ []) ms) ∙ or_assoc n.forbidden (any_forbidden n.own (m ∷ [])) (any_forbidden n.own ms))
 
--- what is mentioned where no extent is judged, and where one is
-pub noted_free : (n : Noted) (m : Mention) → n.own ≡ None → n ≡ noted n (mention m)
-unfolding noted soonest
-noted_free n m e = noted_by n _ _ _ _ refl (sym (ap (λ o. n.forbidden || any_forbidden o (m ∷ [])) e ∙ or_false n.forbidden))
+-- a mention where no extent is judged, and where one is
+pub mentioned_free : (n : Notes) (m : Mention) → n.own ≡ None → notes_of n ≡ with_mention (notes_of n) m
+mentioned_free n m e = ap (made (notes_of n) n.found) (sym (ap (λ o. n.forbidden || any_forbidden o (m ∷ [])) (ap area_of e) ∙ or_false n.forbidden))
 
-pub noted_mention : (n : Noted) (m : Mention) (own : Y.Variable) (b : Bool) → n.own ≡ Some own → b ≡ (n.forbidden || is_forbidden own m) → made n n.found b ≡ noted n (mention m)
-unfolding noted soonest
-noted_mention n m own b e f = noted_by n _ _ _ _ refl (f ∙ ap (λ c. n.forbidden || c) (sym (or_false (is_forbidden own m))) ∙ sym (ap (λ o. n.forbidden || any_forbidden o (m ∷ [])) e))
+pub mentioned : (n : Notes) (m : Mention) (own : Variable) (b : Bool) → n.own ≡ Some own → b ≡ is_forbidden (variable_of own) m → notes_of (record { found = n.found; own = n.own; forbidden = n.forbidden || b }) ≡ with_mention (notes_of n) m
+mentioned n m own b e f = ap (made (notes_of n) n.found) (ap (λ c. n.forbidden || c) (f ∙ sym (or_false (is_forbidden (variable_of own) m))) ∙ sym (ap (λ o. n.forbidden || any_forbidden o (m ∷ [])) (ap area_of e)))
 
--- the same of the notes that a program holds
-pub mentioned_free : (n : Notes) (m : Mention) → n.own ≡ None → notes_of n ≡ noted (notes_of n) (mention m)
-mentioned_free n m e = noted_free (notes_of n) m (ap area_of e)
-
-pub mentioned : (n : Notes) (m : Mention) (own : Variable) (b : Bool) → n.own ≡ Some own → b ≡ is_forbidden (variable_of own) m → notes_of (record { found = n.found; own = n.own; forbidden = n.forbidden || b }) ≡ noted (notes_of n) (mention m)
-mentioned n m own b e f = noted_mention (notes_of n) m (variable_of own) (n.forbidden || b) (ap area_of e) (ap (λ c. n.forbidden || c) f)
-
-pub ruleset noting = (noted_fine, noted_after)
+-- what is judged in turn
+pub ruleset noting = (noted_none, noted_append, noted_fault, noted_mention)

@@ -2,10 +2,8 @@
 -- being judged mentions what it may not.
 use Rattle.std.specs.Prelude.{Bool, false, ◌||◌, List, [], ◌∷◌, Option, Some, None}
 use Rattle.std.specs.List.{list_any}
-use Rattle.pli_meaning.specs.declared.expr.Place.{Place}
-use Rattle.pli_meaning.specs.declared.fault.SourceKind.{SourceKind}
 use Rattle.pli_meaning.specs.declared.fault.SourceFault.{SourceFault}
-use Rattle.pli_meaning.specs.Refusals.{fault, soonest}
+use Rattle.pli_meaning.specs.Refusals.{soonest}
 use Rattle.pli_meaning.specs.Judging.{Judged, Mention}
 use Rattle.pli_meaning.specs.Generations.{is_forbidden}
 use Rattle.pli_meaning.specs.TypedTree as Y
@@ -20,9 +18,15 @@ abbrev pub any_forbidden : Option Y.Variable → List Mention → Bool
 any_forbidden None mentions = false
 any_forbidden (Some own) mentions = list_any (is_forbidden own) mentions
 
--- a rule that is broken at a place
-abbrev pub with_fault : Noted → Place → SourceKind → Noted
-with_fault n place kind = record { found = soonest n.found (fault place kind ∷ []); own = n.own; forbidden = n.forbidden }
+unfoldable pub with_lists : Noted → List SourceFault → List Mention → Noted
+with_lists n faults mentions = record { found = soonest n.found faults; own = n.own; forbidden = n.forbidden || any_forbidden n.own mentions }
 
-unfoldable pub noted : {X : Type 0} → Noted → Judged X → Noted
-noted n j = record { found = soonest n.found j.faults; own = n.own; forbidden = n.forbidden || any_forbidden n.own j.mentions }
+-- what is noted with what a part comes to
+abbrev pub noted : {X : Type 0} → Noted → Judged X → Noted
+noted n j = with_lists n j.faults j.mentions
+
+abbrev pub with_fault : Noted → SourceFault → Noted
+with_fault n f = record { found = soonest n.found (f ∷ []); own = n.own; forbidden = n.forbidden }
+
+abbrev pub with_mention : Noted → Mention → Noted
+with_mention n m = record { found = n.found; own = n.own; forbidden = n.forbidden || any_forbidden n.own (m ∷ []) }

@@ -3,4 +3,7 @@
 
 pub mod notes;
 pub mod operand;
+pub mod shape;
+pub mod stored;
+pub mod value;
 pub mod wanted;

@@ -1,10 +1,11 @@
 // What is noted while a program is judged.
 
 ghost use Rattle.std.specs.Prelude.{◌≡◌, Option, Some, None};
-ghost use Rattle.pli_meaning.specs.Judging.{demand, mention, MentionsFunction, MentionsVariable};
+ghost use Rattle.pli_meaning.specs.Judging.{demand, MentionsFunction, MentionsVariable};
 ghost use Rattle.pli_meaning.specs.Generations.{is_forbidden};
+ghost use Rattle.pli_meaning.specs.Refusals.{fault};
 ghost use Rattle.pli_meaning.specs.TypedView.{variable_of};
-ghost use Rattle.pli_operand.specs.Notes.{noted, with_fault};
+ghost use Rattle.pli_operand.specs.Notes.{noted, with_fault, with_mention};
 ghost use Rattle.pli_operand.specs.Shown.{notes_of};
 
 use pli_declaring::least::noted;
@@ -32,13 +33,13 @@ fn is_unmade(own: Variable, variable: Variable) -> bool
 impl Notes {
     /// A rule is broken at a place.
     pub fn broken(&mut self, place: Place, kind: SourceKind)
-        ensures { notes_of self.new ≡ with_fault (notes_of self.old) place kind }
+        ensures { notes_of self.new ≡ with_fault (notes_of self.old) (fault place kind) }
     {
         self.found = noted(self.found, true, place, kind);
     }
 
     /// A rule is broken at a place unless this holds.
-    #[tactic(auto, using(crate::proofs::Noting::noted_fine, crate::proofs::Noting::noted_broken))]
+    #[tactic(auto, using(crate::proofs::Noting::noting))]
     pub fn demand(&mut self, holds: bool, place: Place, kind: SourceKind)
         ensures { notes_of self.new ≡ noted (notes_of self.old) (demand holds place kind) }
     {
@@ -50,7 +51,7 @@ impl Notes {
     /// A variable is mentioned.
     #[tactic(auto, using(crate::proofs::Noting::mentioned_free, crate::proofs::Noting::mentioned))]
     pub fn mention(&mut self, variable: Variable)
-        ensures { notes_of self.new ≡ noted (notes_of self.old) (mention (MentionsVariable (variable_of variable))) }
+        ensures { notes_of self.new ≡ with_mention (notes_of self.old) (MentionsVariable (variable_of variable)) }
     {
         match self.own {
             None => {}
@@ -61,7 +62,7 @@ impl Notes {
     /// A function is mentioned.
     #[tactic(auto, using(crate::proofs::Noting::mentioned_free, crate::proofs::Noting::mentioned))]
     pub fn mention_function(&mut self)
-        ensures { notes_of self.new ≡ noted (notes_of self.old) (mention MentionsFunction) }
+        ensures { notes_of self.new ≡ with_mention (notes_of self.old) MentionsFunction }
     {
         match self.own {
             None => {}

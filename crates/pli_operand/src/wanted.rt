@@ -2,6 +2,7 @@
 
 ghost use Rattle.std.specs.Prelude.{◌≡◌, Some, None, IfOk, OnOk, false, []};
 ghost use Rattle.pli_meaning.specs.Converting as C;
+ghost use Rattle.pli_meaning.specs.Refusals.{fault};
 ghost use Rattle.pli_meaning.specs.TypedTree as Y;
 ghost use Rattle.pli_meaning.specs.TypedView.{area_of, bit_of, number_of, offset_of, pointer_of, text_of, value_of};
 ghost use Rattle.pli_meaning.specs.View.{option_of};
@@ -190,7 +191,7 @@ pub fn offset_of<'a>(
 }
 
 /// The value, or where there is none a mismatch at its place and what stands in for it.
-#[tactic(auto, using(crate::proofs::Noting::noted_fine, crate::proofs::Noting::noted_broken), unfolding(pli_meaning::specs::TypedView::number_of))]
+#[tactic(auto, using(crate::proofs::Noting::noting), unfolding(pli_meaning::specs::TypedView::number_of))]
 pub fn number_or_mismatch<'a>(
     notes: &mut Notes,
     place: Place,
@@ -209,7 +210,7 @@ pub fn number_or_mismatch<'a>(
 }
 
 /// The value, or where there is none a mismatch at its place and what stands in for it.
-#[tactic(auto, using(crate::proofs::Noting::noted_fine, crate::proofs::Noting::noted_broken), unfolding(pli_meaning::specs::TypedView::text_of))]
+#[tactic(auto, using(crate::proofs::Noting::noting), unfolding(pli_meaning::specs::TypedView::text_of))]
 pub fn text_or_mismatch<'a>(notes: &mut Notes, place: Place, value: Option<Text<'a>>) -> Text<'a>
     ensures noted { notes_of notes.new ≡ noted (notes_of notes.old) (C.converted_or (Y.TextConstant []) place (option_of text_of value.entry)) }
     ensures value { text_of result ≡ (C.converted_or (Y.TextConstant []) place (option_of text_of value.entry)).value }
@@ -224,7 +225,7 @@ pub fn text_or_mismatch<'a>(notes: &mut Notes, place: Place, value: Option<Text<
 }
 
 /// The value, or where there is none a mismatch at its place and what stands in for it.
-#[tactic(auto, using(crate::proofs::Noting::noted_fine, crate::proofs::Noting::noted_broken), unfolding(pli_meaning::specs::TypedView::bit_of))]
+#[tactic(auto, using(crate::proofs::Noting::noting), unfolding(pli_meaning::specs::TypedView::bit_of))]
 pub fn bit_or_mismatch<'a>(notes: &mut Notes, place: Place, value: Option<Bit<'a>>) -> Bit<'a>
     ensures noted { notes_of notes.new ≡ noted (notes_of notes.old) (C.converted_or (Y.BitConstant false) place (option_of bit_of value.entry)) }
     ensures value { bit_of result ≡ (C.converted_or (Y.BitConstant false) place (option_of bit_of value.entry)).value }
@@ -239,7 +240,7 @@ pub fn bit_or_mismatch<'a>(notes: &mut Notes, place: Place, value: Option<Bit<'a
 }
 
 /// The value, or where there is none a mismatch at its place and what stands in for it.
-#[tactic(auto, using(crate::proofs::Noting::noted_fine, crate::proofs::Noting::noted_broken), unfolding(pli_meaning::specs::TypedView::pointer_of))]
+#[tactic(auto, using(crate::proofs::Noting::noting), unfolding(pli_meaning::specs::TypedView::pointer_of))]
 pub fn pointer_or_mismatch<'a>(
     notes: &mut Notes,
     place: Place,
@@ -258,7 +259,7 @@ pub fn pointer_or_mismatch<'a>(
 }
 
 /// The value, or where there is none a mismatch at its place and what stands in for it.
-#[tactic(auto, using(crate::proofs::Noting::noted_fine, crate::proofs::Noting::noted_broken), unfolding(pli_meaning::specs::TypedView::offset_of))]
+#[tactic(auto, using(crate::proofs::Noting::noting), unfolding(pli_meaning::specs::TypedView::offset_of))]
 pub fn offset_or_mismatch<'a>(
     notes: &mut Notes,
     place: Place,
@@ -277,7 +278,7 @@ pub fn offset_or_mismatch<'a>(
 }
 
 /// A number where one is wanted.
-#[tactic(auto, using(crate::proofs::Noting::noted_fine), unfolding(pli_meaning::specs::TypedView::number_of))]
+#[tactic(auto, using(crate::proofs::Noting::noting), unfolding(pli_meaning::specs::TypedView::number_of))]
 pub fn number_wanted<'a>(
     alloc: Global,
     notes: &mut Notes,
@@ -297,7 +298,7 @@ pub fn number_wanted<'a>(
 }
 
 /// A text where one is wanted.
-#[tactic(auto, using(crate::proofs::Noting::noted_fine), unfolding(pli_meaning::specs::TypedView::text_of))]
+#[tactic(auto, using(crate::proofs::Noting::noting), unfolding(pli_meaning::specs::TypedView::text_of))]
 pub fn text_wanted<'a>(
     alloc: Global,
     notes: &mut Notes,
@@ -317,7 +318,7 @@ pub fn text_wanted<'a>(
 }
 
 /// A bit where one is wanted.
-#[tactic(auto, using(crate::proofs::Noting::noted_fine), unfolding(pli_meaning::specs::TypedView::bit_of))]
+#[tactic(auto, using(crate::proofs::Noting::noting), unfolding(pli_meaning::specs::TypedView::bit_of))]
 pub fn bit_wanted<'a>(
     alloc: Global,
     notes: &mut Notes,
@@ -337,7 +338,7 @@ pub fn bit_wanted<'a>(
 }
 
 /// A bit where one is wanted and nothing is converted.
-#[tactic(auto, using(crate::proofs::Noting::noted_fine), unfolding(pli_meaning::specs::TypedView::bit_of))]
+#[tactic(auto, using(crate::proofs::Noting::noting), unfolding(pli_meaning::specs::TypedView::bit_of))]
 pub fn own_bit_wanted<'a>(notes: &mut Notes, place: Place, value: Option<Value<'a>>) -> Bit<'a>
     ensures noted { notes_of notes.new ≡ noted (notes_of notes.old) (C.own_bit_wanted place (option_of value_of value.entry)) }
     ensures value { bit_of result ≡ (C.own_bit_wanted place (option_of value_of value.entry)).value }
@@ -349,7 +350,7 @@ pub fn own_bit_wanted<'a>(notes: &mut Notes, place: Place, value: Option<Value<'
 }
 
 /// An OFFSET becomes a POINTER by its area, which so is used.
-#[tactic(auto, using(crate::proofs::Noting::noted_fine))]
+#[tactic(auto, using(crate::proofs::Noting::noting))]
 fn area_mentioned(notes: &mut Notes, value: &Option<Value>)
     ensures { notes_of notes.new ≡ noted (notes_of notes.old) (C.area_mentioned (option_of value_of value.now)) }
 {
@@ -364,7 +365,7 @@ fn area_mentioned(notes: &mut Notes, value: &Option<Value>)
     }
 }
 
-#[tactic(auto, using(crate::proofs::Noting::noted_fine), unfolding(pli_meaning::specs::TypedView::pointer_of))]
+#[tactic(auto, using(crate::proofs::Noting::noting), unfolding(pli_meaning::specs::TypedView::pointer_of))]
 fn pointer_converted<'a>(
     alloc: Global,
     notes: &mut Notes,
@@ -399,7 +400,7 @@ pub fn pointer_wanted<'a>(
 }
 
 /// An OFFSET that is declared with this area, where one is wanted.
-#[tactic(auto, using(crate::proofs::Noting::noted_fine), unfolding(pli_meaning::specs::TypedView::offset_of))]
+#[tactic(auto, using(crate::proofs::Noting::noting), unfolding(pli_meaning::specs::TypedView::offset_of))]
 pub fn offset_wanted<'a>(
     alloc: Global,
     notes: &mut Notes,
