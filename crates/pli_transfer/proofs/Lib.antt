@@ -1,0 +1,4 @@
+pub mod Drops
+pub mod Pairs
+pub mod Firsts
+pub mod Noted
