@@ -1,4 +1,0 @@
-pub mod Parts
-pub mod Calls
-pub mod FirstNames
-pub mod Walks

@@ -1,4 +1,0 @@
-pub mod Drops
-pub mod Pairs
-pub mod Firsts
-pub mod Noted

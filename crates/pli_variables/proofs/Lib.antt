@@ -1,8 +1,0 @@
-pub mod Grouping
-pub mod Extents
-pub mod Amounts
-pub mod Tabled
-pub mod Areas
-pub mod Shaped
-pub mod Procedures
-pub mod Keeping
