@@ -1,6 +1,5 @@
 -- What a program's values show of the definitions.
 use Rattle.std.specs.Prelude.{map, ℕ, drop}
-use Rattle.pli_meaning.specs.View.{option_of}
 use Rattle.pli_meaning.specs.TypedTree as Y
 use Rattle.pli_meaning.specs.TypedView.{area_of, leaf_of, reference_of, value_of}
 use Rattle.pli_meaning.specs.Converting.{Designated, Referent, Designates, Gives, GivesEmptyArea, GivesNothing, NotKnown, Operand}

@@ -5,5 +5,7 @@ pub mod notes;
 pub mod operand;
 pub mod shape;
 pub mod stored;
+#[cfg(test)]
+mod tests;
 pub mod value;
 pub mod wanted;
