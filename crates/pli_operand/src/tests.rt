@@ -161,23 +161,31 @@ fn operands_give_their_values(rt: HostRuntime) -> Result<(), Fail> {
 }
 
 #[test]
-fn values_are_stored_by_the_kind_that_is_there(rt: HostRuntime) -> Result<(), Fail> {
+fn a_number_is_stored_with_its_digits(rt: HostRuntime) -> Result<(), Fail> {
     let alloc = rt.alloc();
     let mut notes = nothing();
-    let number = stored_as(alloc, &mut notes, LeafType::Fixed(31), HERE, Some(value(2)))?;
+    let kind = LeafType::Fixed(31);
     assert!(rt;
         matches!(
-            number,
-            Stored::Number {
-                precision: 31,
-                value: Number::OfBit(_)
-            }
+            stored_as(alloc, &mut notes, kind, HERE, Some(value(2)))?,
+            Stored::Number { precision: 31, .. }
         )
     );
-    let text = operand_stored(alloc, &mut notes, LeafType::Varying(Extent::Star), given(0))?;
-    assert!(rt; matches!(text, Stored::Text(Text::OfNumber { precision: 15, .. })));
-    let offset = operand_stored(alloc, &mut notes, LeafType::Offset(Some(AREA)), given(3))?;
-    assert!(rt; matches!(offset, Stored::Offset(Offset::Into { area: AREA, .. })));
+    assert_eq!(rt; notes.found, None);
+    Ok(())
+}
+
+#[test]
+fn no_value_is_stored_in_an_area(rt: HostRuntime) -> Result<(), Fail> {
+    let alloc = rt.alloc();
+    let mut notes = nothing();
+    let text = LeafType::Varying(Extent::Star);
+    assert!(rt;
+        matches!(
+            operand_stored(alloc, &mut notes, text, given(0))?,
+            Stored::Text(_)
+        )
+    );
     assert_eq!(rt; notes.found, None);
     operand_stored(alloc, &mut notes, LeafType::Area(Extent::Star), given(0))?;
     assert_eq!(rt; notes.found, Some(MISMATCH));
