@@ -19,6 +19,3 @@ mod twice;
 mod variable;
 
 pub use refusal::declare;
-
-#[cfg(test)]
-mod tests;

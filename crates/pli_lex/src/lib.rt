@@ -88,6 +88,3 @@ fn read(alloc: Global, source: &[u8]) -> Result<Vec<Token>, SourceFault>
     }
     Ok(tokens)
 }
-
-#[cfg(test)]
-mod tests;

@@ -5,7 +5,5 @@ pub mod notes;
 pub mod operand;
 pub mod shape;
 pub mod stored;
-#[cfg(test)]
-mod tests;
 pub mod value;
 pub mod wanted;

@@ -7,5 +7,3 @@ mod reply;
 pub mod report;
 pub mod run;
 pub mod runtime;
-#[cfg(test)]
-mod tests;

@@ -4,5 +4,3 @@
 pub mod kind;
 pub mod signature;
 pub mod size;
-#[cfg(test)]
-mod tests;

@@ -9,5 +9,3 @@ mod parts;
 mod registers;
 mod service;
 mod statement;
-#[cfg(test)]
-mod tests;

@@ -5,7 +5,5 @@ mod header;
 pub mod image;
 mod leaf;
 mod table;
-#[cfg(test)]
-mod tests;
 mod word;
 mod writing;

@@ -5,5 +5,3 @@ pub mod code;
 pub mod decode;
 pub mod encode;
 mod fields;
-#[cfg(test)]
-mod tests;

@@ -1,7 +1,7 @@
 // A machine that runs RV32IM code over 16 MiB of memory.
 #![tactic(auto)]
 
-mod arithmetic;
+pub mod arithmetic;
 pub mod base;
 mod bytes;
 mod execute;
@@ -11,5 +11,3 @@ pub mod machine;
 mod operation;
 pub mod services;
 pub mod storage;
-#[cfg(test)]
-mod tests;

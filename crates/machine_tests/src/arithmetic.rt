@@ -1,6 +1,6 @@
 // Results of operations at edge values.
 
-use crate::arithmetic;
+use rv_machine::arithmetic;
 use pli_meaning::instr::{BranchTest, ImmediateOp, RegisterOp, ShiftOp};
 
 static OPERATIONS: [(RegisterOp, u32, u32, u32); 73] = [

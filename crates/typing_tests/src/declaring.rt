@@ -4,7 +4,8 @@
 // procedures is a label, parameters and options: "Tm" is `T: PROCEDURE OPTIONS(MAIN)`. Each word's column is ten more
 // than that of the word before it, from 10 on.
 
-use super::*;
+use crate::at;
+use pli_declaring::declare;
 use pli_meaning::declaration::{
     Attribute, Bound, DeclareItem, DeclaredName, Extent, InitialItem, InitialValue, Refer, Size,
 };
@@ -15,10 +16,6 @@ use pli_meaning::stmt::{Item, Items, ProcedureHead, ProcedureOption, Stmt, Tree}
 use pli_meaning::token::Word;
 use std::alloc::{AllocError, Global};
 use std::test::*;
-
-fn at(column: u32) -> Place {
-    Place { line: 1, column }
-}
 
 fn named(alloc: Global, letters: &[u8], word: Word, column: u32) -> Result<Name, AllocError> {
     Ok(Name {

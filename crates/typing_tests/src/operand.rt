@@ -1,14 +1,14 @@
 // What no clause says: that calls succeed, and that conversions mean what a reader of the language expects.
 
-use crate::notes::Notes;
-use crate::operand::{Designated, Operand, Referent};
-use crate::shape::{element_type, is_aggregate, is_area, scalar_type};
-use crate::stored::{area_operand, no_reference, no_variable, operand_stored, stored_as};
-use crate::value::{
+use pli_operand::notes::Notes;
+use pli_operand::operand::{Designated, Operand, Referent};
+use pli_operand::shape::{element_type, is_aggregate, is_area, scalar_type};
+use pli_operand::stored::{area_operand, no_reference, no_variable, operand_stored, stored_as};
+use pli_operand::value::{
     number_operand, operand_value, own_bit_operand, pointer_operand, text_operand, value_from,
     value_in, value_with_type,
 };
-use crate::wanted::{
+use pli_operand::wanted::{
     bit_of, bit_wanted, number_of, number_wanted, offset_of, offset_wanted, own_bit_wanted,
     pointer_of, pointer_wanted, text_of, text_wanted,
 };

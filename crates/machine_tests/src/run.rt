@@ -2,8 +2,8 @@
 
 ghost use Rattle.std.specs.Prelude.{◌<◌, ◌≡◌, IfOk, IfSome, vec_len};
 
-use crate::report::{refused_image, report, unread, unwritten};
-use crate::run::{RunFault, run};
+use pli_run::report::{refused_image, report, unread, unwritten};
+use pli_run::run::{RunFault, run};
 use pli_meaning::condition::Condition;
 use pli_meaning::fault::{SourceFault, SourceKind};
 use pli_meaning::image::ImageFault;

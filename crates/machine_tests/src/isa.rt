@@ -1,7 +1,7 @@
 // Words against what an assembler makes of their text. The words are LLVM's, for RV32IM, with distances written out.
 
-use crate::decode::decode;
-use crate::encode::encode;
+use rv_isa::decode::decode;
+use rv_isa::encode::encode;
 use pli_meaning::instr::{
     BranchTest, ImmediateOp, Instr, LoadKind, RegisterOp, ShiftOp, StoreKind,
 };

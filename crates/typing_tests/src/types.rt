@@ -1,8 +1,8 @@
 // Worked sizes and conversions, and sizes that no program reaches.
 
-use crate::kind::{Conversion, Kind, convert_kind, converted_length};
-use crate::signature::{Bounds, Class, Leaf, LeafKind, Signature};
-use crate::size::{footprint, size_of};
+use pli_types::kind::{Conversion, Kind, convert_kind, converted_length};
+use pli_types::signature::{Bounds, Class, Leaf, LeafKind, Signature};
+use pli_types::size::{footprint, size_of};
 use smallvec::SmallVec;
 use std::alloc::{AllocError, Global};
 use std::test::Fail;

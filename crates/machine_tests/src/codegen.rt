@@ -4,7 +4,7 @@ ghost use Rattle.std.specs.Prelude.{◌≡◌, IfOk};
 ghost use Rattle.pli_meaning.specs.View.{procedure_head_of, tree_of};
 ghost use Rattle.rv_codegen.specs.Example.{empty_head, empty_tree};
 
-use crate::generate::generate;
+use rv_codegen::generate::generate;
 use pli_meaning::expr::{Name, Place};
 use pli_meaning::stmt::{Item, Items, ProcedureHead, ProcedureOption, Tree};
 use pli_meaning::token::Word;

@@ -1,7 +1,6 @@
 // Words of the grammar as names, and each refusal of tokens and heads early, in the middle and late in a source.
 
-use super::*;
-use crate::tests::{differing, shown};
+use crate::parse::{differing, shown};
 use std::fmt::Write;
 use std::test::*;
 

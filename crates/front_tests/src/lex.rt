@@ -1,6 +1,6 @@
 // What no clause says: that a call succeeds, and that the relations mean what a reader of sources expects.
 
-use super::*;
+use pli_lex::tokens;
 use std::fmt::Write;
 use std::test::Fail;
 

@@ -1,6 +1,6 @@
 // Trees and refusals of whole sources.
 
-use super::*;
+use pli_parse::parse;
 use pli_lex::tokens;
 use pli_meaning::expr::{Arguments, Expr, Exprs, Name, Place, Qualified, Reference};
 use pli_meaning::stmt::{Counting, Item, Items, ProcedureHead, Stmt};

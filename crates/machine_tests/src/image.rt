@@ -1,8 +1,7 @@
 // Images against the bytes that the format gives them, and bytes that are those of none.
 
-use crate::header::MAGIC;
-use crate::image::{Image, is_loadable};
-use crate::word::{push_word, push_words};
+use crate::counted;
+use rv_image::image::{Image, is_loadable};
 use pli_meaning::image::ImageFault;
 use rv_isa::code::Code;
 use std::alloc::{AllocError, Global};
@@ -18,8 +17,13 @@ static SMALLEST: [u8; 28] = [
     0,
 ];
 
-fn counted(length: usize) -> u32 {
-    u32::try_from(length).unwrap_or(u32::MAX)
+const MAGIC: u32 = 0x5249_4c50;
+
+fn push_words(out: &mut Vec<u8>, words: &[u32]) -> Result<(), AllocError> {
+    for word in words {
+        out.extend_from_slice(&word.to_le_bytes())?;
+    }
+    Ok(())
 }
 
 // The bytes of such an image, whether it is one or not.
@@ -32,9 +36,7 @@ fn spelled(
 ) -> Result<Vec<u8>, AllocError> {
     let mut out = Vec::new(alloc);
     push_words(&mut out, &[MAGIC, 1, entry])?;
-    push_word(&mut out, counted(code.len()))?;
-    push_word(&mut out, counted(statics.len()))?;
-    push_word(&mut out, counted(table.len()))?;
+    push_words(&mut out, &[counted(code.len()), counted(statics.len()), counted(table.len())])?;
     push_words(&mut out, code)?;
     out.extend_from_slice(statics)?;
     push_words(&mut out, table)?;
@@ -94,7 +96,7 @@ fn parts_come_back_from_bytes(rt: HostRuntime) -> Result<(), Fail> {
 fn headed(alloc: Global, header: &[u32], word: u32) -> Result<Vec<u8>, AllocError> {
     let mut out = Vec::new(alloc);
     push_words(&mut out, header)?;
-    push_word(&mut out, word)?;
+    push_words(&mut out, &[word])?;
     Ok(out)
 }
 

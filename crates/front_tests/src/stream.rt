@@ -1,6 +1,6 @@
 // Trees, marks and stops of small sources.
 
-use super::*;
+use pli_stream::{Direction, Transfer, transfer};
 use pli_lex::tokens;
 use pli_meaning::expr::Exprs;
 use pli_meaning::stmt::{EditPair, Format, Formats};

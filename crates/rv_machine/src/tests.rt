@@ -1,4 +1,0 @@
-// What no clause says: results worked out elsewhere, and that calls can succeed.
-
-mod arithmetic;
-mod machine;

@@ -1,0 +1,21 @@
+// Tests of the crates from declarations to kinds, in a crate of their own, so that those crates are proved without them.
+#![tactic(auto)]
+
+#[cfg(test)]
+mod declaring;
+#[cfg(test)]
+mod operand;
+#[cfg(test)]
+mod types;
+
+ghost use Rattle.std.specs.Prelude.{◌≡◌};
+
+use pli_meaning::expr::Place;
+
+/// A place in the first line.
+pub fn at(column: u32) -> Place
+    ensures { result.line ≡ 1 }
+    ensures { result.column ≡ column }
+{
+    Place { line: 1, column }
+}
