@@ -24,8 +24,8 @@ use pli_meaning::expr::Place;
 
 /// A place in the first line.
 pub fn at(column: u32) -> Place
-    ensures { result.line ≡ 1 }
-    ensures { result.column ≡ column }
+    ensures line { result.line ≡ 1 }
+    ensures column { result.column ≡ column }
 {
     Place { line: 1, column }
 }

@@ -1,7 +1,7 @@
 // Results of operations at edge values.
 
-use rv_machine::arithmetic;
 use pli_meaning::instr::{BranchTest, ImmediateOp, RegisterOp, ShiftOp};
+use rv_machine::arithmetic;
 
 static OPERATIONS: [(RegisterOp, u32, u32, u32); 73] = [
     (RegisterOp::Add, 0x7fffffff, 0x00000001, 0x80000000),

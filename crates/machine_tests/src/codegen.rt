@@ -4,10 +4,10 @@ ghost use Rattle.std.specs.Prelude.{◌≡◌, IfOk};
 ghost use Rattle.pli_meaning.specs.View.{procedure_head_of, tree_of};
 ghost use Rattle.rv_codegen.specs.Example.{empty_head, empty_tree};
 
-use rv_codegen::generate::generate;
 use pli_meaning::expr::{Name, Place};
 use pli_meaning::stmt::{Item, Items, ProcedureHead, ProcedureOption, Tree};
 use pli_meaning::token::Word;
+use rv_codegen::generate::generate;
 use std::alloc::{AllocError, Global};
 use std::test::Fail;
 

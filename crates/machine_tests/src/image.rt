@@ -1,8 +1,8 @@
 // Images against the bytes that the format gives them, and bytes that are those of none.
 
 use crate::counted;
-use rv_image::image::{Image, is_loadable};
 use pli_meaning::image::ImageFault;
+use rv_image::image::{Image, is_loadable};
 use rv_isa::code::Code;
 use std::alloc::{AllocError, Global};
 use std::test::Fail;
@@ -36,7 +36,14 @@ fn spelled(
 ) -> Result<Vec<u8>, AllocError> {
     let mut out = Vec::new(alloc);
     push_words(&mut out, &[MAGIC, 1, entry])?;
-    push_words(&mut out, &[counted(code.len()), counted(statics.len()), counted(table.len())])?;
+    push_words(
+        &mut out,
+        &[
+            counted(code.len()),
+            counted(statics.len()),
+            counted(table.len()),
+        ],
+    )?;
     push_words(&mut out, code)?;
     out.extend_from_slice(statics)?;
     push_words(&mut out, table)?;

@@ -1,10 +1,10 @@
 // Words against what an assembler makes of their text. The words are LLVM's, for RV32IM, with distances written out.
 
-use rv_isa::decode::decode;
-use rv_isa::encode::encode;
 use pli_meaning::instr::{
     BranchTest, ImmediateOp, Instr, LoadKind, RegisterOp, ShiftOp, StoreKind,
 };
+use rv_isa::decode::decode;
+use rv_isa::encode::encode;
 use std::alloc::{AllocError, Global};
 use std::test::Fail;
 

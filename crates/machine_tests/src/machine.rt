@@ -1,12 +1,12 @@
 // Programs with what they come to. The words are those that LLVM's assembler makes for RV32IM.
 
+use pli_meaning::instr::Fault;
+use rv_image::image::{Image, is_loadable};
+use rv_isa::code::Code;
 use rv_machine::base::valid_base;
 use rv_machine::machine::{Machine, Step};
 use rv_machine::services::{Served, Services};
 use rv_machine::storage::Storage;
-use pli_meaning::instr::Fault;
-use rv_image::image::{Image, is_loadable};
-use rv_isa::code::Code;
 use std::alloc::Global;
 use std::test::Fail;
 

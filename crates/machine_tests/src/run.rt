@@ -2,13 +2,13 @@
 
 ghost use Rattle.std.specs.Prelude.{◌<◌, ◌≡◌, IfOk, IfSome, vec_len};
 
-use pli_run::report::{refused_image, report, unread, unwritten};
-use pli_run::run::{RunFault, run};
 use pli_meaning::condition::Condition;
 use pli_meaning::fault::{SourceFault, SourceKind};
 use pli_meaning::image::ImageFault;
 use pli_meaning::instr::{Fault, ImmediateOp, Instr, Register};
 use pli_meaning::outcome::{End, Limit, Outcome};
+use pli_run::report::{refused_image, report, unread, unwritten};
+use pli_run::run::{RunFault, run};
 use rv_image::image::{Image, is_loadable};
 use rv_isa::code::Code;
 use rv_isa::encode::encode;

@@ -1,5 +1,11 @@
 // What no clause says: that calls succeed, and that conversions mean what a reader of the language expects.
 
+use pli_meaning::expr::Place;
+use pli_meaning::fault::{SourceFault, SourceKind};
+use pli_meaning::typed::{
+    Arguments, Bit, Call, Callee, Extent, Leaf, LeafType, Number, Offset, Pointer, StorageClass,
+    Stored, Text, Value, Variable,
+};
 use pli_operand::notes::Notes;
 use pli_operand::operand::{Designated, Operand, Referent};
 use pli_operand::shape::{element_type, is_aggregate, is_area, scalar_type};
@@ -11,12 +17,6 @@ use pli_operand::value::{
 use pli_operand::wanted::{
     bit_of, bit_wanted, number_of, number_wanted, offset_of, offset_wanted, own_bit_wanted,
     pointer_of, pointer_wanted, text_of, text_wanted,
-};
-use pli_meaning::expr::Place;
-use pli_meaning::fault::{SourceFault, SourceKind};
-use pli_meaning::typed::{
-    Arguments, Bit, Call, Callee, Extent, Leaf, LeafType, Number, Offset, Pointer, StorageClass,
-    Stored, Text, Value, Variable,
 };
 use std::alloc::{AllocError, Global};
 use std::test::Fail;
