@@ -25,11 +25,11 @@ fn named(alloc: Global, letters: &[u8], word: Word, column: u32) -> Result<Name,
     })
 }
 
-fn letter(alloc: Global, code: u8, column: u32) -> Result<Name, AllocError> {
+pub fn letter(alloc: Global, code: u8, column: u32) -> Result<Name, AllocError> {
     named(alloc, &[code], Word::Other, column)
 }
 
-fn number(value: u64, column: u32) -> Extent {
+pub fn number(value: u64, column: u32) -> Extent {
     Extent {
         value: Expr::Number {
             value,

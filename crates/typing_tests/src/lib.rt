@@ -7,6 +7,8 @@ mod declaring;
 mod operand;
 #[cfg(test)]
 mod types;
+#[cfg(test)]
+mod variables;
 
 ghost use Rattle.std.specs.Prelude.{◌≡◌};
 
