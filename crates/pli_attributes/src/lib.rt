@@ -9,3 +9,6 @@ mod word;
 
 pub use attribute::attributes;
 pub use item::declare_items;
+
+#[cfg(test)]
+mod tests;

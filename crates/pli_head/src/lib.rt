@@ -8,3 +8,6 @@ pub mod reading;
 mod statement;
 
 pub use heads::Head;
+
+#[cfg(test)]
+mod tests;

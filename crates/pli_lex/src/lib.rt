@@ -88,3 +88,6 @@ fn read(alloc: Global, source: &[u8]) -> Result<Vec<Token>, SourceFault>
     }
     Ok(tokens)
 }
+
+#[cfg(test)]
+mod tests;

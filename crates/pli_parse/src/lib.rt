@@ -45,3 +45,8 @@ pub fn parse(alloc: Global, source: &[u8], tokens: &[Token]) -> Result<Tree, Sou
         Err(_) => Err(OUT_OF_MEMORY),
     }
 }
+
+#[cfg(test)]
+mod tests;
+#[cfg(test)]
+mod word_tests;

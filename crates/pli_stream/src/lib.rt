@@ -12,3 +12,6 @@ mod stream;
 
 pub use parts::{Direction, Transfer};
 pub use stream::transfer;
+
+#[cfg(test)]
+mod tests;

@@ -1,10 +1,9 @@
 // Trees and refusals of whole sources.
 
+use super::*;
 use pli_lex::tokens;
 use pli_meaning::expr::{Arguments, Expr, Exprs, Name, Place, Qualified, Reference};
 use pli_meaning::stmt::{Counting, Item, Items, ProcedureHead, Stmt};
-use pli_parse::parse;
-use std::alloc::Global;
 use std::fmt::Write;
 use std::test::*;
 

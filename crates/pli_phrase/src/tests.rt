@@ -1,13 +1,13 @@
 // What is read of small sources. Each source here has one blank behind each token.
 
-use pli_meaning::expr::{Arguments, Expr, Exprs, Qualified, Reference};
-use pli_meaning::token::{Kind, Symbol, Token, Word};
-use pli_phrase::cursor::{Cursor, Marks};
-use pli_phrase::expression::{
+use crate::cursor::{Cursor, Marks};
+use crate::expression::{
     Beginning, arguments, begins_assignment, expression, expressions, reference,
 };
-use pli_phrase::stop::Stop;
-use pli_phrase::token::count;
+use crate::stop::Stop;
+use crate::token::count;
+use pli_meaning::expr::{Arguments, Expr, Exprs, Qualified, Reference};
+use pli_meaning::token::{Kind, Symbol, Token, Word};
 use std::alloc::{AllocError, Global};
 use std::test::*;
 

@@ -1,7 +1,7 @@
 // Heads, marks and stops of small sources.
 
-use pli_head::Head;
-use pli_head::reading::head;
+use super::*;
+use crate::reading::head;
 use pli_lex::tokens;
 use pli_meaning::declaration::{Allocation, Freeing};
 use pli_meaning::expr::{Arguments, Expr, Name, Place, Qualified, Reference};

@@ -1,4 +1,4 @@
-use Rattle.front_tests.proofs.parse.+walk.Given as goal
+use Rattle.pli_parse.proofs.tests.+walk.Given as goal
 
 abbrev pub decreases-write_statement : goal.decreases-write_statement
 decreases-write_statement l = l.depth

@@ -1,11 +1,11 @@
 // Trees, marks and stops of small sources.
 
+use super::*;
 use pli_lex::tokens;
 use pli_meaning::expr::Exprs;
 use pli_meaning::stmt::{EditPair, Format, Formats};
 use pli_phrase::cursor::{Cursor, Marks};
 use pli_phrase::stop::Stop;
-use pli_stream::{Direction, Transfer, transfer};
 use std::alloc::Global;
 use std::fmt::Write;
 use std::test::*;

@@ -1,7 +1,7 @@
 // Words of the grammar as names, and each refusal of tokens and heads early, in the middle and late in a source.
 
-use crate::parse::{differing, shown};
-use std::alloc::Global;
+use super::*;
+use crate::tests::{differing, shown};
 use std::fmt::Write;
 use std::test::*;
 

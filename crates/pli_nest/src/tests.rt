@@ -4,16 +4,19 @@
 // END T, I is IF with THEN, E is ELSE, N is a null statement, R is RETURN, V is REVERT, D is DO, B is BEGIN, O is ON, S is
 // SYSTEM, d is DECLARE, and l is a label of the head behind it.
 
-use crate::at;
+use super::*;
 use pli_head::Head;
 use pli_meaning::condition::Condition;
 use pli_meaning::expr::{Expr, Name, Place};
 use pli_meaning::stmt::Stmt;
 use pli_meaning::token::Word;
-use pli_nest::{Entry, Nest, enter, misplaced, outermost, whole_tree};
 use std::alloc::{AllocError, Global};
 use std::fmt::Write;
 use std::test::*;
+
+fn at(column: u32) -> Place {
+    Place { line: 1, column }
+}
 
 fn named(alloc: Global, letters: &[u8], column: u32) -> Result<Name, AllocError> {
     Ok(Name {

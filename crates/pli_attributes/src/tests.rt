@@ -1,6 +1,6 @@
 // Trees, marks and stops of small sources.
 
-use pli_attributes::{attributes, declare_items};
+use super::*;
 use pli_lex::tokens;
 use pli_meaning::declaration::{
     Attribute, Bound, DeclareItem, DeclaredName, Extent, InitialItem, InitialValue, Size,

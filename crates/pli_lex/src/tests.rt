@@ -1,8 +1,6 @@
 // What no clause says: that a call succeeds, and that the relations mean what a reader of sources expects.
 
-use pli_lex::tokens;
-use pli_meaning::fault::{SourceFault, SourceKind};
-use std::alloc::Global;
+use super::*;
 use std::fmt::Write;
 use std::test::Fail;
 
