@@ -2,6 +2,8 @@
 #![tactic(auto)]
 
 #[cfg(test)]
+mod builtin;
+#[cfg(test)]
 mod declaring;
 #[cfg(test)]
 mod operand;
