@@ -20,7 +20,7 @@ fn place_of_qualified(qualified: &Qualified) -> Place
 
 /// The place of a reference's first token.
 #[tactic(auto, unfolding(pli_meaning::specs::View::reference_of))]
-fn place_of_reference(reference: &Reference) -> Place
+pub fn place_of_reference(reference: &Reference) -> Place
     ensures { result ≡ place_of_reference (reference_of reference.now) }
 {
     let mut rest = reference;

@@ -21,6 +21,7 @@ mod variable;
 pub mod declared {
     pub use crate::amount::check_of;
     pub use crate::extent::{WrittenCheck, WrittenExtent, written_extents};
+    pub use crate::kind::area_name;
     pub use crate::refer::refer_of;
 }
 

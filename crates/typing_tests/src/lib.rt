@@ -6,7 +6,13 @@ mod builtin;
 #[cfg(test)]
 mod declaring;
 #[cfg(test)]
+mod generation;
+#[cfg(test)]
 mod operand;
+#[cfg(test)]
+mod reference;
+#[cfg(test)]
+mod transfer;
 #[cfg(test)]
 mod types;
 #[cfg(test)]

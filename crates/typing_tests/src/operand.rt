@@ -36,7 +36,7 @@ const MISMATCH: SourceFault = SourceFault {
     kind: SourceKind::TypeMismatch,
 };
 
-fn nothing() -> Notes {
+pub fn nothing() -> Notes {
     Notes {
         found: None,
         own: None,

@@ -167,7 +167,7 @@ fn procedure(
 }
 
 /// The procedure T with the outer items and the function F, whose items are the inner ones.
-fn program(alloc: Global) -> Result<Tree, AllocError> {
+pub fn program(alloc: Global) -> Result<Tree, AllocError> {
     let inner = declare(alloc, inner_items(alloc)?, Items::End)?;
     let inside = procedure(alloc, function(alloc)?, inner, Items::End)?;
     let body = declare(alloc, outer_items(alloc)?, inside)?;

@@ -1,0 +1,6 @@
+use Rattle.pli_meaning.specs.TypedView.{reference_of}
+use Rattle.pli_reference.proofs.Parts.{element_shown}
+use Rattle.pli_reference.proofs.part.element.Goals as goal
+
+pub returns : goal.returns
+returns c = element_shown c.args.shape.now (reference_of c.args.reference) c.deref.result.now c.deref.ensures.value

@@ -1,0 +1,283 @@
+// Expressions and references, judged.
+
+ghost use Rattle.std.specs.Prelude.{◌≡◌, ◌++◌, map, IfOk, OnOk};
+ghost use Rattle.pli_meaning.specs.Converting as C;
+ghost use Rattle.pli_meaning.specs.References as R;
+ghost use Rattle.pli_meaning.specs.TypedTree as Y;
+ghost use Rattle.pli_meaning.specs.TypedView.{value_of};
+ghost use Rattle.pli_meaning.specs.View.{arguments_of, expr_of, exprs_of, option_of, qualified_of, reference_of};
+ghost use Rattle.pli_operand.specs.Notes.{noted};
+ghost use Rattle.pli_operand.specs.Shown.{notes_of, operand_of, referent_of};
+ghost use Rattle.pli_reference.specs.Parts.{infix_of};
+ghost use Rattle.pli_reference.specs.Shown.{named_of, scope_of};
+
+use crate::found::names_referent;
+use crate::locator::written_locator;
+use crate::names::Named;
+use crate::scope::Scope;
+use pli_builtin::operator::{infixed, prefixed};
+use pli_declaring::constant::{constant, place_of, place_of_reference};
+use pli_meaning::expr::{Arguments, Expr, Exprs, InfixOp, Qualified, Reference};
+use pli_meaning::typed::{Bit, Number, Text, Value};
+use pli_operand::notes::Notes;
+use pli_operand::operand::{Operand, Referent};
+use pli_operand::value::operand_value;
+use std::alloc::{AllocError, Global};
+
+/// A constant's value: operators and constants have 31 digits.
+#[tactic(auto, unfolding(pli_meaning::specs::TypedView::number_of))]
+fn number_given<'t, 'a>(value: u64) -> Referent<'t, 'a>
+    ensures { referent_of result ≡ C.Gives (Y.NumberValue C.operator_digits (Y.NumberConstant value)) }
+{
+    Referent::Gives(Value::Number {
+        precision: 31,
+        value: Number::Constant(value),
+    })
+}
+
+#[tactic(auto, unfolding(pli_meaning::specs::TypedView::text_of))]
+fn text_given<'t, 'a>(value: &'a [u8]) -> Referent<'t, 'a>
+    ensures { referent_of result ≡ C.Gives (Y.TextValue (Y.TextConstant value.now)) }
+{
+    Referent::Gives(Value::Text(Text::Constant(value)))
+}
+
+#[tactic(auto, unfolding(pli_meaning::specs::TypedView::bit_of))]
+fn bit_given<'t, 'a>(value: bool) -> Referent<'t, 'a>
+    ensures { referent_of result ≡ C.Gives (Y.BitValue (Y.BitConstant value)) }
+{
+    Referent::Gives(Value::Bit(Bit::Constant(value)))
+}
+
+/// A value that may not be known.
+fn given<'t, 'a>(value: Option<Value<'a>>) -> Referent<'t, 'a>
+    ensures { referent_of result ≡ R.given (option_of value_of value.entry) }
+{
+    match value {
+        Some(value) => Referent::Gives(value),
+        None => Referent::NotKnown,
+    }
+}
+
+/// What an expression comes to.
+#[cycle(walk)]
+#[tactic(auto, using(crate::proofs::Walks::walks))]
+pub fn expression<'t, 'a>(
+    alloc: Global,
+    scope: Scope<'t, '_, 'a>,
+    notes: &mut Notes,
+    expr: &'a Expr,
+) -> Result<Referent<'t, 'a>, AllocError>
+    ensures noted { OnOk result (notes_of notes.new ≡ noted (notes_of notes.old) (R.expression (scope_of scope.entry) (expr_of expr.now))) }
+    ensures value { IfOk result (λ r. referent_of r ≡ (R.expression (scope_of scope.entry) (expr_of expr.now)).value) }
+{
+    match expr {
+        Expr::Number { value, .. } => Ok(number_given(*value)),
+        Expr::Text { value, .. } => Ok(text_given(value)),
+        Expr::Bit { value, .. } => Ok(bit_given(*value)),
+        Expr::Parenthesized { inner, .. } => {
+            let inner = operand(alloc, scope, notes, inner)?;
+            Ok(given(operand_value(alloc, notes, inner)?))
+        }
+        Expr::Prefix {
+            op,
+            operand: inner,
+            ..
+        } => {
+            let inner = operand(alloc, scope, notes, inner)?;
+            Ok(prefixed(alloc, notes, *op, inner)?)
+        }
+        Expr::Infix { op, left, right } => infix(alloc, scope, notes, *op, left, right),
+        Expr::Refers(target) => reference(alloc, scope, notes, target),
+    }
+}
+
+/// An operator between two expressions.
+#[cycle(walk)]
+#[tactic(auto, using(crate::proofs::Walks::walks))]
+fn infix<'t, 'a>(
+    alloc: Global,
+    scope: Scope<'t, '_, 'a>,
+    notes: &mut Notes,
+    op: InfixOp,
+    left: &'a Expr,
+    right: &'a Expr,
+) -> Result<Referent<'t, 'a>, AllocError>
+    ensures noted { OnOk result (notes_of notes.new ≡ noted (notes_of notes.old) (infix_of (scope_of scope.entry) op (expr_of left.now) (expr_of right.now))) }
+    ensures value { IfOk result (λ r. referent_of r ≡ (infix_of (scope_of scope.entry) op (expr_of left.now) (expr_of right.now)).value) }
+{
+    let left = operand(alloc, scope, notes, left)?;
+    let right = operand(alloc, scope, notes, right)?;
+    infixed(alloc, notes, op, left, right)
+}
+
+/// An expression as an operand.
+#[cycle(walk)]
+#[tactic(auto, using(crate::proofs::Walks::walks))]
+pub fn operand<'t, 'a>(
+    alloc: Global,
+    scope: Scope<'t, '_, 'a>,
+    notes: &mut Notes,
+    expr: &'a Expr,
+) -> Result<Operand<'t, 'a>, AllocError>
+    ensures noted { OnOk result (notes_of notes.new ≡ noted (notes_of notes.old) (R.operand (scope_of scope.entry) (expr_of expr.now))) }
+    ensures value { IfOk result (λ o. operand_of o ≡ (R.operand (scope_of scope.entry) (expr_of expr.now)).value) }
+{
+    let referent = expression(alloc, scope, notes, expr)?;
+    Ok(Operand {
+        place: place_of(expr),
+        constant: constant(expr),
+        referent,
+    })
+}
+
+/// What a reference comes to.
+#[cycle(walk)]
+#[tactic(auto, using(crate::proofs::Walks::walks))]
+pub fn reference<'t, 'a>(
+    alloc: Global,
+    scope: Scope<'t, '_, 'a>,
+    notes: &mut Notes,
+    target: &'a Reference,
+) -> Result<Referent<'t, 'a>, AllocError>
+    ensures noted { OnOk result (notes_of notes.new ≡ noted (notes_of notes.old) (R.reference (scope_of scope.entry) (reference_of target.now))) }
+    ensures value { IfOk result (λ r. referent_of r ≡ (R.reference (scope_of scope.entry) (reference_of target.now)).value) }
+{
+    match target {
+        Reference::Plain(qualified) => {
+            let names = names_in(alloc, scope, notes, qualified)?;
+            Ok(names_referent(alloc, scope, notes, None, names)?)
+        }
+        Reference::Located { locator, target } => {
+            let operand = referred(alloc, scope, notes, locator)?;
+            let locator = written_locator(alloc, notes, operand)?;
+            let names = names_in(alloc, scope, notes, target)?;
+            Ok(names_referent(alloc, scope, notes, locator, names)?)
+        }
+    }
+}
+
+/// A reference as an operand.
+#[cycle(walk)]
+#[tactic(auto, using(crate::proofs::Walks::walks))]
+pub fn referred<'t, 'a>(
+    alloc: Global,
+    scope: Scope<'t, '_, 'a>,
+    notes: &mut Notes,
+    target: &'a Reference,
+) -> Result<Operand<'t, 'a>, AllocError>
+    ensures noted { OnOk result (notes_of notes.new ≡ noted (notes_of notes.old) (R.referred (scope_of scope.entry) (reference_of target.now))) }
+    ensures value { IfOk result (λ o. operand_of o ≡ (R.referred (scope_of scope.entry) (reference_of target.now)).value) }
+{
+    let referent = reference(alloc, scope, notes, target)?;
+    Ok(Operand {
+        place: place_of_reference(target),
+        constant: None,
+        referent,
+    })
+}
+
+/// The names of a reference.
+#[cycle(walk)]
+#[tactic(auto, using(crate::proofs::Walks::walks))]
+fn names_in<'t, 'a>(
+    alloc: Global,
+    scope: Scope<'t, '_, 'a>,
+    notes: &mut Notes,
+    qualified: &'a Qualified,
+) -> Result<Vec<Named<'t, 'a>>, AllocError>
+    ensures noted { OnOk result (notes_of notes.new ≡ noted (notes_of notes.old) (R.qualified (scope_of scope.entry) (qualified_of qualified.now))) }
+    ensures value { IfOk result (λ v. map named_of v.items ≡ (R.qualified (scope_of scope.entry) (qualified_of qualified.now)).value) }
+{
+    let mut out = Vec::new(alloc);
+    put_names(alloc, scope, notes, &mut out, qualified)?;
+    Ok(out)
+}
+
+/// The names of a reference, behind others.
+#[cycle(walk)]
+#[tactic(auto, using(crate::proofs::Walks::walks))]
+fn put_names<'t, 'a>(
+    alloc: Global,
+    scope: Scope<'t, '_, 'a>,
+    notes: &mut Notes,
+    out: &mut Vec<Named<'t, 'a>>,
+    qualified: &'a Qualified,
+) -> Result<(), AllocError>
+    ensures noted { OnOk result (notes_of notes.new ≡ noted (notes_of notes.old) (R.qualified (scope_of scope.entry) (qualified_of qualified.now))) }
+    ensures value { OnOk result (map named_of out.new.items ≡ map named_of out.old.items ++ (R.qualified (scope_of scope.entry) (qualified_of qualified.now)).value) }
+{
+    match qualified {
+        Qualified::Last { name, arguments } => {
+            let arguments = arguments_in(alloc, scope, notes, arguments)?;
+            Ok(out.push(Named { name, arguments })?)
+        }
+        Qualified::Of {
+            name,
+            arguments,
+            rest,
+        } => {
+            let arguments = arguments_in(alloc, scope, notes, arguments)?;
+            out.push(Named { name, arguments })?;
+            put_names(alloc, scope, notes, out, rest)
+        }
+    }
+}
+
+/// What stands in parentheses behind a name.
+#[cycle(walk)]
+#[tactic(auto, using(crate::proofs::Walks::walks))]
+pub fn arguments_in<'t, 'a>(
+    alloc: Global,
+    scope: Scope<'t, '_, 'a>,
+    notes: &mut Notes,
+    arguments: &'a Arguments,
+) -> Result<Option<Vec<Operand<'t, 'a>>>, AllocError>
+    ensures noted { OnOk result (notes_of notes.new ≡ noted (notes_of notes.old) (R.arguments (scope_of scope.entry) (arguments_of arguments.now))) }
+    ensures value { IfOk result (λ xs. option_of (λ v. map operand_of v.items) xs ≡ (R.arguments (scope_of scope.entry) (arguments_of arguments.now)).value) }
+{
+    match arguments {
+        Arguments::Absent => Ok(None),
+        Arguments::Listed(exprs) => Ok(Some(expressions(alloc, scope, notes, exprs)?)),
+    }
+}
+
+/// A list of expressions.
+#[cycle(walk)]
+#[tactic(auto, using(crate::proofs::Walks::walks))]
+pub fn expressions<'t, 'a>(
+    alloc: Global,
+    scope: Scope<'t, '_, 'a>,
+    notes: &mut Notes,
+    exprs: &'a Exprs,
+) -> Result<Vec<Operand<'t, 'a>>, AllocError>
+    ensures noted { OnOk result (notes_of notes.new ≡ noted (notes_of notes.old) (R.expressions (scope_of scope.entry) (exprs_of exprs.now))) }
+    ensures value { IfOk result (λ v. map operand_of v.items ≡ (R.expressions (scope_of scope.entry) (exprs_of exprs.now)).value) }
+{
+    let mut out = Vec::new(alloc);
+    put_expressions(alloc, scope, notes, &mut out, exprs)?;
+    Ok(out)
+}
+
+/// A list of expressions, behind others.
+#[cycle(walk)]
+#[tactic(auto, using(crate::proofs::Walks::walks))]
+fn put_expressions<'t, 'a>(
+    alloc: Global,
+    scope: Scope<'t, '_, 'a>,
+    notes: &mut Notes,
+    out: &mut Vec<Operand<'t, 'a>>,
+    exprs: &'a Exprs,
+) -> Result<(), AllocError>
+    ensures noted { OnOk result (notes_of notes.new ≡ noted (notes_of notes.old) (R.expressions (scope_of scope.entry) (exprs_of exprs.now))) }
+    ensures value { OnOk result (map operand_of out.new.items ≡ map operand_of out.old.items ++ (R.expressions (scope_of scope.entry) (exprs_of exprs.now)).value) }
+{
+    match exprs {
+        Exprs::End => Ok(()),
+        Exprs::More { first, rest } => {
+            let first = operand(alloc, scope, notes, first)?;
+            out.push(first)?;
+            Ok(put_expressions(alloc, scope, notes, out, rest)?)
+        }
+    }
+}

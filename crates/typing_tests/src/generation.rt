@@ -1,0 +1,122 @@
+// ALLOCATE, FREE and the variables of a block, in the program of the tests of variables.
+
+use crate::declaring::letter;
+use crate::operand::nothing;
+use crate::variables::program;
+use pli_declare::read_scopes;
+use pli_generation::allocation::allocation;
+use pli_generation::freeing::freeing;
+use pli_generation::variable::declared_variables;
+use pli_meaning::declaration::{Allocation, Freeing};
+use pli_meaning::expr::{Arguments, Place, Qualified, Reference};
+use pli_meaning::fault::SourceFault;
+use pli_meaning::typed::StorageClass;
+use pli_reference::scope::Scope;
+use pli_variables::Tables;
+use std::alloc::{AllocError, Global};
+use std::fmt::Write;
+use std::test::*;
+
+/// Where ALLOCATE or FREE stands.
+const HERE: Place = Place { line: 2, column: 5 };
+
+fn named(alloc: Global, code: u8) -> Result<Reference, AllocError> {
+    Ok(Reference::Plain(Qualified::Last {
+        name: letter(alloc, code, 300)?,
+        arguments: Arguments::Absent,
+    }))
+}
+
+fn told(alloc: Global, found: Option<SourceFault>) -> Result<String, Fail> {
+    let mut out = String::new(alloc);
+    match found {
+        Some(fault) => write!(out, "{fault}")?,
+        None => out.push_str("nothing broken")?,
+    }
+    Ok(out)
+}
+
+#[test]
+fn variables_are_declared_in_order(rt: HostRuntime) -> Result<(), Fail> {
+    let alloc = rt.alloc();
+    let tree = program(alloc)?;
+    let scopes = read_scopes(alloc, &tree)?;
+    let tables = Tables::new(alloc, &scopes)?;
+    let scope = Scope {
+        tables: &tables,
+        block: 1,
+    };
+    let mut found = None;
+    let variables = declared_variables(alloc, scope, &mut found)?;
+    assert_eq!(rt; found, None);
+    assert_eq!(rt; variables.len(), 5);
+    assert_eq!(rt; variables[3].evaluations.len(), 1);
+    assert_eq!(rt; variables[4].class, StorageClass::Based);
+    assert_eq!(rt; variables[4].refer.is_some(), true);
+    Ok(())
+}
+
+/// What ALLOCATE of a name breaks.
+fn allocated(alloc: Global, code: u8) -> Result<String, Fail> {
+    let tree = program(alloc)?;
+    let scopes = read_scopes(alloc, &tree)?;
+    let tables = Tables::new(alloc, &scopes)?;
+    let scope = Scope {
+        tables: &tables,
+        block: 1,
+    };
+    let written = Allocation {
+        variable: letter(alloc, code, 300)?,
+        area: None,
+        locator: None,
+    };
+    let mut notes = nothing();
+    allocation(alloc, scope, &mut notes, HERE, &written)?;
+    told(alloc, notes.found)
+}
+
+/// What FREE of a name breaks.
+fn freed(alloc: Global, code: u8) -> Result<String, Fail> {
+    let tree = program(alloc)?;
+    let scopes = read_scopes(alloc, &tree)?;
+    let tables = Tables::new(alloc, &scopes)?;
+    let scope = Scope {
+        tables: &tables,
+        block: 1,
+    };
+    let written = Freeing {
+        generation: named(alloc, code)?,
+        area: None,
+    };
+    let mut notes = nothing();
+    freeing(alloc, scope, &mut notes, HERE, &written)?;
+    told(alloc, notes.found)
+}
+
+#[test]
+fn only_based_and_controlled_variables_are_allocated(rt: HostRuntime) -> Result<(), Fail> {
+    let alloc = rt.alloc();
+    for (code, want) in [
+        (b'R', "1:300: 10 BadAttributes"),
+        (b'N', "2:5: 12 TypeMismatch"),
+        (b'Z', "1:300: 7 Undeclared"),
+    ] {
+        let got = allocated(alloc, code)?;
+        assert_eq!(rt; got.as_str(), want, "{code}");
+    }
+    Ok(())
+}
+
+#[test]
+fn only_based_and_controlled_variables_are_freed(rt: HostRuntime) -> Result<(), Fail> {
+    let alloc = rt.alloc();
+    for (code, want) in [
+        (b'R', "1:300: 10 BadAttributes"),
+        (b'N', "2:5: 12 TypeMismatch"),
+        (b'Z', "1:300: 7 Undeclared"),
+    ] {
+        let got = freed(alloc, code)?;
+        assert_eq!(rt; got.as_str(), want, "{code}");
+    }
+    Ok(())
+}
