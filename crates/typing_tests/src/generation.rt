@@ -10,7 +10,8 @@ use pli_generation::variable::declared_variables;
 use pli_meaning::declaration::{Allocation, Freeing};
 use pli_meaning::expr::{Arguments, Place, Qualified, Reference};
 use pli_meaning::fault::SourceFault;
-use pli_meaning::typed::StorageClass;
+use pli_meaning::stmt::Tree;
+use pli_meaning::typed::{DeclaredVariable, StorageClass};
 use pli_reference::scope::Scope;
 use pli_variables::Tables;
 use std::alloc::{AllocError, Global};
@@ -36,18 +37,22 @@ fn told(alloc: Global, found: Option<SourceFault>) -> Result<String, Fail> {
     Ok(out)
 }
 
+fn declared_by<'a>(
+    alloc: Global,
+    tables: &Tables<'_, 'a>,
+    found: &mut Option<SourceFault>,
+) -> Result<Vec<DeclaredVariable<'a>>, AllocError> {
+    declared_variables(alloc, Scope { tables, block: 1 }, found)
+}
+
 #[test]
 fn variables_are_declared_in_order(rt: HostRuntime) -> Result<(), Fail> {
     let alloc = rt.alloc();
     let tree = program(alloc)?;
     let scopes = read_scopes(alloc, &tree)?;
     let tables = Tables::new(alloc, &scopes)?;
-    let scope = Scope {
-        tables: &tables,
-        block: 1,
-    };
     let mut found = None;
-    let variables = declared_variables(alloc, scope, &mut found)?;
+    let variables = declared_by(alloc, &tables, &mut found)?;
     assert_eq!(rt; found, None);
     assert_eq!(rt; variables.len(), 5);
     assert_eq!(rt; variables[3].evaluations.len(), 1);
@@ -56,41 +61,64 @@ fn variables_are_declared_in_order(rt: HostRuntime) -> Result<(), Fail> {
     Ok(())
 }
 
-/// What ALLOCATE of a name breaks.
-fn allocated(alloc: Global, code: u8) -> Result<String, Fail> {
-    let tree = program(alloc)?;
-    let scopes = read_scopes(alloc, &tree)?;
-    let tables = Tables::new(alloc, &scopes)?;
-    let scope = Scope {
-        tables: &tables,
-        block: 1,
-    };
-    let written = Allocation {
-        variable: letter(alloc, code, 300)?,
-        area: None,
-        locator: None,
-    };
+/// The program, and what ALLOCATE and FREE say in its outer procedure.
+#[derive(Drop)]
+struct Storage {
+    tree: Tree,
+    made: Allocation,
+    ended: Freeing,
+}
+
+/// ALLOCATE and FREE of a name.
+fn storage(alloc: Global, code: u8) -> Result<Storage, AllocError> {
+    Ok(Storage {
+        tree: program(alloc)?,
+        made: Allocation {
+            variable: letter(alloc, code, 300)?,
+            area: None,
+            locator: None,
+        },
+        ended: Freeing {
+            generation: named(alloc, code)?,
+            area: None,
+        },
+    })
+}
+
+fn allocated_by<'a>(
+    alloc: Global,
+    tables: &Tables<'_, 'a>,
+    made: &'a Allocation,
+) -> Result<String, Fail> {
     let mut notes = nothing();
-    allocation(alloc, scope, &mut notes, HERE, &written)?;
+    let scope = Scope { tables, block: 1 };
+    let _allocation = allocation(alloc, scope, &mut notes, HERE, made)?;
     told(alloc, notes.found)
 }
 
-/// What FREE of a name breaks.
-fn freed(alloc: Global, code: u8) -> Result<String, Fail> {
-    let tree = program(alloc)?;
-    let scopes = read_scopes(alloc, &tree)?;
+/// What ALLOCATE breaks.
+fn allocated(alloc: Global, held: &Storage) -> Result<String, Fail> {
+    let scopes = read_scopes(alloc, &held.tree)?;
     let tables = Tables::new(alloc, &scopes)?;
-    let scope = Scope {
-        tables: &tables,
-        block: 1,
-    };
-    let written = Freeing {
-        generation: named(alloc, code)?,
-        area: None,
-    };
+    allocated_by(alloc, &tables, &held.made)
+}
+
+fn freed_by<'a>(
+    alloc: Global,
+    tables: &Tables<'_, 'a>,
+    ended: &'a Freeing,
+) -> Result<String, Fail> {
     let mut notes = nothing();
-    freeing(alloc, scope, &mut notes, HERE, &written)?;
+    let scope = Scope { tables, block: 1 };
+    let _freeing = freeing(alloc, scope, &mut notes, HERE, ended)?;
     told(alloc, notes.found)
+}
+
+/// What FREE breaks.
+fn freed(alloc: Global, held: &Storage) -> Result<String, Fail> {
+    let scopes = read_scopes(alloc, &held.tree)?;
+    let tables = Tables::new(alloc, &scopes)?;
+    freed_by(alloc, &tables, &held.ended)
 }
 
 #[test]
@@ -101,7 +129,7 @@ fn only_based_and_controlled_variables_are_allocated(rt: HostRuntime) -> Result<
         (b'N', "2:5: 12 TypeMismatch"),
         (b'Z', "1:300: 7 Undeclared"),
     ] {
-        let got = allocated(alloc, code)?;
+        let got = allocated(alloc, &storage(alloc, code)?)?;
         assert_eq!(rt; got.as_str(), want, "{code}");
     }
     Ok(())
@@ -115,7 +143,7 @@ fn only_based_and_controlled_variables_are_freed(rt: HostRuntime) -> Result<(), 
         (b'N', "2:5: 12 TypeMismatch"),
         (b'Z', "1:300: 7 Undeclared"),
     ] {
-        let got = freed(alloc, code)?;
+        let got = freed(alloc, &storage(alloc, code)?)?;
         assert_eq!(rt; got.as_str(), want, "{code}");
     }
     Ok(())

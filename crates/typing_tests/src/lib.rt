@@ -2,8 +2,6 @@
 #![tactic(auto)]
 
 #[cfg(test)]
-mod builtin;
-#[cfg(test)]
 mod declaring;
 #[cfg(test)]
 mod generation;

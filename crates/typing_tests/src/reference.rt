@@ -4,7 +4,9 @@ use crate::declaring::letter;
 use crate::operand::nothing;
 use crate::variables::program;
 use pli_declare::read_scopes;
-use pli_meaning::expr::{Arguments, Expr, Exprs, InfixOp, Place, Qualified, Reference};
+use pli_meaning::expr::{Arguments, Expr, Exprs, InfixOp, Name, Place, Qualified, Reference};
+use pli_meaning::stmt::Tree;
+use pli_meaning::token::Word;
 use pli_operand::operand::Referent;
 use pli_operand::shape::variable_of;
 use pli_reference::expression::expression;
@@ -71,15 +73,15 @@ fn write_referent(out: &mut String, referent: &Referent) -> Result<(), Fail> {
     Ok(())
 }
 
-/// What the expression comes to in the outer procedure, or the least rule that it breaks.
-fn answered(alloc: Global, expr: &Expr) -> Result<String, Fail> {
-    let tree = program(alloc)?;
-    let scopes = read_scopes(alloc, &tree)?;
-    let tables = Tables::new(alloc, &scopes)?;
-    let scope = Scope {
-        tables: &tables,
-        block: 1,
-    };
+/// The program, and an expression in its outer procedure.
+#[derive(Drop)]
+struct Case {
+    tree: Tree,
+    expr: Expr,
+}
+
+fn answered_by<'a>(alloc: Global, tables: &Tables<'_, 'a>, expr: &'a Expr) -> Result<String, Fail> {
+    let scope = Scope { tables, block: 1 };
     let mut notes = nothing();
     let referent = expression(alloc, scope, &mut notes, expr)?;
     let mut out = String::new(alloc);
@@ -88,6 +90,21 @@ fn answered(alloc: Global, expr: &Expr) -> Result<String, Fail> {
         None => write_referent(&mut out, &referent)?,
     }
     Ok(out)
+}
+
+fn answered_in(alloc: Global, case: &Case) -> Result<String, Fail> {
+    let scopes = read_scopes(alloc, &case.tree)?;
+    let tables = Tables::new(alloc, &scopes)?;
+    answered_by(alloc, &tables, &case.expr)
+}
+
+/// What the expression comes to in the outer procedure, or the least rule that it breaks.
+fn answered(alloc: Global, expr: Expr) -> Result<String, Fail> {
+    let case = Case {
+        tree: program(alloc)?,
+        expr,
+    };
+    answered_in(alloc, &case)
 }
 
 #[test]
@@ -105,7 +122,7 @@ fn names_mean_parts_of_variables(rt: HostRuntime) -> Result<(), Fail> {
         (b'Z', None, "1:300: 7 Undeclared"),
         (b'R', None, "1:300: 10 BadAttributes"),
     ] {
-        let got = answered(alloc, &named(alloc, code, numbers)?)?;
+        let got = answered(alloc, named(alloc, code, numbers)?)?;
         assert_eq!(rt; got.as_str(), want, "{code}");
     }
     Ok(())
@@ -123,8 +140,56 @@ fn operators_want_their_kinds(rt: HostRuntime) -> Result<(), Fail> {
         (InfixOp::Equal, b'A', "1:300: 12 TypeMismatch"),
     ] {
         let right = named(alloc, code, None)?;
-        let got = answered(alloc, &infix(alloc, op, number(1), right)?)?;
+        let got = answered(alloc, infix(alloc, op, number(1), right)?)?;
         assert_eq!(rt; got.as_str(), want, "{code}");
+    }
+    Ok(())
+}
+
+/// A built-in function of numbers, which no name of the program hides.
+fn builtin(alloc: Global, word: Word, numbers: &[u64]) -> Result<Expr, AllocError> {
+    let place = Place {
+        line: 1,
+        column: 300,
+    };
+    Ok(Expr::Refers(Reference::Plain(Qualified::Last {
+        name: Name {
+            letters: b"BUILTIN".to_vec(alloc)?,
+            word,
+            place,
+        },
+        arguments: listed(alloc, Some(numbers))?,
+    })))
+}
+
+#[test]
+fn built_ins_want_their_arguments(rt: HostRuntime) -> Result<(), Fail> {
+    let alloc = rt.alloc();
+    for (word, numbers, want) in [
+        (Word::Abs, &[1][..], "a value"),
+        (Word::Sign, &[1, 2][..], "1:300: 15 BadArguments"),
+        (Word::Max, &[1, 2, 3][..], "a value"),
+        (Word::Min, &[1][..], "1:300: 15 BadArguments"),
+        (Word::Mod, &[1, 2][..], "a value"),
+        (Word::Divide, &[15, 2, 7][..], "a value"),
+        (Word::Divide, &[32, 2, 7][..], "1:300: 15 BadArguments"),
+        (Word::Length, &[1][..], "a value"),
+        (Word::Substr, &[1, 2, 3][..], "a value"),
+        (Word::Index, &[1][..], "1:300: 15 BadArguments"),
+        (Word::Verify, &[1, 2][..], "a value"),
+        (Word::Lbound, &[1, 2][..], "1:300: 15 BadArguments"),
+        (Word::Hbound, &[1, 2][..], "1:300: 15 BadArguments"),
+        (Word::Dim, &[1, 2][..], "1:300: 15 BadArguments"),
+        (Word::Allocation, &[1][..], "1:300: 15 BadArguments"),
+        (Word::Addr, &[1][..], "1:300: 15 BadArguments"),
+        (Word::Null, &[][..], "a value"),
+        (Word::Empty, &[][..], "an empty area"),
+        (Word::Pointer, &[1][..], "1:300: 15 BadArguments"),
+        (Word::Offset, &[1, 2][..], "1:320: 12 TypeMismatch"),
+        (Word::Oncode, &[1][..], "1:300: 15 BadArguments"),
+    ] {
+        let got = answered(alloc, builtin(alloc, word, numbers)?)?;
+        assert_eq!(rt; got.as_str(), want, "{word:?}");
     }
     Ok(())
 }
