@@ -70,7 +70,7 @@ struct Storage {
 }
 
 /// ALLOCATE and FREE of a name.
-fn storage(alloc: Global, code: u8) -> Result<Storage, AllocError> {
+fn held_storage(alloc: Global, code: u8) -> Result<Storage, AllocError> {
     Ok(Storage {
         tree: program(alloc)?,
         made: Allocation {
@@ -129,7 +129,7 @@ fn only_based_and_controlled_variables_are_allocated(rt: HostRuntime) -> Result<
         (b'N', "2:5: 12 TypeMismatch"),
         (b'Z', "1:300: 7 Undeclared"),
     ] {
-        let got = allocated(alloc, &storage(alloc, code)?)?;
+        let got = allocated(alloc, &held_storage(alloc, code)?)?;
         assert_eq!(rt; got.as_str(), want, "{code}");
     }
     Ok(())
@@ -143,7 +143,7 @@ fn only_based_and_controlled_variables_are_freed(rt: HostRuntime) -> Result<(), 
         (b'N', "2:5: 12 TypeMismatch"),
         (b'Z', "1:300: 7 Undeclared"),
     ] {
-        let got = freed(alloc, &storage(alloc, code)?)?;
+        let got = freed(alloc, &held_storage(alloc, code)?)?;
         assert_eq!(rt; got.as_str(), want, "{code}");
     }
     Ok(())
