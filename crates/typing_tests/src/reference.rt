@@ -4,7 +4,9 @@ use crate::declaring::letter;
 use crate::operand::nothing;
 use crate::variables::program;
 use pli_declare::read_scopes;
-use pli_meaning::expr::{Arguments, Expr, Exprs, InfixOp, Name, Place, Qualified, Reference};
+use pli_meaning::expr::{
+    Arguments, Expr, Exprs, InfixOp, Name, Place, PrefixOp, Qualified, Reference,
+};
 use pli_meaning::stmt::Tree;
 use pli_meaning::token::Word;
 use pli_operand::operand::Referent;
@@ -191,5 +193,33 @@ fn built_ins_want_their_arguments(rt: HostRuntime) -> Result<(), Fail> {
         let got = answered(alloc, builtin(alloc, word, numbers)?)?;
         assert_eq!(rt; got.as_str(), want, "{word:?}");
     }
+    Ok(())
+}
+
+/// A sign before an expression.
+fn prefix(alloc: Global, op: PrefixOp, inner: Expr) -> Result<Expr, AllocError> {
+    let place = Place {
+        line: 1,
+        column: 310,
+    };
+    Ok(Expr::Prefix {
+        op,
+        operand: Box::new(alloc, inner)?,
+        place,
+    })
+}
+
+#[test]
+fn signs_and_functions_give_values(rt: HostRuntime) -> Result<(), Fail> {
+    let alloc = rt.alloc();
+    let signed = prefix(alloc, PrefixOp::Minus, named(alloc, b'N', None)?)?;
+    let got = answered(alloc, signed)?;
+    assert_eq!(rt; got.as_str(), "a value");
+    let function = named(alloc, b'F', Some(&[1, 2]))?;
+    let got = answered(alloc, function)?;
+    assert_eq!(rt; got.as_str(), "a value");
+    let few = named(alloc, b'F', Some(&[1]))?;
+    let got = answered(alloc, few)?;
+    assert_eq!(rt; got.as_str(), "1:300: 15 BadArguments");
     Ok(())
 }
