@@ -17,11 +17,12 @@ mod shaping;
 mod tables;
 mod variable;
 
-/// What is asked of a declared variable with its members.
+/// What is asked of a declared variable with its members, and of a procedure's head.
 pub mod declared {
     pub use crate::amount::check_of;
     pub use crate::extent::{WrittenCheck, WrittenExtent, written_extents};
     pub use crate::kind::area_name;
+    pub use crate::procedure::returns_in;
     pub use crate::refer::refer_of;
 }
 

@@ -1,0 +1,5 @@
+pub mod Blocks
+pub mod Forms
+pub mod Labels
+pub mod Lists
+pub mod Turns
