@@ -1,11 +1,2 @@
-pub mod Eating
-pub mod EatingDeclarations
-pub mod EatingHeads
-pub mod Weighing
-pub mod WeighingNests
-pub mod Types
-pub mod Typed
-pub mod Based
-pub mod Measures
-pub mod Compiled
+pub mod Answered
 pub mod Filing

@@ -7,7 +7,8 @@ use Rattle.pli_meaning.specs.Headline.{Picture, run_of}
 use Rattle.pli_run.specs.Running.{IsPicture, Tells}
 use Rattle.pli_run.specs.declared.run.RunFault.{RunFault}
 use Rattle.pli_run.specs.declared.run.RunFault.TheVariants as R
-use Rattle.pli.specs.Compiling.{IsCompiled, Answers}
+use Rattle.pli_compile.specs.Compiling.{IsCompiled}
+use Rattle.pli.specs.Answering.{Answers}
 
 -- the bytes of an image that keeps the promise for a source
 pub record IsCompiledTo (s : List ℕ) (bytes : List ℕ) : Type 0 where

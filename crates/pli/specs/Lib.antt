@@ -1,4 +1,2 @@
-pub mod Compiling
+pub mod Answering
 pub mod Filing
-pub mod Typable
-pub mod Uncompiled

@@ -1,11 +1,11 @@
 // Images between a source, a file, a run and a list.
 
 ghost use Rattle.std.specs.Prelude.{◌≡◌, MatchResult, IfOk};
-ghost use Rattle.pli.specs.Compiling.{IsRefused};
+ghost use Rattle.pli_compile.specs.Compiling.{IsRefused};
 ghost use Rattle.pli.specs.Filing.{IsCompiledTo, IsRunOf, IsRunFor};
 ghost use Rattle.rv_image.specs.Headers.{IsFaultOf};
 
-use crate::compile::compile;
+use pli_compile::compile::compile;
 use pli_meaning::fault::{SourceFault, SourceKind};
 use pli_meaning::image::ImageFault;
 use pli_meaning::outcome::Outcome;

@@ -2,24 +2,21 @@
 #![tactic(auto)]
 
 mod command;
-pub mod compile;
-mod declared;
 pub mod image_file;
 #[cfg(test)]
 mod image_tests;
-pub mod laws;
+pub mod source_run;
 #[cfg(test)]
 mod tests;
-mod typable;
-pub mod uncompiled;
 
 use clap::ArgMatches;
 use clap::error::ErrorKind;
-use compile::{compile, compile_and_run};
 use image_file::{compiled_bytes, listing, run_bytes};
+use pli_compile::compile::compile;
 use pli_meaning::outcome::Outcome;
 use pli_run::report::{Line, Notice, refused_image, refused_source, report, unread, unwritten};
 use pli_run::run::RunFault;
+use source_run::compile_and_run;
 use std::io::Read;
 use std::process::ExitCode;
 use std::{env, fs, io};

@@ -1,6 +1,7 @@
 // Whole sources, from their bytes to what a run of them shows.
 
-use crate::compile::{compile, compile_and_run};
+use crate::source_run::compile_and_run;
+use pli_compile::compile::compile;
 use pli_meaning::condition::Condition;
 use pli_meaning::fault::{SourceFault, SourceKind};
 use pli_meaning::outcome::{End, Outcome};
@@ -104,7 +105,6 @@ fn what_is_not_compiled_is_left_out_at_its_head(rt: HostRuntime) {
     for (source, column) in [
         ("T: PROC OPTIONS(MAIN) RECURSIVE; END;", 4),
         ("T: PROC OPTIONS(MAIN); STOP; END;", 24),
-        ("T: PROC OPTIONS(MAIN); A = 1; END;", 24),
         ("T: PROC OPTIONS(MAIN); IF 1=1 THEN; STOP; END;", 24),
         ("T: PROC OPTIONS(MAIN); L: PUT EDIT (1) (F(5)); END;", 27),
         ("T: PROC OPTIONS(MAIN); ; DCL A FIXED BIN(31); END;", 24),
@@ -193,6 +193,34 @@ fn declarations_are_judged_before_forms_are_left_out(rt: HostRuntime) {
             "T: PROC OPTIONS(MAIN); DCL A(262141) FIXED BIN(31) STATIC; END;",
             28,
             SourceKind::TooLarge,
+        ),
+    ] {
+        assert!(rt; is_refused(&rt, source, column, kind));
+    }
+}
+
+#[test]
+fn types_are_judged_before_forms_are_left_out(rt: HostRuntime) {
+    for (source, column, kind) in [
+        (
+            "T: PROC OPTIONS(MAIN); STOP; A = 1; END;",
+            30,
+            SourceKind::Undeclared,
+        ),
+        (
+            "T: PROC OPTIONS(MAIN); DCL P PTR; P = 1; END;",
+            39,
+            SourceKind::TypeMismatch,
+        ),
+        (
+            "T: PROC OPTIONS(MAIN); GOTO L; END;",
+            29,
+            SourceKind::BadLabel,
+        ),
+        (
+            "T: PROC OPTIONS(MAIN); DCL A(2) FIXED; A(1, 2) = 3; END;",
+            40,
+            SourceKind::BadArguments,
         ),
     ] {
         assert!(rt; is_refused(&rt, source, column, kind));

@@ -1,5 +1,5 @@
 use Rattle.std.proofs.Common.{refl}
-use Rattle.pli.specs.Compiling.{out_of_memory}
+use Rattle.pli_compile.specs.Compiling.{out_of_memory}
 use Rattle.pli.proofs.image_file.compiled_bytes.Goals as goal
 
 pub returns-in-Ok : goal.returns-in-Ok

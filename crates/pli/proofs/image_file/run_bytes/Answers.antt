@@ -1,8 +1,8 @@
 use Rattle.std.proofs.Common.{◌≡◌, subst, sym, ◌∙◌}
 use Rattle.pli_meaning.specs.Images.{Image}
 use Rattle.pli_meaning.proofs.ImageBytes.{image_back}
-use Rattle.pli.specs.Compiling.{IsCompiled}
-use Rattle.pli.proofs.Compiled.{answered}
+use Rattle.pli_compile.specs.Compiling.{IsCompiled}
+use Rattle.pli.proofs.Answered.{answered}
 use Rattle.pli.proofs.Filing.{pictured}
 use Rattle.pli.proofs.image_file.run_bytes.Goals as goal
 

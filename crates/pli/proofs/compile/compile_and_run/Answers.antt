@@ -1,7 +1,0 @@
-use Rattle.pli.proofs.Compiled.{answered}
-use Rattle.pli.proofs.compile.compile_and_run.Goals as goal
-
-pub returns-in-Ok-clause-meant : goal.returns-in-Ok-clause-meant
-returns-in-Ok-clause-meant c = λ valid.
-    let made = c.in-Ok.ensures in
-    answered made c.args.base c.args.input.now c.args.bound c.run.result valid c.ranges.bound.fits (c.run.ensures.told valid made.picture made.pictured)

@@ -1,5 +1,0 @@
-use Rattle.pli.proofs.Compiled.{refused_never}
-use Rattle.pli.proofs.laws.refused_never.Goals as goal
-
-pub returns : goal.returns
-returns c = λ s f refused other tokens program a. refused_never s f refused other tokens program a

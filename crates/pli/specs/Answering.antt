@@ -1,0 +1,33 @@
+-- What a run of a source is promised to show.
+use Rattle.std.specs.Prelude.{◌≡◌, ℕ, ◌≤◌, List, length, Some, Result, Ok, Err}
+use Rattle.pli_meaning.specs.declared.outcome.Outcome.{Outcome}
+use Rattle.pli_meaning.specs.declared.token.Token.{Token}
+use Rattle.pli_meaning.specs.Typed.{Program}
+use Rattle.pli_meaning.specs.World.{World}
+use Rattle.pli_meaning.specs.Machine.{IsValidBase}
+use Rattle.pli_meaning.specs.Headline.{Picture, Keeps, run_of, shown_by, step_cost}
+use Rattle.pli_run.specs.Running.{world_of}
+use Rattle.pli_run.specs.declared.run.RunFault.{RunFault}
+use Rattle.pli_run.specs.declared.run.RunFault.TheVariants.{Memory, BadBase, Source, Machine}
+use Rattle.pli_compile.specs.Compiling.{Accepts, IsRefused, most_step_cost}
+
+-- The world w is what a run of a source's image shows at a base, and at every other valid base. It is the program's at
+-- just its acts; an image still running has done at least the bound divided by the step cost acts; and a program that ends
+-- is seen to end where the bound allows for its acts.
+pub record Means (s input : List ℕ) (bound : ℕ) (w : World) : Type 0 where
+  pub tokens : List Token
+  pub program : Program
+  pub picture : Picture
+  pub accepted : Accepts s tokens program
+  pub cheap : step_cost picture ≤ most_step_cost (length tokens)
+  pub keeps : Keeps program picture input bound w
+  pub anywhere : (base : ℕ) → IsValidBase base → shown_by (run_of picture base input bound) ≡ Some w
+
+-- what is answered at a valid base. No instruction is one that can't be carried out; nothing is claimed where there was
+-- no memory
+abbrev pub Answers : (s input : List ℕ) → (bound : ℕ) → Result Outcome RunFault → Type 0
+Answers s input bound (Ok o) = Means s input bound (world_of o)
+Answers s input bound (Err (Memory acts output)) = Unit {0}
+Answers s input bound (Err (Source fault)) = IsRefused s fault
+Answers s input bound (Err BadBase) = ⊥
+Answers s input bound (Err (Machine fault acts output)) = ⊥

@@ -1,0 +1,38 @@
+// From a source to what a run of it comes to.
+
+ghost use Rattle.std.specs.Prelude.{◌↔◌, IsErrOf};
+ghost use Rattle.pli_meaning.specs.Machine.{IsValidBase};
+ghost use Rattle.pli_run.specs.declared.run.RunFault as RunFault;
+ghost use Rattle.pli.specs.Answering.{Answers};
+
+use pli_compile::compile::compile;
+use pli_meaning::outcome::Outcome;
+use pli_run::run::{RunFault, run};
+use rv_machine::base::valid_base;
+use std::alloc::Global;
+
+/// Compiles a source and runs it at a base, on an input, for at most `bound` instructions. What it answers shows the
+/// program's own output, raised conditions and end after just the acts that it reports.
+///
+/// # Errors
+///
+/// `BadBase` before all, where the base isn't a multiple of 4,096 with 16 MiB of addresses from it on. `Source` where the
+/// source is refused. `Memory` where memory ran out in the run, with the acts and the output up to there.
+pub fn compile_and_run(
+    alloc: Global,
+    source: &[u8],
+    input: &[u8],
+    base: u32,
+    bound: u64,
+) -> Result<Outcome, RunFault>
+    ensures bad_base { IsErrOf result RunFault.BadBase ↔ ¬ IsValidBase base }
+    ensures meant { IsValidBase base → Answers source.now input.now bound result }
+{
+    if !valid_base(base) {
+        return Err(RunFault::BadBase);
+    }
+    match compile(alloc, source) {
+        Ok(image) => run(alloc, &image, base, input, bound),
+        Err(fault) => Err(RunFault::Source(fault)),
+    }
+}

@@ -1,0 +1,10 @@
+pub mod Eating
+pub mod EatingDeclarations
+pub mod EatingHeads
+pub mod Weighing
+pub mod WeighingNests
+pub mod Types
+pub mod Typed
+pub mod Based
+pub mod Measures
+pub mod Compiled

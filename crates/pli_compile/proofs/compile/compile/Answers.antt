@@ -1,0 +1,60 @@
+use Rattle.std.proofs.Common.{sym, subst, arith}
+use Rattle.std.proofs.lemmas.Result.{err_from_is_err_and}
+use Rattle.pli_meaning.specs.Tokens.{Tokens}
+use Rattle.pli_compile.specs.Compiling.{IsCompiled}
+use Rattle.pli_compile.proofs.Measures.{tree_weighs, lines_small, tokens_small}
+use Rattle.pli_compile.proofs.Compiled.{compiled, tree_refused, declarations_refused, types_refused, judged_refused}
+use Rattle.pli_compile.proofs.compile.compile.Goals as goal
+
+pub returns-in_err-tree : goal.returns-in_err-tree
+returns-in_err-tree c =
+    let p = err_from_is_err_and c.from_residual-in_err-tree.result c.from_residual-in_err-tree.ensures.1 in
+    let tokens : Tokens c.args.source.now c.deref.result.now = subst (λ u. Tokens c.args.source.now u) (sym c.deref.ensures.value) c.in_ok-tokens.ensures.read in
+    rw (p.1, p.2) (tree_refused tokens c.in_err-tree.ensures.refused)
+
+pub returns-in_err-scopes : goal.returns-in_err-scopes
+returns-in_err-scopes c =
+    let p = err_from_is_err_and c.from_residual-in_err-scopes.result c.from_residual-in_err-scopes.ensures.1 in
+    let tokens : Tokens c.args.source.now c.deref.result.now = subst (λ u. Tokens c.args.source.now u) (sym c.deref.ensures.value) c.in_ok-tokens.ensures.read in
+    rw (p.1, p.2) (declarations_refused tokens c.in_ok-tree.ensures.spelled c.in_err-scopes.ensures.refused)
+
+pub returns-in_err-types_kept : goal.returns-in_err-types_kept
+returns-in_err-types_kept c =
+    let p = err_from_is_err_and c.from_residual-in_err-types_kept.result c.from_residual-in_err-types_kept.ensures.1 in
+    let tokens : Tokens c.args.source.now c.deref.result.now = subst (λ u. Tokens c.args.source.now u) (sym c.deref.ensures.value) c.in_ok-tokens.ensures.read in
+    rw (p.1, p.2) (types_refused tokens c.in_ok-tree.ensures.spelled c.in_ok-scopes.ensures.accepted c.in_err-types_kept.ensures)
+
+pub returns-in_err-judged : goal.returns-in_err-judged
+returns-in_err-judged c =
+    let p = err_from_is_err_and c.from_residual-in_err-judged.result c.from_residual-in_err-judged.ensures.1 in
+    let tokens : Tokens c.args.source.now c.deref.result.now = subst (λ u. Tokens c.args.source.now u) (sym c.deref.ensures.value) c.in_ok-tokens.ensures.read in
+    rw (p.1, p.2) (judged_refused tokens c.in_ok-tree.ensures.spelled c.in_ok-scopes.ensures.accepted c.in_ok-types_kept.ensures c.in_err-judged.ensures)
+
+pub generate-requires-clause-small : goal.generate-requires-clause-small
+generate-requires-clause-small c =
+    let tokens : Tokens c.args.source.now c.deref.result.now = subst (λ u. Tokens c.args.source.now u) (sym c.deref.ensures.value) c.in_ok-tokens.ensures.read in
+    let weighs = tree_weighs c.in_ok-tree.ensures.spelled (tokens_small tokens) in
+    let few = tokens.number in
+    omega (arith, weighs, few)
+
+pub generate-requires-clause-lines_small : goal.generate-requires-clause-lines_small
+generate-requires-clause-lines_small c =
+    let tokens : Tokens c.args.source.now c.deref.result.now = subst (λ u. Tokens c.args.source.now u) (sym c.deref.ensures.value) c.in_ok-tokens.ensures.read in
+    lines_small c.in_ok-tree.ensures.spelled (tokens_small tokens)
+
+pub from_code-requires-clause-loadable : goal.from_code-requires-clause-loadable
+from_code-requires-clause-loadable c =
+    let p = c.in_ok-judged.ensures in
+    (c.in-Ok.ensures p.0 p.1).loadable
+
+pub from_code-requires-clause-patched : goal.from_code-requires-clause-patched
+from_code-requires-clause-patched c =
+    let p = c.in_ok-judged.ensures in
+    (c.in-Ok.ensures p.0 p.1).no_calls
+
+pub returns-in-Ok : goal.returns-in-Ok
+returns-in-Ok c =
+    let p = c.in_ok-judged.ensures in
+    let tokens : Tokens c.args.source.now c.deref.result.now = subst (λ u. Tokens c.args.source.now u) (sym c.deref.ensures.value) c.in_ok-tokens.ensures.read in
+    subst (λ u. IsCompiled c.args.source.now u) (sym c.from_code.ensures)
+    (compiled p.0 tokens c.in_ok-tree.ensures.spelled c.in_ok-scopes.ensures.accepted c.in_ok-types_kept.ensures p.1 (c.in-Ok.ensures p.0 p.1))

@@ -1,0 +1,3 @@
+pub mod Compiling
+pub mod Typable
+pub mod Uncompiled

@@ -1,0 +1,24 @@
+// Laws of what isn't compiled: each function's contract is one law, and calling it does nothing.
+
+ghost use Rattle.pli_compile.specs.Compiling.{ProcedureFound, RefusedNever};
+ghost use Rattle.pli_compile.specs.Uncompiled.{TypedWhole, UncompiledNone};
+
+/// A program of one procedure or more in which nothing is uncompiled has a type.
+pub fn uncompiled_none()
+    ensures { UncompiledNone }
+{}
+
+/// A program that has a type holds nothing that isn't compiled.
+pub fn typed_whole()
+    ensures { TypedWhole }
+{}
+
+/// A source that is refused, for anything but want of memory, is no program that is compiled.
+pub fn refused_never()
+    ensures { RefusedNever }
+{}
+
+/// Only a source without a token spells a tree without a procedure.
+pub fn procedure_found()
+    ensures { ProcedureFound }
+{}
