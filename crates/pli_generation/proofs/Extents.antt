@@ -1,5 +1,5 @@
 -- Parts that are judged one after the other, by what they break.
-use Rattle.std.proofs.Common.{◌≡◌, ◌∙◌, ◌<◌, ℕ, zero, suc, get_or, arith, Bool, false, List, [], ◌∷◌, ◌++◌, Option, Some, None, map, length, slice_get, append-nil, refl, sym, ap, ap₂}
+use Rattle.std.proofs.Common.{◌≡◌, ◌∙◌, ◌<◌, ℕ, zero, suc, get_or, arith, Bool, false, List, [], ◌∷◌, ◌++◌, Option, Some, None, map, length, slice_get, append_assoc, append-nil, refl, sym, ap, ap₂}
 use Rattle.std.specs.Prelude.{not, ◌||◌, drop}
 use Rattle.std.specs.List.{list_any}
 use Rattle.pli_meaning.specs.declared.fault.SourceFault.{SourceFault}
@@ -12,6 +12,8 @@ use Rattle.pli_meaning.specs.Refusals.{soonest}
 use Rattle.pli_meaning.specs.Tree as T
 use Rattle.pli_meaning.specs.TypedTree as Y
 use Rattle.pli_meaning.proofs.Least.{soonest-append}
+use Rattle.std.proofs.lemmas.List.{drop_all, map-append}
+use Rattle.pli_declare.proofs.Chains.{drop_here}
 use Rattle.pli_operand.specs.Notes.{Noted, noted, with_lists}
 use Rattle.pli_operand.proofs.Noting.{noted_append, noted_none}
 use Rattle.pli_generation.specs.Shown.{evaluations_of, own_at}
@@ -89,3 +91,7 @@ pub got : {X Y : Type 0} (f : X → Y) (xs : List X) (i : ℕ) (x : X) → i < l
 got f [] i x h e = absurd (omega (arith, h))
 got f (y ∷ ys) zero x h e = ap (λ z. Some (f z)) (sym e)
 got f (y ∷ ys) (suc i) x h e = got f ys i x (omega (arith, h)) e
+
+-- ---- members
+
+pub ruleset members = (drop_here, drop_all, append_assoc, append-nil, map-append)

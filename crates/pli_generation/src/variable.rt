@@ -5,7 +5,7 @@ ghost use Rattle.pli_meaning.specs.Declaring.{own_attributes};
 ghost use Rattle.pli_meaning.specs.Generations as G;
 ghost use Rattle.pli_meaning.specs.Judging.{each};
 ghost use Rattle.pli_meaning.specs.Refusals.{soonest};
-ghost use Rattle.pli_meaning.specs.TypedStatementView.{declared_variable_of, evaluation_of};
+ghost use Rattle.pli_meaning.specs.TypedStatementView.{declared_variable_of, evaluation_of, member_of};
 ghost use Rattle.pli_meaning.specs.TypedView.{variable_of};
 ghost use Rattle.pli_meaning.specs.Variables.{declarations_at, variables_in};
 ghost use Rattle.pli_declare.specs.Shown.{held_of};
@@ -19,9 +19,9 @@ ghost use Rattle.pli_variables.specs.Rows.{blocks_shown};
 use crate::extent::evaluations;
 use crate::named::names_demanded;
 use pli_declare::scope::Held;
-use pli_declaring::held::own_attributes;
+use pli_declaring::held::{dimensions_of, own_attributes};
 use pli_meaning::fault::SourceFault;
-use pli_meaning::typed::{DeclaredVariable, Evaluation, Variable};
+use pli_meaning::typed::{DeclaredVariable, Evaluation, Member, Variable};
 use pli_operand::notes::Notes;
 use pli_operand::stored::no_variable;
 use pli_reference::scope::Scope;
@@ -73,6 +73,28 @@ fn all_evaluations<'a>(
     evaluations(alloc, scope, found, own, &written)
 }
 
+/// A variable's depth and its own dimensions.
+fn member_held(held: &Held) -> Member
+    ensures { member_of result ≡ G.member_held (held_of held.now) }
+{
+    Member {
+        depth: held.above.len(),
+        dimensions: dimensions_of(held.variable),
+    }
+}
+
+/// The variables in a structure, each with its depth and its own dimensions.
+#[tactic(auto, using(crate::proofs::Extents::members))]
+fn members_of(alloc: Global, all: &[Held]) -> Result<Vec<Member>, AllocError>
+    ensures { IfOk result (λ v. map member_of v.items ≡ map G.member_held (map held_of all.now)) }
+{
+    let mut out = Vec::new(alloc);
+    for held in all {
+        out.push(member_held(held))?;
+    }
+    Ok(out)
+}
+
 /// A variable with its members.
 #[tactic(auto, using(crate::proofs::Extents::declared_found))]
 fn declared_with<'a>(
@@ -90,6 +112,7 @@ fn declared_with<'a>(
     let leaves = scope.tables.leaves_of(alloc, scope.block, all, all)?;
     Ok(DeclaredVariable {
         class: own.class,
+        members: members_of(alloc, all)?,
         leaves,
         refer: refer_of(alloc, all)?,
         evaluations,

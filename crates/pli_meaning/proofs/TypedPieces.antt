@@ -50,5 +50,9 @@ leaf type bounds = record { type = type; bounds = bounds; initial = [] }
 abbrev pub up_to : Y.Extent → Y.Bounds
 up_to upper = record { lower = Y.ConstantExtent (pos 1); upper = upper }
 
+abbrev pub member : ℕ → ℕ → Y.Member
+member depth dimensions = record { depth = depth; dimensions = dimensions }
+
+-- a scalar
 abbrev pub variable : Y.StorageClass → List Y.Leaf → Y.DeclaredVariable
-variable class leaves = record { class = class; leaves = leaves; refer = None; evaluations = [] }
+variable class leaves = record { class = class; members = member 0 0 ∷ []; leaves = leaves; refer = None; evaluations = [] }

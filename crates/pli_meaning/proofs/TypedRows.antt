@@ -10,7 +10,7 @@ use Rattle.pli_meaning.specs.Means.{means_from}
 use Rattle.pli_meaning.specs.References.{expression, reference, qualified, arguments, expressions}
 use Rattle.pli_meaning.specs.Resolving.{statement, statements, resolved, typed_tree}
 use Rattle.pli_meaning.specs.TypedTree as Y
-use Rattle.pli_meaning.proofs.TypedPieces.{automatic, based_variable, controlled, part_of, scalar, based, constant_then, typed_rest, variables, leaf, up_to, variable}
+use Rattle.pli_meaning.proofs.TypedPieces.{automatic, based_variable, controlled, part_of, scalar, based, constant_then, typed_rest, variables, leaf, up_to, member, variable}
 use Rattle.pli_meaning.proofs.RowTrees.{at, name, dimensioned, declared, kept_extent, procedure, counted, allocating, freeing, plain, extent, unsubscripted, exprs, items, program, allocation_at, null_at, empty_at}
 
 -- DCL (N,M) FIXED BIN(31), H FIXED BIN(15), C CHAR(5), V CHAR(8) VAR, B BIT(1), (P,Q) PTR, R AREA(64), O OFFSET(R), W
@@ -219,6 +219,7 @@ extents_typed :
     ∷ variable Y.AutomaticClass (leaf Y.PointerLeaf [] ∷ [])
     ∷ record {
       class = Y.AutomaticClass;
+      members = member 0 1 ∷ member 1 1 ∷ member 1 1 ∷ member 1 1 ∷ [];
       leaves =
           leaf (Y.CharacterLeaf (Y.EvaluatedExtent 2)) (up_to (Y.EvaluatedExtent 0) ∷ record { lower = Y.ConstantExtent (pos 0); upper = Y.EvaluatedExtent 1 } ∷ [])
           ∷ leaf (Y.FixedLeaf 15) (up_to (Y.EvaluatedExtent 0) ∷ up_to (Y.ConstantExtent (pos 3)) ∷ [])
@@ -233,6 +234,7 @@ extents_typed :
     }
     ∷ record {
       class = Y.BasedClass;
+      members = member 0 0 ∷ member 1 0 ∷ member 1 1 ∷ [];
       leaves = leaf (Y.FixedLeaf 15) [] ∷ leaf (Y.CharacterLeaf (Y.ConstantExtent (pos 2))) (up_to Y.ReferExtent ∷ []) ∷ [];
       refer = Some (record { member = 0; amount = Y.EvaluatedExtent 0 });
       evaluations = record { value = Y.NumberIn (scalar 0); check = Y.BoundsCheck (up_to (Y.EvaluatedExtent 0)) } ∷ [];

@@ -1,6 +1,6 @@
 -- ALLOCATE and FREE, and the variables of level 1 with their extents, which every generation begins with.
 -- (X3.53-1976, chapter 7, the allocation of storage, and chapter 6, the ALLOCATE and FREE statements.)
-use Rattle.std.specs.Prelude.{ℕ, Bool, true, false, not, ◌&&◌, ◌||◌, ◌==◌, nat_le, List, [], ◌∷◌, ◌++◌, Option, Some, None, is_some, if◌then◌else◌}
+use Rattle.std.specs.Prelude.{ℕ, Bool, true, false, not, ◌&&◌, ◌||◌, ◌==◌, nat_le, List, [], ◌∷◌, ◌++◌, map, length, Option, Some, None, is_some, if◌then◌else◌}
 use Rattle.std.specs.List.{flat_map, list_any}
 use Rattle.pli_meaning.specs.declared.expr.Place.{Place}
 use Rattle.pli_meaning.specs.declared.scope.Found.{Found}
@@ -110,12 +110,21 @@ refer_of all = refer_among all (flat_map kept_in all)
 
 -- ---- variables of level 1 (chapter 4)
 
+abbrev pub member_held : Held → Y.Member
+member_held h = record { depth = length h.above; dimensions = length (dimensions_of h.variable) }
+
 -- a variable with its members
 abbrev pub declared_with : Scope → Y.Variable → List Held → Judged Y.DeclaredVariable
 declared_with scope own all = do
   each (λ h. names_demanded scope.blocks scope.block (own_attributes h)) all
   evaluations ← each (evaluation scope own (written_extents all)) (written_extents all)
-  fine (record { class = own.class; leaves = leaves_of scope.blocks scope.block all all; refer = refer_of all; evaluations = evaluations })
+  fine (record {
+    class = own.class;
+    members = map member_held all;
+    leaves = leaves_of scope.blocks scope.block all all;
+    refer = refer_of all;
+    evaluations = evaluations;
+  })
 
 abbrev pub declared_first : Scope → List Held → List Held → Judged Y.DeclaredVariable
 declared_first scope all [] = declared_with scope no_variable all

@@ -4,6 +4,7 @@ use Rattle.pli_meaning.specs.declared.typed.Check.{Check as CheckHeld}
 use Rattle.pli_meaning.specs.declared.typed.Check.TheVariants as K
 use Rattle.pli_meaning.specs.declared.typed.Evaluation.{Evaluation as EvaluationHeld}
 use Rattle.pli_meaning.specs.declared.typed.ReferMember.{ReferMember as ReferMemberHeld}
+use Rattle.pli_meaning.specs.declared.typed.Member.{Member as MemberHeld}
 use Rattle.pli_meaning.specs.declared.typed.DeclaredVariable.{DeclaredVariable as DeclaredVariableHeld}
 use Rattle.pli_meaning.specs.declared.typed.LocatorTarget.{LocatorTarget as LocatorTargetHeld}
 use Rattle.pli_meaning.specs.declared.typed.LocatorTarget.TheVariants as T
@@ -51,9 +52,13 @@ evaluation_of e = record { value = number_of e.value; check = check_of e.check }
 abbrev pub refer_member_of : ReferMemberHeld → Y.ReferMember
 refer_member_of r = record { member = r.member; amount = extent_of r.amount }
 
+abbrev pub member_of : MemberHeld → Y.Member
+member_of m = record { depth = m.depth; dimensions = m.dimensions }
+
 abbrev pub declared_variable_of : DeclaredVariableHeld → Y.DeclaredVariable
 declared_variable_of d = record {
   class = class_of d.class;
+  members = map member_of d.members.items;
   leaves = map leaf_of d.leaves.items;
   refer = option_of refer_member_of d.refer;
   evaluations = map evaluation_of d.evaluations.items;

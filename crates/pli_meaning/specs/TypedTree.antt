@@ -195,9 +195,16 @@ pub record ReferMember : Type 0 where
   pub member : ℕ
   pub amount : Extent
 
--- a variable of level 1. Each extent as it is written is evaluated once, in source order, for all leaves that share it.
+-- a variable of level 1 or a member of it: how many structures hold it, and how many dimensions it declares itself
+pub record Member : Type 0 where
+  pub depth : ℕ
+  pub dimensions : ℕ
+
+-- a variable of level 1, with itself and all its members in declared order; those without members are its leaves. Each extent
+-- as it is written is evaluated once, in source order, for all leaves that share it.
 pub record DeclaredVariable : Type 0 where
   pub class : StorageClass
+  pub members : List Member
   pub leaves : List Leaf
   pub refer : Option ReferMember
   pub evaluations : List Evaluation

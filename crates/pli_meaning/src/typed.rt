@@ -402,10 +402,19 @@ pub struct ReferMember {
     pub amount: Extent,
 }
 
-/// A variable of level 1. Each extent as it is written is evaluated once, in source order, for all leaves that share it.
+/// A variable of level 1 or a member of it: how many structures hold it, and how many dimensions it declares itself.
+#[derive(Clone, Copy, PartialEq, Eq, Debug)]
+pub struct Member {
+    pub depth: usize,
+    pub dimensions: usize,
+}
+
+/// A variable of level 1, with itself and all its members in declared order. Each extent as it is written is evaluated once, in
+/// source order, for all leaves that share it.
 #[derive(Debug, Drop)]
 pub struct DeclaredVariable<'a> {
     pub class: StorageClass,
+    pub members: Vec<Member>,
     pub leaves: Vec<Leaf<'a>>,
     pub refer: Option<ReferMember>,
     pub evaluations: Vec<Evaluation<'a>>,

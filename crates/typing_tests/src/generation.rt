@@ -11,7 +11,7 @@ use pli_meaning::declaration::{Allocation, Freeing};
 use pli_meaning::expr::{Arguments, Place, Qualified, Reference};
 use pli_meaning::fault::SourceFault;
 use pli_meaning::stmt::Tree;
-use pli_meaning::typed::{DeclaredVariable, StorageClass};
+use pli_meaning::typed::{DeclaredVariable, Member, StorageClass};
 use pli_reference::scope::Scope;
 use pli_variables::Tables;
 use std::alloc::{AllocError, Global};
@@ -45,6 +45,10 @@ fn declared_by<'a>(
     declared_variables(alloc, Scope { tables, block: 1 }, found)
 }
 
+fn member(depth: usize, dimensions: usize) -> Member {
+    Member { depth, dimensions }
+}
+
 #[test]
 fn variables_are_declared_in_order(rt: HostRuntime) -> Result<(), Fail> {
     let alloc = rt.alloc();
@@ -55,6 +59,10 @@ fn variables_are_declared_in_order(rt: HostRuntime) -> Result<(), Fail> {
     let variables = declared_by(alloc, &tables, &mut found)?;
     assert_eq!(rt; found, None);
     assert_eq!(rt; variables.len(), 5);
+    assert_eq!(rt; variables[3].members.len(), 3);
+    assert_eq!(rt; variables[3].members[0], member(0, 1));
+    assert_eq!(rt; variables[3].members[1], member(1, 0));
+    assert_eq!(rt; variables[3].members[2], member(1, 1));
     assert_eq!(rt; variables[3].evaluations.len(), 1);
     assert_eq!(rt; variables[4].class, StorageClass::Based);
     assert_eq!(rt; variables[4].refer.is_some(), true);
