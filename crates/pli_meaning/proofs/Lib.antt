@@ -37,3 +37,15 @@ pub mod UniqueLeftOut
 pub mod UniqueSource
 pub mod ImageBytes
 pub mod Conversions
+mod AreaRuns
+mod BlockRuns
+mod ConditionRuns
+mod Gaps
+mod OrderRows
+mod RowPieces
+mod RowRuns
+mod StorageGrowth
+mod StorageLaws
+mod StorageRuns
+mod StorageSteps
+mod StreamRuns

@@ -12,6 +12,9 @@ use Rattle.pli_meaning.specs.Parsing.{Reads, Spells, RefusesTokens}
 use Rattle.pli_meaning.specs.Meaning.{meaning}
 use Rattle.pli_meaning.specs.Images.{Image, HasBytes, Keeps}
 use Rattle.pli_meaning.specs.Kinds.{Kind, Conversion, Converts, conversion}
+use Rattle.pli_meaning.specs.TypedTree as Y
+use Rattle.pli_meaning.specs.Contents.{Placed, footprint_of, IsGap, IsOrdered, gap, with_placed, without_offset}
+use Rattle.pli_meaning.specs.Executing.{meaning as storage_meaning}
 
 -- a token list spells at most one tree
 abbrev pub SpelledOnce : Type 0
@@ -47,6 +50,25 @@ EndedStays = (program : Program) (input : List ℕ) (k : ℕ) (w : World) → me
 -- a program does at most the acts that are allowed, and exactly those where it is still running
 abbrev pub ActsAllowed : Type 0
 ActsAllowed = (program : Program) (input : List ℕ) (k : ℕ) (w : World) → meaning program input k ≡ Some w → (w.acts ≤ k) × (w.end ≡ Running → w.acts ≡ k)
+
+-- the same three of the storage machine of the whole language
+abbrev pub StorageGrows : Type 0
+StorageGrows = (program : Y.Program) (input : List ℕ) (k : ℕ) (w w' : World) → storage_meaning program input k ≡ Some w → storage_meaning program input (suc k) ≡ Some w' → Extends w w'
+
+abbrev pub StorageStays : Type 0
+StorageStays = (program : Y.Program) (input : List ℕ) (k : ℕ) (w : World) → storage_meaning program input k ≡ Some w → w.end ≢ Running → storage_meaning program input (suc k) ≡ Some w
+
+abbrev pub StorageActsAllowed : Type 0
+StorageActsAllowed = (program : Y.Program) (input : List ℕ) (k : ℕ) (w : World) → storage_meaning program input k ≡ Some w → (w.acts ≤ k) × (w.end ≡ Running → w.acts ≡ k)
+
+-- an offset is found for so many bytes just where it is the least that fits
+abbrev pub GapExact : Type 0
+GapExact = (capacity bytes : ℕ) (placed : List Placed) → IsOrdered 0 capacity placed → (offset : ℕ) → (gap capacity bytes placed ≡ Some offset) ↔ IsGap capacity bytes placed offset
+
+-- no footprint of an area meets another, whatever is placed and freed
+pub record FootprintsApart : Type 0 where
+  pub placed : (capacity : ℕ) (new : Placed) (placed : List Placed) → IsOrdered 0 capacity placed → gap capacity (footprint_of new.generation) placed ≡ Some new.offset → IsOrdered 0 capacity (with_placed new placed)
+  pub freed : (capacity offset : ℕ) (placed : List Placed) → IsOrdered 0 capacity placed → IsOrdered 0 capacity (without_offset offset placed)
 
 -- an image has one list of bytes, and a list of bytes is that of one image at most
 pub record OneToOne : Type 0 where

@@ -1,6 +1,6 @@
 // Laws of the definitions: each function's contract is one law, and calling it does nothing.
 
-ghost use Rattle.pli_meaning.specs.Laws.{SpelledOnce, ReadOnce, NeverBoth, MeaningGrows, EndedStays, ActsAllowed, OneToOne, KeepsAll, ConvertedOnce, ConversionExact};
+ghost use Rattle.pli_meaning.specs.Laws.{SpelledOnce, ReadOnce, NeverBoth, MeaningGrows, EndedStays, ActsAllowed, StorageGrows, StorageStays, StorageActsAllowed, GapExact, FootprintsApart, OneToOne, KeepsAll, ConvertedOnce, ConversionExact};
 ghost use Rattle.pli_meaning.specs.Refusals.{LeastFound};
 
 /// A token list spells at most one tree.
@@ -31,6 +31,32 @@ pub fn ended_stays()
 /// A program does at most the acts that are allowed, and exactly those where it is still running.
 pub fn acts_allowed()
     ensures { ActsAllowed }
+{}
+
+/// The output and the raised conditions of a program of the whole language at k acts are prefixes of those at k + 1.
+pub fn storage_grows()
+    ensures { StorageGrows }
+{}
+
+/// A program of the whole language that has ended stays as it is with more acts allowed.
+pub fn storage_stays()
+    ensures { StorageStays }
+{}
+
+/// A program of the whole language does at most the acts that are allowed, and exactly those where it is still running.
+pub fn storage_acts_allowed()
+    ensures { StorageActsAllowed }
+{}
+
+/// Where the generations of an area stand in order, the offset found for another is the least that fits, and none is found only
+/// where none fits.
+pub fn gap_exact()
+    ensures { GapExact }
+{}
+
+/// The generations of an area stay in order, and apart, when one is placed and when one is freed.
+pub fn footprints_apart()
+    ensures { FootprintsApart }
 {}
 
 /// The least of a list of refusals is one of them, and none of them stands before it; only an empty list has none.

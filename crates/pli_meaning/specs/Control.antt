@@ -1,0 +1,138 @@
+-- A part of a program as a function from the acts allowed and a state to what it comes to. One step makes acts, so that
+-- two runs with different numbers of acts allowed have the same states until one of them pauses.
+use Rattle.std.specs.Prelude.{ℕ, zero, suc, ◌&&◌, ◌==◌, List, Option, Some, None, Bool, nat_lt, if◌then◌else◌, cond}
+use Rattle.std.specs.List.{list_any}
+use Rattle.pli_meaning.specs.declared.outcome.End.{End}
+use Rattle.pli_meaning.specs.Keywords.{same_bytes}
+use Rattle.pli_meaning.specs.World.{World, ending}
+use Rattle.pli_meaning.specs.Contents.{Value}
+use Rattle.pli_meaning.specs.StorageState.{State, with_world}
+
+-- the letters of a label
+abbrev pub Label : Type 0
+Label = List ℕ
+
+-- what a part comes to: a result, a jump to a label in a list of the activation at a height, a return from a procedure, the end
+-- of the run, a pause where one more act than is allowed would come, or nothing that a typed program comes to
+pub data Flow (R : Type 0) : Type 0 where
+  Normal : R → State → Flow R
+  Jump : (height : ℕ) → (label : Label) → State → Flow R
+  Return : Option Value → State → Flow R
+  Ended : State → Flow R
+  Paused : State → Flow R
+  Stuck : Flow R
+
+abbrev pub Meaning : Type 0 → Type 0
+Meaning R = ℕ → State → Flow R
+
+-- ---- the steps
+
+unfoldable pub give : {R : Type 0} → R → Meaning R
+give r k s = Normal r s
+
+unfoldable pub stuck : {R : Type 0} → Meaning R
+stuck k s = Stuck
+
+-- goes on with the result of a part
+abbrev pub flow_on : {Q R : Type 0} → ℕ → Flow Q → (Q → Meaning R) → Flow R
+flow_on k (Normal q s) next = next q k s
+flow_on k (Jump height label s) next = Jump height label s
+flow_on k (Return v s) next = Return v s
+flow_on k (Ended s) next = Ended s
+flow_on k (Paused s) next = Paused s
+flow_on k Stuck next = Stuck
+
+unfoldable pub ◌>>=◌ : {Q R : Type 0} → Meaning Q → (Q → Meaning R) → Meaning R
+◌>>=◌ part next k s = flow_on k (part k s) next
+
+infixl 20 ◌>>=◌
+unfoldable pub ◌>>◌ : {Q R : Type 0} → Meaning Q → Meaning R → Meaning R
+◌>>◌ part next k s = flow_on k (part k s) (λ q. next)
+
+infixl 20 ◌>>◌
+-- the state
+unfoldable pub looked : Meaning State
+looked k s = Normal s s
+
+-- a change of storage, which shows nothing
+unfoldable pub stored : (State → State) → Meaning (Unit {0})
+stored change k s = Normal tt (with_world s.world (change s))
+
+-- one act, with what it shows
+unfoldable pub act : (World → World) → Meaning (Unit {0})
+act change k s = if nat_lt s.world.acts k then Normal tt (with_world (change s.world) s) else Paused s
+
+-- the act that ends the run
+unfoldable pub finish : {R : Type 0} → End → Meaning R
+finish end k s = if nat_lt s.world.acts k then Ended (with_world (ending end s.world) s) else Paused s
+
+unfoldable pub returns : {R : Type 0} → Option Value → Meaning R
+returns v k s = Return v s
+
+unfoldable pub jumps : {R : Type 0} → (height : ℕ) → Label → Meaning R
+jumps height label k s = Jump height label s
+
+-- one of two parts
+unfoldable pub choose : {R : Type 0} → Bool → Meaning R → Meaning R → Meaning R
+choose b yes' no' k s = cond b (yes' k s) (no' k s)
+
+-- what is there, or else another part
+unfoldable pub given : {X R : Type 0} → Option X → (X → Meaning R) → Meaning R → Meaning R
+given None next otherwise = otherwise
+given (Some x) next otherwise = next x
+
+-- ---- lists and their labels (chapter 6, GOTO)
+
+abbrev pub is_among : Label → List Label → Bool
+is_among label labels = list_any (same_bytes label) labels
+
+-- a list runs from its start, or from a label in it: a jump to one of its own labels in its own activation goes on there
+abbrev pub caught : ℕ → (height : ℕ) → List Label → Flow (Unit {0}) → (Label → Meaning (Unit {0})) → Flow (Unit {0})
+caught k height labels (Normal r s) next = Normal r s
+caught k height labels (Jump h label s) next = if (h == height) && is_among label labels then next label k s else Jump h label s
+caught k height labels (Return v s) next = Return v s
+caught k height labels (Ended s) next = Ended s
+caught k height labels (Paused s) next = Paused s
+caught k height labels Stuck next = Stuck
+
+unfoldable pub list_from : (turns : ℕ) → (height : ℕ) → List Label → (Option Label → Meaning (Unit {0})) → Option Label → Meaning (Unit {0})
+list_from zero height labels part from k s = Stuck
+list_from (suc turns) height labels part from k s =
+    caught k height labels (part from k s) (λ label. list_from turns height labels part (Some label))
+
+-- ---- turns (chapter 6, DO)
+
+-- a part as long as the test is met
+unfoldable pub while' : (turns : ℕ) → Meaning Bool → Meaning (Unit {0}) → Meaning (Unit {0})
+while' zero test part = stuck
+while' (suc turns) test part = do
+  met ← test
+  choose met
+      (do part; while' turns test part)
+      (give tt)
+
+-- ---- blocks
+
+-- the end of a procedure or of an on-unit: what it comes to, after its activation ended
+abbrev pub left : (State → State) → Flow (Unit {0}) → Flow (Option Value)
+left close (Normal r s) = Normal None (with_world s.world (close s))
+left close (Jump height label s) = Jump height label (with_world s.world (close s))
+left close (Return v s) = Normal v (with_world s.world (close s))
+left close (Ended s) = Ended s
+left close (Paused s) = Paused s
+left close Stuck = Stuck
+
+unfoldable pub leaving : (State → State) → Meaning (Unit {0}) → Meaning (Option Value)
+leaving close part k s = left close (part k s)
+
+-- a begin block returns from the procedure around it
+abbrev pub left_on : (State → State) → Flow (Unit {0}) → Flow (Option Value)
+left_on close (Normal r s) = Normal None (with_world s.world (close s))
+left_on close (Jump height label s) = Jump height label (with_world s.world (close s))
+left_on close (Return v s) = Return v (with_world s.world (close s))
+left_on close (Ended s) = Ended s
+left_on close (Paused s) = Paused s
+left_on close Stuck = Stuck
+
+unfoldable pub leaving_on : (State → State) → Meaning (Unit {0}) → Meaning (Option Value)
+leaving_on close part k s = left_on close (part k s)
