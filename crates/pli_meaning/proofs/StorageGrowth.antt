@@ -14,7 +14,7 @@ use Rattle.pli_meaning.specs.Stream.{column_of, line_feed, blanks}
 use Rattle.pli_meaning.specs.TypedTree as Y
 use Rattle.pli_meaning.proofs.Steps.{prefix_append, counted_shows, raising_shows, field_shows}
 use Rattle.pli_meaning.specs.Contents.{Name, NullName, VariableName, BasedName, Value, Shape, Generation}
-use Rattle.pli_meaning.specs.StorageState.{Unit', SystemUnit, BlockUnit, Activation, force, AreaContents}
+use Rattle.pli_meaning.specs.StorageState.{OnUnit, SystemUnit, BlockUnit, Activation, force, AreaContents}
 use Rattle.pli_meaning.specs.Control.{Label, Meaning, finish}
 use Rattle.pli_meaning.specs.Raising as G
 use Rattle.pli_meaning.specs.Raising.{Around, Enter, Entry, Passed, PassedName, PassedValue}
@@ -84,7 +84,7 @@ Agrees f = (w : Ways) → Agree (f (fewer w)) (f (more w))
 error_ends : {R : Type 0} (code line : ℕ) → Agree {R = R} (finish (E.Error code line)) (finish (E.Error code line))
 error_ends code line = finish_agrees (E.Error code line) (λ e. cc e)
 
-error_unit_run_agrees : {R : Type 0} (code : ℕ) (found : Option (Activation × Unit')) → Agrees {R = R} (λ a. G.error_unit_run a code found)
+error_unit_run_agrees : {R : Type 0} (code : ℕ) (found : Option (Activation × OnUnit)) → Agrees {R = R} (λ a. G.error_unit_run a code found)
 unfolding G.error_unit_run
 error_unit_run_agrees code None h = error_ends code h.line
 error_unit_run_agrees code (Some (x, SystemUnit)) h = error_ends code h.line
@@ -95,7 +95,7 @@ unfolding G.error
 error_agrees code h =
     then_agrees (act_agrees (raising_shows C.Error code)) (bind_agrees looked_agrees (λ s. error_unit_run_agrees code (force s.activations C.Error) h))
 
-unit_run_agrees : (code : ℕ) (found : Option (Activation × Unit')) → Agrees (λ a. G.unit_run a code found)
+unit_run_agrees : (code : ℕ) (found : Option (Activation × OnUnit)) → Agrees (λ a. G.unit_run a code found)
 unfolding G.unit_run
 unit_run_agrees code None h = error_agrees code h
 unit_run_agrees code (Some (x, SystemUnit)) h = error_agrees code h

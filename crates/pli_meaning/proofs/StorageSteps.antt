@@ -11,7 +11,7 @@ use Rattle.pli_meaning.specs.Laws.{IsPrefix, Extends}
 use Rattle.pli_meaning.proofs.Steps.{prefix_refl, prefix_append, extends_refl, extends_trans, Shows}
 use Rattle.pli_meaning.specs.Contents.{Value}
 use Rattle.pli_meaning.specs.StorageState.{State, with_world}
-use Rattle.pli_meaning.specs.Control.{Label, Flow, Normal, Jump, Return, Ended, Paused, Stuck, Meaning, give, stuck, flow_on, ◌>>=◌, ◌>>◌, looked, stored, act, finish, returns, jumps, choose, given, is_among, caught, list_from, while', left, leaving, left_on, leaving_on}
+use Rattle.pli_meaning.specs.Control.{Label, Flow, Normal, Jump, Return, Ended, Paused, Stuck, Meaning, give, stuck, flow_on, ◌>>=◌, ◌>>◌, looked, stored, act, finish, returns, jumps, choose, given, is_among, caught, list_from, repeated_while, left, leaving, left_on, leaving_on}
 
 -- an item that writes shows more
 pub written_shows : (item : List ℕ → List ℕ) → ((output : List ℕ) → IsPrefix output (item output)) → Shows (written item)
@@ -304,8 +304,8 @@ leaving_on_agrees close {m} {m'} a =
 -- ---- turns
 
 -- a loop with more turns allowed follows one with fewer
-pub while_agrees : (n n' : ℕ) {test test' : Meaning Bool} {part part' : Meaning (Unit {0})} → n ≤ n' → Agree test test' → Agree part part' → Agree test' test' → Agree part' part' → Agree (while' n test part) (while' n' test' part')
-unfolding while'
+pub while_agrees : (n n' : ℕ) {test test' : Meaning Bool} {part part' : Meaning (Unit {0})} → n ≤ n' → Agree test test' → Agree part part' → Agree test' test' → Agree part' part' → Agree (repeated_while n test part) (repeated_while n' test' part')
+unfolding repeated_while
 while_agrees zero zero h t p t' p' = stuck_self
 while_agrees zero (suc n') {test} {test'} {part} {part'} h t p t' p' =
     stuck_agrees _ ((bind_agrees t' (λ met. choose_agrees met (then_agrees p' (while_agrees n' n' (omega arith) t' p' t' p')) (give_agrees tt))).later)

@@ -103,12 +103,12 @@ list_from (suc turns) height labels part from k s =
 -- ---- turns (chapter 6, DO)
 
 -- a part as long as the test is met
-unfoldable pub while' : (turns : ℕ) → Meaning Bool → Meaning (Unit {0}) → Meaning (Unit {0})
-while' zero test part = stuck
-while' (suc turns) test part = do
+unfoldable pub repeated_while : (turns : ℕ) → Meaning Bool → Meaning (Unit {0}) → Meaning (Unit {0})
+repeated_while zero test part = stuck
+repeated_while (suc turns) test part = do
   met ← test
   choose met
-      (do part; while' turns test part)
+      (do part; repeated_while turns test part)
       (give tt)
 
 -- ---- blocks

@@ -12,7 +12,7 @@ use Rattle.pli_meaning.specs.TypedTree as Y
 use Rattle.pli_meaning.specs.Texts.{number_text, number_in_text}
 use Rattle.pli_meaning.specs.Contents.{Value, NumberValue, TextValue, number_in, text_in, kept}
 use Rattle.pli_meaning.specs.StorageState.{State, first_state, SystemUnit, BlockUnit, Activation, with_activations, established, reverted, height_of, ancestor_at, newest_height, newest_ended, most_activations}
-use Rattle.pli_meaning.specs.Control.{Label, Flow, Normal, Jump, Return, Ended, Paused, Stuck, Meaning, give, stuck, ◌>>=◌, ◌>>◌, looked, stored, act, finish, returns, jumps, choose, given, is_among, list_from, while', leaving, leaving_on}
+use Rattle.pli_meaning.specs.Control.{Label, Flow, Normal, Jump, Return, Ended, Paused, Stuck, Meaning, give, stuck, ◌>>=◌, ◌>>◌, looked, stored, act, finish, returns, jumps, choose, given, is_among, list_from, repeated_while, leaving, leaving_on}
 use Rattle.pli_meaning.specs.Codes.{conversion_code, no_value_code, code_signalled}
 use Rattle.pli_meaning.specs.Raising.{Around, Entry, Enter, at_line, error, raised, value_of, or_error}
 use Rattle.pli_meaning.specs.DeclaredShapes.{kind_of, variables_of_block}
@@ -170,7 +170,7 @@ unfoldable mutual
     list_with around (labels_in body) (statements around body)
   statement around (Y.DoWhile condition body line) = do
     act counted
-    while' around.turns (met_after_act (at_line around line) condition) (list_with around (labels_in body) (statements around body))
+    repeated_while around.turns (met_after_act (at_line around line) condition) (list_with around (labels_in body) (statements around body))
   statement around (Y.DoOnce variable start condition body line) = do
     act counted
     v ← stored_value (at_line around line) start
@@ -182,7 +182,7 @@ unfoldable mutual
     most ← limit_of (at_line around line) limit
     by ← number (at_line around line) step
     assigned (at_line around line) (reference_of counter) v
-    while' around.turns
+    repeated_while around.turns
         (turn_due (at_line around line) counter most by condition)
         (do
           list_with around (labels_in body) (statements around body)

@@ -8,7 +8,7 @@ use Rattle.pli_meaning.specs.Signatures.{LeafKind}
 use Rattle.pli_meaning.specs.Numbers.{Checked, Gives, Raises}
 use Rattle.pli_meaning.specs.TypedTree as Y
 use Rattle.pli_meaning.specs.Contents.{Name, Shape, Value}
-use Rattle.pli_meaning.specs.StorageState.{Unit', SystemUnit, BlockUnit, Activation, force}
+use Rattle.pli_meaning.specs.StorageState.{OnUnit, SystemUnit, BlockUnit, Activation, force}
 use Rattle.pli_meaning.specs.Control.{Meaning, give, ◌>>=◌, ◌>>◌, looked, act, finish, choose}
 
 -- ---- what stands around a part
@@ -50,7 +50,7 @@ unit_entered block a code =
 -- ---- conditions
 
 -- after the unit of ERROR, or where there is none, the run ends
-unfoldable pub error_unit_run : {R : Type 0} → Around → ℕ → Option (Activation × Unit') → Meaning R
+unfoldable pub error_unit_run : {R : Type 0} → Around → ℕ → Option (Activation × OnUnit) → Meaning R
 error_unit_run around code None = finish (E.Error code around.line)
 error_unit_run around code (Some (a, SystemUnit)) = finish (E.Error code around.line)
 error_unit_run around code (Some (a, BlockUnit block)) = do
@@ -66,7 +66,7 @@ error around code = do
 
 -- the unit of another condition runs as a block whose static parent is the activation that established it; without one
 -- ERROR is raised with the same code
-unfoldable pub unit_run : Around → ℕ → Option (Activation × Unit') → Meaning (Unit {0})
+unfoldable pub unit_run : Around → ℕ → Option (Activation × OnUnit) → Meaning (Unit {0})
 unit_run around code None = error around code
 unit_run around code (Some (a, SystemUnit)) = error around code
 unit_run around code (Some (a, BlockUnit block)) = do

@@ -38,9 +38,9 @@ pub record Stack : Type 0 where
 -- ---- activations (chapter 6)
 
 -- what an ON statement establishes
-pub data Unit' : Type 0 where
-  SystemUnit : Unit'
-  BlockUnit : Y.Block → Unit'
+pub data OnUnit : Type 0 where
+  SystemUnit : OnUnit
+  BlockUnit : Y.Block → OnUnit
 
 -- an entered block: its height among the activations, its level, the height of its static parent, the code of the condition
 -- for which it runs (0 where it is no on-unit), what its variables stand for, and its own on-units
@@ -50,7 +50,7 @@ pub record Activation : Type 0 where
   pub parent : ℕ
   pub oncode : ℕ
   pub bindings : List Binding
-  pub units : List (Condition × Unit')
+  pub units : List (Condition × OnUnit)
 
 pub record State : Type 0 where
   pub world : World
@@ -251,25 +251,25 @@ same_condition C.Endfile C.Endfile = true
 same_condition C.Error C.Error = true
 same_condition _ _ = false
 
-abbrev pub unit_for : List (Condition × Unit') → Condition → Option Unit'
+abbrev pub unit_for : List (Condition × OnUnit) → Condition → Option OnUnit
 unit_for [] c = None
 unit_for (u ∷ us) c = if same_condition u.0 c then Some u.1 else unit_for us c
 
-abbrev pub without_unit : Condition → List (Condition × Unit') → List (Condition × Unit')
+abbrev pub without_unit : Condition → List (Condition × OnUnit) → List (Condition × OnUnit)
 without_unit c [] = []
 without_unit c (u ∷ us) = if same_condition u.0 c then us else u ∷ without_unit c us
 
-abbrev pub first_unit : Activation → Option Unit' → Option (Activation × Unit') → Option (Activation × Unit')
+abbrev pub first_unit : Activation → Option OnUnit → Option (Activation × OnUnit) → Option (Activation × OnUnit)
 first_unit a None further = further
 first_unit a (Some u) further = Some (a, u)
 
 -- the newest activation with an entry for the condition, and its unit: dynamic order, whatever the blocks' nesting
-abbrev pub force : List Activation → Condition → Option (Activation × Unit')
+abbrev pub force : List Activation → Condition → Option (Activation × OnUnit)
 force [] c = None
 force (a ∷ as') c = first_unit a (unit_for a.units c) (force as' c)
 
 -- the newest activation's own entry, replaced
-abbrev pub established : Condition → Unit' → List Activation → List Activation
+abbrev pub established : Condition → OnUnit → List Activation → List Activation
 established c u [] = []
 established c u (a ∷ as') = record a { units = (c, u) ∷ without_unit c a.units } ∷ as'
 
