@@ -2,7 +2,7 @@
 use Rattle.std.proofs.Common.{◌≡◌, ◌⊎◌, inl, inr, ℕ, ◌+◌, ◌*◌, ◌/◌, ◌%◌, ◌<◌, ◌≤◌, List, [], ◌∷◌, Some, None, Bool, true, false, refl, sym, ap, ◌∙◌, subst, arith}
 use Rattle.std.specs.Prelude.{◌↔◌, ◌==◌, nat_le, nat_lt, cond}
 use Rattle.std.proofs.lemmas.Bool.Decides.{nat_tests}
-use Rattle.pli_meaning.specs.Contents.{Placed, footprint_of, end_of, AreApart, Fits, IsGap, IsOrdered, gap_from, gap, with_placed, without_offset}
+use Rattle.pli_meaning.specs.Contents.{Placed, footprint_of, end_of, AreApart, Fits, IsGap, IsOrdered, gap_from, gap, with_placed, without_offset, greatest_end}
 
 ends_aligned : (o n : ℕ) → o % 16 ≡ 0 → (o + (16 + (n + 15) / 16 * 16)) % 16 ≡ 0
 ends_aligned o n h = omega (arith, h)
@@ -135,3 +135,9 @@ freed_in_order start capacity o (p ∷ ps) i =
     freed_by : (start capacity o : ℕ) (p : Placed) (ps : List Placed) → IsOrdered start capacity (p ∷ ps) → (t : Bool) → IsOrdered (end_of p) capacity (without_offset o ps) → IsOrdered start capacity (cond t ps (p ∷ without_offset o ps))
     freed_by start capacity o p ps i true rest = weaker start (end_of p) capacity ps (omega (arith, i.0)) i.3
     freed_by start capacity o p ps i false rest = (i.0, i.1, i.2, rest)
+
+pub copied_in_order : (start capacity into : ℕ) (ps : List Placed) → IsOrdered start capacity ps → start ≤ into → greatest_end ps ≤ into → IsOrdered start into ps
+copied_in_order start capacity into [] i h g = h
+copied_in_order start capacity into (p ∷ ps) i h g =
+    let a : end_of p ≤ into = omega (arith, g) in
+    (i.0, i.1, a, copied_in_order (end_of p) capacity into ps i.3 a (omega (arith, g)))

@@ -13,7 +13,7 @@ use Rattle.pli_meaning.specs.Meaning.{meaning}
 use Rattle.pli_meaning.specs.Images.{Image, HasBytes, Keeps}
 use Rattle.pli_meaning.specs.Kinds.{Kind, Conversion, Converts, conversion}
 use Rattle.pli_meaning.specs.TypedTree as Y
-use Rattle.pli_meaning.specs.Contents.{Placed, footprint_of, IsGap, IsOrdered, gap, with_placed, without_offset}
+use Rattle.pli_meaning.specs.Contents.{Placed, footprint_of, IsGap, IsOrdered, gap, with_placed, without_offset, greatest_end}
 use Rattle.pli_meaning.specs.Executing.{meaning as storage_meaning}
 
 -- a token list spells at most one tree
@@ -65,10 +65,11 @@ StorageActsAllowed = (program : Y.Program) (input : List ℕ) (k : ℕ) (w : Wor
 abbrev pub GapExact : Type 0
 GapExact = (capacity bytes : ℕ) (placed : List Placed) → IsOrdered 0 capacity placed → (offset : ℕ) → (gap capacity bytes placed ≡ Some offset) ↔ IsGap capacity bytes placed offset
 
--- no footprint of an area meets another, whatever is placed and freed
+-- no footprint of an area meets another, whatever is placed, freed and assigned
 pub record FootprintsApart : Type 0 where
   pub placed : (capacity : ℕ) (new : Placed) (placed : List Placed) → IsOrdered 0 capacity placed → gap capacity (footprint_of new.generation) placed ≡ Some new.offset → IsOrdered 0 capacity (with_placed new placed)
   pub freed : (capacity offset : ℕ) (placed : List Placed) → IsOrdered 0 capacity placed → IsOrdered 0 capacity (without_offset offset placed)
+  pub assigned : (capacity into : ℕ) (placed : List Placed) → IsOrdered 0 capacity placed → greatest_end placed ≤ into → IsOrdered 0 into placed
 
 -- an image has one list of bytes, and a list of bytes is that of one image at most
 pub record OneToOne : Type 0 where

@@ -54,7 +54,7 @@ pub fn gap_exact()
     ensures { GapExact }
 {}
 
-/// The generations of an area stay in order, and apart, when one is placed and when one is freed.
+/// The generations of an area stay in order, and apart, when one is placed or freed, and in an area that they are assigned to.
 pub fn footprints_apart()
     ensures { FootprintsApart }
 {}
