@@ -1,5 +1,5 @@
 -- Worked programs with texts and streams, computed on the storage machine from their typed trees.
-use Rattle.std.proofs.Common.{◌≡◌, pos, [], ◌∷◌, ◌++◌, Some, None, refl}
+use Rattle.std.proofs.Common.{◌≡◌, ℕ, pos, [], ◌∷◌, ◌++◌, Some, None, refl}
 use lib.Chars.{codes}
 use Rattle.pli_meaning.specs.declared.condition.Condition.TheVariants as C
 use Rattle.pli_meaning.specs.declared.outcome.End.TheVariants as E
@@ -263,3 +263,36 @@ unit_found_dynamically-runs :
     })
 unfolding computing
 unit_found_dynamically-runs = refl
+
+-- T: PROC OPTIONS(MAIN);
+-- DCL 1 S(2), 2 A FIXED BIN(31), 2 B CHAR(1), 1 R(2), 2 A FIXED BIN(31), 2 B CHAR(1); GET EDIT (S) (F(1),A(1)); R = S;
+-- PUT EDIT (R) (F(2),A);
+-- END T;
+abbrev up_to_two : Y.Bounds
+up_to_two = bounds (Y.ConstantExtent (pos 1)) (Y.ConstantExtent (pos 2))
+
+abbrev structures : Y.DeclaredVariable
+structures =
+    declared Y.AutomaticClass (member 0 1 ∷ member 1 0 ∷ member 1 0 ∷ []) (leaf (Y.FixedLeaf 31) (up_to_two ∷ []) [] ∷ leaf (Y.CharacterLeaf (Y.ConstantExtent (pos 1))) (up_to_two ∷ []) [] ∷ []) None []
+
+abbrev both : ℕ → Y.Reference
+both index = Y.Referring (automatic 1 0 index) Y.NotLocated (part 0 2) Y.NoNumber
+
+abbrev structures_read : Y.Program
+structures_read =
+    program ([] ∷ (structures ∷ structures ∷ []) ∷ []) (procedure (Y.BlockOf (head Y.ProcedureBlock 1 0 1)
+    (Y.StmtThen [] (Y.Get None (get_pair (Y.GetAggregate (both 0) ∷ []) (T.FormatThen place 1 (T.FixedFormat 1) (T.FormatThen place 1 (T.TextFormat (Some 1)) T.NoFormat)) ∷ []) 2)
+    (Y.StmtThen [] (Y.AssignAggregate (both 1) (both 0) 2)
+    (Y.StmtThen [] (Y.Put None (put_pair (Y.PutAggregate (both 1) ∷ []) (T.FormatThen place 1 (T.FixedFormat 2) (T.FormatThen place 1 (T.TextFormat None) T.NoFormat)) ∷ []) 3)
+    (Y.EndOfList []))))) [] None ∷ [])
+
+structures_read-runs :
+    run_of structures_read (codes "1X2Y") ≡ Some (record { output = codes " 1X 2Y" ++ (10 ∷ []); raised = []; end = E.Finished })
+unfolding computing
+structures_read-runs = refl
+
+-- the input ends in the second structure: what was read stays, and the GET is over
+structures_cut :
+    run_of structures_read (codes "1X2") ≡ Some (record { output = []; raised = (C.Endfile, 40) ∷ (C.Error, 40) ∷ []; end = E.Error 40 2 })
+unfolding computing
+structures_cut = refl
