@@ -2,9 +2,9 @@
 
 use anyhow::anyhow;
 use pli_declaring::declare;
+use pli_language::scope::Found;
+use pli_language::stmt::Tree;
 use pli_lex::tokens;
-use pli_meaning::scope::Found;
-use pli_meaning::stmt::Tree;
 use pli_parse::parse;
 use std::alloc::{AllocError, Global};
 use std::time::Instant;

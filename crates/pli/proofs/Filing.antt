@@ -1,9 +1,9 @@
 -- Each image that a machine can load has a picture in instructions.
 use Rattle.std.proofs.Common.{◌≡◌, ℕ, zero, suc, ◌<◌, List, [], ◌∷◌, length, map, refl, ap, subst, ◌∙◌, arith}
 use Rattle.std.specs.Prelude.{slice_index}
-use Rattle.pli_meaning.specs.declared.instr.Instr.{Instr}
-use Rattle.pli_meaning.specs.Encoding.{word_of, Fits}
-use Rattle.pli_meaning.specs.Images.{Image, IsInstruction, IsLoadable}
+use Rattle.rv_meaning.specs.declared.instr.Instr.{Instr}
+use Rattle.rv_meaning.specs.Encoding.{word_of, Fits}
+use Rattle.rv_meaning.specs.Images.{Image, IsInstruction, IsLoadable}
 use Rattle.pli_meaning.specs.Headline.{Picture}
 use Rattle.rv_machine.specs.Fitting.{AllFit}
 use Rattle.pli_run.specs.Running.{IsPicture}

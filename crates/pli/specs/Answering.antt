@@ -1,10 +1,13 @@
 -- What a run of a source is promised to show.
-use Rattle.std.specs.Prelude.{◌≡◌, ℕ, ◌≤◌, List, length, Some, Result, Ok, Err}
+use Rattle.std.specs.Prelude.{◌≡◌, ◌≢◌, ◌⊎◌, ℕ, ◌≤◌, List, [], length, Some, Result, Ok, Err}
 use Rattle.pli_meaning.specs.declared.outcome.Outcome.{Outcome}
-use Rattle.pli_meaning.specs.declared.token.Token.{Token}
+use Rattle.pli_language.specs.declared.fault.SourceFault.{SourceFault}
+use Rattle.pli_language.specs.declared.fault.SourceKind.TheVariants as SourceKind
+use Rattle.pli_language.specs.declared.token.Token.{Token}
 use Rattle.pli_meaning.specs.Typed.{Program}
 use Rattle.pli_meaning.specs.World.{World}
-use Rattle.pli_meaning.specs.Machine.{IsValidBase}
+use Rattle.rv_meaning.specs.Machine.{IsValidBase}
+use Rattle.pli_meaning.specs.Meaning.{meaning}
 use Rattle.pli_meaning.specs.Headline.{Picture, Keeps, run_of, shown_by, step_cost}
 use Rattle.pli_run.specs.Running.{world_of}
 use Rattle.pli_run.specs.declared.run.RunFault.{RunFault}
@@ -23,11 +26,32 @@ pub record Means (s input : List ℕ) (bound : ℕ) (w : World) : Type 0 where
   pub keeps : Keeps program picture input bound w
   pub anywhere : (base : ℕ) → IsValidBase base → shown_by (run_of picture base input bound) ≡ Some w
 
--- what is answered at a valid base. No instruction is one that can't be carried out; nothing is claimed where there was
--- no memory
+-- these are the acts and the output of a source's program up to some act
+pub record ShowsPart (s input : List ℕ) (acts : ℕ) (output : List ℕ) : Type 0 where
+  pub tokens : List Token
+  pub program : Program
+  pub accepted : Accepts s tokens program
+  pub world : World
+  pub meant : meaning program input world.acts ≡ Some world
+  pub acts_are : acts ≡ world.acts
+  pub output_is : output ≡ world.output
+
+-- what stands where memory was refused: nothing, where it was refused to the compiler or before the run; else what the
+-- program shows up to there
+abbrev pub ShowsSoFar : (s input : List ℕ) → (acts : ℕ) → (output : List ℕ) → Type 0
+ShowsSoFar s input acts output = ((acts ≡ 0) × (output ≡ [])) ⊎ ShowsPart s input acts output
+
+-- what is answered at a valid base. No instruction is one that can't be carried out, and want of memory is no refusal of
+-- the source
 abbrev pub Answers : (s input : List ℕ) → (bound : ℕ) → Result Outcome RunFault → Type 0
 Answers s input bound (Ok o) = Means s input bound (world_of o)
-Answers s input bound (Err (Memory acts output)) = Unit {0}
-Answers s input bound (Err (Source fault)) = IsRefused s fault
+Answers s input bound (Err (Memory acts output)) = ShowsSoFar s input acts output.items
+Answers s input bound (Err (Source fault)) = IsRefused s fault × (fault.kind ≢ SourceKind.Memory)
 Answers s input bound (Err BadBase) = ⊥
 Answers s input bound (Err (Machine fault acts output)) = ⊥
+
+-- what is answered for a source without an image, by why it has none
+abbrev pub IsUncompiledFor : SourceFault → RunFault → Type 0
+IsUncompiledFor fault (Memory acts output) = (fault.kind ≡ SourceKind.Memory) × ((acts ≡ 0) × (output.items ≡ []))
+IsUncompiledFor fault (Source told) = (told ≡ fault) × (fault.kind ≢ SourceKind.Memory)
+IsUncompiledFor fault _ = ⊥

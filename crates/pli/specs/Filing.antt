@@ -1,8 +1,8 @@
 -- Images in files: what bytes a source is compiled to, and what a run of bytes is promised to show.
 use Rattle.std.specs.Prelude.{ℕ, List, Result, IsErrOf, ◌↔◌}
 use Rattle.pli_meaning.specs.declared.outcome.Outcome.{Outcome}
-use Rattle.pli_meaning.specs.Machine.{IsValidBase}
-use Rattle.pli_meaning.specs.Images.{Image, HasBytes}
+use Rattle.rv_meaning.specs.Machine.{IsValidBase}
+use Rattle.rv_meaning.specs.Images.{Image, HasBytes}
 use Rattle.pli_meaning.specs.Headline.{Picture, run_of}
 use Rattle.pli_run.specs.Running.{IsPicture, Tells}
 use Rattle.pli_run.specs.declared.run.RunFault.{RunFault}

@@ -6,11 +6,11 @@ ghost use Rattle.pli.specs.Filing.{IsCompiledTo, IsRunOf, IsRunFor};
 ghost use Rattle.rv_image.specs.Headers.{IsFaultOf};
 
 use pli_compile::compile::compile;
-use pli_meaning::fault::{SourceFault, SourceKind};
-use pli_meaning::image::ImageFault;
+use pli_language::fault::{SourceFault, SourceKind};
 use pli_meaning::outcome::Outcome;
 use pli_run::run::{RunFault, run};
 use rv_image::image::Image;
+use rv_meaning::image::ImageFault;
 use std::alloc::{AllocError, Global};
 
 /// The bytes of a source's image.

@@ -3,8 +3,6 @@
 
 mod command;
 pub mod image_file;
-#[cfg(test)]
-mod image_tests;
 pub mod source_run;
 #[cfg(test)]
 mod tests;

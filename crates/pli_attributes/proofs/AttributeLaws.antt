@@ -1,16 +1,16 @@
 -- Attributes: what is read is spelled so, what is spelled is read, and what is left out is where it is said to be.
 use Rattle.std.proofs.Common.{◌≡◌, ℕ, zero, suc, ◌<◌, List, [], ◌∷◌, length, Option, Some, None, true, refl, sym, ap, ◌∙◌, subst, arith, Ok, Err}
 use Rattle.std.specs.Prelude.{if◌then◌else◌}
-use Rattle.pli_meaning.specs.declared.token.Word.{Word}
-use Rattle.pli_meaning.specs.declared.token.Word.TheVariants as W
-use Rattle.pli_meaning.specs.declared.token.Kind.{Kind}
-use Rattle.pli_meaning.specs.declared.token.Kind.TheVariants as K
-use Rattle.pli_meaning.specs.declared.token.Token.{Token}
-use Rattle.pli_meaning.specs.Marks.{Marks, no_marks}
-use Rattle.pli_meaning.specs.Spells.{Takes, next_kind}
-use Rattle.pli_meaning.specs.Attributes as D
-use Rattle.pli_meaning.specs.Attributes.{SpellsInitialItems, SpellsAttribute, SpellsAttributes, LeavesOutAttribute, LeavesOutAttributes, attribute_marks, attributes_marks, size_marks, plain_attribute, is_left_out_attribute, has_precision, is_name}
-use Rattle.pli_meaning.specs.Tree as T
+use Rattle.pli_language.specs.declared.token.Word.{Word}
+use Rattle.pli_language.specs.declared.token.Word.TheVariants as W
+use Rattle.pli_language.specs.declared.token.Kind.{Kind}
+use Rattle.pli_language.specs.declared.token.Kind.TheVariants as K
+use Rattle.pli_language.specs.declared.token.Token.{Token}
+use Rattle.pli_language.specs.Marks.{Marks, no_marks}
+use Rattle.pli_language.specs.Spells.{Takes, next_kind}
+use Rattle.pli_language.specs.Attributes as D
+use Rattle.pli_language.specs.Attributes.{SpellsInitialItems, SpellsAttribute, SpellsAttributes, LeavesOutAttribute, LeavesOutAttributes, attribute_marks, attributes_marks, size_marks, plain_attribute, is_left_out_attribute, has_precision, is_name}
+use Rattle.pli_language.specs.Tree as T
 use Rattle.pli_phrase.specs.Cursor.{Cursor, ◌>>=◌, Stuck, LeavesOut, onto}
 use Rattle.pli_phrase.specs.Tokens.{starts_name}
 use Rattle.pli_attributes.specs.Reading.{initial_items_from, worded, plain_or, attribute_of_kind, attribute_at, attribute_from, attributes_at, attributes_from}

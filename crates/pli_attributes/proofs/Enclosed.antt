@@ -1,10 +1,10 @@
 -- Laws of what stands in parentheses, and of what may stand there.
 use Rattle.std.proofs.Common.{◌≡◌, ◌≢◌, List, Some, Ok, refl}
-use Rattle.pli_meaning.specs.declared.token.Symbol.TheVariants as S
-use Rattle.pli_meaning.specs.declared.token.Kind.TheVariants as K
-use Rattle.pli_meaning.specs.declared.token.Token.{Token}
-use Rattle.pli_meaning.specs.Marks.{Marks}
-use Rattle.pli_meaning.specs.Spells.{Takes, next_kind}
+use Rattle.pli_language.specs.declared.token.Symbol.TheVariants as S
+use Rattle.pli_language.specs.declared.token.Kind.TheVariants as K
+use Rattle.pli_language.specs.declared.token.Token.{Token}
+use Rattle.pli_language.specs.Marks.{Marks}
+use Rattle.pli_language.specs.Spells.{Takes, next_kind}
 use Rattle.pli_phrase.specs.Cursor.{Cursor, Read}
 use Rattle.pli_attributes.specs.Lists.{enclosed_from, optional_from}
 use Rattle.pli_attributes.proofs.Posts.{Post, Never, post_ok, post_bind, post_if, post_weaken}

@@ -1,9 +1,9 @@
 -- Laws of the reader of expressions, in the form of this crate's.
 use Rattle.std.proofs.Common.{◌≡◌, ℕ, List, Ok, arith}
-use Rattle.pli_meaning.specs.declared.token.Token.{Token}
-use Rattle.pli_meaning.specs.Marks.{Marks, expr_marks}
-use Rattle.pli_meaning.specs.Spells.{SpellsExpr}
-use Rattle.pli_meaning.specs.Tree as T
+use Rattle.pli_language.specs.declared.token.Token.{Token}
+use Rattle.pli_language.specs.Marks.{Marks, expr_marks}
+use Rattle.pli_language.specs.Spells.{SpellsExpr}
+use Rattle.pli_language.specs.Tree as T
 use Rattle.pli_phrase.specs.Cursor.{Cursor}
 use Rattle.pli_phrase.specs.Reading.{expr_from}
 use Rattle.pli_phrase.proofs.Expressions as E

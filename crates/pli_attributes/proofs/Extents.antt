@@ -1,17 +1,17 @@
 -- Extents, bounds and dimensions: what is read is spelled so, and what is spelled is read.
 use Rattle.std.proofs.Common.{◌≡◌, ◌≢◌, ℕ, suc, ◌≤◌, List, [], ◌∷◌, length, Some, refl, sym, ap, ◌∙◌, subst, arith, Ok, Err}
 use Rattle.std.specs.Prelude.{nat_le}
-use Rattle.pli_meaning.specs.declared.token.Word.TheVariants as W
-use Rattle.pli_meaning.specs.declared.token.Symbol.TheVariants as S
-use Rattle.pli_meaning.specs.declared.token.Kind.TheVariants as K
-use Rattle.pli_meaning.specs.declared.token.Token.{Token}
-use Rattle.pli_meaning.specs.declared.expr.Place.{Place}
-use Rattle.pli_meaning.specs.declared.fault.SourceKind.TheVariants.{TooLarge}
-use Rattle.pli_meaning.specs.Marks.{Marks, no_marks, note_if, expr_marks, first_place}
-use Rattle.pli_meaning.specs.Spells.{SpellsExpr, next_kind}
-use Rattle.pli_meaning.specs.Attributes as D
-use Rattle.pli_meaning.specs.Attributes.{SpellsExtent, SpellsBound, SpellsBounds, SpellsDimensions, extent_marks, bound_marks, bound_place, bounds_marks, most_dimensions}
-use Rattle.pli_meaning.specs.Tree as T
+use Rattle.pli_language.specs.declared.token.Word.TheVariants as W
+use Rattle.pli_language.specs.declared.token.Symbol.TheVariants as S
+use Rattle.pli_language.specs.declared.token.Kind.TheVariants as K
+use Rattle.pli_language.specs.declared.token.Token.{Token}
+use Rattle.pli_language.specs.declared.expr.Place.{Place}
+use Rattle.pli_language.specs.declared.fault.SourceKind.TheVariants.{TooLarge}
+use Rattle.pli_language.specs.Marks.{Marks, no_marks, note_if, expr_marks, first_place}
+use Rattle.pli_language.specs.Spells.{SpellsExpr, next_kind}
+use Rattle.pli_language.specs.Attributes as D
+use Rattle.pli_language.specs.Attributes.{SpellsExtent, SpellsBound, SpellsBounds, SpellsDimensions, extent_marks, bound_marks, bound_place, bounds_marks, most_dimensions}
+use Rattle.pli_language.specs.Tree as T
 use Rattle.pli_phrase.specs.Cursor.{Cursor}
 use Rattle.pli_phrase.specs.Tokens.{name_from}
 use Rattle.pli_phrase.specs.Cursor.{Stuck}

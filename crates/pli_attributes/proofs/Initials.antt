@@ -1,16 +1,16 @@
 -- Initial values: what is read is spelled so, and what is spelled is read.
 use Rattle.std.proofs.Common.{◌≡◌, ℕ, ◌≤◌, List, [], ◌∷◌, length, Option, Some, None, refl, sym, ap, ◌∙◌, subst, arith, Ok, suc}
 use Rattle.std.specs.Prelude.{slice_range}
-use Rattle.pli_meaning.specs.declared.token.Word.TheVariants as W
-use Rattle.pli_meaning.specs.declared.token.Symbol.TheVariants as S
-use Rattle.pli_meaning.specs.declared.token.Kind.{Kind}
-use Rattle.pli_meaning.specs.declared.token.Kind.TheVariants as K
-use Rattle.pli_meaning.specs.declared.token.Token.{Token}
-use Rattle.pli_meaning.specs.Marks.{Marks, no_marks}
-use Rattle.pli_meaning.specs.Spells.{Takes}
-use Rattle.pli_meaning.specs.Attributes as D
-use Rattle.pli_meaning.specs.Attributes.{SpellsRepetition, SpellsNoArguments, SpellsInitialValue, SpellsInitialItem, SpellsInitialItems}
-use Rattle.pli_meaning.specs.Tree as T
+use Rattle.pli_language.specs.declared.token.Word.TheVariants as W
+use Rattle.pli_language.specs.declared.token.Symbol.TheVariants as S
+use Rattle.pli_language.specs.declared.token.Kind.{Kind}
+use Rattle.pli_language.specs.declared.token.Kind.TheVariants as K
+use Rattle.pli_language.specs.declared.token.Token.{Token}
+use Rattle.pli_language.specs.Marks.{Marks, no_marks}
+use Rattle.pli_language.specs.Spells.{Takes}
+use Rattle.pli_language.specs.Attributes as D
+use Rattle.pli_language.specs.Attributes.{SpellsRepetition, SpellsNoArguments, SpellsInitialValue, SpellsInitialItem, SpellsInitialItems}
+use Rattle.pli_language.specs.Tree as T
 use Rattle.pli_phrase.specs.Cursor.{Cursor, onto}
 use Rattle.pli_phrase.specs.Tokens.{number_from, text_of}
 use Rattle.pli_phrase.proofs.TextValues.{text_spelled, text_sound}

@@ -1,14 +1,14 @@
 -- Items of DECLARE: what is read is spelled so, what is spelled is read, and what is left out is where it is said to be.
 use Rattle.std.proofs.Common.{◌≡◌, ◌≢◌, ℕ, zero, suc, ◌<◌, ◌≤◌, List, [], ◌∷◌, length, Option, Some, None, true, false, refl, sym, ap, ◌∙◌, subst, arith, Ok, Err}
-use Rattle.pli_meaning.specs.declared.token.Symbol.TheVariants as S
-use Rattle.pli_meaning.specs.declared.token.Kind.{Kind}
-use Rattle.pli_meaning.specs.declared.token.Kind.TheVariants as K
-use Rattle.pli_meaning.specs.declared.token.Token.{Token}
-use Rattle.pli_meaning.specs.Marks.{Marks, no_marks}
-use Rattle.pli_meaning.specs.Spells.{next_kind}
-use Rattle.pli_meaning.specs.Attributes as D
-use Rattle.pli_meaning.specs.Attributes.{ItemFront, SpellsDeclaredName, SpellsDeclaredNames, SpellsLevel, SpellsFront, SpellsAttributes, SpellsDeclareItem, SpellsDeclareItems, LeavesOutAttributes, LeavesOutItems, bounds_marks, attributes_marks, declared_names_marks, front_marks, declare_item_marks, declare_items_marks}
-use Rattle.pli_meaning.specs.Tree as T
+use Rattle.pli_language.specs.declared.token.Symbol.TheVariants as S
+use Rattle.pli_language.specs.declared.token.Kind.{Kind}
+use Rattle.pli_language.specs.declared.token.Kind.TheVariants as K
+use Rattle.pli_language.specs.declared.token.Token.{Token}
+use Rattle.pli_language.specs.Marks.{Marks, no_marks}
+use Rattle.pli_language.specs.Spells.{next_kind}
+use Rattle.pli_language.specs.Attributes as D
+use Rattle.pli_language.specs.Attributes.{ItemFront, SpellsDeclaredName, SpellsDeclaredNames, SpellsLevel, SpellsFront, SpellsAttributes, SpellsDeclareItem, SpellsDeclareItems, LeavesOutAttributes, LeavesOutItems, bounds_marks, attributes_marks, declared_names_marks, front_marks, declare_item_marks, declare_items_marks}
+use Rattle.pli_language.specs.Tree as T
 use Rattle.pli_phrase.specs.Cursor.{Cursor, LeavesOut}
 use Rattle.pli_attributes.specs.Lists.{list_at, list_from}
 use Rattle.pli_attributes.specs.Reading.{declared_name_from, declared_names_from, starts_number, level_from, front, names_from, front_from, declare_item_from, declare_items_from}

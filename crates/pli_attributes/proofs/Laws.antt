@@ -2,8 +2,8 @@
 -- is said to be. That what is spelled is read, and what is left out is answered, stands with `attributes_complete`,
 -- `attributes_left_out`, `declare_items_complete` and `declare_items_left_out`.
 use Rattle.std.proofs.Common.{◌≡◌, ℕ, List, Ok, Err}
-use Rattle.pli_meaning.specs.Attributes.{SpellsAttributes, SpellsDeclareItems, attributes_marks, declare_items_marks}
-use Rattle.pli_meaning.specs.Tree as T
+use Rattle.pli_language.specs.Attributes.{SpellsAttributes, SpellsDeclareItems, attributes_marks, declare_items_marks}
+use Rattle.pli_language.specs.Tree as T
 use Rattle.pli_phrase.specs.Cursor.{Cursor, LeavesOut}
 use Rattle.pli_attributes.specs.Reading.{attributes_from, declare_items_from}
 use Rattle.pli_attributes.proofs.Posts.{post_is, post_leaves}

@@ -1,10 +1,10 @@
 -- Laws of lists whose elements have commas between them.
 use Rattle.std.proofs.Common.{◌≡◌, ◌≢◌, ℕ, zero, suc, ◌<◌, ◌≤◌, List, [], ◌∷◌, length, Some, refl, ap, ◌∙◌, arith, Ok, Err}
-use Rattle.pli_meaning.specs.declared.token.Symbol.TheVariants as S
-use Rattle.pli_meaning.specs.declared.token.Kind.TheVariants as K
-use Rattle.pli_meaning.specs.declared.token.Token.{Token}
-use Rattle.pli_meaning.specs.Marks.{Marks}
-use Rattle.pli_meaning.specs.Spells.{Takes, next_kind}
+use Rattle.pli_language.specs.declared.token.Symbol.TheVariants as S
+use Rattle.pli_language.specs.declared.token.Kind.TheVariants as K
+use Rattle.pli_language.specs.declared.token.Token.{Token}
+use Rattle.pli_language.specs.Marks.{Marks}
+use Rattle.pli_language.specs.Spells.{Takes, next_kind}
 use Rattle.pli_phrase.specs.Cursor.{Cursor, Missed}
 use Rattle.pli_attributes.specs.Lists.{One, list_at, list_from}
 use Rattle.pli_attributes.proofs.Posts.{Post, never, post_ok, post_ended, post_bind, post_if, post_weaken}

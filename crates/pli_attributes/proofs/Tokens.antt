@@ -2,17 +2,17 @@
 use Rattle.std.proofs.Common.{◌≡◌, ◌≢◌, ℕ, ◌<◌, List, [], ◌∷◌, length, Some, Bool, true, false, refl, ap, ◌∙◌, arith, Ok, Err}
 use Rattle.std.specs.Prelude.{if◌then◌else◌}
 use denote.Enum.Bare.{same_true, true_same}
-use Rattle.pli_meaning.specs.contracts.token.Word.{the_type as the_word}
-use Rattle.pli_meaning.specs.contracts.token.Symbol.{the_type as the_symbol}
-use Rattle.pli_meaning.specs.declared.token.Word.{Word}
-use Rattle.pli_meaning.specs.declared.token.Symbol.{Symbol}
-use Rattle.pli_meaning.specs.declared.token.Kind.{Kind}
-use Rattle.pli_meaning.specs.declared.token.Kind.TheVariants as K
-use Rattle.pli_meaning.specs.declared.token.Token.{Token}
-use Rattle.pli_meaning.specs.declared.token.Symbol.TheVariants as S
-use Rattle.pli_meaning.specs.Marks.{Marks}
-use Rattle.pli_meaning.specs.Spells.{Takes, next_kind, name_at, SpellsCount}
-use Rattle.pli_meaning.specs.Tree as T
+use Rattle.pli_language.specs.contracts.token.Word.{the_type as the_word}
+use Rattle.pli_language.specs.contracts.token.Symbol.{the_type as the_symbol}
+use Rattle.pli_language.specs.declared.token.Word.{Word}
+use Rattle.pli_language.specs.declared.token.Symbol.{Symbol}
+use Rattle.pli_language.specs.declared.token.Kind.{Kind}
+use Rattle.pli_language.specs.declared.token.Kind.TheVariants as K
+use Rattle.pli_language.specs.declared.token.Token.{Token}
+use Rattle.pli_language.specs.declared.token.Symbol.TheVariants as S
+use Rattle.pli_language.specs.Marks.{Marks}
+use Rattle.pli_language.specs.Spells.{Takes, next_kind, name_at, SpellsCount}
+use Rattle.pli_language.specs.Tree as T
 use Rattle.pli_phrase.specs.Cursor.{Cursor, Stuck, onto}
 use Rattle.pli_phrase.specs.Tokens.{is_terminal, starts, taken, taken_at, named, name_at_front, name_from, numbered, number_at_front, number_from, count_from}
 use Rattle.pli_attributes.proofs.Posts.{Post, Never, post_ok, post_stuck, post_ended, post_bind, post_if}

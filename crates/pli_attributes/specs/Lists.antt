@@ -1,7 +1,7 @@
 -- Readers of lists, and of what may stand in parentheses, out of readers of their parts.
 use Rattle.std.specs.Prelude.{ℕ, zero, suc, List, [], ◌∷◌, length, if◌then◌else◌, Ok, Err}
-use Rattle.pli_meaning.specs.declared.token.Symbol.TheVariants as S
-use Rattle.pli_meaning.specs.declared.token.Kind.TheVariants as K
+use Rattle.pli_language.specs.declared.token.Symbol.TheVariants as S
+use Rattle.pli_language.specs.declared.token.Kind.TheVariants as K
 use Rattle.pli_phrase.specs.Cursor.{Cursor, Ended, Read, ◌>>=◌}
 use Rattle.pli_phrase.specs.Tokens.{begins, taken}
 

@@ -1,17 +1,17 @@
 -- How what stands behind DECLARE is read, rule by rule.
 use Rattle.std.specs.Prelude.{ℕ, zero, suc, pos, neg_ℤ, List, [], ◌∷◌, length, Bool, true, false, nat_le, ◌==◌, if◌then◌else◌, Option, Some, None, Ok, Err, slice_range}
-use Rattle.pli_meaning.specs.declared.token.Word.{Word}
-use Rattle.pli_meaning.specs.declared.token.Word.TheVariants as W
-use Rattle.pli_meaning.specs.declared.token.Symbol.{Symbol}
-use Rattle.pli_meaning.specs.declared.token.Symbol.TheVariants as S
-use Rattle.pli_meaning.specs.declared.token.Kind.{Kind}
-use Rattle.pli_meaning.specs.declared.token.Kind.TheVariants as K
-use Rattle.pli_meaning.specs.declared.token.Token.{Token}
-use Rattle.pli_meaning.specs.declared.fault.SourceKind.TheVariants.{TooLarge}
-use Rattle.pli_meaning.specs.Spells.{next_kind, place_of}
-use Rattle.pli_meaning.specs.Marks.{Marks, note_if}
-use Rattle.pli_meaning.specs.Attributes.{ItemFront, plain_attribute, is_left_out_attribute, most_dimensions}
-use Rattle.pli_meaning.specs.Tree as T
+use Rattle.pli_language.specs.declared.token.Word.{Word}
+use Rattle.pli_language.specs.declared.token.Word.TheVariants as W
+use Rattle.pli_language.specs.declared.token.Symbol.{Symbol}
+use Rattle.pli_language.specs.declared.token.Symbol.TheVariants as S
+use Rattle.pli_language.specs.declared.token.Kind.{Kind}
+use Rattle.pli_language.specs.declared.token.Kind.TheVariants as K
+use Rattle.pli_language.specs.declared.token.Token.{Token}
+use Rattle.pli_language.specs.declared.fault.SourceKind.TheVariants.{TooLarge}
+use Rattle.pli_language.specs.Spells.{next_kind, place_of}
+use Rattle.pli_language.specs.Marks.{Marks, note_if}
+use Rattle.pli_language.specs.Attributes.{ItemFront, plain_attribute, is_left_out_attribute, most_dimensions}
+use Rattle.pli_language.specs.Tree as T
 use Rattle.pli_phrase.specs.Cursor.{Cursor, Stuck, Ended, LeavesOut, Read, ◌>>=◌, onto}
 use Rattle.pli_phrase.specs.Tokens.{begins, taken, starts_name, name_from, number_from, count_from, text_of}
 use Rattle.pli_phrase.specs.Reading.{expr_from}

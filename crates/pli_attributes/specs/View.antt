@@ -1,7 +1,7 @@
 -- How the values of the code show what stands before attributes.
 use Rattle.std.specs.Prelude.{map}
-use Rattle.pli_meaning.specs.Attributes.{ItemFront}
-use Rattle.pli_meaning.specs.View.{bound_of, declared_name_of}
+use Rattle.pli_language.specs.Attributes.{ItemFront}
+use Rattle.pli_language.specs.View.{bound_of, declared_name_of}
 use Rattle.pli_attributes.specs.declared.item.ItemFront.{ItemFront as FrontHeld}
 
 abbrev pub front_of : FrontHeld → ItemFront

@@ -1,16 +1,16 @@
 // Attributes.
 
 ghost use Rattle.std.specs.Prelude.{◌≡◌, map};
-ghost use Rattle.pli_meaning.specs.Attributes.{is_left_out_attribute, plain_attribute};
-ghost use Rattle.pli_meaning.specs.View.{attribute_of, option_of};
+ghost use Rattle.pli_language.specs.Attributes.{is_left_out_attribute, plain_attribute};
+ghost use Rattle.pli_language.specs.View.{attribute_of, option_of};
 ghost use Rattle.pli_phrase.specs.Answers.{Gives};
 ghost use Rattle.pli_phrase.specs.View.{cursor_of};
 ghost use Rattle.pli_attributes.specs.Reading.{attribute_from, attributes_from, initials_from, worded};
 
 use crate::initial::initial_items;
 use crate::word::{bit, owner, precision, size};
-use pli_meaning::declaration::Attribute;
-use pli_meaning::token::{Kind, Symbol, Token, Word};
+use pli_language::declaration::Attribute;
+use pli_language::token::{Kind, Symbol, Token, Word};
 use pli_phrase::cursor::Cursor;
 use pli_phrase::stop::Stop;
 use pli_phrase::token::{next_is_name, taken};

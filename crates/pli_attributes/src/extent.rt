@@ -1,15 +1,15 @@
 // Extents, bounds and dimensions.
 
 ghost use Rattle.std.specs.Prelude.{◌≡◌, IfOk, map};
-ghost use Rattle.pli_meaning.specs.View.{bound_of, expr_of, extent_of};
+ghost use Rattle.pli_language.specs.View.{bound_of, expr_of, extent_of};
 ghost use Rattle.pli_phrase.specs.Answers.{Gives};
 ghost use Rattle.pli_phrase.specs.View.{cursor_of};
 ghost use Rattle.pli_attributes.specs.Reading.{bound_from, bounds_from, dimension_due, dimensions_from, extent_from, one_bound, refer_from, upper_from};
 
-use pli_meaning::declaration::{Bound, Extent, Refer};
-use pli_meaning::expr::Expr;
-use pli_meaning::fault::SourceKind;
-use pli_meaning::token::{Kind, Symbol, Word};
+use pli_language::declaration::{Bound, Extent, Refer};
+use pli_language::expr::Expr;
+use pli_language::fault::SourceKind;
+use pli_language::token::{Kind, Symbol, Word};
 use pli_phrase::cursor::Cursor;
 use pli_phrase::expression::expression;
 use pli_phrase::stop::Stop;

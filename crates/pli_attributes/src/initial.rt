@@ -1,13 +1,13 @@
 // Initial values.
 
 ghost use Rattle.std.specs.Prelude.{◌≡◌, map};
-ghost use Rattle.pli_meaning.specs.View.{initial_item_of, initial_value_of};
+ghost use Rattle.pli_language.specs.View.{initial_item_of, initial_value_of};
 ghost use Rattle.pli_phrase.specs.Answers.{Gives};
 ghost use Rattle.pli_phrase.specs.View.{cursor_of};
 ghost use Rattle.pli_attributes.specs.Reading.{bare_from, initial_item_from, initial_items_from, repetition_from, symbol_value, text_behind, value_from, word_value};
 
-use pli_meaning::declaration::{InitialItem, InitialValue};
-use pli_meaning::token::{Kind, Symbol, Token, Word};
+use pli_language::declaration::{InitialItem, InitialValue};
+use pli_language::token::{Kind, Symbol, Token, Word};
 use pli_phrase::cursor::Cursor;
 use pli_phrase::stop::Stop;
 use pli_phrase::text::text;

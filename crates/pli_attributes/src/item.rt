@@ -1,7 +1,7 @@
 // Items of DECLARE.
 
 ghost use Rattle.std.specs.Prelude.{◌≡◌, map};
-ghost use Rattle.pli_meaning.specs.View.{declare_item_of, declared_name_of};
+ghost use Rattle.pli_language.specs.View.{declare_item_of, declared_name_of};
 ghost use Rattle.pli_phrase.specs.Answers.{Gives};
 ghost use Rattle.pli_phrase.specs.View.{cursor_of};
 ghost use Rattle.pli_attributes.specs.Reading.{declare_item_from, declare_items_from, declared_name_from, declared_names_from, front_from, level_from, names_from};
@@ -9,8 +9,8 @@ ghost use Rattle.pli_attributes.specs.View.{front_of};
 
 use crate::attribute::attributes;
 use crate::extent::dimensions;
-use pli_meaning::declaration::{Bound, DeclareItem, DeclaredName};
-use pli_meaning::token::{Kind, Symbol};
+use pli_language::declaration::{Bound, DeclareItem, DeclaredName};
+use pli_language::token::{Kind, Symbol};
 use pli_phrase::cursor::Cursor;
 use pli_phrase::stop::Stop;
 use pli_phrase::token::{begins, name, next_kind, number, taken};

@@ -9,6 +9,3 @@ mod word;
 
 pub use attribute::attributes;
 pub use item::declare_items;
-
-#[cfg(test)]
-mod tests;

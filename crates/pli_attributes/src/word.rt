@@ -1,15 +1,15 @@
 // What may stand in parentheses behind an attribute's word.
 
 ghost use Rattle.std.specs.Prelude.{◌≡◌};
-ghost use Rattle.pli_meaning.specs.View.{attribute_of, name_of, option_of, size_of};
+ghost use Rattle.pli_language.specs.View.{attribute_of, name_of, option_of, size_of};
 ghost use Rattle.pli_phrase.specs.Answers.{Gives};
 ghost use Rattle.pli_phrase.specs.View.{cursor_of};
 ghost use Rattle.pli_attributes.specs.Reading.{bit_from, length_from, owner_from, precision_from, scale_from, size_from};
 
 use crate::extent::extent;
-use pli_meaning::declaration::{Attribute, Size};
-use pli_meaning::expr::Name;
-use pli_meaning::token::{Kind, Symbol, Token};
+use pli_language::declaration::{Attribute, Size};
+use pli_language::expr::Name;
+use pli_language::token::{Kind, Symbol, Token};
 use pli_phrase::cursor::Cursor;
 use pli_phrase::stop::Stop;
 use pli_phrase::token::{begins, count, name, number, place, taken};

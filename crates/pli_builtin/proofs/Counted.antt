@@ -1,11 +1,11 @@
 -- Arguments that are too few or too many.
 use Rattle.std.proofs.Common.{◌≡◌, ◌≢◌, ◌<◌, ◌≤◌, ℕ, arith, List, [], ◌∷◌, map, length, refl}
-use Rattle.pli_meaning.specs.declared.expr.Place.{Place}
-use Rattle.pli_meaning.specs.declared.fault.SourceKind.TheVariants.{BadArguments}
-use Rattle.pli_meaning.specs.Builtins as B
-use Rattle.pli_meaning.specs.Converting as C
-use Rattle.pli_meaning.specs.Judging.{fine, broken}
-use Rattle.pli_meaning.specs.TypedTree as Y
+use Rattle.pli_language.specs.declared.expr.Place.{Place}
+use Rattle.pli_language.specs.declared.fault.SourceKind.TheVariants.{BadArguments}
+use Rattle.pli_typing.specs.Builtins as B
+use Rattle.pli_typing.specs.Converting as C
+use Rattle.pli_typing.specs.Judging.{fine, broken}
+use Rattle.pli_typing.specs.TypedTree as Y
 use Rattle.pli_operand.specs.declared.operand.Operand.{Operand}
 use Rattle.pli_operand.specs.Shown.{operand_of}
 use Rattle.pli_builtin.specs.Parts.{extreme_of}

@@ -1,8 +1,8 @@
 -- Lists of numbers, from their last one on; operands that are judged in turn.
 use Rattle.std.proofs.Common.{◌≡◌, ◌∙◌, List, [], ◌∷◌, ◌++◌, map, length, arith, refl, sym, ap}
-use Rattle.pli_meaning.specs.Builtins.{number_list}
-use Rattle.pli_meaning.specs.Converting.{Operand, number_operand}
-use Rattle.pli_meaning.specs.TypedTree as Y
+use Rattle.pli_typing.specs.Builtins.{number_list}
+use Rattle.pli_typing.specs.Converting.{Operand, number_operand}
+use Rattle.pli_typing.specs.TypedTree as Y
 use Rattle.pli_operand.specs.declared.operand.Operand.{Operand as OperandHeld}
 use Rattle.pli_operand.specs.Shown.{operand_of}
 use Rattle.pli_operand.specs.Notes.{Noted, noted}

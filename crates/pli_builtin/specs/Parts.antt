@@ -1,9 +1,9 @@
 -- Parts of what the built-in functions are judged by.
 use Rattle.std.specs.Prelude.{Bool, not, ◌&&◌, List, [], ◌∷◌}
-use Rattle.pli_meaning.specs.Judging.{Judged, fine, ◌>>=◌}
-use Rattle.pli_meaning.specs.TypedTree as Y
-use Rattle.pli_meaning.specs.Converting.{Designated, Operand, is_area, number_operand, operand_value, variable_of, wanted}
-use Rattle.pli_meaning.specs.Builtins.{has_name, number_list, own_offset}
+use Rattle.pli_typing.specs.Judging.{Judged, fine, ◌>>=◌}
+use Rattle.pli_typing.specs.TypedTree as Y
+use Rattle.pli_typing.specs.Converting.{Designated, Operand, is_area, number_operand, operand_value, variable_of, wanted}
+use Rattle.pli_typing.specs.Builtins.{has_name, number_list, own_offset}
 
 -- numbers in their order before a list
 unfoldable pub numbers_onto : List Y.Number → Y.Numbers → Y.Numbers

@@ -1,8 +1,8 @@
 -- What a program's values show of the definitions.
 use Rattle.std.specs.Prelude.{ℕ}
-use Rattle.pli_meaning.specs.Operators as O
-use Rattle.pli_meaning.specs.TypedTree as Y
-use Rattle.pli_meaning.specs.TypedView.{value_of}
+use Rattle.pli_typing.specs.Operators as O
+use Rattle.pli_typing.specs.TypedTree as Y
+use Rattle.pli_typing.specs.TypedView.{value_of}
 use Rattle.pli_builtin.specs.declared.comparison.ComparedAs.{ComparedAs}
 use Rattle.pli_builtin.specs.declared.comparison.ComparedAs.TheVariants as A
 use Rattle.pli_builtin.specs.declared.comparison.Sides.{Sides}

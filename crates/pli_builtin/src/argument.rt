@@ -2,20 +2,20 @@
 
 ghost use Rattle.std.specs.Prelude.{◌≡◌, ◌≢◌, [], ◌∷◌, length, MatchOption};
 ghost use Rattle.std.specs.Vec.Iter.{into_iter_items};
-ghost use Rattle.pli_meaning.specs.declared.fault.SourceKind.TheVariants.{BadArguments};
-ghost use Rattle.pli_meaning.specs.Builtins as B;
-ghost use Rattle.pli_meaning.specs.Converting as C;
-ghost use Rattle.pli_meaning.specs.Refusals.{fault};
-ghost use Rattle.pli_meaning.specs.TypedTree as Y;
+ghost use Rattle.pli_language.specs.declared.fault.SourceKind.TheVariants.{BadArguments};
+ghost use Rattle.pli_typing.specs.Builtins as B;
+ghost use Rattle.pli_typing.specs.Converting as C;
+ghost use Rattle.pli_language.specs.Refusals.{fault};
+ghost use Rattle.pli_typing.specs.TypedTree as Y;
 ghost use Rattle.pli_operand.specs.Notes.{with_fault};
 ghost use Rattle.pli_operand.specs.Shown.{notes_of, referent_of};
 
 use crate::operator::{number_answer, pointer_answer};
-use pli_meaning::expr::Place;
-use pli_meaning::fault::SourceKind;
-use pli_meaning::typed::{Number, Pointer, Text, Value};
+use pli_language::expr::Place;
+use pli_language::fault::SourceKind;
 use pli_operand::notes::Notes;
 use pli_operand::operand::{Operand, Referent};
+use pli_typing::typed::{Number, Pointer, Text, Value};
 use std::vec::IntoIter;
 
 /// Two operands.
@@ -124,7 +124,7 @@ pub fn four<'t, 'a>(operands: IntoIter<Operand<'t, 'a>>) -> Option<Quadruple<'t,
 }
 
 /// What is broken at a built-in's name, where its answer is a number.
-#[tactic(auto, using(pli_operand::proofs::Noting::noting), unfolding(pli_meaning::specs::TypedView::number_of))]
+#[tactic(auto, using(pli_operand::proofs::Noting::noting), unfolding(pli_typing::specs::TypedView::number_of))]
 pub fn bad_number<'t, 'a>(notes: &mut Notes, place: Place) -> Referent<'t, 'a>
     ensures noted { notes_of notes.new ≡ with_fault (notes_of notes.old) (fault place BadArguments) }
     ensures value { referent_of result ≡ C.Gives (Y.NumberValue C.operator_digits (Y.NumberConstant 0)) }
@@ -134,7 +134,7 @@ pub fn bad_number<'t, 'a>(notes: &mut Notes, place: Place) -> Referent<'t, 'a>
 }
 
 /// The same, where its answer is a text.
-#[tactic(auto, using(pli_operand::proofs::Noting::noting), unfolding(pli_meaning::specs::TypedView::text_of))]
+#[tactic(auto, using(pli_operand::proofs::Noting::noting), unfolding(pli_typing::specs::TypedView::text_of))]
 pub fn bad_text<'t, 'a>(notes: &mut Notes, place: Place) -> Referent<'t, 'a>
     ensures noted { notes_of notes.new ≡ with_fault (notes_of notes.old) (fault place BadArguments) }
     ensures value { referent_of result ≡ C.Gives (Y.TextValue (Y.TextConstant [])) }
@@ -144,7 +144,7 @@ pub fn bad_text<'t, 'a>(notes: &mut Notes, place: Place) -> Referent<'t, 'a>
 }
 
 /// The same, where its answer is a POINTER.
-#[tactic(auto, using(pli_operand::proofs::Noting::noting), unfolding(pli_meaning::specs::TypedView::pointer_of))]
+#[tactic(auto, using(pli_operand::proofs::Noting::noting), unfolding(pli_typing::specs::TypedView::pointer_of))]
 pub fn bad_pointer<'t, 'a>(notes: &mut Notes, place: Place) -> Referent<'t, 'a>
     ensures noted { notes_of notes.new ≡ with_fault (notes_of notes.old) (fault place BadArguments) }
     ensures value { referent_of result ≡ C.Gives (Y.PointerValue Y.NullPointer) }

@@ -1,10 +1,10 @@
 // Built-in functions whose arguments aren't evaluated: bounds of arrays, counts of generations, addresses.
 
 ghost use Rattle.std.specs.Prelude.{◌≡◌, map, IfOk, OnOk};
-ghost use Rattle.pli_meaning.specs.Builtins as B;
-ghost use Rattle.pli_meaning.specs.Converting as C;
-ghost use Rattle.pli_meaning.specs.TypedTree as Y;
-ghost use Rattle.pli_meaning.specs.TypedView.{class_of, number_of, pointer_of, reference_of};
+ghost use Rattle.pli_typing.specs.Builtins as B;
+ghost use Rattle.pli_typing.specs.Converting as C;
+ghost use Rattle.pli_typing.specs.TypedTree as Y;
+ghost use Rattle.pli_typing.specs.TypedView.{class_of, number_of, pointer_of, reference_of};
 ghost use Rattle.pli_operand.specs.Notes.{noted};
 ghost use Rattle.pli_operand.specs.Shown.{designated_of, notes_of, operand_of, referent_of};
 ghost use Rattle.pli_builtin.specs.Parts.{is_addressed};
@@ -13,11 +13,11 @@ ghost use Rattle.pli_builtin.specs.Shown.{bound_of};
 use crate::argument::{Pair, bad_number, bad_pointer, constant_within, one, two};
 use crate::node;
 use crate::operator::{number_answer, pointer_answer};
-use pli_meaning::expr::Place;
-use pli_meaning::typed::{Number, Pointer, Reference, StorageClass, Value};
+use pli_language::expr::Place;
 use pli_operand::notes::Notes;
 use pli_operand::operand::{Designated, Operand, Referent};
 use pli_operand::shape::{is_area, variable_of};
+use pli_typing::typed::{Number, Pointer, Reference, StorageClass, Value};
 use std::alloc::{AllocError, Global};
 
 /// No variable has more dimensions.
@@ -74,7 +74,7 @@ fn dimension_of<'t, 'a>(
 }
 
 /// The number of a dimension of an array that isn't known.
-#[tactic(auto, using(pli_operand::proofs::Noting::noting), unfolding(pli_meaning::specs::TypedView::number_of))]
+#[tactic(auto, using(pli_operand::proofs::Noting::noting), unfolding(pli_typing::specs::TypedView::number_of))]
 fn any_dimension<'t, 'a>(
     notes: &mut Notes,
     place: Place,
@@ -133,7 +133,9 @@ fn of_array<'t, 'a>(
             Ok(any_dimension(notes, place, dimension))
         }
         Referent::Gives(value) => Ok(no_array(notes, place, value)),
-        Referent::EmptyArea | Referent::Nothing => Ok(bad_number(notes, place)),
+        Referent::UnknownValue | Referent::EmptyArea | Referent::Nothing => {
+            Ok(bad_number(notes, place))
+        }
     }
 }
 
@@ -175,7 +177,7 @@ fn is_controlled(class: StorageClass) -> bool
     matches!(class, StorageClass::Controlled)
 }
 
-#[tactic(auto, using(pli_operand::proofs::Noting::noting), unfolding(pli_meaning::specs::TypedView::number_of))]
+#[tactic(auto, using(pli_operand::proofs::Noting::noting), unfolding(pli_typing::specs::TypedView::number_of))]
 fn allocations_of<'t, 'a>(notes: &mut Notes, place: Place, referent: &Referent) -> Referent<'t, 'a>
     ensures noted { notes_of notes.new ≡ noted (notes_of notes.old) (B.number_given (B.allocations_of place (referent_of referent.now))) }
     ensures value { referent_of result ≡ (B.number_given (B.allocations_of place (referent_of referent.now))).value }
@@ -189,7 +191,8 @@ fn allocations_of<'t, 'a>(notes: &mut Notes, place: Place, referent: &Referent) 
             bad_number(notes, place)
         }
         Referent::NotKnown => number_answer(Number::Constant(0)),
-        Referent::Gives(_) | Referent::EmptyArea | Referent::Nothing => bad_number(notes, place),
+        Referent::Gives(_) | Referent::UnknownValue | Referent::EmptyArea | Referent::Nothing =>
+            bad_number(notes, place),
     }
 }
 
@@ -262,7 +265,7 @@ fn no_variable<'t, 'a>(notes: &mut Notes, place: Place, _value: Value) -> Refere
     bad_pointer(notes, place)
 }
 
-#[tactic(auto, using(pli_operand::proofs::Noting::noting), unfolding(pli_meaning::specs::TypedView::pointer_of))]
+#[tactic(auto, using(pli_operand::proofs::Noting::noting), unfolding(pli_typing::specs::TypedView::pointer_of))]
 fn address_of<'t, 'a>(
     alloc: Global,
     notes: &mut Notes,
@@ -276,7 +279,9 @@ fn address_of<'t, 'a>(
         Referent::Designates(designated) => address_of_part(alloc, notes, place, designated),
         Referent::NotKnown => Ok(pointer_answer(Pointer::Null)),
         Referent::Gives(value) => Ok(no_variable(notes, place, value)),
-        Referent::EmptyArea | Referent::Nothing => Ok(bad_pointer(notes, place)),
+        Referent::UnknownValue | Referent::EmptyArea | Referent::Nothing => {
+            Ok(bad_pointer(notes, place))
+        }
     }
 }
 

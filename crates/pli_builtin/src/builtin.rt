@@ -1,9 +1,9 @@
 // The built-in functions by their words.
 
 ghost use Rattle.std.specs.Prelude.{◌≡◌, map, IfOk, OnOk};
-ghost use Rattle.pli_meaning.specs.Builtins as B;
-ghost use Rattle.pli_meaning.specs.Converting as C;
-ghost use Rattle.pli_meaning.specs.TypedTree as Y;
+ghost use Rattle.pli_typing.specs.Builtins as B;
+ghost use Rattle.pli_typing.specs.Converting as C;
+ghost use Rattle.pli_typing.specs.TypedTree as Y;
 ghost use Rattle.pli_operand.specs.Notes.{noted};
 ghost use Rattle.pli_operand.specs.Shown.{notes_of, operand_of, referent_of};
 
@@ -15,12 +15,12 @@ use crate::calculation::{
 use crate::locator::{offset_into, pointer_into};
 pub use crate::numbers::number_list;
 use crate::operator::number_answer;
-use pli_meaning::expr::Place;
-use pli_meaning::fault::SourceKind;
-use pli_meaning::token::Word;
-use pli_meaning::typed::{Extremum, Number, Value};
+use pli_language::expr::Place;
+use pli_language::fault::SourceKind;
+use pli_language::token::Word;
 use pli_operand::notes::Notes;
 use pli_operand::operand::{Operand, Referent};
+use pli_typing::typed::{Extremum, Number, Value};
 use std::alloc::{AllocError, Global};
 
 /// NULL.
@@ -48,7 +48,7 @@ fn empty<'t, 'a>(notes: &mut Notes, place: Place, operands: Vec<Operand>) -> Ref
 }
 
 /// ONCODE.
-#[tactic(auto, using(pli_operand::proofs::Noting::noting, crate::proofs::Counted::no_argument, crate::proofs::Counted::any_argument), unfolding(pli_meaning::specs::TypedView::number_of))]
+#[tactic(auto, using(pli_operand::proofs::Noting::noting, crate::proofs::Counted::no_argument, crate::proofs::Counted::any_argument), unfolding(pli_typing::specs::TypedView::number_of))]
 fn condition_code<'t, 'a>(
     notes: &mut Notes,
     place: Place,

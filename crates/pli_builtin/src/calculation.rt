@@ -2,10 +2,10 @@
 
 ghost use Rattle.std.specs.Prelude.{◌≡◌, ◌≢◌, Some, ◌<◌, [], ◌∷◌, map, length, IfOk, OnOk, if◌then◌else◌};
 ghost use Rattle.std.specs.Vec.Iter.{into_iter_items};
-ghost use Rattle.pli_meaning.specs.Builtins as B;
-ghost use Rattle.pli_meaning.specs.Converting.{Gives};
-ghost use Rattle.pli_meaning.specs.TypedTree as Y;
-ghost use Rattle.pli_meaning.specs.TypedView.{extremum_of, number_of, text_of};
+ghost use Rattle.pli_typing.specs.Builtins as B;
+ghost use Rattle.pli_typing.specs.Converting.{Gives};
+ghost use Rattle.pli_typing.specs.TypedTree as Y;
+ghost use Rattle.pli_typing.specs.TypedView.{extremum_of, number_of, text_of};
 ghost use Rattle.pli_operand.specs.Notes.{noted};
 ghost use Rattle.pli_operand.specs.Shown.{notes_of, operand_of, referent_of};
 ghost use Rattle.pli_builtin.specs.Parts.{extreme_of};
@@ -17,11 +17,11 @@ use crate::argument::{
 use crate::node;
 use crate::numbers::numbers_left;
 use crate::operator::{OPERATOR_DIGITS, number_answer};
-use pli_meaning::expr::Place;
-use pli_meaning::typed::{Extremum, Number, Text, Value};
+use pli_language::expr::Place;
 use pli_operand::notes::Notes;
 use pli_operand::operand::{Operand, Referent};
 use pli_operand::value::{number_operand, text_operand};
+use pli_typing::typed::{Extremum, Number, Text, Value};
 use std::alloc::{AllocError, Global};
 use std::vec::IntoIter;
 

@@ -1,22 +1,22 @@
 // Comparisons of two values.
 
 ghost use Rattle.std.specs.Prelude.{◌≡◌, Some, None, false, IfOk, OnOk};
-ghost use Rattle.pli_meaning.specs.Operators as O;
-ghost use Rattle.pli_meaning.specs.TypedTree as Y;
-ghost use Rattle.pli_meaning.specs.TypedView.{bit_of, comparison_of, value_of};
-ghost use Rattle.pli_meaning.specs.View.{option_of};
+ghost use Rattle.pli_typing.specs.Operators as O;
+ghost use Rattle.pli_typing.specs.TypedTree as Y;
+ghost use Rattle.pli_typing.specs.TypedView.{bit_of, comparison_of, value_of};
+ghost use Rattle.pli_language.specs.View.{option_of};
 ghost use Rattle.pli_operand.specs.Notes.{noted};
 ghost use Rattle.pli_operand.specs.Shown.{notes_of};
 ghost use Rattle.pli_builtin.specs.Shown.{compared_as_of, sides_of};
 
 use crate::node;
-use pli_meaning::expr::Place;
-use pli_meaning::fault::SourceKind;
-use pli_meaning::typed::{Bit, Comparison, Value};
+use pli_language::expr::Place;
+use pli_language::fault::SourceKind;
 use pli_operand::notes::Notes;
 use pli_operand::wanted::{
     number_wanted, offset_wanted, own_bit_wanted, pointer_wanted, text_wanted,
 };
+use pli_typing::typed::{Bit, Comparison, Value};
 use std::alloc::{AllocError, Global};
 
 /// What two values are compared as.
@@ -152,7 +152,7 @@ fn offsets_equal<'a>(
 }
 
 /// Locators that are compared for their order.
-#[tactic(auto, using(pli_operand::proofs::Noting::noting), unfolding(pli_meaning::specs::TypedView::bit_of))]
+#[tactic(auto, using(pli_operand::proofs::Noting::noting), unfolding(pli_typing::specs::TypedView::bit_of))]
 fn no_order<'a>(notes: &mut Notes, sides: Sides) -> Bit<'a>
     ensures noted { notes_of notes.new ≡ noted (notes_of notes.old) (O.pointers_compared (sides_of sides.entry) None) }
     ensures value { bit_of result ≡ Y.BitConstant false }
@@ -215,7 +215,7 @@ pub fn values_compared<'a>(
 }
 
 /// Without an order, what isn't compared for being equal breaks a rule.
-#[tactic(auto, using(pli_operand::proofs::Noting::noting), unfolding(pli_meaning::specs::TypedView::bit_of))]
+#[tactic(auto, using(pli_operand::proofs::Noting::noting), unfolding(pli_typing::specs::TypedView::bit_of))]
 fn order_demanded<'a>(
     notes: &mut Notes,
     place: Place,
@@ -263,7 +263,7 @@ fn both_compared<'a>(
 }
 
 /// Two values compared, of which either may not be known.
-#[tactic(auto, using(pli_operand::proofs::Noting::noting), unfolding(pli_meaning::specs::TypedView::bit_of))]
+#[tactic(auto, using(pli_operand::proofs::Noting::noting), unfolding(pli_typing::specs::TypedView::bit_of))]
 pub fn compared<'a>(
     alloc: Global,
     notes: &mut Notes,

@@ -1,11 +1,11 @@
 // The built-in functions POINTER and OFFSET.
 
 ghost use Rattle.std.specs.Prelude.{◌≡◌, None, [], ◌∷◌, map, IfOk, OnOk};
-ghost use Rattle.pli_meaning.specs.Builtins as B;
-ghost use Rattle.pli_meaning.specs.Converting as C;
-ghost use Rattle.pli_meaning.specs.TypedTree as Y;
-ghost use Rattle.pli_meaning.specs.TypedView.{offset_of, pointer_of, value_of};
-ghost use Rattle.pli_meaning.specs.View.{option_of};
+ghost use Rattle.pli_typing.specs.Builtins as B;
+ghost use Rattle.pli_typing.specs.Converting as C;
+ghost use Rattle.pli_typing.specs.TypedTree as Y;
+ghost use Rattle.pli_typing.specs.TypedView.{offset_of, pointer_of, value_of};
+ghost use Rattle.pli_language.specs.View.{option_of};
 ghost use Rattle.pli_operand.specs.Notes.{noted};
 ghost use Rattle.pli_operand.specs.Shown.{notes_of, operand_of, referent_of};
 ghost use Rattle.pli_builtin.specs.Parts.{offset_operand};
@@ -13,18 +13,18 @@ ghost use Rattle.pli_builtin.specs.Parts.{offset_operand};
 use crate::argument::{Pair, bad_pointer, two};
 use crate::node;
 use crate::operator::pointer_answer;
-use pli_meaning::expr::Place;
-use pli_meaning::fault::SourceKind;
-use pli_meaning::typed::{Offset, Pointer, Value};
+use pli_language::expr::Place;
+use pli_language::fault::SourceKind;
 use pli_operand::notes::Notes;
 use pli_operand::operand::{Operand, Referent};
 use pli_operand::stored::area_operand;
 use pli_operand::value::{operand_value, pointer_operand};
 use pli_operand::wanted::offset_or_mismatch;
+use pli_typing::typed::{Offset, Pointer, Value};
 use std::alloc::{AllocError, Global};
 
 /// An OFFSET, whatever its area, or NULL.
-#[tactic(auto, unfolding(pli_meaning::specs::TypedView::offset_of))]
+#[tactic(auto, unfolding(pli_typing::specs::TypedView::offset_of))]
 fn own_offset<'a>(value: Value<'a>) -> Option<Offset<'a>>
     ensures { option_of offset_of result ≡ B.own_offset (value_of value.entry) }
 {
@@ -35,7 +35,7 @@ fn own_offset<'a>(value: Value<'a>) -> Option<Offset<'a>>
     }
 }
 
-#[tactic(auto, using(pli_operand::proofs::Noting::noting), unfolding(pli_meaning::specs::TypedView::offset_of))]
+#[tactic(auto, using(pli_operand::proofs::Noting::noting), unfolding(pli_typing::specs::TypedView::offset_of))]
 fn own_offset_wanted<'a>(notes: &mut Notes, place: Place, value: Option<Value<'a>>) -> Offset<'a>
     ensures noted { notes_of notes.new ≡ noted (notes_of notes.old) (C.wanted B.own_offset Y.NullOffset place (option_of value_of value.entry)) }
     ensures value { offset_of result ≡ (C.wanted B.own_offset Y.NullOffset place (option_of value_of value.entry)).value }
@@ -108,7 +108,7 @@ fn offset_answer<'t, 'a>(offset: Offset<'a>) -> Referent<'t, 'a>
     })
 }
 
-#[tactic(auto, using(pli_operand::proofs::Noting::noting), unfolding(pli_meaning::specs::TypedView::offset_of))]
+#[tactic(auto, using(pli_operand::proofs::Noting::noting), unfolding(pli_typing::specs::TypedView::offset_of))]
 fn bad_offset<'t, 'a>(notes: &mut Notes, place: Place) -> Referent<'t, 'a>
     ensures noted { notes_of notes.new ≡ noted (notes_of notes.old) (B.offset_into place []) }
     ensures value { referent_of result ≡ (B.offset_into place []).value }

@@ -1,17 +1,17 @@
 // Nodes of the typed tree over what stands below them.
 
 ghost use Rattle.std.specs.Prelude.{◌≡◌, IfOk};
-ghost use Rattle.pli_meaning.specs.TypedTree as Y;
-ghost use Rattle.pli_meaning.specs.TypedView.{arithmetic_of, bit_of, bit_operator_of, comparison_of, extremum_of, number_of, numbers_of, offset_of, pointer_of, reference_of, sign_of, text_of, variable_of};
+ghost use Rattle.pli_typing.specs.TypedTree as Y;
+ghost use Rattle.pli_typing.specs.TypedView.{arithmetic_of, bit_of, bit_operator_of, comparison_of, extremum_of, number_of, numbers_of, offset_of, pointer_of, reference_of, sign_of, text_of, variable_of};
 
-use pli_meaning::typed::{
+use pli_typing::typed::{
     ArithmeticOperator, Bit, BitOperator, Comparison, Extremum, Number, Numbers, Offset, Pointer,
     Reference, Sign, Text, Variable,
 };
 use std::alloc::{AllocError, Global};
 
 /// A number behind a sign.
-#[tactic(auto, unfolding(pli_meaning::specs::TypedView::number_of))]
+#[tactic(auto, unfolding(pli_typing::specs::TypedView::number_of))]
 pub fn signed<'a>(alloc: Global, sign: Sign, operand: Number<'a>) -> Result<Number<'a>, AllocError>
     ensures { IfOk result (λ n. number_of n ≡ Y.Signed (sign_of sign) (number_of operand.entry)) }
 {
@@ -22,7 +22,7 @@ pub fn signed<'a>(alloc: Global, sign: Sign, operand: Number<'a>) -> Result<Numb
 }
 
 /// Two numbers with an operator between them.
-#[tactic(auto, unfolding(pli_meaning::specs::TypedView::number_of))]
+#[tactic(auto, unfolding(pli_typing::specs::TypedView::number_of))]
 pub fn calculated<'a>(
     alloc: Global,
     operator: ArithmeticOperator,
@@ -39,7 +39,7 @@ pub fn calculated<'a>(
 }
 
 /// Two texts in a row.
-#[tactic(auto, unfolding(pli_meaning::specs::TypedView::text_of))]
+#[tactic(auto, unfolding(pli_typing::specs::TypedView::text_of))]
 pub fn joined<'a>(alloc: Global, left: Text<'a>, right: Text<'a>) -> Result<Text<'a>, AllocError>
     ensures { IfOk result (λ t. text_of t ≡ Y.Joined (text_of left.entry) (text_of right.entry)) }
 {
@@ -50,7 +50,7 @@ pub fn joined<'a>(alloc: Global, left: Text<'a>, right: Text<'a>) -> Result<Text
 }
 
 /// The other bit.
-#[tactic(auto, unfolding(pli_meaning::specs::TypedView::bit_of))]
+#[tactic(auto, unfolding(pli_typing::specs::TypedView::bit_of))]
 pub fn negated<'a>(alloc: Global, operand: Bit<'a>) -> Result<Bit<'a>, AllocError>
     ensures { IfOk result (λ b. bit_of b ≡ Y.Negated (bit_of operand.entry)) }
 {
@@ -58,7 +58,7 @@ pub fn negated<'a>(alloc: Global, operand: Bit<'a>) -> Result<Bit<'a>, AllocErro
 }
 
 /// Two bits with an operator between them.
-#[tactic(auto, unfolding(pli_meaning::specs::TypedView::bit_of))]
+#[tactic(auto, unfolding(pli_typing::specs::TypedView::bit_of))]
 pub fn combined<'a>(
     alloc: Global,
     operator: BitOperator,
@@ -75,7 +75,7 @@ pub fn combined<'a>(
 }
 
 /// Two numbers that are compared.
-#[tactic(auto, unfolding(pli_meaning::specs::TypedView::bit_of))]
+#[tactic(auto, unfolding(pli_typing::specs::TypedView::bit_of))]
 pub fn numbers_compared<'a>(
     alloc: Global,
     comparison: Comparison,
@@ -92,7 +92,7 @@ pub fn numbers_compared<'a>(
 }
 
 /// Two texts that are compared.
-#[tactic(auto, unfolding(pli_meaning::specs::TypedView::bit_of))]
+#[tactic(auto, unfolding(pli_typing::specs::TypedView::bit_of))]
 pub fn texts_compared<'a>(
     alloc: Global,
     comparison: Comparison,
@@ -109,7 +109,7 @@ pub fn texts_compared<'a>(
 }
 
 /// Two bits that are compared.
-#[tactic(auto, unfolding(pli_meaning::specs::TypedView::bit_of))]
+#[tactic(auto, unfolding(pli_typing::specs::TypedView::bit_of))]
 pub fn bits_compared<'a>(
     alloc: Global,
     comparison: Comparison,
@@ -126,7 +126,7 @@ pub fn bits_compared<'a>(
 }
 
 /// Two POINTERs, for being equal or for not being so.
-#[tactic(auto, unfolding(pli_meaning::specs::TypedView::bit_of))]
+#[tactic(auto, unfolding(pli_typing::specs::TypedView::bit_of))]
 pub fn pointers_compared<'a>(
     alloc: Global,
     equal: bool,
@@ -143,7 +143,7 @@ pub fn pointers_compared<'a>(
 }
 
 /// Two OFFSETs, for being equal or for not being so.
-#[tactic(auto, unfolding(pli_meaning::specs::TypedView::bit_of))]
+#[tactic(auto, unfolding(pli_typing::specs::TypedView::bit_of))]
 pub fn offsets_compared<'a>(
     alloc: Global,
     equal: bool,
@@ -160,7 +160,7 @@ pub fn offsets_compared<'a>(
 }
 
 /// ABS of a number.
-#[tactic(auto, unfolding(pli_meaning::specs::TypedView::number_of))]
+#[tactic(auto, unfolding(pli_typing::specs::TypedView::number_of))]
 pub fn absolute<'a>(alloc: Global, operand: Number<'a>) -> Result<Number<'a>, AllocError>
     ensures { IfOk result (λ r. number_of r ≡ Y.Absolute (number_of operand.entry)) }
 {
@@ -168,7 +168,7 @@ pub fn absolute<'a>(alloc: Global, operand: Number<'a>) -> Result<Number<'a>, Al
 }
 
 /// SIGN of a number.
-#[tactic(auto, unfolding(pli_meaning::specs::TypedView::number_of))]
+#[tactic(auto, unfolding(pli_typing::specs::TypedView::number_of))]
 pub fn sign_of<'a>(alloc: Global, operand: Number<'a>) -> Result<Number<'a>, AllocError>
     ensures { IfOk result (λ r. number_of r ≡ Y.SignOf (number_of operand.entry)) }
 {
@@ -176,7 +176,7 @@ pub fn sign_of<'a>(alloc: Global, operand: Number<'a>) -> Result<Number<'a>, All
 }
 
 /// MAX or MIN of a number and others.
-#[tactic(auto, unfolding(pli_meaning::specs::TypedView::number_of))]
+#[tactic(auto, unfolding(pli_typing::specs::TypedView::number_of))]
 pub fn extreme<'a>(
     alloc: Global,
     which: Extremum,
@@ -193,7 +193,7 @@ pub fn extreme<'a>(
 }
 
 /// MOD of two numbers.
-#[tactic(auto, unfolding(pli_meaning::specs::TypedView::number_of))]
+#[tactic(auto, unfolding(pli_typing::specs::TypedView::number_of))]
 pub fn modulo<'a>(
     alloc: Global,
     dividend: Number<'a>,
@@ -208,7 +208,7 @@ pub fn modulo<'a>(
 }
 
 /// DIVIDE of two numbers, with a precision.
-#[tactic(auto, unfolding(pli_meaning::specs::TypedView::number_of))]
+#[tactic(auto, unfolding(pli_typing::specs::TypedView::number_of))]
 pub fn divided<'a>(
     alloc: Global,
     precision: u64,
@@ -225,7 +225,7 @@ pub fn divided<'a>(
 }
 
 /// LENGTH of a text.
-#[tactic(auto, unfolding(pli_meaning::specs::TypedView::number_of))]
+#[tactic(auto, unfolding(pli_typing::specs::TypedView::number_of))]
 pub fn length_of<'a>(alloc: Global, text: Text<'a>) -> Result<Number<'a>, AllocError>
     ensures { IfOk result (λ r. number_of r ≡ Y.LengthOf (text_of text.entry)) }
 {
@@ -233,7 +233,7 @@ pub fn length_of<'a>(alloc: Global, text: Text<'a>) -> Result<Number<'a>, AllocE
 }
 
 /// INDEX of a text in another.
-#[tactic(auto, unfolding(pli_meaning::specs::TypedView::number_of))]
+#[tactic(auto, unfolding(pli_typing::specs::TypedView::number_of))]
 pub fn index_of<'a>(
     alloc: Global,
     searched: Text<'a>,
@@ -248,7 +248,7 @@ pub fn index_of<'a>(
 }
 
 /// VERIFY of a text by another.
-#[tactic(auto, unfolding(pli_meaning::specs::TypedView::number_of))]
+#[tactic(auto, unfolding(pli_typing::specs::TypedView::number_of))]
 pub fn verify_of<'a>(
     alloc: Global,
     searched: Text<'a>,
@@ -263,7 +263,7 @@ pub fn verify_of<'a>(
 }
 
 /// LBOUND of a dimension.
-#[tactic(auto, unfolding(pli_meaning::specs::TypedView::number_of))]
+#[tactic(auto, unfolding(pli_typing::specs::TypedView::number_of))]
 pub fn lower_bound<'a>(
     alloc: Global,
     array: Reference<'a>,
@@ -278,7 +278,7 @@ pub fn lower_bound<'a>(
 }
 
 /// HBOUND of a dimension.
-#[tactic(auto, unfolding(pli_meaning::specs::TypedView::number_of))]
+#[tactic(auto, unfolding(pli_typing::specs::TypedView::number_of))]
 pub fn upper_bound<'a>(
     alloc: Global,
     array: Reference<'a>,
@@ -293,7 +293,7 @@ pub fn upper_bound<'a>(
 }
 
 /// DIM of a dimension.
-#[tactic(auto, unfolding(pli_meaning::specs::TypedView::number_of))]
+#[tactic(auto, unfolding(pli_typing::specs::TypedView::number_of))]
 pub fn elements_of<'a>(
     alloc: Global,
     array: Reference<'a>,
@@ -308,7 +308,7 @@ pub fn elements_of<'a>(
 }
 
 /// A number before others.
-#[tactic(auto, unfolding(pli_meaning::specs::TypedView::numbers_of))]
+#[tactic(auto, unfolding(pli_typing::specs::TypedView::numbers_of))]
 pub fn number_then<'a>(
     alloc: Global,
     first: Number<'a>,
@@ -323,7 +323,7 @@ pub fn number_then<'a>(
 }
 
 /// No number.
-#[tactic(auto, unfolding(pli_meaning::specs::TypedView::numbers_of))]
+#[tactic(auto, unfolding(pli_typing::specs::TypedView::numbers_of))]
 pub fn no_number<'a>() -> Numbers<'a>
     ensures { numbers_of result ≡ Y.NoNumber }
 {
@@ -331,7 +331,7 @@ pub fn no_number<'a>() -> Numbers<'a>
 }
 
 /// SUBSTR of a text from a place on.
-#[tactic(auto, unfolding(pli_meaning::specs::TypedView::text_of))]
+#[tactic(auto, unfolding(pli_typing::specs::TypedView::text_of))]
 pub fn substring_from<'a>(
     alloc: Global,
     text: Text<'a>,
@@ -346,7 +346,7 @@ pub fn substring_from<'a>(
 }
 
 /// SUBSTR of so many places of a text.
-#[tactic(auto, unfolding(pli_meaning::specs::TypedView::text_of))]
+#[tactic(auto, unfolding(pli_typing::specs::TypedView::text_of))]
 pub fn substring<'a>(
     alloc: Global,
     text: Text<'a>,
@@ -363,7 +363,7 @@ pub fn substring<'a>(
 }
 
 /// ADDR of a generation.
-#[tactic(auto, unfolding(pli_meaning::specs::TypedView::pointer_of))]
+#[tactic(auto, unfolding(pli_typing::specs::TypedView::pointer_of))]
 pub fn address_of<'a>(alloc: Global, reference: Reference<'a>) -> Result<Pointer<'a>, AllocError>
     ensures { IfOk result (λ r. pointer_of r ≡ Y.AddressOf (reference_of reference.entry)) }
 {
@@ -371,7 +371,7 @@ pub fn address_of<'a>(alloc: Global, reference: Reference<'a>) -> Result<Pointer
 }
 
 /// POINTER of an OFFSET into an area.
-#[tactic(auto, unfolding(pli_meaning::specs::TypedView::pointer_of))]
+#[tactic(auto, unfolding(pli_typing::specs::TypedView::pointer_of))]
 pub fn pointer_into<'a>(
     alloc: Global,
     offset: Offset<'a>,
@@ -386,7 +386,7 @@ pub fn pointer_into<'a>(
 }
 
 /// OFFSET of a POINTER into an area.
-#[tactic(auto, unfolding(pli_meaning::specs::TypedView::offset_of))]
+#[tactic(auto, unfolding(pli_typing::specs::TypedView::offset_of))]
 pub fn offset_into<'a>(
     alloc: Global,
     pointer: Pointer<'a>,

@@ -2,18 +2,18 @@
 
 ghost use Rattle.std.specs.Prelude.{◌≡◌, map, IfOk, OnOk};
 ghost use Rattle.std.specs.Vec.Iter.{into_iter_items};
-ghost use Rattle.pli_meaning.specs.Builtins as B;
-ghost use Rattle.pli_meaning.specs.TypedTree as Y;
-ghost use Rattle.pli_meaning.specs.TypedView.{number_of, numbers_of};
+ghost use Rattle.pli_typing.specs.Builtins as B;
+ghost use Rattle.pli_typing.specs.TypedTree as Y;
+ghost use Rattle.pli_typing.specs.TypedView.{number_of, numbers_of};
 ghost use Rattle.pli_operand.specs.Notes.{noted};
 ghost use Rattle.pli_operand.specs.Shown.{notes_of, operand_of};
 ghost use Rattle.pli_builtin.specs.Parts.{numbers_onto};
 
 use crate::node::{no_number, number_then};
-use pli_meaning::typed::{Number, Numbers};
 use pli_operand::notes::Notes;
 use pli_operand::operand::Operand;
 use pli_operand::value::number_operand;
+use pli_typing::typed::{Number, Numbers};
 use std::alloc::{AllocError, Global};
 use std::vec::IntoIter;
 

@@ -1,22 +1,22 @@
 // The operators of expressions: which operands they take, and what they give.
 
 ghost use Rattle.std.specs.Prelude.{◌≡◌, IfOk, OnOk};
-ghost use Rattle.pli_meaning.specs.Converting as C;
-ghost use Rattle.pli_meaning.specs.Operators as O;
-ghost use Rattle.pli_meaning.specs.TypedTree as Y;
-ghost use Rattle.pli_meaning.specs.TypedView.{arithmetic_of, bit_of, bit_operator_of, comparison_of, number_of, pointer_of, sign_of};
+ghost use Rattle.pli_typing.specs.Converting as C;
+ghost use Rattle.pli_typing.specs.Operators as O;
+ghost use Rattle.pli_typing.specs.TypedTree as Y;
+ghost use Rattle.pli_typing.specs.TypedView.{arithmetic_of, bit_of, bit_operator_of, comparison_of, number_of, pointer_of, sign_of};
 ghost use Rattle.pli_operand.specs.Notes.{noted};
 ghost use Rattle.pli_operand.specs.Shown.{notes_of, operand_of, referent_of};
 
 use crate::comparison::compared;
 use crate::node;
-use pli_meaning::expr::{InfixOp, PrefixOp};
-use pli_meaning::typed::{
-    ArithmeticOperator, Bit, BitOperator, Comparison, Number, Pointer, Sign, Value,
-};
+use pli_language::expr::{InfixOp, PrefixOp};
 use pli_operand::notes::Notes;
 use pli_operand::operand::{Operand, Referent};
 use pli_operand::value::{number_operand, operand_value, own_bit_operand, text_operand};
+use pli_typing::typed::{
+    ArithmeticOperator, Bit, BitOperator, Comparison, Number, Pointer, Sign, Value,
+};
 use std::alloc::{AllocError, Global};
 
 /// Operators and constants have this precision.

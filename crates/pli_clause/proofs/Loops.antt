@@ -1,9 +1,9 @@
 -- Laws of the loop that reads options.
 use Rattle.std.proofs.Common.{◌≡◌, ℕ, zero, suc, ◌-◌, ◌<◌, List, [], ◌∷◌, ◌++◌, length, true, false, refl, sym, ap, ◌∙◌, arith, append_assoc, append-nil, Ok, Err}
 use Rattle.std.specs.Prelude.{if◌then◌else◌}
-use Rattle.pli_meaning.specs.declared.token.Symbol.TheVariants as S
-use Rattle.pli_meaning.specs.declared.token.Kind.TheVariants as K
-use Rattle.pli_meaning.specs.Tree as T
+use Rattle.pli_language.specs.declared.token.Symbol.TheVariants as S
+use Rattle.pli_language.specs.declared.token.Kind.TheVariants as K
+use Rattle.pli_language.specs.Tree as T
 use Rattle.pli_phrase.specs.Cursor.{Cursor, Missed, Read, ◌>>=◌}
 use Rattle.pli_phrase.specs.Tokens.{begins}
 use Rattle.pli_attributes.proofs.Loops.{with_front}

@@ -1,18 +1,18 @@
 -- Options of procedures: what is read is spelled so, what is spelled is read, and what is left out is where it is said to
 -- be.
 use Rattle.std.proofs.Common.{◌≡◌, ℕ, zero, suc, ◌<◌, List, [], ◌∷◌, length, false, refl, ap, ◌∙◌, subst, arith, Ok, Err}
-use Rattle.pli_meaning.specs.declared.token.Word.{Word}
-use Rattle.pli_meaning.specs.declared.token.Word.TheVariants as W
-use Rattle.pli_meaning.specs.declared.token.Symbol.TheVariants as S
-use Rattle.pli_meaning.specs.declared.token.Kind.TheVariants as K
-use Rattle.pli_meaning.specs.declared.token.Token.{Token}
-use Rattle.pli_meaning.specs.Attributes.{SpellsAttributes, LeavesOutAttributes, attributes_marks}
-use Rattle.pli_meaning.specs.Marks.{Marks, no_marks}
-use Rattle.pli_meaning.specs.Spells.{Takes, next_kind}
-use Rattle.pli_meaning.specs.Heads as G
-use Rattle.pli_meaning.specs.Heads.{SpellsOption, SpellsOptions, LeavesOutOptions, option_marks, options_marks}
-use Rattle.pli_meaning.specs.Tree as T
-use Rattle.pli_meaning.proofs.UniqueParts.{option_begins}
+use Rattle.pli_language.specs.declared.token.Word.{Word}
+use Rattle.pli_language.specs.declared.token.Word.TheVariants as W
+use Rattle.pli_language.specs.declared.token.Symbol.TheVariants as S
+use Rattle.pli_language.specs.declared.token.Kind.TheVariants as K
+use Rattle.pli_language.specs.declared.token.Token.{Token}
+use Rattle.pli_language.specs.Attributes.{SpellsAttributes, LeavesOutAttributes, attributes_marks}
+use Rattle.pli_language.specs.Marks.{Marks, no_marks}
+use Rattle.pli_language.specs.Spells.{Takes, next_kind}
+use Rattle.pli_language.specs.Heads as G
+use Rattle.pli_language.specs.Heads.{SpellsOption, SpellsOptions, LeavesOutOptions, option_marks, options_marks}
+use Rattle.pli_language.specs.Tree as T
+use Rattle.pli_language.proofs.UniqueParts.{option_begins}
 use Rattle.pli_phrase.specs.Cursor.{Cursor, LeavesOut, ◌>>=◌}
 use Rattle.pli_phrase.specs.Tokens.{starts, taken}
 use Rattle.pli_attributes.proofs.Posts.{Post, never, post_ok, post_stuck, post_ended, post_bind, post_if, post_weaken, post_is}

@@ -1,15 +1,15 @@
 -- Parameters: what is read is spelled so, and what is spelled is read.
 use Rattle.std.proofs.Common.{◌≡◌, ℕ, suc, ◌≤◌, List, [], ◌∷◌, length, refl, sym, ap, ◌∙◌, subst, arith, Ok}
 use Rattle.std.specs.Prelude.{nat_le}
-use Rattle.pli_meaning.specs.declared.fault.SourceKind.TheVariants.{TooLarge}
-use Rattle.pli_meaning.specs.declared.token.Word.{Word}
-use Rattle.pli_meaning.specs.declared.token.Kind.TheVariants as K
-use Rattle.pli_meaning.specs.declared.token.Token.{Token}
-use Rattle.pli_meaning.specs.Marks.{Marks, note_if}
-use Rattle.pli_meaning.specs.Spells.{Takes, name_at}
-use Rattle.pli_meaning.specs.Heads as G
-use Rattle.pli_meaning.specs.Heads.{SpellsNames, SpellsParameters, most_parameters, parameters_marks}
-use Rattle.pli_meaning.specs.Tree as T
+use Rattle.pli_language.specs.declared.fault.SourceKind.TheVariants.{TooLarge}
+use Rattle.pli_language.specs.declared.token.Word.{Word}
+use Rattle.pli_language.specs.declared.token.Kind.TheVariants as K
+use Rattle.pli_language.specs.declared.token.Token.{Token}
+use Rattle.pli_language.specs.Marks.{Marks, note_if}
+use Rattle.pli_language.specs.Spells.{Takes, name_at}
+use Rattle.pli_language.specs.Heads as G
+use Rattle.pli_language.specs.Heads.{SpellsNames, SpellsParameters, most_parameters, parameters_marks}
+use Rattle.pli_language.specs.Tree as T
 use Rattle.pli_phrase.specs.Cursor.{Cursor}
 use Rattle.pli_attributes.proofs.Posts.{Post, Never, post_weaken}
 use Rattle.pli_attributes.proofs.Tokens.{name_post, name_read}

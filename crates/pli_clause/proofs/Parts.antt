@@ -1,13 +1,13 @@
 -- Laws of the readers of words, and of what may stand behind words.
 use Rattle.std.proofs.Common.{◌≡◌, ◌≢◌, ◌<◌, ◌≤◌, List, [], ◌∷◌, length, Option, Some, None, true, refl, sym, ap, ◌∙◌, subst, arith, Ok}
-use Rattle.pli_meaning.specs.declared.token.Word.{Word}
-use Rattle.pli_meaning.specs.declared.token.Symbol.{Symbol}
-use Rattle.pli_meaning.specs.declared.token.Kind.{Kind}
-use Rattle.pli_meaning.specs.declared.token.Kind.TheVariants as K
-use Rattle.pli_meaning.specs.declared.token.Token.{Token}
-use Rattle.pli_meaning.specs.Marks.{Marks}
-use Rattle.pli_meaning.specs.Heads.{marks_if}
-use Rattle.pli_meaning.specs.Spells.{Takes, next_kind}
+use Rattle.pli_language.specs.declared.token.Word.{Word}
+use Rattle.pli_language.specs.declared.token.Symbol.{Symbol}
+use Rattle.pli_language.specs.declared.token.Kind.{Kind}
+use Rattle.pli_language.specs.declared.token.Kind.TheVariants as K
+use Rattle.pli_language.specs.declared.token.Token.{Token}
+use Rattle.pli_language.specs.Marks.{Marks}
+use Rattle.pli_language.specs.Heads.{marks_if}
+use Rattle.pli_language.specs.Spells.{Takes, next_kind}
 use Rattle.pli_phrase.specs.Cursor.{Cursor, Read, ◌>>=◌, onto}
 use Rattle.pli_phrase.specs.Tokens.{is_terminal, starts}
 use Rattle.pli_attributes.proofs.Posts.{Post, Never, post_ok, post_stuck, post_ended, post_bind, post_if}

@@ -1,15 +1,15 @@
 -- Allocations and freeings: what is read is spelled so, and what is spelled is read.
 use Rattle.std.proofs.Common.{◌≡◌, ◌≢◌, ℕ, zero, suc, ◌<◌, ◌≤◌, List, [], ◌∷◌, length, Option, Some, None, true, refl, sym, ap, ◌∙◌, subst, arith, Ok}
-use Rattle.pli_meaning.specs.declared.token.Word.TheVariants as W
-use Rattle.pli_meaning.specs.declared.token.Symbol.TheVariants as S
-use Rattle.pli_meaning.specs.declared.token.Kind.{Kind}
-use Rattle.pli_meaning.specs.declared.token.Kind.TheVariants as K
-use Rattle.pli_meaning.specs.declared.token.Token.{Token}
-use Rattle.pli_meaning.specs.Marks.{Marks, no_marks, reference_marks}
-use Rattle.pli_meaning.specs.Spells.{next_kind, SpellsReference}
-use Rattle.pli_meaning.specs.Heads as G
-use Rattle.pli_meaning.specs.Heads.{SpellsInto, SpellsPlacing, SpellsAllocation, SpellsAllocations, SpellsFreeing, SpellsFreeings, ends_allocation, unplaced, freeing_marks, freeings_marks, marks_if}
-use Rattle.pli_meaning.specs.Tree as T
+use Rattle.pli_language.specs.declared.token.Word.TheVariants as W
+use Rattle.pli_language.specs.declared.token.Symbol.TheVariants as S
+use Rattle.pli_language.specs.declared.token.Kind.{Kind}
+use Rattle.pli_language.specs.declared.token.Kind.TheVariants as K
+use Rattle.pli_language.specs.declared.token.Token.{Token}
+use Rattle.pli_language.specs.Marks.{Marks, no_marks, reference_marks}
+use Rattle.pli_language.specs.Spells.{next_kind, SpellsReference}
+use Rattle.pli_language.specs.Heads as G
+use Rattle.pli_language.specs.Heads.{SpellsInto, SpellsPlacing, SpellsAllocation, SpellsAllocations, SpellsFreeing, SpellsFreeings, ends_allocation, unplaced, freeing_marks, freeings_marks, marks_if}
+use Rattle.pli_language.specs.Tree as T
 use Rattle.pli_phrase.specs.Cursor.{Cursor}
 use Rattle.pli_attributes.specs.Lists.{list_at, list_from}
 use Rattle.pli_attributes.proofs.Posts.{Post, Never, post_ok, post_ended, post_bind, post_if, post_weaken, post_is}

@@ -1,13 +1,13 @@
 -- Laws of the readers of references and arguments, and of what stands in parentheses, in the form of this crate's.
 use Rattle.std.proofs.Common.{◌≡◌, ℕ, zero, suc, List, [], ◌∷◌, length, Bool, true, Option, Some, None, Ok, refl, ap, ◌∙◌, arith}
-use Rattle.pli_meaning.specs.declared.token.Symbol.TheVariants as S
-use Rattle.pli_meaning.specs.declared.token.Kind.TheVariants as K
-use Rattle.pli_meaning.specs.declared.token.Token.{Token}
-use Rattle.pli_meaning.specs.Marks.{Marks, expr_marks, reference_marks, arguments_marks}
-use Rattle.pli_meaning.specs.Spells.{SpellsExpr, SpellsReference, SpellsArguments}
-use Rattle.pli_meaning.specs.Heads as G
-use Rattle.pli_meaning.specs.Heads.{SpellsInParentheses, SpellsInto, SpellsReturn, marks_if}
-use Rattle.pli_meaning.specs.Tree as T
+use Rattle.pli_language.specs.declared.token.Symbol.TheVariants as S
+use Rattle.pli_language.specs.declared.token.Kind.TheVariants as K
+use Rattle.pli_language.specs.declared.token.Token.{Token}
+use Rattle.pli_language.specs.Marks.{Marks, expr_marks, reference_marks, arguments_marks}
+use Rattle.pli_language.specs.Spells.{SpellsExpr, SpellsReference, SpellsArguments}
+use Rattle.pli_language.specs.Heads as G
+use Rattle.pli_language.specs.Heads.{SpellsInParentheses, SpellsInto, SpellsReturn, marks_if}
+use Rattle.pli_language.specs.Tree as T
 use Rattle.pli_phrase.specs.Cursor.{Cursor, ◌>>=◌}
 use Rattle.pli_phrase.specs.Tokens.{starts, taken}
 use Rattle.pli_phrase.specs.Reading.{expr_from, reference_from, items_from, item_due, exprs_with, listed_from, arguments_from}

@@ -1,7 +1,7 @@
 -- How the values of the code show what stands behind two words.
 use Rattle.std.specs.Prelude.{Option}
-use Rattle.pli_meaning.specs.Tree as T
-use Rattle.pli_meaning.specs.View.{expr_of, reference_of, option_of}
+use Rattle.pli_language.specs.Tree as T
+use Rattle.pli_language.specs.View.{expr_of, reference_of, option_of}
 use Rattle.pli_clause.specs.declared.turn.Range.{Range}
 use Rattle.pli_clause.specs.declared.storage.Placing.{Placing}
 

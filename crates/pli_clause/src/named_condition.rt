@@ -1,14 +1,14 @@
 // Conditions.
 
 ghost use Rattle.std.specs.Prelude.{◌≡◌};
-ghost use Rattle.pli_meaning.specs.Heads.{plain_condition};
+ghost use Rattle.pli_language.specs.Heads.{plain_condition};
 ghost use Rattle.pli_phrase.specs.Answers.{Gives};
 ghost use Rattle.pli_phrase.specs.View.{cursor_of};
 ghost use Rattle.pli_clause.specs.Reading.{condition_from, endfile_from};
 
 use crate::part::word;
-use pli_meaning::condition::Condition;
-use pli_meaning::token::{Kind, Symbol, Word};
+use pli_language::condition::Condition;
+use pli_language::token::{Kind, Symbol, Word};
 use pli_phrase::cursor::Cursor;
 use pli_phrase::stop::Stop;
 use pli_phrase::token::taken;

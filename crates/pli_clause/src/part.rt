@@ -1,15 +1,15 @@
 // A word, and what may stand behind one.
 
 ghost use Rattle.std.specs.Prelude.{◌≡◌};
-ghost use Rattle.pli_meaning.specs.View.{expr_of, option_of, reference_of};
+ghost use Rattle.pli_language.specs.View.{expr_of, option_of, reference_of};
 ghost use Rattle.pli_phrase.specs.Answers.{Gives};
 ghost use Rattle.pli_phrase.specs.Reading.{expr_from};
 ghost use Rattle.pli_phrase.specs.View.{cursor_of};
 ghost use Rattle.pli_clause.specs.Parts.{behind_word, word_from};
 ghost use Rattle.pli_clause.specs.Reading.{into_from};
 
-use pli_meaning::expr::{Expr, Reference};
-use pli_meaning::token::{Kind, Symbol, Token, Word};
+use pli_language::expr::{Expr, Reference};
+use pli_language::token::{Kind, Symbol, Token, Word};
 use pli_phrase::cursor::Cursor;
 use pli_phrase::expression::{expression, reference};
 use pli_phrase::stop::Stop;

@@ -1,18 +1,18 @@
 // What stands behind PROCEDURE: parameters and options.
 
 ghost use Rattle.std.specs.Prelude.{◌≡◌, IfOk, map};
-ghost use Rattle.pli_meaning.specs.View.{attribute_of, name_of, procedure_option_of};
+ghost use Rattle.pli_language.specs.View.{attribute_of, name_of, procedure_option_of};
 ghost use Rattle.pli_phrase.specs.Answers.{Gives};
 ghost use Rattle.pli_phrase.specs.View.{cursor_of};
 ghost use Rattle.pli_clause.specs.Reading.{main_from, names_from, one_parameter, option_from, options_from, parameter_due, parameters_from, returning, returns_from};
 
 use crate::part::word;
 use pli_attributes::attributes;
-use pli_meaning::declaration::Attribute;
-use pli_meaning::expr::Name;
-use pli_meaning::fault::SourceKind;
-use pli_meaning::stmt::ProcedureOption;
-use pli_meaning::token::{Kind, Symbol, Word};
+use pli_language::declaration::Attribute;
+use pli_language::expr::Name;
+use pli_language::fault::SourceKind;
+use pli_language::stmt::ProcedureOption;
+use pli_language::token::{Kind, Symbol, Word};
 use pli_phrase::cursor::Cursor;
 use pli_phrase::stop::Stop;
 use pli_phrase::token::{begins, name, place, taken};

@@ -1,16 +1,16 @@
 // What ALLOCATE and FREE hold.
 
 ghost use Rattle.std.specs.Prelude.{◌≡◌, map};
-ghost use Rattle.pli_meaning.specs.View.{allocation_of, freeing_of};
+ghost use Rattle.pli_language.specs.View.{allocation_of, freeing_of};
 ghost use Rattle.pli_phrase.specs.Answers.{Gives};
 ghost use Rattle.pli_phrase.specs.View.{cursor_of};
 ghost use Rattle.pli_clause.specs.Reading.{allocation_from, allocations_from, area_first, freeing_from, freeings_from, locator_first, placing_ended, placing_from};
 ghost use Rattle.pli_clause.specs.View.{placing_of};
 
 use crate::part::reference_behind;
-use pli_meaning::declaration::{Allocation, Freeing};
-use pli_meaning::expr::Reference;
-use pli_meaning::token::{Kind, Symbol, Word};
+use pli_language::declaration::{Allocation, Freeing};
+use pli_language::expr::Reference;
+use pli_language::token::{Kind, Symbol, Word};
 use pli_phrase::cursor::Cursor;
 use pli_phrase::expression::reference;
 use pli_phrase::stop::Stop;

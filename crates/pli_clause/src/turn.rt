@@ -1,16 +1,16 @@
 // What DO and RETURN hold.
 
 ghost use Rattle.std.specs.Prelude.{◌≡◌};
-ghost use Rattle.pli_meaning.specs.View.{counting_of, expr_of, option_of};
+ghost use Rattle.pli_language.specs.View.{counting_of, expr_of, option_of};
 ghost use Rattle.pli_phrase.specs.Answers.{Gives};
 ghost use Rattle.pli_phrase.specs.View.{cursor_of};
 ghost use Rattle.pli_clause.specs.Reading.{counting_from, in_parentheses_from, limit_first, range_ended, range_from, step_first, value_from, while_from};
 ghost use Rattle.pli_clause.specs.View.{range_of};
 
 use crate::part::expression_behind;
-use pli_meaning::expr::Expr;
-use pli_meaning::stmt::Counting;
-use pli_meaning::token::{Kind, Symbol, Word};
+use pli_language::expr::Expr;
+use pli_language::stmt::Counting;
+use pli_language::token::{Kind, Symbol, Word};
 use pli_phrase::cursor::Cursor;
 use pli_phrase::expression::{expression, reference};
 use pli_phrase::stop::Stop;

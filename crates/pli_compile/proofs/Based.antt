@@ -1,13 +1,13 @@
 -- What is open stands on a procedure: so a source with a token has a procedure.
 use Rattle.std.proofs.Common.{◌≡◌, List, [], ◌∷◌, ◌++◌, Bool, true, false, Option, Some, None, ◌⊎◌, inl, inr, refl, sym, subst}
 use Rattle.std.specs.Prelude.{IsTrue, if◌then◌else◌, not, ◌||◌}
-use Rattle.pli_meaning.specs.declared.expr.Place.{Place}
-use Rattle.pli_meaning.specs.declared.token.Token.{Token}
-use Rattle.pli_meaning.specs.Tree as T
-use Rattle.pli_meaning.specs.Heads as H
-use Rattle.pli_meaning.specs.Nesting as N
-use Rattle.pli_meaning.specs.Nesting.{completed, closed}
-use Rattle.pli_meaning.specs.Parsing as P
+use Rattle.pli_language.specs.declared.expr.Place.{Place}
+use Rattle.pli_language.specs.declared.token.Token.{Token}
+use Rattle.pli_language.specs.Tree as T
+use Rattle.pli_language.specs.Heads as H
+use Rattle.pli_language.specs.Nesting as N
+use Rattle.pli_language.specs.Nesting.{completed, closed}
+use Rattle.pli_language.specs.Parsing as P
 use Rattle.pli_compile.specs.Compiling.{ProcedureFound}
 
 abbrev is_procedure : N.Opener → Bool

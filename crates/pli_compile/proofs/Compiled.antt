@@ -1,27 +1,27 @@
 -- What is generated for a source keeps the promise, and what is refused is no program.
 use Rattle.std.proofs.Common.{◌≡◌, ◌≢◌, ◌⊎◌, ℕ, zero, suc, ◌^◌, ◌<◌, List, [], ◌∷◌, ◌++◌, Some, Result, Ok, Err, inl, inr, refl, sym, ap, ◌∙◌, subst, arith}
-use Rattle.pli_meaning.specs.declared.fault.SourceFault.{SourceFault}
-use Rattle.pli_meaning.specs.declared.token.Token.{Token}
-use Rattle.pli_meaning.specs.declared.instr.Instr.{Instr}
-use Rattle.pli_meaning.specs.Encoding.{Fits}
-use Rattle.pli_meaning.specs.Tokens.{Tokens}
-use Rattle.pli_meaning.specs.Tree as T
-use Rattle.pli_meaning.specs.Parsing.{Spells, RefusesTokens}
+use Rattle.pli_language.specs.declared.fault.SourceFault.{SourceFault}
+use Rattle.pli_language.specs.declared.token.Token.{Token}
+use Rattle.rv_meaning.specs.declared.instr.Instr.{Instr}
+use Rattle.rv_meaning.specs.Encoding.{Fits}
+use Rattle.pli_language.specs.Tokens.{Tokens}
+use Rattle.pli_language.specs.Tree as T
+use Rattle.pli_language.specs.Parsing.{Spells, RefusesTokens}
 use Rattle.std.specs.List.{flat_map}
-use Rattle.pli_meaning.specs.Declarations.{blocks_of}
-use Rattle.pli_meaning.specs.Declaring.{block_faults, declaring_faults, main_faults, outer_procedures, static_faults, statics_in}
+use Rattle.pli_language.specs.Declarations.{blocks_of}
+use Rattle.pli_language.specs.Declaring.{block_faults, declaring_faults, main_faults, outer_procedures, static_faults, statics_in}
 use Rattle.std.specs.Prelude.{Contains}
-use Rattle.pli_meaning.proofs.Least.{none_among}
-use Rattle.pli_meaning.specs.Refusals.{IsLeast, want_of_memory}
-use Rattle.pli_meaning.specs.Resolving.{typing_faults, IsMistyped}
-use Rattle.pli_meaning.proofs.UniqueSource.{never_both, spelled_once}
+use Rattle.pli_language.proofs.Least.{none_among}
+use Rattle.pli_language.specs.Refusals.{IsLeast, want_of_memory}
+use Rattle.pli_typing.specs.Resolving.{typing_faults, IsMistyped}
+use Rattle.pli_language.proofs.UniqueSource.{never_both, spelled_once}
 use Rattle.pli_lex.proofs.Unique.{one_list, not_both}
-use Rattle.pli_meaning.specs.declared.fault.SourceKind.{SourceKind}
-use Rattle.pli_meaning.specs.declared.fault.SourceKind.TheVariants as K
+use Rattle.pli_language.specs.declared.fault.SourceKind.{SourceKind}
+use Rattle.pli_language.specs.declared.fault.SourceKind.TheVariants as K
 use Rattle.pli_meaning.specs.Typed.{Program}
 use Rattle.pli_meaning.specs.Typing.{typed}
 use Rattle.rv_isa.specs.declared.code.Code.{Code}
-use Rattle.pli_meaning.specs.Images as Images
+use Rattle.rv_meaning.specs.Images as Images
 use Rattle.rv_machine.specs.Fitting as Fitting
 use Rattle.rv_codegen.specs.Code.{program_code}
 use Rattle.rv_codegen.specs.Promise.{AllFit, IsCodeOf, picture_of}
@@ -53,6 +53,7 @@ compiled {ts = ts} {tree = tree} p read spelled declares kept is made =
         statics_are = sym made.no_statics;
         entry_is = sym made.entered_first;
       };
+      no_table = made.no_table;
       keeps = made.promised;
       cheap = omega (arith, short, small);
     }

@@ -1,10 +1,10 @@
 -- How many tokens stand before what is left: of expressions at least as many as they weigh.
 use Rattle.std.proofs.Common.{◌≡◌, ℕ, ◌+◌, ◌^◌, ◌<◌, ◌≤◌, List, [], ◌∷◌, length, ap, subst, arith}
-use Rattle.pli_meaning.specs.declared.token.Kind.{Kind}
-use Rattle.pli_meaning.specs.declared.token.Token.{Token}
-use Rattle.pli_meaning.specs.Tree as T
-use Rattle.pli_meaning.specs.Spells as G
-use Rattle.pli_meaning.specs.Spells.{Takes}
+use Rattle.pli_language.specs.declared.token.Kind.{Kind}
+use Rattle.pli_language.specs.declared.token.Token.{Token}
+use Rattle.pli_language.specs.Tree as T
+use Rattle.pli_language.specs.Spells as G
+use Rattle.pli_language.specs.Spells.{Takes}
 use Rattle.rv_codegen.specs.Weights.{expr_weight, exprs_weight}
 
 -- the tokens' lines have 31 bits

@@ -1,8 +1,8 @@
 -- How many tokens stand before what is left behind declarations: at least one for each name.
 use Rattle.std.proofs.Common.{ℕ, List, length, arith}
-use Rattle.pli_meaning.specs.declared.token.Token.{Token}
-use Rattle.pli_meaning.specs.Tree as T
-use Rattle.pli_meaning.specs.Attributes as A
+use Rattle.pli_language.specs.declared.token.Token.{Token}
+use Rattle.pli_language.specs.Tree as T
+use Rattle.pli_language.specs.Attributes as A
 use Rattle.rv_codegen.specs.Weights.{declared_weight}
 use Rattle.pli_compile.proofs.Eating.{Eats, take, none, both, least, some, level_eats, count_eats}
 

@@ -1,12 +1,12 @@
 -- How many tokens stand before what is left behind a head: at least as many as it will weigh.
 use Rattle.std.proofs.Common.{ℕ, ◌+◌, ◌-◌, ◌^◌, ◌<◌, ◌≤◌, List, Option, refl, arith}
-use Rattle.pli_meaning.specs.declared.expr.Place.{Place}
-use Rattle.pli_meaning.specs.declared.token.Token.{Token}
-use Rattle.pli_meaning.specs.Tree as T
-use Rattle.pli_meaning.specs.Formats as F
-use Rattle.pli_meaning.specs.Heads as H
-use Rattle.pli_meaning.specs.Parsing as P
-use Rattle.pli_meaning.specs.Spells as G
+use Rattle.pli_language.specs.declared.expr.Place.{Place}
+use Rattle.pli_language.specs.declared.token.Token.{Token}
+use Rattle.pli_language.specs.Tree as T
+use Rattle.pli_language.specs.Formats as F
+use Rattle.pli_language.specs.Heads as H
+use Rattle.pli_language.specs.Parsing as P
+use Rattle.pli_language.specs.Spells as G
 use Rattle.rv_codegen.specs.Weights.{exprs_weight, pairs_weight, stmt_weight, stmt_line, declared_weight}
 use Rattle.pli_compile.proofs.Eating.{Small, Eats, small_first, one, take, none, both, least, some, level_eats, reference_eats, arguments_eat, exprs_eat, count_eats}
 use Rattle.pli_compile.proofs.EatingDeclarations.{attributes_eat, declare_items_eat}

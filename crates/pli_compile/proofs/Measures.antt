@@ -3,11 +3,11 @@ use Rattle.std.proofs.Common.{ℕ, ◌+◌, ◌^◌, ◌<◌, ◌≤◌, List, [
 use Rattle.std.specs.Prelude.{◌==◌, take as taken}
 use Rattle.std.proofs.lemmas.List.{length-take}
 use Rattle.std.proofs.lemmas.List.Sums.{count_by-le-length}
-use Rattle.pli_meaning.specs.declared.token.Token.{Token}
-use Rattle.pli_meaning.specs.Tokens.{Tokens, Reads, no_more, one_more, line_after, most_bytes}
-use Rattle.pli_meaning.specs.Tree as T
-use Rattle.pli_meaning.specs.Nesting as N
-use Rattle.pli_meaning.specs.Parsing as P
+use Rattle.pli_language.specs.declared.token.Token.{Token}
+use Rattle.pli_language.specs.Tokens.{Tokens, Reads, no_more, one_more, line_after, most_bytes}
+use Rattle.pli_language.specs.Tree as T
+use Rattle.pli_language.specs.Nesting as N
+use Rattle.pli_language.specs.Parsing as P
 use Rattle.rv_codegen.specs.Weights.{weight, SmallLines}
 use Rattle.pli_compile.proofs.Eating.{Small, Eats, both, least}
 use Rattle.pli_compile.proofs.EatingHeads.{head_weight, head_begins, labels_eat}

@@ -1,8 +1,8 @@
 -- A program in which nothing is uncompiled has a type, and one that has a type holds nothing uncompiled.
 use Rattle.std.proofs.Common.{◌≡◌, List, [], ◌∷◌, Option, Some, None, refl}
 use Rattle.std.specs.Prelude.{if◌then◌else◌}
-use Rattle.pli_meaning.specs.declared.expr.Place.{Place}
-use Rattle.pli_meaning.specs.Tree as T
+use Rattle.pli_language.specs.declared.expr.Place.{Place}
+use Rattle.pli_language.specs.Tree as T
 use Rattle.pli_meaning.specs.Typed as Y
 use Rattle.pli_meaning.specs.Typing.{Scope, ◌and_then◌, typed_stmt, typed_items, typed_body, typed_procedure, typed, with_declared, main_program}
 use Rattle.pli_compile.specs.Uncompiled.{first_of, unless_typed, stmt_place, item_place, behind_declared, uncompiled_items, uncompiled_body, is_main_head, uncompiled_procedure, uncompiled, UncompiledNone, TypedWhole}

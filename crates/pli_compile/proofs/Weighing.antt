@@ -1,10 +1,10 @@
 -- What is open while a source is read weighs no more than the heads that opened it.
 use Rattle.std.proofs.Common.{◌≡◌, ℕ, ◌+◌, ◌^◌, ◌<◌, ◌≤◌, List, [], ◌∷◌, ◌++◌, Bool, true, false, Option, Some, None, refl, ap, arith}
 use Rattle.std.specs.Prelude.{if◌then◌else◌, not, ◌||◌}
-use Rattle.pli_meaning.specs.Tree as T
-use Rattle.pli_meaning.specs.Heads as H
-use Rattle.pli_meaning.specs.Nesting as N
-use Rattle.pli_meaning.specs.Nesting.{completed, closed}
+use Rattle.pli_language.specs.Tree as T
+use Rattle.pli_language.specs.Heads as H
+use Rattle.pli_language.specs.Nesting as N
+use Rattle.pli_language.specs.Nesting.{completed, closed}
 use Rattle.rv_codegen.specs.Weights.{stmt_weight, stmt_line, item_weight, items_weight, ItemLines, SmallLines}
 use Rattle.pli_compile.proofs.EatingHeads.{head_weight, HeadLines}
 

@@ -1,11 +1,11 @@
 -- A nest behind a head weighs at most as much as the head more.
 use Rattle.std.proofs.Common.{◌≡◌, ℕ, ◌+◌, ◌^◌, ◌<◌, ◌≤◌, List, [], ◌∷◌, ◌++◌, append-nil, Bool, true, false, Option, Some, None, refl, sym, ap, ◌∙◌, subst, arith}
 use Rattle.std.specs.Prelude.{if◌then◌else◌}
-use Rattle.pli_meaning.specs.declared.expr.Place.{Place}
-use Rattle.pli_meaning.specs.Tree as T
-use Rattle.pli_meaning.specs.Heads as H
-use Rattle.pli_meaning.specs.Nesting as N
-use Rattle.pli_meaning.specs.Nesting.{completed}
+use Rattle.pli_language.specs.declared.expr.Place.{Place}
+use Rattle.pli_language.specs.Tree as T
+use Rattle.pli_language.specs.Heads as H
+use Rattle.pli_language.specs.Nesting as N
+use Rattle.pli_language.specs.Nesting.{completed}
 use Rattle.rv_codegen.specs.Weights.{stmt_weight, stmt_line, items_weight, SmallLines}
 use Rattle.pli_compile.proofs.EatingHeads.{head_weight, HeadLines}
 use Rattle.pli_compile.proofs.Weighing.{list_weight, ListLines, weight_snoc, lines_snoc, weight_of_list, lines_of_list, opener_weight, nest_weight, NestLines, Leads, completed_keeps, settled_keeps, statement_leads, declaration_leads, else_leads, system_leads}

@@ -1,19 +1,19 @@
 -- What is compiled, and why what isn't is refused.
 use Rattle.std.specs.Prelude.{◌≡◌, ◌≢◌, ℕ, ◌+◌, ◌*◌, ◌≤◌, List, [], length, Some}
-use Rattle.pli_meaning.specs.declared.expr.Place.{Place}
-use Rattle.pli_meaning.specs.declared.fault.SourceFault.{SourceFault}
-use Rattle.pli_meaning.specs.declared.fault.SourceKind.TheVariants.{LeftOut}
-use Rattle.pli_meaning.specs.declared.token.Token.{Token}
-use Rattle.pli_meaning.specs.Tokens.{Tokens, Refuses}
-use Rattle.pli_meaning.specs.Tree as T
-use Rattle.pli_meaning.specs.Parsing.{Spells, RefusesTokens}
+use Rattle.pli_language.specs.declared.expr.Place.{Place}
+use Rattle.pli_language.specs.declared.fault.SourceFault.{SourceFault}
+use Rattle.pli_language.specs.declared.fault.SourceKind.TheVariants.{LeftOut}
+use Rattle.pli_language.specs.declared.token.Token.{Token}
+use Rattle.pli_language.specs.Tokens.{Tokens, Refuses}
+use Rattle.pli_language.specs.Tree as T
+use Rattle.pli_language.specs.Parsing.{Spells, RefusesTokens}
 use Rattle.pli_meaning.specs.Typed.{Program}
 use Rattle.pli_meaning.specs.Typing.{typed}
 use Rattle.pli_meaning.specs.Headline.{Picture, Headline, step_cost}
-use Rattle.pli_meaning.specs.Images as Images
-use Rattle.pli_meaning.specs.Declaring.{declaring_faults}
-use Rattle.pli_meaning.specs.Refusals.{IsLeast, fault, want_of_memory}
-use Rattle.pli_meaning.specs.Resolving.{typing_faults, IsMistyped}
+use Rattle.rv_meaning.specs.Images as Images
+use Rattle.pli_language.specs.Declaring.{declaring_faults}
+use Rattle.pli_language.specs.Refusals.{IsLeast, fault, want_of_memory}
+use Rattle.pli_typing.specs.Resolving.{typing_faults, IsMistyped}
 use Rattle.pli_run.specs.Running.{IsPicture}
 use Rattle.pli_compile.specs.Uncompiled.{uncompiled}
 
@@ -37,6 +37,8 @@ pub record IsCompiled (s : List ℕ) (image : Images.Image) : Type 0 where
   pub picture : Picture
   pub accepted : Accepts s tokens program
   pub pictured : IsPicture picture image
+  -- no signature is named by code of the first path
+  pub no_table : image.table ≡ []
   pub keeps : Headline program picture
   pub cheap : step_cost picture ≤ most_step_cost (length tokens)
 

@@ -1,10 +1,10 @@
 -- Which parts of a tree have a type, as tests in the order in which they are made.
 use Rattle.std.specs.Prelude.{ℕ, ◌+◌, ◌^◌, List, [], ◌∷◌, Option, Some, None, Bool, true, false, ◌==◌, ◌&&◌, is_some, nat_lt}
-use Rattle.pli_meaning.specs.declared.expr.PrefixOp.{PrefixOp}
-use Rattle.pli_meaning.specs.declared.expr.PrefixOp.TheVariants as P
-use Rattle.pli_meaning.specs.declared.expr.InfixOp.{InfixOp}
-use Rattle.pli_meaning.specs.declared.expr.InfixOp.TheVariants as I
-use Rattle.pli_meaning.specs.Tree as T
+use Rattle.pli_language.specs.declared.expr.PrefixOp.{PrefixOp}
+use Rattle.pli_language.specs.declared.expr.PrefixOp.TheVariants as P
+use Rattle.pli_language.specs.declared.expr.InfixOp.{InfixOp}
+use Rattle.pli_language.specs.declared.expr.InfixOp.TheVariants as I
+use Rattle.pli_language.specs.Tree as T
 use Rattle.pli_meaning.specs.Typing.{Scope, index_of, wide, most_parentheses, is_width, is_wide_fixed}
 
 abbrev pub is_declared : Scope → List ℕ → Bool

@@ -1,24 +1,24 @@
 // From a source to its image.
 
 ghost use Rattle.std.specs.Prelude.{◌≡◌, ◌⊎◌, [], map, MatchResult, Some};
-ghost use Rattle.pli_meaning.specs.declared.fault.SourceKind.TheVariants.{LeftOut};
-ghost use Rattle.pli_meaning.specs.Declarations.{blocks_of};
-ghost use Rattle.pli_meaning.specs.Declaring.{declaring_faults};
-ghost use Rattle.pli_meaning.specs.Refusals.{IsLeast, fault, want_of_memory};
-ghost use Rattle.pli_meaning.specs.Resolving.{IsMistyped, typing_faults};
+ghost use Rattle.pli_language.specs.declared.fault.SourceKind.TheVariants.{LeftOut};
+ghost use Rattle.pli_language.specs.Declarations.{blocks_of};
+ghost use Rattle.pli_language.specs.Declaring.{declaring_faults};
+ghost use Rattle.pli_language.specs.Refusals.{IsLeast, fault, want_of_memory};
+ghost use Rattle.pli_typing.specs.Resolving.{IsMistyped, typing_faults};
 ghost use Rattle.pli_meaning.specs.Typed.{Program};
 ghost use Rattle.pli_meaning.specs.Typing.{typed};
-ghost use Rattle.pli_meaning.specs.View.{tree_of};
+ghost use Rattle.pli_language.specs.View.{tree_of};
 ghost use Rattle.pli_declare.specs.ShownBlocks.{block_of};
 ghost use Rattle.pli_compile.specs.Compiling.{IsCompiled, IsRefused, IsUncompiled};
 
 use crate::uncompiled::uncompiled;
 use pli_declare::Scopes;
 use pli_declaring::declare;
+use pli_language::expr::Place;
+use pli_language::fault::{SourceFault, SourceKind};
+use pli_language::stmt::Tree;
 use pli_lex::tokens;
-use pli_meaning::expr::Place;
-use pli_meaning::fault::{SourceFault, SourceKind};
-use pli_meaning::stmt::Tree;
 use pli_parse::parse;
 use pli_tree::resolve;
 use rv_codegen::generate::{GenFault, generate};

@@ -2,11 +2,11 @@
 
 ghost use Rattle.std.specs.Prelude.{◌≡◌, ◌==◌, IfOk, None, Some, if◌then◌else◌, map};
 ghost use Rattle.pli_meaning.specs.Typing.{is_wide_fixed, wide, with_declared, with_names};
-ghost use Rattle.pli_meaning.specs.View.{attribute_of, declare_item_of, declared_name_of};
+ghost use Rattle.pli_language.specs.View.{attribute_of, declare_item_of, declared_name_of};
 ghost use Rattle.pli_compile.specs.Typable as Typable;
 
 use crate::typable::is_declared;
-use pli_meaning::declaration::{Attribute, DeclareItem, DeclaredName};
+use pli_language::declaration::{Attribute, DeclareItem, DeclaredName};
 use std::alloc::AllocError;
 
 /// The digits of the one precision that is compiled.

@@ -1,13 +1,13 @@
 // Which statements have a type where names are declared.
 
 ghost use Rattle.std.specs.Prelude.{◌≡◌, ◌==◌, ◌&&◌, map};
-ghost use Rattle.pli_meaning.specs.Keywords.{same_bytes};
+ghost use Rattle.pli_language.specs.Keywords.{same_bytes};
 ghost use Rattle.pli_meaning.specs.Typing.{is_width};
-ghost use Rattle.pli_meaning.specs.View.{edit_pair_of, expr_of, exprs_of, formats_of, reference_of, stmt_of};
+ghost use Rattle.pli_language.specs.View.{edit_pair_of, expr_of, exprs_of, formats_of, reference_of, stmt_of};
 ghost use Rattle.pli_compile.specs.Typable as Typable;
 
-use pli_meaning::expr::{Arguments, Expr, Exprs, InfixOp, PrefixOp, Qualified, Reference};
-use pli_meaning::stmt::{EditPair, Format, Formats, Stmt};
+use pli_language::expr::{Arguments, Expr, Exprs, InfixOp, PrefixOp, Qualified, Reference};
+use pli_language::stmt::{EditPair, Format, Formats, Stmt};
 
 /// The most parentheses that are open at once in an expression.
 const MOST_PARENTHESES: u32 = 32;
@@ -35,7 +35,7 @@ pub(crate) fn is_declared(scope: &[&[u8]], letters: &[u8]) -> bool
     false
 }
 
-#[tactic(auto, using(pli_meaning::proofs::Views::views))]
+#[tactic(auto, using(pli_language::proofs::Views::views))]
 fn is_variable(scope: &[&[u8]], reference: &Reference) -> bool
     ensures { result ≡ Typable.is_variable (map (λ n. n.now) scope.now) (reference_of reference.now) }
 {
@@ -69,7 +69,7 @@ fn is_operator(op: InfixOp) -> bool
 }
 
 // An expression behind this many open parentheses.
-#[tactic(auto, unfolding(pli_meaning::specs::View::expr_of))]
+#[tactic(auto, unfolding(pli_language::specs::View::expr_of))]
 fn is_typable(scope: &[&[u8]], opened: u32, e: &Expr) -> bool
     ensures { result ≡ Typable.is_typable opened (map (λ n. n.now) scope.now) (expr_of e.now) }
 {
@@ -94,7 +94,7 @@ fn is_width(repetition: u64, width: u64) -> bool
 }
 
 // One F(w).
-#[tactic(auto, unfolding(pli_meaning::specs::View::formats_of))]
+#[tactic(auto, unfolding(pli_language::specs::View::formats_of))]
 fn is_field(formats: &Formats) -> bool
     ensures { result ≡ Typable.is_field (formats_of formats.now) }
 {
@@ -113,7 +113,7 @@ fn is_field(formats: &Formats) -> bool
     }
 }
 
-#[tactic(auto, unfolding(pli_meaning::specs::View::exprs_of))]
+#[tactic(auto, unfolding(pli_language::specs::View::exprs_of))]
 fn is_single(scope: &[&[u8]], items: &Exprs) -> bool
     ensures { result ≡ Typable.is_single (map (λ n. n.now) scope.now) (exprs_of items.now) }
 {
@@ -137,7 +137,7 @@ fn are_single(scope: &[&[u8]], pairs: &[EditPair]) -> bool
 }
 
 /// A statement that has a type where these names are declared.
-#[tactic(auto, unfolding(pli_meaning::specs::View::stmt_of))]
+#[tactic(auto, unfolding(pli_language::specs::View::stmt_of))]
 pub(crate) fn is_statement(scope: &[&[u8]], statement: &Stmt) -> bool
     ensures { result ≡ Typable.is_statement (map (λ n. n.now) scope.now) (stmt_of statement.now) }
 {

@@ -1,18 +1,18 @@
 // The first head of a tree that isn't compiled yet.
 
 ghost use Rattle.std.specs.Prelude.{◌≡◌, [], IfOk, map};
-ghost use Rattle.pli_meaning.specs.Tree.{Statement};
+ghost use Rattle.pli_language.specs.Tree.{Statement};
 ghost use Rattle.pli_meaning.specs.Typing.{typed_stmt};
-ghost use Rattle.pli_meaning.specs.View.{item_of, items_of, name_of, procedure_option_of, stmt_of, tree_of};
+ghost use Rattle.pli_language.specs.View.{item_of, items_of, name_of, procedure_option_of, stmt_of, tree_of};
 ghost use Rattle.pli_compile.specs.Uncompiled as Uncompiled;
 
 use crate::declared::add_declared;
 use crate::typable::is_statement;
-use pli_meaning::expr::{Name, Place};
-use pli_meaning::stmt::{Item, Items, ProcedureHead, ProcedureOption, Stmt, Tree};
+use pli_language::expr::{Name, Place};
+use pli_language::stmt::{Item, Items, ProcedureHead, ProcedureOption, Stmt, Tree};
 use std::alloc::{AllocError, Global};
 
-#[tactic(auto, unfolding(pli_meaning::specs::View::stmt_of))]
+#[tactic(auto, unfolding(pli_language::specs::View::stmt_of))]
 fn stmt_place(statement: &Stmt) -> Place
     ensures { result ≡ Uncompiled.stmt_place (stmt_of statement.now) }
 {
@@ -40,7 +40,7 @@ fn stmt_place(statement: &Stmt) -> Place
     }
 }
 
-#[tactic(auto, unfolding(pli_meaning::specs::View::item_of))]
+#[tactic(auto, unfolding(pli_language::specs::View::item_of))]
 fn item_place(item: &Item) -> Place
     ensures { result ≡ Uncompiled.item_place (item_of item.now) }
 {
@@ -72,7 +72,7 @@ fn uncompiled_labelled(scope: &[&[u8]], labels: &[Name], statement: &Stmt) -> Op
     }
 }
 
-#[tactic(auto, unfolding(pli_meaning::specs::View::item_of))]
+#[tactic(auto, unfolding(pli_language::specs::View::item_of))]
 fn uncompiled_item(scope: &[&[u8]], item: &Item) -> Option<Place>
     ensures { result ≡ Uncompiled.uncompiled_item (map (λ n. n.now) scope.now) (item_of item.now) }
 {
@@ -82,7 +82,7 @@ fn uncompiled_item(scope: &[&[u8]], item: &Item) -> Option<Place>
     }
 }
 
-#[tactic(auto, unfolding(pli_meaning::specs::View::items_of))]
+#[tactic(auto, unfolding(pli_language::specs::View::items_of))]
 fn uncompiled_items(scope: &[&[u8]], items: &Items) -> Option<Place>
     ensures { result ≡ Uncompiled.uncompiled_items (map (λ n. n.now) scope.now) (items_of items.now) }
 {
@@ -97,7 +97,7 @@ fn uncompiled_items(scope: &[&[u8]], items: &Items) -> Option<Place>
 }
 
 // Declarations first, then statements.
-#[tactic(auto, unfolding(pli_meaning::specs::View::item_of, pli_meaning::specs::View::items_of))]
+#[tactic(auto, unfolding(pli_language::specs::View::item_of, pli_language::specs::View::items_of))]
 fn uncompiled_body(alloc: Global, body: &Items) -> Result<Option<Place>, AllocError>
     ensures { IfOk result (λ place. place ≡ Uncompiled.uncompiled_body [] (items_of body.now)) }
 {
@@ -131,7 +131,7 @@ fn is_main_head(head: &ProcedureHead) -> bool
     head.labels.len() == 1 && head.parameters.is_empty() && is_main(&head.options)
 }
 
-#[tactic(auto, unfolding(pli_meaning::specs::View::item_of))]
+#[tactic(auto, unfolding(pli_language::specs::View::item_of))]
 fn uncompiled_procedure(alloc: Global, item: &Item) -> Result<Option<Place>, AllocError>
     ensures { IfOk result (λ place. place ≡ Uncompiled.uncompiled_procedure (item_of item.now)) }
 {
@@ -147,7 +147,7 @@ fn uncompiled_procedure(alloc: Global, item: &Item) -> Result<Option<Place>, All
     }
 }
 
-#[tactic(auto, unfolding(pli_meaning::specs::View::items_of))]
+#[tactic(auto, unfolding(pli_language::specs::View::items_of))]
 fn second_procedure(rest: &Items) -> Option<Place>
     ensures { result ≡ Uncompiled.second_procedure (items_of rest.now) }
 {
@@ -162,7 +162,7 @@ fn second_procedure(rest: &Items) -> Option<Place>
 /// # Errors
 ///
 /// Where memory runs out.
-#[tactic(auto, unfolding(pli_meaning::specs::View::items_of))]
+#[tactic(auto, unfolding(pli_language::specs::View::items_of))]
 pub fn uncompiled(alloc: Global, tree: &Tree) -> Result<Option<Place>, AllocError>
     ensures { IfOk result (λ place. place ≡ Uncompiled.uncompiled (tree_of tree.now)) }
 {

@@ -3,11 +3,11 @@ use Rattle.std.proofs.Common.{◌≡◌, ℕ, suc, ◌+◌, ◌<◌, true, false
 use Rattle.std.specs.Prelude.{if◌then◌else◌, nat_lt}
 use Rattle.std.specs.List.{flat_map}
 use Rattle.std.proofs.lemmas.List.{take_more, map_push}
-use Rattle.pli_meaning.specs.declared.declaration.DeclareItem.{DeclareItem as DeclareItemHeld}
-use Rattle.pli_meaning.specs.declared.declaration.DeclaredName.{DeclaredName as DeclaredNameHeld}
-use Rattle.pli_meaning.specs.View.{declared_name_of, declare_item_of}
-use Rattle.pli_meaning.specs.Tree.{DeclareItem}
-use Rattle.pli_meaning.specs.Declarations.{Variable, Held, Declaration, level_of, holders, smaller, variables_of, held, chain_after, variable_declared}
+use Rattle.pli_language.specs.declared.declaration.DeclareItem.{DeclareItem as DeclareItemHeld}
+use Rattle.pli_language.specs.declared.declaration.DeclaredName.{DeclaredName as DeclaredNameHeld}
+use Rattle.pli_language.specs.View.{declared_name_of, declare_item_of}
+use Rattle.pli_language.specs.Tree.{DeclareItem}
+use Rattle.pli_language.specs.Declarations.{Variable, Held, Declaration, level_of, holders, smaller, variables_of, held, chain_after, variable_declared}
 
 -- the element at a place, and those from it on
 pub drop_here : {X : Type 0} (xs : List X) (i : ℕ) (x : X) → i < length xs → x ≡ get_or xs i x → drop i xs ≡ x ∷ drop (i + 1) xs

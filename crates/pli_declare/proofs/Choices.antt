@@ -8,11 +8,11 @@ use Rattle.std.specs.declared.alloc.Global.{Global}
 use Rattle.std.proofs.Math.Logic.{∥∥₁_elim}
 use Rattle.std.proofs.Props.{props}
 use Rattle.indexmap.specs.IndexMap.{IndexMap}
-use Rattle.pli_meaning.specs.declared.scope.Found.{Found}
-use Rattle.pli_meaning.specs.declared.scope.Found.TheVariants as F
-use Rattle.pli_meaning.specs.Keywords.{same_bytes}
-use Rattle.pli_meaning.specs.Declarations.{Declaration, Block}
-use Rattle.pli_meaning.specs.Means.{is_part, same_names, qualifiers_of, is_match, places, chosen, means_in, means, means_from, names_mean, all_but_last, last_of, or_else, declarations_of}
+use Rattle.pli_language.specs.declared.scope.Found.{Found}
+use Rattle.pli_language.specs.declared.scope.Found.TheVariants as F
+use Rattle.pli_language.specs.Keywords.{same_bytes}
+use Rattle.pli_language.specs.Declarations.{Declaration, Block}
+use Rattle.pli_language.specs.Means.{is_part, same_names, qualifiers_of, is_match, places, chosen, means_in, means, means_from, names_mean, all_but_last, last_of, or_else, declarations_of}
 use Rattle.pli_declare.specs.Index.{places_at, IsIndex}
 use Rattle.pli_declare.specs.Among.{part_at, full_at, going, further_of}
 

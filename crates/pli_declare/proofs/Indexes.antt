@@ -7,8 +7,8 @@ use Rattle.std.specs.Option.{option_map_or}
 use Rattle.std.specs.Cmp.Lexicographic.{pointwise, bytes_decides}
 use Rattle.std.specs.declared.alloc.Global.{Global}
 use Rattle.indexmap.specs.IndexMap.{IndexMap, get_by, Updates}
-use Rattle.pli_meaning.specs.Declarations.{Declaration}
-use Rattle.pli_meaning.specs.Means.{places}
+use Rattle.pli_language.specs.Declarations.{Declaration}
+use Rattle.pli_language.specs.Means.{places}
 use Rattle.pli_declare.specs.Index.{places_at, IsIndex}
 
 one_if : Bool → ℕ → List ℕ

@@ -7,8 +7,8 @@ use Rattle.pli_declare.specs.Among.{letters_of, names_above}
 use Rattle.pli_declare.specs.Shown.{variable_of}
 use Rattle.pli_declare.proofs.Chains.{drop_here}
 use Rattle.std.specs.Prelude.{if◌then◌else◌, ◌&&◌}
-use Rattle.pli_meaning.specs.Keywords.{same_bytes}
-use Rattle.pli_meaning.specs.Means.{is_part, same_names}
+use Rattle.pli_language.specs.Keywords.{same_bytes}
+use Rattle.pli_language.specs.Means.{is_part, same_names}
 
 pub part_yes : (q n : List ℕ) (qs ns : List (List ℕ)) → same_bytes q n ≡ true → is_part qs ns ≡ is_part (q ∷ qs) (n ∷ ns)
 part_yes q n qs ns h = ap (λ b. if b then is_part qs ns else is_part (q ∷ qs) ns) (sym h)

@@ -1,13 +1,13 @@
 -- What a program's tree declares, and the blocks in it, one equation for each variant.
 use Rattle.std.proofs.Common.{◌≡◌, ◌++◌, ◌∷◌, [], ◌+◌, map, length, refl, append_assoc, append-nil, ◌≤◌, arith, rules}
 use Rattle.std.specs.Prelude.{Some, None, ℕ, List}
-use Rattle.pli_meaning.specs.declared.stmt.Stmt.{Stmt as StmtHeld}
-use Rattle.pli_meaning.specs.declared.stmt.Stmt as S
-use Rattle.pli_meaning.specs.declared.stmt.Item as I
-use Rattle.pli_meaning.specs.declared.stmt.Items as J
-use Rattle.pli_meaning.specs.declared.stmt.Items.{size-Items}
-use Rattle.pli_meaning.specs.View.{name_of, declare_item_of, procedure_head_of, stmt_of, item_of, items_of}
-use Rattle.pli_meaning.specs.Declarations.{declared_in, declared_in_item, declared_in_stmt, declared_by, labels_declared, procedure_declared, blocks_in, blocks_in_item, blocks_in_stmt}
+use Rattle.pli_language.specs.declared.stmt.Stmt.{Stmt as StmtHeld}
+use Rattle.pli_language.specs.declared.stmt.Stmt as S
+use Rattle.pli_language.specs.declared.stmt.Item as I
+use Rattle.pli_language.specs.declared.stmt.Items as J
+use Rattle.pli_language.specs.declared.stmt.Items.{size-Items}
+use Rattle.pli_language.specs.View.{name_of, declare_item_of, procedure_head_of, stmt_of, item_of, items_of}
+use Rattle.pli_language.specs.Declarations.{declared_in, declared_in_item, declared_in_stmt, declared_by, labels_declared, procedure_declared, blocks_in, blocks_in_item, blocks_in_stmt}
 
 pub declared-Null : (p : _) → declared_in_stmt (stmt_of (S.Null p)) ≡ []
 unfolding declared_in_stmt stmt_of

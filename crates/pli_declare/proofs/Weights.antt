@@ -1,11 +1,11 @@
 -- How large a tree is, by which the walks over it end.
 use Rattle.std.proofs.Common.{ℕ, suc, ◌+◌}
-use Rattle.pli_meaning.specs.declared.stmt.Stmt.{Stmt as StmtHeld}
-use Rattle.pli_meaning.specs.declared.stmt.Stmt as S
-use Rattle.pli_meaning.specs.declared.stmt.Item.{Item as ItemHeld}
-use Rattle.pli_meaning.specs.declared.stmt.Item as I
-use Rattle.pli_meaning.specs.declared.stmt.Items.{Items as ItemsHeld}
-use Rattle.pli_meaning.specs.declared.stmt.Items as J
+use Rattle.pli_language.specs.declared.stmt.Stmt.{Stmt as StmtHeld}
+use Rattle.pli_language.specs.declared.stmt.Stmt as S
+use Rattle.pli_language.specs.declared.stmt.Item.{Item as ItemHeld}
+use Rattle.pli_language.specs.declared.stmt.Item as I
+use Rattle.pli_language.specs.declared.stmt.Items.{Items as ItemsHeld}
+use Rattle.pli_language.specs.declared.stmt.Items as J
 
 abbrev mutual
   pub stmt_weight : StmtHeld → ℕ

@@ -2,10 +2,10 @@
 use Rattle.std.specs.Prelude.{ℕ, Bool, true, false, List, [], ◌∷◌, map, slice_get}
 use Rattle.std.specs.Option.{option_map_or}
 use Rattle.std.specs.Borrow.{Bor}
-use Rattle.pli_meaning.specs.declared.scope.Found.{Found}
-use Rattle.pli_meaning.specs.declared.scope.Found.TheVariants as F
-use Rattle.pli_meaning.specs.Declarations.{Variable, Declaration}
-use Rattle.pli_meaning.specs.Means.{is_part, same_names, qualifiers_of}
+use Rattle.pli_language.specs.declared.scope.Found.{Found}
+use Rattle.pli_language.specs.declared.scope.Found.TheVariants as F
+use Rattle.pli_language.specs.Declarations.{Variable, Declaration}
+use Rattle.pli_language.specs.Means.{is_part, same_names, qualifiers_of}
 
 -- the letters of names
 abbrev pub letters_of : List (Bor (List ℕ)) → List (List ℕ)

@@ -5,8 +5,8 @@ use Rattle.std.specs.Option.{option_map_or}
 use Rattle.std.specs.Cmp.Lexicographic.{pointwise}
 use Rattle.std.specs.declared.alloc.Global.{Global}
 use Rattle.indexmap.specs.IndexMap.{IndexMap, get_by}
-use Rattle.pli_meaning.specs.Declarations.{Declaration}
-use Rattle.pli_meaning.specs.Means.{places}
+use Rattle.pli_language.specs.Declarations.{Declaration}
+use Rattle.pli_language.specs.Means.{places}
 
 -- a name's places
 abbrev pub places_at : {S : Type 0} → IndexMap (Bor (List ℕ)) (Vec ℕ Global) S → List ℕ → List ℕ

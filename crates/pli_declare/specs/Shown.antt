@@ -5,8 +5,8 @@ use Rattle.pli_declare.specs.declared.scope.Held.{Held as HeldHeld}
 use Rattle.pli_declare.specs.declared.scope.What.{What as WhatHeld}
 use Rattle.pli_declare.specs.declared.scope.What.TheVariants as W
 use Rattle.pli_declare.specs.declared.scope.Declaration.{Declaration as DeclarationHeld}
-use Rattle.pli_meaning.specs.View.{name_of, declared_name_of, declare_item_of, procedure_head_of}
-use Rattle.pli_meaning.specs.Declarations.{Variable, Held, What, Variable', Label, ProcedureName, Declaration}
+use Rattle.pli_language.specs.View.{name_of, declared_name_of, declare_item_of, procedure_head_of}
+use Rattle.pli_language.specs.Declarations.{Variable, Held, What, Variable', Label, ProcedureName, Declaration}
 
 abbrev pub variable_of : VariableHeld → Variable
 variable_of v = record { declared = declared_name_of v.declared.now; item = declare_item_of v.item.now }

@@ -1,8 +1,8 @@
 -- The pure blocks that a program's values show.
 use Rattle.std.specs.Prelude.{map}
 use Rattle.pli_declare.specs.declared.scope.Block.{Block as BlockHeld}
-use Rattle.pli_meaning.specs.View.{option_of, procedure_head_of}
-use Rattle.pli_meaning.specs.Declarations.{Block}
+use Rattle.pli_language.specs.View.{option_of, procedure_head_of}
+use Rattle.pli_language.specs.Declarations.{Block}
 use Rattle.pli_declare.specs.Shown.{declaration_of}
 
 abbrev pub block_of : BlockHeld → Block

@@ -1,13 +1,13 @@
 // The choice among the places of a name.
 
 ghost use Rattle.std.specs.Prelude.{◌≡◌, filter, map};
-ghost use Rattle.pli_meaning.specs.declared.scope.Found.TheVariants as F;
+ghost use Rattle.pli_language.specs.declared.scope.Found.TheVariants as F;
 ghost use Rattle.pli_declare.specs.Among.{full_at, further_of, going, letters_of, part_at};
 ghost use Rattle.pli_declare.specs.Shown.{declaration_of};
 
 use crate::qualifiers::{may_mean, means_fully};
 use crate::scope::Declaration;
-use pli_meaning::scope::{DeclarationAt, Found};
+use pli_language::scope::{DeclarationAt, Found};
 
 /// The declaration at this place is meant by its full name.
 fn full_at(declarations: &[Declaration], qualifiers: &[&[u8]], index: usize) -> bool

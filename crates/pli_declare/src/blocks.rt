@@ -1,15 +1,15 @@
 // The blocks of a program, each with what it declares.
 
 ghost use Rattle.std.specs.Prelude.{◌≡◌, ◌++◌, ◌∷◌, [], map, IfOk, OnOk, length};
-ghost use Rattle.pli_meaning.specs.Declarations.{blocks_in, blocks_in_item, blocks_in_stmt, declared_in};
-ghost use Rattle.pli_meaning.specs.View.{item_of, items_of, option_of, procedure_head_of, stmt_of};
+ghost use Rattle.pli_language.specs.Declarations.{blocks_in, blocks_in_item, blocks_in_stmt, declared_in};
+ghost use Rattle.pli_language.specs.View.{item_of, items_of, option_of, procedure_head_of, stmt_of};
 ghost use Rattle.pli_declare.specs.Shown.{declaration_of};
 ghost use Rattle.pli_declare.specs.ShownBlocks.{block_of};
 
 use crate::names::{Names, indexed};
 use crate::scope::Block;
 use crate::walk::put_items;
-use pli_meaning::stmt::{Item, Items, ProcedureHead, Stmt};
+use pli_language::stmt::{Item, Items, ProcedureHead, Stmt};
 use std::alloc::{AllocError, Global};
 
 /// What a list declares in its block.

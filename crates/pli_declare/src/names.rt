@@ -3,7 +3,7 @@
 ghost use Rattle.std.specs.Prelude.{◌≡◌, ◌++◌, ◌∷◌, [], map, IfOk, length};
 ghost use Rattle.std.specs.Prelude.{nat_eq};
 ghost use Rattle.std.specs.Cmp.Lexicographic.{pointwise};
-ghost use Rattle.pli_meaning.specs.Means.{means_in, places};
+ghost use Rattle.pli_language.specs.Means.{means_in, places};
 ghost use Rattle.pli_declare.specs.Among.{letters_of};
 ghost use Rattle.pli_declare.specs.Index.{places_at, IsIndex};
 ghost use Rattle.pli_declare.specs.Shown.{declaration_of};
@@ -11,7 +11,7 @@ ghost use Rattle.pli_declare.specs.Shown.{declaration_of};
 use crate::among::among;
 use crate::scope::Declaration;
 use indexmap::IndexMap;
-use pli_meaning::scope::Found;
+use pli_language::scope::Found;
 use std::alloc::{AllocError, Global};
 
 /// The declarations of a block in source order, and where each name stands among them.

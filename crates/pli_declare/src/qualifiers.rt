@@ -1,8 +1,8 @@
 // Qualifiers against the names of the structures that hold a variable.
 
 ghost use Rattle.std.specs.Prelude.{◌≡◌, ℕ, List, ◌≤◌, ◌∷◌, drop, length, map};
-ghost use Rattle.pli_meaning.specs.Keywords.{same_bytes};
-ghost use Rattle.pli_meaning.specs.Means.{is_part, same_names, qualifiers_of};
+ghost use Rattle.pli_language.specs.Keywords.{same_bytes};
+ghost use Rattle.pli_language.specs.Means.{is_part, same_names, qualifiers_of};
 ghost use Rattle.pli_declare.specs.Among.{letters_of, names_above};
 ghost use Rattle.pli_declare.specs.Shown.{variable_of, what_of};
 

@@ -1,9 +1,9 @@
 // What is declared: variables, labels and procedures, with what holds them.
 
 use crate::names::Names;
-use pli_meaning::declaration::{DeclareItem, DeclaredName};
-use pli_meaning::expr::Name;
-use pli_meaning::stmt::ProcedureHead;
+use pli_language::declaration::{DeclareItem, DeclaredName};
+use pli_language::expr::Name;
+use pli_language::stmt::ProcedureHead;
 
 /// A declared name with the item that it stands in.
 #[derive(Clone, Copy)]

@@ -1,17 +1,17 @@
 // The scopes of a program, and what names mean in them.
 
 ghost use Rattle.std.specs.Prelude.{◌≡◌, ◌++◌, ◌∷◌, [], map, IfOk, slice_get};
-ghost use Rattle.pli_meaning.specs.Declarations.{blocks_of, outermost};
-ghost use Rattle.pli_meaning.specs.Means.{declarations_of, means_from, means_in, names_mean};
-ghost use Rattle.pli_meaning.specs.View.{tree_of};
+ghost use Rattle.pli_language.specs.Declarations.{blocks_of, outermost};
+ghost use Rattle.pli_language.specs.Means.{declarations_of, means_from, means_in, names_mean};
+ghost use Rattle.pli_language.specs.View.{tree_of};
 ghost use Rattle.pli_declare.specs.Among.{letters_of};
 ghost use Rattle.pli_declare.specs.ShownBlocks.{block_of};
 
 use crate::blocks::{inside, put_blocks};
 use crate::names::indexed;
 use crate::scope::Block;
-use pli_meaning::scope::Found;
-use pli_meaning::stmt::Tree;
+use pli_language::scope::Found;
+use pli_language::stmt::Tree;
 use std::alloc::{AllocError, Global};
 
 /// The blocks of a program by their numbers: 0 is the whole program, then procedures and BEGIN blocks as they begin.

@@ -1,14 +1,14 @@
 // What a block's list declares, in source order.
 
 ghost use Rattle.std.specs.Prelude.{◌≡◌, ◌++◌, map, take, IfOk, OnOk};
-ghost use Rattle.pli_meaning.specs.Declarations.{declared_in, declared_in_item, declared_in_stmt, labels_declared, procedure_declared, declared_by, variable_declared, held, holders, holders_at, level_of, chain_after, variables_of};
-ghost use Rattle.pli_meaning.specs.View.{declare_item_of, item_of, items_of, name_of, procedure_head_of, stmt_of};
+ghost use Rattle.pli_language.specs.Declarations.{declared_in, declared_in_item, declared_in_stmt, labels_declared, procedure_declared, declared_by, variable_declared, held, holders, holders_at, level_of, chain_after, variables_of};
+ghost use Rattle.pli_language.specs.View.{declare_item_of, item_of, items_of, name_of, procedure_head_of, stmt_of};
 ghost use Rattle.pli_declare.specs.Shown.{declaration_of, variable_of};
 
 use crate::scope::{Declaration, Held, Variable, What};
-use pli_meaning::declaration::DeclareItem;
-use pli_meaning::expr::Name;
-use pli_meaning::stmt::{Item, Items, ProcedureHead, Stmt};
+use pli_language::declaration::DeclareItem;
+use pli_language::expr::Name;
+use pli_language::stmt::{Item, Items, ProcedureHead, Stmt};
 use std::alloc::{AllocError, Global};
 
 /// Labels of a statement or of an END.

@@ -4,8 +4,8 @@ use Rattle.std.specs.Prelude.{nat_lt}
 use Rattle.std.proofs.lemmas.Bool.Decides.{nat_tests}
 use Rattle.std.proofs.lemmas.List.{drop_all}
 use Rattle.pli_declare.proofs.Chains.{drop_here}
-use Rattle.pli_meaning.specs.Tree.{Bound}
-use Rattle.pli_meaning.specs.Declaring.{bound_span, footprint_of, spans, up_to}
+use Rattle.pli_language.specs.Tree.{Bound}
+use Rattle.pli_language.specs.Declaring.{bound_span, footprint_of, spans, up_to}
 use Rattle.pli_declaring.specs.Bytes.{capped}
 
 few_or_many : (a : ℕ) → (a ≤ 2097152) ⊎ (2097152 < a)

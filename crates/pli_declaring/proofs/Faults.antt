@@ -1,17 +1,17 @@
 -- What is found in lists of refusals, part by part.
 use Rattle.std.proofs.Common.{◌≡◌, List, [], ◌∷◌, ◌++◌, map, Option, None, refl, sym, ap, ◌∙◌, true≢false}
 use Rattle.std.specs.Prelude.{is_some, slice_get}
-use Rattle.pli_meaning.specs.declared.expr.Name.{Name as NameHeld}
-use Rattle.pli_meaning.specs.declared.expr.Place.{Place}
-use Rattle.pli_meaning.specs.View.{name_of}
-use Rattle.pli_meaning.specs.Declaring.{at_first}
+use Rattle.pli_language.specs.declared.expr.Name.{Name as NameHeld}
+use Rattle.pli_language.specs.declared.expr.Place.{Place}
+use Rattle.pli_language.specs.View.{name_of}
+use Rattle.pli_language.specs.Declaring.{at_first}
 use Rattle.std.specs.List.{flat_map}
 use Rattle.std.proofs.lemmas.List.{drop_all}
 use Rattle.std.proofs.lemmas.List.Concat.{flat_map-append}
 use Rattle.std.proofs.lemmas.List.{map-append}
-use Rattle.pli_meaning.specs.declared.fault.SourceFault.{SourceFault}
-use Rattle.pli_meaning.specs.Refusals.{soonest}
-use Rattle.pli_meaning.proofs.Least.{soonest-append}
+use Rattle.pli_language.specs.declared.fault.SourceFault.{SourceFault}
+use Rattle.pli_language.specs.Refusals.{soonest}
+use Rattle.pli_language.proofs.Least.{soonest-append}
 use Rattle.pli_declare.proofs.Chains.{drop_here}
 
 pub soonest_none : (found : Option SourceFault) → soonest found [] ≡ found

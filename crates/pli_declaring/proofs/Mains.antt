@@ -1,13 +1,13 @@
 -- The rule of the main procedure, procedure by procedure.
 use Rattle.std.proofs.Common.{◌≡◌, true, false, List, [], ◌∷◌, ◌++◌, Option, Some, None, refl, ap}
 use Rattle.std.specs.List.{flat_map}
-use Rattle.pli_meaning.specs.declared.fault.SourceKind.TheVariants.{NoMain}
-use Rattle.pli_meaning.specs.declared.stmt.Items as J
-use Rattle.pli_meaning.specs.Tree.{Item, Procedure, Declare, Statement, EndLabels, Items, ItemThen, ProcedureHead}
-use Rattle.pli_meaning.specs.View.{item_of, items_of}
-use Rattle.pli_meaning.specs.Refusals.{fault}
-use Rattle.pli_meaning.specs.Declaring.{at_first, outer_procedures, main_faults}
-use Rattle.pli_meaning.proofs.Least.{soonest-append}
+use Rattle.pli_language.specs.declared.fault.SourceKind.TheVariants.{NoMain}
+use Rattle.pli_language.specs.declared.stmt.Items as J
+use Rattle.pli_language.specs.Tree.{Item, Procedure, Declare, Statement, EndLabels, Items, ItemThen, ProcedureHead}
+use Rattle.pli_language.specs.View.{item_of, items_of}
+use Rattle.pli_language.specs.Refusals.{fault}
+use Rattle.pli_language.specs.Declaring.{at_first, outer_procedures, main_faults}
+use Rattle.pli_language.proofs.Least.{soonest-append}
 use Rattle.pli_declaring.specs.Mains.{procedure_in, of_procedure, main_left}
 use Rattle.pli_declaring.proofs.Faults.{soonest_none}
 

@@ -3,9 +3,9 @@ use Rattle.std.proofs.Common.{◌≡◌, Bool, true, false, List, ℕ, [], ◌�
 use Rattle.std.specs.Prelude.{if◌then◌else◌, not, ◌&&◌}
 use Rattle.std.proofs.lemmas.List.{drop_all}
 use Rattle.pli_declare.proofs.Chains.{drop_here}
-use Rattle.pli_meaning.specs.Tree.{Refer}
-use Rattle.pli_meaning.specs.Declarations.{Held}
-use Rattle.pli_meaning.specs.Declaring.{is_deeper, is_scalar_number, leaves_before, is_only_number, keeps_extent}
+use Rattle.pli_language.specs.Tree.{Refer}
+use Rattle.pli_language.specs.Declarations.{Held}
+use Rattle.pli_language.specs.Declaring.{is_deeper, is_scalar_number, leaves_before, is_only_number, keeps_extent}
 use Rattle.pli_declaring.specs.declared.refer.Kept.{Kept}
 use Rattle.pli_declaring.specs.declared.refer.Kept.TheVariants as K
 use Rattle.pli_declaring.specs.Members.{first_held, kept_further, keeping, of_name, answer}

@@ -2,8 +2,8 @@
 use Rattle.std.proofs.Common.{◌≡◌, Bool, false, List, [], ◌∷◌, refl}
 use Rattle.std.specs.Option.{option_map_or}
 use Rattle.std.specs.Prelude.{not}
-use Rattle.pli_meaning.specs.Declarations.{Held, What, Variable', Label, ProcedureName, Declaration}
-use Rattle.pli_meaning.specs.Declaring.{held_is, has_members, goes_on, is_deeper, stands_alone, next_is}
+use Rattle.pli_language.specs.Declarations.{Held, What, Variable', Label, ProcedureName, Declaration}
+use Rattle.pli_language.specs.Declaring.{held_is, has_members, goes_on, is_deeper, stands_alone, next_is}
 use Rattle.pli_declaring.specs.Next.{variable_in, next_in}
 
 pub held_by : (test : Held → Bool) (w : What) → held_is test w ≡ option_map_or test (variable_in w) false

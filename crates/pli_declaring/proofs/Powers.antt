@@ -3,7 +3,7 @@ use Rattle.std.proofs.Common.{◌≡◌, ℤ, pos, negsuc, ◌<◌, ◌≤◌, �
 use Rattle.std.specs.Prelude.{nat_lt}
 use Rattle.std.proofs.Math.Nat.{pow-le-pow_right}
 use Rattle.std.proofs.lemmas.Bool.Decides.{nat_tests}
-use Rattle.pli_meaning.specs.Declaring.{fits_digits}
+use Rattle.pli_language.specs.Declaring.{fits_digits}
 use Rattle.pli_declaring.specs.Shown.{magnitude}
 
 pub fits_by : (p : ℕ) (z : ℤ) → fits_digits p z ≡ nat_lt (magnitude z) (2 ^ p)

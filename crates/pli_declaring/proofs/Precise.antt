@@ -3,8 +3,8 @@ use Rattle.std.proofs.Common.{◌≡◌, ℕ, suc, arith, Bool, true, false, Lis
 use Rattle.std.specs.Prelude.{◌||◌, ◌==◌, nat_lt}
 use Rattle.std.specs.List.{list_any}
 use Rattle.std.proofs.lemmas.Bool.Decides.{nat_tests}
-use Rattle.pli_meaning.specs.Tree.{Attribute, Fixed, Binary, Character, Varying, BitOne, Pointer, Offset, Area, Automatic, Static, Controlled, Based, Initial, Builtin, Aligned, Unaligned, Internal}
-use Rattle.pli_meaning.specs.Declaring.{precisions_in, most_digits}
+use Rattle.pli_language.specs.Tree.{Attribute, Fixed, Binary, Character, Varying, BitOne, Pointer, Offset, Area, Automatic, Static, Controlled, Based, Initial, Builtin, Aligned, Unaligned, Internal}
+use Rattle.pli_language.specs.Declaring.{precisions_in, most_digits}
 use Rattle.pli_declaring.specs.Precisions.{written_in, precisions_clash}
 
 abbrev pub before : Option ℕ → List ℕ → List ℕ

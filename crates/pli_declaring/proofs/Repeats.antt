@@ -7,18 +7,18 @@ use Rattle.std.specs.Cmp.Lexicographic.{pointwise}
 use Rattle.std.proofs.lemmas.Bool.Decides.{nat_tests}
 use Rattle.std.proofs.lemmas.List.{reverse-append, drop_all, length-map}
 use Rattle.std.proofs.lemmas.List.Folds.{list_any-append}
-use Rattle.pli_meaning.specs.declared.expr.Name.{Name as NameHeld}
-use Rattle.pli_meaning.specs.declared.expr.Place.{Place}
-use Rattle.pli_meaning.specs.declared.fault.SourceFault.{SourceFault}
-use Rattle.pli_meaning.specs.declared.fault.SourceKind.TheVariants.{DeclaredTwice}
-use Rattle.pli_meaning.specs.Keywords.{same_bytes}
-use Rattle.pli_meaning.specs.Tree.{Name}
-use Rattle.pli_meaning.specs.View.{name_of}
-use Rattle.pli_meaning.specs.Declarations.{What, Declaration}
-use Rattle.pli_meaning.specs.Means.{places}
-use Rattle.pli_meaning.specs.Declaring.{are_rivals, names_twice, same_place, same_places, twice_faults, when}
-use Rattle.pli_meaning.specs.Refusals.{fault, soonest}
-use Rattle.pli_meaning.proofs.Least.{soonest-append}
+use Rattle.pli_language.specs.declared.expr.Name.{Name as NameHeld}
+use Rattle.pli_language.specs.declared.expr.Place.{Place}
+use Rattle.pli_language.specs.declared.fault.SourceFault.{SourceFault}
+use Rattle.pli_language.specs.declared.fault.SourceKind.TheVariants.{DeclaredTwice}
+use Rattle.pli_language.specs.Keywords.{same_bytes}
+use Rattle.pli_language.specs.Tree.{Name}
+use Rattle.pli_language.specs.View.{name_of}
+use Rattle.pli_language.specs.Declarations.{What, Declaration}
+use Rattle.pli_language.specs.Means.{places}
+use Rattle.pli_language.specs.Declaring.{are_rivals, names_twice, same_place, same_places, twice_faults, when}
+use Rattle.pli_language.specs.Refusals.{fault, soonest}
+use Rattle.pli_language.proofs.Least.{soonest-append}
 use Rattle.pli_declare.specs.declared.scope.Declaration.{Declaration as DeclarationHeld}
 use Rattle.pli_declare.specs.declared.scope.Variable.{Variable as VariableHeld}
 use Rattle.pli_declare.specs.Shown.{declaration_of, variable_of, what_of}

@@ -5,15 +5,15 @@ use Rattle.std.proofs.lemmas.List.{take_more, get_or-drop, map-append}
 use Rattle.pli_declare.specs.declared.scope.Declaration.{Declaration as DeclarationHeld}
 use Rattle.pli_declare.specs.Shown.{declaration_of, what_of}
 use Rattle.pli_declare.proofs.Chains.{drop_here}
-use Rattle.pli_meaning.specs.Tree.{Name}
-use Rattle.pli_meaning.specs.Declarations.{Held, What, Variable', Label, ProcedureName, Declaration}
-use Rattle.pli_meaning.specs.Declaring.{stands_alone, structure_after, what_faults, declarations_faults}
+use Rattle.pli_language.specs.Tree.{Name}
+use Rattle.pli_language.specs.Declarations.{Held, What, Variable', Label, ProcedureName, Declaration}
+use Rattle.pli_language.specs.Declaring.{stands_alone, structure_after, what_faults, declarations_faults}
 use Rattle.pli_declaring.specs.Next.{variable_in}
 use Rattle.pli_declaring.specs.Members.{before, variables_in}
 use Rattle.pli_declaring.specs.Starts.{start_of}
-use Rattle.pli_meaning.specs.declared.fault.SourceFault.{SourceFault}
-use Rattle.pli_meaning.specs.Refusals.{soonest}
-use Rattle.pli_meaning.proofs.Least.{soonest-append}
+use Rattle.pli_language.specs.declared.fault.SourceFault.{SourceFault}
+use Rattle.pli_language.specs.Refusals.{soonest}
+use Rattle.pli_language.proofs.Least.{soonest-append}
 
 before_in_two : (o : Option Held) (xs ys : List Held) → before o (xs ++ ys) ≡ before o xs ++ ys
 before_in_two None xs ys = refl

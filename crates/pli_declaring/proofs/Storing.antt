@@ -5,13 +5,13 @@ use Rattle.std.specs.List.{flat_map, sum_by}
 use Rattle.std.proofs.lemmas.Bool.Decides.{nat_tests}
 use Rattle.std.proofs.lemmas.List.{drop_more, map-append}
 use Rattle.std.proofs.lemmas.List.Sums.{sum_by-cons}
-use Rattle.pli_meaning.specs.declared.expr.Place.{Place}
-use Rattle.pli_meaning.specs.declared.fault.SourceFault.{SourceFault}
-use Rattle.pli_meaning.specs.declared.fault.SourceKind.TheVariants.{TooLarge}
-use Rattle.pli_meaning.specs.Refusals.{fault, is_before, soonest}
-use Rattle.pli_meaning.specs.Declaring.{most_static, static_faults, taken_up_to, when}
+use Rattle.pli_language.specs.declared.expr.Place.{Place}
+use Rattle.pli_language.specs.declared.fault.SourceFault.{SourceFault}
+use Rattle.pli_language.specs.declared.fault.SourceKind.TheVariants.{TooLarge}
+use Rattle.pli_language.specs.Refusals.{fault, is_before, soonest}
+use Rattle.pli_language.specs.Declaring.{most_static, static_faults, taken_up_to, when}
 use Rattle.pli_declaring.specs.Bytes.{capped}
-use Rattle.pli_meaning.proofs.Least.{soonest-append}
+use Rattle.pli_language.proofs.Least.{soonest-append}
 use Rattle.pli_declaring.specs.declared.statics.Taken.{Taken}
 use Rattle.pli_declaring.specs.Statics.{capped_all, counted, taken_of}
 use Rattle.pli_declaring.proofs.Faults.{soonest_none}

@@ -2,12 +2,12 @@
 use Rattle.std.proofs.Common.{◌≡◌, List, [], ◌++◌, map, Option, None, sym, ap, ◌∙◌, subst}
 use Rattle.std.specs.Prelude.{MatchOption}
 use Rattle.std.specs.List.{flat_map}
-use Rattle.pli_meaning.specs.declared.fault.SourceFault.{SourceFault}
-use Rattle.pli_meaning.specs.Tree.{Tree}
-use Rattle.pli_meaning.specs.Declarations.{Block, blocks_of}
-use Rattle.pli_meaning.specs.Declaring.{block_faults, declaring_faults, main_faults, outer_procedures, static_faults, statics_in}
-use Rattle.pli_meaning.specs.Refusals.{IsLeast, least, soonest}
-use Rattle.pli_meaning.proofs.Least.{least_found, soonest-append}
+use Rattle.pli_language.specs.declared.fault.SourceFault.{SourceFault}
+use Rattle.pli_language.specs.Tree.{Tree}
+use Rattle.pli_language.specs.Declarations.{Block, blocks_of}
+use Rattle.pli_language.specs.Declaring.{block_faults, declaring_faults, main_faults, outer_procedures, static_faults, statics_in}
+use Rattle.pli_language.specs.Refusals.{IsLeast, least, soonest}
+use Rattle.pli_language.proofs.Least.{least_found, soonest-append}
 use Rattle.pli_declare.specs.declared.scope.Block.{Block as BlockHeld}
 use Rattle.pli_declare.specs.ShownBlocks.{block_of}
 use Rattle.pli_declaring.proofs.Storing.{statics_capped}

@@ -1,10 +1,10 @@
 -- Outer procedures, one by one.
 use Rattle.std.specs.Prelude.{Bool, true, not, ◌||◌, nat_lt, List, [], ◌∷◌, ◌++◌, length, Option, Some, None}
-use Rattle.pli_meaning.specs.declared.fault.SourceFault.{SourceFault}
-use Rattle.pli_meaning.specs.declared.fault.SourceKind.TheVariants.{NoMain}
-use Rattle.pli_meaning.specs.Tree.{Item, Procedure, ProcedureHead}
-use Rattle.pli_meaning.specs.Refusals.{fault}
-use Rattle.pli_meaning.specs.Declaring.{at_first, has_main, when}
+use Rattle.pli_language.specs.declared.fault.SourceFault.{SourceFault}
+use Rattle.pli_language.specs.declared.fault.SourceKind.TheVariants.{NoMain}
+use Rattle.pli_language.specs.Tree.{Item, Procedure, ProcedureHead}
+use Rattle.pli_language.specs.Refusals.{fault}
+use Rattle.pli_language.specs.Declaring.{at_first, has_main, when}
 
 abbrev pub procedure_in : Item → Option ProcedureHead
 procedure_in (Procedure head body) = Some head

@@ -1,8 +1,8 @@
 -- The members of a structure that stand before another, and what an extent is kept in.
 use Rattle.std.specs.Prelude.{Bool, true, false, List, [], ◌∷◌, ℕ, Option, Some, None, filter}
-use Rattle.pli_meaning.specs.Declarations.{Held, Declaration}
-use Rattle.pli_meaning.specs.Keywords.{same_bytes}
-use Rattle.pli_meaning.specs.Declaring.{is_scalar_number, leaves_before}
+use Rattle.pli_language.specs.Declarations.{Held, Declaration}
+use Rattle.pli_language.specs.Keywords.{same_bytes}
+use Rattle.pli_language.specs.Declaring.{is_scalar_number, leaves_before}
 use Rattle.pli_declaring.specs.Next.{variable_in}
 use Rattle.pli_declaring.specs.declared.refer.Kept.{Kept}
 use Rattle.pli_declaring.specs.declared.refer.Kept.TheVariants as K

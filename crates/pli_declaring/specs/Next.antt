@@ -1,6 +1,6 @@
 -- The variable declared next.
 use Rattle.std.specs.Prelude.{List, [], ◌∷◌, Option, Some, None}
-use Rattle.pli_meaning.specs.Declarations.{Held, What, Variable', Label, ProcedureName, Declaration}
+use Rattle.pli_language.specs.Declarations.{Held, What, Variable', Label, ProcedureName, Declaration}
 
 abbrev pub variable_in : What → Option Held
 variable_in (Variable' h) = Some h

@@ -1,7 +1,7 @@
 -- The precisions that attributes write, one by one.
 use Rattle.std.specs.Prelude.{ℕ, Bool, true, false, ◌||◌, ◌==◌, nat_lt, List, [], ◌∷◌, Option, None}
-use Rattle.pli_meaning.specs.Tree.{Attribute, Fixed, Binary}
-use Rattle.pli_meaning.specs.Declaring.{most_digits}
+use Rattle.pli_language.specs.Tree.{Attribute, Fixed, Binary}
+use Rattle.pli_language.specs.Declaring.{most_digits}
 
 abbrev pub written_in : Attribute → Option ℕ
 written_in (Fixed p) = p

@@ -1,10 +1,10 @@
 -- Declarations that can't have one name.
 use Rattle.std.specs.Prelude.{ℕ, Bool, false, ◌&&◌, ◌==◌, List, map, slice_get}
 use Rattle.std.specs.Option.{option_map_or}
-use Rattle.pli_meaning.specs.declared.expr.Place.{Place}
-use Rattle.pli_meaning.specs.Keywords.{same_bytes}
-use Rattle.pli_meaning.specs.Declarations.{Variable, What, Declaration, level_of}
-use Rattle.pli_meaning.specs.Declaring.{are_rivals, held_is}
+use Rattle.pli_language.specs.declared.expr.Place.{Place}
+use Rattle.pli_language.specs.Keywords.{same_bytes}
+use Rattle.pli_language.specs.Declarations.{Variable, What, Declaration, level_of}
+use Rattle.pli_language.specs.Declaring.{are_rivals, held_is}
 
 -- the places of the names of the structures that hold a variable
 abbrev pub places_above : List Variable → List Place

@@ -1,9 +1,9 @@
 -- The rules of a variable's attributes, one by one.
 use Rattle.std.specs.Prelude.{Bool, ◌&&◌, ◌||◌, not, nat_lt, List, length}
 use Rattle.std.specs.List.{list_any}
-use Rattle.pli_meaning.specs.Tree.{Name, Attribute}
-use Rattle.pli_meaning.specs.Declarations.{Held, Declaration, level_of}
-use Rattle.pli_meaning.specs.Declaring.{has, has_kind, has_class, has_members, is_builtin, is_number_name, is_parameter, initial_fits, own_attributes, own_dimensions, stands_alone}
+use Rattle.pli_language.specs.Tree.{Name, Attribute}
+use Rattle.pli_language.specs.Declarations.{Held, Declaration, level_of}
+use Rattle.pli_language.specs.Declaring.{has, has_kind, has_class, has_members, is_builtin, is_number_name, is_parameter, initial_fits, own_attributes, own_dimensions, stands_alone}
 
 abbrev pub builtin_is_bad : Held → List Declaration → Bool
 builtin_is_bad h after = has 13 (own_attributes h) && (has_members h after || nat_lt 0 (own_dimensions h) || not (is_builtin h.variable.declared.name.word))

@@ -2,7 +2,7 @@
 use Rattle.std.specs.Prelude.{ℕ, ℤ, pos, negsuc}
 use Rattle.pli_declaring.specs.declared.extent.Use.{Use as UseHeld}
 use Rattle.pli_declaring.specs.declared.extent.Use.TheVariants as U
-use Rattle.pli_meaning.specs.Declaring.{Use, Passed, Evaluated, Kept, Returned}
+use Rattle.pli_language.specs.Declaring.{Use, Passed, Evaluated, Kept, Returned}
 
 abbrev pub use_shown : UseHeld → Use
 use_shown U.Passed = Passed

@@ -1,7 +1,7 @@
 -- Where structures begin among the declarations of a block.
 use Rattle.std.specs.Prelude.{ℕ, if◌then◌else◌}
-use Rattle.pli_meaning.specs.Declarations.{What, Variable', Label, ProcedureName}
-use Rattle.pli_meaning.specs.Declaring.{stands_alone}
+use Rattle.pli_language.specs.Declarations.{What, Variable', Label, ProcedureName}
+use Rattle.pli_language.specs.Declaring.{stands_alone}
 
 -- where the structure begins that the next declaration may go on with, after the one at this place
 abbrev pub start_of : ℕ → ℕ → ℕ → What → ℕ

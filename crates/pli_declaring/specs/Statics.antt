@@ -1,8 +1,8 @@
 -- What STATIC variables take, as far as it matters.
 use Rattle.std.specs.Prelude.{ℕ, List, map, if◌then◌else◌}
-use Rattle.pli_meaning.specs.declared.expr.Place.{Place}
-use Rattle.pli_meaning.specs.declared.fault.SourceKind.TheVariants.{TooLarge}
-use Rattle.pli_meaning.specs.Refusals.{fault, is_before}
+use Rattle.pli_language.specs.declared.expr.Place.{Place}
+use Rattle.pli_language.specs.declared.fault.SourceKind.TheVariants.{TooLarge}
+use Rattle.pli_language.specs.Refusals.{fault, is_before}
 use Rattle.pli_declaring.specs.declared.statics.Taken.{Taken}
 use Rattle.pli_declaring.specs.Bytes.{capped}
 

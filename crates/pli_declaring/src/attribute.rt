@@ -1,13 +1,13 @@
 // Attributes and what clashes among them.
 
 ghost use Rattle.std.specs.Prelude.{◌≡◌, map, ◌||◌, ◌==◌, not, false};
-ghost use Rattle.pli_meaning.specs.Declaring.{row_of, has, repeats, one, kinds_in, has_kind, classes_in, has_class, precisions_in, precision_of, attributes_clash, builtin_clash, is_builtin, is_number_name};
+ghost use Rattle.pli_language.specs.Declaring.{row_of, has, repeats, one, kinds_in, has_kind, classes_in, has_class, precisions_in, precision_of, attributes_clash, builtin_clash, is_builtin, is_number_name};
 ghost use Rattle.pli_declaring.specs.Precisions.{written_in, precisions_clash};
-ghost use Rattle.pli_meaning.specs.View.{attribute_of};
+ghost use Rattle.pli_language.specs.View.{attribute_of};
 ghost use Rattle.pli_declaring.specs.Rows.{number_of_row};
 
-use pli_meaning::declaration::Attribute;
-use pli_meaning::token::Word;
+use pli_language::declaration::Attribute;
+use pli_language::token::Word;
 
 /// An attribute without what it is given.
 #[derive(Clone, Copy)]

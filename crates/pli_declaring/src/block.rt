@@ -2,9 +2,9 @@
 
 ghost use Rattle.std.specs.Prelude.{◌≡◌, [], length, map, nat_lt};
 ghost use Rattle.std.specs.List.{flat_map};
-ghost use Rattle.pli_meaning.specs.Declaring.{block_faults, block_head_faults, declarations_faults, names_of};
-ghost use Rattle.pli_meaning.specs.Refusals.{soonest};
-ghost use Rattle.pli_meaning.specs.View.{name_of};
+ghost use Rattle.pli_language.specs.Declaring.{block_faults, block_head_faults, declarations_faults, names_of};
+ghost use Rattle.pli_language.specs.Refusals.{soonest};
+ghost use Rattle.pli_language.specs.View.{name_of};
 ghost use Rattle.pli_declare.specs.Shown.{declaration_of};
 ghost use Rattle.pli_declare.specs.ShownBlocks.{block_of};
 
@@ -12,7 +12,7 @@ use crate::head::noted_head;
 use crate::structure::noted_declarations;
 use crate::twice::{noted_parameters, noted_twice};
 use pli_declare::scope::Block;
-use pli_meaning::fault::SourceFault;
+use pli_language::fault::SourceFault;
 
 /// What the head of a block breaks, where it is a procedure.
 #[tactic(auto, using(crate::proofs::Faults::faults))]

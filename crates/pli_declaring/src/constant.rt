@@ -1,14 +1,14 @@
 // Constants, and where expressions begin.
 
 ghost use Rattle.std.specs.Prelude.{◌≡◌, ◌≤ℤ◌, neg_ℤ, pos, IfSome};
-ghost use Rattle.pli_meaning.specs.Declaring.{constant, place_of_expr, place_of_qualified, place_of_reference};
-ghost use Rattle.pli_meaning.specs.View.{expr_of, qualified_of, reference_of};
+ghost use Rattle.pli_language.specs.Declaring.{constant, place_of_expr, place_of_qualified, place_of_reference};
+ghost use Rattle.pli_language.specs.View.{expr_of, qualified_of, reference_of};
 ghost use Rattle.pli_declaring.specs.Numerals.{number_in};
 
-use pli_meaning::expr::{Expr, Place, PrefixOp, Qualified, Reference};
+use pli_language::expr::{Expr, Place, PrefixOp, Qualified, Reference};
 
 /// The place of the first name.
-#[tactic(auto, unfolding(pli_meaning::specs::View::qualified_of))]
+#[tactic(auto, unfolding(pli_language::specs::View::qualified_of))]
 fn place_of_qualified(qualified: &Qualified) -> Place
     ensures { result ≡ place_of_qualified (qualified_of qualified.now) }
 {
@@ -19,7 +19,7 @@ fn place_of_qualified(qualified: &Qualified) -> Place
 }
 
 /// The place of a reference's first token.
-#[tactic(auto, unfolding(pli_meaning::specs::View::reference_of))]
+#[tactic(auto, unfolding(pli_language::specs::View::reference_of))]
 pub fn place_of_reference(reference: &Reference) -> Place
     ensures { result ≡ place_of_reference (reference_of reference.now) }
 {
@@ -33,7 +33,7 @@ pub fn place_of_reference(reference: &Reference) -> Place
 }
 
 /// The place of an expression's first token.
-#[tactic(auto, unfolding(pli_meaning::specs::View::expr_of))]
+#[tactic(auto, unfolding(pli_language::specs::View::expr_of))]
 pub fn place_of(expression: &Expr) -> Place
     ensures { result ≡ place_of_expr (expr_of expression.now) }
 {
@@ -52,7 +52,7 @@ pub fn place_of(expression: &Expr) -> Place
 }
 
 /// The number that an expression is.
-#[tactic(auto, unfolding(pli_meaning::specs::View::expr_of))]
+#[tactic(auto, unfolding(pli_language::specs::View::expr_of))]
 fn number_in(expression: &Expr) -> Option<u64>
     ensures { result ≡ number_in (expr_of expression.now) }
 {
@@ -63,7 +63,7 @@ fn number_in(expression: &Expr) -> Option<u64>
 }
 
 /// A constant: a number after at most one sign.
-#[tactic(auto, unfolding(pli_meaning::specs::View::expr_of))]
+#[tactic(auto, unfolding(pli_language::specs::View::expr_of))]
 pub fn constant(expression: &Expr) -> Option<i128>
     ensures value { result ≡ constant (expr_of expression.now) }
     ensures bounded { IfSome result (λ z. (neg_ℤ (pos 18446744073709551616) ≤ℤ z) × (z ≤ℤ pos 18446744073709551616)) }

@@ -2,9 +2,9 @@
 
 ghost use Rattle.std.specs.Prelude.{◌≡◌, map, Bool, ℤ, Option, pos};
 ghost use Rattle.std.specs.List.{flat_map};
-ghost use Rattle.pli_meaning.specs.Declaring.{may_be_star, may_be_open, refer_is_bad_extent, use_of, is_below, is_outside, extent_is_bad, pair_is_bad, bound_faults, longest_text, size_faults, is_negative, attribute_extent_faults, extent_faults};
-ghost use Rattle.pli_meaning.specs.Refusals.{soonest};
-ghost use Rattle.pli_meaning.specs.View.{attribute_of, bound_of, extent_of, name_of, option_of, size_of};
+ghost use Rattle.pli_language.specs.Declaring.{may_be_star, may_be_open, refer_is_bad_extent, use_of, is_below, is_outside, extent_is_bad, pair_is_bad, bound_faults, longest_text, size_faults, is_negative, attribute_extent_faults, extent_faults};
+ghost use Rattle.pli_language.specs.Refusals.{soonest};
+ghost use Rattle.pli_language.specs.View.{attribute_of, bound_of, extent_of, name_of, option_of, size_of};
 ghost use Rattle.pli_declare.specs.Shown.{held_of};
 ghost use Rattle.pli_declaring.specs.Shown.{use_shown};
 
@@ -13,9 +13,9 @@ use crate::constant::{constant, place_of};
 use crate::held::{class_attributes, is_parameter, own_attributes};
 use crate::least::noted;
 use pli_declare::scope::Held;
-use pli_meaning::declaration::{Attribute, Bound, Extent, Size};
-use pli_meaning::expr::Name;
-use pli_meaning::fault::{SourceFault, SourceKind};
+use pli_language::declaration::{Attribute, Bound, Extent, Size};
+use pli_language::expr::Name;
+use pli_language::fault::{SourceFault, SourceKind};
 
 /// What an extent is for: what a parameter is passed, what is evaluated at entry or ALLOCATE, what STATIC or BASED keeps,
 /// what is returned.

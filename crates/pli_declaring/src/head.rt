@@ -2,18 +2,18 @@
 
 ghost use Rattle.std.specs.Prelude.{◌≡◌, ◌∷◌, [], ◌==◌, None, map};
 ghost use Rattle.std.specs.List.{flat_map, list_any};
-ghost use Rattle.pli_meaning.specs.Tree.{Area, Initial, Aligned, Unaligned, Internal};
-ghost use Rattle.pli_meaning.specs.Declaring.{when, has, row_of, is_main, has_main, at_first, returns_are_bad, option_row, options_repeat, option_faults, head_faults};
-ghost use Rattle.pli_meaning.specs.Refusals.{fault, soonest};
-ghost use Rattle.pli_meaning.specs.View.{attribute_of, name_of, procedure_head_of, procedure_option_of};
+ghost use Rattle.pli_language.specs.Tree.{Area, Initial, Aligned, Unaligned, Internal};
+ghost use Rattle.pli_language.specs.Declaring.{when, has, row_of, is_main, has_main, at_first, returns_are_bad, option_row, options_repeat, option_faults, head_faults};
+ghost use Rattle.pli_language.specs.Refusals.{fault, soonest};
+ghost use Rattle.pli_language.specs.View.{attribute_of, name_of, procedure_head_of, procedure_option_of};
 
 use crate::attribute::{attributes_clash, has_class, has_kind};
 use crate::extent::{Use, noted_attributes};
 use crate::least::noted;
-use pli_meaning::declaration::Attribute;
-use pli_meaning::expr::Name;
-use pli_meaning::fault::{SourceFault, SourceKind};
-use pli_meaning::stmt::{ProcedureHead, ProcedureOption};
+use pli_language::declaration::Attribute;
+use pli_language::expr::Name;
+use pli_language::fault::{SourceFault, SourceKind};
+use pli_language::stmt::{ProcedureHead, ProcedureOption};
 
 /// The least of what was found and of the rule at the first of these labels, where it is broken.
 #[tactic(auto, using(crate::proofs::Faults::faults))]

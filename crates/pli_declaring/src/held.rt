@@ -2,16 +2,16 @@
 
 ghost use Rattle.std.specs.Prelude.{◌≡◌, ◌+◌, ◌==◌, ◌&&◌, map, min, length};
 ghost use Rattle.std.specs.List.{list_any};
-ghost use Rattle.pli_meaning.specs.Declarations.{level_of, dimensions_of};
-ghost use Rattle.pli_meaning.specs.Declaring.{root_of, own_attributes, class_attributes, stands_alone, own_dimensions, inherited_dimensions, is_deeper, has_members, goes_on, is_parameter};
-ghost use Rattle.pli_meaning.specs.Keywords.{same_bytes};
-ghost use Rattle.pli_meaning.specs.View.{attribute_of, name_of, option_of};
+ghost use Rattle.pli_language.specs.Declarations.{level_of, dimensions_of};
+ghost use Rattle.pli_language.specs.Declaring.{root_of, own_attributes, class_attributes, stands_alone, own_dimensions, inherited_dimensions, is_deeper, has_members, goes_on, is_parameter};
+ghost use Rattle.pli_language.specs.Keywords.{same_bytes};
+ghost use Rattle.pli_language.specs.View.{attribute_of, name_of, option_of};
 ghost use Rattle.pli_declaring.specs.Next.{next_in, variable_in};
 ghost use Rattle.pli_declare.specs.Shown.{declaration_of, held_of, variable_of, what_of};
 
 use pli_declare::scope::{Declaration, Held, Variable, What};
-use pli_meaning::declaration::Attribute;
-use pli_meaning::expr::Name;
+use pli_language::declaration::Attribute;
+use pli_language::expr::Name;
 
 /// The variable of level 1 that it is, or that holds it.
 pub fn root_of<'a>(held: &Held<'a>) -> Variable<'a>

@@ -1,12 +1,12 @@
 // What INITIAL may give.
 
 ghost use Rattle.std.specs.Prelude.{◌≡◌, ◌<◌, map};
-ghost use Rattle.pli_meaning.specs.Declaring.{fits_digits, value_fits, initial_fits};
-ghost use Rattle.pli_meaning.specs.View.{attribute_of, initial_value_of};
+ghost use Rattle.pli_language.specs.Declaring.{fits_digits, value_fits, initial_fits};
+ghost use Rattle.pli_language.specs.View.{attribute_of, initial_value_of};
 ghost use Rattle.pli_declaring.specs.Shown.{magnitude};
 
 use crate::attribute::{Row, has, is_number, precision_of};
-use pli_meaning::declaration::{Attribute, InitialValue};
+use pli_language::declaration::{Attribute, InitialValue};
 
 /// The number, or its distance from -1 where it is below 0.
 fn magnitude(number: i64) -> u64

@@ -1,11 +1,11 @@
 // The least of the rules that are broken.
 
 ghost use Rattle.std.specs.Prelude.{◌≡◌};
-ghost use Rattle.pli_meaning.specs.Declaring.{when};
-ghost use Rattle.pli_meaning.specs.Refusals.{fault, is_before, number_of, soonest};
+ghost use Rattle.pli_language.specs.Declaring.{when};
+ghost use Rattle.pli_language.specs.Refusals.{fault, is_before, number_of, soonest};
 
-use pli_meaning::expr::Place;
-use pli_meaning::fault::{SourceFault, SourceKind};
+use pli_language::expr::Place;
+use pli_language::fault::{SourceFault, SourceKind};
 
 /// The number of a refusal.
 fn number_of(kind: SourceKind) -> u8
@@ -15,7 +15,7 @@ fn number_of(kind: SourceKind) -> u8
 }
 
 /// The first stands before the second.
-#[tactic(auto, unfolding(pli_meaning::specs::Refusals::is_before))]
+#[tactic(auto, unfolding(pli_language::specs::Refusals::is_before))]
 pub fn is_before(f: SourceFault, g: SourceFault) -> bool
     ensures { result ≡ is_before f g }
 {
@@ -40,7 +40,7 @@ pub fn fault(place: Place, kind: SourceKind) -> SourceFault
 }
 
 /// The least of what was found and of the rule, where it is broken.
-#[tactic(auto, unfolding(pli_meaning::specs::Refusals::soonest, pli_meaning::specs::Refusals::sooner))]
+#[tactic(auto, unfolding(pli_language::specs::Refusals::soonest, pli_language::specs::Refusals::sooner))]
 pub fn noted(
     found: Option<SourceFault>,
     broken: bool,

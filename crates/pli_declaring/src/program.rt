@@ -2,19 +2,19 @@
 
 ghost use Rattle.std.specs.Prelude.{◌≡◌, map, Bool, true, false};
 ghost use Rattle.std.specs.List.{flat_map};
-ghost use Rattle.pli_meaning.specs.Declaring.{main_faults, outer_procedures};
-ghost use Rattle.pli_meaning.specs.Refusals.{soonest};
-ghost use Rattle.pli_meaning.specs.View.{item_of, items_of, option_of, procedure_head_of};
+ghost use Rattle.pli_language.specs.Declaring.{main_faults, outer_procedures};
+ghost use Rattle.pli_language.specs.Refusals.{soonest};
+ghost use Rattle.pli_language.specs.View.{item_of, items_of, option_of, procedure_head_of};
 ghost use Rattle.pli_declaring.specs.Mains.{main_left, of_procedure, procedure_in};
 
 use crate::head::{has_main, noted_first};
 use crate::least::noted;
-use pli_meaning::expr::Place;
-use pli_meaning::fault::{SourceFault, SourceKind};
-use pli_meaning::stmt::{Item, Items, ProcedureHead};
+use pli_language::expr::Place;
+use pli_language::fault::{SourceFault, SourceKind};
+use pli_language::stmt::{Item, Items, ProcedureHead};
 
 /// The procedure that an item is.
-#[tactic(auto, unfolding(pli_meaning::specs::View::item_of))]
+#[tactic(auto, unfolding(pli_language::specs::View::item_of))]
 fn procedure_in(item: &Item) -> Option<&ProcedureHead>
     ensures { option_of (λ h. procedure_head_of h.now) result ≡ procedure_in (item_of item.now) }
 {

@@ -2,9 +2,9 @@
 
 ghost use Rattle.std.specs.Prelude.{◌≡◌, ◌∷◌, not, map};
 ghost use Rattle.std.specs.List.{flat_map};
-ghost use Rattle.pli_meaning.specs.Declaring.{is_deeper, is_scalar_number, keeps_extent, may_refer, refer_faults, bound_refer_faults, size_refer_faults, attribute_refer_faults, all_refer_faults};
-ghost use Rattle.pli_meaning.specs.Refusals.{soonest};
-ghost use Rattle.pli_meaning.specs.View.{attribute_of, bound_of, name_of, option_of, refer_of, size_of};
+ghost use Rattle.pli_language.specs.Declaring.{is_deeper, is_scalar_number, keeps_extent, may_refer, refer_faults, bound_refer_faults, size_refer_faults, attribute_refer_faults, all_refer_faults};
+ghost use Rattle.pli_language.specs.Refusals.{soonest};
+ghost use Rattle.pli_language.specs.View.{attribute_of, bound_of, name_of, option_of, refer_of, size_of};
 ghost use Rattle.pli_declare.specs.Shown.{declaration_of, held_of};
 ghost use Rattle.pli_declaring.specs.Members.{answer, first_held, kept_further, variables_in};
 
@@ -15,9 +15,9 @@ use crate::held::{
 };
 use crate::least::noted;
 use pli_declare::scope::{Declaration, Held};
-use pli_meaning::declaration::{Attribute, Bound, Refer, Size};
-use pli_meaning::expr::Name;
-use pli_meaning::fault::{SourceFault, SourceKind};
+use pli_language::declaration::{Attribute, Bound, Refer, Size};
+use pli_language::expr::Name;
+use pli_language::fault::{SourceFault, SourceKind};
 
 /// Which leaf of a name was found: none, one that is a scalar number, or what keeps no extent.
 #[derive(Clone, Copy)]

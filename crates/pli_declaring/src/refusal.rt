@@ -2,10 +2,10 @@
 
 ghost use Rattle.std.specs.Prelude.{◌≡◌, ◌++◌, ◌⊎◌, [], map, None, IfErr, IfOk};
 ghost use Rattle.std.specs.List.{flat_map};
-ghost use Rattle.pli_meaning.specs.Declarations.{blocks_of};
-ghost use Rattle.pli_meaning.specs.Declaring.{block_faults, declaring_faults, main_faults, outer_procedures, static_faults, statics_in};
-ghost use Rattle.pli_meaning.specs.Refusals.{IsLeast, soonest, want_of_memory};
-ghost use Rattle.pli_meaning.specs.View.{items_of, tree_of};
+ghost use Rattle.pli_language.specs.Declarations.{blocks_of};
+ghost use Rattle.pli_language.specs.Declaring.{block_faults, declaring_faults, main_faults, outer_procedures, static_faults, statics_in};
+ghost use Rattle.pli_language.specs.Refusals.{IsLeast, soonest, want_of_memory};
+ghost use Rattle.pli_language.specs.View.{items_of, tree_of};
 ghost use Rattle.pli_declare.specs.ShownBlocks.{block_of};
 
 use crate::block::noted_blocks;
@@ -13,8 +13,8 @@ use crate::program::noted_main;
 use crate::statics::{noted_statics, statics_of};
 use pli_declare::scope::Block;
 use pli_declare::{Scopes, read_scopes};
-use pli_meaning::fault::{SourceFault, SourceKind};
-use pli_meaning::stmt::{Items, Tree};
+use pli_language::fault::{SourceFault, SourceKind};
+use pli_language::stmt::{Items, Tree};
 use std::alloc::{AllocError, Global};
 
 const OUT_OF_MEMORY: SourceFault = SourceFault {

@@ -2,8 +2,8 @@
 
 ghost use Rattle.std.specs.Prelude.{◌≡◌, ◌+◌, ◌++◌, map, nat_lt, not, OnOk, IfOk};
 ghost use Rattle.std.specs.List.{flat_map, sum_by};
-ghost use Rattle.pli_meaning.specs.Declaring.{data_of_members, footprint_of, held_is, most_static, of_member, stands_alone, static_at, static_faults, statics_in, own_data, taken_up_to};
-ghost use Rattle.pli_meaning.specs.Refusals.{soonest};
+ghost use Rattle.pli_language.specs.Declaring.{data_of_members, footprint_of, held_is, most_static, of_member, stands_alone, static_at, static_faults, statics_in, own_data, taken_up_to};
+ghost use Rattle.pli_language.specs.Refusals.{soonest};
 ghost use Rattle.pli_declare.specs.Shown.{declaration_of, held_of, what_of};
 ghost use Rattle.pli_declare.specs.ShownBlocks.{block_of};
 ghost use Rattle.pli_declaring.specs.Bytes.{capped};
@@ -14,8 +14,8 @@ use crate::held::{own_attributes, stands_alone};
 use crate::least::{fault, is_before, noted};
 use crate::storage::{footprint, own_data, plus};
 use pli_declare::scope::{Block, Declaration, Held, What};
-use pli_meaning::expr::Place;
-use pli_meaning::fault::{SourceFault, SourceKind};
+use pli_language::expr::Place;
+use pli_language::fault::{SourceFault, SourceKind};
 use std::alloc::{AllocError, Global};
 
 /// What STATIC data may take.

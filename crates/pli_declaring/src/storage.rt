@@ -2,9 +2,9 @@
 
 ghost use Rattle.std.specs.Prelude.{◌≡◌, ◌*◌, ◌+◌, ◌/◌, ◌≤ℤ◌, ◌++◌, neg_ℤ, pos, Some, List, map, OnOk};
 ghost use Rattle.std.specs.List.{flat_map, sum_by};
-ghost use Rattle.pli_meaning.specs.Declarations.{dimensions_of};
-ghost use Rattle.pli_meaning.specs.Declaring.{attribute_bytes, bound_span, data_of_members, elements_above, footprint_of, leaf_bytes, own_data, positive, size_value, span_of, spans, up_to};
-ghost use Rattle.pli_meaning.specs.View.{attribute_of, bound_of, option_of, size_of};
+ghost use Rattle.pli_language.specs.Declarations.{dimensions_of};
+ghost use Rattle.pli_language.specs.Declaring.{attribute_bytes, bound_span, data_of_members, elements_above, footprint_of, leaf_bytes, own_data, positive, size_value, span_of, spans, up_to};
+ghost use Rattle.pli_language.specs.View.{attribute_of, bound_of, option_of, size_of};
 ghost use Rattle.pli_declare.specs.Shown.{declaration_of, held_of, variable_of};
 ghost use Rattle.pli_declaring.specs.Bytes.{capped};
 
@@ -12,7 +12,7 @@ use crate::attribute::{Row, has, is_number, precision_of};
 use crate::constant::constant;
 use crate::held::{has_members, own_attributes};
 use pli_declare::scope::{Declaration, Held, Variable};
-use pli_meaning::declaration::{Attribute, Bound, Size};
+use pli_language::declaration::{Attribute, Bound, Size};
 
 /// What is more takes no more: it is past what STATIC data may take.
 const MOST: u64 = 2_097_152;

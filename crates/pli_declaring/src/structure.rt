@@ -1,9 +1,9 @@
 // The variables of a block, structure by structure.
 
 ghost use Rattle.std.specs.Prelude.{◌≡◌, ◌+◌, [], map, nat_lt};
-ghost use Rattle.pli_meaning.specs.Declaring.{declarations_faults, inherited_dimensions, most_dimensions, own_dimensions, variable_faults, what_faults};
-ghost use Rattle.pli_meaning.specs.Refusals.{soonest};
-ghost use Rattle.pli_meaning.specs.View.{name_of};
+ghost use Rattle.pli_language.specs.Declaring.{declarations_faults, inherited_dimensions, most_dimensions, own_dimensions, variable_faults, what_faults};
+ghost use Rattle.pli_language.specs.Refusals.{soonest};
+ghost use Rattle.pli_language.specs.View.{name_of};
 ghost use Rattle.pli_declare.specs.Shown.{declaration_of, held_of, what_of};
 ghost use Rattle.pli_declaring.specs.Members.{variables_in};
 ghost use Rattle.pli_declaring.specs.Starts.{start_of};
@@ -14,8 +14,8 @@ use crate::least::noted;
 use crate::refer::noted_refers;
 use crate::variable::{area_is_nested, attributes_are_bad};
 use pli_declare::scope::{Declaration, Held, What};
-use pli_meaning::expr::Name;
-use pli_meaning::fault::{SourceFault, SourceKind};
+use pli_language::expr::Name;
+use pli_language::fault::{SourceFault, SourceKind};
 
 /// An element of the variable has more than 8 dimensions.
 fn has_too_many_dimensions(held: &Held) -> bool

@@ -3,20 +3,20 @@
 ghost use Rattle.std.specs.Prelude.{◌≡◌, [], ◌&&◌, false, map, not, nat_lt, slice_get};
 ghost use Rattle.std.specs.List.{flat_map, list_any};
 ghost use Rattle.std.specs.Option.{option_map_or};
-ghost use Rattle.pli_meaning.specs.Declarations.{level_of};
-ghost use Rattle.pli_meaning.specs.Declaring.{are_rivals, are_siblings, declares, is_own, names_twice, parameter_faults, same_place, same_places, twice_faults, when};
-ghost use Rattle.pli_meaning.specs.Refusals.{fault, soonest};
-ghost use Rattle.pli_meaning.specs.View.{name_of};
+ghost use Rattle.pli_language.specs.Declarations.{level_of};
+ghost use Rattle.pli_language.specs.Declaring.{are_rivals, are_siblings, declares, is_own, names_twice, parameter_faults, same_place, same_places, twice_faults, when};
+ghost use Rattle.pli_language.specs.Refusals.{fault, soonest};
+ghost use Rattle.pli_language.specs.View.{name_of};
 ghost use Rattle.pli_declare.specs.Shown.{declaration_of, variable_of, what_of};
-ghost use Rattle.pli_meaning.specs.declared.fault.SourceKind.TheVariants.{Undeclared};
+ghost use Rattle.pli_language.specs.declared.fault.SourceKind.TheVariants.{Undeclared};
 ghost use Rattle.pli_declaring.specs.Rivals.{places_above, rival_at, is_variable_of};
 
 use crate::held::{is_among, level_of, same_bytes, stands_alone, variable_in};
 use crate::least::noted;
 use pli_declare::names::Names;
 use pli_declare::scope::{Declaration, Variable, What};
-use pli_meaning::expr::{Name, Place};
-use pli_meaning::fault::{SourceFault, SourceKind};
+use pli_language::expr::{Name, Place};
+use pli_language::fault::{SourceFault, SourceKind};
 
 /// The name is one of those that a block's names are: those of level 1, labels and procedures.
 fn is_own(what: &What) -> bool

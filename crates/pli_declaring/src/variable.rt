@@ -1,9 +1,9 @@
 // What a variable's attributes may not be.
 
 ghost use Rattle.std.specs.Prelude.{◌≡◌, ◌&&◌, ◌||◌, not, map, length, nat_lt, if◌then◌else◌};
-ghost use Rattle.pli_meaning.specs.Declarations.{level_of, Held};
-ghost use Rattle.pli_meaning.specs.Declaring.{has, has_kind, has_class, has_members, is_builtin, is_number_name, is_parameter, initial_fits, level_is_bad, own_attributes, own_dimensions, stands_alone, attributes_are_bad, area_is_nested};
-ghost use Rattle.pli_meaning.specs.View.{attribute_of, name_of};
+ghost use Rattle.pli_language.specs.Declarations.{level_of, Held};
+ghost use Rattle.pli_language.specs.Declaring.{has, has_kind, has_class, has_members, is_builtin, is_number_name, is_parameter, initial_fits, level_is_bad, own_attributes, own_dimensions, stands_alone, attributes_are_bad, area_is_nested};
+ghost use Rattle.pli_language.specs.View.{attribute_of, name_of};
 ghost use Rattle.pli_declare.specs.Shown.{declaration_of, held_of};
 ghost use Rattle.pli_declaring.specs.Rules.{builtin_is_bad, dimensions_are_bad, class_is_bad, parameter_is_bad, structure_is_bad, is_kindless, leaf_is_bad, misfits};
 
@@ -15,8 +15,8 @@ use crate::held::{
 };
 use crate::initial::initial_fits;
 use pli_declare::scope::{Declaration, Held};
-use pli_meaning::declaration::Attribute;
-use pli_meaning::expr::Name;
+use pli_language::declaration::Attribute;
+use pli_language::expr::Name;
 
 /// The level is 0, or there is nothing of smaller level before the variable that it could belong to.
 fn level_is_bad(held: &Held) -> bool

@@ -2,16 +2,16 @@
 use Rattle.std.proofs.Common.{◌≡◌, ◌∙◌, ◌<◌, ℕ, zero, suc, get_or, arith, Bool, false, List, [], ◌∷◌, ◌++◌, Option, Some, None, map, length, slice_get, append_assoc, append-nil, refl, sym, ap, ap₂}
 use Rattle.std.specs.Prelude.{not, ◌||◌, drop}
 use Rattle.std.specs.List.{list_any}
-use Rattle.pli_meaning.specs.declared.fault.SourceFault.{SourceFault}
-use Rattle.pli_meaning.specs.declared.fault.SourceKind.TheVariants.{BadExtent}
-use Rattle.pli_meaning.specs.Declarations.{Block, Held}
-use Rattle.pli_meaning.specs.Declaring.{own_attributes, place_of_expr}
-use Rattle.pli_meaning.specs.Generations.{declared_variable, declared_with, extent_demanded, is_forbidden, names_demanded}
-use Rattle.pli_meaning.specs.Judging.{Judged, Scope, demand, each}
-use Rattle.pli_meaning.specs.Refusals.{soonest}
-use Rattle.pli_meaning.specs.Tree as T
-use Rattle.pli_meaning.specs.TypedTree as Y
-use Rattle.pli_meaning.proofs.Least.{soonest-append}
+use Rattle.pli_language.specs.declared.fault.SourceFault.{SourceFault}
+use Rattle.pli_language.specs.declared.fault.SourceKind.TheVariants.{BadExtent}
+use Rattle.pli_language.specs.Declarations.{Block, Held}
+use Rattle.pli_language.specs.Declaring.{own_attributes, place_of_expr}
+use Rattle.pli_typing.specs.Generations.{declared_variable, declared_with, extent_demanded, is_forbidden, names_demanded}
+use Rattle.pli_typing.specs.Judging.{Judged, Scope, demand, each}
+use Rattle.pli_language.specs.Refusals.{soonest}
+use Rattle.pli_language.specs.Tree as T
+use Rattle.pli_typing.specs.TypedTree as Y
+use Rattle.pli_language.proofs.Least.{soonest-append}
 use Rattle.std.proofs.lemmas.List.{drop_all, map-append}
 use Rattle.pli_declare.proofs.Chains.{drop_here}
 use Rattle.pli_operand.specs.Notes.{Noted, noted, with_lists}

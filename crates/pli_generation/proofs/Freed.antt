@@ -1,9 +1,9 @@
 -- What is freed, by what locates it.
 use Rattle.std.proofs.Common.{◌≡◌, Option, Some, None, refl}
-use Rattle.pli_meaning.specs.declared.expr.Place.{Place}
-use Rattle.pli_meaning.specs.Converting.{variable_of}
-use Rattle.pli_meaning.specs.Generations.{freed_class, freed_reference, pointer_to}
-use Rattle.pli_meaning.specs.TypedTree as Y
+use Rattle.pli_language.specs.declared.expr.Place.{Place}
+use Rattle.pli_typing.specs.Converting.{variable_of}
+use Rattle.pli_typing.specs.Generations.{freed_class, freed_reference, pointer_to}
+use Rattle.pli_typing.specs.TypedTree as Y
 use Rattle.pli_generation.specs.Shown.{freed_by, locator_within}
 
 by_class : (place : Place) (v : Y.Variable) (class : Y.StorageClass) (locator : Y.Locator) (area : Option Y.Variable) → freed_by place v class (pointer_to locator) area ≡ freed_class place v class locator area

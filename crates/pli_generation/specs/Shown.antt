@@ -1,17 +1,17 @@
 -- What a program's values show of the definitions, and parts of these.
 use Rattle.std.specs.Prelude.{ℕ, List, [], ◌∷◌, Option, Some, None, if◌then◌else◌}
-use Rattle.pli_meaning.specs.declared.expr.Place.{Place}
-use Rattle.pli_meaning.specs.declared.fault.SourceKind.TheVariants.{Undeclared, TypeMismatch}
-use Rattle.pli_meaning.specs.Declarations.{Block, Held}
-use Rattle.pli_meaning.specs.Declaring.{is_builtin}
-use Rattle.pli_meaning.specs.Converting.{no_variable}
-use Rattle.pli_meaning.specs.Generations.{Allocating, bad_allocation, evaluation, no_allocation, no_freeing, pointer_to}
-use Rattle.pli_meaning.specs.Judging.{Judged, Scope, broken, each, fine}
-use Rattle.pli_meaning.specs.TypedStatementView.{target_of}
-use Rattle.pli_meaning.specs.TypedTree as Y
-use Rattle.pli_meaning.specs.TypedView.{area_of}
-use Rattle.pli_meaning.specs.Variables.{variable_meant, written_extents}
-use Rattle.pli_meaning.specs.View.{name_of, option_of}
+use Rattle.pli_language.specs.declared.expr.Place.{Place}
+use Rattle.pli_language.specs.declared.fault.SourceKind.TheVariants.{Undeclared, TypeMismatch}
+use Rattle.pli_language.specs.Declarations.{Block, Held}
+use Rattle.pli_language.specs.Declaring.{is_builtin}
+use Rattle.pli_typing.specs.Converting.{no_variable}
+use Rattle.pli_typing.specs.Generations.{Allocating, bad_allocation, evaluation, no_allocation, no_freeing, pointer_to}
+use Rattle.pli_typing.specs.Judging.{Judged, Scope, broken, each, fine}
+use Rattle.pli_typing.specs.TypedStatementView.{target_of}
+use Rattle.pli_typing.specs.TypedTree as Y
+use Rattle.pli_typing.specs.TypedView.{area_of}
+use Rattle.pli_typing.specs.Variables.{variable_meant, written_extents}
+use Rattle.pli_language.specs.View.{name_of, option_of}
 use Rattle.pli_generation.specs.declared.allocation.Allocating.{Allocating as AllocatingHeld}
 
 abbrev pub allocating_of : AllocatingHeld → Allocating

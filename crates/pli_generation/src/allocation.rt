@@ -1,17 +1,17 @@
 // ALLOCATE.
 
 ghost use Rattle.std.specs.Prelude.{◌≡◌, IfOk, OnOk, Some};
-ghost use Rattle.pli_meaning.specs.Declarations.{Variable'};
-ghost use Rattle.pli_meaning.specs.declared.fault.SourceKind.{SourceKind};
-ghost use Rattle.pli_meaning.specs.Generations as G;
-ghost use Rattle.pli_meaning.specs.Judging.{broken};
-ghost use Rattle.pli_meaning.specs.TypedStatementView.{allocation_of};
-ghost use Rattle.pli_meaning.specs.TypedView.{class_of, variable_of};
-ghost use Rattle.pli_meaning.specs.Variables.{variable_meant, what_at};
-ghost use Rattle.pli_meaning.specs.View.{allocation_of as written_of};
+ghost use Rattle.pli_language.specs.Declarations.{Variable'};
+ghost use Rattle.pli_language.specs.declared.fault.SourceKind.{SourceKind};
+ghost use Rattle.pli_typing.specs.Generations as G;
+ghost use Rattle.pli_typing.specs.Judging.{broken};
+ghost use Rattle.pli_typing.specs.TypedStatementView.{allocation_of};
+ghost use Rattle.pli_typing.specs.TypedView.{class_of, variable_of};
+ghost use Rattle.pli_typing.specs.Variables.{variable_meant, what_at};
+ghost use Rattle.pli_language.specs.View.{allocation_of as written_of};
 ghost use Rattle.pli_declare.specs.Shown.{held_of};
 ghost use Rattle.pli_generation.specs.Shown.{allocating_of, undeclared_allocation};
-ghost use Rattle.pli_meaning.specs.TypedTree as Y;
+ghost use Rattle.pli_typing.specs.TypedTree as Y;
 ghost use Rattle.pli_operand.specs.Notes.{noted};
 ghost use Rattle.pli_operand.specs.Shown.{notes_of};
 ghost use Rattle.pli_reference.specs.Shown.{scope_of};
@@ -21,15 +21,15 @@ use crate::target::{area_given, area_if, target_given, target_if};
 use pli_declare::scope::{Held, What};
 use pli_declaring::attribute::is_builtin;
 use pli_declaring::held::stands_alone;
-use pli_meaning::declaration;
-use pli_meaning::expr::{Name, Place};
-use pli_meaning::fault::SourceKind;
-use pli_meaning::scope::{DeclarationAt, Found};
-use pli_meaning::typed::{Allocation, LocatorTarget, StorageClass, Variable};
+use pli_language::declaration;
+use pli_language::expr::{Name, Place};
+use pli_language::fault::SourceKind;
+use pli_language::scope::{DeclarationAt, Found};
 use pli_operand::notes::Notes;
 use pli_operand::stored::no_variable;
 use pli_reference::part::shape_of;
 use pli_reference::scope::Scope;
+use pli_typing::typed::{Allocation, LocatorTarget, StorageClass, Variable};
 use pli_variables::Tables;
 use std::alloc::{AllocError, Global};
 

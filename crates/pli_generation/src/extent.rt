@@ -1,25 +1,25 @@
 // The extents of a variable, each evaluated once.
 
 ghost use Rattle.std.specs.Prelude.{◌≡◌, map, IfOk, OnOk};
-ghost use Rattle.pli_meaning.specs.Generations as G;
-ghost use Rattle.pli_meaning.specs.Judging.{each};
-ghost use Rattle.pli_meaning.specs.Refusals.{soonest};
-ghost use Rattle.pli_meaning.specs.TypedStatementView.{evaluation_of};
-ghost use Rattle.pli_meaning.specs.TypedView.{number_of, variable_of};
-ghost use Rattle.pli_meaning.specs.View.{expr_of};
+ghost use Rattle.pli_typing.specs.Generations as G;
+ghost use Rattle.pli_typing.specs.Judging.{each};
+ghost use Rattle.pli_language.specs.Refusals.{soonest};
+ghost use Rattle.pli_typing.specs.TypedStatementView.{evaluation_of};
+ghost use Rattle.pli_typing.specs.TypedView.{number_of, variable_of};
+ghost use Rattle.pli_language.specs.View.{expr_of};
 ghost use Rattle.pli_operand.specs.Notes.{noted};
 ghost use Rattle.pli_operand.specs.Shown.{notes_of};
 ghost use Rattle.pli_reference.specs.Shown.{scope_of};
 ghost use Rattle.pli_variables.specs.Written.{all_shown, extent_shown};
 
 use pli_declaring::constant::place_of;
-use pli_meaning::expr::Expr;
-use pli_meaning::fault::{SourceFault, SourceKind};
-use pli_meaning::typed::{Evaluation, Number, Variable};
+use pli_language::expr::Expr;
+use pli_language::fault::{SourceFault, SourceKind};
 use pli_operand::notes::Notes;
 use pli_operand::value::number_operand;
 use pli_reference::expression::operand;
 use pli_reference::scope::Scope;
+use pli_typing::typed::{Evaluation, Number, Variable};
 use pli_variables::declared::{WrittenExtent, check_of};
 use std::alloc::{AllocError, Global};
 

@@ -1,30 +1,30 @@
 // FREE.
 
 ghost use Rattle.std.specs.Prelude.{◌≡◌, IfOk, OnOk};
-ghost use Rattle.pli_meaning.specs.declared.fault.SourceKind.TheVariants.{TypeMismatch};
-ghost use Rattle.pli_meaning.specs.Generations as G;
-ghost use Rattle.pli_meaning.specs.Judging.{broken};
-ghost use Rattle.pli_meaning.specs.TypedStatementView.{freeing_of};
-ghost use Rattle.pli_meaning.specs.TypedView.{area_of, class_of, pointer_of, reference_of, variable_of};
-ghost use Rattle.pli_meaning.specs.View.{freeing_of as written_of};
+ghost use Rattle.pli_language.specs.declared.fault.SourceKind.TheVariants.{TypeMismatch};
+ghost use Rattle.pli_typing.specs.Generations as G;
+ghost use Rattle.pli_typing.specs.Judging.{broken};
+ghost use Rattle.pli_typing.specs.TypedStatementView.{freeing_of};
+ghost use Rattle.pli_typing.specs.TypedView.{area_of, class_of, pointer_of, reference_of, variable_of};
+ghost use Rattle.pli_language.specs.View.{freeing_of as written_of};
 ghost use Rattle.pli_generation.specs.Shown.{freed_by, locator_within};
-ghost use Rattle.pli_meaning.specs.TypedTree as Y;
+ghost use Rattle.pli_typing.specs.TypedTree as Y;
 ghost use Rattle.pli_operand.specs.Notes.{noted};
 ghost use Rattle.pli_operand.specs.Shown.{designated_of, notes_of, referent_of};
 ghost use Rattle.pli_operand.specs.declared.operand.Referent.TheVariants as R;
 ghost use Rattle.pli_reference.specs.Shown.{locator_of, scope_of};
 
 use crate::target::area_if;
-use pli_meaning::declaration;
-use pli_meaning::expr::Place;
-use pli_meaning::fault::SourceKind;
-use pli_meaning::typed::{Freeing, Pointer, Reference, StorageClass, Value, Variable};
+use pli_language::declaration;
+use pli_language::expr::Place;
+use pli_language::fault::SourceKind;
 use pli_operand::notes::Notes;
 use pli_operand::operand::{Designated, Operand, Referent};
 use pli_operand::shape::variable_of;
 use pli_operand::stored::no_variable;
 use pli_reference::expression::referred;
 use pli_reference::scope::Scope;
+use pli_typing::typed::{Freeing, Pointer, Reference, StorageClass, Value, Variable};
 use std::alloc::{AllocError, Global};
 
 /// Stands in for what is freed.
@@ -104,7 +104,7 @@ fn freed_class<'a>(
 }
 
 /// What locates a generation, NULL where nothing does.
-#[tactic(auto, unfolding(pli_meaning::specs::TypedView::reference_of, pli_meaning::specs::TypedView::pointer_of))]
+#[tactic(auto, unfolding(pli_typing::specs::TypedView::reference_of, pli_typing::specs::TypedView::pointer_of))]
 fn locator_in<'a>(reference: Reference<'a>) -> Pointer<'a>
     ensures { pointer_of result ≡ locator_within (reference_of reference.entry) }
 {
@@ -166,7 +166,9 @@ fn freed_referent<'a>(
         }
         Referent::NotKnown => no_freeing(),
         Referent::Gives(value) => mismatched_value(notes, place, value),
-        Referent::EmptyArea | Referent::Nothing => mismatched(notes, place),
+        Referent::UnknownValue | Referent::EmptyArea | Referent::Nothing => {
+            mismatched(notes, place)
+        }
     }
 }
 

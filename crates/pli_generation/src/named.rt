@@ -1,18 +1,18 @@
 // The names in attributes.
 
 ghost use Rattle.std.specs.Prelude.{◌≡◌, map};
-ghost use Rattle.pli_meaning.specs.declared.scope.Found.TheVariants as F;
-ghost use Rattle.pli_meaning.specs.Generations as G;
-ghost use Rattle.pli_meaning.specs.View.{attribute_of, name_of, option_of};
+ghost use Rattle.pli_language.specs.declared.scope.Found.TheVariants as F;
+ghost use Rattle.pli_typing.specs.Generations as G;
+ghost use Rattle.pli_language.specs.View.{attribute_of, name_of, option_of};
 ghost use Rattle.pli_operand.specs.Notes.{noted};
 ghost use Rattle.pli_operand.specs.Shown.{notes_of};
 ghost use Rattle.pli_variables.specs.Rows.{blocks_shown};
 
 use pli_declaring::attribute::is_builtin;
-use pli_meaning::declaration::Attribute;
-use pli_meaning::expr::Name;
-use pli_meaning::fault::SourceKind;
-use pli_meaning::scope::Found;
+use pli_language::declaration::Attribute;
+use pli_language::expr::Name;
+use pli_language::fault::SourceKind;
+use pli_language::scope::Found;
 use pli_operand::notes::Notes;
 use pli_reference::locator::locator_found;
 use pli_reference::meant::locator_name;

@@ -1,13 +1,13 @@
 // The locator that ALLOCATE sets, and the area that it allocates in.
 
 ghost use Rattle.std.specs.Prelude.{◌≡◌, None, Some, IfOk, OnOk};
-ghost use Rattle.pli_meaning.specs.Generations as G;
-ghost use Rattle.pli_meaning.specs.Judging.{broken};
-ghost use Rattle.pli_meaning.specs.declared.fault.SourceKind.TheVariants.{TypeMismatch};
-ghost use Rattle.pli_meaning.specs.TypedStatementView.{target_of};
-ghost use Rattle.pli_meaning.specs.TypedTree as Y;
-ghost use Rattle.pli_meaning.specs.TypedView.{area_of, leaf_type_of, reference_of, variable_of};
-ghost use Rattle.pli_meaning.specs.View.{name_of, option_of, reference_of as written_of};
+ghost use Rattle.pli_typing.specs.Generations as G;
+ghost use Rattle.pli_typing.specs.Judging.{broken};
+ghost use Rattle.pli_language.specs.declared.fault.SourceKind.TheVariants.{TypeMismatch};
+ghost use Rattle.pli_typing.specs.TypedStatementView.{target_of};
+ghost use Rattle.pli_typing.specs.TypedTree as Y;
+ghost use Rattle.pli_typing.specs.TypedView.{area_of, leaf_type_of, reference_of, variable_of};
+ghost use Rattle.pli_language.specs.View.{name_of, option_of, reference_of as written_of};
 ghost use Rattle.pli_declare.specs.Shown.{held_of};
 ghost use Rattle.pli_operand.specs.Notes.{noted};
 ghost use Rattle.pli_operand.specs.Shown.{designated_of, notes_of, referent_of};
@@ -19,9 +19,8 @@ ghost use Rattle.pli_variables.specs.ShownShapes.{shape_of};
 
 use pli_declare::scope::Held;
 use pli_declaring::held::class_attributes;
-use pli_meaning::expr::{Name, Place, Reference as Written};
-use pli_meaning::fault::SourceKind;
-use pli_meaning::typed::{LeafType, LocatorTarget, Reference, Value, Variable};
+use pli_language::expr::{Name, Place, Reference as Written};
+use pli_language::fault::SourceKind;
 use pli_operand::notes::Notes;
 use pli_operand::operand::{Designated, Operand, Referent};
 use pli_operand::shape::scalar_type;
@@ -31,6 +30,7 @@ use pli_reference::locator::locator_found;
 use pli_reference::meant::locator_name;
 use pli_reference::part::whole_by;
 use pli_reference::scope::Scope;
+use pli_typing::typed::{LeafType, LocatorTarget, Reference, Value, Variable};
 use pli_variables::{Shape, Tables};
 use std::alloc::{AllocError, Global};
 
@@ -129,7 +129,9 @@ fn locator_target<'a>(
         Referent::Designates(designated) => designated_target(notes, place, designated),
         Referent::NotKnown => no_target(),
         Referent::Gives(value) => mismatched_value(notes, place, value),
-        Referent::EmptyArea | Referent::Nothing => mismatched(notes, place),
+        Referent::UnknownValue | Referent::EmptyArea | Referent::Nothing => {
+            mismatched(notes, place)
+        }
     }
 }
 

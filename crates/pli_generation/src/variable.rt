@@ -1,13 +1,13 @@
 // The variables of level 1 of a block.
 
 ghost use Rattle.std.specs.Prelude.{◌≡◌, map, slice_get, IfOk, OnOk};
-ghost use Rattle.pli_meaning.specs.Declaring.{own_attributes};
-ghost use Rattle.pli_meaning.specs.Generations as G;
-ghost use Rattle.pli_meaning.specs.Judging.{each};
-ghost use Rattle.pli_meaning.specs.Refusals.{soonest};
-ghost use Rattle.pli_meaning.specs.TypedStatementView.{declared_variable_of, evaluation_of, member_of};
-ghost use Rattle.pli_meaning.specs.TypedView.{variable_of};
-ghost use Rattle.pli_meaning.specs.Variables.{declarations_at, variables_in};
+ghost use Rattle.pli_language.specs.Declaring.{own_attributes};
+ghost use Rattle.pli_typing.specs.Generations as G;
+ghost use Rattle.pli_typing.specs.Judging.{each};
+ghost use Rattle.pli_language.specs.Refusals.{soonest};
+ghost use Rattle.pli_typing.specs.TypedStatementView.{declared_variable_of, evaluation_of, member_of};
+ghost use Rattle.pli_typing.specs.TypedView.{variable_of};
+ghost use Rattle.pli_typing.specs.Variables.{declarations_at, variables_in};
 ghost use Rattle.pli_declare.specs.Shown.{held_of};
 ghost use Rattle.pli_generation.specs.Shown.{evaluations_of, own_at};
 ghost use Rattle.pli_operand.specs.Notes.{noted};
@@ -20,11 +20,11 @@ use crate::extent::evaluations;
 use crate::named::names_demanded;
 use pli_declare::scope::Held;
 use pli_declaring::held::{dimensions_of, own_attributes};
-use pli_meaning::fault::SourceFault;
-use pli_meaning::typed::{DeclaredVariable, Evaluation, Member, Variable};
+use pli_language::fault::SourceFault;
 use pli_operand::notes::Notes;
 use pli_operand::stored::no_variable;
 use pli_reference::scope::Scope;
+use pli_typing::typed::{DeclaredVariable, Evaluation, Member, Variable};
 use pli_variables::Tables;
 use pli_variables::declared::{refer_of, written_extents};
 use std::alloc::{AllocError, Global};

@@ -1,13 +1,13 @@
 -- What decides between assignments and words: it is decided as the rules say.
 use Rattle.std.proofs.Common.{◌≡◌, ◌≢◌, ℕ, List, [], ◌∷◌, Some, Bool, true, false, refl, sym, ap, ◌∙◌, Ok, Err}
 use Rattle.std.specs.Prelude.{if◌then◌else◌}
-use Rattle.pli_meaning.specs.declared.token.Word.TheVariants as W
-use Rattle.pli_meaning.specs.declared.token.Symbol.TheVariants as S
-use Rattle.pli_meaning.specs.declared.token.Kind.TheVariants as K
-use Rattle.pli_meaning.specs.declared.token.Token.{Token}
-use Rattle.pli_meaning.specs.Spells.{next_kind, SpellsExpr}
-use Rattle.pli_meaning.specs.Heads.{BeginsIf, Assigns}
-use Rattle.pli_meaning.specs.Tree as T
+use Rattle.pli_language.specs.declared.token.Word.TheVariants as W
+use Rattle.pli_language.specs.declared.token.Symbol.TheVariants as S
+use Rattle.pli_language.specs.declared.token.Kind.TheVariants as K
+use Rattle.pli_language.specs.declared.token.Token.{Token}
+use Rattle.pli_language.specs.Spells.{next_kind, SpellsExpr}
+use Rattle.pli_language.specs.Heads.{BeginsIf, Assigns}
+use Rattle.pli_language.specs.Tree as T
 use Rattle.pli_phrase.specs.Cursor.{Cursor, Read, onto}
 use Rattle.pli_phrase.specs.Tokens.{is_terminal, begins}
 use Rattle.pli_phrase.specs.declared.expression.Beginning.{Beginning}

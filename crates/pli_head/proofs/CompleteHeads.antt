@@ -1,20 +1,20 @@
 -- Heads: what is spelled is read.
 use Rattle.std.proofs.Common.{◌≡◌, ◌≢◌, ℕ, List, Some, None, Bool, true, false, refl, ap, ◌∙◌, Ok}
 use Rattle.std.specs.Prelude.{if◌then◌else◌}
-use Rattle.pli_meaning.specs.declared.expr.Place.{Place}
-use Rattle.pli_meaning.specs.declared.token.Word.{Word}
-use Rattle.pli_meaning.specs.declared.token.Word.TheVariants as W
-use Rattle.pli_meaning.specs.declared.token.Symbol.TheVariants as S
-use Rattle.pli_meaning.specs.declared.token.Kind.TheVariants as K
-use Rattle.pli_meaning.specs.declared.token.Token.{Token}
-use Rattle.pli_meaning.specs.Attributes.{SpellsDeclareItems, declare_items_marks}
-use Rattle.pli_meaning.specs.Marks.{Marks, expr_marks}
-use Rattle.pli_meaning.specs.Spells as E
-use Rattle.pli_meaning.specs.Spells.{Takes, next_kind, place_of, name_at, BeginsAssignment, SpellsExpr, SpellsReference, SpellsArguments}
-use Rattle.pli_meaning.specs.Heads as G
-use Rattle.pli_meaning.specs.Heads.{SpellsParameters, SpellsOptions, SpellsInParentheses, SpellsCounting, SpellsHead, parameters_marks, options_marks}
-use Rattle.pli_meaning.specs.Tree as T
-use Rattle.pli_meaning.proofs.Unique.{next_taken, begins_expr, expr_begins, reference_begins, reference_same}
+use Rattle.pli_language.specs.declared.expr.Place.{Place}
+use Rattle.pli_language.specs.declared.token.Word.{Word}
+use Rattle.pli_language.specs.declared.token.Word.TheVariants as W
+use Rattle.pli_language.specs.declared.token.Symbol.TheVariants as S
+use Rattle.pli_language.specs.declared.token.Kind.TheVariants as K
+use Rattle.pli_language.specs.declared.token.Token.{Token}
+use Rattle.pli_language.specs.Attributes.{SpellsDeclareItems, declare_items_marks}
+use Rattle.pli_language.specs.Marks.{Marks, expr_marks}
+use Rattle.pli_language.specs.Spells as E
+use Rattle.pli_language.specs.Spells.{Takes, next_kind, place_of, name_at, BeginsAssignment, SpellsExpr, SpellsReference, SpellsArguments}
+use Rattle.pli_language.specs.Heads as G
+use Rattle.pli_language.specs.Heads.{SpellsParameters, SpellsOptions, SpellsInParentheses, SpellsCounting, SpellsHead, parameters_marks, options_marks}
+use Rattle.pli_language.specs.Tree as T
+use Rattle.pli_language.proofs.Unique.{next_taken, begins_expr, expr_begins, reference_begins, reference_same}
 use Rattle.pli_phrase.specs.Tokens.{begins}
 use Rattle.pli_phrase.specs.declared.expression.Beginning.{Beginning}
 use Rattle.pli_phrase.specs.declared.expression.Beginning.TheVariants.{Begins, Differs, Unknown}

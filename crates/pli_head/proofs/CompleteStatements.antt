@@ -1,18 +1,18 @@
 -- Simple statements: what is spelled is read.
 use Rattle.std.proofs.Common.{◌≡◌, ◌≢◌, ℕ, List, ◌∷◌, Option, Some, None, false, refl, sym, ap, ◌∙◌, Ok}
-use Rattle.pli_meaning.specs.declared.expr.Place.{Place}
-use Rattle.pli_meaning.specs.declared.token.Word.{Word}
-use Rattle.pli_meaning.specs.declared.token.Word.TheVariants as W
-use Rattle.pli_meaning.specs.declared.token.Symbol.TheVariants as S
-use Rattle.pli_meaning.specs.declared.token.Kind.TheVariants as K
-use Rattle.pli_meaning.specs.declared.token.Token.{Token}
-use Rattle.pli_meaning.specs.Formats.{Direction, Getting, Putting, pairs_marks, skip_marks}
-use Rattle.pli_meaning.specs.Marks.{Marks, expr_marks, reference_marks, arguments_marks}
-use Rattle.pli_meaning.specs.Spells.{Takes, next_kind, place_of, name_at, SpellsExpr, SpellsReference, SpellsArguments}
-use Rattle.pli_meaning.specs.Heads as G
-use Rattle.pli_meaning.specs.Heads.{Assigns, Opens, BeginsIf, SpellsSimple, SpellsStreamOptions, SpellsEdit, Moves, moving}
-use Rattle.pli_meaning.specs.Tree as T
-use Rattle.pli_meaning.proofs.Unique.{reference_begins}
+use Rattle.pli_language.specs.declared.expr.Place.{Place}
+use Rattle.pli_language.specs.declared.token.Word.{Word}
+use Rattle.pli_language.specs.declared.token.Word.TheVariants as W
+use Rattle.pli_language.specs.declared.token.Symbol.TheVariants as S
+use Rattle.pli_language.specs.declared.token.Kind.TheVariants as K
+use Rattle.pli_language.specs.declared.token.Token.{Token}
+use Rattle.pli_language.specs.Formats.{Direction, Getting, Putting, pairs_marks, skip_marks}
+use Rattle.pli_language.specs.Marks.{Marks, expr_marks, reference_marks, arguments_marks}
+use Rattle.pli_language.specs.Spells.{Takes, next_kind, place_of, name_at, SpellsExpr, SpellsReference, SpellsArguments}
+use Rattle.pli_language.specs.Heads as G
+use Rattle.pli_language.specs.Heads.{Assigns, Opens, BeginsIf, SpellsSimple, SpellsStreamOptions, SpellsEdit, Moves, moving}
+use Rattle.pli_language.specs.Tree as T
+use Rattle.pli_language.proofs.Unique.{reference_begins}
 use Rattle.pli_phrase.specs.Cursor.{Cursor, Read}
 use Rattle.pli_phrase.specs.Tokens.{begins}
 use Rattle.pli_phrase.specs.declared.expression.Beginning.{Beginning}

@@ -1,17 +1,17 @@
 -- Heads: what is read is spelled so and marked so, and what is left out is where it is said to be.
 use Rattle.std.proofs.Common.{◌≡◌, ℕ, ◌<◌, List, length, Some, None, refl, sym, ap, ◌∙◌, subst, arith}
 use Rattle.std.specs.Prelude.{if◌then◌else◌}
-use Rattle.pli_meaning.specs.declared.token.Word.{Word}
-use Rattle.pli_meaning.specs.declared.token.Word.TheVariants as W
-use Rattle.pli_meaning.specs.declared.token.Symbol.TheVariants as S
-use Rattle.pli_meaning.specs.declared.token.Kind.TheVariants as K
-use Rattle.pli_meaning.specs.declared.token.Token.{Token}
-use Rattle.pli_meaning.specs.Attributes.{LeavesOutItems, declare_items_marks}
-use Rattle.pli_meaning.specs.Marks.{Marks, expr_marks}
-use Rattle.pli_meaning.specs.Spells.{Takes, place_of}
-use Rattle.pli_meaning.specs.Heads as G
-use Rattle.pli_meaning.specs.Heads.{Assigns, Opens, SpellsSimple, SpellsCounting, LeavesOutOptions, SpellsHead, parameters_marks, options_marks}
-use Rattle.pli_meaning.specs.Tree as T
+use Rattle.pli_language.specs.declared.token.Word.{Word}
+use Rattle.pli_language.specs.declared.token.Word.TheVariants as W
+use Rattle.pli_language.specs.declared.token.Symbol.TheVariants as S
+use Rattle.pli_language.specs.declared.token.Kind.TheVariants as K
+use Rattle.pli_language.specs.declared.token.Token.{Token}
+use Rattle.pli_language.specs.Attributes.{LeavesOutItems, declare_items_marks}
+use Rattle.pli_language.specs.Marks.{Marks, expr_marks}
+use Rattle.pli_language.specs.Spells.{Takes, place_of}
+use Rattle.pli_language.specs.Heads as G
+use Rattle.pli_language.specs.Heads.{Assigns, Opens, SpellsSimple, SpellsCounting, LeavesOutOptions, SpellsHead, parameters_marks, options_marks}
+use Rattle.pli_language.specs.Tree as T
 use Rattle.pli_phrase.specs.Cursor.{Cursor, Read, onto}
 use Rattle.pli_phrase.specs.Tokens.{begins}
 use Rattle.pli_phrase.specs.declared.expression.Beginning.{Beginning}

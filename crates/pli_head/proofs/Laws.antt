@@ -1,7 +1,7 @@
 -- The laws of the reader of heads, as equations: what is read is spelled so, and what is left out is where it is said to
 -- be. That what is spelled is read, and what is left out is answered, stands with `head_complete` and `head_left_out`.
 use Rattle.std.proofs.Common.{◌≡◌, ℕ, ◌≤◌, List, length, Ok, Err}
-use Rattle.pli_meaning.specs.Heads as G
+use Rattle.pli_language.specs.Heads as G
 use Rattle.pli_phrase.specs.Cursor.{Cursor, LeavesOut}
 use Rattle.pli_attributes.proofs.Posts.{post_is, post_leaves}
 use Rattle.pli_attributes.proofs.AttributeLaws.{Begun}

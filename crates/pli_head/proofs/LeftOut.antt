@@ -1,18 +1,18 @@
 -- Forms that are left out: what the rules say is left out is answered so, and stands at a token from here on.
 use Rattle.std.proofs.Common.{◌≡◌, ℕ, ◌≤◌, List, length, true, refl, ap, ◌∙◌, arith, Err}
-use Rattle.pli_meaning.specs.declared.expr.Place.{Place}
-use Rattle.pli_meaning.specs.declared.token.Word.{Word}
-use Rattle.pli_meaning.specs.declared.token.Word.TheVariants as W
-use Rattle.pli_meaning.specs.declared.token.Kind.TheVariants as K
-use Rattle.pli_meaning.specs.declared.token.Token.{Token}
-use Rattle.pli_meaning.specs.Attributes as D
-use Rattle.pli_meaning.specs.Attributes.{LeavesOutAttributes, LeavesOutItems}
-use Rattle.pli_meaning.specs.Formats.{Direction, Getting, Putting}
-use Rattle.pli_meaning.specs.Marks.{Marks, no_marks}
-use Rattle.pli_meaning.specs.Spells.{Takes, place_of}
-use Rattle.pli_meaning.specs.Heads as G
-use Rattle.pli_meaning.specs.Heads.{SpellsParameters, LeavesOutOptions, is_left_out_head, is_left_out_stream, parameters_marks}
-use Rattle.pli_meaning.specs.Tree as T
+use Rattle.pli_language.specs.declared.expr.Place.{Place}
+use Rattle.pli_language.specs.declared.token.Word.{Word}
+use Rattle.pli_language.specs.declared.token.Word.TheVariants as W
+use Rattle.pli_language.specs.declared.token.Kind.TheVariants as K
+use Rattle.pli_language.specs.declared.token.Token.{Token}
+use Rattle.pli_language.specs.Attributes as D
+use Rattle.pli_language.specs.Attributes.{LeavesOutAttributes, LeavesOutItems}
+use Rattle.pli_language.specs.Formats.{Direction, Getting, Putting}
+use Rattle.pli_language.specs.Marks.{Marks, no_marks}
+use Rattle.pli_language.specs.Spells.{Takes, place_of}
+use Rattle.pli_language.specs.Heads as G
+use Rattle.pli_language.specs.Heads.{SpellsParameters, LeavesOutOptions, is_left_out_head, is_left_out_stream, parameters_marks}
+use Rattle.pli_language.specs.Tree as T
 use Rattle.pli_phrase.specs.Cursor.{Cursor, LeavesOut, onto}
 use Rattle.pli_phrase.specs.declared.expression.Beginning.{Beginning}
 use Rattle.pli_attributes.proofs.Posts.{post_is, post_leaves}

@@ -1,16 +1,16 @@
 -- Simple statements: what is read is spelled so and marked so, and what is left out is where it is said to be.
 use Rattle.std.proofs.Common.{◌≡◌, ℕ, ◌<◌, ◌≤◌, List, ◌∷◌, length, refl, sym, ap, ◌∙◌, subst, arith, Err}
-use Rattle.pli_meaning.specs.declared.token.Word.{Word}
-use Rattle.pli_meaning.specs.declared.token.Word.TheVariants as W
-use Rattle.pli_meaning.specs.declared.token.Symbol.TheVariants as S
-use Rattle.pli_meaning.specs.declared.token.Kind.TheVariants as K
-use Rattle.pli_meaning.specs.declared.token.Token.{Token}
-use Rattle.pli_meaning.specs.Formats.{Direction, Getting, Putting, pairs_marks, skip_marks}
-use Rattle.pli_meaning.specs.Marks.{Marks, expr_marks, reference_marks, arguments_marks}
-use Rattle.pli_meaning.specs.Spells.{Takes, place_of}
-use Rattle.pli_meaning.specs.Heads as G
-use Rattle.pli_meaning.specs.Heads.{BeginsIf, Assigns, Opens, SpellsGoto, SpellsSimple, SpellsAllocations, stream_word, moving, marks_if, freeings_marks}
-use Rattle.pli_meaning.specs.Tree as T
+use Rattle.pli_language.specs.declared.token.Word.{Word}
+use Rattle.pli_language.specs.declared.token.Word.TheVariants as W
+use Rattle.pli_language.specs.declared.token.Symbol.TheVariants as S
+use Rattle.pli_language.specs.declared.token.Kind.TheVariants as K
+use Rattle.pli_language.specs.declared.token.Token.{Token}
+use Rattle.pli_language.specs.Formats.{Direction, Getting, Putting, pairs_marks, skip_marks}
+use Rattle.pli_language.specs.Marks.{Marks, expr_marks, reference_marks, arguments_marks}
+use Rattle.pli_language.specs.Spells.{Takes, place_of}
+use Rattle.pli_language.specs.Heads as G
+use Rattle.pli_language.specs.Heads.{BeginsIf, Assigns, Opens, SpellsGoto, SpellsSimple, SpellsAllocations, stream_word, moving, marks_if, freeings_marks}
+use Rattle.pli_language.specs.Tree as T
 use Rattle.pli_phrase.specs.Cursor.{Cursor}
 use Rattle.pli_phrase.specs.declared.expression.Beginning.{Beginning}
 use Rattle.pli_phrase.specs.declared.expression.Beginning.TheVariants.{Begins, Differs, Unknown}

@@ -1,7 +1,7 @@
 -- How the values of the code show heads.
 use Rattle.std.specs.Prelude.{map}
-use Rattle.pli_meaning.specs.Heads.{Head, ProcedureFront, Declaring, Simple, IfThen, Else, DoGroup, DoWhileGroup, DoCountGroup, BeginBlock, On, System, EndOf}
-use Rattle.pli_meaning.specs.View.{name_of, expr_of, option_of, declare_item_of, procedure_option_of, counting_of, stmt_of}
+use Rattle.pli_language.specs.Heads.{Head, ProcedureFront, Declaring, Simple, IfThen, Else, DoGroup, DoWhileGroup, DoCountGroup, BeginBlock, On, System, EndOf}
+use Rattle.pli_language.specs.View.{name_of, expr_of, option_of, declare_item_of, procedure_option_of, counting_of, stmt_of}
 use Rattle.pli_head.specs.declared.heads.Head.{Head as HeadHeld}
 use Rattle.pli_head.specs.declared.heads.Head.TheVariants as H
 

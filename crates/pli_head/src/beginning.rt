@@ -4,7 +4,7 @@ ghost use Rattle.std.specs.Prelude.{◌≡◌, IfOk};
 ghost use Rattle.pli_phrase.specs.View.{cursor_of};
 ghost use Rattle.pli_head.specs.Reading.{assigns, begins_if, condition_then, while_begins};
 
-use pli_meaning::token::{Kind, Symbol, Word};
+use pli_language::token::{Kind, Symbol, Word};
 use pli_phrase::cursor::{Cursor, Marks};
 use pli_phrase::expression::{Beginning, begins_assignment, expression};
 use pli_phrase::stop::Stop;

@@ -1,9 +1,9 @@
 // The forms of heads.
 
-use pli_meaning::condition::Condition;
-use pli_meaning::declaration::DeclareItem;
-use pli_meaning::expr::{Expr, Name, Place};
-use pli_meaning::stmt::{Counting, ProcedureOption, Stmt};
+use pli_language::condition::Condition;
+use pli_language::declaration::DeclareItem;
+use pli_language::expr::{Expr, Name, Place};
+use pli_language::stmt::{Counting, ProcedureOption, Stmt};
 
 /// A head, with the place of its first token: a procedure's, a declaration, a whole simple statement, or the front of
 /// another one.

@@ -8,6 +8,3 @@ pub mod reading;
 mod statement;
 
 pub use heads::Head;
-
-#[cfg(test)]
-mod tests;

@@ -11,9 +11,9 @@ use crate::group::{closed, declaring, end, group, if_then, on, procedure};
 use crate::heads::Head;
 use crate::statement::{assignment, worded_statement};
 use pli_clause::word;
-use pli_meaning::expr::Place;
-use pli_meaning::stmt::Stmt;
-use pli_meaning::token::{Kind, Symbol, Token, Word};
+use pli_language::expr::Place;
+use pli_language::stmt::Stmt;
+use pli_language::token::{Kind, Symbol, Token, Word};
 use pli_phrase::cursor::Cursor;
 use pli_phrase::expression::Beginning;
 use pli_phrase::stop::Stop;
@@ -21,7 +21,7 @@ use pli_phrase::token::{begins, place, taken};
 use std::alloc::Global;
 
 /// A semicolon alone.
-#[tactic(auto, unfolding(pli_meaning::specs::View::stmt_of))]
+#[tactic(auto, unfolding(pli_language::specs::View::stmt_of))]
 fn null<'a>(cursor: Cursor<'a>) -> Result<(Head, Cursor<'a>), Stop<'a>>
     ensures { Gives (λ x. (head_of x.0, cursor_of x.1)) result (null_from (cursor_of cursor.entry)) }
 {

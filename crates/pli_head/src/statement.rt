@@ -1,17 +1,17 @@
 // Simple statements, up to their semicolons.
 
 ghost use Rattle.std.specs.Prelude.{◌≡◌};
-ghost use Rattle.pli_meaning.specs.Formats.{Getting, Putting};
-ghost use Rattle.pli_meaning.specs.Heads.{is_left_out_head};
-ghost use Rattle.pli_meaning.specs.View.{stmt_of};
+ghost use Rattle.pli_language.specs.Formats.{Getting, Putting};
+ghost use Rattle.pli_language.specs.Heads.{is_left_out_head};
+ghost use Rattle.pli_language.specs.View.{stmt_of};
 ghost use Rattle.pli_phrase.specs.Answers.{Gives};
 ghost use Rattle.pli_phrase.specs.View.{cursor_of};
 ghost use Rattle.pli_head.specs.Reading.{allocate_from, assignment_from, call_from, free_from, go_from, label_from, moved_from, other_from, return_from, revert_from, signal_from, simple_behind};
 
 use pli_clause::{allocations, condition, freeings, value};
-use pli_meaning::expr::Place;
-use pli_meaning::stmt::Stmt;
-use pli_meaning::token::{Kind, Symbol, Token, Word};
+use pli_language::expr::Place;
+use pli_language::stmt::Stmt;
+use pli_language::token::{Kind, Symbol, Token, Word};
 use pli_phrase::cursor::Cursor;
 use pli_phrase::expression::{Beginning, arguments, expression, reference};
 use pli_phrase::stop::Stop;
@@ -20,7 +20,7 @@ use pli_stream::{Direction, transfer};
 use std::alloc::Global;
 
 /// A reference, `=` and an expression.
-#[tactic(auto, unfolding(crate::specs::Reading::assignment_from, pli_meaning::specs::View::stmt_of))]
+#[tactic(auto, unfolding(crate::specs::Reading::assignment_from, pli_language::specs::View::stmt_of))]
 pub fn assignment<'a>(
     alloc: Global,
     source: &[u8],
@@ -43,7 +43,7 @@ pub fn assignment<'a>(
 }
 
 /// Behind CALL: a procedure with its arguments.
-#[tactic(auto, unfolding(pli_meaning::specs::View::stmt_of))]
+#[tactic(auto, unfolding(pli_language::specs::View::stmt_of))]
 fn call<'a>(
     alloc: Global,
     source: &[u8],
@@ -65,7 +65,7 @@ fn call<'a>(
 }
 
 /// Behind RETURN: a value in parentheses, where it stands.
-#[tactic(auto, unfolding(pli_meaning::specs::View::stmt_of))]
+#[tactic(auto, unfolding(pli_language::specs::View::stmt_of))]
 fn returned<'a>(
     alloc: Global,
     source: &[u8],
@@ -79,7 +79,7 @@ fn returned<'a>(
 }
 
 /// Behind GOTO, or behind GO and TO: a label.
-#[tactic(auto, unfolding(pli_meaning::specs::View::stmt_of))]
+#[tactic(auto, unfolding(pli_language::specs::View::stmt_of))]
 fn label<'a>(
     alloc: Global,
     source: &[u8],
@@ -106,7 +106,7 @@ fn go<'a>(
 }
 
 /// Behind SIGNAL: a condition.
-#[tactic(auto, unfolding(pli_meaning::specs::View::stmt_of))]
+#[tactic(auto, unfolding(pli_language::specs::View::stmt_of))]
 fn signal<'a>(place: Place, cursor: Cursor<'a>) -> Result<(Stmt, Cursor<'a>), Stop<'a>>
     ensures { Gives (λ x. (stmt_of x.0, cursor_of x.1)) result (signal_from place (cursor_of cursor.entry)) }
 {
@@ -115,7 +115,7 @@ fn signal<'a>(place: Place, cursor: Cursor<'a>) -> Result<(Stmt, Cursor<'a>), St
 }
 
 /// Behind REVERT: a condition.
-#[tactic(auto, unfolding(pli_meaning::specs::View::stmt_of))]
+#[tactic(auto, unfolding(pli_language::specs::View::stmt_of))]
 fn revert<'a>(place: Place, cursor: Cursor<'a>) -> Result<(Stmt, Cursor<'a>), Stop<'a>>
     ensures { Gives (λ x. (stmt_of x.0, cursor_of x.1)) result (revert_from place (cursor_of cursor.entry)) }
 {
@@ -124,7 +124,7 @@ fn revert<'a>(place: Place, cursor: Cursor<'a>) -> Result<(Stmt, Cursor<'a>), St
 }
 
 /// Behind ALLOCATE.
-#[tactic(auto, unfolding(pli_meaning::specs::View::stmt_of))]
+#[tactic(auto, unfolding(pli_language::specs::View::stmt_of))]
 fn allocate<'a>(
     alloc: Global,
     source: &[u8],
@@ -138,7 +138,7 @@ fn allocate<'a>(
 }
 
 /// Behind FREE.
-#[tactic(auto, unfolding(pli_meaning::specs::View::stmt_of))]
+#[tactic(auto, unfolding(pli_language::specs::View::stmt_of))]
 fn free<'a>(
     alloc: Global,
     source: &[u8],
@@ -152,7 +152,7 @@ fn free<'a>(
 }
 
 /// Behind GET.
-#[tactic(auto, unfolding(pli_meaning::specs::View::stmt_of))]
+#[tactic(auto, unfolding(pli_language::specs::View::stmt_of))]
 fn get<'a>(
     alloc: Global,
     source: &[u8],
@@ -171,7 +171,7 @@ fn get<'a>(
 }
 
 /// Behind PUT.
-#[tactic(auto, unfolding(pli_meaning::specs::View::stmt_of))]
+#[tactic(auto, unfolding(pli_language::specs::View::stmt_of))]
 fn put<'a>(
     alloc: Global,
     source: &[u8],
@@ -233,7 +233,7 @@ fn other<'a>(
 }
 
 /// A simple statement of this word, behind the word, which is the first of `at`.
-#[tactic(auto, unfolding(crate::specs::Reading::simple_behind, pli_meaning::specs::View::stmt_of))]
+#[tactic(auto, unfolding(crate::specs::Reading::simple_behind, pli_language::specs::View::stmt_of))]
 pub fn worded_statement<'a>(
     alloc: Global,
     source: &[u8],

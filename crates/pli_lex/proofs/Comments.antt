@@ -3,8 +3,8 @@ use Rattle.std.proofs.Common.{◌≡◌, ℕ, suc, ◌+◌, ◌<◌, List, [], �
 use Rattle.std.specs.Prelude.{◌&&◌, ◌||◌}
 use Rattle.std.proofs.lemmas.Bool.{eqb-true, and_parts, and_from, or_left, or_right, or_parts, both_ways}
 use Rattle.std.proofs.lemmas.List.{take_at, append-nil, append_cancel_left}
-use Rattle.pli_meaning.specs.declared.fault.SourceKind.TheVariants.{UnclosedComment}
-use Rattle.pli_meaning.specs.Tokens.{is_blank, has_close, opens_comment, IsComment, IsSeparation, nothing, blank, comment, unclosed_comment}
+use Rattle.pli_language.specs.declared.fault.SourceKind.TheVariants.{UnclosedComment}
+use Rattle.pli_language.specs.Tokens.{is_blank, has_close, opens_comment, IsComment, IsSeparation, nothing, blank, comment, unclosed_comment}
 use Rattle.pli_lex.specs.Scanning.{comment_end}
 use Rattle.pli_lex.specs.Pieces.{IsSeparatorAt, IsRefusedAt}
 

@@ -5,9 +5,9 @@ use Rattle.std.specs.List.{list_all, prefix_len}
 use Rattle.std.proofs.lemmas.Bool.{eqb-true, eq-eqb, ne_eqb, leb-true, lt-leb, cond-true, cond-false, and_parts, and_left, and_from, or_from, or_left, or_right, or_cases, or_parts, not-true, not_from_false, both_ways, cases_lt, false_from_ne_true}
 use Rattle.std.proofs.lemmas.List.{take_at, drop_at, get_or_at}
 use Rattle.std.proofs.lemmas.List.Sums.{prefix_len-le-length}
-use Rattle.pli_meaning.specs.declared.token.Kind.TheVariants as K
-use Rattle.pli_meaning.specs.Keywords.{word_named, in_upper_case, same_bytes}
-use Rattle.pli_meaning.specs.Tokens.{is_digit, is_name_start, is_name_byte, quote, opens_comment, number_from, doubled, IsTextOf, NameEnds, Lexeme, Read, Power, OtherBits, Spelled, name, number, text, bit, symbol, power, other_bits, IsLongest, BeginsNone}
+use Rattle.pli_language.specs.declared.token.Kind.TheVariants as K
+use Rattle.pli_language.specs.Keywords.{word_named, in_upper_case, same_bytes}
+use Rattle.pli_language.specs.Tokens.{is_digit, is_name_start, is_name_byte, quote, opens_comment, number_from, doubled, IsTextOf, NameEnds, Lexeme, Read, Power, OtherBits, Spelled, name, number, text, bit, symbol, power, other_bits, IsLongest, BeginsNone}
 use Rattle.pli_lex.specs.Scanning.{stands_as_bits}
 use Rattle.pli_lex.proofs.Texts.{on_line, text_value, Closes, text_value-closes, text_value-longest, doubled-injective}
 use Rattle.pli_lex.proofs.Symbols.{fixed, fixed-symbol, fixed-spelled, fixed-apart, begins_other}

@@ -4,7 +4,7 @@ use Rattle.std.specs.List.{list_all}
 use Rattle.std.proofs.lemmas.Bool.{and_parts, leb-true}
 use Rattle.std.proofs.lemmas.List.{at_drop_more}
 use Rattle.std.proofs.lemmas.List.Sums.{AllPass-from_list_all}
-use Rattle.pli_meaning.specs.Tokens.{is_digit, number_from}
+use Rattle.pli_language.specs.Tokens.{is_digit, number_from}
 
 -- further digits never make less
 pub number_from-grows : (n : ℕ) (digits : List ℕ) → n ≤ number_from n digits

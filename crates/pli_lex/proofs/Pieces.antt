@@ -4,12 +4,12 @@ use Rattle.std.specs.Prelude.{◌&&◌}
 use Rattle.std.specs.List.{list_all, prefix_len}
 use Rattle.std.proofs.lemmas.Bool.{eqb-true, ne_eqb, cond-true, cond-false, and_parts, and_left, or_from, or_left, or_right}
 use Rattle.std.proofs.lemmas.List.Sums.{prefix_len-le-length}
-use Rattle.pli_meaning.specs.declared.token.Kind.{Kind}
-use Rattle.pli_meaning.specs.declared.token.Kind.TheVariants as K
-use Rattle.pli_meaning.specs.declared.token.Symbol.{Symbol}
-use Rattle.pli_meaning.specs.declared.fault.SourceKind.TheVariants.{BadByte, UnclosedText, TooLong, LeftOut}
-use Rattle.pli_meaning.specs.Keywords.{word_named, in_upper_case}
-use Rattle.pli_meaning.specs.Tokens.{is_digit, is_name_start, is_name_byte, quote, opens_comment, number_from, doubled, IsTextOf, Lexeme, Read, Power, OtherBits, IsShort, bad_byte, unclosed_text, too_long, too_long_bits, power, other_bits}
+use Rattle.pli_language.specs.declared.token.Kind.{Kind}
+use Rattle.pli_language.specs.declared.token.Kind.TheVariants as K
+use Rattle.pli_language.specs.declared.token.Symbol.{Symbol}
+use Rattle.pli_language.specs.declared.fault.SourceKind.TheVariants.{BadByte, UnclosedText, TooLong, LeftOut}
+use Rattle.pli_language.specs.Keywords.{word_named, in_upper_case}
+use Rattle.pli_language.specs.Tokens.{is_digit, is_name_start, is_name_byte, quote, opens_comment, number_from, doubled, IsTextOf, Lexeme, Read, Power, OtherBits, IsShort, bad_byte, unclosed_text, too_long, too_long_bits, power, other_bits}
 use Rattle.pli_lex.specs.Scanning.{text_end, stands_as_bits}
 use Rattle.pli_lex.specs.Symbols.{single, pair}
 use Rattle.pli_lex.specs.Pieces.{IsTokenOf, IsRefusedAt, BeginsOther, BeginsNoPair}

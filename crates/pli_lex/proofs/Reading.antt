@@ -5,12 +5,12 @@ use Rattle.std.proofs.lemmas.List.{drop-drop, reverse-append, length-reverse, ap
 use Rattle.std.proofs.lemmas.List.Sums.{count_by-le-length, prefix_len-le-length, sum_by_push, take_while-cons}
 use Rattle.std.specs.List.{prefix_len}
 use Rattle.std.proofs.Math.Seq.{take-add}
-use Rattle.pli_meaning.specs.declared.fault.SourceFault.{SourceFault}
-use Rattle.pli_meaning.specs.declared.fault.SourceKind.{SourceKind}
-use Rattle.pli_meaning.specs.declared.fault.SourceKind.TheVariants.{Memory, TooLong}
-use Rattle.pli_meaning.specs.declared.token.Kind.{Kind}
-use Rattle.pli_meaning.specs.declared.token.Token.{Token}
-use Rattle.pli_meaning.specs.Tokens.{IsSeparation, nothing, Read, IsLongest, IsShort, line_after, column_after, IsTokenAt, Reads, no_more, one_more, most_bytes, most_tokens, Tokens, Breaks, bad_byte, unclosed_comment, unclosed_text, too_long, one_too_many, too_long_bits, power, other_bits, Refuses, source_too_long, at_place}
+use Rattle.pli_language.specs.declared.fault.SourceFault.{SourceFault}
+use Rattle.pli_language.specs.declared.fault.SourceKind.{SourceKind}
+use Rattle.pli_language.specs.declared.fault.SourceKind.TheVariants.{Memory, TooLong}
+use Rattle.pli_language.specs.declared.token.Kind.{Kind}
+use Rattle.pli_language.specs.declared.token.Token.{Token}
+use Rattle.pli_language.specs.Tokens.{IsSeparation, nothing, Read, IsLongest, IsShort, line_after, column_after, IsTokenAt, Reads, no_more, one_more, most_bytes, most_tokens, Tokens, Breaks, bad_byte, unclosed_comment, unclosed_text, too_long, one_too_many, too_long_bits, power, other_bits, Refuses, source_too_long, at_place}
 use Rattle.pli_lex.specs.Scanning.{line_from, column_from}
 use Rattle.pli_lex.specs.Faults.{IsFaultOf, refused}
 use Rattle.pli_lex.specs.Pieces.{IsSeparatorAt, IsTokenOf}

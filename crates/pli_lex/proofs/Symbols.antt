@@ -4,10 +4,10 @@ use Rattle.std.specs.Prelude.{not, ◌==◌, ◌&&◌, ◌||◌, if◌then◌els
 use Rattle.std.specs.List.{list_all}
 use lib.Chars.{codes}
 use Rattle.std.proofs.lemmas.Bool.{eqb-true, cond-false, and_parts, and_left, not-true, both_ways}
-use Rattle.pli_meaning.specs.declared.token.Symbol.{Symbol}
-use Rattle.pli_meaning.specs.declared.token.Symbol.TheVariants as S
-use Rattle.pli_meaning.specs.declared.token.Kind.TheVariants as K
-use Rattle.pli_meaning.specs.Tokens.{is_digit, is_name_start, quote, symbol_spellings, Lexeme, Read, Power, Spelled, symbol, power}
+use Rattle.pli_language.specs.declared.token.Symbol.{Symbol}
+use Rattle.pli_language.specs.declared.token.Symbol.TheVariants as S
+use Rattle.pli_language.specs.declared.token.Kind.TheVariants as K
+use Rattle.pli_language.specs.Tokens.{is_digit, is_name_start, quote, symbol_spellings, Lexeme, Read, Power, Spelled, symbol, power}
 use Rattle.pli_lex.specs.Symbols.{single, single_in, single_bytes, pair, pair_in, byte_pairs}
 
 abbrev pub read_symbol : Option Symbol → Option Lexeme

@@ -3,7 +3,7 @@ use Rattle.std.proofs.Common.{◌≡◌, ℕ, ◌+◌, ◌≤◌, ◌⊎◌, inl
 use Rattle.std.specs.Prelude.{not, if◌then◌else◌, ◌==◌}
 use Rattle.std.specs.List.{list_all}
 use Rattle.std.proofs.lemmas.Bool.{eqb-true, eqb-false, cond-true, cond-false, and_parts, and_from, not-true, not_from_false}
-use Rattle.pli_meaning.specs.Tokens.{is_line_end, quote, doubled}
+use Rattle.pli_language.specs.Tokens.{is_line_end, quote, doubled}
 use Rattle.pli_lex.specs.Scanning.{text_end}
 
 abbrev pub on_line : ℕ → Bool

@@ -3,12 +3,12 @@ use Rattle.std.proofs.Common.{◌≡◌, ℕ, zero, suc, ◌+◌, ◌<◌, ◌�
 use Rattle.std.specs.Prelude.{◌&&◌}
 use Rattle.std.specs.List.{prefix_len}
 use Rattle.std.proofs.lemmas.Bool.{eqb-true, eqb-false, eq-eqb, and_parts, and_from, both_ways, cases_lt}
-use Rattle.pli_meaning.specs.declared.fault.SourceKind.{SourceKind}
-use Rattle.pli_meaning.specs.declared.fault.SourceKind.TheVariants.{BadByte, UnclosedComment, UnclosedText, TooLong, LeftOut}
-use Rattle.pli_meaning.specs.declared.token.Kind.{Kind}
-use Rattle.pli_meaning.specs.declared.token.Symbol.{Symbol}
-use Rattle.pli_meaning.specs.declared.token.Token.{Token}
-use Rattle.pli_meaning.specs.Tokens.{is_blank, is_digit, is_name_start, is_name_byte, quote, opens_comment, number_from, most_bytes, most_tokens, one_too_many, source_too_long}
+use Rattle.pli_language.specs.declared.fault.SourceKind.{SourceKind}
+use Rattle.pli_language.specs.declared.fault.SourceKind.TheVariants.{BadByte, UnclosedComment, UnclosedText, TooLong, LeftOut}
+use Rattle.pli_language.specs.declared.token.Kind.{Kind}
+use Rattle.pli_language.specs.declared.token.Symbol.{Symbol}
+use Rattle.pli_language.specs.declared.token.Token.{Token}
+use Rattle.pli_language.specs.Tokens.{is_blank, is_digit, is_name_start, is_name_byte, quote, opens_comment, number_from, most_bytes, most_tokens, one_too_many, source_too_long}
 use Rattle.pli_lex.specs.Answers.{HasAnswer, has_tokens, has_refusal}
 use Rattle.pli_lex.specs.Scanning.{comment_end, text_end, stands_as_bits}
 use Rattle.pli_lex.specs.Symbols.{single, pair}

@@ -3,13 +3,13 @@ use Rattle.std.proofs.Common.{◌≡◌, ◌≢◌, ℕ, suc, ◌+◌, ◌-◌, 
 use Rattle.std.specs.Prelude.{◌==◌, if◌then◌else◌, slice_range, nat_le}
 use Rattle.std.proofs.lemmas.Bool.{eqb-true, cond-true, cond-false, both_ways, or_cases, le-leb, lt-leb, ne_eqb, and_parts}
 use Rattle.std.proofs.lemmas.List.{append_cancel_right, drop-drop, drop_all, take_rest}
-use Rattle.pli_meaning.specs.declared.fault.SourceFault.{SourceFault}
-use Rattle.pli_meaning.specs.declared.fault.SourceKind.{SourceKind}
-use Rattle.pli_meaning.specs.declared.fault.SourceKind.TheVariants.{BadByte, UnclosedComment, UnclosedText, TooLong, LeftOut}
-use Rattle.pli_meaning.specs.declared.token.Kind.{Kind}
-use Rattle.pli_meaning.specs.declared.token.Kind.TheVariants as K
-use Rattle.pli_meaning.specs.declared.token.Token.{Token}
-use Rattle.pli_meaning.specs.Tokens.{is_blank, quote, opens_comment, doubled, IsTextOf, IsSeparation, Lexeme, Read, Power, OtherBits, IsLongest, IsShort, IsOver, BeginsNone, line_after, column_after, IsTokenAt, Reads, no_more, one_more, most_tokens, Tokens, Breaks, bad_byte, unclosed_comment, unclosed_text, too_long, one_too_many, too_long_bits, power, other_bits, Refuses, source_too_long, at_place}
+use Rattle.pli_language.specs.declared.fault.SourceFault.{SourceFault}
+use Rattle.pli_language.specs.declared.fault.SourceKind.{SourceKind}
+use Rattle.pli_language.specs.declared.fault.SourceKind.TheVariants.{BadByte, UnclosedComment, UnclosedText, TooLong, LeftOut}
+use Rattle.pli_language.specs.declared.token.Kind.{Kind}
+use Rattle.pli_language.specs.declared.token.Kind.TheVariants as K
+use Rattle.pli_language.specs.declared.token.Token.{Token}
+use Rattle.pli_language.specs.Tokens.{is_blank, quote, opens_comment, doubled, IsTextOf, IsSeparation, Lexeme, Read, Power, OtherBits, IsLongest, IsShort, IsOver, BeginsNone, line_after, column_after, IsTokenAt, Reads, no_more, one_more, most_tokens, Tokens, Breaks, bad_byte, unclosed_comment, unclosed_text, too_long, one_too_many, too_long_bits, power, other_bits, Refuses, source_too_long, at_place}
 use Rattle.pli_lex.specs.Faults.{IsFaultOf, out_of_memory, refused, IsOutOfMemory, IsRefusal}
 use Rattle.pli_lex.proofs.Texts.{doubled-injective}
 use Rattle.pli_lex.proofs.Lexemes.{lexeme_at, same_found, lexeme_at-spelled, longest_gives, begins_none-gives}

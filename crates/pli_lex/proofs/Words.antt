@@ -2,7 +2,7 @@
 use Rattle.std.proofs.Common.{◌≡◌, ℕ, suc, ◌+◌, ◌<◌, List, [], ◌∷◌, length, get_or, drop, false, ◌&&◌, refl, sym, ◌∙◌, ap, eqb, arith}
 use Rattle.std.proofs.lemmas.List.{length-map, drop_more}
 use Rattle.std.proofs.lemmas.Bool.{and_right}
-use Rattle.pli_meaning.specs.Keywords.{in_upper_case, same_bytes, upper}
+use Rattle.pli_language.specs.Keywords.{in_upper_case, same_bytes, upper}
 
 -- lists of different lengths differ
 same_bytes-other_length : (a b : List ℕ) → (length a ≡ length b → ⊥) → false ≡ same_bytes a b

@@ -1,8 +1,8 @@
 -- That a source has an answer.
 use Rattle.std.specs.Prelude.{ℕ, List}
-use Rattle.pli_meaning.specs.declared.fault.SourceKind.{SourceKind}
-use Rattle.pli_meaning.specs.declared.token.Token.{Token}
-use Rattle.pli_meaning.specs.Tokens.{Tokens, Refuses}
+use Rattle.pli_language.specs.declared.fault.SourceKind.{SourceKind}
+use Rattle.pli_language.specs.declared.token.Token.{Token}
+use Rattle.pli_language.specs.Tokens.{Tokens, Refuses}
 
 -- a source has tokens, or is refused
 pub data HasAnswer (s : List ℕ) : Type 0 where

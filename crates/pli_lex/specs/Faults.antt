@@ -1,9 +1,9 @@
 -- What a refused source is answered with.
 use Rattle.std.specs.Prelude.{◌≡◌, ◌≢◌, ℕ, List}
-use Rattle.pli_meaning.specs.declared.fault.SourceFault.{SourceFault}
-use Rattle.pli_meaning.specs.declared.fault.SourceKind.{SourceKind}
-use Rattle.pli_meaning.specs.declared.fault.SourceKind.TheVariants.{Memory}
-use Rattle.pli_meaning.specs.Tokens.{Refuses}
+use Rattle.pli_language.specs.declared.fault.SourceFault.{SourceFault}
+use Rattle.pli_language.specs.declared.fault.SourceKind.{SourceKind}
+use Rattle.pli_language.specs.declared.fault.SourceKind.TheVariants.{Memory}
+use Rattle.pli_language.specs.Tokens.{Refuses}
 
 -- a fault is this refusal at this place
 pub record IsRefusal (line column : ℕ) (kind : SourceKind) (fault : SourceFault) : Type 0 where

@@ -1,8 +1,8 @@
 -- What stands at the front of bytes that aren't at their end.
 use Rattle.std.specs.Prelude.{◌≡◌, ◌≢◌, ℕ, ◌<◌, ◌≤◌, List, length, take, slice_index, false, None}
-use Rattle.pli_meaning.specs.declared.fault.SourceKind.{SourceKind}
-use Rattle.pli_meaning.specs.declared.token.Kind.{Kind}
-use Rattle.pli_meaning.specs.Tokens.{is_blank, is_digit, is_name_start, opens_comment, quote, IsSeparation, Read, IsLongest, IsShort, Breaks}
+use Rattle.pli_language.specs.declared.fault.SourceKind.{SourceKind}
+use Rattle.pli_language.specs.declared.token.Kind.{Kind}
+use Rattle.pli_language.specs.Tokens.{is_blank, is_digit, is_name_start, opens_comment, quote, IsSeparation, Read, IsLongest, IsShort, Breaks}
 use Rattle.pli_lex.specs.Symbols.{pair}
 use Rattle.pli_lex.specs.declared.piece.Piece.{Piece}
 use Rattle.pli_lex.specs.declared.piece.Piece.TheVariants as P

@@ -1,6 +1,6 @@
 -- What one pass over the bytes finds: the end of a comment, the end of a text, and the bytes that a text is of.
 use Rattle.std.specs.Prelude.{ℕ, ◌+◌, List, [], ◌∷◌, Bool, true, false, not, ◌==◌, ◌||◌, ◌&&◌, if◌then◌else◌, Option, Some, None}
-use Rattle.pli_meaning.specs.Tokens.{is_line_end, is_name_byte, quote}
+use Rattle.pli_language.specs.Tokens.{is_line_end, is_name_byte, quote}
 
 -- Behind i bytes of a comment, the last of them a star or not: how many bytes reach to the end of the comment.
 abbrev pub comment_end : Bool → ℕ → List ℕ → Option ℕ

@@ -1,7 +1,7 @@
 -- The symbols by their first byte, and those of two bytes.
 use Rattle.std.specs.Prelude.{ℕ, List, [], ◌∷◌, ◌==◌, ◌&&◌, if◌then◌else◌, Option, Some, None}
-use Rattle.pli_meaning.specs.declared.token.Symbol.{Symbol}
-use Rattle.pli_meaning.specs.declared.token.Symbol.TheVariants as S
+use Rattle.pli_language.specs.declared.token.Symbol.{Symbol}
+use Rattle.pli_language.specs.declared.token.Symbol.TheVariants as S
 
 abbrev pub single_bytes : List (ℕ × Symbol)
 single_bytes =

@@ -1,8 +1,8 @@
 -- The table of words from some part of it on, in the parts that the code goes through.
 use Rattle.std.specs.Prelude.{ℕ, List, take, drop}
-use Rattle.pli_meaning.specs.declared.token.Word.{Word}
-use Rattle.pli_meaning.specs.declared.token.Word.TheVariants as W
-use Rattle.pli_meaning.specs.Keywords.{looked_up, structure_words, statements_words, declarations_words, attributes_words, built_ins_words, statements_left_out_words, attributes_left_out_words}
+use Rattle.pli_language.specs.declared.token.Word.{Word}
+use Rattle.pli_language.specs.declared.token.Word.TheVariants as W
+use Rattle.pli_language.specs.Keywords.{looked_up, structure_words, statements_words, declarations_words, attributes_words, built_ins_words, statements_left_out_words, attributes_left_out_words}
 
 unfoldable pub absent_attribute_or_later : List ℕ → Word
 absent_attribute_or_later w = looked_up attributes_left_out_words w W.Other

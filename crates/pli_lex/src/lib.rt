@@ -10,14 +10,14 @@ mod word;
 ghost use Rattle.std.specs.Prelude.{◌≡◌, ℕ, List, ◌⊎◌, MatchResult};
 ghost use Rattle.pli_lex.specs.Answers.{HasAnswer};
 ghost use Rattle.pli_lex.specs.Faults.{IsFaultOf, IsOutOfMemory, IsRefusal};
-ghost use Rattle.pli_meaning.specs.Tokens.{Tokens, Refuses};
-ghost use Rattle.pli_meaning.specs.declared.fault.SourceKind.{SourceKind};
-ghost use Rattle.pli_meaning.specs.declared.token.Token.{Token};
+ghost use Rattle.pli_language.specs.Tokens.{Tokens, Refuses};
+ghost use Rattle.pli_language.specs.declared.fault.SourceKind.{SourceKind};
+ghost use Rattle.pli_language.specs.declared.token.Token.{Token};
 
 use crate::piece::{Piece, next_piece};
 use crate::place::Place;
-use pli_meaning::fault::{SourceFault, SourceKind};
-use pli_meaning::token::Token;
+use pli_language::fault::{SourceFault, SourceKind};
+use pli_language::token::Token;
 use std::alloc::Global;
 
 /// The most bytes of a source.

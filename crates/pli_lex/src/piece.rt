@@ -1,7 +1,7 @@
 // What stands at the front of what is left of a source.
 
 ghost use Rattle.std.specs.Prelude.{◌≡◌, ◌<◌, length, slice_index, IsTrue, MatchOption};
-ghost use Rattle.pli_meaning.specs.Tokens.{is_digit, is_name_start, opens_comment, is_blank};
+ghost use Rattle.pli_language.specs.Tokens.{is_digit, is_name_start, opens_comment, is_blank};
 ghost use Rattle.pli_lex.specs.Pieces.{IsPiece, BeginsOther, BeginsNoPair};
 
 use crate::scan::{
@@ -10,8 +10,8 @@ use crate::scan::{
 };
 use crate::symbol::{pair, single};
 use crate::word::word_of;
-use pli_meaning::fault::SourceKind;
-use pli_meaning::token::{Kind, Symbol};
+use pli_language::fault::SourceKind;
+use pli_language::token::{Kind, Symbol};
 
 // The most bytes of a name.
 const MOST_NAME: usize = 31;

@@ -3,8 +3,8 @@
 ghost use Rattle.std.specs.Prelude.{◌≡◌, ◌+◌, ◌<◌, ◌^◌, length};
 ghost use Rattle.pli_lex.specs.Scanning.{line_from, column_from};
 
-use pli_meaning::fault::{SourceFault, SourceKind};
-use pli_meaning::token::{Kind, Token};
+use pli_language::fault::{SourceFault, SourceKind};
+use pli_language::token::{Kind, Token};
 
 /// A place: the bytes before it, and its line and column, counted from 1, the column in bytes.
 #[derive(Clone, Copy, PartialEq, Eq, Debug)]

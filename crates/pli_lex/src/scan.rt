@@ -2,7 +2,7 @@
 
 ghost use Rattle.std.specs.Prelude.{◌≡◌, ◌<◌, ◌≤◌, ◌-◌, MatchOption, length, false, IsTrue, Some, None};
 ghost use Rattle.std.specs.List.{prefix_len, list_all};
-ghost use Rattle.pli_meaning.specs.Tokens.{is_blank, is_digit, is_name_start, is_name_byte, is_line_end, number_from};
+ghost use Rattle.pli_language.specs.Tokens.{is_blank, is_digit, is_name_start, is_name_byte, is_line_end, number_from};
 ghost use Rattle.pli_lex.specs.Scanning.{comment_end, text_end, stands_as_bits};
 
 const MOST_NUMBER: u32 = 2_147_483_647;

@@ -3,7 +3,7 @@
 ghost use Rattle.std.specs.Prelude.{◌≡◌};
 ghost use Rattle.pli_lex.specs.Symbols.{single, single_in, single_bytes, pair, pair_in, byte_pairs};
 
-use pli_meaning::token::Symbol;
+use pli_language::token::Symbol;
 
 /// The symbol of one byte.
 pub fn single(byte: u8) -> Option<Symbol>

@@ -1,10 +1,10 @@
 // The words that a name can spell.
 
 ghost use Rattle.std.specs.Prelude.{◌≡◌};
-ghost use Rattle.pli_meaning.specs.Keywords.{in_upper_case, same_bytes, word_named};
+ghost use Rattle.pli_language.specs.Keywords.{in_upper_case, same_bytes, word_named};
 ghost use Rattle.pli_lex.specs.Words.{block_or_later, group_or_later, statement_or_later, stream_or_later, condition_or_later, declaration_or_later, attribute_or_later, built_in_or_later, absent_statement_or_later, absent_attribute_or_later};
 
-use pli_meaning::token::Word;
+use pli_language::token::Word;
 
 /// The keyword that a name spells, in letters of either case, or `Other`.
 #[tactic(auto, unfolding(crate::specs::Words::block_or_later, crate::specs::Words::group_or_later, crate::specs::Words::statement_or_later, crate::specs::Words::stream_or_later, crate::specs::Words::condition_or_later, crate::specs::Words::declaration_or_later, crate::specs::Words::attribute_or_later, crate::specs::Words::built_in_or_later, crate::specs::Words::absent_statement_or_later, crate::specs::Words::absent_attribute_or_later))]

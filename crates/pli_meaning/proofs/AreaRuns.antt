@@ -1,12 +1,12 @@
 -- Worked programs with areas and offsets, computed on the storage machine from their typed trees.
-use Rattle.std.proofs.Common.{◌≡◌, pos, [], ◌∷◌, ◌++◌, Some, None, true, false, refl}
+use Rattle.std.proofs.Common.{◌≡◌, pos, [], ◌∷◌, ◌++◌, Some, None, true, false, map, refl}
 use lib.Chars.{codes}
-use Rattle.pli_meaning.specs.declared.condition.Condition.TheVariants as C
+use Rattle.pli_language.specs.declared.condition.Condition.TheVariants as C
 use Rattle.pli_meaning.specs.declared.outcome.End.TheVariants as E
-use Rattle.pli_meaning.specs.Tree as T
-use Rattle.pli_meaning.specs.TypedTree as Y
+use Rattle.pli_language.specs.Tree as T
+use Rattle.pli_typing.specs.TypedTree as Y
 use Rattle.pli_meaning.proofs.RowPieces.{place, automatic, based, whole, located, plain, scalar, part, bounds, initial, leaf, evaluation, refer, member, declared, head, put_pair, procedure, program}
-use Rattle.pli_meaning.proofs.RowRuns.{run_of, computing}
+use Rattle.pli_meaning.proofs.RowRuns.{run_of, run_within, running, computing}
 
 -- T: PROC OPTIONS(MAIN);
 -- DCL P PTR, X FIXED BIN(31) BASED; BEGIN; DCL A AREA(64); ALLOCATE X IN(A) SET(P); END;
@@ -22,7 +22,7 @@ area_ended_with_block =
     [])))) [] None) ∷ [])
 
 area_ended_with_block-runs :
-    run_of area_ended_with_block [] ≡ Some (record { output = []; raised = ((C.Error, 101) ∷ []); end = (E.Error 101 3) })
+    run_of area_ended_with_block [] ≡ Some (record { acts = 6; output = []; raised = ((C.Error, 101) ∷ []); end = (E.Error 101 3) })
 unfolding computing
 area_ended_with_block-runs = refl
 
@@ -47,6 +47,7 @@ area_full_in_two_gaps =
 
 area_full_in_two_gaps-runs :
     run_of area_full_in_two_gaps [] ≡ Some (record {
+      acts = 11;
       output = codes "FULL" ++ (10 ∷ []);
       raised = ((C.Area, 10) ∷ []);
       end =
@@ -80,12 +81,25 @@ area_retry_after_free =
 
 area_retry_after_free-runs :
     run_of area_retry_after_free [] ≡ Some (record {
+      acts = 14;
       output = codes "SAME  0  7" ++ (10 ∷ []);
       raised = ((C.Area, 10) ∷ []);
       end = E.Finished;
     })
 unfolding computing
 area_retry_after_free-runs = refl
+
+area_retry_after_free-goes_on :
+    map (run_within area_retry_after_free []) (3 ∷ 4 ∷ 7 ∷ 11 ∷ 13 ∷ 14 ∷ []) ≡ (
+    running 3 [] [] ∷
+    running 4 [] ((C.Area, 10) ∷ []) ∷
+    running 7 [] ((C.Area, 10) ∷ []) ∷
+    running 11 (codes "SAME") ((C.Area, 10) ∷ []) ∷
+    running 13 (codes "SAME  0  7") ((C.Area, 10) ∷ []) ∷
+    Some (record { acts = 14; output = codes "SAME  0  7" ++ (10 ∷ []); raised = (C.Area, 10) ∷ []; end = E.Finished }) ∷
+    [])
+unfolding computing
+area_retry_after_free-goes_on = refl
 
 -- T: PROC OPTIONS(MAIN);
 -- DCL (A,B) AREA(64), (O1,O2) OFFSET(A), P PTR, X FIXED BIN(31) BASED; ALLOCATE X IN(A) SET(O1), X IN(A) SET(O2); O2->X = 8;
@@ -108,7 +122,7 @@ copy_keeps_offsets =
     2) T.NoFormat)) ∷ []) 2) (Y.EndOfList [])))))))) [] None) ∷ [])
 
 copy_keeps_offsets-runs :
-    run_of copy_keeps_offsets [] ≡ Some (record { output = codes " 8" ++ (10 ∷ []); raised = []; end = E.Finished })
+    run_of copy_keeps_offsets [] ≡ Some (record { acts = 9; output = codes " 8" ++ (10 ∷ []); raised = []; end = E.Finished })
 unfolding computing
 copy_keeps_offsets-runs = refl
 
@@ -137,7 +151,7 @@ least_gap_taken =
     (T.FormatThen place 1 (T.TextFormat None) T.NoFormat)) ∷ []) 2) 2) (Y.EndOfList [])))))) [] None) ∷ [])
 
 least_gap_taken-runs :
-    run_of least_gap_taken [] ≡ Some (record { output = codes "LEAST" ++ (10 ∷ []); raised = []; end = E.Finished })
+    run_of least_gap_taken [] ≡ Some (record { acts = 8; output = codes "LEAST" ++ (10 ∷ []); raised = []; end = E.Finished })
 unfolding computing
 least_gap_taken-runs = refl
 
@@ -153,7 +167,7 @@ list_walked_in_a_copy =
     Y.AutomaticClass (Y.OffsetLeaf (Some (automatic 1 0 0)))) ∷ (scalar Y.AutomaticClass Y.PointerLeaf) ∷ (declared
     Y.BasedClass ((member 0 0) ∷ (member 1 0) ∷ (member 1 0) ∷ []) ((plain (Y.FixedLeaf 31)) ∷ (plain (Y.OffsetLeaf (Some
     (automatic 1 0 0)))) ∷ []) None []) ∷ (scalar Y.AutomaticClass (Y.FixedLeaf 31)) ∷ []) ∷ []) ((procedure (Y.BlockOf (head
-    Y.ProcedureBlock 1 0 1) (Y.StmtThen [] (Y.DoCount (Y.NumberCounter 31 (whole (automatic 1 0 6))) (Y.StoredNumber 31
+    Y.ProcedureBlock 1 0 1) (Y.StmtThen [] (Y.DoCount (Y.NumberCounter 31 (whole (automatic 1 0 6))) (Y.NumberValue 31
     (Y.NumberConstant 1)) (Some (Y.NumberConstant 3)) (Y.NumberConstant 1) None (Y.StmtThen [] (Y.Allocate ((Y.AllocateBased
     (based 1 0 5) (Some (automatic 1 0 0)) (Y.SetPointer (whole (automatic 1 0 4)))) ∷ []) 2) (Y.StmtThen [] (Y.Assign
     (located (Y.PointerIn (whole (automatic 1 0 4))) (based 1 0 5)) (Y.StoredNumber 31 (Y.NumberIn (whole (automatic 1 0 6))))
@@ -170,7 +184,7 @@ list_walked_in_a_copy =
     (automatic 1 0 4)))) (part 1 1) Y.NoNumber))) 2) (Y.EndOfList [])))) 2) (Y.EndOfList []))))))) [] None) ∷ [])
 
 list_walked_in_a_copy-runs :
-    run_of list_walked_in_a_copy [] ≡ Some (record { output = codes "  3  2  1" ++ (10 ∷ []); raised = []; end = E.Finished })
+    run_of list_walked_in_a_copy [] ≡ Some (record { acts = 39; output = codes "  3  2  1" ++ (10 ∷ []); raised = []; end = E.Finished })
 unfolding computing
 list_walked_in_a_copy-runs = refl
 
@@ -187,7 +201,7 @@ offset_into_other_area =
     (Y.PointerIn (whole (automatic 1 0 3))) (automatic 1 0 0))) 2) (Y.EndOfList [])))) [] None) ∷ [])
 
 offset_into_other_area-runs :
-    run_of offset_into_other_area [] ≡ Some (record { output = []; raised = ((C.Error, 110) ∷ []); end = (E.Error 110 2) })
+    run_of offset_into_other_area [] ≡ Some (record { acts = 5; output = []; raised = ((C.Error, 110) ∷ []); end = (E.Error 110 2) })
 unfolding computing
 offset_into_other_area-runs = refl
 
@@ -209,7 +223,7 @@ refer_member_above_extent =
     Y.NoNumber))))) ∷ []) (T.FormatThen place 1 (T.FixedFormat 3) T.NoFormat)) ∷ []) 2) (Y.EndOfList []))))) [] None) ∷ [])
 
 refer_member_above_extent-runs :
-    run_of refer_member_above_extent [] ≡ Some (record { output = []; raised = ((C.Error, 107) ∷ []); end = (E.Error 107 2) })
+    run_of refer_member_above_extent [] ≡ Some (record { acts = 7; output = []; raised = ((C.Error, 107) ∷ []); end = (E.Error 107 2) })
 unfolding computing
 refer_member_above_extent-runs = refl
 
@@ -231,7 +245,7 @@ refer_member_lowered =
     Y.NoNumber))))) ∷ []) (T.FormatThen place 1 (T.FixedFormat 3) T.NoFormat)) ∷ []) 2) (Y.EndOfList []))))) [] None) ∷ [])
 
 refer_member_lowered-runs :
-    run_of refer_member_lowered [] ≡ Some (record { output = []; raised = ((C.Error, 102) ∷ []); end = (E.Error 102 2) })
+    run_of refer_member_lowered [] ≡ Some (record { acts = 7; output = []; raised = ((C.Error, 102) ∷ []); end = (E.Error 102 2) })
 unfolding computing
 refer_member_lowered-runs = refl
 
@@ -256,6 +270,7 @@ refused_area_assignment =
 
 refused_area_assignment-runs :
     run_of refused_area_assignment [] ≡ Some (record {
+      acts = 12;
       output = codes "NO 4" ++ (10 ∷ []);
       raised = ((C.Area, 10) ∷ []);
       end =

@@ -1,14 +1,14 @@
 -- Worked programs with blocks, procedures and loops, computed on the storage machine from their typed trees.
-use Rattle.std.proofs.Common.{◌≡◌, pos, [], ◌∷◌, ◌++◌, Some, None, refl}
+use Rattle.std.proofs.Common.{◌≡◌, pos, [], ◌∷◌, ◌++◌, Some, None, map, refl}
 use lib.Chars.{codes}
-use Rattle.pli_meaning.specs.declared.condition.Condition.TheVariants as C
+use Rattle.pli_language.specs.declared.condition.Condition.TheVariants as C
 use Rattle.pli_meaning.specs.declared.outcome.End.TheVariants as E
 use Rattle.pli_meaning.specs.declared.outcome.Limit.TheVariants as L
-use Rattle.pli_meaning.specs.Numbers.{Negative}
-use Rattle.pli_meaning.specs.Tree as T
-use Rattle.pli_meaning.specs.TypedTree as Y
+use Rattle.pli_typing.specs.TypedTree.{Negative}
+use Rattle.pli_language.specs.Tree as T
+use Rattle.pli_typing.specs.TypedTree as Y
 use Rattle.pli_meaning.proofs.RowPieces.{place, automatic, parameter, whole, plain, scalar, part, bounds, initial, leaf, evaluation, member, declared, head, put_pair, procedure, program}
-use Rattle.pli_meaning.proofs.RowRuns.{run_of, computing}
+use Rattle.pli_meaning.proofs.RowRuns.{run_of, run_within, running, computing}
 
 -- T: PROC OPTIONS(MAIN);
 -- CALL P(3); P: PROC(N); DCL N FIXED BIN(31), A(N) FIXED BIN(31); A = 7; A(2) = 1; PUT EDIT (A) (F(2)); END P;
@@ -27,7 +27,7 @@ adjustable_array =
     (Y.EndOfList []))))) (0 ∷ []) None) ∷ [])
 
 adjustable_array-runs :
-    run_of adjustable_array [] ≡ Some (record { output = codes " 7 1 7" ++ (10 ∷ []); raised = []; end = E.Finished })
+    run_of adjustable_array [] ≡ Some (record { acts = 11; output = codes " 7 1 7" ++ (10 ∷ []); raised = []; end = E.Finished })
 unfolding computing
 adjustable_array-runs = refl
 
@@ -48,7 +48,7 @@ adjustable_array_passed =
     (Y.EndOfList []))))) (0 ∷ []) None) ∷ [])
 
 adjustable_array_passed-runs :
-    run_of adjustable_array_passed [] ≡ Some (record { output = []; raised = ((C.Error, 102) ∷ []); end = (E.Error 102 2) })
+    run_of adjustable_array_passed [] ≡ Some (record { acts = 8; output = []; raised = ((C.Error, 102) ∷ []); end = (E.Error 102 2) })
 unfolding computing
 adjustable_array_passed-runs = refl
 
@@ -69,7 +69,7 @@ argument_by_reference =
     (Y.NumberConstant 1))) 2) (Y.EndOfList []))) (0 ∷ []) None) ∷ [])
 
 argument_by_reference-runs :
-    run_of argument_by_reference [] ≡ Some (record { output = codes " 2" ++ (10 ∷ []); raised = []; end = E.Finished })
+    run_of argument_by_reference [] ≡ Some (record { acts = 10; output = codes " 2" ++ (10 ∷ []); raised = []; end = E.Finished })
 unfolding computing
 argument_by_reference-runs = refl
 
@@ -83,7 +83,7 @@ automatic_just_fits =
     (Y.EndOfList [])) [] None) ∷ [])
 
 automatic_just_fits-runs :
-    run_of automatic_just_fits [] ≡ Some (record { output = []; raised = []; end = E.Finished })
+    run_of automatic_just_fits [] ≡ Some (record { acts = 2; output = []; raised = []; end = E.Finished })
 unfolding computing
 automatic_just_fits-runs = refl
 
@@ -97,7 +97,7 @@ automatic_one_too_many =
     (Y.EndOfList [])) [] None) ∷ [])
 
 automatic_one_too_many-runs :
-    run_of automatic_one_too_many [] ≡ Some (record { output = []; raised = []; end = (E.Limit L.Automatic) })
+    run_of automatic_one_too_many [] ≡ Some (record { acts = 1; output = []; raised = []; end = (E.Limit L.Automatic) })
 unfolding computing
 automatic_one_too_many-runs = refl
 
@@ -109,7 +109,7 @@ bound_of_five_steps =
     1 (T.FixedFormat 5) T.NoFormat)) ∷ []) 1) (Y.EndOfList []))) [] None) ∷ [])
 
 bound_of_five_steps-runs :
-    run_of bound_of_five_steps [] ≡ Some (record { output = codes "    3" ++ (10 ∷ []); raised = []; end = E.Finished })
+    run_of bound_of_five_steps [] ≡ Some (record { acts = 4; output = codes "    3" ++ (10 ∷ []); raised = []; end = E.Finished })
 unfolding computing
 bound_of_five_steps-runs = refl
 
@@ -130,7 +130,7 @@ deep_recursion_in_bound =
     0))) (Y.NumberConstant 1)))) Y.NoArgument))))) 2) (Y.EndOfList [])))) (0 ∷ []) (Some (Y.FixedLeaf 31))) ∷ [])
 
 deep_recursion_in_bound-runs :
-    run_of deep_recursion_in_bound [] ≡ Some (record { output = codes " 80200" ++ (10 ∷ []); raised = []; end = E.Finished })
+    run_of deep_recursion_in_bound [] ≡ Some (record { acts = 1207; output = codes " 80200" ++ (10 ∷ []); raised = []; end = E.Finished })
 unfolding computing
 deep_recursion_in_bound-runs = refl
 
@@ -140,7 +140,7 @@ deep_recursion_in_bound-runs = refl
 abbrev do_counts_down : Y.Program
 do_counts_down =
     program ([] ∷ ((scalar Y.AutomaticClass (Y.FixedLeaf 31)) ∷ []) ∷ []) ((procedure (Y.BlockOf (head Y.ProcedureBlock 1 0 1)
-    (Y.StmtThen [] (Y.DoCount (Y.NumberCounter 31 (whole (automatic 1 0 0))) (Y.StoredNumber 31 (Y.NumberConstant 3)) (Some
+    (Y.StmtThen [] (Y.DoCount (Y.NumberCounter 31 (whole (automatic 1 0 0))) (Y.NumberValue 31 (Y.NumberConstant 3)) (Some
     (Y.NumberConstant 1)) (Y.Signed Negative (Y.NumberConstant 1)) None (Y.StmtThen [] (Y.Put None ((put_pair ((Y.PutValue
     (Y.NumberValue 31 (Y.NumberIn (whole (automatic 1 0 0))))) ∷ []) (T.FormatThen place 1 (T.FixedFormat 2) T.NoFormat)) ∷
     []) 2) (Y.EndOfList [])) 2) (Y.StmtThen [] (Y.Put None ((put_pair ((Y.PutValue (Y.NumberValue 31 (Y.NumberIn (whole
@@ -148,9 +148,22 @@ do_counts_down =
     [])
 
 do_counts_down-runs :
-    run_of do_counts_down [] ≡ Some (record { output = codes " 3 2 1 0" ++ (10 ∷ []); raised = []; end = E.Finished })
+    run_of do_counts_down [] ≡ Some (record { acts = 15; output = codes " 3 2 1 0" ++ (10 ∷ []); raised = []; end = E.Finished })
 unfolding computing
 do_counts_down-runs = refl
+
+do_counts_down-goes_on :
+    map (run_within do_counts_down []) (0 ∷ 4 ∷ 5 ∷ 13 ∷ 14 ∷ 15 ∷ 16 ∷ []) ≡ (
+    running 0 [] [] ∷
+    running 4 [] [] ∷
+    running 5 (codes " 3") [] ∷
+    running 13 (codes " 3 2 1") [] ∷
+    running 14 (codes " 3 2 1 0") [] ∷
+    Some (record { acts = 15; output = codes " 3 2 1 0" ++ (10 ∷ []); raised = []; end = E.Finished }) ∷
+    Some (record { acts = 15; output = codes " 3 2 1 0" ++ (10 ∷ []); raised = []; end = E.Finished }) ∷
+    [])
+unfolding computing
+do_counts_down-goes_on = refl
 
 -- T: PROC OPTIONS(MAIN);
 -- DCL I FIXED BIN(31); DO WHILE (I < 3); PUT EDIT (I) (F(2)); I = I + 1; END;
@@ -165,7 +178,7 @@ do_while_counts =
     2) (Y.EndOfList []))) [] None) ∷ [])
 
 do_while_counts-runs :
-    run_of do_while_counts [] ≡ Some (record { output = codes " 0 1 2" ++ (10 ∷ []); raised = []; end = E.Finished })
+    run_of do_while_counts [] ≡ Some (record { acts = 16; output = codes " 0 1 2" ++ (10 ∷ []); raised = []; end = E.Finished })
 unfolding computing
 do_while_counts-runs = refl
 
@@ -179,9 +192,18 @@ endless_recursion =
     (Y.StmtThen [] (Y.CallProcedure (Y.Calling 2 0 Y.NoArgument) 2) (Y.EndOfList []))) [] None) ∷ [])
 
 endless_recursion-runs :
-    run_of endless_recursion [] ≡ Some (record { output = []; raised = []; end = (E.Limit L.Depth) })
+    run_of endless_recursion [] ≡ Some (record { acts = 1001; output = []; raised = []; end = (E.Limit L.Depth) })
 unfolding computing
 endless_recursion-runs = refl
+
+endless_recursion-goes_on :
+    map (run_within endless_recursion []) (2 ∷ 1000 ∷ 1001 ∷ []) ≡ (
+    running 2 [] [] ∷
+    running 1000 [] [] ∷
+    Some (record { acts = 1001; output = []; raised = []; end = E.Limit L.Depth }) ∷
+    [])
+unfolding computing
+endless_recursion-goes_on = refl
 
 -- T: PROC OPTIONS(MAIN); DCL 1 A, 2 I, 2 B, 3 I; A.I = 1; END;
 abbrev full_match_wins : Y.Program
@@ -192,7 +214,7 @@ full_match_wins =
     None) ∷ [])
 
 full_match_wins-runs :
-    run_of full_match_wins [] ≡ Some (record { output = []; raised = []; end = E.Finished })
+    run_of full_match_wins [] ≡ Some (record { acts = 3; output = []; raised = []; end = E.Finished })
 unfolding computing
 full_match_wins-runs = refl
 
@@ -208,7 +230,7 @@ function_without_value =
     [] (Some (Y.FixedLeaf 31))) ∷ [])
 
 function_without_value-runs :
-    run_of function_without_value [] ≡ Some (record { output = []; raised = ((C.Error, 112) ∷ []); end = (E.Error 112 3) })
+    run_of function_without_value [] ≡ Some (record { acts = 5; output = []; raised = ((C.Error, 112) ∷ []); end = (E.Error 112 3) })
 unfolding computing
 function_without_value-runs = refl
 
@@ -225,7 +247,7 @@ goto_out_of_procedure =
     (T.FixedFormat 2) T.NoFormat)) ∷ []) 2) (Y.EndOfList [])))) [] None) ∷ [])
 
 goto_out_of_procedure-runs :
-    run_of goto_out_of_procedure [] ≡ Some (record { output = codes " 1" ++ (10 ∷ []); raised = []; end = E.Stopped })
+    run_of goto_out_of_procedure [] ≡ Some (record { acts = 8; output = codes " 1" ++ (10 ∷ []); raised = []; end = E.Stopped })
 unfolding computing
 goto_out_of_procedure-runs = refl
 
@@ -247,7 +269,7 @@ names_if_then_else =
     [])))) [] None) ∷ [])
 
 names_if_then_else-runs :
-    run_of names_if_then_else [] ≡ Some (record { output = codes " 5 5" ++ (10 ∷ []); raised = []; end = E.Finished })
+    run_of names_if_then_else [] ≡ Some (record { acts = 7; output = codes " 5 5" ++ (10 ∷ []); raised = []; end = E.Finished })
 unfolding computing
 names_if_then_else-runs = refl
 
@@ -261,7 +283,7 @@ number_too_wide =
     2) (Y.EndOfList []))) [] None) ∷ [])
 
 number_too_wide-runs :
-    run_of number_too_wide [] ≡ Some (record { output = []; raised = ((C.Error, 105) ∷ []); end = (E.Error 105 2) })
+    run_of number_too_wide [] ≡ Some (record { acts = 4; output = []; raised = ((C.Error, 105) ∷ []); end = (E.Error 105 2) })
 unfolding computing
 number_too_wide-runs = refl
 
@@ -273,9 +295,65 @@ put_sum =
     1 (T.FixedFormat 5) T.NoFormat)) ∷ []) 1) (Y.EndOfList []))) [] None) ∷ [])
 
 put_sum-runs :
-    run_of put_sum [] ≡ Some (record { output = codes "    3" ++ (10 ∷ []); raised = []; end = E.Finished })
+    run_of put_sum [] ≡ Some (record { acts = 4; output = codes "    3" ++ (10 ∷ []); raised = []; end = E.Finished })
 unfolding computing
 put_sum-runs = refl
+
+-- T: PROC OPTIONS(MAIN);
+-- DCL I FIXED BIN(31); DO I = 'X' TO 1; END;
+-- END T;
+abbrev start_no_number : Y.Program
+start_no_number =
+    program ([] ∷ ((scalar Y.AutomaticClass (Y.FixedLeaf 31)) ∷ []) ∷ []) ((procedure (Y.BlockOf (head Y.ProcedureBlock 1 0 1)
+    (Y.StmtThen [] (Y.DoCount (Y.NumberCounter 31 (whole (automatic 1 0 0))) (Y.TextValue (Y.TextConstant (codes "X"))) (Some
+    (Y.NumberConstant 1)) (Y.NumberConstant 1) None (Y.EndOfList []) 2) (Y.EndOfList []))) [] None) ∷ [])
+
+start_no_number-runs :
+    run_of start_no_number [] ≡ Some (record { acts = 4; output = []; raised = ((C.Error, 104) ∷ []); end = (E.Error 104 2) })
+unfolding computing
+start_no_number-runs = refl
+
+-- T: PROC OPTIONS(MAIN);
+-- DCL I FIXED BIN(31); DO I = 'X' TO 1/0; END;
+-- END T;
+abbrev start_converted_behind_limit : Y.Program
+start_converted_behind_limit =
+    program ([] ∷ ((scalar Y.AutomaticClass (Y.FixedLeaf 31)) ∷ []) ∷ []) ((procedure (Y.BlockOf (head Y.ProcedureBlock 1 0 1)
+    (Y.StmtThen [] (Y.DoCount (Y.NumberCounter 31 (whole (automatic 1 0 0))) (Y.TextValue (Y.TextConstant (codes "X"))) (Some
+    (Y.Calculated Y.Quotient (Y.NumberConstant 1) (Y.NumberConstant 0))) (Y.NumberConstant 1) None (Y.EndOfList []) 2)
+    (Y.EndOfList []))) [] None) ∷ [])
+
+start_converted_behind_limit-runs :
+    run_of start_converted_behind_limit [] ≡ Some (record {
+      acts = 5;
+      output = [];
+      raised = ((C.ZeroDivide, 30) ∷ (C.Error, 30) ∷ []);
+      end =
+          (E.Error 30 2);
+    })
+unfolding computing
+start_converted_behind_limit-runs = refl
+
+-- T: PROC OPTIONS(MAIN);
+-- DCL I FIXED BIN(1); DO I = 4 BY 1/0; END;
+-- END T;
+abbrev start_checked_behind_step : Y.Program
+start_checked_behind_step =
+    program ([] ∷ ((scalar Y.AutomaticClass (Y.FixedLeaf 1)) ∷ []) ∷ []) ((procedure (Y.BlockOf (head Y.ProcedureBlock 1 0 1)
+    (Y.StmtThen [] (Y.DoCount (Y.NumberCounter 1 (whole (automatic 1 0 0))) (Y.NumberValue 31 (Y.NumberConstant 4)) None
+    (Y.Calculated Y.Quotient (Y.NumberConstant 1) (Y.NumberConstant 0)) None (Y.EndOfList []) 2) (Y.EndOfList []))) [] None) ∷
+    [])
+
+start_checked_behind_step-runs :
+    run_of start_checked_behind_step [] ≡ Some (record {
+      acts = 5;
+      output = [];
+      raised = ((C.ZeroDivide, 30) ∷ (C.Error, 30) ∷ []);
+      end =
+          (E.Error 30 2);
+    })
+unfolding computing
+start_checked_behind_step-runs = refl
 
 -- T: PROC OPTIONS(MAIN);
 -- PUT EDIT (2147483647+1) (F(9));
@@ -288,6 +366,7 @@ sum_too_large =
 
 sum_too_large-runs :
     run_of sum_too_large [] ≡ Some (record {
+      acts = 5;
       output = [];
       raised = ((C.FixedOverflow, 20) ∷ (C.Error, 20) ∷ []);
       end =
@@ -307,6 +386,7 @@ zero_divide_ends =
 
 zero_divide_ends-runs :
     run_of zero_divide_ends [] ≡ Some (record {
+      acts = 5;
       output = [];
       raised = ((C.ZeroDivide, 30) ∷ (C.Error, 30) ∷ []);
       end =

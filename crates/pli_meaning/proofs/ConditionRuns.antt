@@ -1,13 +1,13 @@
 -- Worked programs with on-units, computed on the storage machine from their typed trees.
-use Rattle.std.proofs.Common.{◌≡◌, [], ◌∷◌, ◌++◌, Some, None, refl}
+use Rattle.std.proofs.Common.{◌≡◌, [], ◌∷◌, ◌++◌, Some, None, map, refl}
 use lib.Chars.{codes}
-use Rattle.pli_meaning.specs.declared.condition.Condition.TheVariants as C
+use Rattle.pli_language.specs.declared.condition.Condition.TheVariants as C
 use Rattle.pli_meaning.specs.declared.outcome.End.TheVariants as E
-use Rattle.pli_meaning.specs.Numbers.{Negative}
-use Rattle.pli_meaning.specs.Tree as T
-use Rattle.pli_meaning.specs.TypedTree as Y
+use Rattle.pli_typing.specs.TypedTree.{Negative}
+use Rattle.pli_language.specs.Tree as T
+use Rattle.pli_typing.specs.TypedTree as Y
 use Rattle.pli_meaning.proofs.RowPieces.{place, automatic, whole, scalar, head, put_pair, procedure, program}
-use Rattle.pli_meaning.proofs.RowRuns.{run_of, computing}
+use Rattle.pli_meaning.proofs.RowRuns.{run_of, run_within, running, computing}
 
 -- T: PROC OPTIONS(MAIN);
 -- DCL X FIXED BIN(31); ON ZERODIVIDE PUT EDIT (1) (F(2)); CALL Q; L: X = 1 / 0; STOP; Q: PROC; ON ZERODIVIDE PUT EDIT (2)
@@ -27,6 +27,7 @@ goto_drops_units =
 
 goto_drops_units-runs :
     run_of goto_drops_units [] ≡ Some (record {
+      acts = 13;
       output = codes " 1" ++ (10 ∷ []);
       raised = ((C.ZeroDivide, 30) ∷ []);
       end =
@@ -34,6 +35,18 @@ goto_drops_units-runs :
     })
 unfolding computing
 goto_drops_units-runs = refl
+
+goto_drops_units-goes_on :
+    map (run_within goto_drops_units []) (7 ∷ 8 ∷ 10 ∷ 11 ∷ 12 ∷ 13 ∷ []) ≡ (
+    running 7 [] [] ∷
+    running 8 [] ((C.ZeroDivide, 30) ∷ []) ∷
+    running 10 [] ((C.ZeroDivide, 30) ∷ []) ∷
+    running 11 (codes " 1") ((C.ZeroDivide, 30) ∷ []) ∷
+    running 12 (codes " 1") ((C.ZeroDivide, 30) ∷ []) ∷
+    Some (record { acts = 13; output = codes " 1" ++ (10 ∷ []); raised = (C.ZeroDivide, 30) ∷ []; end = E.Stopped }) ∷
+    [])
+unfolding computing
+goto_drops_units-goes_on = refl
 
 -- T: PROC OPTIONS(MAIN);
 -- DCL X FIXED BIN(31); ON FIXEDOVERFLOW; X = (-2147483647 - 1) / (-1); PUT EDIT (X) (F(12));
@@ -49,6 +62,7 @@ quotient_overflow =
 
 quotient_overflow-runs :
     run_of quotient_overflow [] ≡ Some (record {
+      acts = 9;
       output = codes " -2147483648" ++ (10 ∷ []);
       raised = ((C.FixedOverflow, 20) ∷
           []);
@@ -72,6 +86,7 @@ revert_restores_system =
 
 revert_restores_system-runs :
     run_of revert_restores_system [] ≡ Some (record {
+      acts = 12;
       output = codes " 1" ++ (10 ∷ []);
       raised = ((C.ZeroDivide, 30) ∷
           (C.ZeroDivide, 30) ∷ (C.Error, 30) ∷ []);
@@ -99,6 +114,7 @@ unit_found_by_numbers =
 
 unit_found_by_numbers-runs :
     run_of unit_found_by_numbers [] ≡ Some (record {
+      acts = 15;
       output = codes " 2 199" ++ (10 ∷ []);
       raised = ((C.Error, 199) ∷ []);
       end

@@ -4,17 +4,17 @@ use Rattle.std.specs.Prelude.{ℤ, slice_get, nat_le, nat_lt, ◌==◌, cond, Ok
 use Rattle.std.proofs.lemmas.Bool.Decides.{nat_tests}
 use Rattle.std.proofs.lemmas.Bool.{eq-eqb, le-leb, le-ltb}
 use Rattle.std.proofs.Math.Nat.{mod-eq_of_lt}
-use Rattle.pli_meaning.specs.declared.instr.Fault.TheVariants.{Misaligned, Range}
-use Rattle.pli_meaning.specs.declared.instr.Register.{Register}
-use Rattle.pli_meaning.specs.declared.instr.BranchTest.{BranchTest}
-use Rattle.pli_meaning.specs.declared.instr.LoadKind.TheVariants as L
-use Rattle.pli_meaning.specs.declared.instr.StoreKind.TheVariants as S
-use Rattle.pli_meaning.specs.declared.instr.Fault.{Fault}
-use Rattle.pli_meaning.specs.declared.instr.Instr.{Instr}
-use Rattle.pli_meaning.specs.declared.instr.Instr.TheVariants as I
-use Rattle.pli_meaning.specs.Words.{word, sum, operated, immediate_operated, shift_operated, holds_of}
-use Rattle.pli_meaning.specs.Memory.{load, store}
-use Rattle.pli_meaning.specs.Machine.{Loaded, State, Effect, Goes, Faults, memory_size, IsValidBase, effect, of_fetched, fetched, executed, written, place_of, with_value, stored, loaded, branched}
+use Rattle.rv_meaning.specs.declared.instr.Fault.TheVariants.{Misaligned, Range}
+use Rattle.rv_meaning.specs.declared.instr.Register.{Register}
+use Rattle.rv_meaning.specs.declared.instr.BranchTest.{BranchTest}
+use Rattle.rv_meaning.specs.declared.instr.LoadKind.TheVariants as L
+use Rattle.rv_meaning.specs.declared.instr.StoreKind.TheVariants as S
+use Rattle.rv_meaning.specs.declared.instr.Fault.{Fault}
+use Rattle.rv_meaning.specs.declared.instr.Instr.{Instr}
+use Rattle.rv_meaning.specs.declared.instr.Instr.TheVariants as I
+use Rattle.rv_meaning.specs.Words.{word, sum, operated, immediate_operated, shift_operated, holds_of}
+use Rattle.rv_meaning.specs.Memory.{load, store}
+use Rattle.rv_meaning.specs.Machine.{Loaded, State, Effect, Goes, Faults, memory_size, IsValidBase, effect, of_fetched, fetched, executed, written, place_of, with_value, stored, loaded, branched}
 use Rattle.pli_meaning.specs.Services.{Service, Done, serves}
 use Rattle.pli_meaning.specs.Headline.{Whole, Run, Runs, Ended, Stopped, next, of_effect, answered, run_on}
 

@@ -1,14 +1,14 @@
 -- What a program shows grows with the acts allowed: the law of each step, walked over the language once.
 use Rattle.std.proofs.Common.{◌≡◌, ◌≢◌, ℕ, zero, suc, ◌≤◌, ℤ, List, [], ◌∷◌, Option, Some, None, refl, sym, ap, ◌∙◌, subst, arith}
-use Rattle.pli_meaning.specs.declared.condition.Condition.{Condition}
-use Rattle.pli_meaning.specs.declared.condition.Condition.TheVariants as C
+use Rattle.pli_language.specs.declared.condition.Condition.{Condition}
+use Rattle.pli_language.specs.declared.condition.Condition.TheVariants as C
 use Rattle.pli_meaning.specs.declared.outcome.End.TheVariants as E
 use Rattle.pli_meaning.specs.declared.outcome.Limit.TheVariants as L
 use Rattle.pli_meaning.specs.Codes.{no_generation_code, too_wide_code}
 use Rattle.pli_meaning.specs.World.{World, first_world}
 use Rattle.pli_meaning.specs.Stream.{fixed_field}
 use Rattle.pli_meaning.specs.Numbers.{Checked, Gives, Raises, checked, sign_applied, operator_applied}
-use Rattle.pli_meaning.specs.Signatures.{Signature}
+use Rattle.pli_typing.specs.Signatures.{Signature}
 use Rattle.pli_meaning.specs.Typed.{Variable, Number, Constant, Fetched, Grouped, Signed, Operated, FormatItem, FixedItem, EditPair, BlockKind, ProcedureBlock, BeginBlock, UnitBlock, Stmt, Null, Assign, Put, Stmts, NoStmt, StmtThen, Block, BlockOf, Program}
 use Rattle.pli_meaning.specs.Storage.{Name, NullName, VariableName, BasedName, Generation, OnUnit, SystemUnit, BlockUnit, Activation, State, first_state, generation_of, named, force}
 use Rattle.pli_meaning.specs.Flow.{Flow, Normal, Jump, Return, Ended, Paused, Stuck, Meaning, stuck, finish}

@@ -1,6 +1,6 @@
 -- The order in which GET and PUT go through aggregates, computed.
 use Rattle.std.proofs.Common.{◌≡◌, ℕ, pos, List, [], ◌∷◌, refl}
-use Rattle.pli_meaning.specs.Signatures.{Bounds, Leaf, Fixed}
+use Rattle.pli_typing.specs.Signatures.{Bounds, Leaf, Fixed}
 use Rattle.pli_meaning.specs.StreamOrder.{elements_in_order}
 use Rattle.pli_meaning.proofs.RowPieces.{member}
 

@@ -1,8 +1,8 @@
 -- Short words for the parts of typed trees.
 use Rattle.std.proofs.Common.{ℕ, List, [], ◌∷◌, Option, None}
-use Rattle.pli_meaning.specs.declared.expr.Place.{Place}
-use Rattle.pli_meaning.specs.Tree as T
-use Rattle.pli_meaning.specs.TypedTree as Y
+use Rattle.pli_language.specs.declared.expr.Place.{Place}
+use Rattle.pli_language.specs.Tree as T
+use Rattle.pli_typing.specs.TypedTree as Y
 
 abbrev pub place : Place
 place = record { line = 1; column = 1 }

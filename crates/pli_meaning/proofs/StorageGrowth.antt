@@ -2,18 +2,19 @@
 -- is, and a run does at most the acts allowed.
 use Rattle.std.proofs.Common.{ℕ, zero, suc, ◌+◌, ◌≤◌, ℤ, List, [], ◌∷◌, ◌++◌, Option, Some, None, Bool, true, false, arith}
 use Rattle.std.specs.Prelude.{nat_le, cond, replicate}
-use Rattle.pli_meaning.specs.declared.condition.Condition.{Condition}
-use Rattle.pli_meaning.specs.declared.condition.Condition.TheVariants as C
+use Rattle.pli_language.specs.declared.condition.Condition.{Condition}
+use Rattle.pli_language.specs.declared.condition.Condition.TheVariants as C
 use Rattle.pli_meaning.specs.declared.outcome.End.TheVariants as E
 use Rattle.pli_meaning.specs.declared.outcome.Limit.TheVariants as L
 use Rattle.pli_meaning.specs.Laws.{IsPrefix}
 use Rattle.pli_meaning.specs.Numbers.{Checked, Gives, Raises}
-use Rattle.pli_meaning.specs.Signatures as D
-use Rattle.pli_meaning.specs.Signatures.{LeafKind}
+use Rattle.pli_typing.specs.Signatures as D
+use Rattle.pli_typing.specs.Signatures.{LeafKind}
 use Rattle.pli_meaning.specs.Stream.{column_of, line_feed, blanks}
-use Rattle.pli_meaning.specs.TypedTree as Y
+use Rattle.pli_typing.specs.TypedTree as Y
 use Rattle.pli_meaning.proofs.Steps.{prefix_append, counted_shows, raising_shows, field_shows}
-use Rattle.pli_meaning.specs.Contents.{Name, NullName, VariableName, BasedName, Value, Shape, Generation}
+use Rattle.pli_meaning.specs.BasicValues.{Name, NullName, VariableName, BasedName, BasicValue}
+use Rattle.pli_meaning.specs.Contents.{Shape, Generation}
 use Rattle.pli_meaning.specs.StorageState.{OnUnit, SystemUnit, BlockUnit, Activation, force, AreaContents}
 use Rattle.pli_meaning.specs.Control.{Label, Meaning, finish}
 use Rattle.pli_meaning.specs.Raising as G
@@ -24,7 +25,7 @@ use Rattle.pli_meaning.specs.Placing as A
 use Rattle.pli_meaning.specs.StreamOrder.{Element}
 use Rattle.pli_meaning.specs.Streaming as S
 use Rattle.pli_meaning.specs.Executing as M
-use Rattle.pli_meaning.proofs.StorageSteps.{written_shows, Agree, give_agrees, stuck_agrees, stuck_self, bind_agrees, then_agrees, looked_agrees, stored_agrees, act_agrees, finish_agrees, returns_agrees, jumps_agrees, choose_agrees, given_agrees, leaving_agrees, leaving_on_agrees, while_agrees, list_agrees}
+use Rattle.pli_meaning.proofs.StorageSteps.{written_shows, Agree, give_agrees, stuck_agrees, stuck_self, bind_agrees, then_agrees, looked_agrees, stored_agrees, act_agrees, finish_agrees, returns_agrees, jumps_agrees, choose_agrees, given_agrees, leaving_agrees, while_agrees, list_agrees}
 
 -- ---- what stands around
 
@@ -155,7 +156,7 @@ unfolding V.procedure_entered
 procedure_entered_agrees None level passed h = stuck_self
 procedure_entered_agrees (Some q) level passed h = bind_agrees looked_agrees (λ s. h.agree _)
 
-returned_agrees : (v : Option Value) → Agree (V.returned v) (V.returned v)
+returned_agrees : (v : Option BasicValue) → Agree (V.returned v) (V.returned v)
 unfolding V.returned
 returned_agrees None = stuck_self
 returned_agrees (Some v) = give_agrees v
@@ -304,11 +305,11 @@ parameters_bound_agree (v ∷ vs) [] = stuck_self
 
 -- ---- storage that changes
 
-element_stored_agrees : (d : V.Designated) (v : Value) → Agree (A.element_stored d v) (A.element_stored d v)
+element_stored_agrees : (d : V.Designated) (v : BasicValue) → Agree (A.element_stored d v) (A.element_stored d v)
 unfolding A.element_stored
 element_stored_agrees d v = stored_agrees _
 
-elements_stored_agrees : (d : V.Designated) (values : ℕ → List ℤ → Value) → Agree (A.elements_stored d values) (A.elements_stored d values)
+elements_stored_agrees : (d : V.Designated) (values : ℕ → List ℤ → BasicValue) → Agree (A.elements_stored d values) (A.elements_stored d values)
 unfolding A.elements_stored
 elements_stored_agrees d values = stored_agrees _
 
@@ -433,21 +434,21 @@ unfolding S.next_item
 next_item_agrees carried_out whole rest a =
     bind_agrees (controls_agree carried_out rest a) (λ found. given_agrees found (λ x. give_agrees x) (bind_agrees (controls_agree carried_out whole a) (λ again. given_agrees again (λ x. give_agrees x) stuck_self)))
 
-shown_by_agrees : (v : S.Shown) (f : S.DataItem) → Agrees (λ a. S.shown_by a v f)
+shown_by_agrees : (v : V.Computational) (f : S.DataItem) → Agrees (λ a. S.shown_by a v f)
 unfolding S.shown_by
 shown_by_agrees v (S.FixedItem width) h =
     bind_agrees (or_error_agrees _ _ h) (λ z. bind_agrees (or_error_agrees _ _ h) (λ field. act_agrees (field_shows field)))
 shown_by_agrees v (S.TextItem None) h = act_agrees (field_shows _)
 shown_by_agrees v (S.TextItem (Some width)) h = act_agrees (field_shows _)
 
-value_shown_agrees : (x : Y.Value) → Agrees (λ a. S.value_shown a x)
-unfolding S.value_shown
-value_shown_agrees (Y.NumberValue precision e) h = bind_agrees (number_agrees e h) (λ z. give_agrees _)
-value_shown_agrees (Y.TextValue e) h = bind_agrees (text_agrees e h) (λ t. give_agrees _)
-value_shown_agrees (Y.BitValue e) h = bind_agrees (bit_agrees e h) (λ b. give_agrees _)
-value_shown_agrees (Y.PointerValue e) h = stuck_self
-value_shown_agrees (Y.OffsetValue area e) h = stuck_self
-value_shown_agrees Y.NullValue h = stuck_self
+computational_agrees : (x : Y.Value) → Agrees (λ a. V.computational a x)
+unfolding V.computational
+computational_agrees (Y.NumberValue precision e) h = bind_agrees (number_agrees e h) (λ z. give_agrees _)
+computational_agrees (Y.TextValue e) h = bind_agrees (text_agrees e h) (λ t. give_agrees _)
+computational_agrees (Y.BitValue e) h = bind_agrees (bit_agrees e h) (λ b. give_agrees _)
+computational_agrees (Y.PointerValue e) h = stuck_self
+computational_agrees (Y.OffsetValue area e) h = stuck_self
+computational_agrees Y.NullValue h = stuck_self
 
 element_designated_agrees : (d : V.Designated) (x : Element) → Agrees (λ a. S.element_designated a d x)
 unfolding S.element_designated
@@ -468,7 +469,7 @@ elements_put_agree whole rest d (x ∷ xs) h =
 item_put_agrees : (whole rest : List S.FormatItem) (x : Y.PutItem) → Agrees (λ a. S.item_put a whole rest x)
 unfolding S.item_put
 item_put_agrees whole rest (Y.PutValue e) h =
-    bind_agrees (value_shown_agrees e h) (λ v. bind_agrees (next_item_agrees S.control_put whole rest control_put_agrees) (λ next. then_agrees (shown_by_agrees v next.0 h) (give_agrees next.1)))
+    bind_agrees (computational_agrees e h) (λ v. bind_agrees (next_item_agrees S.control_put whole rest control_put_agrees) (λ next. then_agrees (shown_by_agrees v next.0 h) (give_agrees next.1)))
 item_put_agrees whole rest (Y.PutAggregate (Y.Referring v locator part subscripts)) h =
     bind_agrees (designated_agrees (Y.Referring v locator part subscripts) h) (λ d. elements_put_agree whole rest d _ h)
 
@@ -570,11 +571,11 @@ get_agrees (Some n) xs h = then_agrees (control_got_agrees (S.SkipItem n)) (pair
 
 -- ---- statements
 
-assigned_agrees : (r : Y.Reference) (v : Value) → Agrees (λ a. M.assigned a r v)
+assigned_agrees : (r : Y.Reference) (v : BasicValue) → Agrees (λ a. M.assigned a r v)
 unfolding M.assigned
 assigned_agrees r v h = bind_agrees (designated_agrees r h) (λ d. element_stored_agrees d v)
 
-elements_assigned_agrees : (r : Y.Reference) (v : Value) → Agrees (λ a. M.elements_assigned a r v)
+elements_assigned_agrees : (r : Y.Reference) (v : BasicValue) → Agrees (λ a. M.elements_assigned a r v)
 unfolding M.elements_assigned
 elements_assigned_agrees r v h = bind_agrees (designated_agrees r h) (λ d. elements_stored_agrees d _)
 
@@ -587,6 +588,12 @@ counter_value_agrees : (c : Y.Counter) (z : ℤ) → Agrees (λ a. M.counter_val
 unfolding M.counter_value
 counter_value_agrees (Y.NumberCounter precision r) z h = bind_agrees (value_of_agrees _ h) (λ y. give_agrees _)
 counter_value_agrees (Y.TextCounter r) z h = give_agrees _
+
+counter_started_agrees : (c : Y.Counter) (v : V.Computational) → Agrees (λ a. M.counter_started a c v)
+unfolding M.counter_started
+counter_started_agrees (Y.NumberCounter precision r) v h =
+    bind_agrees (or_error_agrees _ _ h) (λ z. counter_value_agrees (Y.NumberCounter precision r) z h)
+counter_started_agrees (Y.TextCounter r) v h = give_agrees _
 
 stepped_agrees : (c : Y.Counter) (step : ℤ) → Agrees (λ a. M.stepped a c step)
 unfolding M.stepped
@@ -666,13 +673,14 @@ mutual
       then_agrees (act_agrees counted_shows) (bind_agrees (stored_value_agrees start (on_line line h)) (λ v. then_agrees (assigned_agrees variable v (on_line line h))
       (once_agrees condition (on_line line h) (list_with_agrees _ h (λ x. statements_agree body x h) (λ x. statements_agree body x (twice h))))))
   statement_agrees (Y.DoCount counter start limit step condition body line) h =
-      then_agrees (act_agrees counted_shows) (bind_agrees (stored_value_agrees start (on_line line h)) (λ v.
+      then_agrees (act_agrees counted_shows) (bind_agrees (computational_agrees start (on_line line h)) (λ v.
       bind_agrees (limit_of_agrees limit (on_line line h)) (λ most. bind_agrees (number_agrees step (on_line line h)) (λ by.
-      then_agrees (assigned_agrees _ v (on_line line h)) (while_agrees h.turns h.turns' h.no_fewer
+      bind_agrees (counter_started_agrees counter v (on_line line h)) (λ first.
+      then_agrees (assigned_agrees _ first (on_line line h)) (while_agrees h.turns h.turns' h.no_fewer
       (turn_due_agrees counter most by condition (on_line line h))
       (then_agrees (list_with_agrees _ h (λ x. statements_agree body x h) (λ x. statements_agree body x (twice h))) (stepped_agrees counter by (on_line line h)))
       (turn_due_agrees counter most by condition (on_line line (twice h)))
-      (then_agrees (list_with_agrees _ (twice h) (λ x. statements_agree body x (twice h)) (λ x. statements_agree body x (twice h))) (stepped_agrees counter by (on_line line (twice h)))))))))
+      (then_agrees (list_with_agrees _ (twice h) (λ x. statements_agree body x (twice h)) (λ x. statements_agree body x (twice h))) (stepped_agrees counter by (on_line line (twice h))))))))))
   statement_agrees (Y.Begin (Y.BlockOf head body)) h =
       then_agrees (act_agrees counted_shows) (bind_agrees looked_agrees (λ s. then_agrees (h.agree _) (give_agrees tt)))
   statement_agrees (Y.OnSystem c line) h = established_by_agrees c _
@@ -726,18 +734,11 @@ block_body_agrees head body entry h =
     then_agrees (parameters_bound_agree entry.parameters entry.arguments) (then_agrees (block_variables_made_agree head head.kind h)
     (then_agrees (entry_act_agrees head.kind) (then_agrees (list_agrees_with body h) (end_reached_agrees entry.is_function h))))
 
-leaving_block_agrees : (kind : Y.BlockKind) {m m' : Meaning (Unit {0})} → Agree m m' → Agree (M.leaving_block kind m) (M.leaving_block kind m')
-unfolding M.leaving_block
-leaving_block_agrees Y.ProcedureBlock a = leaving_agrees _ a
-leaving_block_agrees Y.BeginBlock a = leaving_on_agrees _ a
-leaving_block_agrees Y.UnitBlock a = leaving_agrees _ a
-leaving_block_agrees Y.SimpleUnit a = leaving_agrees _ a
-
 block_run_agrees : (b : Y.Block) (entry : Entry) → Agrees (λ a. M.block_run a b entry)
 unfolding M.block_run
 block_run_agrees (Y.BlockOf head body) entry h =
     bind_agrees looked_agrees (λ s. choose_agrees _
-    (then_agrees (stored_agrees _) (leaving_block_agrees head.kind (block_body_agrees head body entry (on_line head.line h))))
+    (then_agrees (stored_agrees _) (leaving_agrees _ _ (block_body_agrees head body entry (on_line head.line h))))
     (finish_agrees (E.Limit L.Depth) (λ e. cc e)))
 
 abbrev ways_of : (p : Y.Program) (n n' : ℕ) → n ≤ n' → ((entry : Entry) → Agree (M.entered p n entry) (M.entered p n' entry)) → ((entry : Entry) → Agree (M.entered p n' entry) (M.entered p n' entry)) → Ways

@@ -2,7 +2,7 @@
 use Rattle.std.proofs.Common.{◌≡◌, ◌≢◌, ℕ, suc, ◌≤◌, List, Some, refl, sym, ap, ◌∙◌, subst, arith}
 use Rattle.pli_meaning.specs.declared.outcome.End.TheVariants as E
 use Rattle.pli_meaning.specs.Laws.{Extends}
-use Rattle.pli_meaning.specs.TypedTree as Y
+use Rattle.pli_typing.specs.TypedTree as Y
 use Rattle.pli_meaning.specs.World.{World, first_world}
 use Rattle.pli_meaning.proofs.Steps.{extends_refl}
 use Rattle.pli_meaning.specs.StorageState.{State, first_state}

@@ -1,10 +1,10 @@
 -- Worked programs with BASED and CONTROLLED storage, computed on the storage machine from their typed trees.
 use Rattle.std.proofs.Common.{◌≡◌, pos, [], ◌∷◌, ◌++◌, Some, None, refl}
 use lib.Chars.{codes}
-use Rattle.pli_meaning.specs.declared.condition.Condition.TheVariants as C
+use Rattle.pli_language.specs.declared.condition.Condition.TheVariants as C
 use Rattle.pli_meaning.specs.declared.outcome.End.TheVariants as E
-use Rattle.pli_meaning.specs.Tree as T
-use Rattle.pli_meaning.specs.TypedTree as Y
+use Rattle.pli_language.specs.Tree as T
+use Rattle.pli_typing.specs.TypedTree as Y
 use Rattle.pli_meaning.proofs.RowPieces.{place, automatic, parameter, based, controlled, whole, located, scalar, bounds, initial, leaf, evaluation, member, declared, head, put_pair, procedure, program}
 use Rattle.pli_meaning.proofs.RowRuns.{run_of, computing}
 
@@ -27,7 +27,7 @@ controlled_extents =
     ∷ []) 2) (Y.EndOfList [])))))))) [] None) ∷ [])
 
 controlled_extents-runs :
-    run_of controlled_extents [] ≡ Some (record { output = codes " 3 2" ++ (10 ∷ []); raised = []; end = E.Finished })
+    run_of controlled_extents [] ≡ Some (record { acts = 12; output = codes " 3 2" ++ (10 ∷ []); raised = []; end = E.Finished })
 unfolding computing
 controlled_extents-runs = refl
 
@@ -43,7 +43,7 @@ controlled_stack =
     (Y.CallProcedure (Y.Calling 2 0 (Y.ArgumentThen (Y.ByCopy (Y.FixedLeaf 31) (Y.StoredNumber 31 (Y.NumberConstant 2)))
     Y.NoArgument)) 2) (Y.StmtThen [] (Y.Put None ((put_pair ((Y.PutValue (Y.NumberValue 31 (Y.AllocationsOf (controlled 1 0
     0)))) ∷ []) (T.FormatThen place 1 (T.FixedFormat 2) T.NoFormat)) ∷ []) 2) (Y.StmtThen [] (Y.DoCount (Y.NumberCounter 31
-    (whole (automatic 1 0 1))) (Y.StoredNumber 31 (Y.NumberConstant 1)) (Some (Y.NumberConstant 3)) (Y.NumberConstant 1) None
+    (whole (automatic 1 0 1))) (Y.NumberValue 31 (Y.NumberConstant 1)) (Some (Y.NumberConstant 3)) (Y.NumberConstant 1) None
     (Y.StmtThen [] (Y.Free ((Y.FreeControlled (controlled 1 0 0)) ∷ []) 2) (Y.StmtThen [] (Y.Put None ((put_pair ((Y.PutValue
     (Y.NumberValue 31 (Y.AllocationsOf (controlled 1 0 0)))) ∷ []) (T.FormatThen place 1 (T.FixedFormat 2) T.NoFormat)) ∷ [])
     2) (Y.EndOfList []))) 2) (Y.StmtThen [] (Y.Put None ((put_pair ((Y.PutValue (Y.NumberValue 31 (Y.NumberIn (whole
@@ -57,6 +57,7 @@ controlled_stack =
 
 controlled_stack-runs :
     run_of controlled_stack [] ≡ Some (record {
+      acts = 34;
       output = codes " 2 1 0 0" ++ (10 ∷ []);
       raised = ((C.Error, 101) ∷ []);
       end =
@@ -76,9 +77,24 @@ free_of_a_variable =
     (based 1 0 2) (Y.PointerIn (whole (automatic 1 0 0))) None) ∷ []) 2) (Y.EndOfList [])))) [] None) ∷ [])
 
 free_of_a_variable-runs :
-    run_of free_of_a_variable [] ≡ Some (record { output = []; raised = ((C.Error, 110) ∷ []); end = (E.Error 110 2) })
+    run_of free_of_a_variable [] ≡ Some (record { acts = 5; output = []; raised = ((C.Error, 110) ∷ []); end = (E.Error 110 2) })
 unfolding computing
 free_of_a_variable-runs = refl
+
+-- T: PROC OPTIONS(MAIN);
+-- DCL C(1000) CHAR(1024) CTL; ALLOCATE C; ALLOCATE C;
+-- END T;
+abbrev heap_without_gap : Y.Program
+heap_without_gap =
+    program ([] ∷ ((declared Y.ControlledClass ((member 0 1) ∷ []) ((leaf (Y.CharacterLeaf (Y.ConstantExtent (pos 1024)))
+    ((bounds (Y.ConstantExtent (pos 1)) (Y.ConstantExtent (pos 1000))) ∷ []) []) ∷ []) None []) ∷ []) ∷ []) ((procedure
+    (Y.BlockOf (head Y.ProcedureBlock 1 0 1) (Y.StmtThen [] (Y.Allocate ((Y.AllocateControlled (controlled 1 0 0)) ∷ []) 2)
+    (Y.StmtThen [] (Y.Allocate ((Y.AllocateControlled (controlled 1 0 0)) ∷ []) 2) (Y.EndOfList [])))) [] None) ∷ [])
+
+heap_without_gap-runs :
+    run_of heap_without_gap [] ≡ Some (record { acts = 5; output = []; raised = ((C.Error, 106) ∷ []); end = (E.Error 106 2) })
+unfolding computing
+heap_without_gap-runs = refl
 
 -- T: PROC OPTIONS(MAIN);
 -- DCL (P,Q) PTR, X FIXED BIN(31) BASED; ALLOCATE X SET(P); FREE P->X; ALLOCATE X SET(Q); Q->X = 6; PUT EDIT (P->X) (F(2));
@@ -95,7 +111,7 @@ old_locator_finds_new =
     2))))) ∷ []) (T.FormatThen place 1 (T.FixedFormat 2) T.NoFormat)) ∷ []) 2) (Y.EndOfList []))))))) [] None) ∷ [])
 
 old_locator_finds_new-runs :
-    run_of old_locator_finds_new [] ≡ Some (record { output = codes " 6" ++ (10 ∷ []); raised = []; end = E.Finished })
+    run_of old_locator_finds_new [] ≡ Some (record { acts = 8; output = codes " 6" ++ (10 ∷ []); raised = []; end = E.Finished })
 unfolding computing
 old_locator_finds_new-runs = refl
 
@@ -117,7 +133,7 @@ pointer_after_block_end =
     3) T.NoFormat)) ∷ []) 4) (Y.EndOfList [])))) (Y.EndOfList [])))) [] None) ∷ [])
 
 pointer_after_block_end-runs :
-    run_of pointer_after_block_end [] ≡ Some (record { output = []; raised = ((C.Error, 101) ∷ []); end = (E.Error 101 4) })
+    run_of pointer_after_block_end [] ≡ Some (record { acts = 8; output = []; raised = ((C.Error, 101) ∷ []); end = (E.Error 101 4) })
 unfolding computing
 pointer_after_block_end-runs = refl
 
@@ -135,6 +151,6 @@ pointer_misses_controlled =
     2) T.NoFormat)) ∷ []) 2) (Y.EndOfList [])))))) [] None) ∷ [])
 
 pointer_misses_controlled-runs :
-    run_of pointer_misses_controlled [] ≡ Some (record { output = []; raised = ((C.Error, 101) ∷ []); end = (E.Error 101 2) })
+    run_of pointer_misses_controlled [] ≡ Some (record { acts = 7; output = []; raised = ((C.Error, 101) ∷ []); end = (E.Error 101 2) })
 unfolding computing
 pointer_misses_controlled-runs = refl

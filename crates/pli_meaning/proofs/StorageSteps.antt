@@ -9,9 +9,9 @@ use Rattle.pli_meaning.specs.Stream.{column_of, line_feed}
 use Rattle.pli_meaning.specs.World.{World, written, ending}
 use Rattle.pli_meaning.specs.Laws.{IsPrefix, Extends}
 use Rattle.pli_meaning.proofs.Steps.{prefix_refl, prefix_append, extends_refl, extends_trans, Shows}
-use Rattle.pli_meaning.specs.Contents.{Value}
+use Rattle.pli_meaning.specs.BasicValues.{BasicValue}
 use Rattle.pli_meaning.specs.StorageState.{State, with_world}
-use Rattle.pli_meaning.specs.Control.{Label, Flow, Normal, Jump, Return, Ended, Paused, Stuck, Meaning, give, stuck, flow_on, ◌>>=◌, ◌>>◌, looked, stored, act, finish, returns, jumps, choose, given, is_among, caught, list_from, repeated_while, left, leaving, left_on, leaving_on}
+use Rattle.pli_meaning.specs.Control.{Label, Flow, Normal, Jump, Return, Ended, Paused, Stuck, Meaning, give, stuck, flow_on, ◌>>=◌, ◌>>◌, looked, stored, act, finish, returns, jumps, choose, given, is_among, caught, list_from, repeated_while, left, leaving}
 
 -- an item that writes shows more
 pub written_shows : (item : List ℕ → List ℕ) → ((output : List ℕ) → IsPrefix output (item output)) → Shows (written item)
@@ -214,42 +214,45 @@ unfolding choose
 choose_agrees true {m} {m'} {n} {n'} a c = record { follows = a.follows; later = a.later; kept = a.kept }
 choose_agrees false {m} {m'} {n} {n'} a c = record { follows = c.follows; later = c.later; kept = c.kept }
 
-later_left : (close : State → State) (w : World) (f : Flow (Unit {0})) → Later w f → Later w (left close f)
-later_left close w (Normal r s) h = h
-later_left close w (Jump height label s) h = h
-later_left close w (Return v s) h = h
-later_left close w (Ended s) h = h
-later_left close w (Paused s) h = h
-later_left close w Stuck h = h
+later_left : (own : Bool) (close : State → State) (w : World) (f : Flow (Unit {0})) → Later w f → Later w (left own close f)
+later_left own close w (Normal r s) h = h
+later_left own close w (Jump height label s) h = h
+later_left true close w (Return v s) h = h
+later_left false close w (Return v s) h = h
+later_left own close w (Ended s) h = h
+later_left own close w (Paused s) h = h
+later_left own close w Stuck h = h
 
-follows_left : (close : State → State) (f g : Flow (Unit {0})) → Follows f g → Follows (left close f) (left close g)
-follows_left close (Normal r s) g e = ap (left close) e
-follows_left close (Jump height label s) g e = ap (left close) e
-follows_left close (Return v s) g e = ap (left close) e
-follows_left close (Ended s) g e = ap (left close) e
-follows_left close (Paused s) g e = later_left close s.world g e
-follows_left close Stuck g e = tt
+follows_left : (own : Bool) (close : State → State) (f g : Flow (Unit {0})) → Follows f g → Follows (left own close f) (left own close g)
+follows_left own close (Normal r s) g e = ap (left own close) e
+follows_left own close (Jump height label s) g e = ap (left own close) e
+follows_left true close (Return v s) g e = ap (left true close) e
+follows_left false close (Return v s) g e = ap (left false close) e
+follows_left own close (Ended s) g e = ap (left own close) e
+follows_left own close (Paused s) g e = later_left own close s.world g e
+follows_left own close Stuck g e = tt
 
-kept_left : (close : State → State) (w : World) (k : ℕ) (f : Flow (Unit {0})) → Kept w k f → Kept w k (left close f)
-kept_left close w k (Normal r s) h = h
-kept_left close w k (Jump height label s) h = h
-kept_left close w k (Return v s) h = h
-kept_left close w k (Ended s) h = h
-kept_left close w k (Paused s) h = h
-kept_left close w k Stuck h = h
+kept_left : (own : Bool) (close : State → State) (w : World) (k : ℕ) (f : Flow (Unit {0})) → Kept w k f → Kept w k (left own close f)
+kept_left own close w k (Normal r s) h = h
+kept_left own close w k (Jump height label s) h = h
+kept_left true close w k (Return v s) h = h
+kept_left false close w k (Return v s) h = h
+kept_left own close w k (Ended s) h = h
+kept_left own close w k (Paused s) h = h
+kept_left own close w k Stuck h = h
 
-pub leaving_agrees : (close : State → State) {m m' : Meaning (Unit {0})} → Agree m m' → Agree (leaving close m) (leaving close m')
+pub leaving_agrees : (own : Bool) (close : State → State) {m m' : Meaning (Unit {0})} → Agree m m' → Agree (leaving own close m) (leaving own close m')
 unfolding leaving
-leaving_agrees close {m} {m'} a =
+leaving_agrees own close {m} {m'} a =
     record {
-      follows = λ k l s h. follows_left close (m k s) (m' l s) (a.follows k l s h);
-      later = λ l s. later_left close s.world (m' l s) (a.later l s);
-      kept = λ k s h. kept_left close s.world k (m k s) (a.kept k s h);
+      follows = λ k l s h. follows_left own close (m k s) (m' l s) (a.follows k l s h);
+      later = λ l s. later_left own close s.world (m' l s) (a.later l s);
+      kept = λ k s h. kept_left own close s.world k (m k s) (a.kept k s h);
     }
 
 -- ---- what else there is
 
-pub returns_agrees : {R : Type 0} (v : Option Value) → Agree {R = R} (returns v) (returns v)
+pub returns_agrees : {R : Type 0} (v : Option BasicValue) → Agree {R = R} (returns v) (returns v)
 unfolding returns
 returns_agrees v =
     record { follows = λ k l s h. refl; later = λ l s. extends_refl s.world; kept = λ k s h. (h, refl) }
@@ -267,39 +270,6 @@ pub given_agrees : {X R : Type 0} (o : Option X) {next next' : X → Meaning R} 
 unfolding given
 given_agrees None n a = a
 given_agrees (Some x) n a = n x
-
-later_left_on : (close : State → State) (w : World) (f : Flow (Unit {0})) → Later w f → Later w (left_on close f)
-later_left_on close w (Normal r s) h = h
-later_left_on close w (Jump height label s) h = h
-later_left_on close w (Return v s) h = h
-later_left_on close w (Ended s) h = h
-later_left_on close w (Paused s) h = h
-later_left_on close w Stuck h = h
-
-follows_left_on : (close : State → State) (f g : Flow (Unit {0})) → Follows f g → Follows (left_on close f) (left_on close g)
-follows_left_on close (Normal r s) g e = ap (left_on close) e
-follows_left_on close (Jump height label s) g e = ap (left_on close) e
-follows_left_on close (Return v s) g e = ap (left_on close) e
-follows_left_on close (Ended s) g e = ap (left_on close) e
-follows_left_on close (Paused s) g e = later_left_on close s.world g e
-follows_left_on close Stuck g e = tt
-
-kept_left_on : (close : State → State) (w : World) (k : ℕ) (f : Flow (Unit {0})) → Kept w k f → Kept w k (left_on close f)
-kept_left_on close w k (Normal r s) h = h
-kept_left_on close w k (Jump height label s) h = h
-kept_left_on close w k (Return v s) h = h
-kept_left_on close w k (Ended s) h = h
-kept_left_on close w k (Paused s) h = h
-kept_left_on close w k Stuck h = h
-
-pub leaving_on_agrees : (close : State → State) {m m' : Meaning (Unit {0})} → Agree m m' → Agree (leaving_on close m) (leaving_on close m')
-unfolding leaving_on
-leaving_on_agrees close {m} {m'} a =
-    record {
-      follows = λ k l s h. follows_left_on close (m k s) (m' l s) (a.follows k l s h);
-      later = λ l s. later_left_on close s.world (m' l s) (a.later l s);
-      kept = λ k s h. kept_left_on close s.world k (m k s) (a.kept k s h);
-    }
 
 -- ---- turns
 

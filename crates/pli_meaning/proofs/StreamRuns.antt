@@ -1,12 +1,12 @@
 -- Worked programs with texts and streams, computed on the storage machine from their typed trees.
-use Rattle.std.proofs.Common.{◌≡◌, ℕ, pos, [], ◌∷◌, ◌++◌, Some, None, refl}
+use Rattle.std.proofs.Common.{◌≡◌, ℕ, pos, [], ◌∷◌, ◌++◌, Some, None, map, refl}
 use lib.Chars.{codes}
-use Rattle.pli_meaning.specs.declared.condition.Condition.TheVariants as C
+use Rattle.pli_language.specs.declared.condition.Condition.TheVariants as C
 use Rattle.pli_meaning.specs.declared.outcome.End.TheVariants as E
-use Rattle.pli_meaning.specs.Tree as T
-use Rattle.pli_meaning.specs.TypedTree as Y
+use Rattle.pli_language.specs.Tree as T
+use Rattle.pli_typing.specs.TypedTree as Y
 use Rattle.pli_meaning.proofs.RowPieces.{place, automatic, whole, scalar, part, bounds, initial, leaf, member, declared, head, get_pair, put_pair, procedure, program}
-use Rattle.pli_meaning.proofs.RowRuns.{run_of, computing}
+use Rattle.pli_meaning.proofs.RowRuns.{run_of, run_within, running, computing}
 
 -- T: PROC OPTIONS(MAIN);
 -- DCL A FIXED BIN(31) INIT(1), IF(2) FIXED BIN(31); IF (A) = 1 THEN PUT EDIT ('Y') (A); IF (1) = 7; PUT EDIT (IF) (F(3));
@@ -24,7 +24,7 @@ assignment_or_if =
     T.NoFormat)) ∷ []) 2) (Y.EndOfList []))))) [] None) ∷ [])
 
 assignment_or_if-runs :
-    run_of assignment_or_if [] ≡ Some (record { output = codes "Y  7  0" ++ (10 ∷ []); raised = []; end = E.Finished })
+    run_of assignment_or_if [] ≡ Some (record { acts = 9; output = codes "Y  7  0" ++ (10 ∷ []); raised = []; end = E.Finished })
 unfolding computing
 assignment_or_if-runs = refl
 
@@ -39,7 +39,7 @@ column_reached =
     None) T.NoFormat)))) ∷ []) 2) (Y.EndOfList []))) [] None) ∷ [])
 
 column_reached-runs :
-    run_of column_reached [] ≡ Some (record { output = codes "A  B" ++ (10 ∷ []); raised = []; end = E.Finished })
+    run_of column_reached [] ≡ Some (record { acts = 6; output = codes "A  B" ++ (10 ∷ []); raised = []; end = E.Finished })
 unfolding computing
 column_reached-runs = refl
 
@@ -57,6 +57,7 @@ field_over_line_end =
 
 field_over_line_end-runs :
     run_of field_over_line_end (49 ∷ 13 ∷ 10 ∷ 50 ∷ []) ≡ Some (record {
+      acts = 8;
       output = codes " 1 2" ++ (10 ∷ []);
       raised = [];
       end
@@ -77,6 +78,7 @@ format_used_again =
 
 format_used_again-runs :
     run_of format_used_again [] ≡ Some (record {
+      acts = 10;
       output = codes " 1 " ++ (10 ∷ []) ++ codes " 2 " ++ (10 ∷ []) ++ codes " 3"
           ++ (10 ∷ []);
       raised = [];
@@ -84,6 +86,16 @@ format_used_again-runs :
     })
 unfolding computing
 format_used_again-runs = refl
+
+format_used_again-goes_on :
+    map (run_within format_used_again []) (2 ∷ 4 ∷ 5 ∷ 9 ∷ []) ≡ (
+    running 2 [] [] ∷
+    running 4 (codes " 1 ") [] ∷
+    running 5 (codes " 1 " ++ (10 ∷ [])) [] ∷
+    running 9 (codes " 1 " ++ (10 ∷ []) ++ codes " 2 " ++ (10 ∷ []) ++ codes " 3") [] ∷
+    [])
+unfolding computing
+format_used_again-goes_on = refl
 
 -- T: PROC OPTIONS(MAIN);
 -- DCL (X,Y) FIXED BIN(31); GET EDIT (X,Y) (F(1)); PUT EDIT (X,Y) (F(2));
@@ -99,6 +111,7 @@ letter_in_number_field =
 
 letter_in_number_field-runs :
     run_of letter_in_number_field (codes "A2") ≡ Some (record {
+      acts = 5;
       output = [];
       raised = ((C.Error, 104) ∷ []);
       end = (E.Error
@@ -122,6 +135,7 @@ number_becomes_text =
 
 number_becomes_text-runs :
     run_of number_becomes_text [] ≡ Some (record {
+      acts = 6;
       output = codes "       42   !" ++ (10 ∷ []);
       raised = [];
       end = E.Finished;
@@ -145,6 +159,7 @@ overflow_wraps =
 
 overflow_wraps-runs :
     run_of overflow_wraps [] ≡ Some (record {
+      acts = 10;
       output = codes "OV -32768" ++ (10 ∷ []);
       raised = ((C.FixedOverflow, 20) ∷ []);
       end = E.Finished;
@@ -168,6 +183,7 @@ read_texts_until_endfile =
 
 read_texts_until_endfile-runs :
     run_of read_texts_until_endfile (codes "12") ≡ Some (record {
+      acts = 14;
       output = codes "12    END" ++ (10 ∷ []);
       raised =
           ((C.Endfile, 40) ∷ []);
@@ -193,6 +209,7 @@ read_until_endfile =
 
 read_until_endfile-runs :
     run_of read_until_endfile (codes "12") ≡ Some (record {
+      acts = 14;
       output = codes "  12 END" ++ (10 ∷ []);
       raised = ((C.Endfile, 40)
           ∷ []);
@@ -200,6 +217,16 @@ read_until_endfile-runs :
     })
 unfolding computing
 read_until_endfile-runs = refl
+
+read_until_endfile-goes_on :
+    map (run_within read_until_endfile (codes "12")) (4 ∷ 8 ∷ 9 ∷ 13 ∷ []) ≡ (
+    running 4 [] [] ∷
+    running 8 (codes "  12") [] ∷
+    running 9 (codes "  12") ((C.Endfile, 40) ∷ []) ∷
+    running 13 (codes "  12 END") ((C.Endfile, 40) ∷ []) ∷
+    [])
+unfolding computing
+read_until_endfile-goes_on = refl
 
 -- T: PROC OPTIONS(MAIN);
 -- DCL C CHAR(3) INIT('ABC'); PUT EDIT (SUBSTR(C,4),'!') (A,A); PUT EDIT (SUBSTR(C,5)) (A);
@@ -216,6 +243,7 @@ substr_at_the_end =
 
 substr_at_the_end-runs :
     run_of substr_at_the_end [] ≡ Some (record {
+      acts = 7;
       output = codes "!" ++ (10 ∷ []);
       raised = ((C.Error, 103) ∷ []);
       end =
@@ -234,7 +262,7 @@ texts_joined =
     1 (T.TextFormat None) T.NoFormat)) ∷ []) 2) (Y.EndOfList []))) [] None) ∷ [])
 
 texts_joined-runs :
-    run_of texts_joined [] ≡ Some (record { output = codes "AB" ++ (10 ∷ []); raised = []; end = E.Finished })
+    run_of texts_joined [] ≡ Some (record { acts = 4; output = codes "AB" ++ (10 ∷ []); raised = []; end = E.Finished })
 unfolding computing
 texts_joined-runs = refl
 
@@ -257,6 +285,7 @@ unit_found_dynamically =
 
 unit_found_dynamically-runs :
     run_of unit_found_dynamically [] ≡ Some (record {
+      acts = 15;
       output = codes "IN 199" ++ (10 ∷ []);
       raised = ((C.Error, 199) ∷ []);
       end = E.Stopped;
@@ -287,12 +316,12 @@ structures_read =
     (Y.EndOfList []))))) [] None ∷ [])
 
 structures_read-runs :
-    run_of structures_read (codes "1X2Y") ≡ Some (record { output = codes " 1X 2Y" ++ (10 ∷ []); raised = []; end = E.Finished })
+    run_of structures_read (codes "1X2Y") ≡ Some (record { acts = 13; output = codes " 1X 2Y" ++ (10 ∷ []); raised = []; end = E.Finished })
 unfolding computing
 structures_read-runs = refl
 
 -- the input ends in the second structure: what was read stays, and the GET is over
 structures_cut :
-    run_of structures_read (codes "1X2") ≡ Some (record { output = []; raised = (C.Endfile, 40) ∷ (C.Error, 40) ∷ []; end = E.Error 40 2 })
+    run_of structures_read (codes "1X2") ≡ Some (record { acts = 8; output = []; raised = (C.Endfile, 40) ∷ (C.Error, 40) ∷ []; end = E.Error 40 2 })
 unfolding computing
 structures_cut = refl

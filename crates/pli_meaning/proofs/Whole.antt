@@ -1,11 +1,11 @@
 -- Runs of a machine with the services of images: what is shown changes with an act alone, and acts only grow.
 use Rattle.std.proofs.Common.{◌≡◌, ℕ, zero, suc, ◌+◌, ◌*◌, ◌^◌, ◌≤◌, ◌⊎◌, inl, inr, List, [], ◌∷◌, length, Option, Some, None, Bool, true, false, refl, sym, ap, ◌∙◌, subst, arith}
 use Rattle.std.specs.Prelude.{cond, nat_lt, ◌==◌}
-use Rattle.pli_meaning.specs.Words.{signed}
+use Rattle.rv_meaning.specs.Words.{signed}
 use Rattle.pli_meaning.specs.Stream.{fixed_field, with_field}
-use Rattle.pli_meaning.specs.declared.condition.Condition.{Condition}
+use Rattle.pli_language.specs.declared.condition.Condition.{Condition}
 use Rattle.pli_meaning.specs.declared.outcome.End.{End}
-use Rattle.pli_meaning.specs.Machine.{Loaded, Effect, Goes, Faults, Calls, effect}
+use Rattle.rv_meaning.specs.Machine.{Loaded, Effect, Goes, Faults, Calls, effect}
 use Rattle.pli_meaning.specs.World.{World, counted, ending, raising, written}
 use Rattle.pli_meaning.specs.Typed.{FormatItem, FixedItem}
 use Rattle.pli_meaning.specs.Services as S

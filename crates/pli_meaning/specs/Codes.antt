@@ -1,7 +1,7 @@
 -- The codes of conditions, and of errors that the machine finds itself.
 use Rattle.std.specs.Prelude.{ℕ}
-use Rattle.pli_meaning.specs.declared.condition.Condition.{Condition}
-use Rattle.pli_meaning.specs.declared.condition.Condition.TheVariants as C
+use Rattle.pli_language.specs.declared.condition.Condition.{Condition}
+use Rattle.pli_language.specs.declared.condition.Condition.TheVariants as C
 
 -- a result or a stored number that its precision doesn't hold
 abbrev pub fixed_overflow_code : ℕ

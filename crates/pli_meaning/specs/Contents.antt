@@ -1,47 +1,34 @@
--- What storage holds: names, values, generations, and areas with their generations. (X3.53-1976, chapter 7.)
+-- What storage holds: generations with their values, and areas with their generations. (X3.53-1976, chapter 7.)
 use Rattle.std.specs.Prelude.{ℕ, zero, suc, ◌+◌, ◌-◌, ◌*◌, ◌≤◌, ◌%◌, ℤ, pos, ◌-ℤ◌, int_le, ◌≡◌, ◌⊎◌, Bool, true, false, ◌&&◌, ◌==◌, nat_lt, nat_le, max, List, [], ◌∷◌, ◌++◌, take, drop, Option, Some, None, if◌then◌else◌, ⊤}
 use Rattle.std.specs.Ordering.{is_eq, int_cmp}
-use Rattle.pli_meaning.specs.Signatures.{LeafKind, Fixed, Character, Varying, Bit, Pointer, Offset, Area, Bounds, Leaf, Class, PlainClass, ControlledClass, Signature, natural, element_count, data_size, footprint}
+use Rattle.pli_typing.specs.Signatures.{LeafKind, Fixed, Character, Varying, Bit, Pointer, Offset, Area, Bounds, Leaf, Class, PlainClass, ControlledClass, Signature, natural, element_count, data_size, footprint}
 use Rattle.pli_meaning.specs.Stream.{blanks}
+use Rattle.pli_meaning.specs.BasicValues.{Name, NullName, VariableName, BasedName, BasicValue, BasicNumber, BasicText, BasicBit, BasicPointer, BasicOffset}
+use Rattle.pli_meaning.specs.Unreachable.{unreachable_number, unreachable_text, unreachable_bit, unreachable_name, unreachable_offset, unreachable_value}
 use Rattle.pli_meaning.specs.Texts.{fitted}
-use Rattle.pli_meaning.specs.Tree.{InitialValue, InitialNumber, InitialText, InitialBit, InitialSkip, InitialNull, InitialEmpty, InitialItem}
+use Rattle.pli_language.specs.Tree.{InitialValue, InitialNumber, InitialText, InitialBit, InitialSkip, InitialNull, InitialEmpty, InitialItem}
 
 -- ---- names and values
 
--- what a locator can name: nothing, a variable's generation by its serial, or a generation by its offset in an area
-pub data Name : Type 0 where
-  NullName : Name
-  VariableName : (serial : ℕ) → Name
-  BasedName : (area offset : ℕ) → Name
+abbrev pub number_in : BasicValue → ℤ
+number_in (BasicNumber z) = z
+number_in _ = unreachable_number
 
--- the value of an element; the null OFFSET is a value of its own
-pub data Value : Type 0 where
-  NumberValue : ℤ → Value
-  TextValue : List ℕ → Value
-  BitValue : Bool → Value
-  PointerValue : Name → Value
-  OffsetValue : Option ℕ → Value
+abbrev pub text_in : BasicValue → List ℕ
+text_in (BasicText t) = t
+text_in _ = unreachable_text
 
--- elements hold values of their leaf's kind: the other cases below never come
-abbrev pub number_in : Value → ℤ
-number_in (NumberValue z) = z
-number_in _ = pos 0
+abbrev pub bit_in : BasicValue → Bool
+bit_in (BasicBit b) = b
+bit_in _ = unreachable_bit
 
-abbrev pub text_in : Value → List ℕ
-text_in (TextValue t) = t
-text_in _ = []
+abbrev pub name_in : BasicValue → Name
+name_in (BasicPointer n) = n
+name_in _ = unreachable_name
 
-abbrev pub bit_in : Value → Bool
-bit_in (BitValue b) = b
-bit_in _ = false
-
-abbrev pub name_in : Value → Name
-name_in (PointerValue n) = n
-name_in _ = NullName
-
-abbrev pub offset_in : Value → Option ℕ
-offset_in (OffsetValue o) = o
-offset_in _ = None
+abbrev pub offset_in : BasicValue → Option ℕ
+offset_in (BasicOffset o) = o
+offset_in _ = unreachable_offset
 
 abbrev pub same_name : Name → Name → Bool
 same_name NullName NullName = true
@@ -120,7 +107,7 @@ leaves_with z s = leaves_refer z s.refer s.signature.leaves
 pub record Generation : Type 0 where
   pub shape : Shape
   pub extent : ℤ
-  pub values : ℕ → List ℤ → Value
+  pub values : ℕ → List ℤ → BasicValue
 
 abbrev pub signature_of : Generation → Signature
 signature_of g = record { class = g.shape.signature.class; leaves = leaves_with g.extent g.shape }
@@ -144,30 +131,30 @@ element_place (b ∷ bs) (i ∷ is) = natural (i -ℤ b.lower) * element_count b
 element_place _ _ = 0
 
 -- how every element begins
-abbrev pub default_value : LeafKind → Value
-default_value (Fixed p) = NumberValue (pos 0)
-default_value (Character n) = TextValue (blanks n)
-default_value (Varying n) = TextValue []
-default_value Bit = BitValue false
-default_value Pointer = PointerValue NullName
-default_value Offset = OffsetValue None
-default_value (Area n) = NumberValue (pos 0)
+abbrev pub default_value : LeafKind → BasicValue
+default_value (Fixed p) = BasicNumber (pos 0)
+default_value (Character n) = BasicText (blanks n)
+default_value (Varying n) = BasicText []
+default_value Bit = BasicBit false
+default_value Pointer = BasicPointer NullName
+default_value Offset = BasicOffset None
+default_value (Area n) = unreachable_value
 
--- a value as an element of this kind keeps it: text is padded or cut. Text beyond the length in force stays as it was.
-abbrev pub kept : LeafKind → (old new : Value) → Value
-kept (Character n) old (TextValue t) = TextValue (fitted n t ++ drop n (text_in old))
-kept (Varying n) old (TextValue t) = TextValue (take n t)
+-- a value as an element of this kind keeps it: text is padded or cut, and a hidden tail stays as it was
+abbrev pub kept : LeafKind → (old new : BasicValue) → BasicValue
+kept (Character n) old (BasicText t) = BasicText (fitted n t ++ drop n (text_in old))
+kept (Varying n) old (BasicText t) = BasicText (take n t)
 kept kind old new = new
 
--- a value as it is seen where the kind in force is this one
-abbrev pub seen : LeafKind → Value → Value
-seen (Character n) (TextValue t) = TextValue (take n t)
+-- a value as it is seen where the kind in force is this one: without a hidden tail
+abbrev pub seen : LeafKind → BasicValue → BasicValue
+seen (Character n) (BasicText t) = BasicText (take n t)
 seen kind v = v
 
-abbrev pub initial_of : LeafKind → InitialValue → Value
-initial_of kind (InitialNumber z) = NumberValue z
-initial_of kind (InitialText t) = kept kind (TextValue []) (TextValue t)
-initial_of kind (InitialBit b) = BitValue b
+abbrev pub initial_of : LeafKind → InitialValue → BasicValue
+initial_of kind (InitialNumber z) = BasicNumber z
+initial_of kind (InitialText t) = kept kind (BasicText []) (BasicText t)
+initial_of kind (InitialBit b) = BasicBit b
 initial_of kind InitialSkip = default_value kind
 initial_of kind InitialNull = default_value kind
 initial_of kind InitialEmpty = default_value kind
@@ -177,16 +164,16 @@ abbrev pub initial_at : List InitialItem → ℕ → InitialValue
 initial_at [] n = InitialSkip
 initial_at (i ∷ is) n = if nat_lt n i.repetition then i.value else initial_at is (n - i.repetition)
 
-abbrev pub initial_in : List Leaf → List (List InitialItem) → ℕ → List ℤ → Value
+abbrev pub initial_in : List Leaf → List (List InitialItem) → ℕ → List ℤ → BasicValue
 initial_in (l ∷ ls) (i ∷ is) zero subscripts = initial_of l.kind (initial_at i (element_place l.bounds subscripts))
 initial_in (l ∷ ls) (i ∷ is) (suc leaf) subscripts = initial_in ls is leaf subscripts
-initial_in _ _ leaf subscripts = NumberValue (pos 0)
+initial_in _ _ leaf subscripts = unreachable_value
 
 -- how a generation begins, with the INITIAL values of its leaves
 abbrev pub fresh : Shape → (extent : ℤ) → (initial : List (List InitialItem)) → Generation
 fresh s z initial = record { shape = s; extent = z; values = initial_in (leaves_with z s) initial }
 
-abbrev pub with_value : ℕ → List ℤ → Value → Generation → Generation
+abbrev pub with_value : ℕ → List ℤ → BasicValue → Generation → Generation
 with_value leaf subscripts v g =
     record g { values = λ l is. if (l == leaf) && same_subscripts is subscripts then v else g.values l is }
 

@@ -1,11 +1,11 @@
 -- A part of a program as a function from the acts allowed and a state to what it comes to. One step makes acts, so that
 -- two runs with different numbers of acts allowed have the same states until one of them pauses.
-use Rattle.std.specs.Prelude.{ℕ, zero, suc, ◌&&◌, ◌==◌, List, Option, Some, None, Bool, nat_lt, if◌then◌else◌, cond}
+use Rattle.std.specs.Prelude.{ℕ, zero, suc, ◌&&◌, ◌==◌, List, Option, Some, None, Bool, true, false, nat_lt, if◌then◌else◌, cond}
 use Rattle.std.specs.List.{list_any}
 use Rattle.pli_meaning.specs.declared.outcome.End.{End}
-use Rattle.pli_meaning.specs.Keywords.{same_bytes}
+use Rattle.pli_language.specs.Keywords.{same_bytes}
 use Rattle.pli_meaning.specs.World.{World, ending}
-use Rattle.pli_meaning.specs.Contents.{Value}
+use Rattle.pli_meaning.specs.BasicValues.{BasicValue}
 use Rattle.pli_meaning.specs.StorageState.{State, with_world}
 
 -- the letters of a label
@@ -17,7 +17,7 @@ Label = List ℕ
 pub data Flow (R : Type 0) : Type 0 where
   Normal : R → State → Flow R
   Jump : (height : ℕ) → (label : Label) → State → Flow R
-  Return : Option Value → State → Flow R
+  Return : Option BasicValue → State → Flow R
   Ended : State → Flow R
   Paused : State → Flow R
   Stuck : Flow R
@@ -66,7 +66,7 @@ act change k s = if nat_lt s.world.acts k then Normal tt (with_world (change s.w
 unfoldable pub finish : {R : Type 0} → End → Meaning R
 finish end k s = if nat_lt s.world.acts k then Ended (with_world (ending end s.world) s) else Paused s
 
-unfoldable pub returns : {R : Type 0} → Option Value → Meaning R
+unfoldable pub returns : {R : Type 0} → Option BasicValue → Meaning R
 returns v k s = Return v s
 
 unfoldable pub jumps : {R : Type 0} → (height : ℕ) → Label → Meaning R
@@ -113,26 +113,19 @@ repeated_while (suc turns) test part = do
 
 -- ---- blocks
 
--- the end of a procedure or of an on-unit: what it comes to, after its activation ended
-abbrev pub left : (State → State) → Flow (Unit {0}) → Flow (Option Value)
-left close (Normal r s) = Normal None (with_world s.world (close s))
-left close (Jump height label s) = Jump height label (with_world s.world (close s))
-left close (Return v s) = Normal v (with_world s.world (close s))
-left close (Ended s) = Ended s
-left close (Paused s) = Paused s
-left close Stuck = Stuck
+-- a RETURN ends its own block, a procedure or an on-unit; from a begin block it goes on to the procedure around it
+abbrev pub left_by_return : (is_own_return : Bool) → Option BasicValue → State → Flow (Option BasicValue)
+left_by_return true v s = Normal v s
+left_by_return false v s = Return v s
 
-unfoldable pub leaving : (State → State) → Meaning (Unit {0}) → Meaning (Option Value)
-leaving close part k s = left close (part k s)
+-- the end of a block: what it comes to, after its activation ended
+abbrev pub left : (is_own_return : Bool) → (State → State) → Flow (Unit {0}) → Flow (Option BasicValue)
+left own close (Normal r s) = Normal None (with_world s.world (close s))
+left own close (Jump height label s) = Jump height label (with_world s.world (close s))
+left own close (Return v s) = left_by_return own v (with_world s.world (close s))
+left own close (Ended s) = Ended s
+left own close (Paused s) = Paused s
+left own close Stuck = Stuck
 
--- a begin block returns from the procedure around it
-abbrev pub left_on : (State → State) → Flow (Unit {0}) → Flow (Option Value)
-left_on close (Normal r s) = Normal None (with_world s.world (close s))
-left_on close (Jump height label s) = Jump height label (with_world s.world (close s))
-left_on close (Return v s) = Return v (with_world s.world (close s))
-left_on close (Ended s) = Ended s
-left_on close (Paused s) = Paused s
-left_on close Stuck = Stuck
-
-unfoldable pub leaving_on : (State → State) → Meaning (Unit {0}) → Meaning (Option Value)
-leaving_on close part k s = left_on close (part k s)
+unfoldable pub leaving : (is_own_return : Bool) → (State → State) → Meaning (Unit {0}) → Meaning (Option BasicValue)
+leaving own close part k s = left own close (part k s)

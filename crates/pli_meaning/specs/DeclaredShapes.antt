@@ -1,16 +1,18 @@
 -- What a declared variable's generations are made of, where its extents have these values. (X3.53-1976, chapter 7.)
 use Rattle.std.specs.Prelude.{ℕ, ℤ, pos, List, [], ◌∷◌, map, length, Option, Some, None, slice_get, ◌==◌, if◌then◌else◌, unwrap_or}
-use Rattle.pli_meaning.specs.Signatures.{LeafKind, Fixed, Character, Varying, Bit, Pointer, Offset, Bounds, Leaf, Class, PlainClass, ControlledClass, area_of_size, natural}
-use Rattle.pli_meaning.specs.Tree.{InitialItem}
-use Rattle.pli_meaning.specs.TypedTree as Y
-use Rattle.pli_meaning.specs.Contents.{Shape, Value, text_in}
+use Rattle.pli_typing.specs.Signatures.{LeafKind, Fixed, Character, Varying, Bit, Pointer, Offset, Bounds, Leaf, Class, PlainClass, ControlledClass, area_of_size, natural}
+use Rattle.pli_language.specs.Tree.{InitialItem}
+use Rattle.pli_typing.specs.TypedTree as Y
+use Rattle.pli_meaning.specs.BasicValues.{BasicValue}
+use Rattle.pli_meaning.specs.Unreachable.{unreachable_number}
+use Rattle.pli_meaning.specs.Contents.{Shape, text_in}
 
 -- an extent that is open in a signature counts as 0
 abbrev pub amount_of : List ℤ → Y.Extent → ℤ
 amount_of values (Y.ConstantExtent z) = z
 amount_of values Y.StarExtent = pos 0
 amount_of values Y.ReferExtent = pos 0
-amount_of values (Y.EvaluatedExtent place) = unwrap_or (slice_get values place) (pos 0)
+amount_of values (Y.EvaluatedExtent place) = unwrap_or (slice_get values place) unreachable_number
 
 abbrev pub length_of : List ℤ → Y.Extent → ℕ
 length_of values e = natural (amount_of values e)
@@ -49,7 +51,7 @@ abbrev pub initial_of : Y.DeclaredVariable → List (List InitialItem)
 initial_of d = map (λ l. l.initial) d.leaves
 
 -- the kind of an argument's copy: a length that isn't said is the value's
-abbrev pub copied_kind : Y.LeafType → Value → LeafKind
+abbrev pub copied_kind : Y.LeafType → BasicValue → LeafKind
 copied_kind (Y.CharacterLeaf Y.StarExtent) v = Character (length (text_in v))
 copied_kind (Y.VaryingLeaf Y.StarExtent) v = Varying (length (text_in v))
 copied_kind t v = kind_of [] t

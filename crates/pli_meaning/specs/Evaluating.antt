@@ -1,12 +1,14 @@
 -- References and expressions: operands are evaluated from left to right. (X3.53-1976, chapters 7 and 9.)
-use Rattle.std.specs.Prelude.{ℕ, zero, suc, ◌+◌, ◌-◌, ℤ, pos, ◌-ℤ◌, ◌+ℤ◌, int_le, Bool, not, ◌&&◌, ◌||◌, ◌==◌, List, [], ◌∷◌, take, length, Option, Some, None, is_some, slice_get, if◌then◌else◌}
+use Rattle.std.specs.Prelude.{ℕ, zero, suc, ◌+◌, ◌-◌, ℤ, pos, ◌-ℤ◌, ◌+ℤ◌, int_le, Bool, not, ◌&&◌, ◌||◌, ◌==◌, List, [], ◌∷◌, take, length, Option, Some, None, is_some, slice_get, unwrap_or, if◌then◌else◌}
 use Rattle.std.specs.Ordering.{int_cmp}
 use Rattle.pli_meaning.specs.Codes.{no_generation_code, subscript_code, substring_code, conversion_code, extent_code, too_long_code, not_in_area_code}
 use Rattle.pli_meaning.specs.Numbers.{sign_applied, checked}
-use Rattle.pli_meaning.specs.Signatures.{Bit, Bounds, Leaf}
-use Rattle.pli_meaning.specs.TypedTree as Y
+use Rattle.pli_typing.specs.Signatures.{Bounds, Leaf}
+use Rattle.pli_typing.specs.TypedTree as Y
 use Rattle.pli_meaning.specs.Texts.{number_text, bit_text, bit_number, number_in_text, bit_in_text, holds, text_order, bit_order, joined, substring_from, substring, index_of, verify_of}
-use Rattle.pli_meaning.specs.Contents.{Name, NullName, VariableName, BasedName, Value, NumberValue, TextValue, BitValue, PointerValue, OffsetValue, number_in, text_in, bit_in, name_in, offset_in, same_name, same_offset, Shape, leaves_with, Generation, is_within, seen}
+use Rattle.pli_meaning.specs.BasicValues.{Name, NullName, VariableName, BasedName, BasicValue, BasicNumber, BasicText, BasicBit, BasicPointer, BasicOffset}
+use Rattle.pli_meaning.specs.Contents.{number_in, text_in, bit_in, name_in, offset_in, same_name, same_offset, Shape, leaves_with, Generation, is_within, seen}
+use Rattle.pli_meaning.specs.Unreachable.{unreachable_leaf}
 use Rattle.pli_meaning.specs.StorageState.{Binding, standing_for, named, offsets_of, height_of, ancestor_at, oncode_of}
 use Rattle.pli_meaning.specs.Control.{Meaning, give, stuck, ◌>>=◌, ◌>>◌, looked, given}
 use Rattle.pli_meaning.specs.Raising.{Around, Passed, PassedName, PassedValue, value_of, or_error, demanded}
@@ -23,16 +25,9 @@ pub record Designated : Type 0 where
   pub part : Y.Part
   pub subscripts : List ℤ
 
-abbrev pub no_leaf : Leaf
-no_leaf = record { kind = Bit; bounds = [] }
-
-abbrev pub leaf_or_none : Option Leaf → Leaf
-leaf_or_none None = no_leaf
-leaf_or_none (Some l) = l
-
 -- a leaf where the REFER extent is this one
 abbrev pub leaf_at : Shape → ℤ → ℕ → Leaf
-leaf_at shape z leaf = leaf_or_none (slice_get (leaves_with z shape) leaf)
+leaf_at shape z leaf = unwrap_or (slice_get (leaves_with z shape) leaf) unreachable_leaf
 
 abbrev pub first_leaf : Designated → Leaf
 first_leaf d = leaf_at d.generation.shape d.extent d.part.first
@@ -80,7 +75,7 @@ variable_designated around v (Some n) part is =
     stuck
 
 -- the element that is designated, or the only one of its leaf
-abbrev pub value_in : Designated → Value
+abbrev pub value_in : Designated → BasicValue
 value_in d = seen (first_leaf d).kind (d.generation.values d.part.first d.subscripts)
 
 abbrev pub bounds_in : Designated → (dimension : ℕ) → Option Bounds
@@ -144,11 +139,11 @@ evaluated_at [] n = None
 evaluated_at (e ∷ es) zero = passed_in e
 evaluated_at (e ∷ es) (suc n) = evaluated_at es n
 
-abbrev pub copied : Y.LeafType → Value → Passed
+abbrev pub copied : Y.LeafType → BasicValue → Passed
 copied t v = PassedValue (copied_kind t v) v
 
 abbrev pub offset_passed : Option ℕ → Passed
-offset_passed o = copied (Y.OffsetLeaf None) (OffsetValue o)
+offset_passed o = copied (Y.OffsetLeaf None) (BasicOffset o)
 
 unfoldable pub passed_last : Around → List Evaluated → Evaluated → Meaning Passed
 passed_last around all (EvaluatedArgument p) = give p
@@ -167,7 +162,7 @@ all_passed_last around all (e ∷ es) = do
   give (p ∷ ps)
 
 -- a procedure is entered; the block that declares it is the static ancestor at a level
-unfoldable pub procedure_entered : Around → Option Y.Procedure → (level : ℕ) → List Passed → Meaning (Option Value)
+unfoldable pub procedure_entered : Around → Option Y.Procedure → (level : ℕ) → List Passed → Meaning (Option BasicValue)
 procedure_entered around None level passed = stuck
 procedure_entered around (Some p) level passed = do
   s ← looked
@@ -181,7 +176,7 @@ procedure_entered around (Some p) level passed = do
   })
 
 -- the value that a function returns
-unfoldable pub returned : Option Value → Meaning Value
+unfoldable pub returned : Option BasicValue → Meaning BasicValue
 returned None = stuck
 returned (Some v) = give v
 
@@ -379,7 +374,7 @@ unfoldable mutual
     n ← pointer around p
     give (Some n)
 
-  pub called : Around → Y.Call → Meaning (Option Value)
+  pub called : Around → Y.Call → Meaning (Option BasicValue)
   called around (Y.Calling procedure level as') = do
     evaluated ← arguments around as'
     passed ← all_passed_last around evaluated evaluated
@@ -407,20 +402,50 @@ unfoldable mutual
     give (NameInAutomatic n)
 
   -- a value of the kind that is due
-  pub stored_value : Around → Y.Stored → Meaning Value
+  pub stored_value : Around → Y.Stored → Meaning BasicValue
   stored_value around (Y.StoredNumber precision e) = do
     z ← number around e
     z' ← value_of around (checked precision z)
-    give (NumberValue z')
+    give (BasicNumber z')
   stored_value around (Y.StoredText e) = do
     t ← text around e
-    give (TextValue t)
+    give (BasicText t)
   stored_value around (Y.StoredBit e) = do
     b ← bit around e
-    give (BitValue b)
+    give (BasicBit b)
   stored_value around (Y.StoredPointer e) = do
     n ← pointer around e
-    give (PointerValue n)
+    give (BasicPointer n)
   stored_value around (Y.StoredOffset e) = do
     o ← offset around e
-    give (OffsetValue o)
+    give (BasicOffset o)
+
+-- ---- computational values (chapter 3, data types): they convert to numbers and to texts
+
+-- a number has the places of its precision as a text
+pub data Computational : Type 0 where
+  ComputationalNumber : (precision : ℕ) → ℤ → Computational
+  ComputationalText : List ℕ → Computational
+  ComputationalBit : Bool → Computational
+
+abbrev pub as_text : Computational → List ℕ
+as_text (ComputationalNumber precision z) = number_text precision z
+as_text (ComputationalText t) = t
+as_text (ComputationalBit b) = bit_text b
+
+abbrev pub as_number : Computational → Option ℤ
+as_number (ComputationalNumber precision z) = Some z
+as_number (ComputationalText t) = number_in_text t
+as_number (ComputationalBit b) = Some (bit_number b)
+
+unfoldable pub computational : Around → Y.Value → Meaning Computational
+computational around (Y.NumberValue precision e) = do
+  z ← number around e
+  give (ComputationalNumber precision z)
+computational around (Y.TextValue e) = do
+  t ← text around e
+  give (ComputationalText t)
+computational around (Y.BitValue e) = do
+  b ← bit around e
+  give (ComputationalBit b)
+computational around _ = stuck

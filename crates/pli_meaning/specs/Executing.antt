@@ -2,33 +2,34 @@
 -- procedure or an on-unit, the extents of a variable, each test of a DO, each format item carried out, a raise, a retry, and
 -- the end of the run. (X3.53-1976, chapters 5 and 6.)
 use Rattle.std.specs.Prelude.{ℕ, zero, suc, ◌+◌, ℤ, pos, ◌+ℤ◌, int_lt, int_le, Bool, true, false, List, [], ◌∷◌, ◌++◌, length, Option, Some, None, nat_lt, if◌then◌else◌}
-use Rattle.pli_meaning.specs.declared.condition.Condition.{Condition}
-use Rattle.pli_meaning.specs.declared.condition.Condition.TheVariants as C
+use Rattle.pli_language.specs.declared.condition.Condition.{Condition}
+use Rattle.pli_language.specs.declared.condition.Condition.TheVariants as C
 use Rattle.pli_meaning.specs.declared.outcome.End.TheVariants as E
 use Rattle.pli_meaning.specs.declared.outcome.Limit.TheVariants as L
 use Rattle.pli_meaning.specs.World.{World, counted}
 use Rattle.pli_meaning.specs.Numbers.{checked, operator_precision}
-use Rattle.pli_meaning.specs.TypedTree as Y
+use Rattle.pli_typing.specs.TypedTree as Y
 use Rattle.pli_meaning.specs.Texts.{number_text, number_in_text}
-use Rattle.pli_meaning.specs.Contents.{Value, NumberValue, TextValue, number_in, text_in, kept}
+use Rattle.pli_meaning.specs.BasicValues.{BasicValue, BasicNumber, BasicText}
+use Rattle.pli_meaning.specs.Contents.{number_in, text_in, kept}
 use Rattle.pli_meaning.specs.StorageState.{State, first_state, SystemUnit, BlockUnit, Activation, with_activations, established, reverted, height_of, ancestor_at, newest_height, newest_ended, most_activations}
-use Rattle.pli_meaning.specs.Control.{Label, Flow, Normal, Jump, Return, Ended, Paused, Stuck, Meaning, give, stuck, ◌>>=◌, ◌>>◌, looked, stored, act, finish, returns, jumps, choose, given, is_among, list_from, repeated_while, leaving, leaving_on}
+use Rattle.pli_meaning.specs.Control.{Label, Flow, Normal, Jump, Return, Ended, Paused, Stuck, Meaning, give, stuck, ◌>>=◌, ◌>>◌, looked, stored, act, finish, returns, jumps, choose, given, is_among, list_from, repeated_while, leaving}
 use Rattle.pli_meaning.specs.Codes.{conversion_code, no_value_code, code_signalled}
 use Rattle.pli_meaning.specs.Raising.{Around, Entry, Enter, at_line, error, raised, value_of, or_error}
 use Rattle.pli_meaning.specs.DeclaredShapes.{kind_of, variables_of_block}
-use Rattle.pli_meaning.specs.Evaluating.{value_in, designated, number, bit, called, stored_value}
+use Rattle.pli_meaning.specs.Evaluating.{value_in, designated, number, bit, called, stored_value, Computational, as_text, as_number, computational}
 use Rattle.pli_meaning.specs.Making.{variables_made, parameters_bound, statics_from}
 use Rattle.pli_meaning.specs.Placing.{element_stored, elements_stored, aggregate_assigned, area_assigned, area_emptied, allocations, freeings}
 use Rattle.pli_meaning.specs.Streaming.{get, put}
 
 -- ---- assignment
 
-unfoldable pub assigned : Around → Y.Reference → Value → Meaning (Unit {0})
+unfoldable pub assigned : Around → Y.Reference → BasicValue → Meaning (Unit {0})
 assigned around target v = do
   d ← designated around target
   element_stored d v
 
-unfoldable pub elements_assigned : Around → Y.Reference → Value → Meaning (Unit {0})
+unfoldable pub elements_assigned : Around → Y.Reference → BasicValue → Meaning (Unit {0})
 elements_assigned around target v = do
   d ← designated around target
   elements_stored d (λ leaf subscripts. v)
@@ -47,11 +48,18 @@ counter_number around (Y.TextCounter r) = do
   d ← designated around r
   or_error around conversion_code (number_in_text (text_in (value_in d)))
 
-unfoldable pub counter_value : Around → Y.Counter → ℤ → Meaning Value
+unfoldable pub counter_value : Around → Y.Counter → ℤ → Meaning BasicValue
 counter_value around (Y.NumberCounter precision r) z = do
   z' ← value_of around (checked precision z)
-  give (NumberValue z')
-counter_value around (Y.TextCounter r) z = give (TextValue (number_text operator_precision z))
+  give (BasicNumber z')
+counter_value around (Y.TextCounter r) z = give (BasicText (number_text operator_precision z))
+
+-- what the variable starts with, converted as it is assigned
+unfoldable pub counter_started : Around → Y.Counter → Computational → Meaning BasicValue
+counter_started around (Y.NumberCounter precision r) v = do
+  z ← or_error around conversion_code (as_number v)
+  counter_value around (Y.NumberCounter precision r) z
+counter_started around (Y.TextCounter r) v = give (BasicText (as_text v))
 
 -- the variable goes on by the step
 unfoldable pub stepped : Around → Y.Counter → ℤ → Meaning (Unit {0})
@@ -178,10 +186,11 @@ unfoldable mutual
     once (at_line around line) condition (list_with around (labels_in body) (statements around body))
   statement around (Y.DoCount counter start limit step condition body line) = do
     act counted
-    v ← stored_value (at_line around line) start
+    v ← computational (at_line around line) start
     most ← limit_of (at_line around line) limit
     by ← number (at_line around line) step
-    assigned (at_line around line) (reference_of counter) v
+    first ← counter_started (at_line around line) counter v
+    assigned (at_line around line) (reference_of counter) first
     repeated_while around.turns
         (turn_due (at_line around line) counter most by condition)
         (do
@@ -204,7 +213,7 @@ unfoldable mutual
   statement around (Y.ReturnValue type source line) = do
     act counted
     v ← stored_value (at_line around line) source
-    returns (Some (kept (kind_of [] type) (TextValue []) v))
+    returns (Some (kept (kind_of [] type) (BasicText []) v))
   statement around (Y.Goto level label line) = do
     act counted
     s ← looked
@@ -280,17 +289,17 @@ block_body around head body entry = do
   list around body
   end_reached around entry.is_function
 
-unfoldable pub leaving_block : Y.BlockKind → Meaning (Unit {0}) → Meaning (Option Value)
-leaving_block Y.BeginBlock part = leaving_on newest_ended part
-leaving_block _ part = leaving newest_ended part
+abbrev pub is_own_return : Y.BlockKind → Bool
+is_own_return Y.BeginBlock = false
+is_own_return _ = true
 
-unfoldable pub block_run : Around → Y.Block → Entry → Meaning (Option Value)
+unfoldable pub block_run : Around → Y.Block → Entry → Meaning (Option BasicValue)
 block_run around (Y.BlockOf head body) entry = do
   s ← looked
   choose (nat_lt (length s.activations) most_activations)
       (do
         stored (with_activation head entry)
-        leaving_block head.kind (block_body (at_line around head.line) head body entry))
+        leaving (is_own_return head.kind) newest_ended (block_body (at_line around head.line) head body entry))
       (finish (E.Limit L.Depth))
 
 -- blocks entered at most n deep, in each of which a loop makes at most as many turns

@@ -20,7 +20,7 @@ Meaning R = ℕ → State → Flow R
 
 abbrev pub with_world : (World → World) → State → State
 with_world change s =
-    record { world = change s.world; input = s.input; serials = s.serials; living = s.living; activations = s.activations }
+    record s { world = change s.world }
 
 -- ---- the steps
 

@@ -1,32 +1,12 @@
 -- Laws of the definitions, each of which a function of `src/laws.rt` carries.
-use Rattle.std.specs.Prelude.{◌≡◌, ◌≢◌, ◌↔◌, ℕ, suc, ◌≤◌, List, [], ◌++◌, Option, Some}
-use Rattle.pli_meaning.specs.declared.fault.SourceFault.{SourceFault}
+use Rattle.std.specs.Prelude.{◌≡◌, ◌≢◌, ◌↔◌, ℕ, suc, ◌≤◌, List, ◌++◌, Some}
 use Rattle.pli_meaning.specs.declared.outcome.End.TheVariants.{Running}
-use Rattle.pli_meaning.specs.declared.image.ImageFault.{ImageFault}
-use Rattle.pli_meaning.specs.declared.token.Token.{Token}
 use Rattle.pli_meaning.specs.World.{World}
-use Rattle.pli_meaning.specs.Tree.{Tree}
 use Rattle.pli_meaning.specs.Typed.{Program}
-use Rattle.pli_meaning.specs.Nesting.{outermost}
-use Rattle.pli_meaning.specs.Parsing.{Reads, Spells, RefusesTokens}
 use Rattle.pli_meaning.specs.Meaning.{meaning}
-use Rattle.pli_meaning.specs.Images.{Image, HasBytes, Keeps}
-use Rattle.pli_meaning.specs.Kinds.{Kind, Conversion, Converts, conversion}
-use Rattle.pli_meaning.specs.TypedTree as Y
+use Rattle.pli_typing.specs.TypedTree as Y
 use Rattle.pli_meaning.specs.Contents.{Placed, footprint_of, IsGap, IsOrdered, gap, with_placed, without_offset, greatest_end}
 use Rattle.pli_meaning.specs.Executing.{meaning as storage_meaning}
-
--- a token list spells at most one tree
-abbrev pub SpelledOnce : Type 0
-SpelledOnce = (source : List ℕ) (tokens : List Token) (tree tree' : Tree) → Spells source tokens tree → Spells source tokens tree' → tree ≡ tree'
-
--- a token list that spells a tree is read no other way: no reading of it has a refusal, or another tree, or none
-abbrev pub ReadOnce : Type 0
-ReadOnce = (source : List ℕ) (tokens : List Token) (tree : Tree) (faults : List SourceFault) (found : Option Tree) → Spells source tokens tree → Reads source outermost tokens faults found → (faults ≡ []) × (found ≡ Some tree)
-
--- no token list both spells a tree and is refused
-abbrev pub NeverBoth : Type 0
-NeverBoth = (source : List ℕ) (tokens : List Token) (tree : Tree) (f : SourceFault) → Spells source tokens tree → ¬ RefusesTokens source tokens f
 
 -- ys begins with xs
 pub record IsPrefix {X : Type 0} (xs ys : List X) : Type 0 where
@@ -70,20 +50,3 @@ pub record FootprintsApart : Type 0 where
   pub placed : (capacity : ℕ) (new : Placed) (placed : List Placed) → IsOrdered 0 capacity placed → gap capacity (footprint_of new.generation) placed ≡ Some new.offset → IsOrdered 0 capacity (with_placed new placed)
   pub freed : (capacity offset : ℕ) (placed : List Placed) → IsOrdered 0 capacity placed → IsOrdered 0 capacity (without_offset offset placed)
   pub assigned : (capacity into : ℕ) (placed : List Placed) → IsOrdered 0 capacity placed → greatest_end placed ≤ into → IsOrdered 0 into placed
-
--- an image has one list of bytes, and a list of bytes is that of one image at most
-pub record OneToOne : Type 0 where
-  pub one_spelling : (i : Image) (b c : List ℕ) → HasBytes i b → HasBytes i c → b ≡ c
-  pub one_image : (i j : Image) (b : List ℕ) → HasBytes i b → HasBytes j b → i ≡ j
-
--- the bytes of an image keep all the rules for whose breach bytes are refused
-abbrev pub KeepsAll : Type 0
-KeepsAll = (i : Image) (b : List ℕ) (fault : ImageFault) → HasBytes i b → Keeps fault b
-
--- a pair of kinds has at most one conversion
-abbrev pub ConvertedOnce : Type 0
-ConvertedOnce = (from to : Kind) (c d : Conversion) → Converts from to c → Converts from to d → c ≡ d
-
--- the function gives a conversion just where the pair has it
-abbrev pub ConversionExact : Type 0
-ConversionExact = (from to : Kind) (c : Conversion) → (Converts from to c ↔ (conversion from to ≡ Some c))

@@ -3,10 +3,11 @@ use Rattle.std.specs.Prelude.{ℕ, ◌+◌, ℤ, pos, int_le, Bool, true, ◌&&�
 use Rattle.pli_meaning.specs.declared.outcome.End.TheVariants as E
 use Rattle.pli_meaning.specs.declared.outcome.Limit.TheVariants as L
 use Rattle.pli_meaning.specs.World.{counted}
-use Rattle.pli_meaning.specs.Signatures.{LeafKind, Bounds, scalar}
-use Rattle.pli_meaning.specs.TypedTree as Y
+use Rattle.pli_typing.specs.Signatures.{LeafKind, Bounds, scalar}
+use Rattle.pli_typing.specs.TypedTree as Y
 use Rattle.pli_meaning.specs.Texts.{most_text}
-use Rattle.pli_meaning.specs.Contents.{Name, VariableName, Value, TextValue, Shape, Generation, footprint_of, fresh, kept}
+use Rattle.pli_meaning.specs.BasicValues.{Name, VariableName, BasicValue, BasicText}
+use Rattle.pli_meaning.specs.Contents.{Shape, Generation, footprint_of, fresh, kept}
 use Rattle.pli_meaning.specs.StorageState.{State, Living, Binding, Activation, newest_height, automatic_in_use, most_automatic}
 use Rattle.pli_meaning.specs.Control.{Meaning, give, stuck, ◌>>=◌, ◌>>◌, looked, stored, act, finish, choose}
 use Rattle.pli_meaning.specs.Codes.{extent_code}
@@ -59,16 +60,7 @@ living_at serial owner g = record { serial = serial; owner = owner; generation =
 -- one more generation, with a new serial, of the newest activation
 abbrev pub with_living : Generation → State → State
 with_living g s =
-    record {
-      world = s.world;
-      input = s.input;
-      serials = s.serials + 1;
-      living = living_at (s.serials + 1) (newest_height s.activations) g ∷ s.living;
-      heap = s.heap;
-      statics = s.statics;
-      controlled = s.controlled;
-      activations = s.activations;
-    }
+    record s { serials = s.serials + 1; living = living_at (s.serials + 1) (newest_height s.activations) g ∷ s.living }
 
 abbrev pub with_variable : (variable : ℕ) → Generation → State → State
 with_variable variable g s = bound variable (VariableName (s.serials + 1)) g.shape (with_living g s)
@@ -97,8 +89,8 @@ variables_made around variable (d ∷ ds) = do
 abbrev pub plain : LeafKind → Shape
 plain kind = record { signature = scalar kind; refer = None }
 
-abbrev pub copy_of : LeafKind → Value → Generation
-copy_of kind v = record { shape = plain kind; extent = pos 0; values = λ leaf subscripts. kept kind (TextValue []) v }
+abbrev pub copy_of : LeafKind → BasicValue → Generation
+copy_of kind v = record { shape = plain kind; extent = pos 0; values = λ leaf subscripts. kept kind (BasicText []) v }
 
 -- a parameter stands for what is passed by reference, or for a copy
 unfoldable pub parameter_bound : (variable : ℕ) → Passed → Meaning (Unit {0})
@@ -116,20 +108,15 @@ parameters_bound _ _ = stuck
 
 abbrev pub with_static : (block variable : ℕ) → Generation → State → State
 with_static block variable g s =
-    record {
-      world = s.world;
-      input = s.input;
+    record s {
       serials = s.serials + 1;
       living = living_at (s.serials + 1) 0 g ∷ s.living;
-      heap = s.heap;
       statics =
           record {
             block = block;
             binding = record { variable = variable; name = VariableName (s.serials + 1); shape = g.shape };
           }
           ∷ s.statics;
-      controlled = s.controlled;
-      activations = s.activations;
     }
 
 abbrev pub static_made : (block variable : ℕ) → Y.DeclaredVariable → Y.StorageClass → State → State

@@ -1,15 +1,15 @@
 -- The meaning of a typed program: the PL/I storage machine, by structure. Acts are the beginning of a statement, the
 -- entry of a procedure, each format item carried out, a raise, and the end of the run.
 use Rattle.std.specs.Prelude.{ℕ, zero, suc, ◌+◌, ℤ, pos, List, [], ◌∷◌, ◌++◌, length, Option, Some, None, Bool, true, false, nat_le, nat_lt, ◌==◌, if◌then◌else◌}
-use Rattle.pli_meaning.specs.declared.condition.Condition.{Condition}
-use Rattle.pli_meaning.specs.declared.condition.Condition.TheVariants as C
+use Rattle.pli_language.specs.declared.condition.Condition.{Condition}
+use Rattle.pli_language.specs.declared.condition.Condition.TheVariants as C
 use Rattle.pli_meaning.specs.declared.outcome.Limit.TheVariants as L
 use Rattle.pli_meaning.specs.declared.outcome.End.TheVariants as E
 use Rattle.pli_meaning.specs.Codes.{no_generation_code, too_wide_code}
 use Rattle.pli_meaning.specs.World.{World, counted, written, raising}
 use Rattle.pli_meaning.specs.Stream.{fixed_field, with_field}
 use Rattle.pli_meaning.specs.Numbers.{Checked, Gives, Raises, checked, sign_applied, operator_applied}
-use Rattle.pli_meaning.specs.Signatures.{Signature}
+use Rattle.pli_typing.specs.Signatures.{Signature}
 use Rattle.pli_meaning.specs.Typed.{Variable, Number, Constant, Fetched, Grouped, Signed, Operated, FormatItem, FixedItem, EditPair, BlockKind, ProcedureBlock, BeginBlock, UnitBlock, BlockHead, Stmt, Null, Assign, Put, Stmts, NoStmt, StmtThen, Block, BlockOf, Program}
 use Rattle.pli_meaning.specs.Storage.{Name, NullName, VariableName, BasedName, Value, NumberValue, number_in, Generation, fresh, with_scalar, AutomaticData, Living, OnUnit, SystemUnit, BlockUnit, Activation, State, first_state, generation_of, updated, named, force, most_activations, most_automatic, automatic_size, automatic_in_use}
 use Rattle.pli_meaning.specs.Flow.{Flow, Normal, Jump, Return, Ended, Paused, Stuck, Meaning, give, stuck, ◌>>=◌, ◌>>◌, looked, stored, act, finish, choose, leaving}
@@ -166,9 +166,7 @@ with_variable serial (a ∷ as') = record a { variables = a.variables ++ Variabl
 
 abbrev pub with_generation : Signature → State → State
 with_generation g s =
-    record {
-      world = s.world;
-      input = s.input;
+    record s {
       serials = s.serials + 1;
       living = record { serial = s.serials + 1; storing = AutomaticData; generation = fresh g } ∷ s.living;
       activations = with_variable (s.serials + 1) s.activations;
@@ -185,11 +183,7 @@ variables_made (g ∷ gs) = do
 
 abbrev pub with_activation : BlockHead → (parent oncode : ℕ) → State → State
 with_activation head parent oncode s =
-    record {
-      world = s.world;
-      input = s.input;
-      serials = s.serials;
-      living = s.living;
+    record s {
       activations =
           record {
             height = length s.activations + 1;
@@ -216,7 +210,7 @@ without names (l ∷ ls) = if is_named names l.serial then without names ls else
 abbrev pub closed : List Activation → State → State
 closed [] s = s
 closed (a ∷ as') s =
-    record { world = s.world; input = s.input; serials = s.serials; living = without a.variables s.living; activations = as' }
+    record s { living = without a.variables s.living; activations = as' }
 
 -- the newest activation ends, with its storage and on-units
 abbrev pub with_newest_closed : State → State

@@ -1,8 +1,9 @@
 -- Numbers: FIXED BINARY(p) holds -2^p to 2^p - 1. Results are exact whole numbers that are then checked against p.
 use Rattle.std.specs.Prelude.{ℕ, ◌+◌, ◌-◌, ◌%◌, ◌^◌, ℤ, pos, negsuc, ◌+ℤ◌, ◌-ℤ◌, neg_ℤ, Bool, nat_lt, if◌then◌else◌}
-use Rattle.pli_meaning.specs.declared.condition.Condition.{Condition}
+use Rattle.pli_language.specs.declared.condition.Condition.{Condition}
+use Rattle.pli_typing.specs.TypedTree.{Sign, Positive, Negative}
 use Rattle.pli_meaning.specs.Codes.{fixed_overflow_code}
-use Rattle.pli_meaning.specs.declared.condition.Condition.TheVariants.{FixedOverflow}
+use Rattle.pli_language.specs.declared.condition.Condition.TheVariants.{FixedOverflow}
 
 abbrev pub is_of_precision : ℕ → ℤ → Bool
 is_of_precision p (pos n) = nat_lt n (2 ^ p)
@@ -32,9 +33,6 @@ checked p z = if is_of_precision p z then Gives z else Raises FixedOverflow fixe
 -- operators and constants have this precision
 abbrev pub operator_precision : ℕ
 operator_precision = 31
-
-pub data Sign : Type 0 where
-  Positive Negative : Sign
 
 pub data Operator : Type 0 where
   Add Subtract : Operator

@@ -1,9 +1,9 @@
 -- What operators and built-ins on numbers come to. Results are exact whole numbers that are then checked. (X3.53-1976,
 -- chapter 9.)
 use Rattle.std.specs.Prelude.{ℕ, ℤ, pos, negsuc, ◌+ℤ◌, ◌-ℤ◌, ◌*ℤ◌, int_lt, int_div, nat_abs, List, [], ◌∷◌, if◌then◌else◌}
-use Rattle.pli_meaning.specs.declared.condition.Condition.TheVariants.{ZeroDivide}
+use Rattle.pli_language.specs.declared.condition.Condition.TheVariants.{ZeroDivide}
 use Rattle.pli_meaning.specs.Numbers.{Checked, Gives, Raises, checked, operator_precision, residue}
-use Rattle.pli_meaning.specs.TypedTree.{ArithmeticOperator, Sum, Difference, Product, Quotient, Extremum, Greatest, Least}
+use Rattle.pli_typing.specs.TypedTree.{ArithmeticOperator, Sum, Difference, Product, Quotient, Extremum, Greatest, Least}
 use Rattle.pli_meaning.specs.Contents.{same_int}
 use Rattle.pli_meaning.specs.Codes.{zero_divide_code}
 

@@ -1,12 +1,13 @@
 -- What becomes of storage: assignment to elements, aggregates and areas, ALLOCATE and FREE. (X3.53-1976, chapter 7.)
 use Rattle.std.specs.Prelude.{ℕ, zero, suc, ◌+◌, ◌-◌, ℤ, pos, Bool, true, false, ◌&&◌, ◌==◌, nat_le, nat_lt, List, [], ◌∷◌, ◌++◌, take, drop, length, Option, Some, None, slice_get, if◌then◌else◌}
-use Rattle.pli_meaning.specs.declared.condition.Condition.TheVariants as C
+use Rattle.pli_language.specs.declared.condition.Condition.TheVariants as C
 use Rattle.pli_meaning.specs.Codes.{no_generation_code, area_code, heap_full_code, extent_code, shape_code, not_in_area_code}
 use Rattle.pli_meaning.specs.World.{counted}
 use Rattle.pli_meaning.specs.Numbers.{is_of_precision}
-use Rattle.pli_meaning.specs.Signatures.{Bounds, Leaf}
-use Rattle.pli_meaning.specs.TypedTree as Y
-use Rattle.pli_meaning.specs.Contents.{Name, NullName, VariableName, BasedName, Value, NumberValue, PointerValue, OffsetValue, leaves_with, Generation, footprint_of, fresh, is_within, same_subscripts, same_bounds, kept, seen, with_value, Placed, gap, with_placed, without_offset, greatest_end}
+use Rattle.pli_typing.specs.Signatures.{Bounds, Leaf}
+use Rattle.pli_typing.specs.TypedTree as Y
+use Rattle.pli_meaning.specs.BasicValues.{Name, NullName, VariableName, BasedName, BasicValue, BasicNumber, BasicPointer, BasicOffset}
+use Rattle.pli_meaning.specs.Contents.{leaves_with, Generation, footprint_of, fresh, is_within, same_subscripts, same_bounds, kept, seen, with_value, Placed, gap, with_placed, without_offset, greatest_end}
 use Rattle.pli_meaning.specs.StorageState.{State, AreaContents, area_at, with_area, with_generation, named, heap_serial, offsets_of, with_offsets}
 use Rattle.pli_meaning.specs.Control.{Meaning, give, stuck, ◌>>=◌, ◌>>◌, looked, stored, act, choose, given}
 use Rattle.pli_meaning.specs.Raising.{Around, error, raised, or_error, demanded}
@@ -16,10 +17,10 @@ use Rattle.pli_meaning.specs.Making.{extents}
 
 -- ---- elements
 
-abbrev pub with_element : Designated → Value → Generation → Generation
+abbrev pub with_element : Designated → BasicValue → Generation → Generation
 with_element d v g = with_value d.part.first d.subscripts (kept (first_leaf d).kind (g.values d.part.first d.subscripts) v) g
 
-unfoldable pub element_stored : Designated → Value → Meaning (Unit {0})
+unfoldable pub element_stored : Designated → BasicValue → Meaning (Unit {0})
 element_stored d v = stored (with_generation d.name (with_element d v))
 
 -- ---- aggregates
@@ -35,7 +36,7 @@ is_in_part d leaf is =
     && (nat_lt leaf (d.part.first + d.part.count)
     && (goes_on_from d.subscripts is && is_within (leaf_at d.generation.shape d.extent leaf).bounds is))
 
-abbrev pub with_elements : Designated → (ℕ → List ℤ → Value) → Generation → Generation
+abbrev pub with_elements : Designated → (ℕ → List ℤ → BasicValue) → Generation → Generation
 with_elements d values g =
     record g {
       values = λ leaf is.
@@ -44,11 +45,11 @@ with_elements d values g =
           else g.values leaf is;
     }
 
-unfoldable pub elements_stored : Designated → (ℕ → List ℤ → Value) → Meaning (Unit {0})
+unfoldable pub elements_stored : Designated → (ℕ → List ℤ → BasicValue) → Meaning (Unit {0})
 elements_stored d values = stored (with_generation d.name (with_elements d values))
 
 -- what a part holds, as it was when it was taken
-abbrev pub elements_of : Designated → ℕ → List ℤ → Value
+abbrev pub elements_of : Designated → ℕ → List ℤ → BasicValue
 elements_of d n is =
     seen (leaf_at d.generation.shape d.extent (d.part.first + n)).kind (d.generation.values (d.part.first + n) (d.subscripts ++ is))
 
@@ -124,12 +125,12 @@ area_or_heap around (Some area) = area_meant around area
 unfoldable pub locator_set : Around → Y.LocatorTarget → Name → Meaning (Unit {0})
 locator_set around (Y.SetPointer r) n = do
   d ← designated around r
-  element_stored d (PointerValue n)
+  element_stored d (BasicPointer n)
 locator_set around (Y.SetOffset r area) n = do
   a ← area_meant around area
   o ← or_error around not_in_area_code (offset_within a n)
   d ← designated around r
-  element_stored d (OffsetValue o)
+  element_stored d (BasicOffset o)
 
 -- whether a member can keep an extent
 abbrev pub type_keeps : ℤ → Option Y.Leaf → Bool
@@ -150,7 +151,7 @@ refer_fits d z (Some r) = type_keeps z (slice_get d.leaves r.member)
 
 abbrev pub with_member : ℤ → Option Y.ReferMember → Generation → Generation
 with_member z None g = g
-with_member z (Some r) g = with_value r.member [] (NumberValue z) g
+with_member z (Some r) g = with_value r.member [] (BasicNumber z) g
 
 abbrev pub first_generation : List ℤ → Y.DeclaredVariable → ℤ → Generation
 first_generation values d z = with_member z d.refer (fresh (shape_of values d) z (initial_of d))
@@ -211,16 +212,7 @@ based_freed around d locator area = do
 abbrev pub without_newest_of : Y.Variable → List ℕ → State → State
 without_newest_of v [] s = s
 without_newest_of v (o ∷ os) s =
-    record {
-      world = s.world;
-      input = s.input;
-      serials = s.serials;
-      living = s.living;
-      heap = without_offset o s.heap;
-      statics = s.statics;
-      controlled = with_offsets v.block v.index os s.controlled;
-      activations = s.activations;
-    }
+    record s { heap = without_offset o s.heap; controlled = with_offsets v.block v.index os s.controlled }
 
 abbrev pub controlled_freed : Y.Variable → State → State
 controlled_freed v s = without_newest_of v (offsets_of s.controlled v.block v.index) s

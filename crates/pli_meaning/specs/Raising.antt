@@ -1,13 +1,14 @@
 -- What stands around a part, and conditions that are raised. (X3.53-1976, chapter 6, conditions and on-units.)
 use Rattle.std.specs.Prelude.{ℕ, ℤ, List, [], Bool, false, Option, Some, None}
-use Rattle.pli_meaning.specs.declared.condition.Condition.{Condition}
-use Rattle.pli_meaning.specs.declared.condition.Condition.TheVariants as C
+use Rattle.pli_language.specs.declared.condition.Condition.{Condition}
+use Rattle.pli_language.specs.declared.condition.Condition.TheVariants as C
 use Rattle.pli_meaning.specs.declared.outcome.End.TheVariants as E
 use Rattle.pli_meaning.specs.World.{raising}
-use Rattle.pli_meaning.specs.Signatures.{LeafKind}
+use Rattle.pli_typing.specs.Signatures.{LeafKind}
 use Rattle.pli_meaning.specs.Numbers.{Checked, Gives, Raises}
-use Rattle.pli_meaning.specs.TypedTree as Y
-use Rattle.pli_meaning.specs.Contents.{Name, Shape, Value}
+use Rattle.pli_typing.specs.TypedTree as Y
+use Rattle.pli_meaning.specs.BasicValues.{Name, BasicValue}
+use Rattle.pli_meaning.specs.Contents.{Shape}
 use Rattle.pli_meaning.specs.StorageState.{OnUnit, SystemUnit, BlockUnit, Activation, force}
 use Rattle.pli_meaning.specs.Control.{Meaning, give, ◌>>=◌, ◌>>◌, looked, act, finish, choose}
 
@@ -16,7 +17,7 @@ use Rattle.pli_meaning.specs.Control.{Meaning, give, ◌>>=◌, ◌>>◌, looked
 -- an argument on its way into a block: what it stands for, or a value to be copied
 pub data Passed : Type 0 where
   PassedName : Name → Shape → Passed
-  PassedValue : LeafKind → Value → Passed
+  PassedValue : LeafKind → BasicValue → Passed
 
 -- a block that is entered: the height of its static parent, the code of the condition for which it runs (0 where it is no
 -- on-unit), the places of its parameters among its variables with their arguments, and whether its end is one without a value
@@ -31,7 +32,7 @@ pub record Entry : Type 0 where
 
 -- how a block is entered: the only recursion that doesn't follow the tree
 abbrev pub Enter : Type 0
-Enter = Entry → Meaning (Option Value)
+Enter = Entry → Meaning (Option BasicValue)
 
 -- the program, how blocks are entered, how many turns a loop may make, and the line of the statement, which an error has
 pub record Around : Type 0 where

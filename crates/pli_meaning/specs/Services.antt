@@ -2,13 +2,13 @@
 -- state. Arguments come in a0 to a6, the number in a7, results go to a0 and a1; a register without a result stays. An
 -- address is counted from the base.
 use Rattle.std.specs.Prelude.{ℕ, zero, suc, ◌+◌, ◌*◌, ◌^◌, List, [], ◌∷◌, Option, Some, None, Bool, nat_le, nat_lt, ◌==◌, ◌&&◌, if◌then◌else◌}
-use Rattle.pli_meaning.specs.declared.condition.Condition.{Condition}
-use Rattle.pli_meaning.specs.declared.condition.Condition.TheVariants as C
+use Rattle.pli_language.specs.declared.condition.Condition.{Condition}
+use Rattle.pli_language.specs.declared.condition.Condition.TheVariants as C
 use Rattle.pli_meaning.specs.declared.outcome.End.{End}
 use Rattle.pli_meaning.specs.declared.outcome.End.TheVariants as E
-use Rattle.pli_meaning.specs.Words.{signed}
-use Rattle.pli_meaning.specs.Memory.{load}
-use Rattle.pli_meaning.specs.Machine.{memory_size}
+use Rattle.rv_meaning.specs.Words.{signed}
+use Rattle.rv_meaning.specs.Memory.{load}
+use Rattle.rv_meaning.specs.Machine.{memory_size}
 use Rattle.pli_meaning.specs.Stream.{fixed_field, with_field}
 use Rattle.pli_meaning.specs.Codes.{too_wide_code}
 use Rattle.pli_meaning.specs.World.{World, first_world, counted, written, raising, ending}
@@ -80,7 +80,7 @@ is_code n = nat_lt n (2 ^ 16)
 -- ---- acts
 
 abbrev pub with_world : World → Service → Service
-with_world w v = record { world = w; input = v.input; line = v.line; edits = v.edits }
+with_world w v = record v { world = w }
 
 -- one more act, where its number fits 64 bits
 abbrev pub acting : Service → Answer → Answer
@@ -92,8 +92,8 @@ acting v answer = if nat_lt (v.world.acts + 1) (2 ^ 64) then answer else Bad
 abbrev pub act_served : Service → (line mode : ℕ) → Answer
 act_served v line mode =
     if mode == 0
-    then acting v (Done (record { world = counted v.world; input = v.input; line = line; edits = v.edits }) line mode)
-    else (if mode == 1 then Done (record { world = v.world; input = v.input; line = line; edits = v.edits }) line mode else Bad)
+    then acting v (Done (record v { world = counted v.world; line = line }) line mode)
+    else (if mode == 1 then Done (record v { line = line }) line mode else Bad)
 
 abbrev pub end_of : (kind code line : ℕ) → Option End
 end_of kind code line =
@@ -145,7 +145,7 @@ formats_at code_bytes m at =
 abbrev pub edit_begun : Service → Option (List FormatItem) → (at mode : ℕ) → Answer
 edit_begun v None at mode = Bad
 edit_begun v (Some formats) at mode =
-    Done (record { world = v.world; input = v.input; line = v.line; edits = record { formats = formats; rest = formats } ∷ v.edits }) at mode
+    Done (record v { edits = record { formats = formats; rest = formats } ∷ v.edits }) at mode
 
 -- 34: a place at the start of a format list is pushed, so far of PUT alone
 abbrev pub edit_begin_served : (code_bytes : ℕ) → List ℕ → Service → (at mode : ℕ) → Answer
@@ -165,7 +165,7 @@ next_item place = item_of_rest place.formats place.rest place.formats
 abbrev pub edit_ended : Service → (a0 a1 : ℕ) → List EditPlace → Answer
 edit_ended v x y [] = Bad
 edit_ended v x y (place ∷ places) =
-    Done (record { world = v.world; input = v.input; line = v.line; edits = places }) x y
+    Done (record v { edits = places }) x y
 
 -- 38: the newest place is dropped
 abbrev pub edit_end_served : Service → (a0 a1 : ℕ) → Answer
@@ -178,7 +178,7 @@ field_asked v (Some field) number = Done v number 0
 abbrev pub field_put : Service → Option (List ℕ) → List EditPlace → (number : ℕ) → Answer
 field_put v None places number = Bad
 field_put v (Some field) places number =
-    acting v (Done (record { world = written (with_field field) v.world; input = v.input; line = v.line; edits = places }) number 1)
+    acting v (Done (record v { world = written (with_field field) v.world; edits = places }) number 1)
 
 -- 36: with 0 the field is only asked for: a1 is 0 where it is wide enough, else the code of the error; with 1 it is
 -- written, and the place goes on

@@ -1,9 +1,9 @@
 -- The storage machine's state: the world, the living generations by their names, and the activations, newest first.
 use Rattle.std.specs.Prelude.{ℕ, ◌+◌, ◌^◌, ℤ, pos, List, [], ◌∷◌, Option, Some, None, ◌==◌, if◌then◌else◌, Bool, true, false, slice_get}
-use Rattle.pli_meaning.specs.declared.condition.Condition.{Condition}
-use Rattle.pli_meaning.specs.declared.condition.Condition.TheVariants as C
+use Rattle.pli_language.specs.declared.condition.Condition.{Condition}
+use Rattle.pli_language.specs.declared.condition.Condition.TheVariants as C
 use Rattle.pli_meaning.specs.World.{World, first_world}
-use Rattle.pli_meaning.specs.Signatures.{Signature, data_size, footprint}
+use Rattle.pli_typing.specs.Signatures.{Signature, data_size, footprint}
 use Rattle.pli_meaning.specs.Typed.{Variable, Block}
 
 -- ---- names and generations

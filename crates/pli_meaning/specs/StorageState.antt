@@ -1,13 +1,15 @@
 -- The storage machine's state: the world, the input, what lives by its serial, the heap, and the activations, newest first.
 -- (X3.53-1976, chapter 5, the state of the interpreter, and chapter 7.)
 use Rattle.std.specs.Prelude.{ℕ, ◌+◌, ◌^◌, Bool, true, false, ◌&&◌, ◌==◌, List, [], ◌∷◌, Option, Some, None, if◌then◌else◌}
-use Rattle.pli_meaning.specs.declared.condition.Condition.{Condition}
-use Rattle.pli_meaning.specs.declared.condition.Condition.TheVariants as C
+use Rattle.pli_language.specs.declared.condition.Condition.{Condition}
+use Rattle.pli_language.specs.declared.condition.Condition.TheVariants as C
 use Rattle.pli_meaning.specs.World.{World, first_world}
-use Rattle.pli_meaning.specs.Signatures.{LeafKind, Area, Leaf}
-use Rattle.pli_meaning.specs.TypedTree as Y
+use Rattle.pli_typing.specs.Signatures.{LeafKind, Area, Leaf}
+use Rattle.pli_typing.specs.TypedTree as Y
 use Rattle.pli_meaning.specs.InputLines.{Input, first_input}
-use Rattle.pli_meaning.specs.Contents.{Name, NullName, VariableName, BasedName, Shape, same_shape, Generation, footprint_of, Placed, placed_at, changed_at}
+use Rattle.pli_meaning.specs.BasicValues.{Name, NullName, VariableName, BasedName}
+use Rattle.pli_meaning.specs.Unreachable.{unreachable_height}
+use Rattle.pli_meaning.specs.Contents.{Shape, same_shape, Generation, footprint_of, Placed, placed_at, changed_at}
 
 -- ---- what lives
 
@@ -79,17 +81,7 @@ first_state input =
 -- ---- changes of one part
 
 abbrev pub with_world : World → State → State
-with_world w s =
-    record {
-      world = w;
-      input = s.input;
-      serials = s.serials;
-      living = s.living;
-      heap = s.heap;
-      statics = s.statics;
-      controlled = s.controlled;
-      activations = s.activations;
-    }
+with_world w s = record s { world = w }
 
 abbrev pub with_input : (Input → Input) → State → State
 with_input change s = record s { input = change s.input }
@@ -186,7 +178,7 @@ ancestor (a ∷ as') height level =
     else ancestor as' height level
 
 abbrev pub newest_height : List Activation → ℕ
-newest_height [] = 0
+newest_height [] = unreachable_height
 newest_height (a ∷ as') = a.height
 
 -- the static ancestor of the running block at a level
@@ -194,7 +186,7 @@ abbrev pub ancestor_at : State → ℕ → Option Activation
 ancestor_at s level = ancestor s.activations (newest_height s.activations) level
 
 abbrev pub height_of : Option Activation → ℕ
-height_of None = 0
+height_of None = unreachable_height
 height_of (Some a) = a.height
 
 abbrev pub binding_of : List Binding → ℕ → Option Binding
@@ -304,17 +296,7 @@ without_owner height (l ∷ ls) = if l.owner == height then without_owner height
 -- the newest activation ends, with its storage and on-units
 abbrev pub without_newest : List Activation → State → State
 without_newest [] s = s
-without_newest (a ∷ as') s =
-    record {
-      world = s.world;
-      input = s.input;
-      serials = s.serials;
-      living = without_owner a.height s.living;
-      heap = s.heap;
-      statics = s.statics;
-      controlled = s.controlled;
-      activations = as';
-    }
+without_newest (a ∷ as') s = record s { living = without_owner a.height s.living; activations = as' }
 
 abbrev pub newest_ended : State → State
 newest_ended s = without_newest s.activations s

@@ -1,7 +1,7 @@
 -- Edit-directed output: a list of bytes, whose column is one more than the bytes after its last LF. Each format item
 -- is a function of the list.
 use Rattle.std.specs.Prelude.{ℕ, zero, suc, ◌+◌, ◌-◌, ◌/◌, ◌%◌, ℤ, pos, negsuc, List, [], ◌∷◌, ◌++◌, length, replicate, Option, Some, None, nat_lt, nat_le, ◌==◌, if◌then◌else◌}
-use Rattle.pli_meaning.specs.Tokens.{column_after}
+use Rattle.pli_language.specs.Tokens.{column_after}
 
 abbrev pub line_feed : ℕ
 line_feed = 10

@@ -2,8 +2,8 @@
 -- (X3.53-1976, chapter 8, the transmission of aggregates.)
 use Rattle.std.specs.Prelude.{ℕ, zero, suc, ◌+◌, ℤ, pos, ◌+ℤ◌, nat_lt, List, [], ◌∷◌, ◌++◌, length, map, Option, Some, None, slice_get, if◌then◌else◌}
 use Rattle.std.specs.List.{flat_map}
-use Rattle.pli_meaning.specs.Signatures.{Bounds, Leaf, span}
-use Rattle.pli_meaning.specs.TypedTree as Y
+use Rattle.pli_typing.specs.Signatures.{Bounds, Leaf, span}
+use Rattle.pli_typing.specs.TypedTree as Y
 
 -- a variable's structure as a tree: what stands in it, and what stands behind it in the same structure; a leaf holds nothing
 pub data Nest : Type 0 where

@@ -1,21 +1,22 @@
 -- GET and PUT with EDIT: items go by format lists, which are used again while items remain. (X3.53-1976, chapter 8.)
 use Rattle.std.specs.Prelude.{ℕ, zero, suc, ℤ, Bool, true, false, ◌&&◌, nat_le, filter, List, [], ◌∷◌, ◌++◌, Option, Some, None, slice_get}
-use Rattle.pli_meaning.specs.declared.condition.Condition.TheVariants as C
+use Rattle.pli_language.specs.declared.condition.Condition.TheVariants as C
 use Rattle.pli_meaning.specs.Codes.{no_generation_code, too_wide_code, conversion_code, endfile_code, extent_code}
 use Rattle.pli_meaning.specs.World.{counted, written}
 use Rattle.pli_meaning.specs.Stream.{fixed_field, with_field, spaced, skipped, moved_to_column}
 use Rattle.pli_meaning.specs.Numbers.{checked, operator_precision}
-use Rattle.pli_meaning.specs.Signatures.{LeafKind, Fixed, Character, Varying, Bit}
-use Rattle.pli_meaning.specs.Tree.{Format, FormatList, FixedFormat, TextFormat, SpaceFormat, SkipFormat, ColumnFormat, Formats, NoFormat, FormatThen}
-use Rattle.pli_meaning.specs.TypedTree as Y
-use Rattle.pli_meaning.specs.Texts.{fitted, number_text, bit_text, bit_number, number_in_text, bit_in_text}
+use Rattle.pli_typing.specs.Signatures.{LeafKind, Fixed, Character, Varying, Bit}
+use Rattle.pli_language.specs.Tree.{Format, FormatList, FixedFormat, TextFormat, SpaceFormat, SkipFormat, ColumnFormat, Formats, NoFormat, FormatThen}
+use Rattle.pli_typing.specs.TypedTree as Y
+use Rattle.pli_meaning.specs.Texts.{fitted, number_text, number_in_text, bit_in_text}
 use Rattle.pli_meaning.specs.InputLines.{Input, has_character, field_of, behind_field, behind_lines, at_column}
-use Rattle.pli_meaning.specs.Contents.{Value, NumberValue, TextValue, BitValue, leaves_with, Generation, is_within}
+use Rattle.pli_meaning.specs.BasicValues.{BasicValue, BasicNumber, BasicText, BasicBit}
+use Rattle.pli_meaning.specs.Contents.{leaves_with, Generation, is_within}
 use Rattle.pli_meaning.specs.StorageState.{with_input, named}
 use Rattle.pli_meaning.specs.Control.{Meaning, give, stuck, ◌>>=◌, ◌>>◌, looked, stored, act, choose, given}
 use Rattle.pli_meaning.specs.Raising.{Around, raised, value_of, or_error, demanded}
 use Rattle.pli_meaning.specs.DeclaredShapes.{kind_of, declared_variable}
-use Rattle.pli_meaning.specs.Evaluating.{Designated, leaf_at, first_leaf, value_in, designated, number, text, bit}
+use Rattle.pli_meaning.specs.Evaluating.{Designated, leaf_at, first_leaf, value_in, designated, Computational, ComputationalNumber, ComputationalText, ComputationalBit, as_text, as_number, computational}
 use Rattle.pli_meaning.specs.Placing.{is_in_part, element_stored}
 use Rattle.pli_meaning.specs.StreamOrder.{Element, elements_in_order}
 
@@ -76,41 +77,13 @@ control_written (ColumnItem n) output = moved_to_column n output
 unfoldable pub control_put : ControlItem → Meaning (Unit {0})
 control_put c = act (written (control_written c))
 
--- what PUT shows: a number has the places of its precision as a text
-pub data Shown : Type 0 where
-  ShownNumber : (precision : ℕ) → ℤ → Shown
-  ShownText : List ℕ → Shown
-  ShownBit : Bool → Shown
-
-abbrev pub text_shown : Shown → List ℕ
-text_shown (ShownNumber precision z) = number_text precision z
-text_shown (ShownText t) = t
-text_shown (ShownBit b) = bit_text b
-
-abbrev pub number_shown : Shown → Option ℤ
-number_shown (ShownNumber precision z) = Some z
-number_shown (ShownText t) = number_in_text t
-number_shown (ShownBit b) = Some (bit_number b)
-
-unfoldable pub shown_by : Around → Shown → DataItem → Meaning (Unit {0})
+unfoldable pub shown_by : Around → Computational → DataItem → Meaning (Unit {0})
 shown_by around v (FixedItem width) = do
-  z ← or_error around conversion_code (number_shown v)
+  z ← or_error around conversion_code (as_number v)
   field ← or_error around too_wide_code (fixed_field width z)
   act (written (with_field field))
-shown_by around v (TextItem None) = act (written (with_field (text_shown v)))
-shown_by around v (TextItem (Some width)) = act (written (with_field (fitted width (text_shown v))))
-
-unfoldable pub value_shown : Around → Y.Value → Meaning Shown
-value_shown around (Y.NumberValue precision e) = do
-  z ← number around e
-  give (ShownNumber precision z)
-value_shown around (Y.TextValue e) = do
-  t ← text around e
-  give (ShownText t)
-value_shown around (Y.BitValue e) = do
-  b ← bit around e
-  give (ShownBit b)
-value_shown around _ = stuck
+shown_by around v (TextItem None) = act (written (with_field (as_text v)))
+shown_by around v (TextItem (Some width)) = act (written (with_field (fitted width (as_text v))))
 
 -- ---- elements of aggregates: locator, extents and checks are taken once, and at each element the generation must still live
 
@@ -130,7 +103,8 @@ abbrev pub kind_holds : (allocated inforce : LeafKind) → Bool
 kind_holds (Character m) (Character n) = nat_le n m
 kind_holds _ _ = true
 
--- whether an element, as it was designated, lies within the extent with which a generation was allocated
+-- the generation that lives now may be another of the same signature, with a smaller REFER extent: an element that it doesn't
+-- have, or a text that it doesn't have in full, is ERROR 107
 abbrev pub element_holds : Generation → Designated → Element → Bool
 element_holds g d e =
     kind_holds (leaf_at g.shape g.extent e.0).kind (leaf_at d.generation.shape d.extent e.0).kind
@@ -144,11 +118,11 @@ element_designated around d e = do
   demanded around extent_code (element_holds g d e)
   give (record { name = d.name; generation = g; extent = d.extent; part = record { first = e.0; count = 1 }; subscripts = e.1 })
 
-abbrev pub shown_of : LeafKind → Value → Option Shown
-shown_of (Fixed p) (NumberValue z) = Some (ShownNumber p z)
-shown_of (Character n) (TextValue t) = Some (ShownText t)
-shown_of (Varying n) (TextValue t) = Some (ShownText t)
-shown_of Bit (BitValue b) = Some (ShownBit b)
+abbrev pub shown_of : LeafKind → BasicValue → Option Computational
+shown_of (Fixed p) (BasicNumber z) = Some (ComputationalNumber p z)
+shown_of (Character n) (BasicText t) = Some (ComputationalText t)
+shown_of (Varying n) (BasicText t) = Some (ComputationalText t)
+shown_of Bit (BasicBit b) = Some (ComputationalBit b)
 shown_of _ _ = None
 
 unfoldable pub element_put : Around → (whole rest : List FormatItem) → Designated → Meaning (List FormatItem)
@@ -170,7 +144,7 @@ elements_put around whole rest d (e ∷ es) = do
 -- an item is evaluated before the control items that stand before its format item
 unfoldable pub item_put : Around → (whole rest : List FormatItem) → Y.PutItem → Meaning (List FormatItem)
 item_put around whole rest (Y.PutValue e) = do
-  v ← value_shown around e
+  v ← computational around e
   next ← next_item control_put whole rest
   shown_by around v next.0
   give next.1
@@ -244,24 +218,24 @@ field_got around (TextItem (Some width)) = do
   give (text_got t)
 field_got around (TextItem None) = stuck
 
-unfoldable pub number_kept : Around → (precision : ℕ) → ℤ → Meaning Value
+unfoldable pub number_kept : Around → (precision : ℕ) → ℤ → Meaning BasicValue
 number_kept around p z = do
   z' ← value_of around (checked p z)
-  give (NumberValue z')
+  give (BasicNumber z')
 
 -- a field as a value of the target's kind
-unfoldable pub field_converted : Around → LeafKind → Field → Meaning Value
+unfoldable pub field_converted : Around → LeafKind → Field → Meaning BasicValue
 field_converted around (Fixed p) (NumberField z) = number_kept around p z
 field_converted around (Fixed p) (TextField t) = do
   z ← or_error around conversion_code (number_in_text t)
   number_kept around p z
-field_converted around (Character n) (NumberField z) = give (TextValue (number_text operator_precision z))
-field_converted around (Character n) (TextField t) = give (TextValue t)
-field_converted around (Varying n) (NumberField z) = give (TextValue (number_text operator_precision z))
-field_converted around (Varying n) (TextField t) = give (TextValue t)
+field_converted around (Character n) (NumberField z) = give (BasicText (number_text operator_precision z))
+field_converted around (Character n) (TextField t) = give (BasicText t)
+field_converted around (Varying n) (NumberField z) = give (BasicText (number_text operator_precision z))
+field_converted around (Varying n) (TextField t) = give (BasicText t)
 field_converted around Bit (TextField t) = do
   b ← or_error around conversion_code (bit_in_text t)
-  give (BitValue b)
+  give (BasicBit b)
 field_converted around _ _ = stuck
 
 abbrev pub type_of_leaf : Option Y.Leaf → Option Y.LeafType
@@ -275,7 +249,7 @@ type_of_first part (Some d) = type_of_leaf (slice_get d.leaves part.first)
 abbrev pub target_type : Around → Y.Reference → Option Y.LeafType
 target_type around (Y.Referring variable locator part subscripts) = type_of_first part (declared_variable around.program variable)
 
--- the field is converted before the target is evaluated
+-- the field is converted before the target is evaluated, by the kind alone: no length counts
 unfoldable pub scalar_got : Around → Y.Reference → Field → Meaning (Unit {0})
 scalar_got around r f =
     given (target_type around r)

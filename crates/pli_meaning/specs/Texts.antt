@@ -6,10 +6,10 @@ use Rattle.std.specs.Option.{option_map}
 use Rattle.std.specs.declared.cmp.Ordering.{Ordering}
 use Rattle.std.specs.declared.cmp.Ordering.TheVariants.{Less, Equal, Greater}
 use Rattle.std.specs.Ordering.{nat_cmp, ordering_then, is_eq, is_ne, is_lt, is_gt, is_le, is_ge}
-use Rattle.pli_meaning.specs.Tokens.{is_digit}
+use Rattle.pli_language.specs.Tokens.{is_digit}
 use Rattle.pli_meaning.specs.Stream.{blanks, decimal_text}
 use Rattle.pli_meaning.specs.Numbers.{is_of_precision, operator_precision}
-use Rattle.pli_meaning.specs.TypedTree.{Comparison, IsEqual, IsNotEqual, IsLess, IsGreater, IsLessOrEqual, IsGreaterOrEqual}
+use Rattle.pli_typing.specs.TypedTree.{Comparison, IsEqual, IsNotEqual, IsLess, IsGreater, IsLessOrEqual, IsGreaterOrEqual}
 
 -- no text is longer
 abbrev pub most_text : ℕ

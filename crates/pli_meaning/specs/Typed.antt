@@ -2,8 +2,9 @@
 -- kind that it has, and each statement has its line. A variable is named by the level of the block that declares it and
 -- its place among that block's variables.
 use Rattle.std.specs.Prelude.{ℕ, List}
-use Rattle.pli_meaning.specs.Numbers.{Sign, Operator}
-use Rattle.pli_meaning.specs.Signatures.{Signature}
+use Rattle.pli_meaning.specs.Numbers.{Operator}
+use Rattle.pli_typing.specs.TypedTree.{Sign}
+use Rattle.pli_typing.specs.Signatures.{Signature}
 
 -- a variable: the level of its block (0 for the outermost), its place there, and its precision
 pub record Variable : Type 0 where

@@ -2,15 +2,16 @@
 -- in it declarations of FIXED BINARY(31), then assignments, and PUT EDIT of one expression by one F(w).
 use Rattle.std.specs.Prelude.{ℕ, zero, suc, ◌+◌, ◌^◌, List, [], ◌∷◌, ◌++◌, map, Option, Some, None, Bool, true, false, ◌==◌, ◌&&◌, nat_le, nat_lt, max, if◌then◌else◌}
 use Rattle.std.specs.Option.{option_and_then}
-use Rattle.pli_meaning.specs.declared.expr.PrefixOp.TheVariants as P
-use Rattle.pli_meaning.specs.declared.expr.PrefixOp.{PrefixOp}
-use Rattle.pli_meaning.specs.declared.expr.InfixOp.{InfixOp}
-use Rattle.pli_meaning.specs.declared.expr.InfixOp.TheVariants as I
-use Rattle.pli_meaning.specs.declared.expr.Place.{Place}
-use Rattle.pli_meaning.specs.Keywords.{same_bytes}
-use Rattle.pli_meaning.specs.Numbers.{Sign, Positive, Negative, Operator, Add, Subtract}
-use Rattle.pli_meaning.specs.Signatures as G
-use Rattle.pli_meaning.specs.Tree as T
+use Rattle.pli_language.specs.declared.expr.PrefixOp.TheVariants as P
+use Rattle.pli_language.specs.declared.expr.PrefixOp.{PrefixOp}
+use Rattle.pli_language.specs.declared.expr.InfixOp.{InfixOp}
+use Rattle.pli_language.specs.declared.expr.InfixOp.TheVariants as I
+use Rattle.pli_language.specs.declared.expr.Place.{Place}
+use Rattle.pli_language.specs.Keywords.{same_bytes}
+use Rattle.pli_meaning.specs.Numbers.{Operator, Add, Subtract}
+use Rattle.pli_typing.specs.TypedTree.{Sign, Positive, Negative}
+use Rattle.pli_typing.specs.Signatures as G
+use Rattle.pli_language.specs.Tree as T
 use Rattle.pli_meaning.specs.Typed as Y
 
 -- goes on with a value where there is one

@@ -1,6 +1,6 @@
 -- What a run shows to the outside, shared by the storage machine and by the services of images: it changes only at an act.
 use Rattle.std.specs.Prelude.{ℕ, ◌+◌, List, [], ◌∷◌, ◌++◌}
-use Rattle.pli_meaning.specs.declared.condition.Condition.{Condition}
+use Rattle.pli_language.specs.declared.condition.Condition.{Condition}
 use Rattle.pli_meaning.specs.declared.outcome.End.{End}
 use Rattle.pli_meaning.specs.declared.outcome.End.TheVariants.{Running}
 use Rattle.pli_meaning.specs.Stream.{finished}
@@ -27,13 +27,12 @@ counted w = record w { acts = w.acts + 1 }
 
 -- an act that writes: what becomes of the output
 abbrev pub written : (List ℕ → List ℕ) → World → World
-written item w = record { acts = w.acts + 1; output = item w.output; raised = w.raised; end = w.end }
+written item w = record w { acts = w.acts + 1; output = item w.output }
 
 -- an act that raises a condition
 abbrev pub raising : Condition → ℕ → World → World
-raising c code w =
-    record { acts = w.acts + 1; output = w.output; raised = w.raised ++ (c, code) ∷ []; end = w.end }
+raising c code w = record w { acts = w.acts + 1; raised = w.raised ++ (c, code) ∷ [] }
 
 -- the act that ends the run; an unfinished last line is finished
 abbrev pub ending : End → World → World
-ending end w = record { acts = w.acts + 1; output = finished w.output; raised = w.raised; end = end }
+ending end w = record w { acts = w.acts + 1; output = finished w.output; end = end }

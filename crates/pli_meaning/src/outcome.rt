@@ -1,6 +1,6 @@
 // What a run comes to.
 
-use crate::condition::Condition;
+use pli_language::condition::Condition;
 
 /// The limits of storage whose passing ends a run.
 #[derive(Clone, Copy, PartialEq, Eq, Debug)]

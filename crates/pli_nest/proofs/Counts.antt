@@ -1,8 +1,8 @@
 -- What is open, frame by frame.
 use Rattle.std.proofs.Common.{◌≡◌, suc, List, ◌∷◌, Bool, Some, None, refl}
 use Rattle.std.specs.Prelude.{if◌then◌else◌}
-use Rattle.pli_meaning.specs.Nesting as N
-use Rattle.pli_meaning.specs.Nesting.{Frame, InList, ThenDue, ThenWhole, ElseDue, UnitDue, OfProcedure, OfGroup, OfWhile, OfCount, OfBegin}
+use Rattle.pli_language.specs.Nesting as N
+use Rattle.pli_language.specs.Nesting.{Frame, InList, ThenDue, ThenWhole, ElseDue, UnitDue, OfProcedure, OfGroup, OfWhile, OfCount, OfBegin}
 use Rattle.pli_nest.specs.Steps.{is_unit, is_block_list, labels_of, returning}
 
 pub returns_here : (f : Frame) (fs : List Frame) (b : Bool) → returning f ≡ Some b → N.may_return (f ∷ fs) ≡ b

@@ -2,10 +2,10 @@
 use Rattle.std.proofs.Common.{◌≡◌, List, [], ◌∷◌, true, false, refl, ap}
 use Rattle.std.specs.Prelude.{◌||◌, if◌then◌else◌}
 use Rattle.std.specs.List.{list_any}
-use Rattle.pli_meaning.specs.declared.fault.SourceKind.TheVariants.{EndName}
-use Rattle.pli_meaning.specs.Keywords.{same_bytes}
-use Rattle.pli_meaning.specs.Marks.{fault_at}
-use Rattle.pli_meaning.specs.Tree.{Name}
+use Rattle.pli_language.specs.declared.fault.SourceKind.TheVariants.{EndName}
+use Rattle.pli_language.specs.Keywords.{same_bytes}
+use Rattle.pli_language.specs.Marks.{fault_at}
+use Rattle.pli_language.specs.Tree.{Name}
 use Rattle.pli_nest.specs.Steps.{end_fault, is_among}
 
 pub among_none : (n : Name) → is_among n [] ≡ false

@@ -1,7 +1,7 @@
 -- Lists of items, from their last one on; lists without one.
 use Rattle.std.proofs.Common.{◌≡◌, List, [], ◌∷◌, ◌++◌, length, refl, ap, arith}
-use Rattle.pli_meaning.specs.Tree.{Item, Items, NoItem, ItemThen}
-use Rattle.pli_meaning.specs.Nesting.{items_of_list}
+use Rattle.pli_language.specs.Tree.{Item, Items, NoItem, ItemThen}
+use Rattle.pli_language.specs.Nesting.{items_of_list}
 use Rattle.pli_nest.specs.Steps.{items_onto}
 
 pub onto_none : (rest : Items) → items_onto [] rest ≡ rest

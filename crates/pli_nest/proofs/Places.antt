@@ -1,10 +1,10 @@
 -- Where a head may not stand.
 use Rattle.std.proofs.Common.{◌≡◌, List, [], ◌∷◌, refl}
 use Rattle.std.specs.Prelude.{if◌then◌else◌}
-use Rattle.pli_meaning.specs.declared.expr.Place.{Place}
-use Rattle.pli_meaning.specs.Tree.{Name}
-use Rattle.pli_meaning.specs.Nesting as N
-use Rattle.pli_meaning.specs.Nesting.{Frame, InList, ThenDue, ThenWhole, ElseDue, UnitDue}
+use Rattle.pli_language.specs.declared.expr.Place.{Place}
+use Rattle.pli_language.specs.Tree.{Name}
+use Rattle.pli_language.specs.Nesting as N
+use Rattle.pli_language.specs.Nesting.{Frame, InList, ThenDue, ThenWhole, ElseDue, UnitDue}
 use Rattle.pli_nest.specs.Steps.{first_place, takes_no_label}
 
 pub misplaced_here : (f : Frame) (fs : List Frame) (labels : List Name) (at : Place) → N.misplaced (f ∷ fs) labels at ≡ (if takes_no_label f then first_place labels at else at)

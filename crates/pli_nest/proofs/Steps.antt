@@ -1,7 +1,7 @@
 -- A whole statement, frame by frame.
 use Rattle.std.proofs.Common.{◌≡◌, List, [], ◌∷◌, Bool, true, false, refl, ap}
-use Rattle.pli_meaning.specs.Tree.{Stmt, If, IfElse, OnUnit}
-use Rattle.pli_meaning.specs.Nesting.{Frame, InList, ThenDue, ThenWhole, ElseDue, UnitDue, completed, closed}
+use Rattle.pli_language.specs.Tree.{Stmt, If, IfElse, OnUnit}
+use Rattle.pli_language.specs.Nesting.{Frame, InList, ThenDue, ThenWhole, ElseDue, UnitDue, completed, closed}
 use Rattle.pli_nest.specs.Steps.{Stays, Ends, completing, finished}
 
 pub finished_none : (m : Bool) (x : Stmt) → finished m x [] ≡ []

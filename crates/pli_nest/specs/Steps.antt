@@ -1,11 +1,11 @@
 -- What heads make of the frames around them, part by part.
 use Rattle.std.specs.Prelude.{List, [], ◌∷◌, ◌++◌, Bool, true, false, not, ◌&&◌, ◌||◌, Option, Some, None, if◌then◌else◌}
-use Rattle.pli_meaning.specs.declared.expr.Place.{Place}
-use Rattle.pli_meaning.specs.declared.fault.SourceFault.{SourceFault}
-use Rattle.pli_meaning.specs.Keywords.{same_bytes}
-use Rattle.pli_meaning.specs.Heads.{Head, ProcedureFront, Declaring, Simple, IfThen, Else, DoGroup, DoWhileGroup, DoCountGroup, BeginBlock, On, System, EndOf}
-use Rattle.pli_meaning.specs.Tree.{Name, ProcedureHead, Stmt, If, IfElse, OnUnit, Return, Revert, Item, Declare, Statement, Items, ItemThen, Tree}
-use Rattle.pli_meaning.specs.Nesting.{Nest, Opener, OfProcedure, OfGroup, OfWhile, OfCount, OfBegin, Frame, InList, ThenDue, ThenWhole, ElseDue, UnitDue, is_block, completed, closed, settled, with_frames, due, opened, whole, may_return, with_labelled_procedure, with_declaration, with_end, with_system, misplaced, nest_faults, end_name_faults, entered, items_of_list}
+use Rattle.pli_language.specs.declared.expr.Place.{Place}
+use Rattle.pli_language.specs.declared.fault.SourceFault.{SourceFault}
+use Rattle.pli_language.specs.Keywords.{same_bytes}
+use Rattle.pli_language.specs.Heads.{Head, ProcedureFront, Declaring, Simple, IfThen, Else, DoGroup, DoWhileGroup, DoCountGroup, BeginBlock, On, System, EndOf}
+use Rattle.pli_language.specs.Tree.{Name, ProcedureHead, Stmt, If, IfElse, OnUnit, Return, Revert, Item, Declare, Statement, Items, ItemThen, Tree}
+use Rattle.pli_language.specs.Nesting.{Nest, Opener, OfProcedure, OfGroup, OfWhile, OfCount, OfBegin, Frame, InList, ThenDue, ThenWhole, ElseDue, UnitDue, is_block, completed, closed, settled, with_frames, due, opened, whole, may_return, with_labelled_procedure, with_declaration, with_end, with_system, misplaced, nest_faults, end_name_faults, entered, items_of_list}
 
 -- ---- whole statements
 

@@ -1,7 +1,7 @@
 -- How the values of the code show what is open.
 use Rattle.std.specs.Prelude.{List, map}
-use Rattle.pli_meaning.specs.Nesting as N
-use Rattle.pli_meaning.specs.View.{counting_of, expr_of, item_of, name_of, procedure_head_of, stmt_of}
+use Rattle.pli_language.specs.Nesting as N
+use Rattle.pli_language.specs.View.{counting_of, expr_of, item_of, name_of, procedure_head_of, stmt_of}
 use Rattle.pli_phrase.specs.View.{newest}
 use Rattle.pli_nest.specs.declared.frame.Opener.{Opener}
 use Rattle.pli_nest.specs.declared.frame.Opener.TheVariants as O

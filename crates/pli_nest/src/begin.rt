@@ -1,12 +1,12 @@
 // Where statements begin.
 
 ghost use Rattle.std.specs.Prelude.{◌≡◌, IfOk, map};
-ghost use Rattle.pli_meaning.specs.View.{name_of, option_of};
+ghost use Rattle.pli_language.specs.View.{name_of, option_of};
 ghost use Rattle.pli_nest.specs.Steps.{begun_as, begun_frame, no_name};
 ghost use Rattle.pli_nest.specs.View.{frame_of, frames_of};
 
 use crate::frame::Frame;
-use pli_meaning::expr::Name;
+use pli_language::expr::Name;
 use std::alloc::AllocError;
 
 /// No name stands there.

@@ -1,17 +1,17 @@
 // Statements out of their parts.
 
 ghost use Rattle.std.specs.Prelude.{◌≡◌, IfOk, map};
-ghost use Rattle.pli_meaning.specs.Tree as T;
-ghost use Rattle.pli_meaning.specs.View.{counting_of, declare_item_of, expr_of, item_of, items_of, name_of, procedure_head_of, stmt_of};
+ghost use Rattle.pli_language.specs.Tree as T;
+ghost use Rattle.pli_language.specs.View.{counting_of, declare_item_of, expr_of, item_of, items_of, name_of, procedure_head_of, stmt_of};
 
-use pli_meaning::condition::Condition;
-use pli_meaning::declaration::DeclareItem;
-use pli_meaning::expr::{Expr, Name, Place};
-use pli_meaning::stmt::{Counting, Item, Items, ProcedureHead, Stmt};
+use pli_language::condition::Condition;
+use pli_language::declaration::DeclareItem;
+use pli_language::expr::{Expr, Name, Place};
+use pli_language::stmt::{Counting, Item, Items, ProcedureHead, Stmt};
 use std::alloc::{AllocError, Global};
 
 /// An IF without ELSE.
-#[tactic(auto, unfolding(pli_meaning::specs::View::stmt_of))]
+#[tactic(auto, unfolding(pli_language::specs::View::stmt_of))]
 pub fn if_alone(condition: Expr, unit: Box<Stmt>, place: Place) -> Stmt
     ensures { stmt_of result ≡ T.If (expr_of condition) (stmt_of unit.value) place }
 {
@@ -23,7 +23,7 @@ pub fn if_alone(condition: Expr, unit: Box<Stmt>, place: Place) -> Stmt
 }
 
 /// An IF with its ELSE.
-#[tactic(auto, unfolding(pli_meaning::specs::View::stmt_of))]
+#[tactic(auto, unfolding(pli_language::specs::View::stmt_of))]
 pub fn if_else(
     alloc: Global,
     condition: Expr,
@@ -42,7 +42,7 @@ pub fn if_else(
 }
 
 /// An on-unit.
-#[tactic(auto, unfolding(pli_meaning::specs::View::stmt_of))]
+#[tactic(auto, unfolding(pli_language::specs::View::stmt_of))]
 pub fn on_unit(
     alloc: Global,
     condition: Condition,
@@ -59,7 +59,7 @@ pub fn on_unit(
 }
 
 /// A statement with its labels.
-#[tactic(auto, unfolding(pli_meaning::specs::View::item_of))]
+#[tactic(auto, unfolding(pli_language::specs::View::item_of))]
 pub fn labelled(labels: Vec<Name>, statement: Stmt) -> Item
     ensures { item_of result ≡ T.Statement (map name_of labels.items) (stmt_of statement) }
 {
@@ -67,7 +67,7 @@ pub fn labelled(labels: Vec<Name>, statement: Stmt) -> Item
 }
 
 /// Declarations.
-#[tactic(auto, unfolding(pli_meaning::specs::View::item_of))]
+#[tactic(auto, unfolding(pli_language::specs::View::item_of))]
 pub fn declaration(items: Vec<DeclareItem>, place: Place) -> Item
     ensures { item_of result ≡ T.Declare (map declare_item_of items.items) place }
 {
@@ -75,7 +75,7 @@ pub fn declaration(items: Vec<DeclareItem>, place: Place) -> Item
 }
 
 /// The labels of an END.
-#[tactic(auto, unfolding(pli_meaning::specs::View::item_of))]
+#[tactic(auto, unfolding(pli_language::specs::View::item_of))]
 pub fn end_labels(labels: Vec<Name>, place: Place) -> Item
     ensures { item_of result ≡ T.EndLabels (map name_of labels.items) place }
 {
@@ -83,7 +83,7 @@ pub fn end_labels(labels: Vec<Name>, place: Place) -> Item
 }
 
 /// A procedure.
-#[tactic(auto, unfolding(pli_meaning::specs::View::item_of))]
+#[tactic(auto, unfolding(pli_language::specs::View::item_of))]
 pub fn procedure(head: ProcedureHead, body: Items) -> Item
     ensures { item_of result ≡ T.Procedure (procedure_head_of head) (items_of body) }
 {
@@ -91,7 +91,7 @@ pub fn procedure(head: ProcedureHead, body: Items) -> Item
 }
 
 /// The system's action for a condition.
-#[tactic(auto, unfolding(pli_meaning::specs::View::stmt_of))]
+#[tactic(auto, unfolding(pli_language::specs::View::stmt_of))]
 pub fn on_system(condition: Condition, place: Place) -> Stmt
     ensures { stmt_of result ≡ T.OnSystem condition place }
 {
@@ -99,7 +99,7 @@ pub fn on_system(condition: Condition, place: Place) -> Stmt
 }
 
 /// A group that is done once.
-#[tactic(auto, unfolding(pli_meaning::specs::View::stmt_of))]
+#[tactic(auto, unfolding(pli_language::specs::View::stmt_of))]
 pub fn group(body: Items, place: Place) -> Stmt
     ensures { stmt_of result ≡ T.Do (items_of body) place }
 {
@@ -107,7 +107,7 @@ pub fn group(body: Items, place: Place) -> Stmt
 }
 
 /// A group that is done as long as a condition holds.
-#[tactic(auto, unfolding(pli_meaning::specs::View::stmt_of))]
+#[tactic(auto, unfolding(pli_language::specs::View::stmt_of))]
 pub fn while_group(condition: Expr, body: Items, place: Place) -> Stmt
     ensures { stmt_of result ≡ T.DoWhile (expr_of condition) (items_of body) place }
 {
@@ -119,7 +119,7 @@ pub fn while_group(condition: Expr, body: Items, place: Place) -> Stmt
 }
 
 /// A group that counts.
-#[tactic(auto, unfolding(pli_meaning::specs::View::stmt_of))]
+#[tactic(auto, unfolding(pli_language::specs::View::stmt_of))]
 pub fn count_group(counting: Counting, body: Items, place: Place) -> Stmt
     ensures { stmt_of result ≡ T.DoCount (counting_of counting) (items_of body) place }
 {
@@ -131,7 +131,7 @@ pub fn count_group(counting: Counting, body: Items, place: Place) -> Stmt
 }
 
 /// A begin block.
-#[tactic(auto, unfolding(pli_meaning::specs::View::stmt_of))]
+#[tactic(auto, unfolding(pli_language::specs::View::stmt_of))]
 pub fn block(body: Items, place: Place) -> Stmt
     ensures { stmt_of result ≡ T.Begin (items_of body) place }
 {

@@ -1,17 +1,17 @@
 // Whole statements, in what is open around them.
 
 ghost use Rattle.std.specs.Prelude.{◌≡◌, IfOk, map, ◌++◌, ◌∷◌, []};
-ghost use Rattle.pli_meaning.specs.Nesting as N;
-ghost use Rattle.pli_meaning.specs.Tree as T;
-ghost use Rattle.pli_meaning.specs.View.{expr_of, item_of, name_of, stmt_of};
+ghost use Rattle.pli_language.specs.Nesting as N;
+ghost use Rattle.pli_language.specs.Tree as T;
+ghost use Rattle.pli_language.specs.View.{expr_of, item_of, name_of, stmt_of};
 ghost use Rattle.pli_nest.specs.Steps.{Ends, Stays, completing, finished};
 ghost use Rattle.pli_nest.specs.View.{frame_of, frames_of, opener_of, step_of};
 
 use crate::build::{if_alone, if_else, labelled, on_unit};
 use crate::frame::{Frame, Opener, Step};
-use pli_meaning::condition::Condition;
-use pli_meaning::expr::{Expr, Name, Place};
-use pli_meaning::stmt::{Item, Stmt};
+use pli_language::condition::Condition;
+use pli_language::expr::{Expr, Name, Place};
+use pli_language::stmt::{Item, Stmt};
 use std::alloc::{AllocError, Global};
 
 /// A list with one more statement.

@@ -1,9 +1,9 @@
 // What stands in a list without being a statement, and the end of what a list belongs to.
 
 ghost use Rattle.std.specs.Prelude.{◌≡◌, ◌&&◌, not, IfOk, Some, None, [], ◌∷◌, ◌++◌, map};
-ghost use Rattle.pli_meaning.specs.Nesting as N;
-ghost use Rattle.pli_meaning.specs.Tree as T;
-ghost use Rattle.pli_meaning.specs.View.{item_of, items_of, name_of, option_of, procedure_head_of, stmt_of};
+ghost use Rattle.pli_language.specs.Nesting as N;
+ghost use Rattle.pli_language.specs.Tree as T;
+ghost use Rattle.pli_language.specs.View.{item_of, items_of, name_of, option_of, procedure_head_of, stmt_of};
 ghost use Rattle.pli_nest.specs.Steps as S;
 ghost use Rattle.pli_nest.specs.View.{frame_of, frames_of, nest_of, opener_of};
 
@@ -15,9 +15,9 @@ use crate::items::{copied, items_in};
 use crate::limits::is_block;
 use crate::settle::pushed;
 use crate::statement::{open_list, with_frames};
-use pli_meaning::condition::Condition;
-use pli_meaning::expr::{Name, Place};
-use pli_meaning::stmt::{Item, Items, ProcedureHead, Stmt};
+use pli_language::condition::Condition;
+use pli_language::expr::{Name, Place};
+use pli_language::stmt::{Item, Items, ProcedureHead, Stmt};
 use std::alloc::{AllocError, Global};
 
 /// Items with one more, the last.

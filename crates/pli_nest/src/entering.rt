@@ -2,8 +2,8 @@
 
 ghost use Rattle.std.specs.Prelude.{◌≡◌, IfOk, None, [], map};
 ghost use Rattle.pli_head.specs.View.{head_of};
-ghost use Rattle.pli_meaning.specs.Nesting as N;
-ghost use Rattle.pli_meaning.specs.View.{name_of, option_of, tree_of};
+ghost use Rattle.pli_language.specs.Nesting as N;
+ghost use Rattle.pli_language.specs.View.{name_of, option_of, tree_of};
 ghost use Rattle.pli_nest.specs.Steps as S;
 ghost use Rattle.pli_nest.specs.View.{entry_of, frames_of, nest_of};
 
@@ -15,9 +15,9 @@ use crate::place::{misplaced as misplaced_at, nest_fault};
 use crate::settle::{else_due, settled, takes_else};
 use crate::statement::{list, simple, unit_due};
 use pli_head::Head;
-use pli_meaning::expr::{Name, Place};
-use pli_meaning::fault::SourceFault;
-use pli_meaning::stmt::{ProcedureHead, Tree};
+use pli_language::expr::{Name, Place};
+use pli_language::fault::SourceFault;
+use pli_language::stmt::{ProcedureHead, Tree};
 use std::alloc::{AllocError, Global};
 
 /// A nest in which nothing is open and no procedure is whole.

@@ -1,9 +1,9 @@
 // What is open around a place.
 
-use pli_meaning::condition::Condition;
-use pli_meaning::expr::{Expr, Name, Place};
-use pli_meaning::fault::SourceFault;
-use pli_meaning::stmt::{Counting, Item, ProcedureHead, Stmt};
+use pli_language::condition::Condition;
+use pli_language::expr::{Expr, Name, Place};
+use pli_language::fault::SourceFault;
+use pli_language::stmt::{Counting, Item, ProcedureHead, Stmt};
 
 /// What a list belongs to.
 #[derive(Drop)]

@@ -1,16 +1,16 @@
 // Lists of items, and of names.
 
 ghost use Rattle.std.specs.Prelude.{◌≡◌, IfOk, map};
-ghost use Rattle.pli_meaning.specs.Nesting.{items_of_list};
-ghost use Rattle.pli_meaning.specs.Tree.{ItemThen, NoItem};
-ghost use Rattle.pli_meaning.specs.View.{item_of, items_of, name_of};
+ghost use Rattle.pli_language.specs.Nesting.{items_of_list};
+ghost use Rattle.pli_language.specs.Tree.{ItemThen, NoItem};
+ghost use Rattle.pli_language.specs.View.{item_of, items_of, name_of};
 
-use pli_meaning::expr::Name;
-use pli_meaning::stmt::{Item, Items};
+use pli_language::expr::Name;
+use pli_language::stmt::{Item, Items};
 use std::alloc::{AllocError, Global};
 
 /// An item before others.
-#[tactic(auto, using(pli_meaning::proofs::Views::views))]
+#[tactic(auto, using(pli_language::proofs::Views::views))]
 fn item_then(alloc: Global, first: Item, rest: Items) -> Result<Items, AllocError>
     ensures { IfOk result (λ is. items_of is ≡ ItemThen (item_of first) (items_of rest)) }
 {
@@ -20,7 +20,7 @@ fn item_then(alloc: Global, first: Item, rest: Items) -> Result<Items, AllocErro
     })
 }
 
-#[tactic(auto, using(pli_meaning::proofs::Views::views))]
+#[tactic(auto, using(pli_language::proofs::Views::views))]
 fn no_item() -> Items
     ensures { items_of result ≡ NoItem }
 {

@@ -15,6 +15,3 @@ mod statement;
 
 pub use entering::{enter, misplaced, outermost, whole_tree};
 pub use frame::{Entry, Frame, Nest, Opener};
-
-#[cfg(test)]
-mod tests;

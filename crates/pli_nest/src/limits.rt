@@ -2,17 +2,17 @@
 
 ghost use Rattle.std.specs.Prelude.{◌≡◌, IfSome, count_by, map};
 ghost use Rattle.std.specs.List.{list_any};
-ghost use Rattle.pli_meaning.specs.Keywords.{same_bytes};
-ghost use Rattle.pli_meaning.specs.Marks.{fault_at};
-ghost use Rattle.pli_meaning.specs.Nesting as N;
-ghost use Rattle.pli_meaning.specs.View.{name_of, option_of};
+ghost use Rattle.pli_language.specs.Keywords.{same_bytes};
+ghost use Rattle.pli_language.specs.Marks.{fault_at};
+ghost use Rattle.pli_language.specs.Nesting as N;
+ghost use Rattle.pli_language.specs.View.{name_of, option_of};
 ghost use Rattle.pli_nest.specs.Steps.{is_block_list, is_unit, labels_of, list_of_option, returning};
 ghost use Rattle.pli_nest.specs.View.{frame_of, frames_of, opener_of};
-ghost use Rattle.pli_meaning.specs.declared.fault.SourceKind.TheVariants as K;
+ghost use Rattle.pli_language.specs.declared.fault.SourceKind.TheVariants as K;
 
 use crate::frame::{Frame, Opener};
-use pli_meaning::expr::{Name, Place};
-use pli_meaning::fault::{SourceFault, SourceKind};
+use pli_language::expr::{Name, Place};
+use pli_language::fault::{SourceFault, SourceKind};
 
 /// The most groups, IFs and on-units that may be open around another one.
 const MOST_UNITS: usize = 64;

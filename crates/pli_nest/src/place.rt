@@ -1,9 +1,9 @@
 // Where a head may not stand, and what the limits say of one that may.
 
 ghost use Rattle.std.specs.Prelude.{◌≡◌, map};
-ghost use Rattle.pli_meaning.specs.Keywords.{same_bytes};
-ghost use Rattle.pli_meaning.specs.Nesting as N;
-ghost use Rattle.pli_meaning.specs.View.{name_of, option_of};
+ghost use Rattle.pli_language.specs.Keywords.{same_bytes};
+ghost use Rattle.pli_language.specs.Nesting as N;
+ghost use Rattle.pli_language.specs.View.{name_of, option_of};
 ghost use Rattle.pli_head.specs.View.{head_of};
 ghost use Rattle.pli_nest.specs.Steps as S;
 ghost use Rattle.pli_nest.specs.View.{frame_of, frames_of};
@@ -11,8 +11,8 @@ ghost use Rattle.pli_nest.specs.View.{frame_of, frames_of};
 use crate::frame::Frame;
 use crate::limits::{block_fault, fault_at, labels_ended, unit_fault};
 use pli_head::Head;
-use pli_meaning::expr::{Name, Place};
-use pli_meaning::fault::{SourceFault, SourceKind};
+use pli_language::expr::{Name, Place};
+use pli_language::fault::{SourceFault, SourceKind};
 
 /// The place of the first name, else another one.
 fn first_place(names: &[Name], other: Place) -> Place

@@ -2,8 +2,8 @@
 
 ghost use Rattle.std.specs.Prelude.{◌≡◌, IfOk, ◌∷◌, map};
 ghost use Rattle.pli_head.specs.View.{head_of};
-ghost use Rattle.pli_meaning.specs.Nesting as N;
-ghost use Rattle.pli_meaning.specs.View.{name_of};
+ghost use Rattle.pli_language.specs.Nesting as N;
+ghost use Rattle.pli_language.specs.View.{name_of};
 ghost use Rattle.pli_nest.specs.Steps as S;
 ghost use Rattle.pli_nest.specs.View.{frame_of, frames_of, nest_of};
 
@@ -12,7 +12,7 @@ use crate::build::if_alone;
 use crate::complete::finished;
 use crate::frame::{Frame, Nest};
 use pli_head::Head;
-use pli_meaning::expr::Name;
+use pli_language::expr::Name;
 use std::alloc::{AllocError, Global};
 
 /// One more frame, the innermost.

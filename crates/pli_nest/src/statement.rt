@@ -1,8 +1,8 @@
 // Statements, and the fronts of statements, in a nest in which no ELSE comes.
 
 ghost use Rattle.std.specs.Prelude.{◌≡◌, IfOk, [], map};
-ghost use Rattle.pli_meaning.specs.Nesting as N;
-ghost use Rattle.pli_meaning.specs.View.{item_of, name_of, option_of, stmt_of};
+ghost use Rattle.pli_language.specs.Nesting as N;
+ghost use Rattle.pli_language.specs.View.{item_of, name_of, option_of, stmt_of};
 ghost use Rattle.pli_nest.specs.Steps as S;
 ghost use Rattle.pli_nest.specs.View.{frame_of, frames_of, nest_of, opener_of};
 
@@ -11,8 +11,8 @@ use crate::complete::finished;
 use crate::frame::{Frame, Nest, Opener};
 use crate::items::copied;
 use crate::limits::may_return;
-use pli_meaning::expr::Name;
-use pli_meaning::stmt::{Item, Stmt};
+use pli_language::expr::Name;
+use pli_language::stmt::{Item, Stmt};
 use std::alloc::{AllocError, Global};
 
 /// A nest with these frames, where there are any.
@@ -85,14 +85,14 @@ pub fn list(
 }
 
 /// A simple statement other than RETURN and REVERT.
-#[tactic(auto, unfolding(pli_meaning::specs::View::stmt_of))]
+#[tactic(auto, unfolding(pli_language::specs::View::stmt_of))]
 fn is_unit_stmt(statement: &Stmt) -> bool
     ensures { result ≡ S.is_unit_stmt (stmt_of statement.now) }
 {
     !matches!(statement, Stmt::Return { .. } | Stmt::Revert { .. })
 }
 
-#[tactic(auto, unfolding(pli_meaning::specs::View::stmt_of))]
+#[tactic(auto, unfolding(pli_language::specs::View::stmt_of))]
 fn is_return(statement: &Stmt) -> bool
     ensures { result ≡ S.is_return_stmt (stmt_of statement.now) }
 {

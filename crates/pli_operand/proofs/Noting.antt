@@ -2,14 +2,14 @@
 use Rattle.std.proofs.Common.{◌≡◌, ◌∙◌, Bool, true, false, List, [], ◌∷◌, ◌++◌, Option, Some, None, refl, sym, ap, ap₂}
 use Rattle.std.specs.Prelude.{◌||◌}
 use Rattle.std.specs.List.{list_any}
-use Rattle.pli_meaning.specs.declared.fault.SourceFault.{SourceFault}
-use Rattle.pli_meaning.specs.declared.typed.Variable.{Variable}
-use Rattle.pli_meaning.specs.Judging.{Mention}
-use Rattle.pli_meaning.specs.Generations.{is_forbidden}
-use Rattle.pli_meaning.specs.TypedTree as Y
-use Rattle.pli_meaning.specs.TypedView.{area_of, variable_of}
-use Rattle.pli_meaning.proofs.Least.{soonest-append}
-use Rattle.pli_meaning.specs.Refusals.{soonest}
+use Rattle.pli_language.specs.declared.fault.SourceFault.{SourceFault}
+use Rattle.pli_typing.specs.declared.typed.Variable.{Variable}
+use Rattle.pli_typing.specs.Judging.{Mention}
+use Rattle.pli_typing.specs.Generations.{is_forbidden}
+use Rattle.pli_typing.specs.TypedTree as Y
+use Rattle.pli_typing.specs.TypedView.{area_of, variable_of}
+use Rattle.pli_language.proofs.Least.{soonest-append}
+use Rattle.pli_language.specs.Refusals.{soonest}
 use Rattle.pli_operand.specs.declared.notes.Notes.{Notes}
 use Rattle.pli_operand.specs.Shown.{notes_of}
 use Rattle.pli_operand.specs.Notes.{Noted, any_forbidden, with_lists, with_fault, with_mention}

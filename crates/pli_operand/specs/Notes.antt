@@ -2,11 +2,11 @@
 -- being judged mentions what it may not.
 use Rattle.std.specs.Prelude.{Bool, false, ◌||◌, List, [], ◌∷◌, Option, Some, None}
 use Rattle.std.specs.List.{list_any}
-use Rattle.pli_meaning.specs.declared.fault.SourceFault.{SourceFault}
-use Rattle.pli_meaning.specs.Refusals.{soonest}
-use Rattle.pli_meaning.specs.Judging.{Judged, Mention}
-use Rattle.pli_meaning.specs.Generations.{is_forbidden}
-use Rattle.pli_meaning.specs.TypedTree as Y
+use Rattle.pli_language.specs.declared.fault.SourceFault.{SourceFault}
+use Rattle.pli_language.specs.Refusals.{soonest}
+use Rattle.pli_typing.specs.Judging.{Judged, Mention}
+use Rattle.pli_typing.specs.Generations.{is_forbidden}
+use Rattle.pli_typing.specs.TypedTree as Y
 
 pub record Noted : Type 0 where
   pub found : Option SourceFault

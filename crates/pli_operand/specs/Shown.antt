@@ -1,8 +1,8 @@
 -- What a program's values show of the definitions.
 use Rattle.std.specs.Prelude.{map, ℕ, drop}
-use Rattle.pli_meaning.specs.TypedTree as Y
-use Rattle.pli_meaning.specs.TypedView.{area_of, leaf_of, reference_of, value_of}
-use Rattle.pli_meaning.specs.Converting.{Designated, Referent, Designates, Gives, GivesEmptyArea, GivesNothing, NotKnown, Operand}
+use Rattle.pli_typing.specs.TypedTree as Y
+use Rattle.pli_typing.specs.TypedView.{area_of, leaf_of, reference_of, value_of}
+use Rattle.pli_typing.specs.Converting.{Designated, Referent, Designates, Gives, GivesUnknown, GivesEmptyArea, GivesNothing, NotKnown, Operand}
 use Rattle.pli_operand.specs.Notes.{Noted}
 use Rattle.pli_operand.specs.declared.notes.Notes.{Notes as NotesHeld}
 use Rattle.pli_operand.specs.declared.operand.Designated.{Designated as DesignatedHeld}
@@ -29,6 +29,7 @@ designated_of d = record {
 abbrev pub referent_of : ReferentHeld → Referent
 referent_of (R.Designates d) = Designates (designated_of d)
 referent_of (R.Gives v) = Gives (value_of v)
+referent_of R.UnknownValue = GivesUnknown
 referent_of R.EmptyArea = GivesEmptyArea
 referent_of R.Nothing = GivesNothing
 referent_of R.NotKnown = NotKnown

@@ -1,17 +1,17 @@
 // What is noted while a program is judged.
 
 ghost use Rattle.std.specs.Prelude.{◌≡◌, Option, Some, None};
-ghost use Rattle.pli_meaning.specs.Judging.{demand, MentionsFunction, MentionsVariable};
-ghost use Rattle.pli_meaning.specs.Generations.{is_forbidden};
-ghost use Rattle.pli_meaning.specs.Refusals.{fault};
-ghost use Rattle.pli_meaning.specs.TypedView.{variable_of};
+ghost use Rattle.pli_typing.specs.Judging.{demand, MentionsFunction, MentionsVariable};
+ghost use Rattle.pli_typing.specs.Generations.{is_forbidden};
+ghost use Rattle.pli_language.specs.Refusals.{fault};
+ghost use Rattle.pli_typing.specs.TypedView.{variable_of};
 ghost use Rattle.pli_operand.specs.Notes.{noted, with_fault, with_mention};
 ghost use Rattle.pli_operand.specs.Shown.{notes_of};
 
 use pli_declaring::least::noted;
-use pli_meaning::expr::Place;
-use pli_meaning::fault::{SourceFault, SourceKind};
-use pli_meaning::typed::{StorageClass, Variable};
+use pli_language::expr::Place;
+use pli_language::fault::{SourceFault, SourceKind};
+use pli_typing::typed::{StorageClass, Variable};
 
 /// The least of what is broken so far. Where an extent is judged, its variable, and whether it mentions what it may not.
 #[derive(Clone, Copy, Debug)]

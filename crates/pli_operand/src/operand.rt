@@ -1,7 +1,7 @@
 // What references and expressions come to.
 
-use pli_meaning::expr::Place;
-use pli_meaning::typed::{Leaf, Reference, Value};
+use pli_language::expr::Place;
+use pli_typing::typed::{Leaf, Reference, Value};
 
 /// A variable or a part of one: its leaves, for how many of their outer bounds subscripts stand, for how many no subscripts
 /// stand, whether it has members, and whether it is a whole variable of level 1.
@@ -16,11 +16,12 @@ pub struct Designated<'t, 'a> {
 }
 
 /// An expression designates a part of a variable, gives a value, is EMPTY(), or is nothing that has a value; or nothing is
-/// known of it.
+/// known of it. An operand in parentheses gives a value even where its kind isn't known, so it is no reference.
 #[derive(Debug, Drop)]
 pub enum Referent<'t, 'a> {
     Designates(Designated<'t, 'a>),
     Gives(Value<'a>),
+    UnknownValue,
     EmptyArea,
     Nothing,
     NotKnown,

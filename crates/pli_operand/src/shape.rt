@@ -1,13 +1,13 @@
 // The kinds of what is designated.
 
 ghost use Rattle.std.specs.Prelude.{◌≡◌, map};
-ghost use Rattle.pli_meaning.specs.Converting as C;
-ghost use Rattle.pli_meaning.specs.TypedView.{leaf_of, leaf_type_of, reference_of, variable_of};
-ghost use Rattle.pli_meaning.specs.View.{option_of};
+ghost use Rattle.pli_typing.specs.Converting as C;
+ghost use Rattle.pli_typing.specs.TypedView.{leaf_of, leaf_type_of, reference_of, variable_of};
+ghost use Rattle.pli_language.specs.View.{option_of};
 ghost use Rattle.pli_operand.specs.Shown.{designated_of, leaf_behind};
 
 use crate::operand::Designated;
-use pli_meaning::typed::{Leaf, LeafType, Reference, Variable};
+use pli_typing::typed::{Leaf, LeafType, Reference, Variable};
 
 /// The kind of an only leaf.
 fn only_type(leaves: &[Leaf], subscripted: usize) -> Option<LeafType>
@@ -54,7 +54,7 @@ pub fn is_aggregate(designated: &Designated) -> bool
 }
 
 /// The variable of a reference.
-#[tactic(auto, unfolding(pli_meaning::specs::TypedView::reference_of))]
+#[tactic(auto, unfolding(pli_typing::specs::TypedView::reference_of))]
 pub fn variable_of(reference: &Reference) -> Variable
     ensures { variable_of result ≡ C.variable_of (reference_of reference.now) }
 {

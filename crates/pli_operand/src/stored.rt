@@ -1,12 +1,12 @@
 // Values on their way into storage, and areas.
 
 ghost use Rattle.std.specs.Prelude.{◌≡◌, None, false, is_some, IfOk, OnOk};
-ghost use Rattle.pli_meaning.specs.declared.fault.SourceKind.TheVariants.{TypeMismatch};
-ghost use Rattle.pli_meaning.specs.Converting as C;
-ghost use Rattle.pli_meaning.specs.Refusals.{fault};
-ghost use Rattle.pli_meaning.specs.TypedTree as Y;
-ghost use Rattle.pli_meaning.specs.TypedView.{area_of, leaf_type_of, reference_of, stored_of, value_of, variable_of};
-ghost use Rattle.pli_meaning.specs.View.{option_of};
+ghost use Rattle.pli_language.specs.declared.fault.SourceKind.TheVariants.{TypeMismatch};
+ghost use Rattle.pli_typing.specs.Converting as C;
+ghost use Rattle.pli_language.specs.Refusals.{fault};
+ghost use Rattle.pli_typing.specs.TypedTree as Y;
+ghost use Rattle.pli_typing.specs.TypedView.{area_of, leaf_type_of, reference_of, stored_of, value_of, variable_of};
+ghost use Rattle.pli_language.specs.View.{option_of};
 ghost use Rattle.pli_operand.specs.Notes.{noted, with_fault};
 ghost use Rattle.pli_operand.specs.Shown.{designated_of, notes_of, operand_of, referent_of};
 
@@ -15,14 +15,14 @@ use crate::operand::{Designated, Operand, Referent};
 use crate::shape::{is_area, variable_of};
 use crate::value::operand_value;
 use crate::wanted::{bit_wanted, number_wanted, offset_wanted, pointer_wanted, text_wanted};
-use pli_meaning::expr::Place;
-use pli_meaning::fault::SourceKind;
-use pli_meaning::typed::{
+use pli_language::expr::Place;
+use pli_language::fault::SourceKind;
+use pli_typing::typed::{
     Bit, LeafType, Numbers, Part, Reference, StorageClass, Stored, Value, Variable,
 };
 use std::alloc::{AllocError, Global};
 
-#[tactic(auto, using(crate::proofs::Noting::noting), unfolding(pli_meaning::specs::TypedView::stored_of))]
+#[tactic(auto, using(crate::proofs::Noting::noting), unfolding(pli_typing::specs::TypedView::stored_of))]
 fn number_stored<'a>(
     alloc: Global,
     notes: &mut Notes,
@@ -39,7 +39,7 @@ fn number_stored<'a>(
     })
 }
 
-#[tactic(auto, using(crate::proofs::Noting::noting), unfolding(pli_meaning::specs::TypedView::stored_of))]
+#[tactic(auto, using(crate::proofs::Noting::noting), unfolding(pli_typing::specs::TypedView::stored_of))]
 fn text_stored<'a>(
     alloc: Global,
     notes: &mut Notes,
@@ -52,7 +52,7 @@ fn text_stored<'a>(
     Ok(Stored::Text(text_wanted(alloc, notes, place, value)?))
 }
 
-#[tactic(auto, using(crate::proofs::Noting::noting), unfolding(pli_meaning::specs::TypedView::stored_of))]
+#[tactic(auto, using(crate::proofs::Noting::noting), unfolding(pli_typing::specs::TypedView::stored_of))]
 fn bit_stored<'a>(
     alloc: Global,
     notes: &mut Notes,
@@ -65,7 +65,7 @@ fn bit_stored<'a>(
     Ok(Stored::Bit(bit_wanted(alloc, notes, place, value)?))
 }
 
-#[tactic(auto, using(crate::proofs::Noting::noting), unfolding(pli_meaning::specs::TypedView::stored_of))]
+#[tactic(auto, using(crate::proofs::Noting::noting), unfolding(pli_typing::specs::TypedView::stored_of))]
 fn pointer_stored<'a>(
     alloc: Global,
     notes: &mut Notes,
@@ -78,7 +78,7 @@ fn pointer_stored<'a>(
     Ok(Stored::Pointer(pointer_wanted(alloc, notes, place, value)?))
 }
 
-#[tactic(auto, using(crate::proofs::Noting::noting), unfolding(pli_meaning::specs::TypedView::stored_of))]
+#[tactic(auto, using(crate::proofs::Noting::noting), unfolding(pli_typing::specs::TypedView::stored_of))]
 fn offset_stored<'a>(
     alloc: Global,
     notes: &mut Notes,
@@ -100,7 +100,7 @@ fn is_given(value: Option<Value>) -> bool
 }
 
 /// No value goes into an area.
-#[tactic(auto, using(crate::proofs::Noting::noting), unfolding(pli_meaning::specs::TypedView::stored_of, pli_meaning::specs::TypedView::bit_of))]
+#[tactic(auto, using(crate::proofs::Noting::noting), unfolding(pli_typing::specs::TypedView::stored_of, pli_typing::specs::TypedView::bit_of))]
 fn none_stored<'a>(notes: &mut Notes, place: Place, value: Option<Value<'a>>) -> Stored<'a>
     ensures noted { notes_of notes.new ≡ noted (notes_of notes.old) (C.wanted (λ w. None) (Y.StoredBit (Y.BitConstant false)) place (option_of value_of value.entry)) }
     ensures value { stored_of result ≡ (C.wanted (λ w. None) (Y.StoredBit (Y.BitConstant false)) place (option_of value_of value.entry)).value }
@@ -162,7 +162,7 @@ pub fn no_variable() -> Variable
 }
 
 /// Stands in for a reference.
-#[tactic(auto, unfolding(pli_meaning::specs::TypedView::reference_of, pli_meaning::specs::TypedView::numbers_of))]
+#[tactic(auto, unfolding(pli_typing::specs::TypedView::reference_of, pli_typing::specs::TypedView::numbers_of))]
 pub fn no_reference<'a>() -> Reference<'a>
     ensures { reference_of result ≡ C.no_reference }
 {
@@ -201,10 +201,8 @@ pub fn area_operand(notes: &mut Notes, operand: &Operand) -> Variable
 {
     match &operand.referent {
         Referent::Designates(designated) => designated_area(notes, operand.place, designated),
-        Referent::Gives(_) | Referent::EmptyArea | Referent::Nothing => no_area(
-            notes,
-            operand.place,
-        ),
+        Referent::Gives(_) | Referent::UnknownValue | Referent::EmptyArea | Referent::Nothing =>
+            no_area(notes, operand.place),
         Referent::NotKnown => no_variable(),
     }
 }

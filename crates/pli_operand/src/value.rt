@@ -1,12 +1,12 @@
 // The values of operands.
 
 ghost use Rattle.std.specs.Prelude.{◌≡◌, None, IfOk, OnOk};
-ghost use Rattle.pli_meaning.specs.declared.fault.SourceKind.TheVariants.{TypeMismatch};
-ghost use Rattle.pli_meaning.specs.Converting as C;
-ghost use Rattle.pli_meaning.specs.Refusals.{fault};
-ghost use Rattle.pli_meaning.specs.TypedTree as Y;
-ghost use Rattle.pli_meaning.specs.TypedView.{area_of, arguments_of, bit_of, call_of, leaf_type_of, number_of, offset_of, pointer_of, reference_of, text_of, value_of};
-ghost use Rattle.pli_meaning.specs.View.{option_of};
+ghost use Rattle.pli_language.specs.declared.fault.SourceKind.TheVariants.{TypeMismatch};
+ghost use Rattle.pli_typing.specs.Converting as C;
+ghost use Rattle.pli_language.specs.Refusals.{fault};
+ghost use Rattle.pli_typing.specs.TypedTree as Y;
+ghost use Rattle.pli_typing.specs.TypedView.{area_of, arguments_of, bit_of, call_of, leaf_type_of, number_of, offset_of, pointer_of, reference_of, text_of, value_of};
+ghost use Rattle.pli_language.specs.View.{option_of};
 ghost use Rattle.pli_operand.specs.Notes.{noted, with_fault};
 ghost use Rattle.pli_operand.specs.Shown.{designated_of, notes_of, operand_of, referent_of};
 
@@ -14,15 +14,15 @@ use crate::notes::Notes;
 use crate::operand::{Designated, Operand, Referent};
 use crate::shape::scalar_type;
 use crate::wanted::{number_wanted, own_bit_wanted, pointer_wanted, text_wanted};
-use pli_meaning::expr::Place;
-use pli_meaning::fault::SourceKind;
-use pli_meaning::typed::{
+use pli_language::expr::Place;
+use pli_language::fault::SourceKind;
+use pli_typing::typed::{
     Arguments, Bit, Call, Callee, LeafType, Number, Offset, Pointer, Reference, Text, Value,
     Variable,
 };
 use std::alloc::{AllocError, Global};
 
-#[tactic(auto, unfolding(pli_meaning::specs::TypedView::number_of))]
+#[tactic(auto, unfolding(pli_typing::specs::TypedView::number_of))]
 fn number_in<'a>(
     alloc: Global,
     precision: u64,
@@ -36,28 +36,28 @@ fn number_in<'a>(
     })
 }
 
-#[tactic(auto, unfolding(pli_meaning::specs::TypedView::text_of))]
+#[tactic(auto, unfolding(pli_typing::specs::TypedView::text_of))]
 fn text_in<'a>(alloc: Global, reference: Reference<'a>) -> Result<Value<'a>, AllocError>
     ensures { IfOk result (λ v. value_of v ≡ Y.TextValue (Y.TextIn (reference_of reference.entry))) }
 {
     Ok(Value::Text(Text::In(Box::new(alloc, reference)?)))
 }
 
-#[tactic(auto, unfolding(pli_meaning::specs::TypedView::bit_of))]
+#[tactic(auto, unfolding(pli_typing::specs::TypedView::bit_of))]
 fn bit_in<'a>(alloc: Global, reference: Reference<'a>) -> Result<Value<'a>, AllocError>
     ensures { IfOk result (λ v. value_of v ≡ Y.BitValue (Y.BitIn (reference_of reference.entry))) }
 {
     Ok(Value::Bit(Bit::In(Box::new(alloc, reference)?)))
 }
 
-#[tactic(auto, unfolding(pli_meaning::specs::TypedView::pointer_of))]
+#[tactic(auto, unfolding(pli_typing::specs::TypedView::pointer_of))]
 fn pointer_in<'a>(alloc: Global, reference: Reference<'a>) -> Result<Value<'a>, AllocError>
     ensures { IfOk result (λ v. value_of v ≡ Y.PointerValue (Y.PointerIn (reference_of reference.entry))) }
 {
     Ok(Value::Pointer(Pointer::In(Box::new(alloc, reference)?)))
 }
 
-#[tactic(auto, unfolding(pli_meaning::specs::TypedView::offset_of))]
+#[tactic(auto, unfolding(pli_typing::specs::TypedView::offset_of))]
 fn offset_in<'a>(
     alloc: Global,
     area: Option<Variable>,
@@ -89,7 +89,7 @@ pub fn value_in<'a>(
     }
 }
 
-#[tactic(auto, unfolding(pli_meaning::specs::TypedView::number_of))]
+#[tactic(auto, unfolding(pli_typing::specs::TypedView::number_of))]
 fn number_from<'a, 't>(
     alloc: Global,
     precision: u64,
@@ -107,7 +107,7 @@ fn number_from<'a, 't>(
     }))
 }
 
-#[tactic(auto, unfolding(pli_meaning::specs::TypedView::text_of))]
+#[tactic(auto, unfolding(pli_typing::specs::TypedView::text_of))]
 fn text_from<'a, 't>(
     alloc: Global,
     callee: Callee,
@@ -121,7 +121,7 @@ fn text_from<'a, 't>(
     })))
 }
 
-#[tactic(auto, unfolding(pli_meaning::specs::TypedView::bit_of))]
+#[tactic(auto, unfolding(pli_typing::specs::TypedView::bit_of))]
 fn bit_from<'a, 't>(
     alloc: Global,
     callee: Callee,
@@ -135,7 +135,7 @@ fn bit_from<'a, 't>(
     })))
 }
 
-#[tactic(auto, unfolding(pli_meaning::specs::TypedView::pointer_of))]
+#[tactic(auto, unfolding(pli_typing::specs::TypedView::pointer_of))]
 fn pointer_from<'a, 't>(
     alloc: Global,
     callee: Callee,
@@ -149,7 +149,7 @@ fn pointer_from<'a, 't>(
     })))
 }
 
-#[tactic(auto, unfolding(pli_meaning::specs::TypedView::offset_of))]
+#[tactic(auto, unfolding(pli_typing::specs::TypedView::offset_of))]
 fn offset_from<'a, 't>(
     alloc: Global,
     area: Option<Variable>,
@@ -256,7 +256,7 @@ pub fn referent_value<'a>(
         Referent::Designates(designated) => designated_value(alloc, notes, place, designated),
         Referent::Gives(value) => Ok(Some(value)),
         Referent::EmptyArea | Referent::Nothing => Ok(no_value(notes, place)),
-        Referent::NotKnown => Ok(None),
+        Referent::UnknownValue | Referent::NotKnown => Ok(None),
     }
 }
 

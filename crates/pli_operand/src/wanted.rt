@@ -1,28 +1,28 @@
 // Values where a kind is wanted.
 
 ghost use Rattle.std.specs.Prelude.{◌≡◌, Some, None, IfOk, OnOk, false, []};
-ghost use Rattle.pli_meaning.specs.Converting as C;
-ghost use Rattle.pli_meaning.specs.Refusals.{fault};
-ghost use Rattle.pli_meaning.specs.TypedTree as Y;
-ghost use Rattle.pli_meaning.specs.TypedView.{area_of, bit_of, number_of, offset_of, pointer_of, text_of, value_of};
-ghost use Rattle.pli_meaning.specs.View.{option_of};
+ghost use Rattle.pli_typing.specs.Converting as C;
+ghost use Rattle.pli_language.specs.Refusals.{fault};
+ghost use Rattle.pli_typing.specs.TypedTree as Y;
+ghost use Rattle.pli_typing.specs.TypedView.{area_of, bit_of, number_of, offset_of, pointer_of, text_of, value_of};
+ghost use Rattle.pli_language.specs.View.{option_of};
 ghost use Rattle.pli_operand.specs.Notes.{noted, with_fault};
 ghost use Rattle.pli_operand.specs.Shown.{notes_of};
 
 use crate::notes::Notes;
-use pli_meaning::expr::Place;
-use pli_meaning::fault::SourceKind;
-use pli_meaning::typed::{Bit, Number, Offset, Pointer, Text, Value, Variable};
+use pli_language::expr::Place;
+use pli_language::fault::SourceKind;
+use pli_typing::typed::{Bit, Number, Offset, Pointer, Text, Value, Variable};
 use std::alloc::{AllocError, Global};
 
-#[tactic(auto, unfolding(pli_meaning::specs::TypedView::number_of))]
+#[tactic(auto, unfolding(pli_typing::specs::TypedView::number_of))]
 fn number_of_text<'a>(alloc: Global, text: Text<'a>) -> Result<Option<Number<'a>>, AllocError>
     ensures { IfOk result (λ x. option_of number_of x ≡ C.number_of (Y.TextValue (text_of text.entry))) }
 {
     Ok(Some(Number::OfText(Box::new(alloc, text)?)))
 }
 
-#[tactic(auto, unfolding(pli_meaning::specs::TypedView::number_of))]
+#[tactic(auto, unfolding(pli_typing::specs::TypedView::number_of))]
 fn number_of_bit<'a>(alloc: Global, bit: Bit<'a>) -> Result<Option<Number<'a>>, AllocError>
     ensures { IfOk result (λ x. option_of number_of x ≡ C.number_of (Y.BitValue (bit_of bit.entry))) }
 {
@@ -41,7 +41,7 @@ pub fn number_of<'a>(alloc: Global, value: Value<'a>) -> Result<Option<Number<'a
     }
 }
 
-#[tactic(auto, unfolding(pli_meaning::specs::TypedView::text_of))]
+#[tactic(auto, unfolding(pli_typing::specs::TypedView::text_of))]
 fn text_of_number<'a>(
     alloc: Global,
     precision: u64,
@@ -55,7 +55,7 @@ fn text_of_number<'a>(
     }))
 }
 
-#[tactic(auto, unfolding(pli_meaning::specs::TypedView::text_of))]
+#[tactic(auto, unfolding(pli_typing::specs::TypedView::text_of))]
 fn text_of_bit<'a>(alloc: Global, bit: Bit<'a>) -> Result<Option<Text<'a>>, AllocError>
     ensures { IfOk result (λ x. option_of text_of x ≡ C.text_of (Y.BitValue (bit_of bit.entry))) }
 {
@@ -74,7 +74,7 @@ pub fn text_of<'a>(alloc: Global, value: Value<'a>) -> Result<Option<Text<'a>>, 
     }
 }
 
-#[tactic(auto, unfolding(pli_meaning::specs::TypedView::bit_of))]
+#[tactic(auto, unfolding(pli_typing::specs::TypedView::bit_of))]
 fn bit_of_text<'a>(alloc: Global, text: Text<'a>) -> Result<Option<Bit<'a>>, AllocError>
     ensures { IfOk result (λ x. option_of bit_of x ≡ C.bit_of (Y.TextValue (text_of text.entry))) }
 {
@@ -106,7 +106,7 @@ pub fn only_bit<'a>(value: Value<'a>) -> Option<Bit<'a>>
     }
 }
 
-#[tactic(auto, unfolding(pli_meaning::specs::TypedView::pointer_of))]
+#[tactic(auto, unfolding(pli_typing::specs::TypedView::pointer_of))]
 fn pointer_into<'a>(
     alloc: Global,
     area: Variable,
@@ -134,7 +134,7 @@ fn pointer_of_offset<'a>(
 }
 
 /// A value as a POINTER, where it converts to one.
-#[tactic(auto, unfolding(pli_meaning::specs::TypedView::pointer_of))]
+#[tactic(auto, unfolding(pli_typing::specs::TypedView::pointer_of))]
 pub fn pointer_of<'a>(alloc: Global, value: Value<'a>) -> Result<Option<Pointer<'a>>, AllocError>
     ensures { IfOk result (λ p. option_of pointer_of p ≡ C.pointer_of (value_of value.entry)) }
 {
@@ -146,7 +146,7 @@ pub fn pointer_of<'a>(alloc: Global, value: Value<'a>) -> Result<Option<Pointer<
     }
 }
 
-#[tactic(auto, unfolding(pli_meaning::specs::TypedView::offset_of))]
+#[tactic(auto, unfolding(pli_typing::specs::TypedView::offset_of))]
 fn offset_into<'a>(
     alloc: Global,
     area: Variable,
@@ -174,7 +174,7 @@ fn offset_of_pointer<'a>(
 }
 
 /// A value as an OFFSET that is declared with this area, where it converts to one.
-#[tactic(auto, unfolding(pli_meaning::specs::TypedView::offset_of))]
+#[tactic(auto, unfolding(pli_typing::specs::TypedView::offset_of))]
 pub fn offset_of<'a>(
     alloc: Global,
     area: Option<Variable>,
@@ -191,7 +191,7 @@ pub fn offset_of<'a>(
 }
 
 /// The value, or where there is none a mismatch at its place and what stands in for it.
-#[tactic(auto, using(crate::proofs::Noting::noting), unfolding(pli_meaning::specs::TypedView::number_of))]
+#[tactic(auto, using(crate::proofs::Noting::noting), unfolding(pli_typing::specs::TypedView::number_of))]
 pub fn number_or_mismatch<'a>(
     notes: &mut Notes,
     place: Place,
@@ -210,7 +210,7 @@ pub fn number_or_mismatch<'a>(
 }
 
 /// The value, or where there is none a mismatch at its place and what stands in for it.
-#[tactic(auto, using(crate::proofs::Noting::noting), unfolding(pli_meaning::specs::TypedView::text_of))]
+#[tactic(auto, using(crate::proofs::Noting::noting), unfolding(pli_typing::specs::TypedView::text_of))]
 pub fn text_or_mismatch<'a>(notes: &mut Notes, place: Place, value: Option<Text<'a>>) -> Text<'a>
     ensures noted { notes_of notes.new ≡ noted (notes_of notes.old) (C.converted_or (Y.TextConstant []) place (option_of text_of value.entry)) }
     ensures value { text_of result ≡ (C.converted_or (Y.TextConstant []) place (option_of text_of value.entry)).value }
@@ -225,7 +225,7 @@ pub fn text_or_mismatch<'a>(notes: &mut Notes, place: Place, value: Option<Text<
 }
 
 /// The value, or where there is none a mismatch at its place and what stands in for it.
-#[tactic(auto, using(crate::proofs::Noting::noting), unfolding(pli_meaning::specs::TypedView::bit_of))]
+#[tactic(auto, using(crate::proofs::Noting::noting), unfolding(pli_typing::specs::TypedView::bit_of))]
 pub fn bit_or_mismatch<'a>(notes: &mut Notes, place: Place, value: Option<Bit<'a>>) -> Bit<'a>
     ensures noted { notes_of notes.new ≡ noted (notes_of notes.old) (C.converted_or (Y.BitConstant false) place (option_of bit_of value.entry)) }
     ensures value { bit_of result ≡ (C.converted_or (Y.BitConstant false) place (option_of bit_of value.entry)).value }
@@ -240,7 +240,7 @@ pub fn bit_or_mismatch<'a>(notes: &mut Notes, place: Place, value: Option<Bit<'a
 }
 
 /// The value, or where there is none a mismatch at its place and what stands in for it.
-#[tactic(auto, using(crate::proofs::Noting::noting), unfolding(pli_meaning::specs::TypedView::pointer_of))]
+#[tactic(auto, using(crate::proofs::Noting::noting), unfolding(pli_typing::specs::TypedView::pointer_of))]
 pub fn pointer_or_mismatch<'a>(
     notes: &mut Notes,
     place: Place,
@@ -259,7 +259,7 @@ pub fn pointer_or_mismatch<'a>(
 }
 
 /// The value, or where there is none a mismatch at its place and what stands in for it.
-#[tactic(auto, using(crate::proofs::Noting::noting), unfolding(pli_meaning::specs::TypedView::offset_of))]
+#[tactic(auto, using(crate::proofs::Noting::noting), unfolding(pli_typing::specs::TypedView::offset_of))]
 pub fn offset_or_mismatch<'a>(
     notes: &mut Notes,
     place: Place,
@@ -278,7 +278,7 @@ pub fn offset_or_mismatch<'a>(
 }
 
 /// A number where one is wanted.
-#[tactic(auto, using(crate::proofs::Noting::noting), unfolding(pli_meaning::specs::TypedView::number_of))]
+#[tactic(auto, using(crate::proofs::Noting::noting), unfolding(pli_typing::specs::TypedView::number_of))]
 pub fn number_wanted<'a>(
     alloc: Global,
     notes: &mut Notes,
@@ -298,7 +298,7 @@ pub fn number_wanted<'a>(
 }
 
 /// A text where one is wanted.
-#[tactic(auto, using(crate::proofs::Noting::noting), unfolding(pli_meaning::specs::TypedView::text_of))]
+#[tactic(auto, using(crate::proofs::Noting::noting), unfolding(pli_typing::specs::TypedView::text_of))]
 pub fn text_wanted<'a>(
     alloc: Global,
     notes: &mut Notes,
@@ -318,7 +318,7 @@ pub fn text_wanted<'a>(
 }
 
 /// A bit where one is wanted.
-#[tactic(auto, using(crate::proofs::Noting::noting), unfolding(pli_meaning::specs::TypedView::bit_of))]
+#[tactic(auto, using(crate::proofs::Noting::noting), unfolding(pli_typing::specs::TypedView::bit_of))]
 pub fn bit_wanted<'a>(
     alloc: Global,
     notes: &mut Notes,
@@ -338,7 +338,7 @@ pub fn bit_wanted<'a>(
 }
 
 /// A bit where one is wanted and nothing is converted.
-#[tactic(auto, using(crate::proofs::Noting::noting), unfolding(pli_meaning::specs::TypedView::bit_of))]
+#[tactic(auto, using(crate::proofs::Noting::noting), unfolding(pli_typing::specs::TypedView::bit_of))]
 pub fn own_bit_wanted<'a>(notes: &mut Notes, place: Place, value: Option<Value<'a>>) -> Bit<'a>
     ensures noted { notes_of notes.new ≡ noted (notes_of notes.old) (C.own_bit_wanted place (option_of value_of value.entry)) }
     ensures value { bit_of result ≡ (C.own_bit_wanted place (option_of value_of value.entry)).value }
@@ -365,7 +365,7 @@ fn area_mentioned(notes: &mut Notes, value: &Option<Value>)
     }
 }
 
-#[tactic(auto, using(crate::proofs::Noting::noting), unfolding(pli_meaning::specs::TypedView::pointer_of))]
+#[tactic(auto, using(crate::proofs::Noting::noting), unfolding(pli_typing::specs::TypedView::pointer_of))]
 fn pointer_converted<'a>(
     alloc: Global,
     notes: &mut Notes,
@@ -400,7 +400,7 @@ pub fn pointer_wanted<'a>(
 }
 
 /// An OFFSET that is declared with this area, where one is wanted.
-#[tactic(auto, using(crate::proofs::Noting::noting), unfolding(pli_meaning::specs::TypedView::offset_of))]
+#[tactic(auto, using(crate::proofs::Noting::noting), unfolding(pli_typing::specs::TypedView::offset_of))]
 pub fn offset_wanted<'a>(
     alloc: Global,
     notes: &mut Notes,

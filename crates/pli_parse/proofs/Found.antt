@@ -1,13 +1,13 @@
 -- The least of what was found so far, and how it decides.
 use Rattle.std.proofs.Common.{◌≡◌, ℕ, zero, suc, ◌-◌, ◌<◌, List, [], ◌++◌, length, Option, Some, None, Ok, Err, refl, sym, ap, ◌∙◌, subst, arith}
 use Rattle.std.specs.Prelude.{MatchOption}
-use Rattle.pli_meaning.specs.declared.fault.SourceFault.{SourceFault}
-use Rattle.pli_meaning.specs.declared.token.Token.{Token}
-use Rattle.pli_meaning.specs.Nesting.{Nest, outermost}
-use Rattle.pli_meaning.specs.Parsing.{Reads, Spells, RefusesTokens}
-use Rattle.pli_meaning.specs.Refusals.{IsLeast, soonest, least}
-use Rattle.pli_meaning.specs.Tree.{Tree}
-use Rattle.pli_meaning.proofs.Least.{least_found, soonest-append}
+use Rattle.pli_language.specs.declared.fault.SourceFault.{SourceFault}
+use Rattle.pli_language.specs.declared.token.Token.{Token}
+use Rattle.pli_language.specs.Nesting.{Nest, outermost}
+use Rattle.pli_language.specs.Parsing.{Reads, Spells, RefusesTokens}
+use Rattle.pli_language.specs.Refusals.{IsLeast, soonest, least}
+use Rattle.pli_language.specs.Tree.{Tree}
+use Rattle.pli_language.proofs.Least.{least_found, soonest-append}
 use Rattle.pli_parse.specs.Answers.{Verdict, verdict, answer, On, Ends, stepped}
 use Rattle.pli_parse.specs.Reading.{Parsed, broken_before, Turn, GoesOn, Over, turn, turned, source_from, parsed}
 use Rattle.pli_parse.proofs.Sound.{TurnReads, turn_sound, source_sound}

@@ -1,10 +1,10 @@
 -- Labels are read as they are spelled.
 use Rattle.std.proofs.Common.{◌≡◌, ℕ, ◌<◌, ◌≤◌, List, [], ◌∷◌, ◌++◌, length, Option, Some, None, refl, sym, ap, ◌∙◌, arith, append_assoc, append-nil}
-use Rattle.pli_meaning.specs.declared.token.Word.{Word}
-use Rattle.pli_meaning.specs.declared.token.Token.{Token}
-use Rattle.pli_meaning.specs.Parsing.{label_of, SpellsLabels, no_label, label}
-use Rattle.pli_meaning.specs.Spells.{name_at}
-use Rattle.pli_meaning.specs.Tree.{Name}
+use Rattle.pli_language.specs.declared.token.Word.{Word}
+use Rattle.pli_language.specs.declared.token.Token.{Token}
+use Rattle.pli_language.specs.Parsing.{label_of, SpellsLabels, no_label, label}
+use Rattle.pli_language.specs.Spells.{name_at}
+use Rattle.pli_language.specs.Tree.{Name}
 use Rattle.pli_parse.specs.Reading.{labelled, labels_from, label_with, label_front}
 
 -- what was read is labels, and the tokens behind them are no more

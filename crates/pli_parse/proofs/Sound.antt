@@ -1,18 +1,18 @@
 -- A source is read as the rules say.
 use Rattle.std.proofs.Common.{◌≡◌, ℕ, zero, suc, ◌<◌, ◌≤◌, ◌⊎◌, inl, inr, List, [], ◌∷◌, ◌++◌, length, Bool, true, false, Option, Some, None, Ok, Err, refl, sym, ◌∙◌, subst, arith, append_assoc}
 use Rattle.std.specs.Prelude.{if◌then◌else◌}
-use Rattle.pli_meaning.specs.declared.expr.Place.{Place}
-use Rattle.pli_meaning.specs.declared.fault.SourceFault.{SourceFault}
-use Rattle.pli_meaning.specs.declared.fault.SourceKind.TheVariants.{LeftOut}
-use Rattle.pli_meaning.specs.declared.token.Token.{Token}
-use Rattle.pli_meaning.specs.Heads as G
-use Rattle.pli_meaning.specs.Heads.{Head, SpellsHead}
-use Rattle.pli_meaning.specs.Marks.{no_marks, fault_at}
-use Rattle.pli_meaning.specs.Nesting.{Frame, InList, ThenDue, ThenWhole, ElseDue, UnitDue, Nest, entered, settled, misplaced, nest_faults, items_of_list}
-use Rattle.pli_meaning.specs.Parsing as P
-use Rattle.pli_meaning.specs.Parsing.{SpellsLabels, no_label, label, BeginsHead, BeginsLeftOut, BreaksOff, Reads, faults_of, syntax_at, end_of}
-use Rattle.pli_meaning.specs.Spells.{place_of}
-use Rattle.pli_meaning.specs.Tree.{Name, Tree}
+use Rattle.pli_language.specs.declared.expr.Place.{Place}
+use Rattle.pli_language.specs.declared.fault.SourceFault.{SourceFault}
+use Rattle.pli_language.specs.declared.fault.SourceKind.TheVariants.{LeftOut}
+use Rattle.pli_language.specs.declared.token.Token.{Token}
+use Rattle.pli_language.specs.Heads as G
+use Rattle.pli_language.specs.Heads.{Head, SpellsHead}
+use Rattle.pli_language.specs.Marks.{no_marks, fault_at}
+use Rattle.pli_language.specs.Nesting.{Frame, InList, ThenDue, ThenWhole, ElseDue, UnitDue, Nest, entered, settled, misplaced, nest_faults, items_of_list}
+use Rattle.pli_language.specs.Parsing as P
+use Rattle.pli_language.specs.Parsing.{SpellsLabels, no_label, label, BeginsHead, BeginsLeftOut, BreaksOff, Reads, faults_of, syntax_at, end_of}
+use Rattle.pli_language.specs.Spells.{place_of}
+use Rattle.pli_language.specs.Tree.{Name, Tree}
 use Rattle.pli_phrase.specs.Cursor.{Cursor, Missed, Stuck, Ended, LeavesOut, Read}
 use Rattle.pli_head.specs.Reading.{head_from}
 use Rattle.pli_head.proofs.Laws.{head_sound, head_leaves}

@@ -1,11 +1,11 @@
 -- What the code answers, against what reading gives.
 use Rattle.std.specs.Prelude.{List, Option, Some, None, Result, Ok, Err}
-use Rattle.pli_meaning.specs.declared.fault.SourceFault.{SourceFault}
-use Rattle.pli_meaning.specs.declared.fault.SourceKind.TheVariants.{Memory}
-use Rattle.pli_meaning.specs.declared.token.Token.{Token}
-use Rattle.pli_meaning.specs.Nesting.{Nest}
-use Rattle.pli_meaning.specs.Refusals.{soonest}
-use Rattle.pli_meaning.specs.Tree.{Tree}
+use Rattle.pli_language.specs.declared.fault.SourceFault.{SourceFault}
+use Rattle.pli_language.specs.declared.fault.SourceKind.TheVariants.{Memory}
+use Rattle.pli_language.specs.declared.token.Token.{Token}
+use Rattle.pli_language.specs.Nesting.{Nest}
+use Rattle.pli_language.specs.Refusals.{soonest}
+use Rattle.pli_language.specs.Tree.{Tree}
 use Rattle.pli_parse.specs.Reading.{Parsed, Turn, GoesOn, Over}
 
 abbrev pub out_of_memory : SourceFault

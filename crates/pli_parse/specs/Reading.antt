@@ -1,17 +1,17 @@
 -- How a source is read, head by head.
 use Rattle.std.specs.List.{list_all}
 use Rattle.std.specs.Prelude.{ℕ, zero, suc, List, [], ◌∷◌, ◌++◌, length, Bool, not, if◌then◌else◌, Option, Some, None, Ok, Err}
-use Rattle.pli_meaning.specs.declared.expr.Place.{Place}
-use Rattle.pli_meaning.specs.declared.fault.SourceFault.{SourceFault}
-use Rattle.pli_meaning.specs.declared.fault.SourceKind.TheVariants.{LeftOut}
-use Rattle.pli_meaning.specs.declared.token.Word.{Word}
-use Rattle.pli_meaning.specs.declared.token.Token.{Token}
-use Rattle.pli_meaning.specs.Heads.{Head}
-use Rattle.pli_meaning.specs.Marks.{no_marks, fault_at}
-use Rattle.pli_meaning.specs.Nesting.{Nest, settled, misplaced}
-use Rattle.pli_meaning.specs.Parsing.{label_of, is_semicolon, faults_of, syntax_at, end_of}
-use Rattle.pli_meaning.specs.Spells.{name_at, place_of}
-use Rattle.pli_meaning.specs.Tree.{Name, Tree}
+use Rattle.pli_language.specs.declared.expr.Place.{Place}
+use Rattle.pli_language.specs.declared.fault.SourceFault.{SourceFault}
+use Rattle.pli_language.specs.declared.fault.SourceKind.TheVariants.{LeftOut}
+use Rattle.pli_language.specs.declared.token.Word.{Word}
+use Rattle.pli_language.specs.declared.token.Token.{Token}
+use Rattle.pli_language.specs.Heads.{Head}
+use Rattle.pli_language.specs.Marks.{no_marks, fault_at}
+use Rattle.pli_language.specs.Nesting.{Nest, settled, misplaced}
+use Rattle.pli_language.specs.Parsing.{label_of, is_semicolon, faults_of, syntax_at, end_of}
+use Rattle.pli_language.specs.Spells.{name_at, place_of}
+use Rattle.pli_language.specs.Tree.{Name, Tree}
 use Rattle.pli_phrase.specs.Cursor.{Cursor, Stuck, Ended, LeavesOut, Read}
 use Rattle.pli_head.specs.Reading.{head_from}
 use Rattle.pli_nest.specs.Steps.{Entry, EnteredAs, MisplacedAt, entry, whole_tree}

@@ -1,9 +1,9 @@
 -- How the values of the code show turns.
 use Rattle.std.specs.Prelude.{Some, Result, Ok, Err}
-use Rattle.pli_meaning.specs.declared.fault.SourceFault.{SourceFault}
-use Rattle.pli_meaning.specs.declared.stmt.Tree.{Tree}
-use Rattle.pli_meaning.specs.Tree as T
-use Rattle.pli_meaning.specs.View.{tree_of}
+use Rattle.pli_language.specs.declared.fault.SourceFault.{SourceFault}
+use Rattle.pli_language.specs.declared.stmt.Tree.{Tree}
+use Rattle.pli_language.specs.Tree as T
+use Rattle.pli_language.specs.View.{tree_of}
 use Rattle.pli_nest.specs.View.{nest_of}
 use Rattle.pli_parse.specs.Answers.{Step, On, Ends}
 use Rattle.pli_parse.specs.declared.turn.Turn.{Turn}

@@ -1,12 +1,12 @@
 // The end of a source.
 
 ghost use Rattle.std.specs.Prelude.{◌≡◌, ◌==◌, ◌≤◌, not, count_by, take_while, reverse, length};
-ghost use Rattle.pli_meaning.specs.Parsing.{end_of, is_semicolon};
-ghost use Rattle.pli_meaning.specs.Tokens.{most_bytes};
+ghost use Rattle.pli_language.specs.Parsing.{end_of, is_semicolon};
+ghost use Rattle.pli_language.specs.Tokens.{most_bytes};
 ghost use Rattle.pli_parse.specs.Reading.{breaks_off};
 
-use pli_meaning::expr::Place;
-use pli_meaning::token::{Kind, Symbol, Token};
+use pli_language::expr::Place;
+use pli_language::token::{Kind, Symbol, Token};
 
 /// The LF bytes.
 fn line_ends(source: &[u8]) -> usize

@@ -1,12 +1,12 @@
 // Labels.
 
 ghost use Rattle.std.specs.Prelude.{◌≡◌, IfOk, map};
-ghost use Rattle.pli_meaning.specs.Parsing.{label_of};
-ghost use Rattle.pli_meaning.specs.View.{name_of, option_of};
+ghost use Rattle.pli_language.specs.Parsing.{label_of};
+ghost use Rattle.pli_language.specs.View.{name_of, option_of};
 ghost use Rattle.pli_parse.specs.Reading.{label_front, labels_from};
 
-use pli_meaning::expr::Name;
-use pli_meaning::token::{Kind, Symbol, Token, Word};
+use pli_language::expr::Name;
+use pli_language::token::{Kind, Symbol, Token, Word};
 use pli_phrase::token::named;
 use std::alloc::{AllocError, Global};
 

@@ -1,9 +1,9 @@
 // The least of refusals.
 
 ghost use Rattle.std.specs.Prelude.{◌≡◌, Some};
-ghost use Rattle.pli_meaning.specs.Refusals.{is_before, number_of, sooner, soonest};
+ghost use Rattle.pli_language.specs.Refusals.{is_before, number_of, sooner, soonest};
 
-use pli_meaning::fault::{SourceFault, SourceKind};
+use pli_language::fault::{SourceFault, SourceKind};
 
 fn number(kind: SourceKind) -> u8
     ensures { result ≡ number_of kind }
@@ -12,7 +12,7 @@ fn number(kind: SourceKind) -> u8
 }
 
 /// The first refusal stands before the second.
-#[tactic(auto, unfolding(pli_meaning::specs::Refusals::is_before))]
+#[tactic(auto, unfolding(pli_language::specs::Refusals::is_before))]
 fn is_before(first: SourceFault, second: SourceFault) -> bool
     ensures { result ≡ is_before first second }
 {
@@ -26,7 +26,7 @@ fn is_before(first: SourceFault, second: SourceFault) -> bool
 }
 
 /// What was found, or a further refusal that stands before it.
-#[tactic(auto, unfolding(pli_meaning::specs::Refusals::sooner))]
+#[tactic(auto, unfolding(pli_language::specs::Refusals::sooner))]
 pub fn sooner(found: Option<SourceFault>, fault: SourceFault) -> SourceFault
     ensures { Some result ≡ sooner found fault }
 {

@@ -9,15 +9,15 @@ mod source;
 mod turn;
 
 ghost use Rattle.std.specs.Prelude.{◌≢◌, IfErr, IfOk};
-ghost use Rattle.pli_meaning.specs.Parsing.{RefusesTokens, Spells};
-ghost use Rattle.pli_meaning.specs.Tokens.{Tokens};
-ghost use Rattle.pli_meaning.specs.View.{tree_of};
+ghost use Rattle.pli_language.specs.Parsing.{RefusesTokens, Spells};
+ghost use Rattle.pli_language.specs.Tokens.{Tokens};
+ghost use Rattle.pli_language.specs.View.{tree_of};
 ghost use Rattle.pli_parse.specs.Answers.{out_of_memory};
 
 use crate::source::tree;
-use pli_meaning::fault::{SourceFault, SourceKind};
-use pli_meaning::stmt::Tree;
-use pli_meaning::token::Token;
+use pli_language::fault::{SourceFault, SourceKind};
+use pli_language::stmt::Tree;
+use pli_language::token::Token;
 use std::alloc::Global;
 
 const OUT_OF_MEMORY: SourceFault = SourceFault {
@@ -45,8 +45,3 @@ pub fn parse(alloc: Global, source: &[u8], tokens: &[Token]) -> Result<Tree, Sou
         Err(_) => Err(OUT_OF_MEMORY),
     }
 }
-
-#[cfg(test)]
-mod tests;
-#[cfg(test)]
-mod word_tests;

@@ -1,12 +1,12 @@
 // Parentheses of a head that was read.
 
 ghost use Rattle.std.specs.Prelude.{◌≡◌, ◌+◌, ◌≤◌, IfOk, length};
-ghost use Rattle.pli_meaning.specs.Marks.{parentheses_marks, parenthesis_marks};
-ghost use Rattle.pli_meaning.specs.Parsing.{before};
+ghost use Rattle.pli_language.specs.Marks.{parentheses_marks, parenthesis_marks};
+ghost use Rattle.pli_language.specs.Parsing.{before};
 ghost use Rattle.pli_phrase.specs.View.{marks_of};
 
-use pli_meaning::fault::SourceKind;
-use pli_meaning::token::{Kind, Symbol, Token};
+use pli_language::fault::SourceKind;
+use pli_language::token::{Kind, Symbol, Token};
 use pli_phrase::cursor::Marks;
 use pli_phrase::token::place;
 use std::alloc::AllocError;

@@ -1,16 +1,16 @@
 // All heads of a source.
 
 ghost use Rattle.std.specs.Prelude.{◌≡◌, ◌≤◌, IfOk, None, Some, length};
-ghost use Rattle.pli_meaning.specs.Nesting.{outermost};
-ghost use Rattle.pli_meaning.specs.Tokens.{most_bytes};
+ghost use Rattle.pli_language.specs.Nesting.{outermost};
+ghost use Rattle.pli_language.specs.Tokens.{most_bytes};
 ghost use Rattle.pli_parse.specs.Answers.{answer};
 ghost use Rattle.pli_parse.specs.Reading.{parsed};
 ghost use Rattle.pli_parse.specs.View.{answer_of};
 
 use crate::turn::{Turn, next_turn};
-use pli_meaning::fault::SourceFault;
-use pli_meaning::stmt::Tree;
-use pli_meaning::token::Token;
+use pli_language::fault::SourceFault;
+use pli_language::stmt::Tree;
+use pli_language::token::Token;
 use pli_nest::outermost;
 use std::alloc::{AllocError, Global};
 

@@ -1,11 +1,11 @@
 // One head of a source, with its labels.
 
 ghost use Rattle.std.specs.Prelude.{◌≡◌, ◌≤◌, [], IfOk, length, map};
-ghost use Rattle.pli_meaning.specs.Marks.{no_marks};
-ghost use Rattle.pli_meaning.specs.Parsing.{faults_of};
-ghost use Rattle.pli_meaning.specs.Refusals.{soonest};
-ghost use Rattle.pli_meaning.specs.Tokens.{most_bytes};
-ghost use Rattle.pli_meaning.specs.View.{name_of, tree_of};
+ghost use Rattle.pli_language.specs.Marks.{no_marks};
+ghost use Rattle.pli_language.specs.Parsing.{faults_of};
+ghost use Rattle.pli_language.specs.Refusals.{soonest};
+ghost use Rattle.pli_language.specs.Tokens.{most_bytes};
+ghost use Rattle.pli_language.specs.View.{name_of, tree_of};
 ghost use Rattle.pli_nest.specs.Steps.{list_of_option};
 ghost use Rattle.pli_nest.specs.View.{entry_of, nest_of};
 ghost use Rattle.pli_phrase.specs.View.{cursor_of, marks_of};
@@ -20,10 +20,10 @@ use crate::least::{sooner, soonest};
 use crate::parentheses::{before, parentheses};
 use pli_head::Head;
 use pli_head::reading::head;
-use pli_meaning::expr::{Name, Place};
-use pli_meaning::fault::{SourceFault, SourceKind};
-use pli_meaning::stmt::Tree;
-use pli_meaning::token::Token;
+use pli_language::expr::{Name, Place};
+use pli_language::fault::{SourceFault, SourceKind};
+use pli_language::stmt::Tree;
+use pli_language::token::Token;
 use pli_nest::{Entry, Nest, enter, misplaced, whole_tree};
 use pli_phrase::cursor::{Cursor, Marks};
 use pli_phrase::stop::Stop;
@@ -54,7 +54,7 @@ fn no_marks(alloc: Global) -> Marks
 }
 
 /// Reading is over at a place at which nothing of the kind may stand.
-#[tactic(auto, unfolding(pli_meaning::specs::Refusals::soonest))]
+#[tactic(auto, unfolding(pli_language::specs::Refusals::soonest))]
 fn stuck<'a>(found: Option<SourceFault>, at: Place) -> Turn<'a>
     ensures { step_of result ≡ stepped found (R.Over (R.stuck_at at)) }
 {
@@ -82,7 +82,7 @@ fn refused<'a>(
 }
 
 /// All tokens are read.
-#[tactic(auto, unfolding(pli_meaning::specs::Refusals::soonest))]
+#[tactic(auto, unfolding(pli_language::specs::Refusals::soonest))]
 fn whole<'a>(found: Option<SourceFault>, tree: Tree) -> Turn<'a>
     ensures { step_of result ≡ stepped found (R.Over (R.whole_with (tree_of tree))) }
 {
@@ -140,7 +140,7 @@ fn with_faults(
 }
 
 /// What was found, or a further refusal that stands before it.
-#[tactic(auto, unfolding(pli_meaning::specs::Refusals::soonest))]
+#[tactic(auto, unfolding(pli_language::specs::Refusals::soonest))]
 fn with_fault(found: Option<SourceFault>, fault: Option<SourceFault>) -> Option<SourceFault>
     ensures { result ≡ soonest found (list_of_option fault) }
 {
@@ -184,7 +184,7 @@ fn left_out_place(at: Place, tokens: &[Token]) -> Place
 }
 
 /// A form that is left out begins at the cursor, in the head that begins with these tokens.
-#[tactic(auto, using(crate::proofs::Found::soonest_in_two), unfolding(pli_meaning::specs::Refusals::soonest))]
+#[tactic(auto, using(crate::proofs::Found::soonest_in_two), unfolding(pli_language::specs::Refusals::soonest))]
 fn left_out<'a>(
     found: Option<SourceFault>,
     at: Place,

@@ -1,13 +1,13 @@
 -- Lists of expressions and arguments: what is read is what is spelled, with its marks.
 use Rattle.std.specs.Prelude.{if◌then◌else◌}
 use Rattle.std.proofs.Common.{◌≡◌, ◌≢◌, ℕ, zero, suc, ◌<◌, ◌≤◌, List, [], ◌∷◌, length, Some, Bool, true, false, Ok, refl, sym, ap, ◌∙◌, subst, arith}
-use Rattle.pli_meaning.specs.declared.token.Symbol.TheVariants as S
-use Rattle.pli_meaning.specs.declared.token.Kind.TheVariants as K
-use Rattle.pli_meaning.specs.declared.token.Token.{Token}
-use Rattle.pli_meaning.specs.Spells as G
-use Rattle.pli_meaning.specs.Spells.{Takes, next_kind, place_of, SpellsExprs, SpellsArguments}
-use Rattle.pli_meaning.specs.Marks.{Marks, argument, first_place, expr_marks, exprs_marks, argument_list_marks, arguments_marks}
-use Rattle.pli_meaning.specs.Tree as T
+use Rattle.pli_language.specs.declared.token.Symbol.TheVariants as S
+use Rattle.pli_language.specs.declared.token.Kind.TheVariants as K
+use Rattle.pli_language.specs.declared.token.Token.{Token}
+use Rattle.pli_language.specs.Spells as G
+use Rattle.pli_language.specs.Spells.{Takes, next_kind, place_of, SpellsExprs, SpellsArguments}
+use Rattle.pli_language.specs.Marks.{Marks, argument, first_place, expr_marks, exprs_marks, argument_list_marks, arguments_marks}
+use Rattle.pli_language.specs.Tree as T
 use Rattle.pli_phrase.specs.Cursor.{Cursor, Read, ◌>>=◌}
 use Rattle.pli_phrase.specs.Tokens.{starts, taken}
 use Rattle.pli_phrase.specs.Reading.{expr_from, argument_at, item_due, items_from, exprs_with, exprs_from, listed_from, arguments_from}

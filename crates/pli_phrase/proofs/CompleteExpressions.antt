@@ -1,14 +1,14 @@
 -- What is spelled is read.
 use Rattle.std.specs.Prelude.{slice_range}
 use Rattle.std.proofs.Common.{◌≡◌, ◌≢◌, ℕ, List, [], ◌∷◌, Option, Some, refl, sym, ap, ◌∙◌, subst}
-use Rattle.pli_meaning.specs.declared.token.Symbol.TheVariants as S
-use Rattle.pli_meaning.specs.declared.token.Kind.TheVariants as K
-use Rattle.pli_meaning.specs.declared.token.Token.{Token}
-use Rattle.pli_meaning.specs.declared.expr.Place.{Place}
-use Rattle.pli_meaning.specs.Spells as G
-use Rattle.pli_meaning.specs.Spells.{Takes, next_kind, Level, Disjoining, below, place_of, SpellsAt, SpellsChain, SpellsPrimary, SpellsReference, SpellsArrows, SpellsQualified, SpellsArguments, SpellsExprs}
-use Rattle.pli_meaning.specs.Marks.{Marks, argument, first_place, expr_marks, reference_marks, qualified_marks, arguments_marks, argument_list_marks}
-use Rattle.pli_meaning.specs.Tree as T
+use Rattle.pli_language.specs.declared.token.Symbol.TheVariants as S
+use Rattle.pli_language.specs.declared.token.Kind.TheVariants as K
+use Rattle.pli_language.specs.declared.token.Token.{Token}
+use Rattle.pli_language.specs.declared.expr.Place.{Place}
+use Rattle.pli_language.specs.Spells as G
+use Rattle.pli_language.specs.Spells.{Takes, next_kind, Level, Disjoining, below, place_of, SpellsAt, SpellsChain, SpellsPrimary, SpellsReference, SpellsArrows, SpellsQualified, SpellsArguments, SpellsExprs}
+use Rattle.pli_language.specs.Marks.{Marks, argument, first_place, expr_marks, reference_marks, qualified_marks, arguments_marks, argument_list_marks}
+use Rattle.pli_language.specs.Tree as T
 use Rattle.pli_phrase.specs.Reading.{Frame, Before, Between, Group, Listing, OperandDue, ArgumentDue, FirstDue, NameDue, NameRead, ArgumentsRead, OperandRead, Path, no_path, qualified, located, referred, with_qualifier, with_locator, exprs_with, text_due, run}
 use Rattle.pli_phrase.proofs.Operators.{rank, Quiet, Stays, Fits, fits_lower, fits_between, of_level, at_quiet, height_below}
 use Rattle.pli_phrase.proofs.Runs.{run_takes, run_prefixed, run_infix, run_prefix, run_operator, run_absent, run_first, run_referred}

@@ -1,12 +1,12 @@
 -- Expressions and references: what is read is what is spelled, with its marks.
 use Rattle.std.proofs.Common.{◌≡◌, ℕ, ◌<◌, List, [], ◌∷◌, length, Option, Some, None, Result, Ok, Err, refl, sym, ap, ◌∙◌, subst}
-use Rattle.pli_meaning.specs.declared.token.Kind.{Kind}
-use Rattle.pli_meaning.specs.declared.token.Token.{Token}
-use Rattle.pli_meaning.specs.declared.expr.InfixOp.{InfixOp}
-use Rattle.pli_meaning.specs.Spells as G
-use Rattle.pli_meaning.specs.Spells.{next_kind, Level, Disjoining, SpellsAt, SpellsPrimary, SpellsReference, SpellsExpr}
-use Rattle.pli_meaning.specs.Marks.{Marks, expr_marks, reference_marks}
-use Rattle.pli_meaning.specs.Tree as T
+use Rattle.pli_language.specs.declared.token.Kind.{Kind}
+use Rattle.pli_language.specs.declared.token.Token.{Token}
+use Rattle.pli_language.specs.declared.expr.InfixOp.{InfixOp}
+use Rattle.pli_language.specs.Spells as G
+use Rattle.pli_language.specs.Spells.{next_kind, Level, Disjoining, SpellsAt, SpellsPrimary, SpellsReference, SpellsExpr}
+use Rattle.pli_language.specs.Marks.{Marks, expr_marks, reference_marks}
+use Rattle.pli_language.specs.Tree as T
 use Rattle.pli_phrase.specs.Cursor.{Cursor, Missed, LeavesOut, Read, ◌>>=◌}
 use Rattle.pli_phrase.specs.Reading.{infix_of, Frame, Before, Between, Group, Listing, Alone, State, OperandDue, NameDue, NameRead, ArgumentsRead, OperandRead, no_path, Step, On, Ends, Fails, climbed, behind_operand, step, whole, ended, follow, run, expr_from, reference_from, as_reference, referred}
 use Rattle.pli_phrase.proofs.Operators.{Quiet, levelled, at_quiet}

@@ -2,15 +2,15 @@
 use Rattle.std.specs.Prelude.{nat_le, if◌then◌else◌, ⊤}
 use Rattle.std.proofs.Common.{◌≡◌, ℕ, zero, suc, ◌<◌, ◌≤◌, List, [], ◌∷◌, Option, Some, None, Bool, true, false, refl, sym, ap, ◌∙◌, subst, arith}
 use Rattle.std.proofs.lemmas.Bool.{leb-true, leb-false, lt-leb}
-use Rattle.pli_meaning.specs.declared.token.Symbol.TheVariants as S
-use Rattle.pli_meaning.specs.declared.token.Kind.{Kind}
-use Rattle.pli_meaning.specs.declared.token.Kind.TheVariants as K
-use Rattle.pli_meaning.specs.declared.token.Token.{Token}
-use Rattle.pli_meaning.specs.declared.expr.InfixOp.{InfixOp}
-use Rattle.pli_meaning.specs.declared.expr.InfixOp.TheVariants as I
-use Rattle.pli_meaning.specs.Spells as G
-use Rattle.pli_meaning.specs.Spells.{next_kind, infix_op, below, Level, Multiplying, Adding, Joining, Comparing, Conjoining, Disjoining, SpellsAt, SpellsChain}
-use Rattle.pli_meaning.specs.Tree as T
+use Rattle.pli_language.specs.declared.token.Symbol.TheVariants as S
+use Rattle.pli_language.specs.declared.token.Kind.{Kind}
+use Rattle.pli_language.specs.declared.token.Kind.TheVariants as K
+use Rattle.pli_language.specs.declared.token.Token.{Token}
+use Rattle.pli_language.specs.declared.expr.InfixOp.{InfixOp}
+use Rattle.pli_language.specs.declared.expr.InfixOp.TheVariants as I
+use Rattle.pli_language.specs.Spells as G
+use Rattle.pli_language.specs.Spells.{next_kind, infix_op, below, Level, Multiplying, Adding, Joining, Comparing, Conjoining, Disjoining, SpellsAt, SpellsChain}
+use Rattle.pli_language.specs.Tree as T
 use Rattle.pli_phrase.specs.Reading.{infix_of, level_of, climbs, climbed, Frame, Before, Between, Group, Listing, Alone}
 
 -- ---- levels

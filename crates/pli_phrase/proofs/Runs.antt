@@ -1,16 +1,16 @@
 -- Single steps of a run.
 use Rattle.std.specs.Prelude.{if◌then◌else◌}
 use Rattle.std.proofs.Common.{◌≡◌, ◌≢◌, ℕ, List, [], ◌∷◌, Some, Ok, Err, refl, sym, ap, ◌∙◌, subst}
-use Rattle.pli_meaning.specs.declared.token.Symbol.TheVariants as S
-use Rattle.pli_meaning.specs.declared.token.Kind.{Kind}
-use Rattle.pli_meaning.specs.declared.token.Kind.TheVariants as K
-use Rattle.pli_meaning.specs.declared.token.Token.{Token}
-use Rattle.pli_meaning.specs.declared.expr.Place.{Place}
-use Rattle.pli_meaning.specs.declared.expr.PrefixOp.{PrefixOp}
-use Rattle.pli_meaning.specs.declared.expr.InfixOp.{InfixOp}
-use Rattle.pli_meaning.specs.Spells.{Takes, next_kind, prefix_op, infix_op, Level, place_of}
-use Rattle.pli_meaning.specs.Marks.{Marks}
-use Rattle.pli_meaning.specs.Tree as T
+use Rattle.pli_language.specs.declared.token.Symbol.TheVariants as S
+use Rattle.pli_language.specs.declared.token.Kind.{Kind}
+use Rattle.pli_language.specs.declared.token.Kind.TheVariants as K
+use Rattle.pli_language.specs.declared.token.Token.{Token}
+use Rattle.pli_language.specs.declared.expr.Place.{Place}
+use Rattle.pli_language.specs.declared.expr.PrefixOp.{PrefixOp}
+use Rattle.pli_language.specs.declared.expr.InfixOp.{InfixOp}
+use Rattle.pli_language.specs.Spells.{Takes, next_kind, prefix_op, infix_op, Level, place_of}
+use Rattle.pli_language.specs.Marks.{Marks}
+use Rattle.pli_language.specs.Tree as T
 use Rattle.pli_phrase.specs.Cursor.{Stuck}
 use Rattle.pli_phrase.specs.Reading.{infix_of, level_of, climbed, Frame, Before, Between, Group, Listing, Alone, State, OperandDue, ArgumentDue, FirstDue, NameRead, ArgumentsRead, OperandRead, Path, referred, On, Ends, Fails, behind_operand, operand_read, arguments_read, name_read, prefix_due, operand_due, argument_due, first_due, step, whole, ended, follow, run}
 use Rattle.pli_phrase.proofs.Operators.{rank, infix_next, of_level, Quiet, Stays, climbed_stays, quiet_climbs}

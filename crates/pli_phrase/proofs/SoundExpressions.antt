@@ -2,19 +2,19 @@
 use Rattle.std.specs.Prelude.{if◌then◌else◌, ⊤, slice_range}
 use Rattle.std.proofs.Common.{◌≡◌, ◌≢◌, ℕ, zero, suc, ◌+◌, ◌-◌, ◌<◌, ◌≤◌, List, [], ◌∷◌, Option, Some, None, Bool, true, false, Ok, refl, sym, ap, ◌∙◌, subst, arith}
 use Rattle.std.proofs.lemmas.Bool.{leb-true, leb-false}
-use Rattle.pli_meaning.specs.declared.token.Word.{Word}
-use Rattle.pli_meaning.specs.declared.token.Symbol.TheVariants as S
-use Rattle.pli_meaning.specs.declared.token.Kind.{Kind}
-use Rattle.pli_meaning.specs.declared.token.Kind.TheVariants as K
-use Rattle.pli_meaning.specs.declared.token.Token.{Token}
-use Rattle.pli_meaning.specs.declared.expr.Place.{Place}
-use Rattle.pli_meaning.specs.declared.expr.PrefixOp.{PrefixOp}
-use Rattle.pli_meaning.specs.declared.expr.PrefixOp.TheVariants as P
-use Rattle.pli_meaning.specs.declared.expr.InfixOp.{InfixOp}
-use Rattle.pli_meaning.specs.Spells as G
-use Rattle.pli_meaning.specs.Spells.{Takes, next_kind, prefix_op, infix_op, Level, Disjoining, below, place_of, name_at, SpellsAt, SpellsChain, SpellsPrimary, SpellsReference, SpellsArrows, SpellsQualified, SpellsArguments, SpellsExprs}
-use Rattle.pli_meaning.specs.Marks.{Marks, argument}
-use Rattle.pli_meaning.specs.Tree as T
+use Rattle.pli_language.specs.declared.token.Word.{Word}
+use Rattle.pli_language.specs.declared.token.Symbol.TheVariants as S
+use Rattle.pli_language.specs.declared.token.Kind.{Kind}
+use Rattle.pli_language.specs.declared.token.Kind.TheVariants as K
+use Rattle.pli_language.specs.declared.token.Token.{Token}
+use Rattle.pli_language.specs.declared.expr.Place.{Place}
+use Rattle.pli_language.specs.declared.expr.PrefixOp.{PrefixOp}
+use Rattle.pli_language.specs.declared.expr.PrefixOp.TheVariants as P
+use Rattle.pli_language.specs.declared.expr.InfixOp.{InfixOp}
+use Rattle.pli_language.specs.Spells as G
+use Rattle.pli_language.specs.Spells.{Takes, next_kind, prefix_op, infix_op, Level, Disjoining, below, place_of, name_at, SpellsAt, SpellsChain, SpellsPrimary, SpellsReference, SpellsArrows, SpellsQualified, SpellsArguments, SpellsExprs}
+use Rattle.pli_language.specs.Marks.{Marks, argument}
+use Rattle.pli_language.specs.Tree as T
 use Rattle.pli_phrase.specs.Cursor.{Cursor}
 use Rattle.pli_phrase.specs.Tokens.{text_of}
 use Rattle.pli_phrase.specs.Reading.{infix_of, level_of, climbs, climbed, Frame, Before, Between, Group, Listing, Alone, State, OperandDue, ArgumentDue, FirstDue, NameDue, NameRead, ArgumentsRead, OperandRead, Path, qualified, located, referred, exprs_with, Step, On, Ends, Fails, closed, behind_operand, operand_read, arguments_read, name_read, text_due, operand_due, first_due, name_due, step, whole, ended, follow, run}

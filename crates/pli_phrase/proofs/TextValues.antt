@@ -2,7 +2,7 @@
 use Rattle.std.specs.Prelude.{if◌then◌else◌, ◌==◌, ◌&&◌, not}
 use Rattle.std.specs.List.{list_all}
 use Rattle.std.proofs.Common.{◌≡◌, ℕ, List, [], ◌∷◌, ◌++◌, Option, Some, None, Bool, true, false, refl, sym, ap, ◌∙◌, subst, eqb-true}
-use Rattle.pli_meaning.specs.Tokens.{quote, doubled, is_line_end, IsTextOf}
+use Rattle.pli_language.specs.Tokens.{quote, doubled, is_line_end, IsTextOf}
 use Rattle.pli_phrase.specs.Tokens.{before, closed_text, text_of}
 
 abbrev pub on_one_line : List ℕ → Bool

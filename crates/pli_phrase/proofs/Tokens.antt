@@ -2,15 +2,15 @@
 use denote.Enum.Bare.{same_true, true_same}
 use Rattle.std.specs.Prelude.{if◌then◌else◌}
 use Rattle.std.proofs.Common.{rules, ◌≡◌, ◌≢◌, List, [], ◌∷◌, Some, Bool, true, false, Ok, Err, refl, sym, ap, ◌∙◌, subst}
-use Rattle.pli_meaning.specs.declared.token.Word.{Word}
-use Rattle.pli_meaning.specs.contracts.token.Word.{the_type as the_word}
-use Rattle.pli_meaning.specs.declared.token.Symbol.{Symbol}
-use Rattle.pli_meaning.specs.contracts.token.Symbol.{the_type as the_symbol}
-use Rattle.pli_meaning.specs.declared.token.Kind.{Kind}
-use Rattle.pli_meaning.specs.declared.token.Kind.TheVariants as K
-use Rattle.pli_meaning.specs.declared.token.Token.{Token}
-use Rattle.pli_meaning.specs.Marks.{Marks}
-use Rattle.pli_meaning.specs.Spells.{Takes, next_kind}
+use Rattle.pli_language.specs.declared.token.Word.{Word}
+use Rattle.pli_language.specs.contracts.token.Word.{the_type as the_word}
+use Rattle.pli_language.specs.declared.token.Symbol.{Symbol}
+use Rattle.pli_language.specs.contracts.token.Symbol.{the_type as the_symbol}
+use Rattle.pli_language.specs.declared.token.Kind.{Kind}
+use Rattle.pli_language.specs.declared.token.Kind.TheVariants as K
+use Rattle.pli_language.specs.declared.token.Token.{Token}
+use Rattle.pli_language.specs.Marks.{Marks}
+use Rattle.pli_language.specs.Spells.{Takes, next_kind}
 use Rattle.pli_phrase.specs.Cursor.{Cursor, Stuck}
 use Rattle.pli_phrase.specs.Tokens.{is_terminal, starts, taken}
 

@@ -1,7 +1,7 @@
 -- Where a reader stands, and what it gives.
 use Rattle.std.specs.Prelude.{List, Result, Ok, Err}
-use Rattle.pli_meaning.specs.declared.token.Token.{Token}
-use Rattle.pli_meaning.specs.Marks.{Marks}
+use Rattle.pli_language.specs.declared.token.Token.{Token}
+use Rattle.pli_language.specs.Marks.{Marks}
 
 -- the tokens that are left, and what the limits say of those before
 pub record Cursor : Type 0 where

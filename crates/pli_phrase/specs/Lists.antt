@@ -1,8 +1,8 @@
 -- Lists of expressions, item by item.
 use Rattle.std.specs.Prelude.{List, [], ◌∷◌, Bool, true, false, if◌then◌else◌}
-use Rattle.pli_meaning.specs.declared.token.Symbol.TheVariants as S
-use Rattle.pli_meaning.specs.declared.token.Kind.TheVariants as K
-use Rattle.pli_meaning.specs.declared.token.Token.{Token}
+use Rattle.pli_language.specs.declared.token.Symbol.TheVariants as S
+use Rattle.pli_language.specs.declared.token.Kind.TheVariants as K
+use Rattle.pli_language.specs.declared.token.Token.{Token}
 use Rattle.pli_phrase.specs.Cursor.{Cursor, onto}
 use Rattle.pli_phrase.specs.Tokens.{starts}
 

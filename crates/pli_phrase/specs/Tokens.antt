@@ -1,17 +1,17 @@
 -- Readers of single tokens.
 use Rattle.std.specs.Prelude.{ℕ, List, [], ◌∷◌, Bool, true, false, ◌==◌, if◌then◌else◌, Option, Some, None, Ok, Err}
 use denote.Enum.Bare.{sameb}
-use Rattle.pli_meaning.specs.declared.token.Word.{Word}
-use Rattle.pli_meaning.specs.contracts.token.Word.{the_type as the_word}
-use Rattle.pli_meaning.specs.declared.token.Symbol.{Symbol}
-use Rattle.pli_meaning.specs.contracts.token.Symbol.{the_type as the_symbol}
-use Rattle.pli_meaning.specs.declared.token.Symbol.TheVariants as S
-use Rattle.pli_meaning.specs.declared.token.Kind.{Kind}
-use Rattle.pli_meaning.specs.declared.token.Kind.TheVariants as K
-use Rattle.pli_meaning.specs.declared.token.Token.{Token}
-use Rattle.pli_meaning.specs.Spells.{name_at}
-use Rattle.pli_meaning.specs.Tokens.{quote, is_line_end}
-use Rattle.pli_meaning.specs.Tree as T
+use Rattle.pli_language.specs.declared.token.Word.{Word}
+use Rattle.pli_language.specs.contracts.token.Word.{the_type as the_word}
+use Rattle.pli_language.specs.declared.token.Symbol.{Symbol}
+use Rattle.pli_language.specs.contracts.token.Symbol.{the_type as the_symbol}
+use Rattle.pli_language.specs.declared.token.Symbol.TheVariants as S
+use Rattle.pli_language.specs.declared.token.Kind.{Kind}
+use Rattle.pli_language.specs.declared.token.Kind.TheVariants as K
+use Rattle.pli_language.specs.declared.token.Token.{Token}
+use Rattle.pli_language.specs.Spells.{name_at}
+use Rattle.pli_language.specs.Tokens.{quote, is_line_end}
+use Rattle.pli_language.specs.Tree as T
 use Rattle.pli_phrase.specs.Cursor.{Cursor, Stuck, Ended, Read, ◌>>=◌, onto}
 
 abbrev pub same_word : Word → Word → Bool

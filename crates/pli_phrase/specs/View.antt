@@ -1,11 +1,11 @@
 -- How the values of the code show cursors, and what is open.
 use Rattle.std.specs.Prelude.{◌≡◌, List, ◌∷◌, Option, map, reverse}
-use Rattle.pli_meaning.specs.declared.expr.InfixOp.{InfixOp}
+use Rattle.pli_language.specs.declared.expr.InfixOp.{InfixOp}
 use Rattle.pli_phrase.specs.declared.engine.Absorbed.{Absorbed}
 use Rattle.pli_phrase.specs.declared.engine.Absorbed.TheVariants as B
-use Rattle.pli_meaning.specs.Marks.{Marks}
-use Rattle.pli_meaning.specs.Tree as T
-use Rattle.pli_meaning.specs.View.{name_of, expr_of, reference_of, arguments_of, option_of}
+use Rattle.pli_language.specs.Marks.{Marks}
+use Rattle.pli_language.specs.Tree as T
+use Rattle.pli_language.specs.View.{name_of, expr_of, reference_of, arguments_of, option_of}
 use Rattle.pli_phrase.specs.Cursor.{Cursor}
 use Rattle.pli_phrase.specs.Reading as R
 use Rattle.pli_phrase.specs.declared.cursor.Cursor.{Cursor as CursorHeld}

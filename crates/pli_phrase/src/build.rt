@@ -1,19 +1,19 @@
 // Trees out of their parts.
 
 ghost use Rattle.std.specs.Prelude.{◌≡◌, IfOk};
-ghost use Rattle.pli_meaning.specs.Tree as T;
-ghost use Rattle.pli_meaning.specs.View.{arguments_of, expr_of, exprs_of, name_of, option_of, qualified_of, reference_of};
+ghost use Rattle.pli_language.specs.Tree as T;
+ghost use Rattle.pli_language.specs.View.{arguments_of, expr_of, exprs_of, name_of, option_of, qualified_of, reference_of};
 ghost use Rattle.pli_phrase.specs.Reading.{exprs_with, located, qualified, referred};
 ghost use Rattle.pli_phrase.specs.View.{newest, path_of, qualifier_of};
 
 use crate::frame::{Path, Qualifier};
-use pli_meaning::expr::{
+use pli_language::expr::{
     Arguments, Expr, Exprs, InfixOp, Name, Place, PrefixOp, Qualified, Reference,
 };
 use std::alloc::{AllocError, Global};
 
 /// An operand with a prefix operator before it.
-#[tactic(auto, using(pli_meaning::proofs::Views::views))]
+#[tactic(auto, using(pli_language::proofs::Views::views))]
 pub fn prefixed(
     alloc: Global,
     op: PrefixOp,
@@ -30,7 +30,7 @@ pub fn prefixed(
 }
 
 /// An operator between its operands.
-#[tactic(auto, using(pli_meaning::proofs::Views::views))]
+#[tactic(auto, using(pli_language::proofs::Views::views))]
 pub fn infix(alloc: Global, op: InfixOp, left: Expr, right: Expr) -> Result<Expr, AllocError>
     ensures { IfOk result (λ e. expr_of e ≡ T.Infix op (expr_of left) (expr_of right)) }
 {
@@ -42,7 +42,7 @@ pub fn infix(alloc: Global, op: InfixOp, left: Expr, right: Expr) -> Result<Expr
 }
 
 /// An expression in parentheses.
-#[tactic(auto, using(pli_meaning::proofs::Views::views))]
+#[tactic(auto, using(pli_language::proofs::Views::views))]
 pub fn parenthesized(alloc: Global, inner: Expr, place: Place) -> Result<Expr, AllocError>
     ensures { IfOk result (λ e. expr_of e ≡ T.Parenthesized (expr_of inner) place) }
 {
@@ -52,7 +52,7 @@ pub fn parenthesized(alloc: Global, inner: Expr, place: Place) -> Result<Expr, A
     })
 }
 
-#[tactic(auto, using(pli_meaning::proofs::Views::views))]
+#[tactic(auto, using(pli_language::proofs::Views::views))]
 pub fn number(value: u32, place: Place) -> Expr
     ensures { expr_of result ≡ T.Number value place }
 {
@@ -62,14 +62,14 @@ pub fn number(value: u32, place: Place) -> Expr
     }
 }
 
-#[tactic(auto, using(pli_meaning::proofs::Views::views))]
+#[tactic(auto, using(pli_language::proofs::Views::views))]
 pub fn text(value: Vec<u8>, place: Place) -> Expr
     ensures { expr_of result ≡ T.Text value.items place }
 {
     Expr::Text { value, place }
 }
 
-#[tactic(auto, using(pli_meaning::proofs::Views::views))]
+#[tactic(auto, using(pli_language::proofs::Views::views))]
 pub fn bit(value: bool, place: Place) -> Expr
     ensures { expr_of result ≡ T.Bit value place }
 {
@@ -77,7 +77,7 @@ pub fn bit(value: bool, place: Place) -> Expr
 }
 
 /// The value of a reference.
-#[tactic(auto, using(pli_meaning::proofs::Views::views))]
+#[tactic(auto, using(pli_language::proofs::Views::views))]
 pub fn fetched(reference: Reference) -> Expr
     ensures { expr_of result ≡ T.Refers (reference_of reference) }
 {
@@ -85,7 +85,7 @@ pub fn fetched(reference: Reference) -> Expr
 }
 
 /// An expression before others.
-#[tactic(auto, using(pli_meaning::proofs::Views::views))]
+#[tactic(auto, using(pli_language::proofs::Views::views))]
 fn before(alloc: Global, first: Expr, rest: Exprs) -> Result<Exprs, AllocError>
     ensures { IfOk result (λ es. exprs_of es ≡ T.ExprThen (expr_of first) (exprs_of rest)) }
 {
@@ -95,7 +95,7 @@ fn before(alloc: Global, first: Expr, rest: Exprs) -> Result<Exprs, AllocError>
     })
 }
 
-#[tactic(auto, using(pli_meaning::proofs::Views::views))]
+#[tactic(auto, using(pli_language::proofs::Views::views))]
 fn no_expr() -> Exprs
     ensures { exprs_of result ≡ T.NoExpr }
 {
@@ -116,7 +116,7 @@ pub fn listed(alloc: Global, expressions: Vec<Expr>) -> Result<Exprs, AllocError
 }
 
 /// No arguments.
-#[tactic(auto, using(pli_meaning::proofs::Views::views))]
+#[tactic(auto, using(pli_language::proofs::Views::views))]
 pub fn absent() -> Arguments
     ensures { arguments_of result ≡ T.Absent }
 {
@@ -124,14 +124,14 @@ pub fn absent() -> Arguments
 }
 
 /// Arguments in parentheses.
-#[tactic(auto, using(pli_meaning::proofs::Views::views))]
+#[tactic(auto, using(pli_language::proofs::Views::views))]
 pub fn arguments(expressions: Exprs) -> Arguments
     ensures { arguments_of result ≡ T.Listed (exprs_of expressions) }
 {
     Arguments::Listed(expressions)
 }
 
-#[tactic(auto, using(pli_meaning::proofs::Views::views))]
+#[tactic(auto, using(pli_language::proofs::Views::views))]
 fn last(name: Name, arguments: Arguments) -> Qualified
     ensures { qualified_of result ≡ T.Last (name_of name) (arguments_of arguments) }
 {
@@ -139,7 +139,7 @@ fn last(name: Name, arguments: Arguments) -> Qualified
 }
 
 /// A qualifier before a name.
-#[tactic(auto, using(pli_meaning::proofs::Views::views))]
+#[tactic(auto, using(pli_language::proofs::Views::views))]
 fn qualifying(alloc: Global, qualifier: Qualifier, rest: Qualified) -> Result<Qualified, AllocError>
     ensures { IfOk result (λ q. qualified_of q ≡ T.Of (qualifier_of qualifier).0 (qualifier_of qualifier).1 (qualified_of rest)) }
 {
@@ -168,7 +168,7 @@ fn qualified(
 }
 
 /// What a locator locates, or what stands without one.
-#[tactic(auto, using(pli_meaning::proofs::Views::views))]
+#[tactic(auto, using(pli_language::proofs::Views::views))]
 fn located(
     alloc: Global,
     locator: Option<Reference>,

@@ -1,12 +1,12 @@
 // Where a reader stands.
 
 ghost use Rattle.std.specs.Prelude.{◌≡◌, IfOk};
-ghost use Rattle.pli_meaning.specs.Marks.{argument, note};
+ghost use Rattle.pli_language.specs.Marks.{argument, note};
 ghost use Rattle.pli_phrase.specs.View.{marks_of};
 
-use pli_meaning::expr::Place;
-use pli_meaning::fault::{SourceFault, SourceKind};
-use pli_meaning::token::Token;
+use pli_language::expr::Place;
+use pli_language::fault::{SourceFault, SourceKind};
+use pli_language::token::Token;
 use std::alloc::AllocError;
 
 /// How many more arguments and subscripts a head may have, and the refusals met so far.

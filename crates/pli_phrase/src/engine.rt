@@ -2,10 +2,10 @@
 // in the reader however deep the parentheses are.
 
 ghost use Rattle.std.specs.Prelude.{◌≡◌, IfOk, List, [], ◌∷◌, ℕ, None, Some, slice_range};
-ghost use Rattle.pli_meaning.specs.Tree as T;
-ghost use Rattle.pli_meaning.specs.Spells.{place_of};
-ghost use Rattle.pli_meaning.specs.View.{arguments_of, expr_of, name_of};
-ghost use Rattle.pli_meaning.specs.declared.token.Kind.TheVariants as K;
+ghost use Rattle.pli_language.specs.Tree as T;
+ghost use Rattle.pli_language.specs.Spells.{place_of};
+ghost use Rattle.pli_language.specs.View.{arguments_of, expr_of, name_of};
+ghost use Rattle.pli_language.specs.declared.token.Kind.TheVariants as K;
 ghost use Rattle.pli_phrase.specs.Tokens.{text_of};
 ghost use Rattle.pli_phrase.specs.Answers.{Gives};
 ghost use Rattle.pli_phrase.specs.Reading as R;
@@ -19,8 +19,8 @@ use crate::frame::{Frame, Path, Qualifier, State, Step};
 use crate::stop::Stop;
 use crate::text::text as text_value;
 use crate::token::{named, place, spelling};
-use pli_meaning::expr::{Arguments, Expr, InfixOp, Name, Place, PrefixOp};
-use pli_meaning::token::{Kind, Symbol, Token};
+use pli_language::expr::{Arguments, Expr, InfixOp, Name, Place, PrefixOp};
+use pli_language::token::{Kind, Symbol, Token};
 use std::alloc::{AllocError, Global};
 
 fn prefix_of(kind: Kind) -> Option<PrefixOp>

@@ -1,7 +1,7 @@
 // Expressions, references and lists of them.
 
 ghost use Rattle.std.specs.Prelude.{◌≡◌, IfOk, List, [], length, suc};
-ghost use Rattle.pli_meaning.specs.View.{arguments_of, expr_of, exprs_of, reference_of};
+ghost use Rattle.pli_language.specs.View.{arguments_of, expr_of, exprs_of, reference_of};
 ghost use Rattle.pli_phrase.specs.Answers.{Gives};
 ghost use Rattle.pli_phrase.specs.Reading.{arguments_from, as_reference, assignment_begins, begun_by, expr_from, exprs_from, item_due, items_from, listed_from, reference_from};
 ghost use Rattle.pli_phrase.specs.Lists.{past_comma};
@@ -13,8 +13,8 @@ use crate::engine::{no_path, run};
 use crate::frame::{Frame, State};
 use crate::stop::Stop;
 use crate::token::{begins, is_terminal, next_kind, place, taken};
-use pli_meaning::expr::{Arguments, Expr, Exprs, Reference};
-use pli_meaning::token::{Kind, Symbol};
+use pli_language::expr::{Arguments, Expr, Exprs, Reference};
+use pli_language::token::{Kind, Symbol};
 use std::alloc::{AllocError, Global};
 
 /// An expression, as long as one goes on.
@@ -30,7 +30,7 @@ pub fn expression<'a>(
 }
 
 /// An expression that is a reference.
-#[tactic(auto, unfolding(pli_meaning::specs::View::expr_of))]
+#[tactic(auto, unfolding(pli_language::specs::View::expr_of))]
 fn as_reference<'a>(
     expression: Expr,
     cursor: Cursor<'a>,

@@ -1,7 +1,7 @@
 // What is open around the token that is read.
 
 use crate::cursor::Marks;
-use pli_meaning::expr::{Arguments, Expr, InfixOp, Name, Place, PrefixOp, Reference};
+use pli_language::expr::{Arguments, Expr, InfixOp, Name, Place, PrefixOp, Reference};
 
 /// A name before a point, with its arguments.
 #[derive(Drop)]

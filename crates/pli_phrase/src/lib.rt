@@ -7,7 +7,5 @@ mod engine;
 pub mod expression;
 mod frame;
 pub mod stop;
-#[cfg(test)]
-mod tests;
 pub mod text;
 pub mod token;

@@ -1,8 +1,8 @@
 // The value of a text.
 
 ghost use Rattle.std.specs.Prelude.{◌≡◌, ◌<◌, IfOk, MatchOption, length, [], ◌∷◌, None, Some, if◌then◌else◌};
-ghost use Rattle.pli_meaning.specs.View.{option_of};
-ghost use Rattle.pli_meaning.specs.Tokens.{is_line_end};
+ghost use Rattle.pli_language.specs.View.{option_of};
+ghost use Rattle.pli_language.specs.Tokens.{is_line_end};
 ghost use Rattle.pli_phrase.specs.Tokens.{before, closed_text, is_last_quote, text_of};
 
 use std::alloc::{AllocError, Global};

@@ -1,17 +1,17 @@
 // Single tokens.
 
 ghost use Rattle.std.specs.Prelude.{◌≡◌, ◌<◌, IfOk, MatchOption, length, slice_range, [], ◌∷◌, None, Some, if◌then◌else◌};
-ghost use Rattle.pli_meaning.specs.Keywords.{in_upper_case};
-ghost use Rattle.pli_meaning.specs.Spells.{name_at, next_kind, place_of};
-ghost use Rattle.pli_meaning.specs.View.{name_of, option_of};
+ghost use Rattle.pli_language.specs.Keywords.{in_upper_case};
+ghost use Rattle.pli_language.specs.Spells.{name_at, next_kind, place_of};
+ghost use Rattle.pli_language.specs.View.{name_of, option_of};
 ghost use Rattle.pli_phrase.specs.Answers.{Gives};
 ghost use Rattle.pli_phrase.specs.Tokens.{begins, count_from, is_terminal, name_from, number_from, same_symbol, same_word, starts_name, taken};
 ghost use Rattle.pli_phrase.specs.View.{cursor_of};
 
 use crate::cursor::Cursor;
 use crate::stop::Stop;
-use pli_meaning::expr::{Name, Place};
-use pli_meaning::token::{Kind, Symbol, Token, Word};
+use pli_language::expr::{Name, Place};
+use pli_language::token::{Kind, Symbol, Token, Word};
 use std::alloc::{AllocError, Global};
 
 /// The place of a token.

@@ -1,9 +1,9 @@
 -- The parameters of procedures by the shapes of variables.
 use Rattle.std.proofs.Common.{◌≡◌, ◌∙◌, ◌++◌, ℕ, List, [], ◌∷◌, Option, Some, None, map, refl, sym, ap}
 use Rattle.std.specs.Prelude.{unwrap_or}
-use Rattle.pli_meaning.specs.Declarations.{Held, Block}
-use Rattle.pli_meaning.specs.Calls.{whole_of}
-use Rattle.pli_meaning.specs.Converting.{Designated}
+use Rattle.pli_language.specs.Declarations.{Held, Block}
+use Rattle.pli_typing.specs.Calls.{whole_of}
+use Rattle.pli_typing.specs.Converting.{Designated}
 use Rattle.pli_variables.specs.Shapes.{Shape, shape_of_first}
 use Rattle.pli_reference.specs.Parts.{whole_by}
 use Rattle.pli_reference.proofs.Parts.{whole_is}

@@ -2,14 +2,14 @@
 use Rattle.std.proofs.Common.{◌≡◌, ◌∙◌, ℕ, Bool, true, false, List, [], ◌∷◌, length, map, refl, sym, ap, ap₂}
 use Rattle.std.proofs.Common.{append_assoc, append-nil}
 use Rattle.std.specs.Prelude.{◌&&◌, drop}
-use Rattle.pli_meaning.specs.Declarations.{Held, Block}
-use Rattle.pli_meaning.specs.Variables.{all_dimensions}
-use Rattle.pli_meaning.specs.Calls.{without_first, leaf_of_element, part_designated}
-use Rattle.pli_meaning.specs.TypedTree as Y
-use Rattle.pli_meaning.specs.TypedView.{leaf_of}
-use Rattle.pli_meaning.specs.declared.typed.Leaf.{Leaf}
+use Rattle.pli_language.specs.Declarations.{Held, Block}
+use Rattle.pli_typing.specs.Variables.{all_dimensions}
+use Rattle.pli_typing.specs.Calls.{without_first, leaf_of_element, part_designated}
+use Rattle.pli_typing.specs.TypedTree as Y
+use Rattle.pli_typing.specs.TypedView.{leaf_of}
+use Rattle.pli_typing.specs.declared.typed.Leaf.{Leaf}
 use Rattle.pli_operand.specs.Shown.{leaf_behind}
-use Rattle.pli_meaning.specs.Converting.{Designated}
+use Rattle.pli_typing.specs.Converting.{Designated}
 use Rattle.pli_variables.specs.declared.shape.Shape.{Shape as ShapeHeld}
 use Rattle.pli_variables.specs.Shapes.{shape}
 use Rattle.pli_variables.specs.ShownShapes.{shape_of}

@@ -1,7 +1,7 @@
 -- The first of names.
 use Rattle.std.specs.Prelude.{List, [], ◌∷◌, Option, Some, None}
-use Rattle.pli_meaning.specs.Tree.{Name}
-use Rattle.pli_meaning.specs.References.{Named}
+use Rattle.pli_language.specs.Tree.{Name}
+use Rattle.pli_typing.specs.References.{Named}
 
 abbrev pub first_name : List Named → Option Name
 first_name [] = None

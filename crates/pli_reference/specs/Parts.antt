@@ -1,16 +1,16 @@
 -- The part of a variable that a declaration is, by its shape.
 use Rattle.std.specs.Prelude.{ℕ, Bool, not, ◌&&◌, ◌||◌, ◌==◌, false, List, length, map, if◌then◌else◌}
 use Rattle.std.specs.List.{list_any}
-use Rattle.pli_meaning.specs.declared.expr.Place.{Place}
-use Rattle.pli_meaning.specs.declared.expr.InfixOp.{InfixOp}
-use Rattle.pli_meaning.specs.declared.fault.SourceKind.TheVariants.{BadArguments, Undeclared}
-use Rattle.pli_meaning.specs.Judging.{Judged, Scope, broken, demand, fine, ◌>>=◌, ◌>>◌}
-use Rattle.pli_meaning.specs.Operators.{infixed}
-use Rattle.pli_meaning.specs.Tree.{Expr, Name}
-use Rattle.pli_meaning.specs.References.{Named, all_operands, builtin_referent, is_builtin_name, is_empty, is_listed, listed_place, operand}
-use Rattle.pli_meaning.specs.Builtins.{number_list}
-use Rattle.pli_meaning.specs.TypedTree as Y
-use Rattle.pli_meaning.specs.Converting.{Designated, Designates, NotKnown, Operand, Referent}
+use Rattle.pli_language.specs.declared.expr.Place.{Place}
+use Rattle.pli_language.specs.declared.expr.InfixOp.{InfixOp}
+use Rattle.pli_language.specs.declared.fault.SourceKind.TheVariants.{BadArguments, Undeclared}
+use Rattle.pli_typing.specs.Judging.{Judged, Scope, broken, demand, fine, ◌>>=◌, ◌>>◌}
+use Rattle.pli_typing.specs.Operators.{infixed}
+use Rattle.pli_language.specs.Tree.{Expr, Name}
+use Rattle.pli_typing.specs.References.{Named, all_operands, builtin_referent, is_builtin_name, is_empty, is_listed, listed_place, operand}
+use Rattle.pli_typing.specs.Builtins.{number_list}
+use Rattle.pli_typing.specs.TypedTree as Y
+use Rattle.pli_typing.specs.Converting.{Designated, Designates, NotKnown, Operand, Referent}
 use Rattle.pli_operand.specs.Shown.{leaf_behind}
 use Rattle.pli_variables.specs.Shapes.{Shape}
 

@@ -1,11 +1,11 @@
 -- What a program's values show of the definitions.
 use Rattle.std.specs.Prelude.{map, Option, Some, None}
-use Rattle.pli_meaning.specs.Judging.{Scope}
-use Rattle.pli_meaning.specs.References.{Named}
-use Rattle.pli_meaning.specs.View.{name_of, option_of}
-use Rattle.pli_meaning.specs.TypedTree as Y
-use Rattle.pli_meaning.specs.TypedView.{pointer_of}
-use Rattle.pli_meaning.specs.declared.typed.Pointer.{Pointer}
+use Rattle.pli_typing.specs.Judging.{Scope}
+use Rattle.pli_typing.specs.References.{Named}
+use Rattle.pli_language.specs.View.{name_of, option_of}
+use Rattle.pli_typing.specs.TypedTree as Y
+use Rattle.pli_typing.specs.TypedView.{pointer_of}
+use Rattle.pli_typing.specs.declared.typed.Pointer.{Pointer}
 use Rattle.pli_declare.specs.ShownBlocks.{block_of}
 use Rattle.pli_operand.specs.Shown.{operand_of}
 use Rattle.pli_reference.specs.declared.scope.Scope.{Scope as ScopeHeld}

@@ -1,24 +1,24 @@
 // Calls of procedures.
 
 ghost use Rattle.std.specs.Prelude.{◌≡◌, ◌++◌, [], map, slice_get, unwrap_or, IfOk, OnOk};
-ghost use Rattle.pli_meaning.specs.Calls as C;
-ghost use Rattle.pli_meaning.specs.TypedView.{call_of};
-ghost use Rattle.pli_meaning.specs.Variables.{declarations_at, variables_in};
+ghost use Rattle.pli_typing.specs.Calls as C;
+ghost use Rattle.pli_typing.specs.TypedView.{call_of};
+ghost use Rattle.pli_typing.specs.Variables.{declarations_at, variables_in};
 ghost use Rattle.pli_transfer.specs.Shown.{callee_of};
-ghost use Rattle.pli_meaning.specs.View.{name_of, procedure_head_of};
+ghost use Rattle.pli_language.specs.View.{name_of, procedure_head_of};
 ghost use Rattle.pli_declare.specs.ShownBlocks.{block_of};
 ghost use Rattle.pli_operand.specs.Notes.{noted};
 ghost use Rattle.pli_operand.specs.Shown.{designated_of, notes_of, operand_of};
 
 use crate::part::whole_by;
-use pli_meaning::expr::{Name, Place};
-use pli_meaning::stmt::ProcedureHead;
-use pli_meaning::typed;
-use pli_meaning::typed::Call;
+use pli_language::expr::{Name, Place};
+use pli_language::stmt::ProcedureHead;
 use pli_operand::notes::Notes;
 use pli_operand::operand::{Designated, Operand};
 use pli_transfer::argument::arguments_judged;
 use pli_transfer::callee::Callee;
+use pli_typing::typed;
+use pli_typing::typed::Call;
 use pli_variables::Tables;
 use std::alloc::{AllocError, Global};
 

@@ -1,11 +1,11 @@
 // Expressions and references, judged.
 
 ghost use Rattle.std.specs.Prelude.{◌≡◌, ◌++◌, map, IfOk, OnOk};
-ghost use Rattle.pli_meaning.specs.Converting as C;
-ghost use Rattle.pli_meaning.specs.References as R;
-ghost use Rattle.pli_meaning.specs.TypedTree as Y;
-ghost use Rattle.pli_meaning.specs.TypedView.{value_of};
-ghost use Rattle.pli_meaning.specs.View.{arguments_of, expr_of, exprs_of, option_of, qualified_of, reference_of};
+ghost use Rattle.pli_typing.specs.Converting as C;
+ghost use Rattle.pli_typing.specs.References as R;
+ghost use Rattle.pli_typing.specs.TypedTree as Y;
+ghost use Rattle.pli_typing.specs.TypedView.{value_of};
+ghost use Rattle.pli_language.specs.View.{arguments_of, expr_of, exprs_of, option_of, qualified_of, reference_of};
 ghost use Rattle.pli_operand.specs.Notes.{noted};
 ghost use Rattle.pli_operand.specs.Shown.{notes_of, operand_of, referent_of};
 ghost use Rattle.pli_reference.specs.Parts.{infix_of};
@@ -17,15 +17,15 @@ use crate::names::Named;
 use crate::scope::Scope;
 use pli_builtin::operator::{infixed, prefixed};
 use pli_declaring::constant::{constant, place_of, place_of_reference};
-use pli_meaning::expr::{Arguments, Expr, Exprs, InfixOp, Qualified, Reference};
-use pli_meaning::typed::{Bit, Number, Text, Value};
+use pli_language::expr::{Arguments, Expr, Exprs, InfixOp, Qualified, Reference};
 use pli_operand::notes::Notes;
 use pli_operand::operand::{Operand, Referent};
 use pli_operand::value::operand_value;
+use pli_typing::typed::{Bit, Number, Text, Value};
 use std::alloc::{AllocError, Global};
 
 /// A constant's value: operators and constants have 31 digits.
-#[tactic(auto, unfolding(pli_meaning::specs::TypedView::number_of))]
+#[tactic(auto, unfolding(pli_typing::specs::TypedView::number_of))]
 fn number_given<'t, 'a>(value: u64) -> Referent<'t, 'a>
     ensures { referent_of result ≡ C.Gives (Y.NumberValue C.operator_digits (Y.NumberConstant value)) }
 {
@@ -35,14 +35,14 @@ fn number_given<'t, 'a>(value: u64) -> Referent<'t, 'a>
     })
 }
 
-#[tactic(auto, unfolding(pli_meaning::specs::TypedView::text_of))]
+#[tactic(auto, unfolding(pli_typing::specs::TypedView::text_of))]
 fn text_given<'t, 'a>(value: &'a [u8]) -> Referent<'t, 'a>
     ensures { referent_of result ≡ C.Gives (Y.TextValue (Y.TextConstant value.now)) }
 {
     Referent::Gives(Value::Text(Text::Constant(value)))
 }
 
-#[tactic(auto, unfolding(pli_meaning::specs::TypedView::bit_of))]
+#[tactic(auto, unfolding(pli_typing::specs::TypedView::bit_of))]
 fn bit_given<'t, 'a>(value: bool) -> Referent<'t, 'a>
     ensures { referent_of result ≡ C.Gives (Y.BitValue (Y.BitConstant value)) }
 {
@@ -55,7 +55,7 @@ fn given<'t, 'a>(value: Option<Value<'a>>) -> Referent<'t, 'a>
 {
     match value {
         Some(value) => Referent::Gives(value),
-        None => Referent::NotKnown,
+        None => Referent::UnknownValue,
     }
 }
 

@@ -1,16 +1,16 @@
 // What the names of a reference mean.
 
 ghost use Rattle.std.specs.Prelude.{◌≡◌, ◌∷◌, map, IfOk, OnOk};
-ghost use Rattle.pli_meaning.specs.declared.scope.Found.TheVariants as F;
-ghost use Rattle.pli_meaning.specs.Converting.{NotKnown};
+ghost use Rattle.pli_language.specs.declared.scope.Found.TheVariants as F;
+ghost use Rattle.pli_typing.specs.Converting.{NotKnown};
 ghost use Rattle.pli_reference.specs.Firsts.{first_name};
-ghost use Rattle.pli_meaning.specs.Means.{names_mean};
-ghost use Rattle.pli_meaning.specs.References as R;
-ghost use Rattle.pli_meaning.specs.View.{name_of, option_of};
+ghost use Rattle.pli_language.specs.Means.{names_mean};
+ghost use Rattle.pli_typing.specs.References as R;
+ghost use Rattle.pli_language.specs.View.{name_of, option_of};
 ghost use Rattle.pli_declare.specs.Among.{letters_of};
 ghost use Rattle.pli_operand.specs.Notes.{noted, with_fault};
 ghost use Rattle.pli_operand.specs.Shown.{notes_of, referent_of};
-ghost use Rattle.pli_meaning.specs.Refusals.{fault};
+ghost use Rattle.pli_language.specs.Refusals.{fault};
 ghost use Rattle.pli_reference.specs.Parts.{undeclared_referent};
 ghost use Rattle.pli_reference.specs.Shown.{locator_of, named_of, scope_of};
 
@@ -18,12 +18,12 @@ use crate::meant::{builtin_referent, not_known, what_referent};
 use crate::names::Named;
 use crate::scope::Scope;
 use pli_declaring::attribute::is_builtin;
-use pli_meaning::expr::{Name, Place};
-use pli_meaning::fault::SourceKind;
-use pli_meaning::scope::Found;
-use pli_meaning::typed::Pointer;
+use pli_language::expr::{Name, Place};
+use pli_language::fault::SourceKind;
+use pli_language::scope::Found;
 use pli_operand::notes::Notes;
 use pli_operand::operand::Referent;
+use pli_typing::typed::Pointer;
 use std::alloc::{AllocError, Global};
 
 /// The letters of names.

@@ -1,13 +1,13 @@
 // What locates a BASED variable.
 
 ghost use Rattle.std.specs.Prelude.{◌≡◌, None, Some, false, map, IfOk, OnOk};
-ghost use Rattle.pli_meaning.specs.Converting as C;
-ghost use Rattle.pli_meaning.specs.Declarations.{Variable'};
-ghost use Rattle.pli_meaning.specs.References as R;
-ghost use Rattle.pli_meaning.specs.TypedTree as Y;
-ghost use Rattle.pli_meaning.specs.TypedView.{leaf_type_of};
-ghost use Rattle.pli_meaning.specs.Variables.{what_at};
-ghost use Rattle.pli_meaning.specs.View.{name_of, option_of};
+ghost use Rattle.pli_typing.specs.Converting as C;
+ghost use Rattle.pli_language.specs.Declarations.{Variable'};
+ghost use Rattle.pli_typing.specs.References as R;
+ghost use Rattle.pli_typing.specs.TypedTree as Y;
+ghost use Rattle.pli_typing.specs.TypedView.{leaf_type_of};
+ghost use Rattle.pli_typing.specs.Variables.{what_at};
+ghost use Rattle.pli_language.specs.View.{name_of, option_of};
 ghost use Rattle.pli_declare.specs.Shown.{held_of};
 ghost use Rattle.pli_declare.specs.ShownBlocks.{block_of};
 ghost use Rattle.pli_operand.specs.Notes.{noted};
@@ -20,15 +20,15 @@ use crate::part::{shape_of, whole_by};
 use pli_declare::scope::{Held, What};
 use pli_declaring::attribute::{Row, has};
 use pli_declaring::held::class_attributes;
-use pli_meaning::expr::{Name, Place};
-use pli_meaning::fault::SourceKind;
-use pli_meaning::scope::{DeclarationAt, Found};
-use pli_meaning::typed::{LeafType, Pointer};
+use pli_language::expr::{Name, Place};
+use pli_language::fault::SourceKind;
+use pli_language::scope::{DeclarationAt, Found};
 use pli_operand::notes::Notes;
 use pli_operand::operand::Operand;
 use pli_operand::shape::scalar_type;
 use pli_operand::value::{pointer_operand, value_with_type};
 use pli_operand::wanted::pointer_wanted;
+use pli_typing::typed::{LeafType, Pointer};
 use pli_variables::{Shape, Tables};
 use std::alloc::{AllocError, Global};
 

@@ -1,15 +1,15 @@
 // What names mean, with their arguments or subscripts.
 
 ghost use Rattle.std.specs.Prelude.{◌≡◌, ◌&&◌, ◌||◌, ◌==◌, Some, is_some, length, map, not, IfOk, OnOk};
-ghost use Rattle.pli_meaning.specs.Calls as C;
-ghost use Rattle.pli_meaning.specs.Declarations.{ProcedureName, Variable'};
-ghost use Rattle.pli_meaning.specs.Declaring.{class_attributes, has};
-ghost use Rattle.pli_meaning.specs.Converting.{GivesNothing, NotKnown};
-ghost use Rattle.pli_meaning.specs.References as R;
-ghost use Rattle.pli_meaning.specs.TypedTree as Y;
-ghost use Rattle.pli_meaning.specs.TypedView.{call_of, leaf_type_of, pointer_of};
-ghost use Rattle.pli_meaning.specs.Variables.{locator_name, what_at};
-ghost use Rattle.pli_meaning.specs.View.{attribute_of, name_of, option_of, procedure_head_of};
+ghost use Rattle.pli_typing.specs.Calls as C;
+ghost use Rattle.pli_language.specs.Declarations.{ProcedureName, Variable'};
+ghost use Rattle.pli_language.specs.Declaring.{class_attributes, has};
+ghost use Rattle.pli_typing.specs.Converting.{GivesNothing, NotKnown};
+ghost use Rattle.pli_typing.specs.References as R;
+ghost use Rattle.pli_typing.specs.TypedTree as Y;
+ghost use Rattle.pli_typing.specs.TypedView.{call_of, leaf_type_of, pointer_of};
+ghost use Rattle.pli_typing.specs.Variables.{locator_name, what_at};
+ghost use Rattle.pli_language.specs.View.{attribute_of, name_of, option_of, procedure_head_of};
 ghost use Rattle.pli_declare.specs.Shown.{held_of};
 ghost use Rattle.pli_operand.specs.Notes.{noted};
 ghost use Rattle.pli_operand.specs.Shown.{notes_of, operand_of, referent_of};
@@ -26,16 +26,16 @@ use pli_builtin::builtin::{builtin_called, number_list};
 use pli_declare::scope::{Held, What};
 use pli_declaring::attribute::{Row, has};
 use pli_declaring::held::{class_attributes, own_attributes};
-use pli_meaning::declaration::Attribute;
-use pli_meaning::expr::{Name, Place};
-use pli_meaning::fault::SourceKind;
-use pli_meaning::scope::{DeclarationAt, Found};
-use pli_meaning::stmt::ProcedureHead;
-use pli_meaning::token::Word;
-use pli_meaning::typed::{Call, LeafType, Pointer};
+use pli_language::declaration::Attribute;
+use pli_language::expr::{Name, Place};
+use pli_language::fault::SourceKind;
+use pli_language::scope::{DeclarationAt, Found};
+use pli_language::stmt::ProcedureHead;
+use pli_language::token::Word;
 use pli_operand::notes::Notes;
 use pli_operand::operand::{Operand, Referent};
 use pli_operand::value::value_from;
+use pli_typing::typed::{Call, LeafType, Pointer};
 use pli_variables::Shape;
 use std::alloc::{AllocError, Global};
 

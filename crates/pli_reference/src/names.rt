@@ -2,12 +2,12 @@
 
 ghost use Rattle.std.specs.Prelude.{◌≡◌, ◌++◌, map, OnOk, IfOk};
 ghost use Rattle.std.specs.List.{list_any};
-ghost use Rattle.pli_meaning.specs.References.{all_operands, is_empty, is_listed, listed, listed_place};
-ghost use Rattle.pli_meaning.specs.View.{option_of};
+ghost use Rattle.pli_typing.specs.References.{all_operands, is_empty, is_listed, listed, listed_place};
+ghost use Rattle.pli_language.specs.View.{option_of};
 ghost use Rattle.pli_operand.specs.Shown.{operand_of};
 ghost use Rattle.pli_reference.specs.Shown.{named_of};
 
-use pli_meaning::expr::{Name, Place};
+use pli_language::expr::{Name, Place};
 use pli_operand::operand::Operand;
 use std::alloc::{AllocError, Global};
 

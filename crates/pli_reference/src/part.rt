@@ -1,10 +1,10 @@
 // Parts of variables.
 
 ghost use Rattle.std.specs.Prelude.{◌≡◌, Some, IfOk, false, map, true};
-ghost use Rattle.pli_meaning.specs.Declarations.{Variable'};
-ghost use Rattle.pli_meaning.specs.TypedTree as Y;
-ghost use Rattle.pli_meaning.specs.TypedView.{numbers_of, part_of, pointer_of, reference_of, variable_of};
-ghost use Rattle.pli_meaning.specs.Variables.{what_at};
+ghost use Rattle.pli_language.specs.Declarations.{Variable'};
+ghost use Rattle.pli_typing.specs.TypedTree as Y;
+ghost use Rattle.pli_typing.specs.TypedView.{numbers_of, part_of, pointer_of, reference_of, variable_of};
+ghost use Rattle.pli_typing.specs.Variables.{what_at};
 ghost use Rattle.pli_declare.specs.Shown.{held_of};
 ghost use Rattle.pli_declare.specs.ShownBlocks.{block_of};
 ghost use Rattle.pli_operand.specs.Shown.{designated_of};
@@ -14,13 +14,13 @@ ghost use Rattle.pli_reference.specs.Parts.{designated_by, part_by, whole_by};
 ghost use Rattle.pli_reference.specs.Shown.{locator_of};
 
 use pli_declare::scope::Held;
-use pli_meaning::scope::DeclarationAt;
-use pli_meaning::typed::{Numbers, Part, Pointer, Reference, Variable};
+use pli_language::scope::DeclarationAt;
 use pli_operand::operand::Designated;
+use pli_typing::typed::{Numbers, Part, Pointer, Reference, Variable};
 use pli_variables::{Shape, Tables};
 use std::alloc::{AllocError, Global};
 
-#[tactic(auto, unfolding(pli_meaning::specs::TypedView::reference_of))]
+#[tactic(auto, unfolding(pli_typing::specs::TypedView::reference_of))]
 fn located<'a>(
     alloc: Global,
     variable: Variable,
@@ -39,7 +39,7 @@ fn located<'a>(
 }
 
 /// A reference to a part of a variable.
-#[tactic(auto, unfolding(pli_meaning::specs::TypedView::reference_of))]
+#[tactic(auto, unfolding(pli_typing::specs::TypedView::reference_of))]
 fn referring<'a>(
     alloc: Global,
     variable: Variable,
@@ -117,7 +117,7 @@ pub fn part_by<'t, 'a>(
 }
 
 /// A whole variable that has this shape and isn't BASED.
-#[tactic(auto, unfolding(pli_meaning::specs::TypedView::reference_of, pli_meaning::specs::TypedView::numbers_of))]
+#[tactic(auto, unfolding(pli_typing::specs::TypedView::reference_of, pli_typing::specs::TypedView::numbers_of))]
 pub fn whole_by<'t, 'a>(shape: &'t Shape<'a>) -> Designated<'t, 'a>
     ensures { designated_of result ≡ whole_by (shape_of shape.now) }
 {

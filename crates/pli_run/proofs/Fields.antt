@@ -2,7 +2,7 @@
 use Rattle.std.proofs.Common.{◌≡◌, ℕ, ◌+◌, ◌-◌, ◌^◌, ◌<◌, ◌≤◌, List, ◌∷◌, ◌++◌, length, Some, None, true, nat_lt, ◌==◌, if◌then◌else◌, refl, ◌∙◌, arith}
 use Rattle.std.proofs.lemmas.Bool.Decides.{nat_tests}
 use Rattle.pli_meaning.specs.Typed.{FixedItem}
-use Rattle.pli_meaning.specs.Words.{signed}
+use Rattle.rv_meaning.specs.Words.{signed}
 use Rattle.pli_meaning.specs.Codes.{too_wide_code}
 use Rattle.pli_meaning.specs.Stream.{decimal_text, right_justified, blanks, with_field}
 use Rattle.pli_meaning.specs.World.{written}

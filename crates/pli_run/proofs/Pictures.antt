@@ -1,13 +1,13 @@
 -- An image in instructions has one list of them, and is loaded as a machine loads it.
 use Rattle.std.proofs.Common.{◌≡◌, ℕ, suc, ◌*◌, List, [], ◌∷◌, Err, length, map, refl, ap, subst, sym, ◌∙◌, arith, append_assoc}
-use Rattle.pli_meaning.specs.declared.instr.Instr.{Instr}
-use Rattle.pli_meaning.specs.Encoding.{word_of}
-use Rattle.pli_meaning.specs.Memory.{bytes_of_words}
-use Rattle.pli_meaning.specs.Machine.{memory_size}
+use Rattle.rv_meaning.specs.declared.instr.Instr.{Instr}
+use Rattle.rv_meaning.specs.Encoding.{word_of}
+use Rattle.rv_meaning.specs.Memory.{bytes_of_words}
+use Rattle.rv_meaning.specs.Machine.{memory_size}
 use Rattle.pli_meaning.specs.Headline.{Picture, first_bytes}
-use Rattle.pli_meaning.specs.Images.{Image}
+use Rattle.rv_meaning.specs.Images.{Image}
 use Rattle.pli_meaning.specs.Headline.{loaded_at, first_machine, Run, Runs, run_on, run_of, shown_by}
-use Rattle.pli_meaning.specs.Machine.{Loaded, State}
+use Rattle.rv_meaning.specs.Machine.{Loaded, State}
 use Rattle.pli_meaning.specs.Services.{Service, first_service}
 use Rattle.std.proofs.lemmas.List.{length-map}
 use Rattle.rv_machine.specs.Operations.{instr_of}
@@ -20,7 +20,7 @@ use Rattle.rv_isa.proofs.Unique.{same}
 use Rattle.rv_machine.specs.Fitting.{AllFit}
 use Rattle.rv_machine.specs.Placing.{first_memory, AreDecoded}
 use Rattle.pli_meaning.specs.World.{first_world}
-use Rattle.pli_meaning.specs.declared.instr.Fault.{Fault}
+use Rattle.rv_meaning.specs.declared.instr.Fault.{Fault}
 use Rattle.pli_run.specs.declared.run.RunFault.{RunFault}
 use Rattle.pli_run.specs.declared.run.RunFault.TheVariants.{Memory, BadBase, Source, Machine as Fails}
 use Rattle.pli_run.specs.Running.{IsPicture, IsUnstarted, Tells, Meets, ShowsWithin}

@@ -1,7 +1,7 @@
 -- The steps of a machine with these services are those of the definitions.
 use Rattle.std.proofs.Common.{◌≡◌, ℕ, zero, suc, ◌+◌, ◌-◌, ◌*◌, List, length, Some, refl, ap, subst, sym, ◌∙◌, arith, zero-add, add-zero, ◌⊎◌, inl, inr}
-use Rattle.pli_meaning.specs.declared.instr.Fault.{Fault}
-use Rattle.pli_meaning.specs.Machine.{Loaded, State, Effect, Goes, Faults, Calls, effect}
+use Rattle.rv_meaning.specs.declared.instr.Fault.{Fault}
+use Rattle.rv_meaning.specs.Machine.{Loaded, State, Effect, Goes, Faults, Calls, effect}
 use Rattle.pli_meaning.specs.Services.{Service, Answer, serves}
 use Rattle.pli_meaning.specs.Headline.{Whole, Run, Runs, Ended as HasEnded, Stopped, answered, of_effect, next, run_on, shown_by}
 use Rattle.rv_machine.specs.declared.services.Served.{Served}

@@ -3,11 +3,11 @@ use Rattle.std.specs.Prelude.{ℕ, Option, Some, None, Result, Ok, Err}
 use Rattle.pli_meaning.specs.declared.outcome.Outcome.{Outcome}
 use Rattle.pli_meaning.specs.declared.outcome.End.{End}
 use Rattle.pli_meaning.specs.declared.outcome.End.TheVariants as E
-use Rattle.pli_meaning.specs.declared.fault.SourceFault.{SourceFault}
-use Rattle.pli_meaning.specs.declared.fault.SourceKind.{SourceKind}
-use Rattle.pli_meaning.specs.declared.fault.SourceKind.TheVariants as K
-use Rattle.pli_meaning.specs.declared.image.ImageFault.{ImageFault}
-use Rattle.pli_meaning.specs.declared.image.ImageFault.TheVariants as I
+use Rattle.pli_language.specs.declared.fault.SourceFault.{SourceFault}
+use Rattle.pli_language.specs.declared.fault.SourceKind.{SourceKind}
+use Rattle.pli_language.specs.declared.fault.SourceKind.TheVariants as K
+use Rattle.rv_meaning.specs.declared.image.ImageFault.{ImageFault}
+use Rattle.rv_meaning.specs.declared.image.ImageFault.TheVariants as I
 use Rattle.pli_run.specs.declared.run.RunFault.{RunFault}
 use Rattle.pli_run.specs.declared.run.RunFault.TheVariants as F
 use Rattle.pli_run.specs.declared.report.Line.{Line}

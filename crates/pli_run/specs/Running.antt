@@ -1,11 +1,11 @@
 -- What a run of an image comes to.
 use Rattle.std.specs.Prelude.{◌≡◌, ℕ, ◌+◌, ◌<◌, ◌≤◌, List, [], map, Some, Result, Ok, Err}
 use Rattle.pli_meaning.specs.declared.outcome.Outcome.{Outcome}
-use Rattle.pli_meaning.specs.declared.instr.Fault.{Fault}
-use Rattle.pli_meaning.specs.Encoding.{word_of}
+use Rattle.rv_meaning.specs.declared.instr.Fault.{Fault}
+use Rattle.rv_meaning.specs.Encoding.{word_of}
 use Rattle.pli_meaning.specs.World.{World}
 use Rattle.pli_meaning.specs.Headline.{Picture, Run, Stopped, shown_by}
-use Rattle.pli_meaning.specs.Images.{Image}
+use Rattle.rv_meaning.specs.Images.{Image}
 use Rattle.rv_machine.specs.Fitting.{AllFit}
 use Rattle.pli_run.specs.declared.run.RunFault.{RunFault}
 use Rattle.pli_run.specs.declared.run.RunFault.TheVariants.{Memory, BadBase, Source, Machine}

@@ -2,7 +2,7 @@
 use Rattle.std.specs.Prelude.{◌≡◌, ℕ, List, map, drop, reverse, Result, Ok, Err}
 use Rattle.pli_meaning.specs.World.{World}
 use Rattle.pli_meaning.specs.Typed.{FormatItem, FixedItem}
-use Rattle.pli_meaning.specs.Machine.{written}
+use Rattle.rv_meaning.specs.Machine.{written}
 use Rattle.pli_meaning.specs.Services.{Service, EditPlace, Answer, Done, Ends, Bad, serves, Duty, ActDuty, EndDuty, RaiseDuty, EditBeginDuty, FixedDuty, EditEndDuty, OtherDuty, act_served, end_served, raise_served, edit_begin_served, fixed_served, edit_end_served}
 use Rattle.rv_machine.specs.declared.services.Served.{Served}
 use Rattle.pli_run.specs.declared.edit.Edit.{Edit}

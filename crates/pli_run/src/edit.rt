@@ -1,7 +1,7 @@
 // Places in format lists.
 
 ghost use Rattle.std.specs.Prelude.{◌≡◌, ◌≤◌, ◌+◌, ◌*◌, ◌^◌, ℕ, length, Option, Some, None, MatchOption, MatchResult, Result, Ok, Err, IfOk, OnErr};
-ghost use Rattle.pli_meaning.specs.Machine.{memory_size};
+ghost use Rattle.rv_meaning.specs.Machine.{memory_size};
 ghost use Rattle.pli_meaning.specs.Typed.{FixedItem};
 ghost use Rattle.pli_meaning.specs.Services.{next_item, item_at, items_at, formats_at};
 ghost use Rattle.pli_run.specs.Serving.{items_of};

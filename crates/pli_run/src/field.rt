@@ -1,7 +1,7 @@
 // Fields of numbers in the output.
 
 ghost use Rattle.std.specs.Prelude.{◌≡◌, ◌≤◌, ◌++◌, ◌-◌, length, is_ok, if◌then◌else◌};
-ghost use Rattle.pli_meaning.specs.Words.{signed};
+ghost use Rattle.rv_meaning.specs.Words.{signed};
 ghost use Rattle.pli_meaning.specs.Stream.{blanks, finished, decimal_text};
 
 use itoa::Buffer;

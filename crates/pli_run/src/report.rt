@@ -5,10 +5,10 @@ ghost use Rattle.pli_run.specs.declared.report.Line.TheVariants.{Unread, Unwritt
 ghost use Rattle.pli_run.specs.Reporting.{status_of, line_of, end_status, end_line, refusal_status, refusal_line, image_line};
 
 use crate::run::RunFault;
-use pli_meaning::fault::{SourceFault, SourceKind};
-use pli_meaning::image::ImageFault;
-use pli_meaning::instr::Fault;
+use pli_language::fault::{SourceFault, SourceKind};
 use pli_meaning::outcome::{End, Limit, Outcome};
+use rv_meaning::image::ImageFault;
+use rv_meaning::instr::Fault;
 use std::fmt;
 
 /// Why there is no program that finished.

@@ -1,17 +1,17 @@
 // Runs of images.
 
 ghost use Rattle.std.specs.Prelude.{◌≡◌, ◌↔◌, ◌*◌, length, IsErrOf};
-ghost use Rattle.pli_meaning.specs.Machine.{IsValidBase};
+ghost use Rattle.rv_meaning.specs.Machine.{IsValidBase};
 ghost use Rattle.pli_meaning.specs.Headline.{Picture, run_of};
 ghost use Rattle.pli_run.specs.Running.{number_of, IsUnstarted, IsPicture, Tells};
 
 use crate::runtime::Runtime;
-use pli_meaning::fault::SourceFault;
-use pli_meaning::instr::Fault;
+use pli_language::fault::SourceFault;
 use pli_meaning::outcome::Outcome;
 use rv_image::image::Image;
 use rv_machine::base::valid_base;
 use rv_machine::machine::{Machine, Step};
+use rv_meaning::instr::Fault;
 use std::alloc::Global;
 use thiserror::Error;
 

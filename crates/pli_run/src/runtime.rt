@@ -1,7 +1,7 @@
 // The services of a run.
 
 ghost use Rattle.std.specs.Prelude.{◌≡◌, true, ℕ, ◌+◌, ◌*◌, ◌^◌, ◌<◌, length, slice_index, IfOk, MatchOption, MatchResult, Option, Some, None, false, nat_lt, if◌then◌else◌};
-ghost use Rattle.pli_meaning.specs.Machine.{memory_size, written};
+ghost use Rattle.rv_meaning.specs.Machine.{memory_size, written};
 ghost use Rattle.pli_meaning.specs.Services as duty;
 ghost use Rattle.pli_run.specs.Running.{world_of};
 ghost use Rattle.pli_run.specs.Serving.{service_of, Replies, Serves, duty_answered};
@@ -10,7 +10,7 @@ use crate::edit::{Edit, formats};
 use crate::field::{decimal, finish, put_field};
 use crate::reply::{Refusal, Reply};
 use itoa::Buffer;
-use pli_meaning::condition::Condition;
+use pli_language::condition::Condition;
 use pli_meaning::outcome::{End, Outcome};
 use rv_machine::services::{Served, Services};
 use rv_machine::storage::Storage;

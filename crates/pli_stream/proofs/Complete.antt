@@ -1,15 +1,15 @@
 -- Format lists: what is spelled is read, and so what is read is marked so.
 use Rattle.std.proofs.Common.{◌≡◌, ℕ, zero, suc, ◌<◌, ◌≤◌, List, [], ◌∷◌, length, Bool, true, false, refl, sym, ap, ◌∙◌, arith, Ok}
 use Rattle.std.specs.Prelude.{◌||◌}
-use Rattle.pli_meaning.specs.declared.token.Symbol.TheVariants as S
-use Rattle.pli_meaning.specs.declared.token.Kind.TheVariants as K
-use Rattle.pli_meaning.specs.declared.token.Token.{Token}
-use Rattle.pli_meaning.specs.declared.expr.Place.{Place}
-use Rattle.pli_meaning.specs.Marks.{Marks}
-use Rattle.pli_meaning.specs.Spells.{Takes, place_of}
-use Rattle.pli_meaning.specs.Formats as D
-use Rattle.pli_meaning.specs.Formats.{SpellsTimes, SpellsFormat, SpellsFormatItems, is_times, times_marks, Direction, format_marks, formats_marks, format_moves_data, formats_move_data}
-use Rattle.pli_meaning.specs.Tree as T
+use Rattle.pli_language.specs.declared.token.Symbol.TheVariants as S
+use Rattle.pli_language.specs.declared.token.Kind.TheVariants as K
+use Rattle.pli_language.specs.declared.token.Token.{Token}
+use Rattle.pli_language.specs.declared.expr.Place.{Place}
+use Rattle.pli_language.specs.Marks.{Marks}
+use Rattle.pli_language.specs.Spells.{Takes, place_of}
+use Rattle.pli_language.specs.Formats as D
+use Rattle.pli_language.specs.Formats.{SpellsTimes, SpellsFormat, SpellsFormatItems, is_times, times_marks, Direction, format_marks, formats_marks, format_moves_data, formats_move_data}
+use Rattle.pli_language.specs.Tree as T
 use Rattle.pli_phrase.specs.Cursor.{Cursor, Read, ◌>>=◌}
 use Rattle.pli_attributes.proofs.Posts.{Post, Never, post_from, post_is, post_leaves}
 use Rattle.pli_attributes.proofs.Tokens.{not_begins, begins_symbol, symbol_read, takes_next}

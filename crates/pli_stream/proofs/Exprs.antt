@@ -1,10 +1,10 @@
 -- Laws of the reader of lists of expressions, in the form of this crate's.
 use Rattle.std.proofs.Common.{ℕ, zero, suc, List, [], ◌∷◌, length, false, arith, Ok}
-use Rattle.pli_meaning.specs.declared.token.Symbol.TheVariants as S
-use Rattle.pli_meaning.specs.declared.token.Kind.TheVariants as K
-use Rattle.pli_meaning.specs.Marks.{exprs_marks}
-use Rattle.pli_meaning.specs.Spells.{SpellsExprs}
-use Rattle.pli_meaning.specs.Tree as T
+use Rattle.pli_language.specs.declared.token.Symbol.TheVariants as S
+use Rattle.pli_language.specs.declared.token.Kind.TheVariants as K
+use Rattle.pli_language.specs.Marks.{exprs_marks}
+use Rattle.pli_language.specs.Spells.{SpellsExprs}
+use Rattle.pli_language.specs.Tree as T
 use Rattle.pli_phrase.specs.Cursor.{Cursor, ◌>>=◌}
 use Rattle.pli_phrase.specs.Tokens.{starts, taken}
 use Rattle.pli_phrase.specs.Reading.{items_from, exprs_from, exprs_with}

@@ -1,18 +1,18 @@
 -- Numbers, and items of format lists that are no lists: what is read is spelled so, and what is spelled is read.
 use Rattle.std.proofs.Common.{◌≡◌, ◌≢◌, ℕ, ◌<◌, ◌≤◌, List, [], ◌∷◌, length, Option, Some, None, Bool, true, false, refl, ap, ◌∙◌, arith, Ok}
-use Rattle.pli_meaning.specs.declared.token.Word.{Word}
-use Rattle.pli_meaning.specs.declared.token.Word.TheVariants as W
-use Rattle.pli_meaning.specs.declared.token.Symbol.TheVariants as S
-use Rattle.pli_meaning.specs.declared.token.Kind.{Kind}
-use Rattle.pli_meaning.specs.declared.token.Kind.TheVariants as K
-use Rattle.pli_meaning.specs.declared.token.Token.{Token}
-use Rattle.pli_meaning.specs.declared.expr.Place.{Place}
-use Rattle.pli_meaning.specs.Marks.{Marks, no_marks}
-use Rattle.pli_meaning.specs.Spells.{Takes, next_kind}
-use Rattle.pli_meaning.specs.Formats as D
-use Rattle.pli_meaning.specs.Formats.{SpellsTimes, SpellsNumberOrOne, SpellsWidth, SpellsFormat, is_width, is_times, Direction, Getting, Putting, format_marks, format_moves_data}
-use Rattle.pli_meaning.specs.Tree as T
-use Rattle.pli_meaning.proofs.UniqueFormats.{count_stands}
+use Rattle.pli_language.specs.declared.token.Word.{Word}
+use Rattle.pli_language.specs.declared.token.Word.TheVariants as W
+use Rattle.pli_language.specs.declared.token.Symbol.TheVariants as S
+use Rattle.pli_language.specs.declared.token.Kind.{Kind}
+use Rattle.pli_language.specs.declared.token.Kind.TheVariants as K
+use Rattle.pli_language.specs.declared.token.Token.{Token}
+use Rattle.pli_language.specs.declared.expr.Place.{Place}
+use Rattle.pli_language.specs.Marks.{Marks, no_marks}
+use Rattle.pli_language.specs.Spells.{Takes, next_kind}
+use Rattle.pli_language.specs.Formats as D
+use Rattle.pli_language.specs.Formats.{SpellsTimes, SpellsNumberOrOne, SpellsWidth, SpellsFormat, is_width, is_times, Direction, Getting, Putting, format_marks, format_moves_data}
+use Rattle.pli_language.specs.Tree as T
+use Rattle.pli_language.proofs.UniqueFormats.{count_stands}
 use Rattle.pli_phrase.specs.Cursor.{Cursor, onto}
 use Rattle.pli_attributes.specs.Reading.{starts_number}
 use Rattle.pli_attributes.proofs.Posts.{Post, Never, post_ok, post_stuck, post_ended, post_bind, post_if, post_weaken, post_is}

@@ -1,17 +1,17 @@
 -- The laws of what stands behind GET and PUT: what is read is spelled so and marked so, what is spelled is read, and LIST
 -- and DATA alone are left out.
 use Rattle.std.proofs.Common.{◌≡◌, ℕ, ◌≤◌, List, [], ◌∷◌, length, Option, Some, None, true, false, refl, ap, ◌∙◌, arith, Ok, Err}
-use Rattle.pli_meaning.specs.declared.token.Word.{Word}
-use Rattle.pli_meaning.specs.declared.token.Word.TheVariants as W
-use Rattle.pli_meaning.specs.declared.token.Kind.{Kind}
-use Rattle.pli_meaning.specs.declared.token.Kind.TheVariants as K
-use Rattle.pli_meaning.specs.declared.token.Token.{Token}
-use Rattle.pli_meaning.specs.Marks.{Marks}
-use Rattle.pli_meaning.specs.Spells.{Takes, next_kind}
-use Rattle.pli_meaning.specs.Formats.{Direction, pairs_marks, skip_marks}
-use Rattle.pli_meaning.specs.Heads as H
-use Rattle.pli_meaning.specs.Heads.{SpellsStreamOptions, SpellsEdit, Moves, is_left_out_stream}
-use Rattle.pli_meaning.specs.Tree as T
+use Rattle.pli_language.specs.declared.token.Word.{Word}
+use Rattle.pli_language.specs.declared.token.Word.TheVariants as W
+use Rattle.pli_language.specs.declared.token.Kind.{Kind}
+use Rattle.pli_language.specs.declared.token.Kind.TheVariants as K
+use Rattle.pli_language.specs.declared.token.Token.{Token}
+use Rattle.pli_language.specs.Marks.{Marks}
+use Rattle.pli_language.specs.Spells.{Takes, next_kind}
+use Rattle.pli_language.specs.Formats.{Direction, pairs_marks, skip_marks}
+use Rattle.pli_language.specs.Heads as H
+use Rattle.pli_language.specs.Heads.{SpellsStreamOptions, SpellsEdit, Moves, is_left_out_stream}
+use Rattle.pli_language.specs.Tree as T
 use Rattle.pli_phrase.specs.Cursor.{Cursor, LeavesOut}
 use Rattle.pli_attributes.proofs.Posts.{Post, Never, never, post_ok, post_stuck, post_ended, post_left, post_bind, post_if, post_weaken, post_is, post_leaves}
 use Rattle.pli_attributes.proofs.Tokens.{taken_post, not_word, not_begins, begins_word, word_read, takes_next}

@@ -1,16 +1,16 @@
 -- Options of GET and PUT: what is read is spelled so, and what is spelled is read.
 use Rattle.std.proofs.Common.{◌≡◌, ◌≢◌, ℕ, List, Option, Some, None, Bool, true, false, refl, ap, ◌∙◌, arith, Ok}
 use Rattle.std.specs.Prelude.{◌||◌}
-use Rattle.pli_meaning.specs.declared.token.Word.TheVariants as W
-use Rattle.pli_meaning.specs.declared.token.Symbol.TheVariants as S
-use Rattle.pli_meaning.specs.declared.token.Kind.TheVariants as K
-use Rattle.pli_meaning.specs.declared.token.Token.{Token}
-use Rattle.pli_meaning.specs.Marks.{Marks}
-use Rattle.pli_meaning.specs.Spells.{Takes, next_kind, place_of}
-use Rattle.pli_meaning.specs.Formats.{SpellsNumberOrOne, Direction, times_marks, skip_marks}
-use Rattle.pli_meaning.specs.Heads as H
-use Rattle.pli_meaning.specs.Heads.{SpellsStreamOptions, file_word}
-use Rattle.pli_meaning.specs.Tree as T
+use Rattle.pli_language.specs.declared.token.Word.TheVariants as W
+use Rattle.pli_language.specs.declared.token.Symbol.TheVariants as S
+use Rattle.pli_language.specs.declared.token.Kind.TheVariants as K
+use Rattle.pli_language.specs.declared.token.Token.{Token}
+use Rattle.pli_language.specs.Marks.{Marks}
+use Rattle.pli_language.specs.Spells.{Takes, next_kind, place_of}
+use Rattle.pli_language.specs.Formats.{SpellsNumberOrOne, Direction, times_marks, skip_marks}
+use Rattle.pli_language.specs.Heads as H
+use Rattle.pli_language.specs.Heads.{SpellsStreamOptions, file_word}
+use Rattle.pli_language.specs.Tree as T
 use Rattle.pli_phrase.specs.Cursor.{Cursor}
 use Rattle.pli_phrase.specs.Tokens.{taken}
 use Rattle.pli_attributes.proofs.Posts.{Post, Never, post_ok, post_stuck, post_bind, post_if, post_weaken}

@@ -1,13 +1,13 @@
 -- Data lists with their format lists: what is read is spelled so, and what is spelled is read.
 use Rattle.std.proofs.Common.{◌≡◌, ◌≢◌, ℕ, zero, suc, ◌<◌, List, [], ◌∷◌, length, Some, true, refl, ap, ◌∙◌, arith, Ok}
-use Rattle.pli_meaning.specs.declared.token.Symbol.TheVariants as S
-use Rattle.pli_meaning.specs.declared.token.Kind.TheVariants as K
-use Rattle.pli_meaning.specs.declared.token.Token.{Token}
-use Rattle.pli_meaning.specs.Marks.{Marks, no_marks, exprs_marks}
-use Rattle.pli_meaning.specs.Spells.{Takes, next_kind, place_of, SpellsExprs}
-use Rattle.pli_meaning.specs.Formats as D
-use Rattle.pli_meaning.specs.Formats.{SpellsFormats, SpellsPair, SpellsPairs, Direction, formats_marks, formats_move_data, pair_marks, pairs_marks}
-use Rattle.pli_meaning.specs.Tree as T
+use Rattle.pli_language.specs.declared.token.Symbol.TheVariants as S
+use Rattle.pli_language.specs.declared.token.Kind.TheVariants as K
+use Rattle.pli_language.specs.declared.token.Token.{Token}
+use Rattle.pli_language.specs.Marks.{Marks, no_marks, exprs_marks}
+use Rattle.pli_language.specs.Spells.{Takes, next_kind, place_of, SpellsExprs}
+use Rattle.pli_language.specs.Formats as D
+use Rattle.pli_language.specs.Formats.{SpellsFormats, SpellsPair, SpellsPairs, Direction, formats_marks, formats_move_data, pair_marks, pairs_marks}
+use Rattle.pli_language.specs.Tree as T
 use Rattle.pli_phrase.specs.Cursor.{Cursor}
 use Rattle.pli_phrase.specs.Reading.{exprs_from}
 use Rattle.pli_phrase.specs.Tokens.{starts}

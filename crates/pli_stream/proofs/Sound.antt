@@ -1,12 +1,12 @@
 -- Format lists: what is read is spelled so.
 use Rattle.std.proofs.Common.{◌≡◌, ℕ, zero, suc, ◌<◌, ◌≤◌, List, [], ◌∷◌, length, Bool, true, false, refl, subst, arith}
-use Rattle.pli_meaning.specs.declared.token.Symbol.TheVariants as S
-use Rattle.pli_meaning.specs.declared.token.Kind.TheVariants as K
-use Rattle.pli_meaning.specs.declared.token.Token.{Token}
-use Rattle.pli_meaning.specs.Spells.{Takes, place_of}
-use Rattle.pli_meaning.specs.Formats as D
-use Rattle.pli_meaning.specs.Formats.{SpellsTimes, SpellsFormat, SpellsFormatItems, is_times, Direction}
-use Rattle.pli_meaning.specs.Tree as T
+use Rattle.pli_language.specs.declared.token.Symbol.TheVariants as S
+use Rattle.pli_language.specs.declared.token.Kind.TheVariants as K
+use Rattle.pli_language.specs.declared.token.Token.{Token}
+use Rattle.pli_language.specs.Spells.{Takes, place_of}
+use Rattle.pli_language.specs.Formats as D
+use Rattle.pli_language.specs.Formats.{SpellsTimes, SpellsFormat, SpellsFormatItems, is_times, Direction}
+use Rattle.pli_language.specs.Tree as T
 use Rattle.pli_phrase.specs.Cursor.{Cursor}
 use Rattle.pli_attributes.proofs.Posts.{Post, Never, post_ok, post_ended, post_bind, post_if, post_weaken}
 use Rattle.pli_attributes.proofs.Tokens.{TakenBy, taken_post}

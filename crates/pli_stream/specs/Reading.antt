@@ -1,18 +1,18 @@
 -- How what stands behind GET and PUT is read.
 use Rattle.std.specs.Prelude.{ℕ, zero, suc, List, [], ◌∷◌, length, Bool, true, false, not, ◌||◌, if◌then◌else◌, Option, Some, None, Ok, Err}
-use Rattle.pli_meaning.specs.declared.token.Word.{Word}
-use Rattle.pli_meaning.specs.declared.token.Word.TheVariants as W
-use Rattle.pli_meaning.specs.declared.token.Symbol.TheVariants as S
-use Rattle.pli_meaning.specs.declared.token.Kind.{Kind}
-use Rattle.pli_meaning.specs.declared.token.Kind.TheVariants as K
-use Rattle.pli_meaning.specs.declared.token.Token.{Token}
-use Rattle.pli_meaning.specs.declared.expr.Place.{Place}
-use Rattle.pli_meaning.specs.declared.fault.SourceKind.TheVariants.{BadFormat}
-use Rattle.pli_meaning.specs.Spells.{next_kind, place_of}
-use Rattle.pli_meaning.specs.Marks.{note_if}
-use Rattle.pli_meaning.specs.Formats.{is_count, is_width, is_times, Direction, Getting, Putting}
-use Rattle.pli_meaning.specs.Heads.{file_word, is_left_out_stream}
-use Rattle.pli_meaning.specs.Tree as T
+use Rattle.pli_language.specs.declared.token.Word.{Word}
+use Rattle.pli_language.specs.declared.token.Word.TheVariants as W
+use Rattle.pli_language.specs.declared.token.Symbol.TheVariants as S
+use Rattle.pli_language.specs.declared.token.Kind.{Kind}
+use Rattle.pli_language.specs.declared.token.Kind.TheVariants as K
+use Rattle.pli_language.specs.declared.token.Token.{Token}
+use Rattle.pli_language.specs.declared.expr.Place.{Place}
+use Rattle.pli_language.specs.declared.fault.SourceKind.TheVariants.{BadFormat}
+use Rattle.pli_language.specs.Spells.{next_kind, place_of}
+use Rattle.pli_language.specs.Marks.{note_if}
+use Rattle.pli_language.specs.Formats.{is_count, is_width, is_times, Direction, Getting, Putting}
+use Rattle.pli_language.specs.Heads.{file_word, is_left_out_stream}
+use Rattle.pli_language.specs.Tree as T
 use Rattle.pli_phrase.specs.Cursor.{Cursor, Missed, Stuck, Ended, LeavesOut, Read, ◌>>=◌, onto}
 use Rattle.pli_phrase.specs.Tokens.{begins, taken, number_from, count_from}
 use Rattle.pli_phrase.specs.Reading.{exprs_from}

@@ -1,7 +1,7 @@
 -- How the values of the code show what is read.
 use Rattle.std.specs.Prelude.{map}
-use Rattle.pli_meaning.specs.Formats as D
-use Rattle.pli_meaning.specs.View.{edit_pair_of, format_of, formats_of, option_of, skip_of}
+use Rattle.pli_language.specs.Formats as D
+use Rattle.pli_language.specs.View.{edit_pair_of, format_of, formats_of, option_of, skip_of}
 use Rattle.pli_phrase.specs.View.{newest}
 use Rattle.pli_stream.specs.Reading as R
 use Rattle.pli_stream.specs.declared.parts.Direction.{Direction}

@@ -2,7 +2,7 @@
 // lists are.
 
 ghost use Rattle.std.specs.Prelude.{◌≡◌, IfOk};
-ghost use Rattle.pli_meaning.specs.View.{format_of, formats_of};
+ghost use Rattle.pli_language.specs.View.{format_of, formats_of};
 ghost use Rattle.pli_phrase.specs.Answers.{Gives};
 ghost use Rattle.pli_phrase.specs.View.{cursor_of, newest};
 ghost use Rattle.pli_stream.specs.Reading as R;
@@ -13,16 +13,16 @@ use crate::build::{listed, nested};
 use crate::item::{checked, format, is_times, repetition};
 use crate::parts::Direction;
 use crate::state::{Item, Outer, State, Turn};
-use pli_meaning::expr::Place;
-use pli_meaning::stmt::{Format, Formats};
-use pli_meaning::token::{Kind, Symbol};
+use pli_language::expr::Place;
+use pli_language::stmt::{Format, Formats};
+use pli_language::token::{Kind, Symbol};
 use pli_phrase::cursor::Cursor;
 use pli_phrase::stop::Stop;
 use pli_phrase::token::{begins, place, taken};
 use std::alloc::{AllocError, Global};
 
 /// F and A move data.
-#[tactic(auto, unfolding(pli_meaning::specs::View::format_of))]
+#[tactic(auto, unfolding(pli_language::specs::View::format_of))]
 fn is_data(format: &Format) -> bool
     ensures { result ≡ is_data (format_of format.now) }
 {

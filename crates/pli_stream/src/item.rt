@@ -1,18 +1,18 @@
 // Items of format lists that are no lists.
 
 ghost use Rattle.std.specs.Prelude.{◌≡◌, IfOk};
-ghost use Rattle.pli_meaning.specs.Formats.{is_count, is_times, is_width};
-ghost use Rattle.pli_meaning.specs.View.{format_of};
+ghost use Rattle.pli_language.specs.Formats.{is_count, is_times, is_width};
+ghost use Rattle.pli_language.specs.View.{format_of};
 ghost use Rattle.pli_phrase.specs.Answers.{Gives};
 ghost use Rattle.pli_phrase.specs.View.{cursor_of};
 ghost use Rattle.pli_stream.specs.Reading.{checked, format_from, is_text_width, number_or_one_from, repetition_from, width_from, worded};
 ghost use Rattle.pli_stream.specs.View.{direction_of};
 
 use crate::parts::Direction;
-use pli_meaning::expr::Place;
-use pli_meaning::fault::SourceKind;
-use pli_meaning::stmt::Format;
-use pli_meaning::token::{Kind, Symbol, Word};
+use pli_language::expr::Place;
+use pli_language::fault::SourceKind;
+use pli_language::stmt::Format;
+use pli_language::token::{Kind, Symbol, Word};
 use pli_phrase::cursor::Cursor;
 use pli_phrase::stop::Stop;
 use pli_phrase::token::{begins, count, next_kind, number};
@@ -133,7 +133,7 @@ fn times<'a>(place: Place, number: u32, cursor: Cursor<'a>) -> Result<(u64, Curs
 }
 
 /// The item of this word, behind it. The item began at the place.
-#[tactic(auto, unfolding(pli_meaning::specs::View::format_of))]
+#[tactic(auto, unfolding(pli_language::specs::View::format_of))]
 fn worded<'a>(
     direction: Direction,
     place: Place,

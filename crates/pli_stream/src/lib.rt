@@ -12,6 +12,3 @@ mod stream;
 
 pub use parts::{Direction, Transfer};
 pub use stream::transfer;
-
-#[cfg(test)]
-mod tests;

@@ -1,8 +1,8 @@
 // The options behind GET and PUT.
 
 ghost use Rattle.std.specs.Prelude.{◌≡◌};
-ghost use Rattle.pli_meaning.specs.Heads.{file_word};
-ghost use Rattle.pli_meaning.specs.View.{option_of, skip_of};
+ghost use Rattle.pli_language.specs.Heads.{file_word};
+ghost use Rattle.pli_language.specs.View.{option_of, skip_of};
 ghost use Rattle.pli_phrase.specs.Answers.{Gives};
 ghost use Rattle.pli_phrase.specs.View.{cursor_of};
 ghost use Rattle.pli_stream.specs.Reading.{file_from, late_file_from, options_end, options_from, skip_from};
@@ -10,8 +10,8 @@ ghost use Rattle.pli_stream.specs.View.{direction_of};
 
 use crate::item::{checked, is_times, number_or_one};
 use crate::parts::Direction;
-use pli_meaning::stmt::Skip;
-use pli_meaning::token::{Kind, Symbol, Word};
+use pli_language::stmt::Skip;
+use pli_language::token::{Kind, Symbol, Word};
 use pli_phrase::cursor::Cursor;
 use pli_phrase::stop::Stop;
 use pli_phrase::token::{begins, place, taken};

@@ -1,7 +1,7 @@
 // Data lists with the format lists that they go by.
 
 ghost use Rattle.std.specs.Prelude.{◌≡◌, map};
-ghost use Rattle.pli_meaning.specs.View.{edit_pair_of, exprs_of};
+ghost use Rattle.pli_language.specs.View.{edit_pair_of, exprs_of};
 ghost use Rattle.pli_phrase.specs.Answers.{Gives};
 ghost use Rattle.pli_phrase.specs.View.{cursor_of};
 ghost use Rattle.pli_stream.specs.Reading.{pair_from, pairs_from};
@@ -10,8 +10,8 @@ ghost use Rattle.pli_stream.specs.View.{direction_of};
 use crate::format::formats;
 use crate::item::checked;
 use crate::parts::Direction;
-use pli_meaning::stmt::EditPair;
-use pli_meaning::token::{Kind, Symbol};
+use pli_language::stmt::EditPair;
+use pli_language::token::{Kind, Symbol};
 use pli_phrase::cursor::Cursor;
 use pli_phrase::expression::expressions;
 use pli_phrase::stop::Stop;

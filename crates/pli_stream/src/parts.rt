@@ -1,6 +1,6 @@
 // What the reader is told and what it gives.
 
-use pli_meaning::stmt::{EditPair, Skip};
+use pli_language::stmt::{EditPair, Skip};
 
 /// Which statement goes by the formats: GET or PUT.
 #[derive(Clone, Copy, PartialEq, Eq, Debug)]

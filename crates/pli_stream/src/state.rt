@@ -1,7 +1,7 @@
 // What is open around the token that is read in a format list.
 
-use pli_meaning::expr::Place;
-use pli_meaning::stmt::{Format, Formats};
+use pli_language::expr::Place;
+use pli_language::stmt::{Format, Formats};
 
 /// An item with its place and its repetition.
 #[derive(Drop)]

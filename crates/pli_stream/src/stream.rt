@@ -1,7 +1,7 @@
 // The whole of what stands behind GET and PUT.
 
 ghost use Rattle.std.specs.Prelude.{◌≡◌, map};
-ghost use Rattle.pli_meaning.specs.View.{edit_pair_of, option_of, skip_of};
+ghost use Rattle.pli_language.specs.View.{edit_pair_of, option_of, skip_of};
 ghost use Rattle.pli_phrase.specs.Answers.{Gives};
 ghost use Rattle.pli_phrase.specs.View.{cursor_of};
 ghost use Rattle.pli_stream.specs.Reading.{edit_from, is_left_out_kind, moved, transfer_from};
@@ -10,8 +10,8 @@ ghost use Rattle.pli_stream.specs.View.{direction_of, transfer_of};
 use crate::option::options;
 use crate::pair::pairs;
 use crate::parts::{Direction, Transfer};
-use pli_meaning::stmt::{EditPair, Skip};
-use pli_meaning::token::{Kind, Word};
+use pli_language::stmt::{EditPair, Skip};
+use pli_language::token::{Kind, Word};
 use pli_phrase::cursor::Cursor;
 use pli_phrase::stop::Stop;
 use pli_phrase::token::{begins, next_kind, taken};

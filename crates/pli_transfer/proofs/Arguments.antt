@@ -1,11 +1,11 @@
 -- Arguments from their last one on.
 use Rattle.std.proofs.Common.{◌≡◌, ◌∙◌, List, [], ◌∷◌, ◌++◌, length, refl, sym, ap, ap₂, arith}
 use Rattle.std.specs.declared.vec.IntoIter.{IntoIter}
-use Rattle.pli_meaning.specs.declared.fault.SourceKind.TheVariants.{BadArguments}
-use Rattle.pli_meaning.specs.Calls.{Callee, arguments_judged}
-use Rattle.pli_meaning.specs.Converting.{Designated, Operand}
-use Rattle.pli_meaning.specs.Refusals.{fault}
-use Rattle.pli_meaning.specs.TypedTree as Y
+use Rattle.pli_language.specs.declared.fault.SourceKind.TheVariants.{BadArguments}
+use Rattle.pli_typing.specs.Calls.{Callee, arguments_judged}
+use Rattle.pli_typing.specs.Converting.{Designated, Operand}
+use Rattle.pli_language.specs.Refusals.{fault}
+use Rattle.pli_typing.specs.TypedTree as Y
 use Rattle.pli_operand.specs.Notes.{Noted, noted, with_fault}
 use Rattle.pli_operand.proofs.Noting.{noted_fault, noted_none}
 use Rattle.pli_transfer.specs.Shown.{arguments_onto}

@@ -1,6 +1,6 @@
 -- Operands that are judged one after the other.
 use Rattle.std.proofs.Common.{◌≡◌, ◌∙◌, List, [], ◌∷◌, ◌++◌, map, sym, ap}
-use Rattle.pli_meaning.specs.Judging.{Judged, each}
+use Rattle.pli_typing.specs.Judging.{Judged, each}
 use Rattle.pli_operand.specs.Notes.{Noted, noted}
 use Rattle.pli_operand.proofs.Noting.{noted_append, noted_none}
 

@@ -1,7 +1,7 @@
 -- The first of a list that passes a test.
 use Rattle.std.proofs.Common.{◌≡◌, ◌+◌, Bool, true, false, List, [], ◌∷◌, map, refl, ap}
 use Rattle.std.specs.Prelude.{if◌then◌else◌}
-use Rattle.pli_meaning.specs.Variables.{index_where}
+use Rattle.pli_typing.specs.Variables.{index_where}
 
 pub hit : {X : Type 0} (test : X → Bool) (x : X) (xs : List X) → test x ≡ true → index_where test (x ∷ xs) ≡ 0
 hit test x xs e = ap (λ b. if b then 0 else index_where test xs + 1) e

@@ -1,6 +1,6 @@
 -- What is noted where a judged part is put into something.
 use Rattle.std.proofs.Common.{◌≡◌, ◌∙◌, [], ◌++◌, sym, ap}
-use Rattle.pli_meaning.specs.Judging.{Judged}
+use Rattle.pli_typing.specs.Judging.{Judged}
 use Rattle.pli_operand.specs.Notes.{Noted, noted, with_lists}
 use Rattle.pli_operand.proofs.Noting.{noted_append, noted_none}
 

@@ -1,9 +1,9 @@
 -- What a program's values show of the definitions.
 use Rattle.std.specs.Prelude.{List, [], ◌∷◌, map}
-use Rattle.pli_meaning.specs.Assigning.{Scalar}
-use Rattle.pli_meaning.specs.Calls.{Callee}
-use Rattle.pli_meaning.specs.TypedTree as Y
-use Rattle.pli_meaning.specs.TypedView.{leaf_type_of, reference_of}
+use Rattle.pli_typing.specs.Assigning.{Scalar}
+use Rattle.pli_typing.specs.Calls.{Callee}
+use Rattle.pli_typing.specs.TypedTree as Y
+use Rattle.pli_typing.specs.TypedView.{leaf_type_of, reference_of}
 use Rattle.pli_operand.specs.Shown.{designated_of}
 use Rattle.pli_transfer.specs.declared.callee.Callee.{Callee as CalleeHeld}
 use Rattle.pli_transfer.specs.declared.scalar.Scalar.{Scalar as ScalarHeld}

@@ -2,34 +2,34 @@
 
 ghost use Rattle.std.specs.Prelude.{◌≡◌, Some, [], map, IfOk, OnOk};
 ghost use Rattle.std.specs.Vec.Iter.{into_iter_items};
-ghost use Rattle.pli_meaning.specs.declared.fault.SourceKind.TheVariants.{BadArguments};
-ghost use Rattle.pli_meaning.specs.Calls as K;
-ghost use Rattle.pli_meaning.specs.Converting as C;
-ghost use Rattle.pli_meaning.specs.Refusals.{fault};
-ghost use Rattle.pli_meaning.specs.TypedTree as Y;
-ghost use Rattle.pli_meaning.specs.TypedView.{argument_of, arguments_of, class_of, leaf_type_of, pointer_of, value_of, variable_of};
-ghost use Rattle.pli_meaning.specs.View.{option_of};
+ghost use Rattle.pli_language.specs.declared.fault.SourceKind.TheVariants.{BadArguments};
+ghost use Rattle.pli_typing.specs.Calls as K;
+ghost use Rattle.pli_typing.specs.Converting as C;
+ghost use Rattle.pli_language.specs.Refusals.{fault};
+ghost use Rattle.pli_typing.specs.TypedTree as Y;
+ghost use Rattle.pli_typing.specs.TypedView.{argument_of, arguments_of, class_of, leaf_type_of, pointer_of, value_of, variable_of};
+ghost use Rattle.pli_language.specs.View.{option_of};
 ghost use Rattle.pli_operand.specs.Notes.{noted, with_fault};
 ghost use Rattle.pli_operand.specs.Shown.{designated_of, notes_of, operand_of, referent_of};
 ghost use Rattle.pli_transfer.specs.Shown.{arguments_onto, callee_of};
 
 use crate::callee::{Callee, parameter_place};
 use crate::matching::leaves_pass;
-use pli_meaning::expr::Place;
-use pli_meaning::fault::SourceKind;
-use pli_meaning::typed::{
-    Argument, Arguments, Bit, LeafType, Pointer, StorageClass, Stored, Value, Variable,
-};
+use pli_language::expr::Place;
+use pli_language::fault::SourceKind;
 use pli_operand::notes::Notes;
 use pli_operand::operand::{Designated, Operand, Referent};
 use pli_operand::shape::scalar_type;
 use pli_operand::stored::stored_as;
 use pli_operand::value::value_with_type;
+use pli_typing::typed::{
+    Argument, Arguments, Bit, LeafType, Pointer, StorageClass, Stored, Value, Variable,
+};
 use std::alloc::{AllocError, Global};
 use std::vec::IntoIter;
 
 /// Stands in for an argument.
-#[tactic(auto, unfolding(pli_meaning::specs::TypedView::argument_of, pli_meaning::specs::TypedView::stored_of, pli_meaning::specs::TypedView::bit_of))]
+#[tactic(auto, unfolding(pli_typing::specs::TypedView::argument_of, pli_typing::specs::TypedView::stored_of, pli_typing::specs::TypedView::bit_of))]
 fn no_argument<'a>() -> Argument<'a>
     ensures { argument_of result ≡ K.no_argument }
 {
@@ -49,7 +49,7 @@ fn refused<'a>(notes: &mut Notes, place: Place, kind: SourceKind) -> Argument<'a
 }
 
 /// A copy of the parameter's kind.
-#[tactic(auto, using(pli_operand::proofs::Noting::noting), unfolding(pli_meaning::specs::TypedView::argument_of))]
+#[tactic(auto, using(pli_operand::proofs::Noting::noting), unfolding(pli_typing::specs::TypedView::argument_of))]
 fn copied<'a>(
     alloc: Global,
     notes: &mut Notes,
@@ -67,7 +67,7 @@ fn copied<'a>(
 }
 
 /// A POINTER for an OFFSET whose area the procedure's own block declares.
-#[tactic(auto, using(pli_operand::proofs::Noting::noting), unfolding(pli_meaning::specs::TypedView::argument_of))]
+#[tactic(auto, using(pli_operand::proofs::Noting::noting), unfolding(pli_typing::specs::TypedView::argument_of))]
 fn offset_argument<'a>(
     alloc: Global,
     notes: &mut Notes,
@@ -223,7 +223,7 @@ fn argument_by_copy<'a>(
 }
 
 /// A part of a variable goes by reference where it may, else by a copy.
-#[tactic(auto, using(pli_operand::proofs::Noting::noting), unfolding(pli_meaning::specs::TypedView::argument_of))]
+#[tactic(auto, using(pli_operand::proofs::Noting::noting), unfolding(pli_typing::specs::TypedView::argument_of))]
 fn designated_argument<'a>(
     alloc: Global,
     notes: &mut Notes,
@@ -266,7 +266,7 @@ fn referent_argument<'a>(
             place,
             SourceKind::TypeMismatch,
         )),
-        Referent::NotKnown => Ok(no_argument()),
+        Referent::UnknownValue | Referent::NotKnown => Ok(no_argument()),
     }
 }
 
@@ -293,7 +293,7 @@ fn operand_argument<'a>(
 }
 
 /// An argument before others.
-#[tactic(auto, unfolding(pli_meaning::specs::TypedView::arguments_of))]
+#[tactic(auto, unfolding(pli_typing::specs::TypedView::arguments_of))]
 fn argument_then<'a>(
     alloc: Global,
     first: Argument<'a>,
@@ -308,7 +308,7 @@ fn argument_then<'a>(
 }
 
 /// No argument.
-#[tactic(auto, unfolding(pli_meaning::specs::TypedView::arguments_of))]
+#[tactic(auto, unfolding(pli_typing::specs::TypedView::arguments_of))]
 fn no_more<'a>() -> Arguments<'a>
     ensures { arguments_of result ≡ Y.NoArgument }
 {

@@ -1,29 +1,29 @@
 // Assignments.
 
 ghost use Rattle.std.specs.Prelude.{◌≡◌, Some, None, IfOk, OnOk};
-ghost use Rattle.pli_meaning.specs.declared.fault.SourceKind.TheVariants.{TypeMismatch};
-ghost use Rattle.pli_meaning.specs.Assigning as A;
-ghost use Rattle.pli_meaning.specs.Converting as C;
-ghost use Rattle.pli_meaning.specs.Refusals.{fault};
-ghost use Rattle.pli_meaning.specs.TypedStatementView.{stmt_of};
-ghost use Rattle.pli_meaning.specs.TypedView.{leaf_type_of, reference_of, value_of, variable_of};
-ghost use Rattle.pli_meaning.specs.View.{option_of};
+ghost use Rattle.pli_language.specs.declared.fault.SourceKind.TheVariants.{TypeMismatch};
+ghost use Rattle.pli_typing.specs.Assigning as A;
+ghost use Rattle.pli_typing.specs.Converting as C;
+ghost use Rattle.pli_language.specs.Refusals.{fault};
+ghost use Rattle.pli_typing.specs.TypedStatementView.{stmt_of};
+ghost use Rattle.pli_typing.specs.TypedView.{leaf_type_of, reference_of, value_of, variable_of};
+ghost use Rattle.pli_language.specs.View.{option_of};
 ghost use Rattle.pli_operand.specs.Notes.{noted, with_fault};
 ghost use Rattle.pli_operand.specs.Shown.{designated_of, notes_of, operand_of, referent_of};
 
 use crate::matching::leaves_match;
-use pli_meaning::expr::Place;
-use pli_meaning::fault::SourceKind;
-use pli_meaning::typed::{LeafType, Reference, Stmt, Value, Variable};
+use pli_language::expr::Place;
+use pli_language::fault::SourceKind;
 use pli_operand::notes::Notes;
 use pli_operand::operand::{Designated, Operand, Referent};
 use pli_operand::shape::{element_type, is_aggregate, is_area, scalar_type, variable_of};
 use pli_operand::stored::{operand_stored, stored_as};
 use pli_operand::value::referent_value;
+use pli_typing::typed::{LeafType, Reference, Stmt, Value, Variable};
 use std::alloc::{AllocError, Global};
 
 /// A statement that assigns nothing.
-#[tactic(auto, unfolding(pli_meaning::specs::TypedStatementView::stmt_of))]
+#[tactic(auto, unfolding(pli_typing::specs::TypedStatementView::stmt_of))]
 fn nothing_done<'a>(place: Place) -> Stmt<'a>
     ensures { stmt_of result ≡ A.nothing_done place }
 {
@@ -41,7 +41,7 @@ fn mismatched<'a>(notes: &mut Notes, mismatch: Place, place: Place) -> Stmt<'a>
 }
 
 /// A value into a scalar.
-#[tactic(auto, using(pli_operand::proofs::Noting::noting), unfolding(pli_meaning::specs::TypedStatementView::stmt_of))]
+#[tactic(auto, using(pli_operand::proofs::Noting::noting), unfolding(pli_typing::specs::TypedStatementView::stmt_of))]
 fn assigned_scalar<'a>(
     alloc: Global,
     notes: &mut Notes,
@@ -60,7 +60,7 @@ fn assigned_scalar<'a>(
     })
 }
 
-#[tactic(auto, using(pli_operand::proofs::Noting::noting), unfolding(pli_meaning::specs::TypedStatementView::stmt_of))]
+#[tactic(auto, using(pli_operand::proofs::Noting::noting), unfolding(pli_typing::specs::TypedStatementView::stmt_of))]
 fn area_to_area<'a>(
     notes: &mut Notes,
     place: Place,
@@ -83,7 +83,7 @@ fn area_to_area<'a>(
 }
 
 /// Into an area goes an area, or EMPTY().
-#[tactic(auto, using(pli_operand::proofs::Noting::noting), unfolding(pli_meaning::specs::TypedStatementView::stmt_of))]
+#[tactic(auto, using(pli_operand::proofs::Noting::noting), unfolding(pli_typing::specs::TypedStatementView::stmt_of))]
 fn assigned_area<'a>(
     notes: &mut Notes,
     place: Place,
@@ -102,12 +102,12 @@ fn assigned_area<'a>(
             target,
             line: place.line,
         },
-        Referent::NotKnown => nothing_done(place),
+        Referent::UnknownValue | Referent::NotKnown => nothing_done(place),
     }
 }
 
 /// One value into each element.
-#[tactic(auto, using(pli_operand::proofs::Noting::noting), unfolding(pli_meaning::specs::TypedStatementView::stmt_of))]
+#[tactic(auto, using(pli_operand::proofs::Noting::noting), unfolding(pli_typing::specs::TypedStatementView::stmt_of))]
 fn elements_stored<'a>(
     alloc: Global,
     notes: &mut Notes,
@@ -192,7 +192,7 @@ fn assigned_each<'a>(
     assigned_elements(alloc, notes, place, target, source_place, value)
 }
 
-#[tactic(auto, using(pli_operand::proofs::Noting::noting), unfolding(pli_meaning::specs::TypedStatementView::stmt_of))]
+#[tactic(auto, using(pli_operand::proofs::Noting::noting), unfolding(pli_typing::specs::TypedStatementView::stmt_of))]
 fn assigned_matching<'a>(
     notes: &mut Notes,
     place: Place,
@@ -269,6 +269,14 @@ fn assigned_aggregate<'a>(
                 Referent::Gives(value),
             )
         }
+        Referent::UnknownValue => assigned_each(
+            alloc,
+            notes,
+            place,
+            target,
+            source_place,
+            Referent::UnknownValue,
+        ),
         Referent::EmptyArea => assigned_each(
             alloc,
             notes,
@@ -406,7 +414,7 @@ fn assigned_referent<'a>(
     match target {
         Referent::Designates(designated) => assigned_to(alloc, notes, place, designated, source),
         Referent::Gives(value) => Ok(value_target(notes, place, target_place, value, source)),
-        Referent::EmptyArea | Referent::Nothing => {
+        Referent::UnknownValue | Referent::EmptyArea | Referent::Nothing => {
             Ok(no_target(notes, place, target_place, source))
         }
         Referent::NotKnown => Ok(unknown_target(place, source)),

@@ -1,13 +1,13 @@
 // What is called, and how its parameters are found.
 
 ghost use Rattle.std.specs.Prelude.{◌≡◌, map};
-ghost use Rattle.pli_meaning.specs.Calls.{index_in, parameter_place};
-ghost use Rattle.pli_meaning.specs.TypedView.{reference_of, variable_of};
+ghost use Rattle.pli_typing.specs.Calls.{index_in, parameter_place};
+ghost use Rattle.pli_typing.specs.TypedView.{reference_of, variable_of};
 ghost use Rattle.pli_operand.specs.Shown.{designated_of};
 
-use pli_meaning::expr::Place;
-use pli_meaning::typed::{Reference, Variable};
+use pli_language::expr::Place;
 use pli_operand::operand::Designated;
+use pli_typing::typed::{Reference, Variable};
 
 /// What a call is made of: the procedure's block, its parameters, and the place of the name.
 #[derive(Clone, Copy)]
@@ -18,7 +18,7 @@ pub struct Callee<'p, 't, 'a> {
 }
 
 /// The place of a reference's variable among those of its block.
-#[tactic(auto, unfolding(pli_meaning::specs::TypedView::reference_of))]
+#[tactic(auto, unfolding(pli_typing::specs::TypedView::reference_of))]
 fn index_in(reference: &Reference) -> usize
     ensures { result ≡ index_in (reference_of reference.now) }
 {

@@ -1,28 +1,29 @@
 // The items of GET and PUT.
 
-ghost use Rattle.std.specs.Prelude.{◌≡◌, None, Some, map, IfOk, OnOk};
-ghost use Rattle.pli_meaning.specs.declared.fault.SourceKind.TheVariants.{TypeMismatch};
-ghost use Rattle.pli_meaning.specs.Assigning as A;
-ghost use Rattle.pli_meaning.specs.Converting as C;
-ghost use Rattle.pli_meaning.specs.Judging.{each};
-ghost use Rattle.pli_meaning.specs.Refusals.{fault};
-ghost use Rattle.pli_meaning.specs.TypedStatementView.{get_item_of, get_pair_of, put_item_of, put_pair_of};
-ghost use Rattle.pli_meaning.specs.TypedTree as Y;
-ghost use Rattle.pli_meaning.specs.TypedView.{value_of};
-ghost use Rattle.pli_meaning.specs.View.{formats_of, option_of};
+ghost use Rattle.std.specs.Prelude.{◌≡◌, None, map, IfOk, OnOk};
+ghost use Rattle.pli_language.specs.declared.fault.SourceKind.TheVariants.{TypeMismatch};
+ghost use Rattle.pli_typing.specs.Assigning as A;
+ghost use Rattle.pli_typing.specs.Converting as C;
+ghost use Rattle.pli_typing.specs.Judging.{each};
+ghost use Rattle.pli_language.specs.Refusals.{fault};
+ghost use Rattle.pli_typing.specs.TypedStatementView.{get_item_of, get_pair_of, put_item_of, put_pair_of};
+ghost use Rattle.pli_typing.specs.TypedTree as Y;
+ghost use Rattle.pli_typing.specs.TypedView.{value_of};
+ghost use Rattle.pli_language.specs.View.{formats_of, option_of};
 ghost use Rattle.pli_operand.specs.Notes.{noted, with_fault};
 ghost use Rattle.pli_operand.specs.Shown.{designated_of, notes_of, operand_of, referent_of};
 
+use crate::computational::computational;
 use crate::reading::{all_read, all_written, holds_fixed};
-use pli_meaning::expr::Place;
-use pli_meaning::fault::SourceKind;
-use pli_meaning::stmt::Formats;
-use pli_meaning::typed::{GetItem, GetPair, PutItem, PutPair, Value};
+use pli_language::expr::Place;
+use pli_language::fault::SourceKind;
+use pli_language::stmt::Formats;
 use pli_operand::notes::Notes;
 use pli_operand::operand::{Designated, Operand, Referent};
 use pli_operand::shape::is_aggregate;
 use pli_operand::stored::no_reference;
 use pli_operand::value::referent_value;
+use pli_typing::typed::{GetItem, GetPair, PutItem, PutPair, Value};
 use std::alloc::{AllocError, Global};
 
 /// A scalar, or an aggregate element by element.
@@ -84,7 +85,7 @@ fn get_referent<'a>(
     match referent {
         Referent::Designates(designated) => get_variable(notes, has_fixed, place, designated),
         Referent::Gives(value) => get_value(notes, place, value),
-        Referent::EmptyArea | Referent::Nothing => no_get(notes, place),
+        Referent::UnknownValue | Referent::EmptyArea | Referent::Nothing => no_get(notes, place),
         Referent::NotKnown => GetItem::Scalar(no_reference()),
     }
 }
@@ -98,41 +99,13 @@ fn get_item<'a>(notes: &mut Notes, has_fixed: bool, operand: Operand<'_, 'a>) ->
     get_referent(notes, has_fixed, operand.place, operand.referent)
 }
 
-/// A value that isn't written.
-#[tactic(auto, using(pli_operand::proofs::Noting::noting))]
-fn not_written<'a>(notes: &mut Notes, place: Place, value: Value<'a>) -> PutItem<'a>
-    ensures noted { notes_of notes.new ≡ with_fault (notes_of notes.old) (fault place TypeMismatch) }
-    ensures value { put_item_of result ≡ Y.PutValue (value_of value.entry) }
-{
-    notes.broken(place, SourceKind::TypeMismatch);
-    PutItem::Value(value)
-}
-
 /// Numbers, texts and bits are written.
-#[tactic(auto, using(pli_operand::proofs::Noting::noting))]
-fn put_known<'a>(notes: &mut Notes, place: Place, value: Value<'a>) -> PutItem<'a>
-    ensures noted { notes_of notes.new ≡ noted (notes_of notes.old) (A.put_value place (Some (value_of value.entry))) }
-    ensures value { put_item_of result ≡ (A.put_value place (Some (value_of value.entry))).value }
-{
-    match value {
-        Value::Number { precision, value } => PutItem::Value(Value::Number { precision, value }),
-        Value::Text(text) => PutItem::Value(Value::Text(text)),
-        Value::Bit(bit) => PutItem::Value(Value::Bit(bit)),
-        Value::Pointer(pointer) => not_written(notes, place, Value::Pointer(pointer)),
-        Value::Offset { area, value } => not_written(notes, place, Value::Offset { area, value }),
-        Value::Null => not_written(notes, place, Value::Null),
-    }
-}
-
 #[tactic(auto, using(pli_operand::proofs::Noting::noting))]
 fn put_value<'a>(notes: &mut Notes, place: Place, value: Option<Value<'a>>) -> PutItem<'a>
     ensures noted { notes_of notes.new ≡ noted (notes_of notes.old) (A.put_value place (option_of value_of value.entry)) }
     ensures value { put_item_of result ≡ (A.put_value place (option_of value_of value.entry)).value }
 {
-    match value {
-        Some(value) => put_known(notes, place, value),
-        None => PutItem::Value(Value::Null),
-    }
+    PutItem::Value(computational(notes, place, value))
 }
 
 /// What has no value isn't written.
@@ -205,9 +178,9 @@ fn put_item<'a>(
     } = operand;
     match referent {
         Referent::Designates(designated) => put_designated(alloc, notes, place, designated),
-        Referent::Gives(value) => Ok(put_known(notes, place, value)),
+        Referent::Gives(value) => Ok(put_value(notes, place, Some(value))),
         Referent::EmptyArea | Referent::Nothing => Ok(no_put(notes, place)),
-        Referent::NotKnown => Ok(PutItem::Value(Value::Null)),
+        Referent::UnknownValue | Referent::NotKnown => Ok(PutItem::Value(Value::Null)),
     }
 }
 

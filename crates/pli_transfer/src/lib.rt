@@ -4,6 +4,7 @@
 pub mod argument;
 pub mod assignment;
 pub mod callee;
+pub mod computational;
 pub mod item;
 mod matching;
 mod reading;

@@ -1,13 +1,13 @@
 // Which leaves go into which.
 
 ghost use Rattle.std.specs.Prelude.{◌≡◌, ◌&&◌, ◌==◌, length, map};
-ghost use Rattle.pli_meaning.specs.Assigning.{leaves_match, same_type};
-ghost use Rattle.pli_meaning.specs.Calls.{bounds_pass, capacity_extent, extent_passes, leaves_pass, same_number, type_passes};
-ghost use Rattle.pli_meaning.specs.TypedView.{bounds_of, extent_of, leaf_of, leaf_type_of};
+ghost use Rattle.pli_typing.specs.Assigning.{leaves_match, same_type};
+ghost use Rattle.pli_typing.specs.Calls.{bounds_pass, capacity_extent, extent_passes, leaves_pass, same_number, type_passes};
+ghost use Rattle.pli_typing.specs.TypedView.{bounds_of, extent_of, leaf_of, leaf_type_of};
 ghost use Rattle.pli_operand.specs.Shown.{designated_of, leaf_behind};
 
-use pli_meaning::typed::{Bounds, Extent, Leaf, LeafType};
 use pli_operand::operand::Designated;
+use pli_typing::typed::{Bounds, Extent, Leaf, LeafType};
 
 fn same_number(a: i128, b: i128) -> bool
     ensures { result ≡ same_number a b }

@@ -1,17 +1,17 @@
 // What format lists read and write.
 
 ghost use Rattle.std.specs.Prelude.{◌≡◌};
-ghost use Rattle.pli_meaning.specs.Assigning.{all_pass, format_holds_fixed, holds_fixed, is_read, is_written};
-ghost use Rattle.pli_meaning.specs.TypedView.{leaf_type_of};
-ghost use Rattle.pli_meaning.specs.View.{format_of, formats_of};
+ghost use Rattle.pli_typing.specs.Assigning.{all_pass, format_holds_fixed, holds_fixed, is_read, is_written};
+ghost use Rattle.pli_typing.specs.TypedView.{leaf_type_of};
+ghost use Rattle.pli_language.specs.View.{format_of, formats_of};
 ghost use Rattle.pli_operand.specs.Shown.{designated_of};
 
-use pli_meaning::stmt::{Format, Formats};
-use pli_meaning::typed::LeafType;
+use pli_language::stmt::{Format, Formats};
 use pli_operand::operand::Designated;
+use pli_typing::typed::LeafType;
 
 #[cycle(fixed)]
-#[tactic(auto, unfolding(pli_meaning::specs::View::format_of))]
+#[tactic(auto, unfolding(pli_language::specs::View::format_of))]
 fn format_holds_fixed(format: &Format) -> bool
     ensures { result ≡ format_holds_fixed (format_of format.now) }
 {
@@ -25,7 +25,7 @@ fn format_holds_fixed(format: &Format) -> bool
 
 /// A format list holds an F at some depth.
 #[cycle(fixed)]
-#[tactic(auto, unfolding(pli_meaning::specs::View::format_of))]
+#[tactic(auto, unfolding(pli_language::specs::View::format_of))]
 pub fn holds_fixed(formats: &Formats) -> bool
     ensures { result ≡ holds_fixed (formats_of formats.now) }
 {

@@ -1,24 +1,24 @@
 // Scalars that are assigned to, and the variable of DO.
 
 ghost use Rattle.std.specs.Prelude.{◌≡◌, None, Some};
-ghost use Rattle.pli_meaning.specs.declared.fault.SourceKind.TheVariants.{TypeMismatch};
-ghost use Rattle.pli_meaning.specs.Assigning as A;
-ghost use Rattle.pli_meaning.specs.Converting as C;
-ghost use Rattle.pli_meaning.specs.Refusals.{fault};
-ghost use Rattle.pli_meaning.specs.TypedStatementView.{counter_of};
-ghost use Rattle.pli_meaning.specs.TypedTree as Y;
-ghost use Rattle.pli_meaning.specs.TypedView.{leaf_type_of, reference_of};
-ghost use Rattle.pli_meaning.specs.View.{option_of};
+ghost use Rattle.pli_language.specs.declared.fault.SourceKind.TheVariants.{TypeMismatch};
+ghost use Rattle.pli_typing.specs.Assigning as A;
+ghost use Rattle.pli_typing.specs.Converting as C;
+ghost use Rattle.pli_language.specs.Refusals.{fault};
+ghost use Rattle.pli_typing.specs.TypedStatementView.{counter_of};
+ghost use Rattle.pli_typing.specs.TypedTree as Y;
+ghost use Rattle.pli_typing.specs.TypedView.{leaf_type_of, reference_of};
+ghost use Rattle.pli_language.specs.View.{option_of};
 ghost use Rattle.pli_operand.specs.Notes.{noted, with_fault};
 ghost use Rattle.pli_operand.specs.Shown.{designated_of, notes_of, operand_of, referent_of};
 ghost use Rattle.pli_transfer.specs.Shown.{scalar_of};
 
-use pli_meaning::expr::Place;
-use pli_meaning::fault::SourceKind;
-use pli_meaning::typed::{Counter, LeafType, Reference, Value};
+use pli_language::expr::Place;
+use pli_language::fault::SourceKind;
 use pli_operand::notes::Notes;
 use pli_operand::operand::{Designated, Operand, Referent};
 use pli_operand::shape::scalar_type;
+use pli_typing::typed::{Counter, LeafType, Reference, Value};
 
 /// A scalar that can be assigned to, with its kind.
 #[derive(Debug, Drop)]
@@ -152,7 +152,9 @@ fn scalar_referent<'a>(
     match referent {
         Referent::Designates(designated) => scalar_designated(notes, place, designated),
         Referent::Gives(value) => scalar_value(notes, place, value),
-        Referent::EmptyArea | Referent::Nothing => no_scalar(notes, place),
+        Referent::UnknownValue | Referent::EmptyArea | Referent::Nothing => {
+            no_scalar(notes, place)
+        }
         Referent::NotKnown => None,
     }
 }

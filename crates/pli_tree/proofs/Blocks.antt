@@ -1,14 +1,14 @@
 -- What blocks declare, one after the other, and a whole program.
 use Rattle.std.proofs.Common.{◌≡◌, ◌∙◌, ◌+◌, ℕ, List, [], ◌∷◌, ◌++◌, map, slice_get, refl, sym, ap, ap₂, subst, append-nil}
 use Rattle.std.specs.Prelude.{Option, None, unwrap_or, MatchOption}
-use Rattle.pli_meaning.specs.declared.fault.SourceFault.{SourceFault}
-use Rattle.pli_meaning.specs.Declarations.{Block, blocks_of}
-use Rattle.pli_meaning.specs.Generations.{declared_variables}
-use Rattle.pli_meaning.specs.Refusals.{least, soonest}
-use Rattle.pli_meaning.specs.Resolving as Z
-use Rattle.pli_meaning.specs.Tree as T
-use Rattle.pli_meaning.specs.TypedTree as Y
-use Rattle.pli_meaning.proofs.Least.{least_found, soonest-append}
+use Rattle.pli_language.specs.declared.fault.SourceFault.{SourceFault}
+use Rattle.pli_language.specs.Declarations.{Block, blocks_of}
+use Rattle.pli_typing.specs.Generations.{declared_variables}
+use Rattle.pli_language.specs.Refusals.{least, soonest}
+use Rattle.pli_typing.specs.Resolving as Z
+use Rattle.pli_language.specs.Tree as T
+use Rattle.pli_typing.specs.TypedTree as Y
+use Rattle.pli_language.proofs.Least.{least_found, soonest-append}
 
 pub holder_is : (around : List ℕ) → unwrap_or (slice_get around 1) 0 ≡ Z.holder_of around
 holder_is [] = refl

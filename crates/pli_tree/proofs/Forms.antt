@@ -2,18 +2,18 @@
 use Rattle.std.proofs.Common.{◌≡◌, ◌∙◌, ◌+◌, ◌∷◌, ◌++◌, [], ℕ, List, map, length, refl, arith, append_assoc, append-nil, length-append}
 use Rattle.std.specs.Prelude.{Some, None}
 use Rattle.std.proofs.lemmas.List.{map-append}
-use Rattle.pli_meaning.specs.declared.stmt.Stmt as S
-use Rattle.pli_meaning.specs.declared.stmt.Item as I
-use Rattle.pli_meaning.specs.Declarations.{Block, blocks_in, blocks_in_item, blocks_in_stmt, declared_in}
-use Rattle.pli_meaning.specs.Judging.{fine}
-use Rattle.pli_meaning.specs.Resolving.{done, of_judged, ◌>>=◌, block_with, unit_of, letters_of, with_procedure, behind_stmt, statement, statements}
-use Rattle.pli_meaning.specs.SingleStatements.{Context, in_list, in_block, in_unit, labels_in, goto_statement, call_statement, return_statement, condition, turns, do_statement, assign_statement, allocate_statement, free_statement, get_statement, put_statement}
-use Rattle.pli_meaning.specs.Tree as T
-use Rattle.pli_meaning.specs.TypedTree as Y
-use Rattle.pli_meaning.specs.View.{name_of, expr_of, reference_of, arguments_of, option_of, allocation_of, freeing_of, skip_of, edit_pair_of, stmt_of, item_of}
-use Rattle.pli_meaning.proofs.Least.{soonest-append}
-use Rattle.pli_meaning.proofs.Resolutions.{resolutions}
-use Rattle.pli_meaning.proofs.Views.{item_of-Procedure, item_of-Statement}
+use Rattle.pli_language.specs.declared.stmt.Stmt as S
+use Rattle.pli_language.specs.declared.stmt.Item as I
+use Rattle.pli_language.specs.Declarations.{Block, blocks_in, blocks_in_item, blocks_in_stmt, declared_in}
+use Rattle.pli_typing.specs.Judging.{fine}
+use Rattle.pli_typing.specs.Resolving.{done, of_judged, ◌>>=◌, block_with, unit_of, letters_of, with_procedure, behind_stmt, statement, statements}
+use Rattle.pli_typing.specs.SingleStatements.{Context, in_list, in_block, in_unit, labels_in, goto_statement, call_statement, return_statement, condition, turns, do_statement, assign_statement, allocate_statement, free_statement, get_statement, put_statement}
+use Rattle.pli_language.specs.Tree as T
+use Rattle.pli_typing.specs.TypedTree as Y
+use Rattle.pli_language.specs.View.{name_of, expr_of, reference_of, arguments_of, option_of, allocation_of, freeing_of, skip_of, edit_pair_of, stmt_of, item_of}
+use Rattle.pli_language.proofs.Least.{soonest-append}
+use Rattle.pli_typing.proofs.Resolutions.{resolutions}
+use Rattle.pli_language.proofs.Views.{item_of-Procedure, item_of-Statement}
 use Rattle.pli_declare.proofs.Walks.{blocks}
 use Rattle.pli_declaring.proofs.Faults.{soonest_none}
 use Rattle.pli_tree.specs.Shown.{alone, plain, item_resolved}

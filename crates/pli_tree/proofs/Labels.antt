@@ -3,10 +3,10 @@ use Rattle.std.proofs.Common.{◌≡◌, ◌∙◌, Bool, true, false, List, [],
 use Rattle.std.proofs.lemmas.Grind.{flat_map-append}
 use Rattle.std.specs.Prelude.{◌||◌}
 use Rattle.std.specs.List.{flat_map, list_any}
-use Rattle.pli_meaning.specs.declared.stmt.Items as J
-use Rattle.pli_meaning.specs.SingleStatements.{labels_in}
-use Rattle.pli_meaning.specs.Tree as T
-use Rattle.pli_meaning.specs.View.{item_of, items_of}
+use Rattle.pli_language.specs.declared.stmt.Items as J
+use Rattle.pli_typing.specs.SingleStatements.{labels_in}
+use Rattle.pli_language.specs.Tree as T
+use Rattle.pli_language.specs.View.{item_of, items_of}
 use Rattle.pli_tree.specs.Shown.{labels_of_item}
 
 pub any_append : {X : Type 0} (test : X → Bool) (xs ys : List X) → list_any test (xs ++ ys) ≡ (list_any test xs || list_any test ys)

@@ -1,15 +1,15 @@
 -- Lists of statements: from their last one on, and what one more item comes to.
 use Rattle.std.proofs.Common.{◌≡◌, ◌∙◌, ◌+◌, ℕ, List, [], ◌∷◌, ◌++◌, map, length, refl, sym, ap, ap₂, arith, append_assoc, append-nil, length-append}
 use Rattle.std.specs.Prelude.{Option, Some, None, Result, Ok, Err, OnOk}
-use Rattle.pli_meaning.specs.declared.expr.Place.{Place}
-use Rattle.pli_meaning.specs.declared.fault.SourceFault.{SourceFault}
-use Rattle.pli_meaning.specs.Declarations.{blocks_in, blocks_in_item, blocks_in_stmt}
-use Rattle.pli_meaning.specs.Refusals.{soonest}
-use Rattle.pli_meaning.specs.Resolving as Z
-use Rattle.pli_meaning.specs.SingleStatements.{Context}
-use Rattle.pli_meaning.specs.Tree as T
-use Rattle.pli_meaning.specs.TypedTree as Y
-use Rattle.pli_meaning.proofs.Least.{soonest-append}
+use Rattle.pli_language.specs.declared.expr.Place.{Place}
+use Rattle.pli_language.specs.declared.fault.SourceFault.{SourceFault}
+use Rattle.pli_language.specs.Declarations.{blocks_in, blocks_in_item, blocks_in_stmt}
+use Rattle.pli_language.specs.Refusals.{soonest}
+use Rattle.pli_typing.specs.Resolving as Z
+use Rattle.pli_typing.specs.SingleStatements.{Context}
+use Rattle.pli_language.specs.Tree as T
+use Rattle.pli_typing.specs.TypedTree as Y
+use Rattle.pli_language.proofs.Least.{soonest-append}
 use Rattle.pli_tree.specs.Shown.{Part, behind_items, ended, item_resolved, parts_onto}
 
 -- ---- statements before the rest of a list

@@ -1,13 +1,13 @@
 -- What judgements in turn come to, step by step.
 use Rattle.std.proofs.Common.{◌≡◌, ◌∙◌, Option, sym, ap, ap₂}
-use Rattle.pli_meaning.specs.Assigning.{Scalar, scalar_operand}
-use Rattle.pli_meaning.specs.Converting.{Operand}
-use Rattle.pli_meaning.specs.Generations.{judged_if}
-use Rattle.pli_meaning.specs.Judging.{Judged, Scope, ◌>>=◌}
-use Rattle.pli_meaning.specs.References.{operand, referred}
-use Rattle.pli_meaning.specs.SingleStatements.{Turns, condition, number_at, turns, turns_with}
-use Rattle.pli_meaning.specs.Tree as T
-use Rattle.pli_meaning.specs.TypedTree as Y
+use Rattle.pli_typing.specs.Assigning.{Scalar, scalar_operand}
+use Rattle.pli_typing.specs.Converting.{Operand}
+use Rattle.pli_typing.specs.Generations.{judged_if}
+use Rattle.pli_typing.specs.Judging.{Judged, Scope, ◌>>=◌}
+use Rattle.pli_typing.specs.References.{operand, referred}
+use Rattle.pli_typing.specs.SingleStatements.{Turns, condition, number_at, turns, turns_with}
+use Rattle.pli_language.specs.Tree as T
+use Rattle.pli_typing.specs.TypedTree as Y
 use Rattle.pli_operand.specs.Notes.{Noted, noted}
 use Rattle.pli_operand.proofs.Noting.{noted_append}
 

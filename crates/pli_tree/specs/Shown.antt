@@ -2,15 +2,18 @@
 use Rattle.std.specs.Prelude.{ℕ, ◌+◌, List, [], ◌∷◌, map, length, Option, Some, None}
 use Rattle.std.specs.List.{flat_map}
 use Rattle.std.specs.Borrow.{Bor}
-use Rattle.pli_meaning.specs.declared.stmt.Items.{Items}
-use Rattle.pli_meaning.specs.Declarations.{blocks_in}
-use Rattle.pli_meaning.specs.Judging.{Judged, fine}
-use Rattle.pli_meaning.specs.Resolving as Z
-use Rattle.pli_meaning.specs.SingleStatements as S
-use Rattle.pli_meaning.specs.Tree as T
-use Rattle.pli_meaning.specs.TypedStatementView.{stmt_of}
-use Rattle.pli_meaning.specs.TypedTree as Y
-use Rattle.pli_meaning.specs.View.{items_of, name_of}
+use Rattle.pli_language.specs.declared.stmt.Items.{Items}
+use Rattle.pli_language.specs.Declarations.{blocks_in}
+use Rattle.pli_language.specs.declared.expr.Place.{Place}
+use Rattle.pli_typing.specs.Assigning.{Scalar, computational_operand, counter_of}
+use Rattle.pli_typing.specs.Converting.{Operand}
+use Rattle.pli_typing.specs.Judging.{Judged, fine, ◌>>=◌}
+use Rattle.pli_typing.specs.Resolving as Z
+use Rattle.pli_typing.specs.SingleStatements as S
+use Rattle.pli_language.specs.Tree as T
+use Rattle.pli_typing.specs.TypedStatementView.{stmt_of}
+use Rattle.pli_typing.specs.TypedTree as Y
+use Rattle.pli_language.specs.View.{items_of, name_of}
 use Rattle.pli_reference.specs.Shown.{scope_of}
 use Rattle.pli_tree.specs.declared.context.Context.{Context as ContextHeld}
 use Rattle.pli_tree.specs.declared.listed.Part.{Part as PartHeld}
@@ -63,6 +66,13 @@ alone c (T.Free freeings place) = S.free_statement c.scope freeings place
 alone c (T.Get skip pairs place) = S.get_statement c.scope skip pairs place
 alone c (T.Put skip pairs place) = S.put_statement c.scope skip pairs place
 alone c s = fine (plain s)
+
+-- turns that are counted: the variable, then what it starts with
+abbrev pub counted : Place → Scalar → Operand → Option Y.Number → Y.Number → Option Y.Bit → Judged S.Turns
+counted place v start limit step b = do
+  counter ← counter_of place v.reference v.type
+  s ← computational_operand start
+  fine (S.CountedTurns counter s limit step b)
 
 -- ---- lists
 

@@ -2,11 +2,11 @@
 // other.
 
 ghost use Rattle.std.specs.Prelude.{◌≡◌, IfOk, OnOk};
-ghost use Rattle.pli_meaning.specs.Refusals.{soonest};
-ghost use Rattle.pli_meaning.specs.SingleStatements as S;
-ghost use Rattle.pli_meaning.specs.TypedStatementView.{stmt_of as typed_of, turns_of};
-ghost use Rattle.pli_meaning.specs.TypedView.{bit_of};
-ghost use Rattle.pli_meaning.specs.View.{counting_of, expr_of, stmt_of};
+ghost use Rattle.pli_language.specs.Refusals.{soonest};
+ghost use Rattle.pli_typing.specs.SingleStatements as S;
+ghost use Rattle.pli_typing.specs.TypedStatementView.{stmt_of as typed_of, turns_of};
+ghost use Rattle.pli_typing.specs.TypedView.{bit_of};
+ghost use Rattle.pli_language.specs.View.{counting_of, expr_of, stmt_of};
 ghost use Rattle.pli_operand.specs.Notes.{noted};
 ghost use Rattle.pli_operand.specs.Shown.{notes_of};
 ghost use Rattle.pli_reference.specs.Shown.{scope_of};
@@ -21,11 +21,11 @@ use crate::single::{
 };
 use crate::turn::{condition, turns};
 use crate::walked::Walked;
-use pli_meaning::expr::Expr;
-use pli_meaning::stmt;
-use pli_meaning::stmt::Counting;
-use pli_meaning::typed::{Bit, Stmt, Turns};
+use pli_language::expr::Expr;
+use pli_language::stmt;
+use pli_language::stmt::Counting;
 use pli_operand::notes::Notes;
+use pli_typing::typed::{Bit, Stmt, Turns};
 use std::alloc::{AllocError, Global};
 
 /// The expression of IF or WHILE.
@@ -65,7 +65,7 @@ pub fn turns_at<'a>(
 }
 
 /// A statement without parts.
-#[tactic(auto, using(crate::proofs::Forms::plains), unfolding(pli_meaning::specs::TypedStatementView::stmt_of))]
+#[tactic(auto, using(crate::proofs::Forms::plains), unfolding(pli_typing::specs::TypedStatementView::stmt_of))]
 fn plain<'a>(written: &'a stmt::Stmt) -> Stmt<'a>
     ensures { typed_of result ≡ plain (stmt_of written.now) }
 {

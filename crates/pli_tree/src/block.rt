@@ -1,24 +1,24 @@
 // What each block declares.
 
 ghost use Rattle.std.specs.Prelude.{◌≡◌, map, IfOk, OnOk};
-ghost use Rattle.pli_meaning.specs.Calls.{returns_in};
-ghost use Rattle.pli_meaning.specs.Generations as G;
-ghost use Rattle.pli_meaning.specs.Refusals.{soonest};
-ghost use Rattle.pli_meaning.specs.Resolving as Z;
-ghost use Rattle.pli_meaning.specs.TypedStatementView.{declared_variable_of};
-ghost use Rattle.pli_meaning.specs.View.{attribute_of, procedure_option_of};
+ghost use Rattle.pli_typing.specs.Calls.{returns_in};
+ghost use Rattle.pli_typing.specs.Generations as G;
+ghost use Rattle.pli_language.specs.Refusals.{soonest};
+ghost use Rattle.pli_typing.specs.Resolving as Z;
+ghost use Rattle.pli_typing.specs.TypedStatementView.{declared_variable_of};
+ghost use Rattle.pli_language.specs.View.{attribute_of, procedure_option_of};
 ghost use Rattle.pli_declare.specs.ShownBlocks.{block_of};
 ghost use Rattle.pli_variables.specs.Rows.{blocks_shown};
 
 use pli_declare::scope::Block;
 use pli_generation::named::names_demanded;
 use pli_generation::variable::declared_variables;
-use pli_meaning::declaration::Attribute;
-use pli_meaning::fault::SourceFault;
-use pli_meaning::stmt::ProcedureOption;
-use pli_meaning::typed::DeclaredVariable;
+use pli_language::declaration::Attribute;
+use pli_language::fault::SourceFault;
+use pli_language::stmt::ProcedureOption;
 use pli_operand::notes::Notes;
 use pli_reference::scope::Scope;
+use pli_typing::typed::DeclaredVariable;
 use pli_variables::Tables;
 use pli_variables::declared::returns_in;
 use std::alloc::{AllocError, Global};

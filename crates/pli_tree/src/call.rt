@@ -1,13 +1,13 @@
 // CALL.
 
 ghost use Rattle.std.specs.Prelude.{◌≡◌, map, IfOk, OnOk, Some};
-ghost use Rattle.pli_meaning.specs.Declarations.{ProcedureName};
-ghost use Rattle.pli_meaning.specs.Judging.{broken};
-ghost use Rattle.pli_meaning.specs.SingleStatements as S;
-ghost use Rattle.pli_meaning.specs.TypedStatementView.{stmt_of};
-ghost use Rattle.pli_meaning.specs.TypedTree as Y;
-ghost use Rattle.pli_meaning.specs.Variables.{what_at};
-ghost use Rattle.pli_meaning.specs.View.{arguments_of, name_of, procedure_head_of};
+ghost use Rattle.pli_language.specs.Declarations.{ProcedureName};
+ghost use Rattle.pli_typing.specs.Judging.{broken};
+ghost use Rattle.pli_typing.specs.SingleStatements as S;
+ghost use Rattle.pli_typing.specs.TypedStatementView.{stmt_of};
+ghost use Rattle.pli_typing.specs.TypedTree as Y;
+ghost use Rattle.pli_typing.specs.Variables.{what_at};
+ghost use Rattle.pli_language.specs.View.{arguments_of, name_of, procedure_head_of};
 ghost use Rattle.pli_operand.specs.Notes.{noted};
 ghost use Rattle.pli_operand.specs.Shown.{notes_of, operand_of};
 ghost use Rattle.pli_reference.specs.Shown.{scope_of};
@@ -15,21 +15,21 @@ ghost use Rattle.pli_variables.specs.Rows.{blocks_shown};
 
 use pli_declare::scope::What;
 use pli_declaring::attribute::is_builtin;
-use pli_meaning::expr::{Arguments, Name, Place};
-use pli_meaning::fault::SourceKind;
-use pli_meaning::scope::{DeclarationAt, Found};
-use pli_meaning::stmt::ProcedureHead;
-use pli_meaning::typed::Stmt;
+use pli_language::expr::{Arguments, Name, Place};
+use pli_language::fault::SourceKind;
+use pli_language::scope::{DeclarationAt, Found};
+use pli_language::stmt::ProcedureHead;
 use pli_operand::notes::Notes;
 use pli_operand::operand::Operand;
 use pli_reference::call::procedure_called;
 use pli_reference::expression::arguments_in;
 use pli_reference::scope::Scope;
+use pli_typing::typed::Stmt;
 use pli_variables::Tables;
 use std::alloc::{AllocError, Global};
 
 /// A rule is broken by a CALL with these operands.
-#[tactic(auto, using(pli_operand::proofs::Noting::noting), unfolding(pli_meaning::specs::TypedStatementView::stmt_of))]
+#[tactic(auto, using(pli_operand::proofs::Noting::noting), unfolding(pli_typing::specs::TypedStatementView::stmt_of))]
 fn refused<'a>(
     notes: &mut Notes,
     place: Place,
@@ -44,7 +44,7 @@ fn refused<'a>(
     Stmt::Null { line: place.line }
 }
 
-#[tactic(auto, using(pli_operand::proofs::Noting::noting), unfolding(pli_meaning::specs::TypedStatementView::stmt_of))]
+#[tactic(auto, using(pli_operand::proofs::Noting::noting), unfolding(pli_typing::specs::TypedStatementView::stmt_of))]
 fn called_procedure<'a>(
     alloc: Global,
     notes: &mut Notes,

@@ -2,13 +2,13 @@
 
 ghost use Rattle.std.specs.Prelude.{◌≡◌, ◌++◌, map, IfOk};
 ghost use Rattle.std.specs.List.{list_any};
-ghost use Rattle.pli_meaning.specs.Declaring.{same_place};
-ghost use Rattle.pli_meaning.specs.SingleStatements as S;
-ghost use Rattle.pli_meaning.specs.View.{item_of, items_of, name_of};
+ghost use Rattle.pli_language.specs.Declaring.{same_place};
+ghost use Rattle.pli_typing.specs.SingleStatements as S;
+ghost use Rattle.pli_language.specs.View.{item_of, items_of, name_of};
 ghost use Rattle.pli_tree.specs.Shown.{context_of, labels_of_item, labels_of_lists};
 
-use pli_meaning::expr::{Name, Place};
-use pli_meaning::stmt::{Item, Items};
+use pli_language::expr::{Name, Place};
+use pli_language::stmt::{Item, Items};
 use pli_reference::scope::Scope;
 use std::alloc::{AllocError, Global};
 
@@ -57,7 +57,7 @@ fn has_label(items: &Items, place: Place) -> bool
 }
 
 /// A label of one item stands at the place.
-#[tactic(auto, using(pli_meaning::proofs::Views::views))]
+#[tactic(auto, using(pli_language::proofs::Views::views))]
 fn item_has(item: &Item, place: Place) -> bool
     ensures { result ≡ list_any (λ n. same_place n.place place) (labels_of_item (item_of item.now)) }
 {

@@ -1,18 +1,18 @@
 // Blocks, on-units and procedures from their lists.
 
 ghost use Rattle.std.specs.Prelude.{◌≡◌, [], IfOk};
-ghost use Rattle.pli_meaning.specs.Resolving as Z;
-ghost use Rattle.pli_meaning.specs.TypedStatementView.{block_head_of, block_kind_of, block_of, procedure_of, stmt_of, stmts_of};
-ghost use Rattle.pli_meaning.specs.TypedTree as Y;
-ghost use Rattle.pli_meaning.specs.Variables.{level_of_block};
-ghost use Rattle.pli_meaning.specs.View.{procedure_head_of};
+ghost use Rattle.pli_typing.specs.Resolving as Z;
+ghost use Rattle.pli_typing.specs.TypedStatementView.{block_head_of, block_kind_of, block_of, procedure_of, stmt_of, stmts_of};
+ghost use Rattle.pli_typing.specs.TypedTree as Y;
+ghost use Rattle.pli_typing.specs.Variables.{level_of_block};
+ghost use Rattle.pli_language.specs.View.{procedure_head_of};
 ghost use Rattle.pli_tree.specs.Shown.{context_of};
 
 use crate::context::Context;
 use crate::walked::after;
-use pli_meaning::expr::Place;
-use pli_meaning::stmt::ProcedureHead;
-use pli_meaning::typed::{Block, BlockHead, BlockKind, Procedure, Stmt, Stmts};
+use pli_language::expr::Place;
+use pli_language::stmt::ProcedureHead;
+use pli_typing::typed::{Block, BlockHead, BlockKind, Procedure, Stmt, Stmts};
 use std::alloc::{AllocError, Global};
 
 /// The head of the block with a number.
@@ -28,7 +28,7 @@ pub fn block_head(context: &Context, kind: BlockKind, number: usize, place: Plac
 }
 
 /// A single statement as a list.
-#[tactic(auto, unfolding(pli_meaning::specs::TypedStatementView::stmts_of))]
+#[tactic(auto, unfolding(pli_typing::specs::TypedStatementView::stmts_of))]
 fn one_statement<'a>(alloc: Global, unit: Stmt<'a>) -> Result<Stmts<'a>, AllocError>
     ensures { IfOk result (λ ss. stmts_of ss ≡ Y.StmtThen [] (stmt_of unit.entry) (Y.EndOfList [])) }
 {
@@ -59,7 +59,7 @@ fn simple_unit<'a>(
 }
 
 /// An on-unit: the block of its BEGIN, or one around its single statement.
-#[tactic(auto, unfolding(pli_meaning::specs::TypedStatementView::stmt_of))]
+#[tactic(auto, unfolding(pli_typing::specs::TypedStatementView::stmt_of))]
 pub fn unit_of<'a>(
     alloc: Global,
     context: &Context,

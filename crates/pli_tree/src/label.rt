@@ -1,10 +1,10 @@
 // GOTO.
 
 ghost use Rattle.std.specs.Prelude.{◌≡◌, false, slice_get, map};
-ghost use Rattle.pli_meaning.specs.SingleStatements as S;
-ghost use Rattle.pli_meaning.specs.TypedStatementView.{stmt_of};
-ghost use Rattle.pli_meaning.specs.Variables.{declarations_at};
-ghost use Rattle.pli_meaning.specs.View.{name_of, option_of};
+ghost use Rattle.pli_typing.specs.SingleStatements as S;
+ghost use Rattle.pli_typing.specs.TypedStatementView.{stmt_of};
+ghost use Rattle.pli_typing.specs.Variables.{declarations_at};
+ghost use Rattle.pli_language.specs.View.{name_of, option_of};
 ghost use Rattle.pli_operand.specs.Notes.{noted};
 ghost use Rattle.pli_operand.specs.Shown.{notes_of};
 ghost use Rattle.pli_variables.specs.Rows.{blocks_shown};
@@ -12,11 +12,11 @@ ghost use Rattle.pli_tree.specs.Shown.{context_of};
 
 use crate::context::Context;
 use pli_declare::scope::What;
-use pli_meaning::expr::{Name, Place};
-use pli_meaning::fault::SourceKind;
-use pli_meaning::scope::{DeclarationAt, Found};
-use pli_meaning::typed::Stmt;
+use pli_language::expr::{Name, Place};
+use pli_language::fault::SourceKind;
+use pli_language::scope::{DeclarationAt, Found};
 use pli_operand::notes::Notes;
+use pli_typing::typed::Stmt;
 use pli_variables::Tables;
 
 /// The place of the label that is declared there, if one is.
@@ -32,7 +32,7 @@ fn label_at(tables: &Tables, at: DeclarationAt) -> Option<Place>
 }
 
 /// A GOTO to what may be named here.
-#[tactic(auto, using(pli_operand::proofs::Noting::noting), unfolding(pli_meaning::specs::TypedStatementView::stmt_of))]
+#[tactic(auto, using(pli_operand::proofs::Noting::noting), unfolding(pli_typing::specs::TypedStatementView::stmt_of))]
 fn jump<'a>(
     notes: &mut Notes,
     context: &Context<'_, '_, 'a>,

@@ -1,15 +1,15 @@
 // Lists of statements, from their statements one by one.
 
 ghost use Rattle.std.specs.Prelude.{◌≡◌, map, IfOk};
-ghost use Rattle.pli_meaning.specs.Resolving.{letters_of};
-ghost use Rattle.pli_meaning.specs.TypedStatementView.{stmts_of};
-ghost use Rattle.pli_meaning.specs.TypedTree as Y;
-ghost use Rattle.pli_meaning.specs.View.{item_of, name_of, option_of};
+ghost use Rattle.pli_typing.specs.Resolving.{letters_of};
+ghost use Rattle.pli_typing.specs.TypedStatementView.{stmts_of};
+ghost use Rattle.pli_typing.specs.TypedTree as Y;
+ghost use Rattle.pli_language.specs.View.{item_of, name_of, option_of};
 ghost use Rattle.pli_tree.specs.Shown.{ended, part_of, parts_onto};
 
-use pli_meaning::expr::Name;
-use pli_meaning::stmt::Item;
-use pli_meaning::typed::{Stmt, Stmts};
+use pli_language::expr::Name;
+use pli_language::stmt::Item;
+use pli_typing::typed::{Stmt, Stmts};
 use std::alloc::{AllocError, Global};
 
 /// A statement with its labels.
@@ -20,7 +20,7 @@ pub struct Part<'a> {
 }
 
 /// The labels of END, where an item is END's.
-#[tactic(auto, using(pli_meaning::proofs::Views::views), unfolding(crate::specs::Shown::ended))]
+#[tactic(auto, using(pli_language::proofs::Views::views), unfolding(crate::specs::Shown::ended))]
 pub fn ended<'a>(item: &'a Item) -> Option<&'a [Name]>
     ensures { option_of (λ ns. map name_of ns.now) result ≡ ended (item_of item.now) }
 {
@@ -31,7 +31,7 @@ pub fn ended<'a>(item: &'a Item) -> Option<&'a [Name]>
 }
 
 /// A statement before the rest of its list.
-#[tactic(auto, unfolding(pli_meaning::specs::TypedStatementView::stmts_of))]
+#[tactic(auto, unfolding(pli_typing::specs::TypedStatementView::stmts_of))]
 fn before<'a>(alloc: Global, part: Part<'a>, rest: Stmts<'a>) -> Result<Stmts<'a>, AllocError>
     ensures { IfOk result (λ list. stmts_of list ≡ Y.StmtThen (part_of part.entry).labels (part_of part.entry).statement (stmts_of rest.entry)) }
 {
@@ -46,7 +46,7 @@ fn before<'a>(alloc: Global, part: Part<'a>, rest: Stmts<'a>) -> Result<Stmts<'a
 }
 
 /// The end of a list.
-#[tactic(auto, unfolding(pli_meaning::specs::TypedStatementView::stmts_of))]
+#[tactic(auto, unfolding(pli_typing::specs::TypedStatementView::stmts_of))]
 fn end_of<'a>(labels: &'a [Name]) -> Stmts<'a>
     ensures { stmts_of result ≡ Y.EndOfList (letters_of (map name_of labels.now)) }
 {

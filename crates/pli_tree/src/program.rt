@@ -1,11 +1,11 @@
 // A whole program.
 
 ghost use Rattle.std.specs.Prelude.{◌≡◌, ◌⊎◌, map, IfErr, IfOk};
-ghost use Rattle.pli_meaning.specs.Declarations.{blocks_of};
-ghost use Rattle.pli_meaning.specs.Refusals.{least, want_of_memory};
-ghost use Rattle.pli_meaning.specs.Resolving as Z;
-ghost use Rattle.pli_meaning.specs.TypedStatementView.{program_of};
-ghost use Rattle.pli_meaning.specs.View.{tree_of};
+ghost use Rattle.pli_language.specs.Declarations.{blocks_of};
+ghost use Rattle.pli_language.specs.Refusals.{least, want_of_memory};
+ghost use Rattle.pli_typing.specs.Resolving as Z;
+ghost use Rattle.pli_typing.specs.TypedStatementView.{program_of};
+ghost use Rattle.pli_language.specs.View.{tree_of};
 ghost use Rattle.pli_declare.specs.ShownBlocks.{block_of};
 ghost use Rattle.pli_variables.specs.Rows.{blocks_shown};
 ghost use Rattle.pli_tree.specs.Shown.{context_of};
@@ -15,10 +15,10 @@ use crate::context::Context;
 use crate::statement::statements;
 use crate::walked::Walked;
 use pli_declare::Scopes;
-use pli_meaning::fault::{SourceFault, SourceKind};
-use pli_meaning::stmt::Tree;
-use pli_meaning::typed::Typed;
+use pli_language::fault::{SourceFault, SourceKind};
+use pli_language::stmt::Tree;
 use pli_reference::scope::Scope;
+use pli_typing::typed::Typed;
 use pli_variables::Tables;
 use std::alloc::{AllocError, Global};
 

@@ -1,28 +1,28 @@
 // RETURN.
 
 ghost use Rattle.std.specs.Prelude.{◌≡◌, slice_get, IfOk, OnOk, Some};
-ghost use Rattle.pli_meaning.specs.declared.fault.SourceKind.TheVariants.{TypeMismatch};
-ghost use Rattle.pli_meaning.specs.Judging.{broken};
-ghost use Rattle.pli_meaning.specs.SingleStatements as S;
-ghost use Rattle.pli_meaning.specs.TypedStatementView.{stmt_of};
-ghost use Rattle.pli_meaning.specs.TypedTree as Y;
-ghost use Rattle.pli_meaning.specs.TypedView.{leaf_type_of};
-ghost use Rattle.pli_meaning.specs.Variables.{head_of_block};
-ghost use Rattle.pli_meaning.specs.View.{expr_of, option_of, procedure_head_of};
+ghost use Rattle.pli_language.specs.declared.fault.SourceKind.TheVariants.{TypeMismatch};
+ghost use Rattle.pli_typing.specs.Judging.{broken};
+ghost use Rattle.pli_typing.specs.SingleStatements as S;
+ghost use Rattle.pli_typing.specs.TypedStatementView.{stmt_of};
+ghost use Rattle.pli_typing.specs.TypedTree as Y;
+ghost use Rattle.pli_typing.specs.TypedView.{leaf_type_of};
+ghost use Rattle.pli_typing.specs.Variables.{head_of_block};
+ghost use Rattle.pli_language.specs.View.{expr_of, option_of, procedure_head_of};
 ghost use Rattle.pli_operand.specs.Notes.{noted};
 ghost use Rattle.pli_operand.specs.Shown.{notes_of, operand_of};
 ghost use Rattle.pli_variables.specs.Rows.{blocks_shown};
 ghost use Rattle.pli_tree.specs.Shown.{context_of};
 
 use crate::context::Context;
-use pli_meaning::expr::{Expr, Place};
-use pli_meaning::fault::SourceKind;
-use pli_meaning::stmt::ProcedureHead;
-use pli_meaning::typed::{LeafType, Stmt};
+use pli_language::expr::{Expr, Place};
+use pli_language::fault::SourceKind;
+use pli_language::stmt::ProcedureHead;
 use pli_operand::notes::Notes;
 use pli_operand::operand::Operand;
 use pli_operand::stored::operand_stored;
 use pli_reference::expression::operand;
+use pli_typing::typed::{LeafType, Stmt};
 use pli_variables::Tables;
 use std::alloc::{AllocError, Global};
 
@@ -58,7 +58,7 @@ fn result_around(tables: &Tables, around: &[usize]) -> Option<LeafType>
 }
 
 /// A rule is broken by RETURN.
-#[tactic(auto, using(pli_operand::proofs::Noting::noting), unfolding(pli_meaning::specs::TypedStatementView::stmt_of))]
+#[tactic(auto, using(pli_operand::proofs::Noting::noting), unfolding(pli_typing::specs::TypedStatementView::stmt_of))]
 fn mismatched<'a>(notes: &mut Notes, place: Place) -> Stmt<'a>
     ensures noted { notes_of notes.new ≡ noted (notes_of notes.old) (broken place TypeMismatch (Y.Return place.line)) }
     ensures value { stmt_of result ≡ Y.Return place.line }
@@ -75,7 +75,7 @@ fn unwanted<'a>(notes: &mut Notes, place: Place, _operand: Operand<'_, 'a>) -> S
     mismatched(notes, place)
 }
 
-#[tactic(auto, using(pli_operand::proofs::Noting::noting), unfolding(pli_meaning::specs::TypedStatementView::stmt_of))]
+#[tactic(auto, using(pli_operand::proofs::Noting::noting), unfolding(pli_typing::specs::TypedStatementView::stmt_of))]
 fn returned_as<'a>(
     alloc: Global,
     notes: &mut Notes,
@@ -111,7 +111,7 @@ fn returned<'a>(
 }
 
 /// RETURN without a value.
-#[tactic(auto, using(pli_operand::proofs::Noting::noting), unfolding(pli_meaning::specs::TypedStatementView::stmt_of))]
+#[tactic(auto, using(pli_operand::proofs::Noting::noting), unfolding(pli_typing::specs::TypedStatementView::stmt_of))]
 fn not_returned<'a>(notes: &mut Notes, place: Place, kind: Option<LeafType>) -> Stmt<'a>
     ensures noted { notes_of notes.new ≡ noted (notes_of notes.old) (S.not_returned place (option_of leaf_type_of kind)) }
     ensures value { stmt_of result ≡ (S.not_returned place (option_of leaf_type_of kind)).value }

@@ -1,27 +1,27 @@
 // Statements that hold no statement.
 
 ghost use Rattle.std.specs.Prelude.{◌≡◌, map, IfOk, OnOk};
-ghost use Rattle.pli_meaning.specs.Generations as G;
-ghost use Rattle.pli_meaning.specs.Judging.{each};
-ghost use Rattle.pli_meaning.specs.SingleStatements as S;
-ghost use Rattle.pli_meaning.specs.TypedStatementView.{allocation_of, freeing_of, get_pair_of, put_pair_of, stmt_of};
-ghost use Rattle.pli_meaning.specs.View.{allocation_of as made_of, edit_pair_of, expr_of, freeing_of as freed_of, option_of, reference_of, skip_of};
+ghost use Rattle.pli_typing.specs.Generations as G;
+ghost use Rattle.pli_typing.specs.Judging.{each};
+ghost use Rattle.pli_typing.specs.SingleStatements as S;
+ghost use Rattle.pli_typing.specs.TypedStatementView.{allocation_of, freeing_of, get_pair_of, put_pair_of, stmt_of};
+ghost use Rattle.pli_language.specs.View.{allocation_of as made_of, edit_pair_of, expr_of, freeing_of as freed_of, option_of, reference_of, skip_of};
 ghost use Rattle.pli_operand.specs.Notes.{noted};
 ghost use Rattle.pli_operand.specs.Shown.{notes_of};
 ghost use Rattle.pli_reference.specs.Shown.{scope_of};
 
 use pli_generation::allocation::allocation;
 use pli_generation::freeing::freeing;
-use pli_meaning::declaration::{Allocation, Freeing};
-use pli_meaning::expr::{Expr, Place, Reference};
-use pli_meaning::stmt::{EditPair, Skip};
-use pli_meaning::typed;
-use pli_meaning::typed::{GetPair, PutPair, Stmt};
+use pli_language::declaration::{Allocation, Freeing};
+use pli_language::expr::{Expr, Place, Reference};
+use pli_language::stmt::{EditPair, Skip};
 use pli_operand::notes::Notes;
 use pli_reference::expression::{expressions, operand, referred};
 use pli_reference::scope::Scope;
 use pli_transfer::assignment::assignment;
 use pli_transfer::item::{get_pair, put_pair};
+use pli_typing::typed;
+use pli_typing::typed::{GetPair, PutPair, Stmt};
 use std::alloc::{AllocError, Global};
 
 /// An assignment.
@@ -61,7 +61,7 @@ fn allocations<'a>(
 }
 
 /// ALLOCATE.
-#[tactic(auto, using(pli_operand::proofs::Noting::noting), unfolding(pli_meaning::specs::TypedStatementView::stmt_of))]
+#[tactic(auto, using(pli_operand::proofs::Noting::noting), unfolding(pli_typing::specs::TypedStatementView::stmt_of))]
 pub fn allocate_statement<'a>(
     alloc: Global,
     scope: Scope<'_, '_, 'a>,
@@ -97,7 +97,7 @@ fn freeings<'a>(
 }
 
 /// FREE.
-#[tactic(auto, using(pli_operand::proofs::Noting::noting), unfolding(pli_meaning::specs::TypedStatementView::stmt_of))]
+#[tactic(auto, using(pli_operand::proofs::Noting::noting), unfolding(pli_typing::specs::TypedStatementView::stmt_of))]
 pub fn free_statement<'a>(
     alloc: Global,
     scope: Scope<'_, '_, 'a>,
@@ -155,7 +155,7 @@ fn get_pairs<'a>(
 }
 
 /// GET.
-#[tactic(auto, using(pli_operand::proofs::Noting::noting), unfolding(pli_meaning::specs::TypedStatementView::stmt_of))]
+#[tactic(auto, using(pli_operand::proofs::Noting::noting), unfolding(pli_typing::specs::TypedStatementView::stmt_of))]
 pub fn get_statement<'a>(
     alloc: Global,
     scope: Scope<'_, '_, 'a>,
@@ -206,7 +206,7 @@ fn put_pairs<'a>(
 }
 
 /// PUT.
-#[tactic(auto, using(pli_operand::proofs::Noting::noting), unfolding(pli_meaning::specs::TypedStatementView::stmt_of))]
+#[tactic(auto, using(pli_operand::proofs::Noting::noting), unfolding(pli_typing::specs::TypedStatementView::stmt_of))]
 pub fn put_statement<'a>(
     alloc: Global,
     scope: Scope<'_, '_, 'a>,

@@ -1,13 +1,13 @@
 // Statements and lists, with the procedures inside them.
 
 ghost use Rattle.std.specs.Prelude.{◌≡◌, ◌+◌, ◌++◌, ◌∷◌, length, map, IfOk, OnOk};
-ghost use Rattle.pli_meaning.specs.Declarations.{blocks_in};
-ghost use Rattle.pli_meaning.specs.Refusals.{soonest};
-ghost use Rattle.pli_meaning.specs.Resolving as Z;
-ghost use Rattle.pli_meaning.specs.SingleStatements as S;
-ghost use Rattle.pli_meaning.specs.Tree as T;
-ghost use Rattle.pli_meaning.specs.TypedStatementView.{block_of, procedure_of, stmt_of as typed_of, stmts_of as list_of};
-ghost use Rattle.pli_meaning.specs.View.{counting_of, expr_of, item_of, items_of, name_of, procedure_head_of, stmt_of};
+ghost use Rattle.pli_language.specs.Declarations.{blocks_in};
+ghost use Rattle.pli_language.specs.Refusals.{soonest};
+ghost use Rattle.pli_typing.specs.Resolving as Z;
+ghost use Rattle.pli_typing.specs.SingleStatements as S;
+ghost use Rattle.pli_language.specs.Tree as T;
+ghost use Rattle.pli_typing.specs.TypedStatementView.{block_of, procedure_of, stmt_of as typed_of, stmts_of as list_of};
+ghost use Rattle.pli_language.specs.View.{counting_of, expr_of, item_of, items_of, name_of, procedure_head_of, stmt_of};
 ghost use Rattle.pli_tree.specs.Shown.{behind_items, context_of, item_resolved, part_of};
 
 use crate::alone::{alone, condition_at, turns_at};
@@ -15,11 +15,11 @@ use crate::context::Context;
 use crate::inner::{block_head, procedure_with, unit_of};
 use crate::listed::{Part, ended, listed};
 use crate::walked::{Walked, after};
-use pli_meaning::condition::Condition;
-use pli_meaning::expr::{Expr, Name, Place};
-use pli_meaning::stmt;
-use pli_meaning::stmt::{Counting, Item, Items, ProcedureHead};
-use pli_meaning::typed::{Block, BlockKind, Stmt, Stmts};
+use pli_language::condition::Condition;
+use pli_language::expr::{Expr, Name, Place};
+use pli_language::stmt;
+use pli_language::stmt::{Counting, Item, Items, ProcedureHead};
+use pli_typing::typed::{Block, BlockKind, Stmt, Stmts};
 use std::alloc::{AllocError, Global};
 
 /// A statement in a box.
@@ -42,7 +42,7 @@ fn boxed<'a>(
 
 /// IF without ELSE.
 #[cycle(walk)]
-#[tactic(auto, using(crate::proofs::Forms::forms), unfolding(pli_meaning::specs::TypedStatementView::stmt_of))]
+#[tactic(auto, using(crate::proofs::Forms::forms), unfolding(pli_typing::specs::TypedStatementView::stmt_of))]
 fn if_statement<'a>(
     alloc: Global,
     context: &Context<'_, '_, 'a>,
@@ -67,7 +67,7 @@ fn if_statement<'a>(
 
 /// IF with ELSE.
 #[cycle(walk)]
-#[tactic(auto, using(crate::proofs::Forms::forms), unfolding(pli_meaning::specs::TypedStatementView::stmt_of))]
+#[tactic(auto, using(crate::proofs::Forms::forms), unfolding(pli_typing::specs::TypedStatementView::stmt_of))]
 fn if_else<'a>(
     alloc: Global,
     context: &Context<'_, '_, 'a>,
@@ -113,7 +113,7 @@ fn group<'a>(
 
 /// DO with WHILE alone.
 #[cycle(walk)]
-#[tactic(auto, using(crate::proofs::Forms::forms), unfolding(pli_meaning::specs::TypedStatementView::stmt_of))]
+#[tactic(auto, using(crate::proofs::Forms::forms), unfolding(pli_typing::specs::TypedStatementView::stmt_of))]
 fn do_while<'a>(
     alloc: Global,
     context: &Context<'_, '_, 'a>,
@@ -138,7 +138,7 @@ fn do_while<'a>(
 
 /// DO with a variable.
 #[cycle(walk)]
-#[tactic(auto, using(crate::proofs::Forms::forms), unfolding(pli_meaning::specs::TypedStatementView::stmt_of))]
+#[tactic(auto, using(crate::proofs::Forms::forms), unfolding(pli_typing::specs::TypedStatementView::stmt_of))]
 fn do_turns<'a>(
     alloc: Global,
     context: &Context<'_, '_, 'a>,
@@ -182,7 +182,7 @@ fn block<'a>(
 
 /// BEGIN.
 #[cycle(walk)]
-#[tactic(auto, using(crate::proofs::Forms::forms), unfolding(pli_meaning::specs::TypedStatementView::stmt_of))]
+#[tactic(auto, using(crate::proofs::Forms::forms), unfolding(pli_typing::specs::TypedStatementView::stmt_of))]
 fn begin<'a>(
     alloc: Global,
     context: &Context<'_, '_, 'a>,
@@ -202,7 +202,7 @@ fn begin<'a>(
 
 /// ON with its unit.
 #[cycle(walk)]
-#[tactic(auto, using(crate::proofs::Forms::forms), unfolding(pli_meaning::specs::TypedStatementView::stmt_of))]
+#[tactic(auto, using(crate::proofs::Forms::forms), unfolding(pli_typing::specs::TypedStatementView::stmt_of))]
 fn on_unit<'a>(
     alloc: Global,
     context: &Context<'_, '_, 'a>,
@@ -229,7 +229,7 @@ fn on_unit<'a>(
 
 /// A statement, where blocks have numbers from the next on.
 #[cycle(walk)]
-#[tactic(auto, using(crate::proofs::Forms::forms), unfolding(pli_meaning::specs::TypedStatementView::stmt_of))]
+#[tactic(auto, using(crate::proofs::Forms::forms), unfolding(pli_typing::specs::TypedStatementView::stmt_of))]
 fn statement<'a>(
     alloc: Global,
     context: &Context<'_, '_, 'a>,

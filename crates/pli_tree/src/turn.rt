@@ -1,29 +1,30 @@
 // The conditions of IF and WHILE, and what DO says of its turns.
 
 ghost use Rattle.std.specs.Prelude.{◌≡◌, None, Some, IfOk, OnOk};
-ghost use Rattle.pli_meaning.specs.Assigning as A;
-ghost use Rattle.pli_meaning.specs.Converting as C;
-ghost use Rattle.pli_meaning.specs.Generations.{judged_if};
-ghost use Rattle.pli_meaning.specs.SingleStatements as S;
-ghost use Rattle.pli_meaning.specs.TypedStatementView.{turns_of};
-ghost use Rattle.pli_meaning.specs.TypedView.{bit_of, number_of, stored_of};
-ghost use Rattle.pli_meaning.specs.View.{counting_of, expr_of, option_of};
+ghost use Rattle.pli_typing.specs.Converting as C;
+ghost use Rattle.pli_typing.specs.Generations.{judged_if};
+ghost use Rattle.pli_typing.specs.SingleStatements as S;
+ghost use Rattle.pli_typing.specs.TypedStatementView.{turns_of};
+ghost use Rattle.pli_typing.specs.TypedView.{bit_of, number_of};
+ghost use Rattle.pli_language.specs.View.{counting_of, expr_of, option_of};
 ghost use Rattle.pli_operand.specs.Notes.{noted};
 ghost use Rattle.pli_operand.specs.Shown.{notes_of, operand_of};
 ghost use Rattle.pli_reference.specs.Shown.{scope_of};
 ghost use Rattle.pli_transfer.specs.Shown.{scalar_of};
+ghost use Rattle.pli_tree.specs.Shown.{counted};
 
 use pli_generation::extent::number_at;
-use pli_meaning::expr::{Expr, Place};
-use pli_meaning::stmt::Counting;
-use pli_meaning::typed::{Bit, Number, Stored, Turns};
+use pli_language::expr::{Expr, Place};
+use pli_language::stmt::Counting;
 use pli_operand::notes::Notes;
 use pli_operand::operand::Operand;
 use pli_operand::stored::{no_reference, operand_stored};
 use pli_operand::value::{operand_value, own_bit_operand};
 use pli_reference::expression::{operand, referred};
 use pli_reference::scope::Scope;
+use pli_transfer::computational::computational_operand;
 use pli_transfer::scalar::{Scalar, counter_of, scalar_operand};
+use pli_typing::typed::{Bit, Number, Stored, Turns};
 use std::alloc::{AllocError, Global};
 
 /// The expression of IF and WHILE.
@@ -83,7 +84,7 @@ struct Said<'t, 'a> {
 }
 
 /// BY is 1 where it isn't said.
-#[tactic(auto, unfolding(pli_meaning::specs::TypedView::number_of))]
+#[tactic(auto, unfolding(pli_typing::specs::TypedView::number_of))]
 fn step_or_one<'a>(step: Option<Number<'a>>) -> Number<'a>
     ensures { number_of result ≡ S.step_or_one (option_of number_of step.entry) }
 {
@@ -96,78 +97,50 @@ fn step_or_one<'a>(step: Option<Number<'a>>) -> Number<'a>
 /// Turns that are counted: the variable converts to numbers and from them.
 #[tactic(auto, using(pli_operand::proofs::Noting::noting))]
 fn counted<'a>(
+    alloc: Global,
     notes: &mut Notes,
     place: Place,
     scalar: Scalar<'a>,
-    start: Stored<'a>,
+    start: Operand<'_, 'a>,
     limit: Option<Number<'a>>,
     step: Number<'a>,
     condition: Option<Bit<'a>>,
-) -> Turns<'a>
-    ensures noted { notes_of notes.new ≡ noted (notes_of notes.old) (A.counter_of place (scalar_of scalar.entry).reference (scalar_of scalar.entry).type) }
-    ensures value { turns_of result ≡ S.CountedTurns (A.counter_of place (scalar_of scalar.entry).reference (scalar_of scalar.entry).type).value (stored_of start.entry) (option_of number_of limit.entry) (number_of step.entry) (option_of bit_of condition.entry) }
+) -> Result<Turns<'a>, AllocError>
+    ensures noted { OnOk result (notes_of notes.new ≡ noted (notes_of notes.old) (counted place (scalar_of scalar.entry) (operand_of start.entry) (option_of number_of limit.entry) (number_of step.entry) (option_of bit_of condition.entry))) }
+    ensures value { IfOk result (λ t. turns_of t ≡ (counted place (scalar_of scalar.entry) (operand_of start.entry) (option_of number_of limit.entry) (number_of step.entry) (option_of bit_of condition.entry)).value) }
 {
-    Turns::Counted {
-        counter: counter_of(notes, place, scalar.reference, scalar.kind),
+    let counter = counter_of(notes, place, scalar.reference, scalar.kind);
+    let start = computational_operand(alloc, notes, start)?;
+    Ok(Turns::Counted {
+        counter,
         start,
         limit,
         step,
         condition,
-    }
-}
-
-/// The turns of a variable, one at most where neither TO nor BY stands.
-#[tactic(auto, using(pli_operand::proofs::Noting::noting))]
-fn turns_of<'a>(
-    notes: &mut Notes,
-    place: Place,
-    scalar: Scalar<'a>,
-    start: Stored<'a>,
-    limit: Option<Number<'a>>,
-    step: Option<Number<'a>>,
-    condition: Option<Bit<'a>>,
-) -> Turns<'a>
-    ensures noted { notes_of notes.new ≡ noted (notes_of notes.old) (S.turns_of place (scalar_of scalar.entry) (stored_of start.entry) (option_of number_of limit.entry) (option_of number_of step.entry) (option_of bit_of condition.entry)) }
-    ensures value { turns_of result ≡ (S.turns_of place (scalar_of scalar.entry) (stored_of start.entry) (option_of number_of limit.entry) (option_of number_of step.entry) (option_of bit_of condition.entry)).value }
-{
-    match (limit, step) {
-        (None, None) => Turns::Once {
-            variable: scalar.reference,
-            start,
-            condition,
-        },
-        (None, Some(step)) => counted(notes, place, scalar, start, None, step, condition),
-        (Some(limit), step) => counted(
-            notes,
-            place,
-            scalar,
-            start,
-            Some(limit),
-            step_or_one(step),
-            condition,
-        ),
-    }
-}
-
-/// What DO says where its variable is none that can be assigned to: the start is judged all the same.
-#[tactic(auto, using(pli_operand::proofs::Noting::noting), unfolding(pli_meaning::specs::TypedView::bit_of))]
-fn no_turns<'a>(
-    alloc: Global,
-    notes: &mut Notes,
-    said: Said<'_, 'a>,
-) -> Result<Turns<'a>, AllocError>
-    ensures noted { OnOk result (notes_of notes.new ≡ noted (notes_of notes.old) (C.operand_value (operand_of said.entry.start))) }
-    ensures value { IfOk result (λ t. turns_of t ≡ S.no_turns) }
-{
-    let _value = operand_value(alloc, notes, said.start)?;
-    Ok(Turns::Once {
-        variable: no_reference(),
-        start: Stored::Bit(Bit::Constant(false)),
-        condition: None,
     })
 }
 
-/// The turns of a variable with what DO says behind it.
+/// One turn at most.
+#[tactic(auto, using(pli_operand::proofs::Noting::noting))]
+fn once<'a>(
+    alloc: Global,
+    notes: &mut Notes,
+    scalar: Scalar<'a>,
+    start: Operand<'_, 'a>,
+    condition: Option<Bit<'a>>,
+) -> Result<Turns<'a>, AllocError>
+    ensures noted { OnOk result (notes_of notes.new ≡ noted (notes_of notes.old) (C.operand_stored (scalar_of scalar.entry).type (operand_of start.entry))) }
+    ensures value { IfOk result (λ t. turns_of t ≡ S.OneTurn (scalar_of scalar.entry).reference (C.operand_stored (scalar_of scalar.entry).type (operand_of start.entry)).value (option_of bit_of condition.entry)) }
+{
+    let start = operand_stored(alloc, notes, scalar.kind, start)?;
+    Ok(Turns::Once {
+        variable: scalar.reference,
+        start,
+        condition,
+    })
+}
+
+/// The turns of a variable, one at most where neither TO nor BY stands.
 #[tactic(auto, using(pli_operand::proofs::Noting::noting))]
 fn turns_from<'a>(
     alloc: Global,
@@ -185,8 +158,38 @@ fn turns_from<'a>(
         step,
         condition,
     } = said;
-    let start = operand_stored(alloc, notes, scalar.kind, start)?;
-    Ok(turns_of(notes, place, scalar, start, limit, step, condition))
+    match (limit, step) {
+        (None, None) => once(alloc, notes, scalar, start, condition),
+        (None, Some(step)) => { counted(alloc, notes, place, scalar, start, None, step, condition) }
+        (Some(limit), step) => counted(
+            alloc,
+            notes,
+            place,
+            scalar,
+            start,
+            Some(limit),
+            step_or_one(step),
+            condition,
+        ),
+    }
+}
+
+/// What DO says where its variable is none that can be assigned to: the start is judged all the same.
+#[tactic(auto, using(pli_operand::proofs::Noting::noting), unfolding(pli_typing::specs::TypedView::bit_of))]
+fn no_turns<'a>(
+    alloc: Global,
+    notes: &mut Notes,
+    said: Said<'_, 'a>,
+) -> Result<Turns<'a>, AllocError>
+    ensures noted { OnOk result (notes_of notes.new ≡ noted (notes_of notes.old) (C.operand_value (operand_of said.entry.start))) }
+    ensures value { IfOk result (λ t. turns_of t ≡ S.no_turns) }
+{
+    let _value = operand_value(alloc, notes, said.start)?;
+    Ok(Turns::Once {
+        variable: no_reference(),
+        start: Stored::Bit(Bit::Constant(false)),
+        condition: None,
+    })
 }
 
 /// The turns of a variable, if it is one, with what DO says behind it.

@@ -1,12 +1,12 @@
 // What is found and made on the way through a program.
 
 ghost use Rattle.std.specs.Prelude.{◌≡◌, ◌+◌, ◌++◌, ◌∷◌, [], false, map, IfOk, None, OnOk};
-ghost use Rattle.pli_meaning.specs.TypedStatementView.{procedure_of};
+ghost use Rattle.pli_typing.specs.TypedStatementView.{procedure_of};
 ghost use Rattle.pli_operand.specs.Shown.{notes_of};
 
-use pli_meaning::fault::SourceFault;
-use pli_meaning::typed::Procedure;
+use pli_language::fault::SourceFault;
 use pli_operand::notes::Notes;
+use pli_typing::typed::Procedure;
 use std::alloc::{AllocError, Global};
 
 /// The least rule that is broken so far, the procedures so far, and the number of the next block.

@@ -3,7 +3,7 @@ use Rattle.std.proofs.Common.{◌≡◌, ◌<◌, ◌≤◌, ◌⊎◌, inl, inr
 use Rattle.std.specs.Prelude.{nat_lt}
 use Rattle.std.proofs.lemmas.Bool.Decides.{nat_tests}
 use Rattle.std.proofs.lemmas.List.{at_drop_more}
-use Rattle.pli_meaning.specs.Signatures.{capped, element_count, span}
+use Rattle.pli_typing.specs.Signatures.{capped, element_count, span}
 use Rattle.pli_types.specs.declared.signature.Bounds.{Bounds}
 use Rattle.pli_types.specs.View.{bounds_of}
 

@@ -1,7 +1,7 @@
 -- The definitions' kinds, conversions and signatures, as the values of this crate show them.
 use Rattle.std.specs.Prelude.{map}
-use Rattle.pli_meaning.specs.Kinds as K
-use Rattle.pli_meaning.specs.Signatures as S
+use Rattle.pli_typing.specs.Kinds as K
+use Rattle.pli_typing.specs.Signatures as S
 use Rattle.pli_types.specs.declared.kind.Kind.{Kind}
 use Rattle.pli_types.specs.declared.kind.Kind.TheVariants.{Number, Text, Bit, Pointer, Offset, Null, Area}
 use Rattle.pli_types.specs.declared.kind.Conversion.{Conversion}

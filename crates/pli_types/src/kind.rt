@@ -1,8 +1,8 @@
 // What kind of value an expression has, and what is done to it where another kind is due.
 
 ghost use Rattle.std.specs.Prelude.{◌≡◌, MatchOption};
-ghost use Rattle.pli_meaning.specs.Kinds.{AreaKind, BitKind, Converts, NeverConverts, NullKind, NumberKind, OffsetKind, PointerKind, TextKind, conversion, converted_length};
-ghost use Rattle.pli_meaning.specs.View.{option_of};
+ghost use Rattle.pli_typing.specs.Kinds.{AreaKind, BitKind, Converts, NeverConverts, NullKind, NumberKind, OffsetKind, PointerKind, TextKind, conversion, converted_length};
+ghost use Rattle.pli_language.specs.View.{option_of};
 ghost use Rattle.pli_types.specs.View.{conversion_of, kind_of};
 
 /// The kind of a value, or of what a value is stored into. Lengths and capacities are no part of it.

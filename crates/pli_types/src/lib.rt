@@ -4,3 +4,5 @@
 pub mod kind;
 pub mod signature;
 pub mod size;
+#[cfg(test)]
+mod tests;

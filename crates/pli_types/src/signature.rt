@@ -1,7 +1,7 @@
 // What a generation is made of.
 
 ghost use Rattle.std.specs.Prelude.{◌≡◌};
-ghost use Rattle.pli_meaning.specs.Signatures.{area_of_size};
+ghost use Rattle.pli_typing.specs.Signatures.{area_of_size};
 ghost use Rattle.pli_types.specs.View.{leaf_kind_of};
 
 use smallvec::SmallVec;

@@ -1,7 +1,7 @@
 // How many bytes a generation counts for, up to the greatest number of 64 bits, which stands for all that is more.
 
 ghost use Rattle.std.specs.Prelude.{◌≡◌, map};
-ghost use Rattle.pli_meaning.specs.Signatures.{capped, data_size, element_count, footprint, leaf_bytes, leaf_size, leaves_size, rounded_up, span};
+ghost use Rattle.pli_typing.specs.Signatures.{capped, data_size, element_count, footprint, leaf_bytes, leaf_size, leaves_size, rounded_up, span};
 ghost use Rattle.pli_types.specs.View.{bounds_of, leaf_kind_of, leaf_of, signature_of};
 
 use crate::signature::{Bounds, Leaf, LeafKind, Signature};

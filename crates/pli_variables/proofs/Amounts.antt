@@ -3,8 +3,8 @@ use Rattle.std.proofs.Common.{◌≡◌, ◌+◌, Bool, true, false, List, ◌�
 use Rattle.std.specs.Prelude.{if◌then◌else◌, unwrap_or}
 use Rattle.std.proofs.lemmas.List.{drop_all}
 use Rattle.pli_declare.proofs.Chains.{drop_here}
-use Rattle.pli_meaning.specs.Tree.{Attribute, Fixed, Binary, Character, Varying, BitOne, Pointer, Offset, Area, Automatic, Static, Controlled, Based, Initial, Builtin, Aligned, Unaligned, Internal, StarSize, Given}
-use Rattle.pli_meaning.specs.Variables.{WrittenExtent, index_where, size_of_text, size_of_area, area_name}
+use Rattle.pli_language.specs.Tree.{Attribute, Fixed, Binary, Character, Varying, BitOne, Pointer, Offset, Area, Automatic, Static, Controlled, Based, Initial, Builtin, Aligned, Unaligned, Internal, StarSize, Given}
+use Rattle.pli_typing.specs.Variables.{WrittenExtent, index_where, size_of_text, size_of_area, area_name}
 use Rattle.pli_variables.specs.Written.{text_size, area_size, offset_in}
 
 pub index_here : {X : Type 0} (test : X → Bool) (x : X) (xs : List X) → test x ≡ true → index_where test (x ∷ xs) ≡ 0

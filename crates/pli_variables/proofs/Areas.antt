@@ -1,11 +1,11 @@
 -- Areas among what is declared.
 use Rattle.std.proofs.Common.{◌≡◌, ℕ, List, Option, Some, None, refl}
 use Rattle.std.specs.Prelude.{if◌then◌else◌}
-use Rattle.pli_meaning.specs.declared.typed.Variable.{Variable as VariableHeld}
-use Rattle.pli_meaning.specs.Declarations.{What, Variable', Label, ProcedureName, Block}
-use Rattle.pli_meaning.specs.TypedView.{area_of, variable_of}
-use Rattle.pli_meaning.specs.View.{option_of}
-use Rattle.pli_meaning.specs.Variables.{area_in}
+use Rattle.pli_typing.specs.declared.typed.Variable.{Variable as VariableHeld}
+use Rattle.pli_language.specs.Declarations.{What, Variable', Label, ProcedureName, Block}
+use Rattle.pli_typing.specs.TypedView.{area_of, variable_of}
+use Rattle.pli_language.specs.View.{option_of}
+use Rattle.pli_typing.specs.Variables.{area_in}
 use Rattle.pli_variables.specs.Rows.{is_area, variable_of_option}
 
 pub area_is : (o : Option VariableHeld) → area_of o ≡ option_of variable_of o

@@ -4,8 +4,8 @@ use Rattle.std.specs.Prelude.{if◌then◌else◌}
 use Rattle.std.proofs.lemmas.List.{drop_all, map-append, take-map, drop-map, take-append-drop, length-map}
 use Rattle.std.proofs.lemmas.List.Concat.{flat_map-append}
 use Rattle.pli_declare.proofs.Chains.{drop_here}
-use Rattle.pli_meaning.specs.Variables.{WrittenExtent, with_extent, in_order}
-use Rattle.pli_meaning.specs.Declaring.{place_of_expr}
+use Rattle.pli_typing.specs.Variables.{WrittenExtent, with_extent, in_order}
+use Rattle.pli_language.specs.Declaring.{place_of_expr}
 use Rattle.pli_variables.specs.Written.{ordered_on, goes_before, stands_at, extent_shown, all_shown}
 use Rattle.pli_variables.specs.declared.extent.WrittenExtent.{WrittenExtent as WrittenExtentHeld}
 

@@ -1,12 +1,12 @@
 -- The steps of the loops that walk declarations and members.
 use Rattle.std.proofs.Common.{◌≡◌, Bool, true, false, List, [], ◌∷◌, ◌++◌, map, Option, Some, None, refl, sym, ap, ◌∙◌, append_assoc, append-nil}
 use Rattle.std.specs.Prelude.{if◌then◌else◌, not, ◌&&◌}
-use Rattle.pli_meaning.specs.declared.expr.Place.{Place}
+use Rattle.pli_language.specs.declared.expr.Place.{Place}
 use Rattle.std.proofs.lemmas.List.{drop_all, map-append}
 use Rattle.pli_declare.proofs.Chains.{drop_here}
-use Rattle.pli_meaning.specs.Declarations.{Held, What, Variable', Label, ProcedureName}
-use Rattle.pli_meaning.specs.Declaring.{has, own_attributes, stands_alone, is_deeper}
-use Rattle.pli_meaning.specs.Variables.{member_then, variable_then, leaves_in, is_at, from_place, while_deeper}
+use Rattle.pli_language.specs.Declarations.{Held, What, Variable', Label, ProcedureName}
+use Rattle.pli_language.specs.Declaring.{has, own_attributes, stands_alone, is_deeper}
+use Rattle.pli_typing.specs.Variables.{member_then, variable_then, leaves_in, is_at, from_place, while_deeper}
 use Rattle.pli_variables.specs.Held.{member_in, root_in, is_leaf, leaf_first}
 
 abbrev with_rest : Option Held → List Held → List Held

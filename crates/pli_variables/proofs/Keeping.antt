@@ -3,12 +3,12 @@ use Rattle.std.proofs.Common.{◌≡◌, List, [], ◌∷◌, ◌++◌, Option, 
 use Rattle.std.proofs.lemmas.List.{drop_all, map-append}
 use Rattle.std.proofs.lemmas.List.Concat.{flat_map-append}
 use Rattle.pli_declare.proofs.Chains.{drop_here}
-use Rattle.pli_meaning.specs.Generations.{Kept, kept_in, kept_in_attribute, refer_among, refer_of}
-use Rattle.pli_meaning.specs.Tree.{Size, StarSize, Given, Character}
+use Rattle.pli_typing.specs.Generations.{Kept, kept_in, kept_in_attribute, refer_among, refer_of}
+use Rattle.pli_language.specs.Tree.{Size, StarSize, Given, Character}
 use Rattle.pli_variables.specs.Kept.{first_kept, kept_in_size, refer_kept}
 use Rattle.std.specs.List.{flat_map}
-use Rattle.pli_meaning.specs.Declarations.{Held}
-use Rattle.pli_meaning.specs.View.{option_of}
+use Rattle.pli_language.specs.Declarations.{Held}
+use Rattle.pli_language.specs.View.{option_of}
 use Rattle.pli_variables.proofs.Grouping.{leaves_on}
 use Rattle.pli_variables.proofs.Amounts.{index_here, index_on}
 

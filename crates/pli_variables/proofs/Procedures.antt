@@ -2,8 +2,8 @@
 use Rattle.std.proofs.Common.{◌≡◌, List, ◌∷◌, Option, Some, None, refl}
 use Rattle.std.proofs.lemmas.List.{drop_all}
 use Rattle.pli_declare.proofs.Chains.{drop_here}
-use Rattle.pli_meaning.specs.Calls.{returns_in}
-use Rattle.pli_meaning.specs.Tree.{Attribute, ProcedureOption, Main, Recursive, Returns}
+use Rattle.pli_typing.specs.Calls.{returns_in}
+use Rattle.pli_language.specs.Tree.{Attribute, ProcedureOption, Main, Recursive, Returns}
 use Rattle.pli_variables.specs.Procedures.{returns_of}
 
 -- the first answer, if there is one

@@ -6,12 +6,12 @@ use Rattle.std.proofs.lemmas.Option.{slice_get-map}
 use Rattle.std.proofs.Math.Logic.{∥∥₁_elim}
 use Rattle.std.proofs.Props.{props}
 use mathlib.Core.Sum.{⊎_set}
-use Rattle.pli_meaning.specs.declared.scope.DeclarationAt.{DeclarationAt}
-use Rattle.pli_meaning.specs.Calls.{begins_named}
-use Rattle.pli_meaning.specs.Declarations.{Held, What, Variable', Label, ProcedureName, Declaration, Block}
-use Rattle.pli_meaning.specs.Declaring.{names_of}
-use Rattle.pli_meaning.specs.Means.{declarations_of}
-use Rattle.pli_meaning.specs.Variables.{declarations_at, head_of_block, index_where, variables_in, what_of, written_extents}
+use Rattle.pli_language.specs.declared.scope.DeclarationAt.{DeclarationAt}
+use Rattle.pli_typing.specs.Calls.{begins_named}
+use Rattle.pli_language.specs.Declarations.{Held, What, Variable', Label, ProcedureName, Declaration, Block}
+use Rattle.pli_language.specs.Declaring.{names_of}
+use Rattle.pli_language.specs.Means.{declarations_of}
+use Rattle.pli_typing.specs.Variables.{declarations_at, head_of_block, index_where, variables_in, what_of, written_extents}
 use Rattle.pli_variables.specs.BlockTables.{BlockTable, block_table, table_given, table_or, variable_shape}
 use Rattle.pli_variables.specs.Procedures.{procedure_at, procedure_in, procedure_of_what, procedure_row}
 use Rattle.pli_variables.specs.Rows.{variable_among}

@@ -10,15 +10,15 @@ use Rattle.std.proofs.lemmas.Bool.Decides.{nat_tests}
 use Rattle.std.proofs.Math.Logic.{∥∥₁_elim}
 use Rattle.std.proofs.Props.{props}
 use mathlib.Core.Sum.{⊎_set}
-use Rattle.pli_meaning.specs.Declarations.{Held, What, Variable', Label, ProcedureName, Declaration, Block}
-use Rattle.pli_meaning.specs.Declaring.{root_of, names_of}
-use Rattle.pli_meaning.specs.Means.{declarations_of}
-use Rattle.pli_meaning.specs.TypedTree as Y
-use Rattle.pli_meaning.specs.Variables.{begins_at, class_of, declarations_at, depth_of_block, head_of_block, index_where, root_place, variables_in, what_of}
-use Rattle.pli_meaning.specs.TypedView.{variable_of}
-use Rattle.pli_meaning.specs.View.{option_of}
-use Rattle.pli_meaning.specs.declared.scope.DeclarationAt.{DeclarationAt}
-use Rattle.pli_meaning.specs.declared.typed.Variable.{Variable as VariableHeld}
+use Rattle.pli_language.specs.Declarations.{Held, What, Variable', Label, ProcedureName, Declaration, Block}
+use Rattle.pli_language.specs.Declaring.{root_of, names_of}
+use Rattle.pli_language.specs.Means.{declarations_of}
+use Rattle.pli_typing.specs.TypedTree as Y
+use Rattle.pli_typing.specs.Variables.{begins_at, class_of, declarations_at, depth_of_block, head_of_block, index_where, root_place, variables_in, what_of}
+use Rattle.pli_typing.specs.TypedView.{variable_of}
+use Rattle.pli_language.specs.View.{option_of}
+use Rattle.pli_language.specs.declared.scope.DeclarationAt.{DeclarationAt}
+use Rattle.pli_typing.specs.declared.typed.Variable.{Variable as VariableHeld}
 use Rattle.pli_variables.specs.Shapes.{Shape}
 use Rattle.pli_variables.specs.Rows.{row_shown, rows_before, variable_at, variable_of_option, variable_in, variables_among, variable_of_what, variable_row}
 

@@ -1,9 +1,9 @@
 -- What is kept of each block.
 use Rattle.std.specs.Prelude.{ℕ, List, [], map, slice_get, Option, Some, None}
-use Rattle.pli_meaning.specs.Calls.{begins_named, parameter_indices}
-use Rattle.pli_meaning.specs.Declarations.{Block}
-use Rattle.pli_meaning.specs.Declaring.{names_of}
-use Rattle.pli_meaning.specs.Variables.{declarations_at, head_of_block, index_where, variables_in}
+use Rattle.pli_typing.specs.Calls.{begins_named, parameter_indices}
+use Rattle.pli_language.specs.Declarations.{Block}
+use Rattle.pli_language.specs.Declaring.{names_of}
+use Rattle.pli_typing.specs.Variables.{declarations_at, head_of_block, index_where, variables_in}
 use Rattle.pli_variables.specs.declared.block_table.BlockTable.{BlockTable as BlockTableHeld}
 use Rattle.pli_variables.specs.Procedures.{procedure_row}
 use Rattle.pli_variables.specs.Shapes.{Shape, shape_of_first}

@@ -2,8 +2,8 @@
 use Rattle.std.specs.Prelude.{Bool, true, not, ◌&&◌, List, [], ◌∷◌, map, Option, Some, None, if◌then◌else◌, Vec}
 use Rattle.std.specs.declared.alloc.Global.{Global}
 use Rattle.pli_declare.specs.declared.scope.Held.{Held as HeldHeld}
-use Rattle.pli_meaning.specs.Declarations.{Held, What, Variable', Label, ProcedureName}
-use Rattle.pli_meaning.specs.Declaring.{has, own_attributes, stands_alone, is_deeper}
+use Rattle.pli_language.specs.Declarations.{Held, What, Variable', Label, ProcedureName}
+use Rattle.pli_language.specs.Declaring.{has, own_attributes, stands_alone, is_deeper}
 use Rattle.pli_declare.specs.Shown.{held_of}
 
 -- a variable with its members

@@ -1,11 +1,11 @@
 -- Extents that members keep, one by one.
 use Rattle.std.specs.Prelude.{List, [], ◌∷◌, Option, Some, None}
-use Rattle.pli_meaning.specs.Generations.{Kept, is_named, kept_extent}
-use Rattle.pli_meaning.specs.Tree.{Size, StarSize, Given}
-use Rattle.pli_meaning.specs.Declarations.{Held}
-use Rattle.pli_meaning.specs.TypedTree as Y
-use Rattle.pli_meaning.specs.Variables.{amount_of, index_where, leaves_in, written_extents}
-use Rattle.pli_meaning.specs.View.{extent_of, name_of}
+use Rattle.pli_typing.specs.Generations.{Kept, is_named, kept_extent}
+use Rattle.pli_language.specs.Tree.{Size, StarSize, Given}
+use Rattle.pli_language.specs.Declarations.{Held}
+use Rattle.pli_typing.specs.TypedTree as Y
+use Rattle.pli_typing.specs.Variables.{amount_of, index_where, leaves_in, written_extents}
+use Rattle.pli_language.specs.View.{extent_of, name_of}
 use Rattle.pli_variables.specs.declared.refer.Kept.{Kept as KeptHeld}
 
 abbrev pub kept_shown : KeptHeld → Kept

@@ -1,13 +1,13 @@
 -- What RETURNS says, option by option.
 use Rattle.std.specs.Prelude.{ℕ, List, map, Option, Some, None}
 use Rattle.std.specs.Borrow.{Bor}
-use Rattle.pli_meaning.specs.declared.declaration.Attribute.{Attribute as AttributeHeld}
-use Rattle.pli_meaning.specs.declared.scope.DeclarationAt.{DeclarationAt}
-use Rattle.pli_meaning.specs.Calls.{block_of_procedure}
-use Rattle.pli_meaning.specs.Declarations.{What, Variable', Label, ProcedureName, Declaration, Block}
-use Rattle.pli_meaning.specs.Variables.{what_at}
-use Rattle.pli_meaning.specs.Tree.{Attribute, ProcedureOption, Main, Recursive, Returns}
-use Rattle.pli_meaning.specs.View.{attribute_of}
+use Rattle.pli_language.specs.declared.declaration.Attribute.{Attribute as AttributeHeld}
+use Rattle.pli_language.specs.declared.scope.DeclarationAt.{DeclarationAt}
+use Rattle.pli_typing.specs.Calls.{block_of_procedure}
+use Rattle.pli_language.specs.Declarations.{What, Variable', Label, ProcedureName, Declaration, Block}
+use Rattle.pli_typing.specs.Variables.{what_at}
+use Rattle.pli_language.specs.Tree.{Attribute, ProcedureOption, Main, Recursive, Returns}
+use Rattle.pli_language.specs.View.{attribute_of}
 
 abbrev pub attributes_shown : Bor (List AttributeHeld) → List Attribute
 attributes_shown b = map attribute_of b.now

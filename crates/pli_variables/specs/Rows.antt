@@ -3,14 +3,14 @@ use Rattle.std.specs.Prelude.{ℕ, Bool, false, zero, suc, ◌-◌, List, [], �
 use Rattle.std.specs.declared.alloc.Global.{Global}
 use Rattle.pli_declare.specs.declared.scopes.Scopes.{Scopes}
 use Rattle.pli_declare.specs.ShownBlocks.{block_of}
-use Rattle.pli_meaning.specs.declared.typed.Variable.{Variable as VariableHeld}
-use Rattle.pli_meaning.specs.declared.scope.DeclarationAt.{DeclarationAt}
-use Rattle.pli_meaning.specs.Declarations.{Held, What, Variable', Label, ProcedureName, Block}
-use Rattle.pli_meaning.specs.Declaring.{has, own_attributes, root_of, names_of}
-use Rattle.pli_meaning.specs.TypedTree as Y
-use Rattle.pli_meaning.specs.TypedView.{variable_of}
-use Rattle.pli_meaning.specs.Variables.{begins_at, class_of, declarations_at, index_where, root_place, variable_meant, variables_in, what_at}
-use Rattle.pli_meaning.specs.View.{option_of}
+use Rattle.pli_typing.specs.declared.typed.Variable.{Variable as VariableHeld}
+use Rattle.pli_language.specs.declared.scope.DeclarationAt.{DeclarationAt}
+use Rattle.pli_language.specs.Declarations.{Held, What, Variable', Label, ProcedureName, Block}
+use Rattle.pli_language.specs.Declaring.{has, own_attributes, root_of, names_of}
+use Rattle.pli_typing.specs.TypedTree as Y
+use Rattle.pli_typing.specs.TypedView.{variable_of}
+use Rattle.pli_typing.specs.Variables.{begins_at, class_of, declarations_at, index_where, root_place, variable_meant, variables_in, what_at}
+use Rattle.pli_language.specs.View.{option_of}
 
 abbrev pub blocks_shown : Scopes → List Block
 blocks_shown s = map block_of s.blocks.items

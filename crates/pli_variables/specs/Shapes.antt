@@ -1,10 +1,10 @@
 -- What a reference to a declared variable needs to know.
 use Rattle.std.specs.Prelude.{ℕ, Bool, List, [], ◌∷◌, length, Option, Some, None}
-use Rattle.pli_meaning.specs.declared.scope.DeclarationAt.{DeclarationAt}
-use Rattle.pli_meaning.specs.Declarations.{Held, What, Variable', Label, ProcedureName, Block}
-use Rattle.pli_meaning.specs.Declaring.{stands_alone}
-use Rattle.pli_meaning.specs.TypedTree as Y
-use Rattle.pli_meaning.specs.Variables.{variable_meant, part_of, members_of, leaves_of, with_members, from_place, all_dimensions, is_structure, what_at}
+use Rattle.pli_language.specs.declared.scope.DeclarationAt.{DeclarationAt}
+use Rattle.pli_language.specs.Declarations.{Held, What, Variable', Label, ProcedureName, Block}
+use Rattle.pli_language.specs.Declaring.{stands_alone}
+use Rattle.pli_typing.specs.TypedTree as Y
+use Rattle.pli_typing.specs.Variables.{variable_meant, part_of, members_of, leaves_of, with_members, from_place, all_dimensions, is_structure, what_at}
 
 -- what a reference to a declared variable needs to know: the variable of level 1 that it is or belongs to, which part of it,
 -- and its leaves

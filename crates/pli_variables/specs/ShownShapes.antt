@@ -1,12 +1,12 @@
 -- Shapes that a program holds, and how they are made of what a block declares.
 use Rattle.std.specs.Prelude.{ℕ, List, [], ◌∷◌, length, map, slice_get, unwrap_or, Option, Some, None, Vec}
 use Rattle.std.specs.declared.alloc.Global.{Global}
-use Rattle.pli_meaning.specs.Declarations.{Held, What, Variable', Label, ProcedureName, Block}
-use Rattle.pli_meaning.specs.Declaring.{stands_alone}
-use Rattle.pli_meaning.specs.TypedTree as Y
-use Rattle.pli_meaning.specs.TypedView.{leaf_of as leaf_typed, part_of as part_typed, variable_of as variable_typed}
-use Rattle.pli_meaning.specs.Variables.{WrittenExtent, all_dimensions, declarations_at, from_place, is_structure, leaf_of, leaves_in, part_of, variables_in, with_members, written_extents}
-use Rattle.pli_meaning.specs.View.{option_of}
+use Rattle.pli_language.specs.Declarations.{Held, What, Variable', Label, ProcedureName, Block}
+use Rattle.pli_language.specs.Declaring.{stands_alone}
+use Rattle.pli_typing.specs.TypedTree as Y
+use Rattle.pli_typing.specs.TypedView.{leaf_of as leaf_typed, part_of as part_typed, variable_of as variable_typed}
+use Rattle.pli_typing.specs.Variables.{WrittenExtent, all_dimensions, declarations_at, from_place, is_structure, leaf_of, leaves_in, part_of, variables_in, with_members, written_extents}
+use Rattle.pli_language.specs.View.{option_of}
 use Rattle.pli_variables.specs.declared.shape.Shape.{Shape as ShapeHeld}
 use Rattle.pli_declare.specs.ShownBlocks.{block_of}
 use Rattle.pli_variables.specs.declared.home.Home.{Home as HomeHeld}

@@ -1,12 +1,12 @@
 -- Extents as they are written, shown as the definitions have them.
 use Rattle.std.specs.Prelude.{ℕ, Bool, List, [], ◌∷◌, ◌++◌, take, drop, map, Option, Some, None, if◌then◌else◌, Vec}
 use Rattle.std.specs.declared.alloc.Global.{Global}
-use Rattle.pli_meaning.specs.declared.expr.Place.{Place}
-use Rattle.pli_meaning.specs.Tree.{Name, Expr, Bound, Attribute, Character, Area, Offset, Size, StarSize, Given}
-use Rattle.pli_meaning.specs.View.{expr_of, bound_of}
-use Rattle.pli_meaning.specs.Declaring.{has, place_of_expr, precision_of, precisions_in, same_place}
-use Rattle.pli_meaning.specs.TypedTree as Y
-use Rattle.pli_meaning.specs.Variables as M
+use Rattle.pli_language.specs.declared.expr.Place.{Place}
+use Rattle.pli_language.specs.Tree.{Name, Expr, Bound, Attribute, Character, Area, Offset, Size, StarSize, Given}
+use Rattle.pli_language.specs.View.{expr_of, bound_of}
+use Rattle.pli_language.specs.Declaring.{has, place_of_expr, precision_of, precisions_in, same_place}
+use Rattle.pli_typing.specs.TypedTree as Y
+use Rattle.pli_typing.specs.Variables as M
 use Rattle.pli_variables.specs.declared.extent.WrittenCheck.{WrittenCheck as WrittenCheckHeld}
 use Rattle.pli_variables.specs.declared.extent.WrittenCheck.TheVariants as C
 use Rattle.pli_variables.specs.declared.extent.WrittenExtent.{WrittenExtent as WrittenExtentHeld}

@@ -1,18 +1,18 @@
 // What is found in the place of an extent: a constant, or one of what is evaluated.
 
 ghost use Rattle.std.specs.Prelude.{◌≡◌, length, map};
-ghost use Rattle.pli_meaning.specs.TypedStatementView.{check_of as check_typed};
-ghost use Rattle.pli_meaning.specs.TypedView.{bounds_of as bounds_typed, extent_of as extent_typed};
-ghost use Rattle.pli_meaning.specs.Variables.{amount_of, bounds_of, check_of, extent_of, index_where, size_of_area, size_of_text};
-ghost use Rattle.pli_meaning.specs.View.{attribute_of, bound_of, option_of, size_of};
-ghost use Rattle.pli_meaning.specs.View.{extent_of as extent_written};
+ghost use Rattle.pli_typing.specs.TypedStatementView.{check_of as check_typed};
+ghost use Rattle.pli_typing.specs.TypedView.{bounds_of as bounds_typed, extent_of as extent_typed};
+ghost use Rattle.pli_typing.specs.Variables.{amount_of, bounds_of, check_of, extent_of, index_where, size_of_area, size_of_text};
+ghost use Rattle.pli_language.specs.View.{attribute_of, bound_of, option_of, size_of};
+ghost use Rattle.pli_language.specs.View.{extent_of as extent_written};
 ghost use Rattle.pli_variables.specs.Written.{all_shown, area_size, check_shown, given_size, stands_at, text_size};
 
 use crate::extent::{WrittenCheck, WrittenExtent, stands_at};
 use pli_declaring::constant::{constant, place_of};
-use pli_meaning::declaration::{Attribute, Bound, Extent as Written, Size};
-use pli_meaning::expr::Place;
-use pli_meaning::typed::{Bounds, Check, Extent};
+use pli_language::declaration::{Attribute, Bound, Extent as Written, Size};
+use pli_language::expr::Place;
+use pli_typing::typed::{Bounds, Check, Extent};
 
 /// Which of these extents is written at a place, or how many they are.
 #[tactic(auto, using(crate::proofs::Amounts::found))]

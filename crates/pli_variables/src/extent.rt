@@ -2,18 +2,18 @@
 
 ghost use Rattle.std.specs.Prelude.{◌≡◌, ◌++◌, ◌≤◌, length, map, IfOk, IfSome, OnOk};
 ghost use Rattle.std.specs.List.{flat_map};
-ghost use Rattle.pli_meaning.specs.Variables.{if_open, in_order, is_open, open_in, open_in_attribute, open_in_bound, open_in_size, with_extent, written_extents};
-ghost use Rattle.pli_meaning.specs.View.{attribute_of, bound_of, expr_of, option_of, size_of};
+ghost use Rattle.pli_typing.specs.Variables.{if_open, in_order, is_open, open_in, open_in_attribute, open_in_bound, open_in_size, with_extent, written_extents};
+ghost use Rattle.pli_language.specs.View.{attribute_of, bound_of, expr_of, option_of, size_of};
 ghost use Rattle.pli_declare.specs.Shown.{held_of, variable_of};
-ghost use Rattle.pli_meaning.specs.Declarations.{dimensions_of};
+ghost use Rattle.pli_language.specs.Declarations.{dimensions_of};
 ghost use Rattle.pli_variables.specs.Written.{all_shown, check_behind, check_shown, extent_shown, goes_before, put_at, stands_at};
 
 use pli_declare::scope::{Held, Variable};
 use pli_declaring::constant::{constant, place_of};
-use pli_meaning::declaration;
-use pli_meaning::declaration::{Attribute, Bound, Size};
-use pli_meaning::expr::{Expr, Place};
-use pli_meaning::typed::Bounds;
+use pli_language::declaration;
+use pli_language::declaration::{Attribute, Bound, Size};
+use pli_language::expr::{Expr, Place};
+use pli_typing::typed::Bounds;
 use std::alloc::{AllocError, Global};
 
 /// What is checked behind an extent: a length, a size, or the bounds of a dimension where the last open one of them is known.

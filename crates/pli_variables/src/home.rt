@@ -1,7 +1,7 @@
 // A block with what shapes are made of.
 
 ghost use Rattle.std.specs.Prelude.{◌≡◌, map, IfOk};
-ghost use Rattle.pli_meaning.specs.Variables.{written_extents};
+ghost use Rattle.pli_typing.specs.Variables.{written_extents};
 ghost use Rattle.pli_declare.specs.ShownBlocks.{block_of};
 ghost use Rattle.pli_variables.specs.Held.{groups_held};
 ghost use Rattle.pli_variables.specs.Written.{groups_written};

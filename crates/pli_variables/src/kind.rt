@@ -1,17 +1,17 @@
 // The kind that attributes say.
 
 ghost use Rattle.std.specs.Prelude.{◌≡◌, map};
-ghost use Rattle.pli_meaning.specs.TypedView.{area_of, leaf_type_of};
-ghost use Rattle.pli_meaning.specs.Variables.{area_name};
-ghost use Rattle.pli_meaning.specs.View.{attribute_of, name_of, option_of};
+ghost use Rattle.pli_typing.specs.TypedView.{area_of, leaf_type_of};
+ghost use Rattle.pli_typing.specs.Variables.{area_name};
+ghost use Rattle.pli_language.specs.View.{attribute_of, name_of, option_of};
 ghost use Rattle.pli_variables.specs.Written.{all_shown, offset_in, text_type, type_with};
 
 use crate::amount::{size_of_area, size_of_text};
 use crate::extent::WrittenExtent;
 use pli_declaring::attribute::{Row, has, precision_of};
-use pli_meaning::declaration::Attribute;
-use pli_meaning::expr::Name;
-use pli_meaning::typed::{LeafType, Variable};
+use pli_language::declaration::Attribute;
+use pli_language::expr::Name;
+use pli_typing::typed::{LeafType, Variable};
 
 /// What an attribute that is OFFSET names.
 fn offset_in(attribute: &Attribute) -> Option<Option<&Name>>

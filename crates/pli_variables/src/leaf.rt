@@ -2,10 +2,10 @@
 
 ghost use Rattle.std.specs.Prelude.{◌≡◌, ◌++◌, length, map, IfOk, OnOk};
 ghost use Rattle.std.specs.List.{flat_map};
-ghost use Rattle.pli_meaning.specs.Declarations.{dimensions_of};
-ghost use Rattle.pli_meaning.specs.TypedView.{bounds_of as bounds_typed, leaf_of as leaf_typed};
-ghost use Rattle.pli_meaning.specs.Variables.{all_dimensions, bounds_of, extent_of, initial_items, leaf_of, leaves_in};
-ghost use Rattle.pli_meaning.specs.View.{attribute_of, bound_of, initial_item_of};
+ghost use Rattle.pli_language.specs.Declarations.{dimensions_of};
+ghost use Rattle.pli_typing.specs.TypedView.{bounds_of as bounds_typed, leaf_of as leaf_typed};
+ghost use Rattle.pli_typing.specs.Variables.{all_dimensions, bounds_of, extent_of, initial_items, leaf_of, leaves_in};
+ghost use Rattle.pli_language.specs.View.{attribute_of, bound_of, initial_item_of};
 ghost use Rattle.pli_declare.specs.Shown.{held_of, variable_of};
 ghost use Rattle.pli_variables.specs.Held.{leaf_first};
 ghost use Rattle.pli_variables.specs.Rows.{blocks_shown};
@@ -17,8 +17,8 @@ use crate::meant::Meant;
 use crate::members::is_leaf;
 use pli_declare::scope::{Held, Variable};
 use pli_declaring::held::own_attributes;
-use pli_meaning::declaration::{Attribute, Bound, InitialItem};
-use pli_meaning::typed::{Bounds, Leaf};
+use pli_language::declaration::{Attribute, Bound, InitialItem};
+use pli_typing::typed::{Bounds, Leaf};
 use std::alloc::{AllocError, Global};
 
 /// The bounds of these dimensions.

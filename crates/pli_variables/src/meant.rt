@@ -1,10 +1,10 @@
 // What names mean in the blocks of a program, and which variables of level 1 they belong to.
 
 ghost use Rattle.std.specs.Prelude.{◌≡◌, [], length, map, slice_get, IfOk};
-ghost use Rattle.pli_meaning.specs.Variables.{area_found, area_named, area_in, name_means, type_of, what_at};
-ghost use Rattle.pli_meaning.specs.Variables.{what_of as what_declared};
-ghost use Rattle.pli_meaning.specs.TypedView.{area_of, leaf_type_of, variable_of as variable_typed};
-ghost use Rattle.pli_meaning.specs.View.{attribute_of, name_of, option_of};
+ghost use Rattle.pli_typing.specs.Variables.{area_found, area_named, area_in, name_means, type_of, what_at};
+ghost use Rattle.pli_typing.specs.Variables.{what_of as what_declared};
+ghost use Rattle.pli_typing.specs.TypedView.{area_of, leaf_type_of, variable_of as variable_typed};
+ghost use Rattle.pli_language.specs.View.{attribute_of, name_of, option_of};
 ghost use Rattle.pli_declare.specs.Shown.{what_of};
 ghost use Rattle.pli_declare.specs.ShownBlocks.{block_of};
 ghost use Rattle.pli_variables.specs.Written.{all_shown};
@@ -18,10 +18,10 @@ use pli_declare::Scopes;
 use pli_declare::scope::{Block, What};
 use pli_declaring::attribute::{Row, has};
 use pli_declaring::held::own_attributes;
-use pli_meaning::declaration::Attribute;
-use pli_meaning::expr::Name;
-use pli_meaning::scope::{DeclarationAt, Found};
-use pli_meaning::typed::{LeafType, Variable};
+use pli_language::declaration::Attribute;
+use pli_language::expr::Name;
+use pli_language::scope::{DeclarationAt, Found};
+use pli_typing::typed::{LeafType, Variable};
 use std::alloc::{AllocError, Global};
 
 /// The scopes of a program, with the variable of level 1 that each of its variables is or belongs to.

@@ -1,15 +1,15 @@
 // The variables of level 1 that a block declares, each with its members.
 
 ghost use Rattle.std.specs.Prelude.{◌≡◌, ◌++◌, ◌∷◌, ◌≤◌, [], length, map, take, IfOk, OnOk};
-ghost use Rattle.pli_meaning.specs.Variables.{from_place, is_at, leaves_in, members_first, variable_then, variables_in, while_deeper, with_members};
-ghost use Rattle.pli_meaning.specs.View.{option_of};
+ghost use Rattle.pli_typing.specs.Variables.{from_place, is_at, leaves_in, members_first, variable_then, variables_in, while_deeper, with_members};
+ghost use Rattle.pli_language.specs.View.{option_of};
 ghost use Rattle.pli_declare.specs.Shown.{declaration_of, held_of, what_of};
 ghost use Rattle.pli_variables.specs.Held.{groups_held, is_leaf, member_in, root_in};
 
 use pli_declare::scope::{Declaration, Held, What};
 use pli_declaring::attribute::{Row, has};
 use pli_declaring::held::{is_deeper, own_attributes, stands_alone};
-use pli_meaning::expr::Place;
+use pli_language::expr::Place;
 use std::alloc::{AllocError, Global};
 
 /// The variable, where it is a member of what stands before it.

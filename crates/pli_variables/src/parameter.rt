@@ -1,15 +1,15 @@
 // The places of parameters among the variables of their block.
 
 ghost use Rattle.std.specs.Prelude.{◌≡◌, map, IfOk};
-ghost use Rattle.pli_meaning.specs.Calls.{begins_named};
-ghost use Rattle.pli_meaning.specs.Variables.{index_where};
-ghost use Rattle.pli_meaning.specs.View.{name_of};
+ghost use Rattle.pli_typing.specs.Calls.{begins_named};
+ghost use Rattle.pli_typing.specs.Variables.{index_where};
+ghost use Rattle.pli_language.specs.View.{name_of};
 ghost use Rattle.pli_declare.specs.Shown.{held_of};
 ghost use Rattle.pli_variables.specs.Held.{groups_held};
 
 use pli_declare::scope::Held;
 use pli_declaring::held::same_bytes;
-use pli_meaning::expr::Name;
+use pli_language::expr::Name;
 use std::alloc::{AllocError, Global};
 
 /// The variable of level 1 has this name.

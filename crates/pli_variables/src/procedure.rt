@@ -1,15 +1,15 @@
 // Procedures: their blocks, and what RETURNS says.
 
 ghost use Rattle.std.specs.Prelude.{◌≡◌, map, IfOk};
-ghost use Rattle.pli_meaning.specs.Calls.{block_of_procedure, is_block_of, returns_in};
-ghost use Rattle.pli_meaning.specs.View.{option_of, procedure_head_of, procedure_option_of};
+ghost use Rattle.pli_typing.specs.Calls.{block_of_procedure, is_block_of, returns_in};
+ghost use Rattle.pli_language.specs.View.{option_of, procedure_head_of, procedure_option_of};
 ghost use Rattle.pli_declare.specs.Shown.{declaration_of, what_of};
 ghost use Rattle.pli_declare.specs.ShownBlocks.{block_of};
 ghost use Rattle.pli_variables.specs.Procedures.{attributes_shown, procedure_of_what, procedure_row, returns_of};
 
 use pli_declare::scope::{Block, Declaration, What};
-use pli_meaning::declaration::Attribute;
-use pli_meaning::stmt::{ProcedureHead, ProcedureOption};
+use pli_language::declaration::Attribute;
+use pli_language::stmt::{ProcedureHead, ProcedureOption};
 use std::alloc::{AllocError, Global};
 
 /// The block is this procedure's.

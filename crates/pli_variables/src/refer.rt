@@ -2,11 +2,11 @@
 
 ghost use Rattle.std.specs.Prelude.{◌≡◌, map, IfOk};
 ghost use Rattle.std.specs.List.{flat_map};
-ghost use Rattle.pli_meaning.specs.Declarations.{dimensions_of};
-ghost use Rattle.pli_meaning.specs.Generations.{is_named, kept_extent, kept_in, kept_in_attribute, kept_in_bound, refer_of};
-ghost use Rattle.pli_meaning.specs.TypedStatementView.{refer_member_of};
-ghost use Rattle.pli_meaning.specs.Variables.{index_where, leaves_in};
-ghost use Rattle.pli_meaning.specs.View.{attribute_of, bound_of, extent_of, name_of, option_of, size_of};
+ghost use Rattle.pli_language.specs.Declarations.{dimensions_of};
+ghost use Rattle.pli_typing.specs.Generations.{is_named, kept_extent, kept_in, kept_in_attribute, kept_in_bound, refer_of};
+ghost use Rattle.pli_typing.specs.TypedStatementView.{refer_member_of};
+ghost use Rattle.pli_typing.specs.Variables.{index_where, leaves_in};
+ghost use Rattle.pli_language.specs.View.{attribute_of, bound_of, extent_of, name_of, option_of, size_of};
 ghost use Rattle.pli_declare.specs.Shown.{held_of, variable_of};
 ghost use Rattle.pli_variables.specs.Kept.{first_kept, kept_in_size, kept_shown, refer_kept};
 
@@ -15,9 +15,9 @@ use crate::extent::written_extents;
 use crate::members::is_leaf;
 use pli_declare::scope::{Held, Variable};
 use pli_declaring::held::{own_attributes, same_bytes};
-use pli_meaning::declaration::{Attribute, Bound, Extent, Size};
-use pli_meaning::expr::Name;
-use pli_meaning::typed::ReferMember;
+use pli_language::declaration::{Attribute, Bound, Extent, Size};
+use pli_language::expr::Name;
+use pli_typing::typed::ReferMember;
 use std::alloc::{AllocError, Global};
 
 /// An extent that a member keeps.

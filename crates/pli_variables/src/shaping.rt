@@ -1,9 +1,9 @@
 // How the shapes of what a block declares are made.
 
 ghost use Rattle.std.specs.Prelude.{◌≡◌, ◌-◌, [], map, slice_get, unwrap_or, IfOk};
-ghost use Rattle.pli_meaning.specs.TypedView.{part_of as part_typed, variable_of as variable_typed};
-ghost use Rattle.pli_meaning.specs.Variables.{is_structure, part_of};
-ghost use Rattle.pli_meaning.specs.View.{option_of};
+ghost use Rattle.pli_typing.specs.TypedView.{part_of as part_typed, variable_of as variable_typed};
+ghost use Rattle.pli_typing.specs.Variables.{is_structure, part_of};
+ghost use Rattle.pli_language.specs.View.{option_of};
 ghost use Rattle.pli_declare.specs.Shown.{held_of, what_of};
 ghost use Rattle.pli_variables.specs.Held.{groups_held};
 ghost use Rattle.pli_variables.specs.Rows.{blocks_shown};
@@ -19,7 +19,7 @@ use crate::shape::Shape;
 use crate::variable::{members_at, variable_among};
 use pli_declare::scope::{Held, What};
 use pli_declaring::held::stands_alone;
-use pli_meaning::typed::{Part, Variable};
+use pli_typing::typed::{Part, Variable};
 use std::alloc::{AllocError, Global};
 
 /// Which part a variable is of the one with these members.

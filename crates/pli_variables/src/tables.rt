@@ -1,11 +1,11 @@
 // The tables of a program, which are made once, so that each reference is looked up in constant time.
 
 ghost use Rattle.std.specs.Prelude.{◌≡◌, [], length, map, slice_get, unwrap_or, None, IfOk};
-ghost use Rattle.pli_meaning.specs.Calls.{block_of_procedure, parameter_indices, result_type};
-ghost use Rattle.pli_meaning.specs.Declaring.{names_of};
-ghost use Rattle.pli_meaning.specs.TypedView.{area_of, leaf_of as leaf_typed, leaf_type_of};
-ghost use Rattle.pli_meaning.specs.Variables.{area_found, area_named, declarations_at, head_of_block, leaves_of, level_of_block, name_means, type_of, variables_in, what_at};
-ghost use Rattle.pli_meaning.specs.View.{attribute_of, name_of, option_of, procedure_head_of};
+ghost use Rattle.pli_typing.specs.Calls.{block_of_procedure, parameter_indices, result_type};
+ghost use Rattle.pli_language.specs.Declaring.{names_of};
+ghost use Rattle.pli_typing.specs.TypedView.{area_of, leaf_of as leaf_typed, leaf_type_of};
+ghost use Rattle.pli_typing.specs.Variables.{area_found, area_named, declarations_at, head_of_block, leaves_of, level_of_block, name_means, type_of, variables_in, what_at};
+ghost use Rattle.pli_language.specs.View.{attribute_of, name_of, option_of, procedure_head_of};
 ghost use Rattle.pli_declare.specs.Shown.{held_of, what_of};
 ghost use Rattle.pli_variables.specs.BlockTables.{block_table, table_of, table_or, variable_shape};
 ghost use Rattle.pli_variables.specs.Held.{groups_held};
@@ -25,11 +25,11 @@ use crate::procedure::{block_of_procedure, returns_in};
 use crate::shape::Shape;
 use pli_declare::Scopes;
 use pli_declare::scope::{Held, What};
-use pli_meaning::declaration::Attribute;
-use pli_meaning::expr::Name;
-use pli_meaning::scope::{DeclarationAt, Found};
-use pli_meaning::stmt::ProcedureHead;
-use pli_meaning::typed::{Leaf, LeafType, Variable};
+use pli_language::declaration::Attribute;
+use pli_language::expr::Name;
+use pli_language::scope::{DeclarationAt, Found};
+use pli_language::stmt::ProcedureHead;
+use pli_typing::typed::{Leaf, LeafType, Variable};
 use std::alloc::{AllocError, Global};
 
 /// The scopes of a program, with what is looked up in them: the variable of level 1 that each declared variable is or belongs

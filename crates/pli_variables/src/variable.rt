@@ -1,10 +1,10 @@
 // The variable of level 1 that a variable is or belongs to.
 
 ghost use Rattle.std.specs.Prelude.{◌≡◌, ◌-◌, map, slice_get, unwrap_or, [], IfOk};
-ghost use Rattle.pli_meaning.specs.Declaring.{names_of};
-ghost use Rattle.pli_meaning.specs.TypedView.{class_of as class_typed, variable_of as variable_typed};
-ghost use Rattle.pli_meaning.specs.Variables.{begins_at, class_of, index_where, root_place};
-ghost use Rattle.pli_meaning.specs.View.{attribute_of, name_of, option_of};
+ghost use Rattle.pli_language.specs.Declaring.{names_of};
+ghost use Rattle.pli_typing.specs.TypedView.{class_of as class_typed, variable_of as variable_typed};
+ghost use Rattle.pli_typing.specs.Variables.{begins_at, class_of, index_where, root_place};
+ghost use Rattle.pli_language.specs.View.{attribute_of, name_of, option_of};
 ghost use Rattle.pli_declare.specs.Shown.{held_of, what_of};
 ghost use Rattle.pli_declare.specs.ShownBlocks.{block_of};
 ghost use Rattle.pli_variables.specs.Held.{groups_held};
@@ -14,9 +14,9 @@ use crate::members::is_at;
 use pli_declare::scope::{Block, Held, What};
 use pli_declaring::attribute::{Row, has};
 use pli_declaring::held::{is_parameter, root_of};
-use pli_meaning::declaration::Attribute;
-use pli_meaning::expr::{Name, Place};
-use pli_meaning::typed::{StorageClass, Variable};
+use pli_language::declaration::Attribute;
+use pli_language::expr::{Name, Place};
+use pli_typing::typed::{StorageClass, Variable};
 use std::alloc::{AllocError, Global};
 
 /// The variable of level 1 that is declared at this place.

@@ -3,10 +3,10 @@ use Rattle.std.proofs.Common.{◌≡◌, ℕ, suc, ◌+◌, ◌*◌, ◌^◌, �
 use Rattle.std.specs.Prelude.{nat_lt, cond}
 use Rattle.std.proofs.Math.Nat.{mul-le-mul_left}
 use Rattle.std.proofs.lemmas.Bool.{ltb-true, lt-ltb}
-use Rattle.pli_meaning.specs.declared.instr.Instr.{Instr}
-use Rattle.pli_meaning.specs.declared.instr.Instr.TheVariants as I
+use Rattle.rv_meaning.specs.declared.instr.Instr.{Instr}
+use Rattle.rv_meaning.specs.declared.instr.Instr.TheVariants as I
 use Rattle.pli_meaning.specs.declared.outcome.End.{End}
-use Rattle.pli_meaning.specs.Machine as M
+use Rattle.rv_meaning.specs.Machine as M
 use Rattle.pli_meaning.specs.World.{World, ending}
 use Rattle.pli_meaning.specs.Services.{Service, Answer, Done, Ends, Bad, serves, served, duty_of, acting}
 use Rattle.pli_meaning.specs.Storage.{State}

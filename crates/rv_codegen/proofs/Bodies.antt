@@ -2,9 +2,9 @@
 use Rattle.std.proofs.Common.{◌≡◌, ℕ, zero, suc, ◌+◌, ◌*◌, ◌^◌, ◌<◌, ◌≤◌, List, [], ◌∷◌, ◌++◌, length, Option, Some, None, Bool, true, false, refl, sym, ap, ◌∙◌, subst, arith, lit<, append-nil, length-append}
 use Rattle.std.specs.Prelude.{nat_le, if◌then◌else◌}
 use Rattle.std.proofs.lemmas.Bool.Decides.{nat_tests}
-use Rattle.pli_meaning.specs.declared.instr.Instr.{Instr}
-use Rattle.pli_meaning.specs.declared.expr.Place.{Place}
-use Rattle.pli_meaning.specs.Tree as T
+use Rattle.rv_meaning.specs.declared.instr.Instr.{Instr}
+use Rattle.pli_language.specs.declared.expr.Place.{Place}
+use Rattle.pli_language.specs.Tree as T
 use Rattle.pli_meaning.specs.Typed as Y
 use Rattle.pli_meaning.specs.Typed.{Variable, Number, FormatItem, FixedItem}
 use Rattle.pli_meaning.specs.Typing.{◌and_then◌, Scope, typed_reference, typed_expr, nesting, most_parentheses, typed_within, is_width, typed_format, pair_typed, typed_pair, typed_stmt, typed_items}

@@ -1,6 +1,6 @@
 -- Names are no more than a tree's weight.
 use Rattle.std.proofs.Common.{◌≡◌, suc, ap, ◌≤◌, List, [], ◌∷◌, length, map, refl, arith, length-append}
-use Rattle.pli_meaning.specs.Tree as T
+use Rattle.pli_language.specs.Tree as T
 use Rattle.rv_codegen.specs.Emitted.{declared_names, item_names, items_names}
 use Rattle.rv_codegen.specs.Weights.{declared_weight, item_weight, items_weight}
 

@@ -2,14 +2,15 @@
 use Rattle.std.proofs.Common.{◌≡◌, ℕ, suc, ◌+◌, ◌*◌, ◌^◌, ◌<◌, ◌≤◌, List, [], ◌∷◌, ◌++◌, length, Option, Some, None, Bool, true, false, refl, sym, ap, ◌∙◌, subst, arith, append-nil, length-append}
 use Rattle.std.specs.Prelude.{nat_lt, if◌then◌else◌}
 use Rattle.std.proofs.lemmas.Bool.Decides.{nat_tests}
-use Rattle.pli_meaning.specs.declared.instr.Instr.{Instr}
-use Rattle.pli_meaning.specs.declared.expr.PrefixOp.{PrefixOp}
-use Rattle.pli_meaning.specs.declared.expr.PrefixOp.TheVariants as P
-use Rattle.pli_meaning.specs.declared.expr.InfixOp.{InfixOp}
-use Rattle.pli_meaning.specs.declared.expr.InfixOp.TheVariants as O
-use Rattle.pli_meaning.specs.Keywords.{same_bytes}
-use Rattle.pli_meaning.specs.Numbers.{Sign, Positive, Negative, Operator, Add, Subtract}
-use Rattle.pli_meaning.specs.Tree as T
+use Rattle.rv_meaning.specs.declared.instr.Instr.{Instr}
+use Rattle.pli_language.specs.declared.expr.PrefixOp.{PrefixOp}
+use Rattle.pli_language.specs.declared.expr.PrefixOp.TheVariants as P
+use Rattle.pli_language.specs.declared.expr.InfixOp.{InfixOp}
+use Rattle.pli_language.specs.declared.expr.InfixOp.TheVariants as O
+use Rattle.pli_language.specs.Keywords.{same_bytes}
+use Rattle.pli_meaning.specs.Numbers.{Operator, Add, Subtract}
+use Rattle.pli_typing.specs.TypedTree.{Sign, Positive, Negative}
+use Rattle.pli_language.specs.Tree as T
 use Rattle.pli_meaning.specs.Typed.{Variable, Number, Constant, Fetched, Grouped, Signed, Operated}
 use Rattle.pli_meaning.specs.Typing.{◌and_then◌, Scope, index_of, variable_named, sign_of, operator_of, typed_reference, typed_expr}
 use Rattle.rv_codegen.specs.Registers.{a0_register, a1_register}

@@ -3,12 +3,12 @@ use Rattle.std.proofs.Common.{◌≡◌, ℕ, suc, ◌+◌, ◌*◌, ◌^◌, �
 use Rattle.std.specs.Prelude.{ℤ, cond, ◌==◌, ◌&&◌, nat_le, if◌then◌else◌}
 use Rattle.std.proofs.lemmas.Bool.{eq-eqb, le-leb}
 use Rattle.std.proofs.lemmas.Bool.Decides.{nat_tests}
-use Rattle.pli_meaning.specs.declared.instr.Instr.{Instr}
-use Rattle.pli_meaning.specs.declared.instr.Instr.TheVariants as I
-use Rattle.pli_meaning.specs.declared.instr.BranchTest.TheVariants as Test
-use Rattle.pli_meaning.specs.Words.{word}
-use Rattle.pli_meaning.specs.Memory.{load}
-use Rattle.pli_meaning.specs.Machine.{memory_size}
+use Rattle.rv_meaning.specs.declared.instr.Instr.{Instr}
+use Rattle.rv_meaning.specs.declared.instr.Instr.TheVariants as I
+use Rattle.rv_meaning.specs.declared.instr.BranchTest.TheVariants as Test
+use Rattle.rv_meaning.specs.Words.{word}
+use Rattle.rv_meaning.specs.Memory.{load}
+use Rattle.rv_meaning.specs.Machine.{memory_size}
 use Rattle.pli_meaning.specs.World.{counted, written}
 use Rattle.pli_meaning.specs.Stream.{fixed_field, with_field}
 use Rattle.pli_meaning.specs.Services as S

@@ -2,11 +2,11 @@
 use Rattle.std.proofs.Common.{◌≡◌, ℕ, zero, suc, ◌*◌, ◌^◌, ◌<◌, List, [], ◌∷◌, ◌++◌, map, refl, arith, lit<}
 use Rattle.std.specs.Prelude.{ℤ, pos, negsuc}
 use Rattle.std.proofs.lemmas.Int.{ints}
-use Rattle.pli_meaning.specs.declared.instr.Register.{Register}
-use Rattle.pli_meaning.specs.declared.instr.Instr.{Instr}
-use Rattle.pli_meaning.specs.Encoding.{IsWithin, word_of}
+use Rattle.rv_meaning.specs.declared.instr.Register.{Register}
+use Rattle.rv_meaning.specs.declared.instr.Instr.{Instr}
+use Rattle.rv_meaning.specs.Encoding.{IsWithin, word_of}
 use Rattle.pli_meaning.specs.Numbers.{Operator, Add, Subtract}
-use Rattle.pli_meaning.specs.Images.{AllInstructions}
+use Rattle.rv_meaning.specs.Images.{AllInstructions}
 use Rattle.rv_codegen.specs.Registers.{a0_register, a1_register}
 use Rattle.rv_codegen.specs.Code.{lower_part, large, slot_load, slot_store, call, checked_code, act_code, format_code, field_code, finish_code, small}
 use Rattle.rv_codegen.specs.Promise.{AllFit}

@@ -3,9 +3,9 @@ use Rattle.std.proofs.Common.{◌≡◌, ℕ, ◌+◌, ◌*◌, ◌^◌, ◌<◌
 use Rattle.std.specs.Prelude.{ℤ, pos, ◌-ℤ◌, ◌+ℤ◌, int_lt, ◌==◌}
 use Rattle.std.proofs.lemmas.Int.{ints}
 use Rattle.std.proofs.lemmas.Bool.Decides.{nat_tests}
-use Rattle.pli_meaning.specs.Words.{word, signed, sum, flag, operated}
+use Rattle.rv_meaning.specs.Words.{word, signed, sum, flag, operated}
 use Rattle.pli_meaning.specs.Numbers.{is_of_precision}
-use Rattle.pli_meaning.specs.declared.instr.RegisterOp.TheVariants as Op
+use Rattle.rv_meaning.specs.declared.instr.RegisterOp.TheVariants as Op
 use Rattle.rv_codegen.specs.Code.{upper_part, lower_part}
 
 -- a constant in two parts is the constant

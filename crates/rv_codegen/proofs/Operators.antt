@@ -1,13 +1,13 @@
 -- Operators: the code gives the value of the definition, or raises where it doesn't fit.
 use Rattle.std.proofs.Common.{◌≡◌, ℕ, suc, ◌+◌, ◌*◌, ◌^◌, ◌<◌, ◌≤◌, List, [], ◌∷◌, ◌++◌, length, Bool, true, false, refl, ap, ◌∙◌, subst, arith}
 use Rattle.std.specs.Prelude.{ℤ, pos, cond, ◌==◌, int_lt}
-use Rattle.pli_meaning.specs.declared.condition.Condition.TheVariants as C
-use Rattle.pli_meaning.specs.declared.instr.Instr.{Instr}
-use Rattle.pli_meaning.specs.declared.instr.Instr.TheVariants as I
-use Rattle.pli_meaning.specs.declared.instr.BranchTest.TheVariants as Test
-use Rattle.pli_meaning.specs.declared.instr.ImmediateOp.TheVariants as Imm
-use Rattle.pli_meaning.specs.declared.instr.RegisterOp.TheVariants as Op
-use Rattle.pli_meaning.specs.Words.{word, signed, sum, flag, operated}
+use Rattle.pli_language.specs.declared.condition.Condition.TheVariants as C
+use Rattle.rv_meaning.specs.declared.instr.Instr.{Instr}
+use Rattle.rv_meaning.specs.declared.instr.Instr.TheVariants as I
+use Rattle.rv_meaning.specs.declared.instr.BranchTest.TheVariants as Test
+use Rattle.rv_meaning.specs.declared.instr.ImmediateOp.TheVariants as Imm
+use Rattle.rv_meaning.specs.declared.instr.RegisterOp.TheVariants as Op
+use Rattle.rv_meaning.specs.Words.{word, signed, sum, flag, operated}
 use Rattle.pli_meaning.specs.Numbers.{is_of_precision, wrapped, Gives, Raises, Operator, Add, Subtract, operator_result, operator_applied}
 use Rattle.pli_meaning.specs.Services.{Service}
 use Rattle.pli_meaning.specs.Storage.{State}

@@ -4,14 +4,14 @@ use Rattle.std.specs.Prelude.{◌==◌, if◌then◌else◌}
 use Rattle.std.proofs.Math.Nat.{mul-le-mul_left}
 use Rattle.std.proofs.lemmas.Bool.{eqb-true}
 use Rattle.std.proofs.lemmas.Bool.Decides.{nat_tests}
-use Rattle.pli_meaning.specs.declared.instr.Instr.{Instr}
-use Rattle.pli_meaning.specs.Words.{word, sum}
-use Rattle.pli_meaning.specs.Memory.{load, store}
-use Rattle.pli_meaning.specs.Machine.{memory_size}
+use Rattle.rv_meaning.specs.declared.instr.Instr.{Instr}
+use Rattle.rv_meaning.specs.Words.{word, sum}
+use Rattle.rv_meaning.specs.Memory.{load, store}
+use Rattle.rv_meaning.specs.Machine.{memory_size}
 use Rattle.pli_meaning.specs.Services.{Service}
 use Rattle.pli_meaning.specs.Headline.{Whole}
 use Rattle.pli_meaning.proofs.Engine.{Base, HasAt, address, Path, WordAt, most_code, passes}
-use Rattle.pli_meaning.proofs.MemoryLaws.{length-store, load-store_same, load-store_other}
+use Rattle.rv_meaning.proofs.MemoryLaws.{length-store, load-store_same, load-store_other}
 use Rattle.rv_codegen.specs.Registers.{a0_register, a1_register}
 use Rattle.rv_codegen.specs.Code.{small, large, upper_part, lower_part, slot_bytes, slot_load, slot_store, frame_offset}
 use Rattle.rv_codegen.proofs.Numbers.{large_sum, slot_sum}

@@ -1,7 +1,7 @@
 -- The place of a name in a scope.
 use Rattle.std.proofs.Common.{◌≡◌, ℕ, zero, suc, ◌+◌, ◌<◌, List, [], ◌∷◌, length, map, take, get_or, Option, Some, None, Bool, true, false, refl, sym, ap, ◌∙◌, arith}
 use Rattle.std.specs.Prelude.{if◌then◌else◌}
-use Rattle.pli_meaning.specs.Keywords.{same_bytes}
+use Rattle.pli_language.specs.Keywords.{same_bytes}
 use Rattle.pli_meaning.specs.Typing.{◌and_then◌, index_of}
 
 -- the front of the list has no such name, and the next one is it

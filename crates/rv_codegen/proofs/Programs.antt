@@ -1,13 +1,13 @@
 -- Whole programs: the code does what the program means, with any number of acts allowed.
 use Rattle.std.proofs.Common.{◌≡◌, ℕ, zero, suc, ◌+◌, ◌-◌, ◌*◌, ◌/◌, ◌^◌, ◌<◌, ◌≤◌, List, [], ◌∷◌, ◌++◌, length, replicate, map, Option, None, refl, sym, ap, ◌∙◌, subst, arith, lit<, length-append, add-one}
 use Rattle.std.specs.Prelude.{pos, slice_index}
-use Rattle.pli_meaning.specs.declared.instr.Instr.{Instr}
-use Rattle.pli_meaning.specs.declared.instr.Instr.TheVariants as I
+use Rattle.rv_meaning.specs.declared.instr.Instr.{Instr}
+use Rattle.rv_meaning.specs.declared.instr.Instr.TheVariants as I
 use Rattle.pli_meaning.specs.declared.outcome.End.TheVariants as E
-use Rattle.pli_meaning.specs.Words.{sum}
-use Rattle.pli_meaning.specs.Memory.{load, bytes_of_words}
-use Rattle.pli_meaning.specs.Encoding.{word_of}
-use Rattle.pli_meaning.specs.Machine.{memory_size}
+use Rattle.rv_meaning.specs.Words.{sum}
+use Rattle.rv_meaning.specs.Memory.{load, bytes_of_words}
+use Rattle.rv_meaning.specs.Encoding.{word_of}
+use Rattle.rv_meaning.specs.Machine.{memory_size}
 use Rattle.pli_meaning.specs.World.{counted, ending}
 use Rattle.pli_meaning.specs.Services as S
 use Rattle.pli_meaning.specs.Services.{Service, first_service, Answer, Done, Ends, Bad}

@@ -1,7 +1,7 @@
 -- From one place of a run to another, at every base at once. Instructions are paid by credits: an index of the code is
 -- worth itself, an act twice the code and 2.
 use Rattle.std.proofs.Common.{◌≡◌, ℕ, suc, ◌+◌, ◌*◌, ◌≤◌, List, length, Option, Some, None, refl, ap, ◌∙◌, arith}
-use Rattle.pli_meaning.specs.declared.instr.Instr.{Instr}
+use Rattle.rv_meaning.specs.declared.instr.Instr.{Instr}
 use Rattle.pli_meaning.specs.Services.{Service}
 use Rattle.pli_meaning.specs.Storage.{State}
 use Rattle.pli_meaning.specs.Flow as F

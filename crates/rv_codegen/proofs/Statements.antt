@@ -1,7 +1,7 @@
 -- Lists of statements.
 use Rattle.std.proofs.Common.{◌≡◌, ℕ, ◌+◌, ◌^◌, ◌<◌, ◌≤◌, List, [], ◌∷◌, ◌++◌, length, refl, sym, ap, ◌∙◌, subst, arith, length-append}
 use Rattle.std.specs.Prelude.{ℤ}
-use Rattle.pli_meaning.specs.declared.instr.Instr.{Instr}
+use Rattle.rv_meaning.specs.declared.instr.Instr.{Instr}
 use Rattle.pli_meaning.specs.World.{counted}
 use Rattle.pli_meaning.specs.Services.{Service, EditPlace}
 use Rattle.pli_meaning.specs.Typed.{Number, FormatItem, FixedItem, EditPair, Stmt, Null, Assign, Put, Stmts, NoStmt, StmtThen}

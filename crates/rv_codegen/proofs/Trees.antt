@@ -1,16 +1,16 @@
 -- The code of a whole tree as it is written is that of its typed program, and keeps the promise.
 use Rattle.std.proofs.Common.{◌≡◌, ℕ, ◌+◌, ◌*◌, ◌^◌, ◌<◌, ◌≤◌, List, [], ◌∷◌, ◌++◌, length, map, replicate, Option, Some, None, Bool, true, false, refl, sym, ap, ◌∙◌, subst, arith, lit<, append-nil, append_assoc, length-append}
 use Rattle.std.specs.Prelude.{vec_len}
-use Rattle.pli_meaning.specs.declared.instr.Instr.{Instr}
-use Rattle.pli_meaning.specs.declared.expr.Place.{Place}
-use Rattle.pli_meaning.specs.Tree as T
+use Rattle.rv_meaning.specs.declared.instr.Instr.{Instr}
+use Rattle.pli_language.specs.declared.expr.Place.{Place}
+use Rattle.pli_language.specs.Tree as T
 use Rattle.pli_meaning.specs.Typed as Y
 use Rattle.pli_meaning.specs.Typed.{Program, BlockHead, BlockOf}
 use Rattle.pli_meaning.specs.Typing.{◌and_then◌, Scope, index_of, wide_fixed, with_name, with_names, is_wide_fixed, item_declared, with_declared, main_program, typed_items, typed_body, typed_procedure, typed_tree}
 use Rattle.pli_meaning.specs.Headline.{Headline}
-use Rattle.pli_meaning.specs.Encoding.{word_of}
+use Rattle.rv_meaning.specs.Encoding.{word_of}
 use Rattle.rv_isa.specs.declared.code.Code.{Code}
-use Rattle.pli_meaning.specs.Images.{image, IsLoadable}
+use Rattle.rv_meaning.specs.Images.{image, IsLoadable}
 use Rattle.rv_codegen.specs.Code.{first_variable, act_code, stmts_code, finish_code, frame_code, block_code, program_code}
 use Rattle.rv_codegen.specs.Emitted.{items_put, declared_names, items_names, body_put, procedures_put}
 use Rattle.rv_codegen.specs.Promise.{most_words, AllFit, picture_of, IsCodeOf}

@@ -4,10 +4,11 @@ use Rattle.std.specs.Prelude.{ℤ, pos, ◌-ℤ◌, neg_ℤ, cond, ◌==◌, if�
 use Rattle.std.proofs.lemmas.Int.{ints}
 use Rattle.std.proofs.lemmas.Bool.{eq-eqb}
 use Rattle.std.proofs.lemmas.Bool.Decides.{nat_tests}
-use Rattle.pli_meaning.specs.declared.condition.Condition.TheVariants as C
-use Rattle.pli_meaning.specs.declared.instr.Instr.{Instr}
-use Rattle.pli_meaning.specs.Words.{word}
-use Rattle.pli_meaning.specs.Numbers.{wrapped, Gives, Raises, checked, Positive, Negative, Operator, Add, Subtract, sign_applied, operator_applied}
+use Rattle.pli_language.specs.declared.condition.Condition.TheVariants as C
+use Rattle.rv_meaning.specs.declared.instr.Instr.{Instr}
+use Rattle.rv_meaning.specs.Words.{word}
+use Rattle.pli_meaning.specs.Numbers.{wrapped, Gives, Raises, checked, Operator, Add, Subtract, sign_applied, operator_applied}
+use Rattle.pli_typing.specs.TypedTree.{Positive, Negative}
 use Rattle.pli_meaning.specs.Services.{Service}
 use Rattle.pli_meaning.specs.Typed.{Variable, Number, Constant, Fetched, Grouped, Signed, Operated}
 use Rattle.pli_meaning.specs.Storage.{State, Generation, VariableName, generation_of, named, number_in}

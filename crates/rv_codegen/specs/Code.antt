@@ -1,15 +1,16 @@
 -- The code of a typed program, for the programs that are compiled so far. A frame holds the format list in use, the
 -- variables, and behind them the operands that wait, a word each. Code runs forward only.
 use Rattle.std.specs.Prelude.{ℕ, suc, ◌+◌, ◌*◌, ◌/◌, ◌^◌, ℤ, pos, ◌-ℤ◌, List, [], ◌∷◌, ◌++◌, length}
-use Rattle.pli_meaning.specs.declared.instr.Register.{Register}
-use Rattle.pli_meaning.specs.declared.instr.Instr.{Instr}
-use Rattle.pli_meaning.specs.declared.instr.Instr.TheVariants as I
-use Rattle.pli_meaning.specs.declared.instr.ImmediateOp.TheVariants as Imm
-use Rattle.pli_meaning.specs.declared.instr.RegisterOp.TheVariants as Op
-use Rattle.pli_meaning.specs.declared.instr.LoadKind.TheVariants as Load
-use Rattle.pli_meaning.specs.declared.instr.StoreKind.TheVariants as Store
-use Rattle.pli_meaning.specs.declared.instr.BranchTest.TheVariants as Test
-use Rattle.pli_meaning.specs.Numbers.{Positive, Negative, Operator, Add, Subtract}
+use Rattle.rv_meaning.specs.declared.instr.Register.{Register}
+use Rattle.rv_meaning.specs.declared.instr.Instr.{Instr}
+use Rattle.rv_meaning.specs.declared.instr.Instr.TheVariants as I
+use Rattle.rv_meaning.specs.declared.instr.ImmediateOp.TheVariants as Imm
+use Rattle.rv_meaning.specs.declared.instr.RegisterOp.TheVariants as Op
+use Rattle.rv_meaning.specs.declared.instr.LoadKind.TheVariants as Load
+use Rattle.rv_meaning.specs.declared.instr.StoreKind.TheVariants as Store
+use Rattle.rv_meaning.specs.declared.instr.BranchTest.TheVariants as Test
+use Rattle.pli_meaning.specs.Numbers.{Operator, Add, Subtract}
+use Rattle.pli_typing.specs.TypedTree.{Positive, Negative}
 use Rattle.pli_meaning.specs.Typed.{Number, Constant, Fetched, Grouped, Signed, Operated, FormatItem, FixedItem, EditPair, Stmt, Null, Assign, Put, Stmts, NoStmt, StmtThen, Block, BlockOf, Program}
 use Rattle.rv_codegen.specs.Registers.{zero_register, scratch_register, frame_register, a0_register, a1_register, a2_register, a3_register, a4_register, a7_register}
 

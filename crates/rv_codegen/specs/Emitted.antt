@@ -1,13 +1,13 @@
 -- The code of a tree as it is written, which is that of its typed program where it has one.
 use Rattle.std.specs.Prelude.{ℕ, ◌+◌, ◌^◌, List, [], ◌∷◌, ◌++◌, map, length, Option, Some, None, nat_lt, pos, ◌==◌, ◌&&◌, if◌then◌else◌}
-use Rattle.pli_meaning.specs.declared.instr.Instr.{Instr}
-use Rattle.pli_meaning.specs.declared.instr.Instr.TheVariants as I
-use Rattle.pli_meaning.specs.declared.instr.ImmediateOp.TheVariants as Imm
-use Rattle.pli_meaning.specs.declared.expr.PrefixOp.{PrefixOp}
-use Rattle.pli_meaning.specs.declared.expr.PrefixOp.TheVariants as P
-use Rattle.pli_meaning.specs.declared.expr.InfixOp.{InfixOp}
-use Rattle.pli_meaning.specs.declared.expr.InfixOp.TheVariants as O
-use Rattle.pli_meaning.specs.Tree as T
+use Rattle.rv_meaning.specs.declared.instr.Instr.{Instr}
+use Rattle.rv_meaning.specs.declared.instr.Instr.TheVariants as I
+use Rattle.rv_meaning.specs.declared.instr.ImmediateOp.TheVariants as Imm
+use Rattle.pli_language.specs.declared.expr.PrefixOp.{PrefixOp}
+use Rattle.pli_language.specs.declared.expr.PrefixOp.TheVariants as P
+use Rattle.pli_language.specs.declared.expr.InfixOp.{InfixOp}
+use Rattle.pli_language.specs.declared.expr.InfixOp.TheVariants as O
+use Rattle.pli_language.specs.Tree as T
 use Rattle.pli_meaning.specs.Typing.{Scope, index_of, is_width}
 use Rattle.pli_meaning.specs.Numbers.{Add, Subtract}
 use Rattle.rv_codegen.specs.Registers.{a0_register, a1_register, a2_register, a3_register, a4_register}

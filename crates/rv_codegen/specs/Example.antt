@@ -1,8 +1,8 @@
 -- A program without statements, P: PROCEDURE OPTIONS(MAIN); END;
 use Rattle.std.specs.Prelude.{[], ◌∷◌}
-use Rattle.pli_meaning.specs.declared.expr.Place.{Place}
-use Rattle.pli_meaning.specs.declared.token.Word.TheVariants as W
-use Rattle.pli_meaning.specs.Tree as T
+use Rattle.pli_language.specs.declared.expr.Place.{Place}
+use Rattle.pli_language.specs.declared.token.Word.TheVariants as W
+use Rattle.pli_language.specs.Tree as T
 
 abbrev pub first_place : Place
 first_place = record { line = 1; column = 1 }

@@ -1,11 +1,11 @@
 -- What is promised of code that is generated.
 use Rattle.std.specs.Prelude.{◌≡◌, ℕ, ◌+◌, ◌*◌, ◌≤◌, List, [], ◌∷◌, length, map, vec_len}
-use Rattle.pli_meaning.specs.declared.instr.Instr.{Instr}
-use Rattle.pli_meaning.specs.Encoding.{word_of, Fits}
+use Rattle.rv_meaning.specs.declared.instr.Instr.{Instr}
+use Rattle.rv_meaning.specs.Encoding.{word_of, Fits}
 use Rattle.pli_meaning.specs.Typed.{Program}
 use Rattle.pli_meaning.specs.Headline.{Picture, Headline}
 use Rattle.rv_isa.specs.declared.code.Code.{Code}
-use Rattle.pli_meaning.specs.Images.{image, IsLoadable}
+use Rattle.rv_meaning.specs.Images.{image, IsLoadable}
 use Rattle.rv_codegen.specs.Code.{program_code}
 
 -- each instruction's fields hold its operands

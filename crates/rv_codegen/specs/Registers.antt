@@ -1,6 +1,6 @@
 -- The registers that the code uses, by what they hold.
 use Rattle.std.proofs.Common.{lit<}
-use Rattle.pli_meaning.specs.declared.instr.Register.{Register}
+use Rattle.rv_meaning.specs.declared.instr.Register.{Register}
 
 -- always 0
 abbrev pub zero_register : Register

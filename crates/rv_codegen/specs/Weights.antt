@@ -1,6 +1,6 @@
 -- How much of a tree is compiled: its expressions' nodes, its statements and its declared names.
 use Rattle.std.specs.Prelude.{ℕ, ◌+◌, ◌<◌, ◌^◌, List, [], ◌∷◌, length}
-use Rattle.pli_meaning.specs.Tree as T
+use Rattle.pli_language.specs.Tree as T
 
 abbrev pub expr_weight : T.Expr → ℕ
 expr_weight (T.Parenthesized e place) = 1 + expr_weight e

@@ -1,9 +1,9 @@
 // The code of expressions, whose values come in a0.
 
 ghost use Rattle.std.specs.Prelude.{◌≡◌, ◌+◌, ◌^◌, ◌<◌, ◌≤◌, [], ◌∷◌, ◌++◌, length, map, OnOk};
-ghost use Rattle.pli_meaning.specs.declared.instr.Instr.TheVariants as I;
+ghost use Rattle.rv_meaning.specs.declared.instr.Instr.TheVariants as I;
 ghost use Rattle.pli_meaning.specs.Numbers.{Add, Subtract};
-ghost use Rattle.pli_meaning.specs.View.{expr_of, reference_of};
+ghost use Rattle.pli_language.specs.View.{expr_of, reference_of};
 ghost use Rattle.rv_codegen.specs.Code.{checked_code, operator_code};
 ghost use Rattle.rv_codegen.specs.Emitted.{right_test, check_code, constant_code, prefix_code, infix_code, expr_code, fetch_code, index_at};
 ghost use Rattle.rv_codegen.specs.Weights.{expr_weight};
@@ -14,8 +14,8 @@ use crate::parts::{
     put, put_large, put_overflow, put_skip, put_slot_load, put_slot_store, put_small,
 };
 use crate::registers::{a0, a1, a2, a3, a4};
-use pli_meaning::expr::{Expr, InfixOp, PrefixOp, Reference};
-use pli_meaning::instr::{ImmediateOp, Instr, Register, RegisterOp};
+use pli_language::expr::{Expr, InfixOp, PrefixOp, Reference};
+use rv_meaning::instr::{ImmediateOp, Instr, Register, RegisterOp};
 use std::alloc::AllocError;
 
 fn put_constant(code: &mut Vec<Instr>, value: u64) -> Result<(), AllocError>
@@ -132,7 +132,7 @@ fn put_fetch(
 }
 
 // An expression, where so many slots are taken. What has no type has no code.
-#[tactic(auto, unfolding(pli_meaning::specs::View::expr_of))]
+#[tactic(auto, unfolding(pli_language::specs::View::expr_of))]
 pub(crate) fn put_expr(
     code: &mut Vec<Instr>,
     scope: &[&[u8]],

@@ -1,10 +1,10 @@
 // The code of a program.
 
 ghost use Rattle.std.specs.Prelude.{◌≡◌, ◌+◌, ◌^◌, ◌<◌, ◌≤◌, [], ◌∷◌, ◌++◌, length, map, IfOk, OnOk, Some};
-ghost use Rattle.pli_meaning.specs.Encoding.{word_of};
+ghost use Rattle.rv_meaning.specs.Encoding.{word_of};
 ghost use Rattle.pli_meaning.specs.Typed.{Program};
 ghost use Rattle.pli_meaning.specs.Typing.{typed};
-ghost use Rattle.pli_meaning.specs.View.{item_of, items_of, tree_of};
+ghost use Rattle.pli_language.specs.View.{item_of, items_of, tree_of};
 ghost use Rattle.rv_codegen.specs.Code.{finish_code};
 ghost use Rattle.rv_codegen.specs.Emitted.{body_put, items_names, procedure_put, procedures_put};
 ghost use Rattle.rv_codegen.specs.Promise.{AllFit, IsCodeOf};
@@ -14,10 +14,10 @@ use crate::names::add_items;
 use crate::parts::{put, put_call, put_small};
 use crate::statement::{put_act, put_items};
 use crate::{frame, registers, service};
-use pli_meaning::instr::Instr;
-use pli_meaning::stmt::{Item, Items, Tree};
+use pli_language::stmt::{Item, Items, Tree};
 use rv_isa::code::Code;
 use rv_isa::encode::encode;
+use rv_meaning::instr::Instr;
 use std::alloc::{AllocError, Global};
 use thiserror::Error;
 
@@ -70,7 +70,7 @@ fn put_body(alloc: Global, code: &mut Vec<Instr>, line: u32, body: &Items) -> Re
     put_finish(code)
 }
 
-#[tactic(auto, using(crate::proofs::Counts::names_few), unfolding(pli_meaning::specs::View::item_of))]
+#[tactic(auto, using(crate::proofs::Counts::names_few), unfolding(pli_language::specs::View::item_of))]
 fn put_procedure(alloc: Global, code: &mut Vec<Instr>, item: &Item) -> Result<(), AllocError>
     requires small { item_weight (item_of item.now) ≤ 10000 }
     requires lines_small { ItemLines (item_of item.now) }
@@ -82,7 +82,7 @@ fn put_procedure(alloc: Global, code: &mut Vec<Instr>, item: &Item) -> Result<()
     }
 }
 
-#[tactic(auto, unfolding(pli_meaning::specs::View::items_of))]
+#[tactic(auto, unfolding(pli_language::specs::View::items_of))]
 fn instructions(alloc: Global, procedures: &Items) -> Result<Vec<Instr>, AllocError>
     requires small { items_weight (items_of procedures.now) ≤ 10000 }
     requires lines_small { SmallLines (items_of procedures.now) }

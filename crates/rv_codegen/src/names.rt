@@ -1,14 +1,14 @@
 // The names that are declared, in order.
 
 ghost use Rattle.std.specs.Prelude.{◌≡◌, ◌<◌, ◌++◌, length, map, MatchOption, OnOk};
-ghost use Rattle.pli_meaning.specs.Keywords.{same_bytes};
+ghost use Rattle.pli_language.specs.Keywords.{same_bytes};
 ghost use Rattle.pli_meaning.specs.Typing.{index_of};
-ghost use Rattle.pli_meaning.specs.View.{reference_of, declared_name_of, declare_item_of, item_of, items_of};
+ghost use Rattle.pli_language.specs.View.{reference_of, declared_name_of, declare_item_of, item_of, items_of};
 ghost use Rattle.rv_codegen.specs.Emitted.{index_at, declared_names, item_names, items_names};
 
-use pli_meaning::declaration::{DeclareItem, DeclaredName};
-use pli_meaning::expr::{Arguments, Qualified, Reference};
-use pli_meaning::stmt::{Item, Items};
+use pli_language::declaration::{DeclareItem, DeclaredName};
+use pli_language::expr::{Arguments, Qualified, Reference};
+use pli_language::stmt::{Item, Items};
 use std::alloc::AllocError;
 
 fn same(name: &[u8], letters: &[u8]) -> bool
@@ -31,7 +31,7 @@ fn position(scope: &[&[u8]], letters: &[u8]) -> Option<usize>
 }
 
 // The place of the variable that is referred to.
-#[tactic(auto, using(pli_meaning::proofs::Views::views))]
+#[tactic(auto, using(pli_language::proofs::Views::views))]
 pub(crate) fn position_of(scope: &[&[u8]], reference: &Reference) -> Option<usize>
     ensures value { result ≡ index_at (map (λ n. n.now) scope.now) (reference_of reference.now) }
     ensures below { MatchOption result (Unit {0}) (λ i. i < length scope.now) }
@@ -69,7 +69,7 @@ fn add_declared<'a>(
     Ok(())
 }
 
-#[tactic(auto, unfolding(pli_meaning::specs::View::item_of))]
+#[tactic(auto, unfolding(pli_language::specs::View::item_of))]
 fn add_item<'a>(scope: &mut Vec<&'a [u8]>, item: &'a Item) -> Result<(), AllocError>
     ensures { OnOk result (map (λ n. n.now) scope.new.items ≡ map (λ n. n.now) scope.old.items ++ item_names (item_of item.now)) }
 {
@@ -80,7 +80,7 @@ fn add_item<'a>(scope: &mut Vec<&'a [u8]>, item: &'a Item) -> Result<(), AllocEr
 }
 
 // The names that a body declares.
-#[tactic(auto, unfolding(pli_meaning::specs::View::items_of))]
+#[tactic(auto, unfolding(pli_language::specs::View::items_of))]
 pub(crate) fn add_items<'a>(scope: &mut Vec<&'a [u8]>, items: &'a Items) -> Result<(), AllocError>
     ensures { OnOk result (map (λ n. n.now) scope.new.items ≡ map (λ n. n.now) scope.old.items ++ items_names (items_of items.now)) }
 {

@@ -4,7 +4,7 @@ ghost use Rattle.std.specs.Prelude.{◌≡◌, ◌+◌, ◌^◌, ◌<◌, ◌≤
 ghost use Rattle.rv_codegen.specs.Code.{small, upper_part, lower_part, large, slot_address, slot_load, slot_store, call, error_code, overflow_code, skip_if_equal};
 
 use crate::{registers, service};
-use pli_meaning::instr::{
+use rv_meaning::instr::{
     BranchTest, ImmediateOp, Instr, LoadKind, Register, RegisterOp, StoreKind,
 };
 use std::alloc::AllocError;

@@ -3,7 +3,7 @@
 ghost use Rattle.std.specs.Prelude.{◌≡◌};
 ghost use Rattle.rv_codegen.specs.Registers.{zero_register, scratch_register, frame_register, a0_register, a1_register, a2_register, a3_register, a4_register, a7_register};
 
-use pli_meaning::instr::Register;
+use rv_meaning::instr::Register;
 
 pub(crate) fn zero() -> Register
     ensures { result ≡ zero_register }

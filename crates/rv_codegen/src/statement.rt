@@ -1,7 +1,7 @@
 // The code of statements.
 
 ghost use Rattle.std.specs.Prelude.{◌≡◌, ◌+◌, ◌^◌, ◌<◌, ◌≤◌, [], ◌∷◌, ◌++◌, length, map, MatchOption, None, OnOk, Some, ◌==◌, ◌&&◌, if◌then◌else◌};
-ghost use Rattle.pli_meaning.specs.View.{expr_of, exprs_of, edit_pair_of, formats_of, reference_of, stmt_of, item_of, items_of};
+ghost use Rattle.pli_language.specs.View.{expr_of, exprs_of, edit_pair_of, formats_of, reference_of, stmt_of, item_of, items_of};
 ghost use Rattle.pli_meaning.specs.Typing.{is_width};
 ghost use Rattle.rv_codegen.specs.Code.{act_code, format_code, field_code};
 ghost use Rattle.rv_codegen.specs.Emitted.{one_item, index_at, store_code, width_of, field_put, single_put, pair_put, pairs_put, stmt_put, item_put, items_put};
@@ -11,9 +11,9 @@ use crate::expression::put_expr;
 use crate::names::position_of;
 use crate::parts::{put, put_call, put_error, put_large, put_skip, put_slot_store, put_small};
 use crate::{frame, registers, service};
-use pli_meaning::expr::{Expr, Exprs, Reference};
-use pli_meaning::instr::Instr;
-use pli_meaning::stmt::{EditPair, Format, Formats, Item, Items, Stmt};
+use pli_language::expr::{Expr, Exprs, Reference};
+use pli_language::stmt::{EditPair, Format, Formats, Item, Items, Stmt};
+use rv_meaning::instr::Instr;
 use std::alloc::AllocError;
 
 // The act of a statement or an entry.
@@ -80,7 +80,7 @@ fn put_edited(
     put_call(code, service::FINISH_EDIT)
 }
 
-#[tactic(auto, unfolding(pli_meaning::specs::View::exprs_of))]
+#[tactic(auto, unfolding(pli_language::specs::View::exprs_of))]
 fn put_single(
     code: &mut Vec<Instr>,
     scope: &[&[u8]],
@@ -114,7 +114,7 @@ fn in_width(repetition: u64, width: u64) -> Option<u32>
 }
 
 // The width of a format list of one F(width).
-#[tactic(auto, unfolding(pli_meaning::specs::View::formats_of))]
+#[tactic(auto, unfolding(pli_language::specs::View::formats_of))]
 fn width_of(formats: &Formats) -> Option<u32>
     ensures value { result ≡ width_of (formats_of formats.now) }
     ensures narrow { MatchOption result (Unit {0}) (λ w. w < 2048) }
@@ -177,7 +177,7 @@ fn put_store(code: &mut Vec<Instr>, scope: &[&[u8]], target: &Reference) -> Resu
     }
 }
 
-#[tactic(auto, unfolding(pli_meaning::specs::View::stmt_of))]
+#[tactic(auto, unfolding(pli_language::specs::View::stmt_of))]
 fn put_stmt(
     code: &mut Vec<Instr>,
     scope: &[&[u8]],
@@ -207,7 +207,7 @@ fn put_stmt(
     }
 }
 
-#[tactic(auto, unfolding(pli_meaning::specs::View::item_of))]
+#[tactic(auto, unfolding(pli_language::specs::View::item_of))]
 fn put_item(
     code: &mut Vec<Instr>,
     scope: &[&[u8]],
@@ -226,7 +226,7 @@ fn put_item(
 }
 
 // The statements of a body. Names and procedures have no code of their own there.
-#[tactic(auto, unfolding(pli_meaning::specs::View::items_of))]
+#[tactic(auto, unfolding(pli_language::specs::View::items_of))]
 pub(crate) fn put_items(
     code: &mut Vec<Instr>,
     scope: &[&[u8]],

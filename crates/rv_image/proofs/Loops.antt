@@ -1,6 +1,6 @@
 -- Reading one thing after the other, as loops do.
 use Rattle.std.proofs.Common.{◌≡◌, ℕ, suc, ◌+◌, ◌-◌, ◌<◌, ◌≤◌, List, Bool, true, false, cond, Option, Some, None, refl, ap, sym, ◌∙◌, arith}
-use Rattle.pli_meaning.specs.Tables.{Shape, stands}
+use Rattle.rv_meaning.specs.Tables.{Shape, stands}
 use Rattle.rv_image.specs.Reading.{◌>>=◌, pair_from, pairs_from, leaf_from, leaves_from}
 
 -- so many were counted before

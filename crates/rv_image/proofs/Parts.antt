@@ -1,10 +1,10 @@
 -- The parts of an image among its bytes, by its header.
 use Rattle.std.proofs.Common.{◌≡◌, ℕ, ◌+◌, ◌-◌, ◌*◌, ◌%◌, ◌<◌, ◌≤◌, ◌↔◌, List, [], ◌++◌, append_assoc, length, take, drop, refl, ap, sym, subst, ◌∙◌, arith}
-use Rattle.pli_meaning.specs.declared.image.ImageFault.{ImageFault}
-use Rattle.pli_meaning.specs.declared.image.ImageFault.TheVariants as F
-use Rattle.pli_meaning.specs.Memory.{load, bytes_of_words}
-use Rattle.pli_meaning.specs.Images.{Image, image, IsInstruction, AllInstructions, AreBelow, HasBytes, words_at, statics_length, table_length, statics_start, table_start, image_in, Keeps}
-use Rattle.pli_meaning.proofs.ImageBytes.{length-words_at, same_image, image_forth}
+use Rattle.rv_meaning.specs.declared.image.ImageFault.{ImageFault}
+use Rattle.rv_meaning.specs.declared.image.ImageFault.TheVariants as F
+use Rattle.rv_meaning.specs.Memory.{load, bytes_of_words}
+use Rattle.rv_meaning.specs.Images.{Image, image, IsInstruction, AllInstructions, AreBelow, HasBytes, words_at, statics_length, table_length, statics_start, table_start, image_in, Keeps}
+use Rattle.rv_meaning.proofs.ImageBytes.{length-words_at, same_image, image_forth}
 use Rattle.rv_image.specs.declared.header.Header.{Header}
 use Rattle.rv_image.specs.Headers.{header_statics, header_table, header_end, IsHeaderOf, IsChecked, IsRefusal, IsFaultOf, out_of_memory}
 use Rattle.rv_image.specs.Reading.{words_of}

@@ -1,9 +1,9 @@
 -- Refusals, the least first.
 use Rattle.std.proofs.Common.{◌≡◌, ℕ, suc, ◌<◌, ◌==◌, List, ◌⊎◌, inl, inr, refl, ap, sym, subst, ◌∙◌, arith}
 use Rattle.std.specs.Prelude.{if◌then◌else◌}
-use Rattle.pli_meaning.specs.declared.image.ImageFault.{ImageFault}
-use Rattle.pli_meaning.specs.declared.image.ImageFault.TheVariants as F
-use Rattle.pli_meaning.specs.Images.{Keeps, fault_number}
+use Rattle.rv_meaning.specs.declared.image.ImageFault.{ImageFault}
+use Rattle.rv_meaning.specs.declared.image.ImageFault.TheVariants as F
+use Rattle.rv_meaning.specs.Images.{Keeps, fault_number}
 
 -- the rules of lesser numbers are kept
 abbrev pub KeptBelow : ℕ → List ℕ → Type 0

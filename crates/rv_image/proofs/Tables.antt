@@ -2,9 +2,9 @@
 use Rattle.std.proofs.Common.{◌≡◌, ℕ, zero, suc, ◌+◌, ◌<◌, ◌≤◌, List, [], ◌∷◌, ◌++◌, length, Bool, true, false, cond, Option, Some, None, refl, ap, sym, subst, ◌∙◌, arith, append_assoc, length-append, ◌⊎◌, inl, inr, eqb}
 use Rattle.std.proofs.lemmas.Bool.{eqb-true, le-leb, leb-true}
 use Rattle.std.specs.Prelude.{IsTrue, nat_le, ◌&&◌}
-use Rattle.pli_meaning.specs.declared.image.TableKind.{TableKind}
-use Rattle.pli_meaning.specs.declared.image.TableKind.TheVariants as K
-use Rattle.pli_meaning.specs.Tables.{Pair, TableLeaf, TableSignature, kind_number, pairs_words, leaf_words, leaves_words, signature_words, table_words, size_fits, is_run_time, pair_fits, PairsFit, run_time_pairs, Shape, shape_of, stands, LeavesFit, head_fits, IsSignature, AreSignatures, IsTable}
+use Rattle.rv_meaning.specs.declared.image.TableKind.{TableKind}
+use Rattle.rv_meaning.specs.declared.image.TableKind.TheVariants as K
+use Rattle.rv_meaning.specs.Tables.{Pair, TableLeaf, TableSignature, kind_number, pairs_words, leaf_words, leaves_words, signature_words, table_words, size_fits, is_run_time, pair_fits, PairsFit, run_time_pairs, Shape, shape_of, stands, LeavesFit, head_fits, IsSignature, AreSignatures, IsTable}
 use Rattle.rv_image.specs.Reading.{◌>>=◌, word_from, pair_from, pairs_from, kind_from, leaf_from, leaves_from, signature_from}
 
 -- the value of a step that gave one

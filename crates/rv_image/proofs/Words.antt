@@ -1,8 +1,8 @@
 -- Words in parts of bytes.
 use Rattle.std.proofs.Common.{◌≡◌, ℕ, zero, suc, ◌+◌, ◌*◌, ◌/◌, ◌<◌, ◌≤◌, List, [], ◌∷◌, ◌++◌, length, take, drop, get_or, refl, ap, sym, ◌∙◌, arith, length-drop}
 use Rattle.std.proofs.lemmas.List.{get_or-drop, get_or-take, length-take}
-use Rattle.pli_meaning.specs.Memory.{load, bytes_of_word, bytes_of_words}
-use Rattle.pli_meaning.specs.Images.{words_at}
+use Rattle.rv_meaning.specs.Memory.{load, bytes_of_word, bytes_of_words}
+use Rattle.rv_meaning.specs.Images.{words_at}
 use Rattle.rv_image.specs.Reading.{words_of}
 
 load-drop : (n : ℕ) (b : List ℕ) (k at : ℕ) → load n (drop k b) at ≡ load n b (k + at)

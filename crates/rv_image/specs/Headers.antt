@@ -1,8 +1,8 @@
 -- What is read before an image's parts, and what is found of its bytes.
 use Rattle.std.specs.Prelude.{◌≡◌, ◌≢◌, ℕ, ◌+◌, ◌*◌, List, length}
-use Rattle.pli_meaning.specs.declared.image.ImageFault.{ImageFault}
-use Rattle.pli_meaning.specs.declared.image.ImageFault.TheVariants as F
-use Rattle.pli_meaning.specs.Images.{Image, HasBytes, entry_in, code_length, statics_length, table_length, Keeps, IsRefused}
+use Rattle.rv_meaning.specs.declared.image.ImageFault.{ImageFault}
+use Rattle.rv_meaning.specs.declared.image.ImageFault.TheVariants as F
+use Rattle.rv_meaning.specs.Images.{Image, HasBytes, entry_in, code_length, statics_length, table_length, Keeps, IsRefused}
 use Rattle.rv_image.specs.declared.header.Header.{Header}
 
 abbrev pub header_statics : Header → ℕ

@@ -1,9 +1,9 @@
 -- What is read from the words of a table, and the words behind; none where they begin with nothing of the kind.
 use Rattle.std.specs.Prelude.{◌≡◌, ℕ, zero, suc, ◌+◌, ◌/◌, List, [], ◌∷◌, length, Bool, ◌&&◌, ◌==◌, nat_le, if◌then◌else◌, Option, Some, None}
-use Rattle.pli_meaning.specs.declared.image.TableKind.{TableKind}
-use Rattle.pli_meaning.specs.declared.image.TableKind.TheVariants as K
-use Rattle.pli_meaning.specs.Images.{words_at}
-use Rattle.pli_meaning.specs.Tables.{Shape, size_fits, pair_fits, is_run_time, stands, head_fits}
+use Rattle.rv_meaning.specs.declared.image.TableKind.{TableKind}
+use Rattle.rv_meaning.specs.declared.image.TableKind.TheVariants as K
+use Rattle.rv_meaning.specs.Images.{words_at}
+use Rattle.rv_meaning.specs.Tables.{Shape, size_fits, pair_fits, is_run_time, stands, head_fits}
 
 infixl 10 ◌>>=◌
 abbrev pub ◌>>=◌ : {A B : Type 0} → Option A → (A → Option B) → Option B

@@ -1,5 +1,5 @@
 -- A leaf of the code as the table's rules see it.
-use Rattle.pli_meaning.specs.Tables.{Shape}
+use Rattle.rv_meaning.specs.Tables.{Shape}
 use Rattle.rv_image.specs.declared.leaf.Leaf.{Leaf}
 
 abbrev pub shape : Leaf → Shape

@@ -1,15 +1,15 @@
 // What stands before the parts of an image, and whether bytes are those of one.
 
 ghost use Rattle.std.specs.Prelude.{◌≡◌, ◌+◌, ◌*◌, ◌^◌, ◌<◌, ◌≤◌, ◌↔◌, ◌%◌, length, IsTrue, MatchResult};
-ghost use Rattle.pli_meaning.specs.declared.image.ImageFault.TheVariants as F;
-ghost use Rattle.pli_meaning.specs.Tables.{IsTable};
-ghost use Rattle.pli_meaning.specs.Images.{AllInstructions, words_at, table_start, table_length, code_length, entry_in, LengthsFit, Keeps};
+ghost use Rattle.rv_meaning.specs.declared.image.ImageFault.TheVariants as F;
+ghost use Rattle.rv_meaning.specs.Tables.{IsTable};
+ghost use Rattle.rv_meaning.specs.Images.{AllInstructions, words_at, table_start, table_length, code_length, entry_in, LengthsFit, Keeps};
 ghost use Rattle.rv_image.specs.Headers.{IsHeaderOf, IsChecked, IsRefusal, header_statics, header_table, header_end};
 
 use crate::table::is_table;
 use crate::word::word_at;
-use pli_meaning::image::ImageFault;
 use rv_isa::decode::decode;
+use rv_meaning::image::ImageFault;
 
 /// The bytes `PLIR`, as a word.
 pub const MAGIC: u32 = 0x5249_4c50;

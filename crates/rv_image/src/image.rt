@@ -1,16 +1,16 @@
 // Programs as a machine takes them, and their bytes.
 
 ghost use Rattle.std.specs.Prelude.{◌≡◌, ℕ, ◌+◌, ◌*◌, ◌↔◌, IsTrue, length, vec_len, MatchResult};
-ghost use Rattle.pli_meaning.specs.declared.image.ImageFault.TheVariants.{Memory};
-ghost use Rattle.pli_meaning.specs.Images.{Image, image, IsLoadable, AllInstructions, HasBytes};
+ghost use Rattle.rv_meaning.specs.declared.image.ImageFault.TheVariants.{Memory};
+ghost use Rattle.rv_meaning.specs.Images.{Image, image, IsLoadable, AllInstructions, HasBytes};
 ghost use Rattle.rv_image.specs.Headers.{IsFaultOf};
 
 use crate::header::{CODE_START, checked};
 use crate::word::words_at;
 use crate::writing::written;
-use pli_meaning::image::ImageFault;
 use rv_isa::code::Code;
 use rv_isa::decode::decode;
+use rv_meaning::image::ImageFault;
 use std::alloc::Global;
 use std::marker::Model;
 

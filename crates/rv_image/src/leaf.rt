@@ -1,12 +1,12 @@
 // The leaves of the signatures in a table, read from its words.
 
 ghost use Rattle.std.specs.Prelude.{◌≡◌, ◌+◌, ◌<◌, ◌≤◌, suc, if◌then◌else◌};
-ghost use Rattle.pli_meaning.specs.Tables.{size_fits, is_run_time, pair_fits, has_one_extent, stands};
+ghost use Rattle.rv_meaning.specs.Tables.{size_fits, is_run_time, pair_fits, has_one_extent, stands};
 ghost use Rattle.rv_image.specs.Reading.{Gives, words_of, word_from, pair_from, pairs_from, kind_from, leaf_from};
 ghost use Rattle.rv_image.specs.Shapes.{shape};
 
 use crate::word::word_at;
-use pli_meaning::image::TableKind;
+use rv_meaning::image::TableKind;
 
 /// The size of a length or a capacity that is known only when the program runs.
 const RUN_TIME: u32 = u32::MAX;

@@ -1,7 +1,7 @@
 // Whether words are a list of signatures.
 
 ghost use Rattle.std.specs.Prelude.{◌≡◌, ◌↔◌, ◌%◌, length, IsTrue};
-ghost use Rattle.pli_meaning.specs.Tables.{IsTable, head_fits};
+ghost use Rattle.rv_meaning.specs.Tables.{IsTable, head_fits};
 ghost use Rattle.rv_image.specs.Reading.{Gives, words_of, leaves_from, signature_from};
 
 use crate::leaf::{leaf_of, word_of};

@@ -1,8 +1,8 @@
 // Words among bytes, the lowest byte first.
 
 ghost use Rattle.std.specs.Prelude.{◌≡◌, ℕ, ◌+◌, ◌*◌, ◌≤◌, ◌<◌, ◌++◌, length, slice_index, IfOk, OnOk};
-ghost use Rattle.pli_meaning.specs.Memory.{load, bytes_of_word, bytes_of_words};
-ghost use Rattle.pli_meaning.specs.Images.{words_at};
+ghost use Rattle.rv_meaning.specs.Memory.{load, bytes_of_word, bytes_of_words};
+ghost use Rattle.rv_meaning.specs.Images.{words_at};
 
 use byteorder::{ByteOrder, LittleEndian};
 use std::alloc::{AllocError, Global};

@@ -1,8 +1,8 @@
 // The bytes of an image, part by part.
 
 ghost use Rattle.std.specs.Prelude.{◌≡◌, ◌*◌, ◌^◌, ◌≤◌, ◌++◌, [], ◌∷◌, length, IfOk, OnOk};
-ghost use Rattle.pli_meaning.specs.Memory.{bytes_of_words};
-ghost use Rattle.pli_meaning.specs.Images.{magic, version, image, image_bytes, AreBelow};
+ghost use Rattle.rv_meaning.specs.Memory.{bytes_of_words};
+ghost use Rattle.rv_meaning.specs.Images.{magic, version, image, image_bytes, AreBelow};
 
 use crate::header::{MAGIC, VERSION};
 use crate::word::{push_word, push_words};

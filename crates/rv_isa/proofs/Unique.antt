@@ -3,22 +3,22 @@ use Rattle.std.proofs.Common.{lit<, ◌≡◌, ◌≢◌, ℕ, ◌%◌, ◌^◌,
 use Rattle.std.specs.Coded.{le_prop}
 use Rattle.std.specs.Prelude.{ℤ, pos, negsuc}
 use Rattle.std.specs.Int.{w32, cast_unsigned}
-use Rattle.pli_meaning.specs.declared.instr.Register.{Register}
-use Rattle.pli_meaning.specs.declared.instr.RegisterOp.{RegisterOp}
-use Rattle.pli_meaning.specs.declared.instr.RegisterOp.TheVariants as Op
-use Rattle.pli_meaning.specs.declared.instr.ImmediateOp.{ImmediateOp}
-use Rattle.pli_meaning.specs.declared.instr.ImmediateOp.TheVariants as Imm
-use Rattle.pli_meaning.specs.declared.instr.ShiftOp.{ShiftOp}
-use Rattle.pli_meaning.specs.declared.instr.ShiftOp.TheVariants as Shift
-use Rattle.pli_meaning.specs.declared.instr.BranchTest.{BranchTest}
-use Rattle.pli_meaning.specs.declared.instr.BranchTest.TheVariants as Test
-use Rattle.pli_meaning.specs.declared.instr.LoadKind.{LoadKind}
-use Rattle.pli_meaning.specs.declared.instr.LoadKind.TheVariants as Load
-use Rattle.pli_meaning.specs.declared.instr.StoreKind.{StoreKind}
-use Rattle.pli_meaning.specs.declared.instr.StoreKind.TheVariants as Store
-use Rattle.pli_meaning.specs.declared.instr.Instr.{Instr}
-use Rattle.pli_meaning.specs.declared.instr.Instr.TheVariants as I
-use Rattle.pli_meaning.specs.Encoding.{spelled, format_i, word_of, Fits, IsWithin, branch_funct3, load_funct3, store_funct3, immediate_funct3, shift_funct3, shift_funct7, register_funct3, register_funct7}
+use Rattle.rv_meaning.specs.declared.instr.Register.{Register}
+use Rattle.rv_meaning.specs.declared.instr.RegisterOp.{RegisterOp}
+use Rattle.rv_meaning.specs.declared.instr.RegisterOp.TheVariants as Op
+use Rattle.rv_meaning.specs.declared.instr.ImmediateOp.{ImmediateOp}
+use Rattle.rv_meaning.specs.declared.instr.ImmediateOp.TheVariants as Imm
+use Rattle.rv_meaning.specs.declared.instr.ShiftOp.{ShiftOp}
+use Rattle.rv_meaning.specs.declared.instr.ShiftOp.TheVariants as Shift
+use Rattle.rv_meaning.specs.declared.instr.BranchTest.{BranchTest}
+use Rattle.rv_meaning.specs.declared.instr.BranchTest.TheVariants as Test
+use Rattle.rv_meaning.specs.declared.instr.LoadKind.{LoadKind}
+use Rattle.rv_meaning.specs.declared.instr.LoadKind.TheVariants as Load
+use Rattle.rv_meaning.specs.declared.instr.StoreKind.{StoreKind}
+use Rattle.rv_meaning.specs.declared.instr.StoreKind.TheVariants as Store
+use Rattle.rv_meaning.specs.declared.instr.Instr.{Instr}
+use Rattle.rv_meaning.specs.declared.instr.Instr.TheVariants as I
+use Rattle.rv_meaning.specs.Encoding.{spelled, format_i, word_of, Fits, IsWithin, branch_funct3, load_funct3, store_funct3, immediate_funct3, shift_funct3, shift_funct7, register_funct3, register_funct7}
 
 -- the operation of a funct3, and of a funct7 and a funct3 joined
 abbrev test_of : ℕ → BranchTest

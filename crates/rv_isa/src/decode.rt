@@ -2,12 +2,12 @@
 
 ghost use Rattle.std.specs.Prelude.{◌≡◌, ℕ, ◌+◌, ◌-◌, ◌*◌, ◌/◌, ◌%◌, ◌^◌, ◌<◌, ◌≤◌, ℤ, pos, negsuc, nat_lt, if◌then◌else◌, ◌⊎◌, IfSome, IfNone, Option, Some};
 ghost use Rattle.std.specs.Int.{w32, cast_unsigned};
-ghost use Rattle.pli_meaning.specs.declared.instr.Instr.{Instr};
-ghost use Rattle.pli_meaning.specs.Encoding.{part, word_of, Fits, IsWithin, IsEven};
+ghost use Rattle.rv_meaning.specs.declared.instr.Instr.{Instr};
+ghost use Rattle.rv_meaning.specs.Encoding.{part, word_of, Fits, IsWithin, IsEven};
 
 use crate::fields;
 use crate::fields::field;
-use pli_meaning::instr::{
+use rv_meaning::instr::{
     BranchTest, ImmediateOp, Instr, LoadKind, Register, RegisterOp, ShiftOp, StoreKind,
 };
 

@@ -2,11 +2,11 @@
 
 ghost use Rattle.std.specs.Prelude.{◌≡◌, ℕ, ◌+◌, ◌*◌, ◌/◌, ◌%◌, ◌^◌, ◌<◌, ◌≤◌};
 ghost use Rattle.std.specs.Int.{w32, cast_unsigned};
-ghost use Rattle.pli_meaning.specs.Encoding.{spelled, part, format_r, format_i, format_s, format_b, format_u, format_j, format_shift, word_of, Fits};
+ghost use Rattle.rv_meaning.specs.Encoding.{spelled, part, format_r, format_i, format_s, format_b, format_u, format_j, format_shift, word_of, Fits};
 
 use crate::fields;
 use crate::fields::field;
-use pli_meaning::instr::{Instr, Register};
+use rv_meaning::instr::{Instr, Register};
 
 /// The word of an instruction whose fields hold its operands.
 pub fn encode(instr: Instr) -> u32

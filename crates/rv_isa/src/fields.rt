@@ -1,9 +1,9 @@
 // The fixed fields of each format, and a field of a word by its place.
 
 ghost use Rattle.std.specs.Prelude.{◌≡◌, ℕ, ◌+◌, ◌*◌, ◌/◌, ◌%◌, ◌^◌, ◌<◌, ◌≤◌};
-ghost use Rattle.pli_meaning.specs.Encoding as encoding;
+ghost use Rattle.rv_meaning.specs.Encoding as encoding;
 
-use pli_meaning::instr::{BranchTest, ImmediateOp, LoadKind, RegisterOp, ShiftOp, StoreKind};
+use rv_meaning::instr::{BranchTest, ImmediateOp, LoadKind, RegisterOp, ShiftOp, StoreKind};
 
 pub const LOAD_UPPER: u32 = 0b0110111;
 

@@ -2,9 +2,9 @@
 
 ghost use Rattle.std.specs.Prelude.{◌≡◌, ℕ, ◌*ℤ◌, ◌==◌, ◌<◌, ◌↔◌, IsTrue, pos, FitsSigned};
 ghost use Rattle.std.specs.Int.{w64};
-ghost use Rattle.pli_meaning.specs.Words as words;
+ghost use Rattle.rv_meaning.specs.Words as words;
 
-use pli_meaning::instr::{BranchTest, ImmediateOp, RegisterOp, ShiftOp};
+use rv_meaning::instr::{BranchTest, ImmediateOp, RegisterOp, ShiftOp};
 
 pub fn operated(op: RegisterOp, a: u32, b: u32) -> u32
     ensures { result ≡ words.operated op a b }

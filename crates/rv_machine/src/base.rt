@@ -1,7 +1,7 @@
 // Where a program can be placed.
 
 ghost use Rattle.std.specs.Prelude.{◌↔◌, IsTrue};
-ghost use Rattle.pli_meaning.specs.Machine.{IsValidBase};
+ghost use Rattle.rv_meaning.specs.Machine.{IsValidBase};
 
 /// Whether `base` is a multiple of 4,096 with 16 MiB of addresses from it on.
 pub fn valid_base(base: u32) -> bool

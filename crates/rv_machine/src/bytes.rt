@@ -1,7 +1,7 @@
 // Numbers of several bytes in a run of bytes, the lowest byte first.
 
 ghost use Rattle.std.specs.Prelude.{◌≡◌, ℕ, ◌+◌, ◌^◌, ◌<◌, ◌≤◌, length};
-ghost use Rattle.pli_meaning.specs.Memory as memory;
+ghost use Rattle.rv_meaning.specs.Memory as memory;
 
 pub fn load8(bytes: &[u8], at: usize) -> u8
     requires { at < length bytes.now }

@@ -1,7 +1,7 @@
 // What a machine calls at an ECALL.
 
 ghost use Rattle.std.specs.Prelude.{◌≡◌, ℕ, List, length, slice_index};
-ghost use Rattle.pli_meaning.specs.Machine.{memory_size};
+ghost use Rattle.rv_meaning.specs.Machine.{memory_size};
 
 use crate::storage::Storage;
 

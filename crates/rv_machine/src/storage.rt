@@ -1,7 +1,7 @@
 // The memory of a machine as a list of bytes.
 
 ghost use Rattle.std.specs.Prelude.{◌≡◌, ℕ, ◌+◌, ◌<◌, ◌≤◌, ◌++◌, List, length, take, drop, replicate, IfOk};
-ghost use Rattle.pli_meaning.specs.Memory as memory;
+ghost use Rattle.rv_meaning.specs.Memory as memory;
 
 use crate::bytes;
 use std::alloc::{AllocError, Global};

@@ -1,7 +1,7 @@
 use Rattle.std.proofs.Common.{◌≡◌, [], ◌∷◌, ◌++◌, sym, subst, ap, ◌∙◌, ◌<◌, length, arith, is_ok}
 use Rattle.std.proofs.ResultArms.{chosen}
 use Rattle.std.proofs.lemmas.List.{take_rest}
-use Rattle.pli_meaning.specs.Tokens.{most_tokens}
+use Rattle.pli_language.specs.Tokens.{most_tokens}
 use Rattle.pli_lex.specs.Faults.{IsFaultOf}
 use Rattle.pli_lex.specs.Pieces.{IsTokenOf, IsRefusedAt}
 use Rattle.pli_lex.proofs.Reading.{Progress, progress_start, separator_behind, token_behind, progress_fault, progress_many, source_fault}

@@ -1,6 +1,6 @@
 use Rattle.std.proofs.Common.{◌≡◌, subst, sym, ◌∙◌}
-use Rattle.pli_meaning.specs.Images.{Image}
-use Rattle.pli_meaning.proofs.ImageBytes.{image_back}
+use Rattle.rv_meaning.specs.Images.{Image}
+use Rattle.rv_meaning.proofs.ImageBytes.{image_back}
 use Rattle.pli_compile.specs.Compiling.{IsCompiled}
 use Rattle.pli.proofs.Answered.{answered}
 use Rattle.pli.proofs.Filing.{pictured}

@@ -1,5 +1,5 @@
 use Rattle.std.proofs.Common.{length, map}
-use Rattle.pli_meaning.specs.View.{attribute_of}
+use Rattle.pli_language.specs.View.{attribute_of}
 use Rattle.pli_phrase.specs.View.{cursor_of}
 use Rattle.pli_attributes.specs.Reading.{attributes_from}
 use Rattle.pli_attributes.proofs.Loops.{OnAttributes}

@@ -1,5 +1,5 @@
 use Rattle.std.proofs.Common.{length, map}
-use Rattle.pli_meaning.specs.View.{initial_item_of}
+use Rattle.pli_language.specs.View.{initial_item_of}
 use Rattle.pli_phrase.specs.View.{cursor_of}
 use Rattle.pli_attributes.specs.Reading.{initial_item_from, initial_items_from}
 use Rattle.pli_attributes.proofs.Loops.{OnList}

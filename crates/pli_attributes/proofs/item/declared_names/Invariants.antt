@@ -1,5 +1,5 @@
 use Rattle.std.proofs.Common.{length, map}
-use Rattle.pli_meaning.specs.View.{declared_name_of}
+use Rattle.pli_language.specs.View.{declared_name_of}
 use Rattle.pli_phrase.specs.View.{cursor_of}
 use Rattle.pli_attributes.specs.Reading.{declared_name_from, declared_names_from}
 use Rattle.pli_attributes.proofs.Loops.{OnList}

@@ -1,8 +1,8 @@
 use Rattle.std.proofs.Common.{◌≡◌}
 use Rattle.std.specs.Prelude.{map}
 use Rattle.std.specs.Vec.Iter.{into_iter_items, into_iter_len}
-use Rattle.pli_meaning.specs.Builtins.{number_list}
-use Rattle.pli_meaning.specs.TypedView.{number_of}
+use Rattle.pli_typing.specs.Builtins.{number_list}
+use Rattle.pli_typing.specs.TypedView.{number_of}
 use Rattle.pli_operand.specs.Notes.{noted}
 use Rattle.pli_operand.specs.Shown.{notes_of, operand_of}
 use Rattle.pli_builtin.specs.Parts.{numbers_onto}

@@ -1,7 +1,7 @@
 use Rattle.std.proofs.Common.{◌≡◌, vec_len}
 use Rattle.std.specs.Prelude.{map}
-use Rattle.pli_meaning.specs.TypedTree as Y
-use Rattle.pli_meaning.specs.TypedView.{number_of, numbers_of}
+use Rattle.pli_typing.specs.TypedTree as Y
+use Rattle.pli_typing.specs.TypedView.{number_of, numbers_of}
 use Rattle.pli_builtin.specs.Parts.{numbers_onto}
 use Rattle.pli_builtin.proofs.numbers.numbers_in.Given as goal
 

@@ -1,9 +1,9 @@
 use Rattle.std.proofs.Common.{arith, ◌≡◌, map, length, refl, sym, ap, ◌∙◌, subst, List, [], ◌∷◌, ◌++◌, ℕ, Ok}
 use Rattle.std.proofs.lemmas.Result.{err_from_is_err_and}
 use Rattle.std.proofs.lemmas.List.{map_push, length-map}
-use Rattle.pli_meaning.specs.View.{name_of}
-use Rattle.pli_meaning.specs.Tree as T
-use Rattle.pli_meaning.specs.declared.token.Token.{Token}
+use Rattle.pli_language.specs.View.{name_of}
+use Rattle.pli_language.specs.Tree as T
+use Rattle.pli_language.specs.declared.token.Token.{Token}
 use Rattle.pli_phrase.specs.Cursor.{Cursor}
 use Rattle.pli_phrase.specs.Answers.{Fails}
 use Rattle.pli_phrase.specs.View.{cursor_of}

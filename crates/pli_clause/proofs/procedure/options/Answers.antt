@@ -1,8 +1,8 @@
 use Rattle.std.proofs.Common.{arith, ◌≡◌, map, refl, sym, ap, ◌∙◌, subst, List, [], ◌∷◌, ◌++◌, ℕ}
 use Rattle.std.proofs.lemmas.Result.{err_from_is_err_and}
 use Rattle.std.proofs.lemmas.List.{map_push}
-use Rattle.pli_meaning.specs.View.{procedure_option_of}
-use Rattle.pli_meaning.specs.Tree as T
+use Rattle.pli_language.specs.View.{procedure_option_of}
+use Rattle.pli_language.specs.Tree as T
 use Rattle.pli_phrase.specs.Cursor.{Cursor}
 use Rattle.pli_phrase.specs.View.{cursor_of}
 use Rattle.pli_clause.specs.Reading.{option_from, options_from}

@@ -1,5 +1,5 @@
 use Rattle.std.proofs.Common.{length, map}
-use Rattle.pli_meaning.specs.View.{procedure_option_of}
+use Rattle.pli_language.specs.View.{procedure_option_of}
 use Rattle.pli_phrase.specs.View.{cursor_of}
 use Rattle.pli_clause.specs.Reading.{options_from}
 use Rattle.pli_clause.proofs.Loops.{OnOptions}

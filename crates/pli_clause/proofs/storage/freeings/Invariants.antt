@@ -1,5 +1,5 @@
 use Rattle.std.proofs.Common.{length, map}
-use Rattle.pli_meaning.specs.View.{freeing_of}
+use Rattle.pli_language.specs.View.{freeing_of}
 use Rattle.pli_phrase.specs.View.{cursor_of}
 use Rattle.pli_clause.specs.Reading.{freeing_from, freeings_from}
 use Rattle.pli_attributes.proofs.Loops.{OnList}

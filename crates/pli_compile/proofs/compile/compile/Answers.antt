@@ -1,6 +1,6 @@
 use Rattle.std.proofs.Common.{sym, subst, arith}
 use Rattle.std.proofs.lemmas.Result.{err_from_is_err_and}
-use Rattle.pli_meaning.specs.Tokens.{Tokens}
+use Rattle.pli_language.specs.Tokens.{Tokens}
 use Rattle.pli_compile.specs.Compiling.{IsCompiled}
 use Rattle.pli_compile.proofs.Measures.{tree_weighs, lines_small, tokens_small}
 use Rattle.pli_compile.proofs.Compiled.{compiled, tree_refused, declarations_refused, types_refused, judged_refused}

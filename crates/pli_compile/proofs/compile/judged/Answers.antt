@@ -1,5 +1,5 @@
 use Rattle.std.proofs.Common.{◌∙◌, sym, inr}
-use Rattle.pli_meaning.specs.View.{tree_of}
+use Rattle.pli_language.specs.View.{tree_of}
 use Rattle.pli_compile.proofs.Compiled.{has_procedure}
 use Rattle.pli_compile.proofs.Typed.{uncompiled_none}
 use Rattle.pli_compile.proofs.compile.judged.Goals as goal

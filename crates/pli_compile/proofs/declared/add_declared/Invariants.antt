@@ -1,6 +1,6 @@
 use Rattle.std.proofs.Common.{◌≡◌, map, drop}
 use Rattle.pli_meaning.specs.Typing.{with_declared}
-use Rattle.pli_meaning.specs.View.{declare_item_of}
+use Rattle.pli_language.specs.View.{declare_item_of}
 use Rattle.pli_compile.proofs.declared.add_declared.Given as goal
 
 abbrev pub invariant-loop-item : goal.invariant-loop-item

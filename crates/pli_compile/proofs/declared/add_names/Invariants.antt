@@ -1,6 +1,6 @@
 use Rattle.std.proofs.Common.{◌≡◌, map, drop}
 use Rattle.pli_meaning.specs.Typing.{with_names}
-use Rattle.pli_meaning.specs.View.{declared_name_of}
+use Rattle.pli_language.specs.View.{declared_name_of}
 use Rattle.pli_compile.proofs.declared.add_names.Given as goal
 
 abbrev pub invariant-loop-declared : goal.invariant-loop-declared

@@ -1,5 +1,5 @@
 use Rattle.std.proofs.Common.{◌≡◌, [], map}
-use Rattle.pli_meaning.specs.View.{items_of}
+use Rattle.pli_language.specs.View.{items_of}
 use Rattle.pli_compile.specs.Uncompiled as Uncompiled
 use Rattle.pli_compile.proofs.uncompiled.uncompiled_body.Given as goal
 

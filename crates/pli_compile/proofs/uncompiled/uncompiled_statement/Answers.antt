@@ -1,7 +1,7 @@
 use Rattle.std.proofs.Common.{◌∙◌, sym, ap, map, Some}
 use Rattle.pli_meaning.specs.Typing.{Scope, typed_stmt}
-use Rattle.pli_meaning.specs.Tree as T
-use Rattle.pli_meaning.specs.View.{stmt_of}
+use Rattle.pli_language.specs.Tree as T
+use Rattle.pli_language.specs.View.{stmt_of}
 use Rattle.pli_compile.specs.Uncompiled.{stmt_place}
 use Rattle.pli_compile.proofs.Types.{statement_is, typed_none, untyped_some}
 use Rattle.pli_compile.proofs.uncompiled.uncompiled_statement.Goals as goal

@@ -1,5 +1,5 @@
 use Rattle.std.proofs.Common.{◌≡◌, map, drop, filter}
-use Rattle.pli_meaning.specs.declared.scope.Found.TheVariants as F
+use Rattle.pli_language.specs.declared.scope.Found.TheVariants as F
 use Rattle.pli_declare.specs.Among.{full_at, part_at, going, letters_of}
 use Rattle.pli_declare.specs.Shown.{declaration_of}
 use Rattle.pli_declare.proofs.among.among.Given as goal

@@ -1,6 +1,6 @@
 use Rattle.std.proofs.Common.{◌≡◌, ◌++◌, map, length, ◌≤◌}
-use Rattle.pli_meaning.specs.Declarations.{blocks_in}
-use Rattle.pli_meaning.specs.View.{items_of}
+use Rattle.pli_language.specs.Declarations.{blocks_in}
+use Rattle.pli_language.specs.View.{items_of}
 use Rattle.pli_declare.specs.ShownBlocks.{block_of}
 use Rattle.pli_declare.proofs.Weights.{stmt_weight, item_weight, items_weight}
 use Rattle.pli_declare.proofs.blocks.+blocks.Given as goal

@@ -1,6 +1,6 @@
 use Rattle.std.proofs.Common.{◌≡◌, List, ◌∷◌, [], ◌++◌, ◌+◌, map, take, length, sym, ap, ◌∙◌, subst}
 use Rattle.std.proofs.lemmas.List.{take_all}
-use Rattle.pli_meaning.specs.Declarations.{Declaration}
+use Rattle.pli_language.specs.Declarations.{Declaration}
 use Rattle.pli_declare.specs.Index.{IsIndex, places_at}
 use Rattle.pli_declare.specs.Shown.{declaration_of}
 use Rattle.pli_declare.proofs.Chains.{take_here}

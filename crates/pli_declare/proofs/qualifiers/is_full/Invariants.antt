@@ -1,5 +1,5 @@
 use Rattle.std.proofs.Common.{◌≡◌, map, drop}
-use Rattle.pli_meaning.specs.Means.{same_names}
+use Rattle.pli_language.specs.Means.{same_names}
 use Rattle.pli_declare.specs.Among.{letters_of, names_above}
 use Rattle.pli_declare.specs.Shown.{variable_of}
 use Rattle.pli_declare.proofs.qualifiers.is_full.Given as goal

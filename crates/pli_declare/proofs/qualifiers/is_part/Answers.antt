@@ -1,6 +1,6 @@
 use Rattle.std.proofs.Common.{◌≡◌, ◌∷◌, ◌+◌, List, ℕ, drop, sym, ap, ◌∙◌}
 use Rattle.std.proofs.lemmas.List.{drop_all}
-use Rattle.pli_meaning.specs.Means.{is_part}
+use Rattle.pli_language.specs.Means.{is_part}
 use Rattle.pli_declare.specs.Among.{letters_of}
 use Rattle.pli_declare.proofs.Parts.{above_of, above_here, part_end}
 use Rattle.pli_declare.proofs.qualifiers.is_part.Goals as goal

@@ -1,5 +1,5 @@
 use Rattle.std.proofs.Common.{◌≡◌, ◌≤◌, length, map, drop}
-use Rattle.pli_meaning.specs.Means.{is_part}
+use Rattle.pli_language.specs.Means.{is_part}
 use Rattle.pli_declare.specs.Among.{letters_of, names_above}
 use Rattle.pli_declare.specs.Shown.{variable_of}
 use Rattle.pli_declare.proofs.qualifiers.is_part.Given as goal

@@ -1,9 +1,9 @@
 use Rattle.std.proofs.Common.{◌+◌, map, drop, get_or, sym, ap, ◌∙◌}
 use Rattle.std.proofs.lemmas.List.{drop_all}
-use Rattle.pli_meaning.specs.Means.{means_from}
+use Rattle.pli_language.specs.Means.{means_from}
 use Rattle.pli_declare.specs.Among.{letters_of}
 use Rattle.pli_declare.specs.ShownBlocks.{block_of}
-use Rattle.pli_meaning.specs.declared.scope.Found.TheVariants as F
+use Rattle.pli_language.specs.declared.scope.Found.TheVariants as F
 use Rattle.pli_declare.proofs.Choices.{around_found, around_ended, number_here}
 use Rattle.pli_declare.proofs.scopes.found_around.Goals as goal
 

@@ -1,5 +1,5 @@
 use Rattle.std.proofs.Common.{◌≡◌, map, drop}
-use Rattle.pli_meaning.specs.Means.{means_from}
+use Rattle.pli_language.specs.Means.{means_from}
 use Rattle.pli_declare.specs.Among.{letters_of}
 use Rattle.pli_declare.specs.ShownBlocks.{block_of}
 use Rattle.pli_declare.proofs.scopes.found_around.Given as goal

@@ -1,6 +1,6 @@
 use Rattle.std.proofs.Common.{◌≡◌, ◌++◌, ◌∷◌, [], List, map, length, ap, ◌∙◌}
-use Rattle.pli_meaning.specs.View.{items_of}
-use Rattle.pli_meaning.specs.Declarations.{Block, blocks_of, blocks_in}
+use Rattle.pli_language.specs.View.{items_of}
+use Rattle.pli_language.specs.Declarations.{Block, blocks_of, blocks_in}
 use Rattle.pli_declare.specs.declared.scope.Block.{Block as BlockHeld}
 use Rattle.pli_declare.specs.ShownBlocks.{block_of}
 use Rattle.pli_declare.proofs.scopes.read_scopes.Goals as goal

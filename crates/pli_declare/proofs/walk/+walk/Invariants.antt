@@ -1,6 +1,6 @@
 use Rattle.std.proofs.Common.{◌≡◌, ◌++◌, map, ◌≤◌}
-use Rattle.pli_meaning.specs.Declarations.{declared_in}
-use Rattle.pli_meaning.specs.View.{items_of}
+use Rattle.pli_language.specs.Declarations.{declared_in}
+use Rattle.pli_language.specs.View.{items_of}
 use Rattle.pli_declare.specs.Shown.{declaration_of}
 use Rattle.pli_declare.proofs.Weights.{stmt_weight, item_weight, items_weight}
 use Rattle.pli_declare.proofs.walk.+walk.Given as goal

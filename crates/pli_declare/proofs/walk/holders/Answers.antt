@@ -1,7 +1,7 @@
 use Rattle.std.proofs.Common.{◌≡◌, ◌++◌, ◌∷◌, [], ◌+◌, map, take, drop, ap, ◌∙◌, arith, true}
 use Rattle.std.specs.Prelude.{nat_lt}
 use Rattle.std.proofs.lemmas.Bool.Decides.{nat_tests}
-use Rattle.pli_meaning.specs.Declarations.{level_of, smaller}
+use Rattle.pli_language.specs.Declarations.{level_of, smaller}
 use Rattle.pli_declare.specs.Shown.{variable_of}
 use Rattle.pli_declare.proofs.Chains.{drop_here, take_here, smaller_on}
 use Rattle.pli_declare.proofs.walk.holders.Goals as goal

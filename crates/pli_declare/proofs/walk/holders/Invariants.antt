@@ -1,5 +1,5 @@
 use Rattle.std.proofs.Common.{◌≡◌, ◌++◌, map, take, drop}
-use Rattle.pli_meaning.specs.Declarations.{smaller}
+use Rattle.pli_language.specs.Declarations.{smaller}
 use Rattle.pli_declare.specs.Shown.{variable_of}
 use Rattle.pli_declare.proofs.walk.holders.Given as goal
 

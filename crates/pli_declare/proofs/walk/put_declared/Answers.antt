@@ -1,9 +1,9 @@
 use Rattle.std.proofs.Common.{◌≡◌, ◌++◌, ◌∷◌, [], ◌+◌, List, map, drop, sym, ap, ◌∙◌, append-nil}
 use Rattle.std.proofs.lemmas.List.{drop_all}
 use Rattle.std.specs.List.{flat_map}
-use Rattle.pli_meaning.specs.View.{declare_item_of}
-use Rattle.pli_meaning.specs.Tree.{DeclareItem}
-use Rattle.pli_meaning.specs.Declarations.{Declaration, variables_of, variable_declared, held}
+use Rattle.pli_language.specs.View.{declare_item_of}
+use Rattle.pli_language.specs.Tree.{DeclareItem}
+use Rattle.pli_language.specs.Declarations.{Declaration, variables_of, variable_declared, held}
 use Rattle.pli_declare.specs.Shown.{declaration_of, variable_of}
 use Rattle.pli_declare.proofs.Chains.{drop_here, put_item_names}
 use Rattle.pli_declare.proofs.walk.put_declared.Goals as goal

@@ -1,7 +1,7 @@
 use Rattle.std.proofs.Common.{◌≡◌, ◌++◌, [], map, drop}
 use Rattle.std.specs.List.{flat_map}
-use Rattle.pli_meaning.specs.View.{declare_item_of}
-use Rattle.pli_meaning.specs.Declarations.{held, variables_of, variable_declared}
+use Rattle.pli_language.specs.View.{declare_item_of}
+use Rattle.pli_language.specs.Declarations.{held, variables_of, variable_declared}
 use Rattle.pli_declare.specs.Shown.{declaration_of, variable_of}
 use Rattle.pli_declare.proofs.walk.put_declared.Given as goal
 

@@ -1,6 +1,6 @@
 use Rattle.std.proofs.Common.{◌≡◌, ◌++◌, map, take}
-use Rattle.pli_meaning.specs.Declarations.{labels_declared}
-use Rattle.pli_meaning.specs.View.{name_of}
+use Rattle.pli_language.specs.Declarations.{labels_declared}
+use Rattle.pli_language.specs.View.{name_of}
 use Rattle.pli_declare.specs.Shown.{declaration_of}
 use Rattle.pli_declare.proofs.walk.put_labels.Given as goal
 

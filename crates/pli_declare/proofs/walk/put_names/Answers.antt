@@ -1,8 +1,8 @@
 use Rattle.std.proofs.Common.{◌≡◌, ◌++◌, ◌∷◌, [], ◌+◌, List, map, drop, length, get_or, ◌<◌, ◌≤◌, append-nil, subst, sym, ap, ◌∙◌}
-use Rattle.pli_meaning.specs.declared.declaration.DeclaredName.{DeclaredName as DeclaredNameHeld}
+use Rattle.pli_language.specs.declared.declaration.DeclaredName.{DeclaredName as DeclaredNameHeld}
 use Rattle.std.proofs.lemmas.List.{map_push, drop_all}
-use Rattle.pli_meaning.specs.View.{declared_name_of, declare_item_of}
-use Rattle.pli_meaning.specs.Declarations.{Variable, Declaration, holders, variable_declared, held, chain_after}
+use Rattle.pli_language.specs.View.{declared_name_of, declare_item_of}
+use Rattle.pli_language.specs.Declarations.{Variable, Declaration, holders, variable_declared, held, chain_after}
 use Rattle.pli_declare.specs.Shown.{declaration_of, variable_of}
 use Rattle.pli_declare.proofs.Chains.{variables_at, drop_here, put_variable, chain_on}
 use Rattle.pli_declare.proofs.walk.put_names.Goals as goal

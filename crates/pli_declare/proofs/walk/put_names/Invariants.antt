@@ -1,5 +1,5 @@
 use Rattle.std.proofs.Common.{◌≡◌, ◌++◌, map, drop}
-use Rattle.pli_meaning.specs.Declarations.{held, chain_after, variable_declared}
+use Rattle.pli_language.specs.Declarations.{held, chain_after, variable_declared}
 use Rattle.pli_declare.specs.Shown.{declaration_of, variable_of}
 use Rattle.pli_declare.proofs.Chains.{variables_at}
 use Rattle.pli_declare.proofs.walk.put_names.Given as goal

@@ -1,6 +1,6 @@
 use Rattle.std.proofs.Common.{◌≡◌, ◌++◌, map, take}
-use Rattle.pli_meaning.specs.Declarations.{ProcedureName}
-use Rattle.pli_meaning.specs.View.{name_of, procedure_head_of}
+use Rattle.pli_language.specs.Declarations.{ProcedureName}
+use Rattle.pli_language.specs.View.{name_of, procedure_head_of}
 use Rattle.pli_declare.specs.Shown.{declaration_of}
 use Rattle.pli_declare.proofs.walk.put_procedure.Given as goal
 

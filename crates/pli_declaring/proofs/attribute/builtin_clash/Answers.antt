@@ -3,9 +3,9 @@ use Rattle.std.specs.Prelude.{not, ◌||◌, ◌&&◌, ◌==◌}
 use Rattle.std.proofs.lemmas.Iterator.{YieldsList-from_slice}
 use Rattle.std.proofs.lemmas.Iterator.Search.{any_from_yields_List}
 use Rattle.std.specs.List.{list_any}
-use Rattle.pli_meaning.specs.Declaring.{row_of}
-use Rattle.pli_meaning.specs.Tree.{Attribute}
-use Rattle.pli_meaning.specs.View.{attribute_of}
+use Rattle.pli_language.specs.Declaring.{row_of}
+use Rattle.pli_language.specs.Tree.{Attribute}
+use Rattle.pli_language.specs.View.{attribute_of}
 use Rattle.std.specs.Prelude.{Bool, map}
 use Rattle.pli_declaring.proofs.Shown.{any_mapped}
 use Rattle.pli_declaring.proofs.attribute.builtin_clash.Goals as goal

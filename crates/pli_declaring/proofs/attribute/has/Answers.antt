@@ -1,8 +1,8 @@
 use Rattle.std.proofs.Common.{rules, tests, ◌∙◌, eqb}
 use Rattle.std.proofs.lemmas.Iterator.{YieldsList-from_slice}
 use Rattle.std.proofs.lemmas.Iterator.Search.{any_from_yields_List}
-use Rattle.pli_meaning.specs.Declaring.{row_of}
-use Rattle.pli_meaning.specs.View.{attribute_of}
+use Rattle.pli_language.specs.Declaring.{row_of}
+use Rattle.pli_language.specs.View.{attribute_of}
 use Rattle.pli_declaring.specs.Rows.{number_of_row}
 use Rattle.pli_declaring.proofs.Shown.{any_mapped}
 use Rattle.pli_declaring.proofs.attribute.has.Goals as goal

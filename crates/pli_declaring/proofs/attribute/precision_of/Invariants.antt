@@ -1,6 +1,6 @@
 use Rattle.std.proofs.Common.{◌≡◌, map, drop}
-use Rattle.pli_meaning.specs.Declaring.{precision_of, precisions_in}
-use Rattle.pli_meaning.specs.View.{attribute_of}
+use Rattle.pli_language.specs.Declaring.{precision_of, precisions_in}
+use Rattle.pli_language.specs.View.{attribute_of}
 use Rattle.pli_declaring.proofs.attribute.precision_of.Given as goal
 
 abbrev pub invariant-loop-attribute : goal.invariant-loop-attribute

@@ -1,6 +1,6 @@
 use Rattle.std.proofs.Common.{◌≡◌, map, drop, false}
-use Rattle.pli_meaning.specs.Declaring.{precisions_in}
-use Rattle.pli_meaning.specs.View.{attribute_of}
+use Rattle.pli_language.specs.Declaring.{precisions_in}
+use Rattle.pli_language.specs.View.{attribute_of}
 use Rattle.pli_declaring.specs.Precisions.{precisions_clash}
 use Rattle.pli_declaring.proofs.attribute.precisions_clash.Given as goal
 

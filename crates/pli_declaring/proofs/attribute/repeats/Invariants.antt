@@ -1,6 +1,6 @@
 use Rattle.std.proofs.Common.{◌≡◌, map, drop}
-use Rattle.pli_meaning.specs.Declaring.{repeats}
-use Rattle.pli_meaning.specs.View.{attribute_of}
+use Rattle.pli_language.specs.Declaring.{repeats}
+use Rattle.pli_language.specs.View.{attribute_of}
 use Rattle.pli_declaring.proofs.attribute.repeats.Given as goal
 
 abbrev pub invariant-loop-i : goal.invariant-loop-i

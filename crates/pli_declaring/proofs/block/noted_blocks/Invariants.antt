@@ -1,7 +1,7 @@
 use Rattle.std.proofs.Common.{◌≡◌, map, drop}
 use Rattle.std.specs.List.{flat_map}
-use Rattle.pli_meaning.specs.Declaring.{block_faults}
-use Rattle.pli_meaning.specs.Refusals.{soonest}
+use Rattle.pli_language.specs.Declaring.{block_faults}
+use Rattle.pli_language.specs.Refusals.{soonest}
 use Rattle.pli_declare.specs.ShownBlocks.{block_of}
 use Rattle.pli_declaring.proofs.block.noted_blocks.Given as goal
 

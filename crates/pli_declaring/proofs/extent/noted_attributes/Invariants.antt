@@ -1,8 +1,8 @@
 use Rattle.std.proofs.Common.{◌≡◌, map, drop}
 use Rattle.std.specs.List.{flat_map}
-use Rattle.pli_meaning.specs.Declaring.{attribute_extent_faults}
-use Rattle.pli_meaning.specs.Refusals.{soonest}
-use Rattle.pli_meaning.specs.View.{attribute_of}
+use Rattle.pli_language.specs.Declaring.{attribute_extent_faults}
+use Rattle.pli_language.specs.Refusals.{soonest}
+use Rattle.pli_language.specs.View.{attribute_of}
 use Rattle.pli_declaring.specs.Shown.{use_shown}
 use Rattle.pli_declaring.proofs.extent.noted_attributes.Given as goal
 

@@ -1,8 +1,8 @@
 use Rattle.std.proofs.Common.{◌≡◌, map, drop}
 use Rattle.std.specs.List.{flat_map}
-use Rattle.pli_meaning.specs.Declaring.{bound_faults}
-use Rattle.pli_meaning.specs.Refusals.{soonest}
-use Rattle.pli_meaning.specs.View.{bound_of}
+use Rattle.pli_language.specs.Declaring.{bound_faults}
+use Rattle.pli_language.specs.Refusals.{soonest}
+use Rattle.pli_language.specs.View.{bound_of}
 use Rattle.pli_declaring.specs.Shown.{use_shown}
 use Rattle.pli_declaring.proofs.extent.noted_bounds.Given as goal
 

@@ -1,11 +1,11 @@
 use Rattle.std.proofs.Common.{map, ap, ◌∙◌, List}
 use Rattle.std.specs.List.{flat_map}
-use Rattle.pli_meaning.specs.declared.declaration.Bound.{Bound as BoundHeld}
-use Rattle.pli_meaning.specs.declared.fault.SourceFault.{SourceFault}
-use Rattle.pli_meaning.specs.Tree.{Attribute}
-use Rattle.pli_meaning.specs.View.{attribute_of, bound_of, name_of}
-use Rattle.pli_meaning.specs.Refusals.{soonest}
-use Rattle.pli_meaning.specs.Declaring.{Use, use_of, bound_faults, attribute_extent_faults}
+use Rattle.pli_language.specs.declared.declaration.Bound.{Bound as BoundHeld}
+use Rattle.pli_language.specs.declared.fault.SourceFault.{SourceFault}
+use Rattle.pli_language.specs.Tree.{Attribute}
+use Rattle.pli_language.specs.View.{attribute_of, bound_of, name_of}
+use Rattle.pli_language.specs.Refusals.{soonest}
+use Rattle.pli_language.specs.Declaring.{Use, use_of, bound_faults, attribute_extent_faults}
 use Rattle.pli_declare.specs.Shown.{held_of}
 use Rattle.pli_declaring.proofs.Faults.{found_in_parts}
 use Rattle.pli_declaring.proofs.extent.noted_extents.Goals as goal

@@ -2,9 +2,9 @@ use Rattle.std.proofs.Common.{rules, tests, ◌∙◌, Bool}
 use Rattle.std.proofs.lemmas.Iterator.{YieldsList-from_slice}
 use Rattle.std.proofs.lemmas.Iterator.Search.{any_from_yields_List}
 use Rattle.std.specs.Prelude.{◌==◌}
-use Rattle.pli_meaning.specs.Tree.{ProcedureOption}
-use Rattle.pli_meaning.specs.Declaring.{option_row}
-use Rattle.pli_meaning.specs.View.{procedure_option_of}
+use Rattle.pli_language.specs.Tree.{ProcedureOption}
+use Rattle.pli_language.specs.Declaring.{option_row}
+use Rattle.pli_language.specs.View.{procedure_option_of}
 use Rattle.pli_declaring.proofs.Shown.{any_mapped}
 use Rattle.pli_declaring.proofs.head.has_option.Goals as goal
 

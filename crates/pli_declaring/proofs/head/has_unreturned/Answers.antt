@@ -2,9 +2,9 @@ use Rattle.std.proofs.Common.{rules, tests, ◌∙◌, Bool}
 use Rattle.std.proofs.lemmas.Iterator.{YieldsList-from_slice}
 use Rattle.std.proofs.lemmas.Iterator.Search.{any_from_yields_List}
 use Rattle.std.specs.Prelude.{[], ◌∷◌, None}
-use Rattle.pli_meaning.specs.Declaring.{has, row_of}
-use Rattle.pli_meaning.specs.Tree.{Attribute, Area, Initial, Aligned, Unaligned, Internal}
-use Rattle.pli_meaning.specs.View.{attribute_of}
+use Rattle.pli_language.specs.Declaring.{has, row_of}
+use Rattle.pli_language.specs.Tree.{Attribute, Area, Initial, Aligned, Unaligned, Internal}
+use Rattle.pli_language.specs.View.{attribute_of}
 use Rattle.pli_declaring.proofs.Shown.{any_mapped}
 use Rattle.pli_declaring.proofs.head.has_unreturned.Goals as goal
 

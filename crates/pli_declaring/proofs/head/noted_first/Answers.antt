@@ -1,5 +1,5 @@
-use Rattle.pli_meaning.specs.Refusals.{fault}
-use Rattle.pli_meaning.specs.Declaring.{when}
+use Rattle.pli_language.specs.Refusals.{fault}
+use Rattle.pli_language.specs.Declaring.{when}
 use Rattle.pli_declaring.proofs.Faults.{none_at_first}
 use Rattle.pli_declaring.proofs.head.noted_first.Goals as goal
 

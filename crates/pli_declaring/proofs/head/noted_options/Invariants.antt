@@ -1,8 +1,8 @@
 use Rattle.std.proofs.Common.{◌≡◌, map, drop}
 use Rattle.std.specs.List.{flat_map}
-use Rattle.pli_meaning.specs.Declaring.{option_faults}
-use Rattle.pli_meaning.specs.Refusals.{soonest}
-use Rattle.pli_meaning.specs.View.{name_of, procedure_option_of}
+use Rattle.pli_language.specs.Declaring.{option_faults}
+use Rattle.pli_language.specs.Refusals.{soonest}
+use Rattle.pli_language.specs.View.{name_of, procedure_option_of}
 use Rattle.pli_declaring.proofs.head.noted_options.Given as goal
 
 abbrev pub invariant-loop-option : goal.invariant-loop-option

@@ -1,6 +1,6 @@
 use Rattle.std.proofs.Common.{◌≡◌, ◌+◌, ◌≤◌, map, drop, length, min}
 use Rattle.std.specs.List.{sum_by}
-use Rattle.pli_meaning.specs.Declarations.{dimensions_of}
+use Rattle.pli_language.specs.Declarations.{dimensions_of}
 use Rattle.pli_declare.specs.Shown.{variable_of}
 use Rattle.pli_declaring.proofs.held.inherited_dimensions.Given as goal
 

@@ -1,8 +1,8 @@
 use Rattle.std.proofs.Common.{rules, tests, ◌∙◌}
 use Rattle.std.proofs.lemmas.Iterator.{YieldsList-from_slice}
 use Rattle.std.proofs.lemmas.Iterator.Search.{any_from_yields_List}
-use Rattle.pli_meaning.specs.Keywords.{same_bytes}
-use Rattle.pli_meaning.specs.View.{name_of}
+use Rattle.pli_language.specs.Keywords.{same_bytes}
+use Rattle.pli_language.specs.View.{name_of}
 use Rattle.pli_declaring.proofs.Shown.{any_mapped}
 use Rattle.pli_declaring.proofs.held.is_among.Goals as goal
 

@@ -3,10 +3,10 @@ use Rattle.std.specs.Prelude.{not}
 use Rattle.std.specs.List.{list_any}
 use Rattle.std.proofs.lemmas.Iterator.{YieldsList-from_slice}
 use Rattle.std.proofs.lemmas.Iterator.Search.{any_from_yields_List}
-use Rattle.pli_meaning.specs.declared.declaration.Attribute.{Attribute as AttributeHeld}
-use Rattle.pli_meaning.specs.Tree.{InitialItem}
-use Rattle.pli_meaning.specs.Declaring.{value_fits, initial_fits}
-use Rattle.pli_meaning.specs.View.{attribute_of, initial_item_of}
+use Rattle.pli_language.specs.declared.declaration.Attribute.{Attribute as AttributeHeld}
+use Rattle.pli_language.specs.Tree.{InitialItem}
+use Rattle.pli_language.specs.Declaring.{value_fits, initial_fits}
+use Rattle.pli_language.specs.View.{attribute_of, initial_item_of}
 use Rattle.pli_declaring.proofs.Shown.{any_mapped}
 use Rattle.pli_declaring.proofs.initial.initial_fits.Goals as goal
 

@@ -1,7 +1,7 @@
 use Rattle.std.proofs.Common.{◌≡◌, false}
-use Rattle.pli_meaning.specs.Declaring.{outer_procedures}
-use Rattle.pli_meaning.specs.Refusals.{soonest}
-use Rattle.pli_meaning.specs.View.{items_of}
+use Rattle.pli_language.specs.Declaring.{outer_procedures}
+use Rattle.pli_language.specs.Refusals.{soonest}
+use Rattle.pli_language.specs.View.{items_of}
 use Rattle.pli_declaring.specs.Mains.{main_left}
 use Rattle.pli_declaring.proofs.program.noted_main.Given as goal
 

@@ -1,8 +1,8 @@
 use Rattle.std.proofs.Common.{◌≡◌, map, drop}
 use Rattle.std.specs.List.{flat_map}
-use Rattle.pli_meaning.specs.Declaring.{attribute_refer_faults}
-use Rattle.pli_meaning.specs.Refusals.{soonest}
-use Rattle.pli_meaning.specs.View.{attribute_of}
+use Rattle.pli_language.specs.Declaring.{attribute_refer_faults}
+use Rattle.pli_language.specs.Refusals.{soonest}
+use Rattle.pli_language.specs.View.{attribute_of}
 use Rattle.pli_declare.specs.Shown.{declaration_of, held_of}
 use Rattle.pli_declaring.specs.Members.{variables_in}
 use Rattle.pli_declaring.proofs.refer.noted_attributes.Given as goal

@@ -1,5 +1,5 @@
 use Rattle.std.proofs.Common.{inr, None, Some}
-use Rattle.pli_meaning.specs.View.{tree_of}
+use Rattle.pli_language.specs.View.{tree_of}
 use Rattle.pli_declaring.proofs.Whole.{found_least}
 use Rattle.pli_declaring.proofs.refusal.declare.Goals as goal
 

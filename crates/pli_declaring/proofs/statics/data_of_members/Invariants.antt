@@ -1,5 +1,5 @@
 use Rattle.std.proofs.Common.{◌≡◌, ◌+◌, map, drop}
-use Rattle.pli_meaning.specs.Declaring.{data_of_members}
+use Rattle.pli_language.specs.Declaring.{data_of_members}
 use Rattle.pli_declare.specs.Shown.{declaration_of}
 use Rattle.pli_declaring.specs.Bytes.{capped}
 use Rattle.pli_declaring.proofs.statics.data_of_members.Given as goal

@@ -1,9 +1,9 @@
 use Rattle.std.proofs.Common.{◌≡◌, map, drop}
 use Rattle.std.specs.Prelude.{nat_lt}
 use Rattle.std.specs.List.{flat_map}
-use Rattle.pli_meaning.specs.declared.fault.SourceKind.TheVariants.{TooLarge}
-use Rattle.pli_meaning.specs.Declaring.{most_static, static_faults, taken_up_to, when}
-use Rattle.pli_meaning.specs.Refusals.{fault, soonest}
+use Rattle.pli_language.specs.declared.fault.SourceKind.TheVariants.{TooLarge}
+use Rattle.pli_language.specs.Declaring.{most_static, static_faults, taken_up_to, when}
+use Rattle.pli_language.specs.Refusals.{fault, soonest}
 use Rattle.pli_declaring.specs.Statics.{taken_of}
 use Rattle.pli_declaring.proofs.statics.noted_statics.Given as goal
 

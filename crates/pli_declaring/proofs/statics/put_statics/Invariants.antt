@@ -1,5 +1,5 @@
 use Rattle.std.proofs.Common.{◌≡◌, ◌++◌, map, drop}
-use Rattle.pli_meaning.specs.Declaring.{statics_in}
+use Rattle.pli_language.specs.Declaring.{statics_in}
 use Rattle.pli_declare.specs.Shown.{declaration_of}
 use Rattle.pli_declaring.specs.Statics.{capped_all, taken_of}
 use Rattle.pli_declaring.proofs.statics.put_statics.Given as goal

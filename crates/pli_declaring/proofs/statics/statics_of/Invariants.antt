@@ -1,6 +1,6 @@
 use Rattle.std.proofs.Common.{◌≡◌, ◌++◌, map, drop}
 use Rattle.std.specs.List.{flat_map}
-use Rattle.pli_meaning.specs.Declaring.{statics_in}
+use Rattle.pli_language.specs.Declaring.{statics_in}
 use Rattle.pli_declare.specs.ShownBlocks.{block_of}
 use Rattle.pli_declaring.specs.Statics.{capped_all, taken_of}
 use Rattle.pli_declaring.proofs.statics.statics_of.Given as goal

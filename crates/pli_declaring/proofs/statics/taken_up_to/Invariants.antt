@@ -1,5 +1,5 @@
 use Rattle.std.proofs.Common.{◌≡◌, ◌+◌, map, drop}
-use Rattle.pli_meaning.specs.Declaring.{taken_up_to}
+use Rattle.pli_language.specs.Declaring.{taken_up_to}
 use Rattle.pli_declaring.specs.Bytes.{capped}
 use Rattle.pli_declaring.specs.Statics.{taken_of}
 use Rattle.pli_declaring.proofs.statics.taken_up_to.Given as goal

@@ -1,6 +1,6 @@
 use Rattle.std.proofs.Common.{ap, map}
-use Rattle.pli_meaning.specs.Declarations.{dimensions_of}
-use Rattle.pli_meaning.specs.Declaring.{elements_above, spans}
+use Rattle.pli_language.specs.Declarations.{dimensions_of}
+use Rattle.pli_language.specs.Declaring.{elements_above, spans}
 use Rattle.pli_declare.specs.Shown.{variable_of}
 use Rattle.pli_declare.proofs.Chains.{drop_here}
 use Rattle.pli_declaring.proofs.Bytes.{product_on, stays_few}

@@ -1,5 +1,5 @@
 use Rattle.std.proofs.Common.{◌≡◌, ◌*◌, map, drop}
-use Rattle.pli_meaning.specs.Declaring.{elements_above}
+use Rattle.pli_language.specs.Declaring.{elements_above}
 use Rattle.pli_declare.specs.Shown.{variable_of}
 use Rattle.pli_declaring.specs.Bytes.{capped}
 use Rattle.pli_declaring.proofs.storage.elements_above.Given as goal

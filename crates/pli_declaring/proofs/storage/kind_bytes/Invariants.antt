@@ -1,7 +1,7 @@
 use Rattle.std.proofs.Common.{◌≡◌, ◌+◌, map, drop}
 use Rattle.std.specs.List.{sum_by}
-use Rattle.pli_meaning.specs.Declaring.{attribute_bytes}
-use Rattle.pli_meaning.specs.View.{attribute_of}
+use Rattle.pli_language.specs.Declaring.{attribute_bytes}
+use Rattle.pli_language.specs.View.{attribute_of}
 use Rattle.pli_declaring.specs.Bytes.{capped}
 use Rattle.pli_declaring.proofs.storage.kind_bytes.Given as goal
 

@@ -1,8 +1,8 @@
 use Rattle.std.proofs.Common.{◌*◌, ap, ◌∙◌, map, List}
 use Rattle.std.specs.Prelude.{if◌then◌else◌, Bool}
-use Rattle.pli_meaning.specs.Tree.{Attribute}
-use Rattle.pli_meaning.specs.Declarations.{dimensions_of}
-use Rattle.pli_meaning.specs.Declaring.{elements_above, leaf_bytes, own_attributes, spans, up_to}
+use Rattle.pli_language.specs.Tree.{Attribute}
+use Rattle.pli_language.specs.Declarations.{dimensions_of}
+use Rattle.pli_language.specs.Declaring.{elements_above, leaf_bytes, own_attributes, spans, up_to}
 use Rattle.pli_declare.specs.declared.scope.Variable.{Variable as VariableHeld}
 use Rattle.pli_declare.specs.Shown.{held_of, variable_of}
 use Rattle.pli_declaring.specs.Bytes.{capped}

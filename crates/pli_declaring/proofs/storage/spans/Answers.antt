@@ -1,6 +1,6 @@
 use Rattle.std.proofs.Common.{ap, map}
-use Rattle.pli_meaning.specs.Declaring.{bound_span, spans}
-use Rattle.pli_meaning.specs.View.{bound_of}
+use Rattle.pli_language.specs.Declaring.{bound_span, spans}
+use Rattle.pli_language.specs.View.{bound_of}
 use Rattle.pli_declare.proofs.Chains.{drop_here}
 use Rattle.pli_declaring.proofs.Bytes.{product_on, stays_few}
 use Rattle.pli_declaring.proofs.storage.spans.Goals as goal

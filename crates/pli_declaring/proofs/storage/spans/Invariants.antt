@@ -1,6 +1,6 @@
 use Rattle.std.proofs.Common.{◌≡◌, ◌*◌, map, drop}
-use Rattle.pli_meaning.specs.Declaring.{spans}
-use Rattle.pli_meaning.specs.View.{bound_of}
+use Rattle.pli_language.specs.Declaring.{spans}
+use Rattle.pli_language.specs.View.{bound_of}
 use Rattle.pli_declaring.specs.Bytes.{capped}
 use Rattle.pli_declaring.proofs.storage.spans.Given as goal
 

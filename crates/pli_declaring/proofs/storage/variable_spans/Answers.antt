@@ -1,7 +1,7 @@
 use Rattle.std.proofs.Common.{ap, ◌∙◌, map, List}
-use Rattle.pli_meaning.specs.declared.declaration.Bound.{Bound as BoundHeld}
-use Rattle.pli_meaning.specs.Declaring.{spans}
-use Rattle.pli_meaning.specs.View.{bound_of}
+use Rattle.pli_language.specs.declared.declaration.Bound.{Bound as BoundHeld}
+use Rattle.pli_language.specs.Declaring.{spans}
+use Rattle.pli_language.specs.View.{bound_of}
 use Rattle.pli_declaring.specs.Bytes.{capped}
 use Rattle.pli_declaring.proofs.Bytes.{spans_by}
 use Rattle.pli_declaring.proofs.storage.variable_spans.Goals as goal

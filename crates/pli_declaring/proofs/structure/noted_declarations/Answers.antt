@@ -1,9 +1,9 @@
 use Rattle.std.proofs.Common.{◌+◌, map, ◌≤◌, subst, sym, ap, ◌∙◌, List}
 use Rattle.std.proofs.lemmas.List.{take_rest}
-use Rattle.pli_meaning.specs.Refusals.{soonest}
-use Rattle.pli_meaning.specs.Declaring.{what_faults}
+use Rattle.pli_language.specs.Refusals.{soonest}
+use Rattle.pli_language.specs.Declaring.{what_faults}
 use Rattle.pli_declare.specs.declared.scope.Declaration.{Declaration as DeclarationHeld}
-use Rattle.pli_meaning.specs.View.{name_of}
+use Rattle.pli_language.specs.View.{name_of}
 use Rattle.pli_declare.specs.Shown.{declaration_of, what_of}
 use Rattle.pli_declaring.proofs.Starts.{among, start_below, declarations_on}
 use Rattle.pli_declaring.proofs.structure.noted_declarations.Goals as goal

@@ -1,7 +1,7 @@
 use Rattle.std.proofs.Common.{◌≡◌, ◌≤◌, [], drop, map}
-use Rattle.pli_meaning.specs.Declaring.{declarations_faults}
-use Rattle.pli_meaning.specs.Refusals.{soonest}
-use Rattle.pli_meaning.specs.View.{name_of}
+use Rattle.pli_language.specs.Declaring.{declarations_faults}
+use Rattle.pli_language.specs.Refusals.{soonest}
+use Rattle.pli_language.specs.View.{name_of}
 use Rattle.pli_declare.specs.Shown.{declaration_of}
 use Rattle.pli_declaring.proofs.Starts.{among}
 use Rattle.pli_declaring.proofs.structure.noted_declarations.Given as goal

@@ -1,7 +1,7 @@
 use Rattle.std.proofs.Common.{rules, tests, ◌∙◌, Bool}
 use Rattle.std.proofs.lemmas.Iterator.{YieldsList-from_slice}
 use Rattle.std.proofs.lemmas.Iterator.Search.{any_from_yields_List}
-use Rattle.pli_meaning.specs.Declarations.{Declaration}
+use Rattle.pli_language.specs.Declarations.{Declaration}
 use Rattle.pli_declare.specs.Shown.{declaration_of}
 use Rattle.pli_declaring.specs.Rivals.{is_variable_of}
 use Rattle.pli_declaring.proofs.Shown.{any_mapped}

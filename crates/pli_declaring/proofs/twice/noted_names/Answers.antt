@@ -1,7 +1,7 @@
 use Rattle.std.proofs.Common.{ap, ◌∙◌, List, ℕ, map, take}
 use Rattle.std.specs.List.{list_any}
-use Rattle.pli_meaning.specs.Keywords.{same_bytes}
-use Rattle.pli_meaning.specs.View.{name_of}
+use Rattle.pli_language.specs.Keywords.{same_bytes}
+use Rattle.pli_language.specs.View.{name_of}
 use Rattle.pli_declaring.proofs.Repeats.{names_on}
 use Rattle.pli_declaring.proofs.twice.noted_names.Goals as goal
 

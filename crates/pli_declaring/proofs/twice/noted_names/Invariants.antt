@@ -1,8 +1,8 @@
 use Rattle.std.proofs.Common.{◌≡◌, [], map, take, drop}
 use Rattle.std.specs.Prelude.{reverse}
-use Rattle.pli_meaning.specs.Declaring.{names_twice}
-use Rattle.pli_meaning.specs.Refusals.{soonest}
-use Rattle.pli_meaning.specs.View.{name_of}
+use Rattle.pli_language.specs.Declaring.{names_twice}
+use Rattle.pli_language.specs.Refusals.{soonest}
+use Rattle.pli_language.specs.View.{name_of}
 use Rattle.pli_declaring.proofs.twice.noted_names.Given as goal
 
 abbrev pub invariant-loop-i : goal.invariant-loop-i

@@ -2,7 +2,7 @@ use Rattle.std.proofs.Common.{◌≡◌, ◌<◌, ap, ◌∙◌, List, ℕ, map,
 use Rattle.std.specs.Prelude.{◌&&◌, nat_lt}
 use Rattle.std.specs.List.{list_any}
 use Rattle.std.specs.Cmp.Lexicographic.{pointwise}
-use Rattle.pli_meaning.specs.Means.{places}
+use Rattle.pli_language.specs.Means.{places}
 use Rattle.pli_declare.specs.declared.scope.Declaration.{Declaration as DeclarationHeld}
 use Rattle.pli_declare.specs.Shown.{declaration_of, what_of}
 use Rattle.pli_declaring.specs.Rivals.{rival_at}

@@ -1,7 +1,7 @@
 use Rattle.std.proofs.Common.{◌≡◌, [], map, take, drop}
 use Rattle.std.specs.Prelude.{reverse}
-use Rattle.pli_meaning.specs.Declaring.{twice_faults}
-use Rattle.pli_meaning.specs.Refusals.{soonest}
+use Rattle.pli_language.specs.Declaring.{twice_faults}
+use Rattle.pli_language.specs.Refusals.{soonest}
 use Rattle.pli_declare.specs.Shown.{declaration_of}
 use Rattle.pli_declaring.proofs.twice.noted_twice.Given as goal
 

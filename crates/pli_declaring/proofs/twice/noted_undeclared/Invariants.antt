@@ -1,10 +1,10 @@
 use Rattle.std.proofs.Common.{◌≡◌, map, drop}
 use Rattle.std.specs.Prelude.{not}
 use Rattle.std.specs.List.{flat_map}
-use Rattle.pli_meaning.specs.declared.fault.SourceKind.TheVariants.{Undeclared}
-use Rattle.pli_meaning.specs.Declaring.{declares, when}
-use Rattle.pli_meaning.specs.Refusals.{fault, soonest}
-use Rattle.pli_meaning.specs.View.{name_of}
+use Rattle.pli_language.specs.declared.fault.SourceKind.TheVariants.{Undeclared}
+use Rattle.pli_language.specs.Declaring.{declares, when}
+use Rattle.pli_language.specs.Refusals.{fault, soonest}
+use Rattle.pli_language.specs.View.{name_of}
 use Rattle.pli_declare.specs.Shown.{declaration_of}
 use Rattle.pli_declaring.proofs.twice.noted_undeclared.Given as goal
 

@@ -1,5 +1,5 @@
 use Rattle.std.proofs.Common.{◌≡◌, map, drop}
-use Rattle.pli_meaning.specs.Declaring.{same_places}
+use Rattle.pli_language.specs.Declaring.{same_places}
 use Rattle.pli_declare.specs.Shown.{variable_of}
 use Rattle.pli_declaring.specs.Rivals.{places_above}
 use Rattle.pli_declaring.proofs.twice.same_places.Given as goal

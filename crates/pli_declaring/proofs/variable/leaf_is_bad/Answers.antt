@@ -1,6 +1,6 @@
 use Rattle.std.proofs.Common.{ap, ◌∙◌, sym}
 use Rattle.std.specs.Prelude.{◌||◌}
-use Rattle.pli_meaning.specs.Declaring.{own_attributes}
+use Rattle.pli_language.specs.Declaring.{own_attributes}
 use Rattle.pli_declare.specs.Shown.{held_of}
 use Rattle.pli_declaring.specs.Rules.{misfits}
 use Rattle.pli_declaring.proofs.variable.leaf_is_bad.Goals as goal

@@ -1,7 +1,7 @@
 use Rattle.std.proofs.Common.{◌≡◌, ◌+◌, ◌∙◌, ◌∷◌, map, drop, ap}
-use Rattle.pli_meaning.specs.Generations.{evaluation}
-use Rattle.pli_meaning.specs.TypedStatementView.{evaluation_of}
-use Rattle.pli_meaning.specs.TypedView.{variable_of}
+use Rattle.pli_typing.specs.Generations.{evaluation}
+use Rattle.pli_typing.specs.TypedStatementView.{evaluation_of}
+use Rattle.pli_typing.specs.TypedView.{variable_of}
 use Rattle.pli_declare.proofs.Chains.{drop_here}
 use Rattle.pli_reference.specs.Shown.{scope_of}
 use Rattle.pli_variables.specs.Written.{all_shown, extent_shown}

@@ -1,9 +1,9 @@
 use Rattle.std.proofs.Common.{◌≡◌, ◌++◌, map, drop}
-use Rattle.pli_meaning.specs.Generations.{evaluation}
-use Rattle.pli_meaning.specs.Judging.{each}
-use Rattle.pli_meaning.specs.Refusals.{soonest}
-use Rattle.pli_meaning.specs.TypedStatementView.{evaluation_of}
-use Rattle.pli_meaning.specs.TypedView.{variable_of}
+use Rattle.pli_typing.specs.Generations.{evaluation}
+use Rattle.pli_typing.specs.Judging.{each}
+use Rattle.pli_language.specs.Refusals.{soonest}
+use Rattle.pli_typing.specs.TypedStatementView.{evaluation_of}
+use Rattle.pli_typing.specs.TypedView.{variable_of}
 use Rattle.pli_reference.specs.Shown.{scope_of}
 use Rattle.pli_variables.specs.Written.{all_shown}
 use Rattle.pli_generation.proofs.extent.evaluations.Given as goal

@@ -1,10 +1,10 @@
 use Rattle.std.proofs.Common.{◌≡◌, ◌∙◌, ap}
 use Rattle.std.specs.Prelude.{not}
-use Rattle.pli_meaning.specs.declared.fault.SourceKind.TheVariants.{BadExtent}
-use Rattle.pli_meaning.specs.Generations.{extent_number}
-use Rattle.pli_meaning.specs.Judging.{demand}
-use Rattle.pli_meaning.specs.TypedView.{variable_of}
-use Rattle.pli_meaning.specs.View.{expr_of}
+use Rattle.pli_language.specs.declared.fault.SourceKind.TheVariants.{BadExtent}
+use Rattle.pli_typing.specs.Generations.{extent_number}
+use Rattle.pli_typing.specs.Judging.{demand}
+use Rattle.pli_typing.specs.TypedView.{variable_of}
+use Rattle.pli_language.specs.View.{expr_of}
 use Rattle.pli_operand.specs.Notes.{noted}
 use Rattle.pli_operand.specs.Shown.{notes_of}
 use Rattle.pli_reference.specs.Shown.{scope_of}

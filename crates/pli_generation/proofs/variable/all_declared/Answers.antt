@@ -1,8 +1,8 @@
 use Rattle.std.proofs.Common.{◌≡◌, ◌+◌, ◌∙◌, ◌∷◌, Some, map, drop, slice_get, sym, ap}
-use Rattle.pli_meaning.specs.Generations.{declared_variable, declared_with}
-use Rattle.pli_meaning.specs.Refusals.{soonest}
-use Rattle.pli_meaning.specs.TypedStatementView.{declared_variable_of}
-use Rattle.pli_meaning.specs.TypedView.{variable_of}
+use Rattle.pli_typing.specs.Generations.{declared_variable, declared_with}
+use Rattle.pli_language.specs.Refusals.{soonest}
+use Rattle.pli_typing.specs.TypedStatementView.{declared_variable_of}
+use Rattle.pli_typing.specs.TypedView.{variable_of}
 use Rattle.pli_declare.proofs.Chains.{drop_here}
 use Rattle.pli_declare.specs.Shown.{held_of}
 use Rattle.pli_reference.specs.Shown.{scope_of}

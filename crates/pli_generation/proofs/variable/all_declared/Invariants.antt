@@ -1,8 +1,8 @@
 use Rattle.std.proofs.Common.{◌≡◌, ◌++◌, map, drop}
-use Rattle.pli_meaning.specs.Generations.{declared_variable}
-use Rattle.pli_meaning.specs.Judging.{each}
-use Rattle.pli_meaning.specs.Refusals.{soonest}
-use Rattle.pli_meaning.specs.TypedStatementView.{declared_variable_of}
+use Rattle.pli_typing.specs.Generations.{declared_variable}
+use Rattle.pli_typing.specs.Judging.{each}
+use Rattle.pli_language.specs.Refusals.{soonest}
+use Rattle.pli_typing.specs.TypedStatementView.{declared_variable_of}
 use Rattle.pli_reference.specs.Shown.{scope_of}
 use Rattle.pli_variables.specs.Held.{groups_held}
 use Rattle.pli_generation.proofs.variable.all_declared.Given as goal

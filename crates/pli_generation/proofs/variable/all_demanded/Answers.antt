@@ -1,6 +1,6 @@
 use Rattle.std.proofs.Common.{◌≡◌, ◌+◌, ◌∙◌, ◌∷◌, map, drop, ap}
-use Rattle.pli_meaning.specs.Declaring.{own_attributes}
-use Rattle.pli_meaning.specs.Generations.{names_demanded}
+use Rattle.pli_language.specs.Declaring.{own_attributes}
+use Rattle.pli_typing.specs.Generations.{names_demanded}
 use Rattle.pli_declare.proofs.Chains.{drop_here}
 use Rattle.pli_declare.specs.Shown.{held_of}
 use Rattle.pli_operand.specs.Notes.{noted}

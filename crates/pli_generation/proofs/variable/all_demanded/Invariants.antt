@@ -1,7 +1,7 @@
 use Rattle.std.proofs.Common.{◌≡◌, map, drop}
-use Rattle.pli_meaning.specs.Declaring.{own_attributes}
-use Rattle.pli_meaning.specs.Generations.{names_demanded}
-use Rattle.pli_meaning.specs.Judging.{each}
+use Rattle.pli_language.specs.Declaring.{own_attributes}
+use Rattle.pli_typing.specs.Generations.{names_demanded}
+use Rattle.pli_typing.specs.Judging.{each}
 use Rattle.pli_declare.specs.Shown.{held_of}
 use Rattle.pli_operand.specs.Notes.{noted}
 use Rattle.pli_operand.specs.Shown.{notes_of}

@@ -1,6 +1,6 @@
 use Rattle.std.proofs.Common.{◌≡◌, ◌++◌, map, drop}
-use Rattle.pli_meaning.specs.Generations as G
-use Rattle.pli_meaning.specs.TypedStatementView.{member_of}
+use Rattle.pli_typing.specs.Generations as G
+use Rattle.pli_typing.specs.TypedStatementView.{member_of}
 use Rattle.pli_declare.specs.Shown.{held_of}
 use Rattle.pli_generation.proofs.variable.members_of.Given as goal
 

@@ -1,5 +1,5 @@
 use Rattle.std.proofs.Common.{sym, subst}
-use Rattle.pli_meaning.specs.declared.token.Kind.TheVariants as K
+use Rattle.pli_language.specs.declared.token.Kind.TheVariants as K
 use Rattle.pli_lex.specs.Pieces.{IsTokenOf}
 use Rattle.pli_lex.proofs.Pieces.{name_token, name_over}
 use Rattle.pli_lex.proofs.piece.name.Goals as goal

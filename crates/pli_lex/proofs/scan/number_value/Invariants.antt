@@ -1,5 +1,5 @@
 use Rattle.std.proofs.Common.{◌≡◌, ◌≤◌, drop}
-use Rattle.pli_meaning.specs.Tokens.{number_from}
+use Rattle.pli_language.specs.Tokens.{number_from}
 use Rattle.pli_lex.proofs.scan.number_value.Given as goal
 
 abbrev pub invariant-loop-digit : goal.invariant-loop-digit

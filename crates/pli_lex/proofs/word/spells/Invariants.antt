@@ -1,5 +1,5 @@
 use Rattle.std.proofs.Common.{◌≡◌, drop}
-use Rattle.pli_meaning.specs.Keywords.{in_upper_case, same_bytes}
+use Rattle.pli_language.specs.Keywords.{in_upper_case, same_bytes}
 use Rattle.pli_lex.proofs.word.spells.Given as goal
 
 abbrev pub invariant-loop-i : goal.invariant-loop-i

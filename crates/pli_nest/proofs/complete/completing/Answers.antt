@@ -1,5 +1,5 @@
 use Rattle.std.proofs.Common.{◌≡◌, IfOk, refl, sym, subst}
-use Rattle.pli_meaning.specs.View.{stmt_of}
+use Rattle.pli_language.specs.View.{stmt_of}
 use Rattle.pli_nest.specs.Steps.{Stays, completing}
 use Rattle.pli_nest.specs.View.{frame_of, step_of}
 use Rattle.pli_nest.proofs.complete.completing.Goals as goal

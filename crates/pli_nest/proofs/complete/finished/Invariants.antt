@@ -1,5 +1,5 @@
 use Rattle.std.proofs.Common.{◌≡◌, vec_len}
-use Rattle.pli_meaning.specs.View.{stmt_of}
+use Rattle.pli_language.specs.View.{stmt_of}
 use Rattle.pli_nest.specs.Steps.{finished}
 use Rattle.pli_nest.specs.View.{frames_of}
 use Rattle.pli_nest.proofs.complete.finished.Given as goal

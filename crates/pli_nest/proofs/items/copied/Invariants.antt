@@ -1,5 +1,5 @@
 use Rattle.std.proofs.Common.{◌≡◌, ◌++◌, map, length}
-use Rattle.pli_meaning.specs.View.{name_of}
+use Rattle.pli_language.specs.View.{name_of}
 use Rattle.pli_nest.proofs.items.copied.Given as goal
 
 abbrev pub invariant-loop-first : goal.invariant-loop-first

@@ -1,7 +1,7 @@
 use Rattle.std.proofs.Common.{◌≡◌, vec_len}
 use Rattle.std.specs.Prelude.{map}
-use Rattle.pli_meaning.specs.Nesting.{items_of_list}
-use Rattle.pli_meaning.specs.View.{item_of, items_of}
+use Rattle.pli_language.specs.Nesting.{items_of_list}
+use Rattle.pli_language.specs.View.{item_of, items_of}
 use Rattle.pli_nest.specs.Steps.{items_onto}
 use Rattle.pli_nest.proofs.items.items_in.Given as goal
 

@@ -1,5 +1,5 @@
 use Rattle.std.proofs.Common.{ap, sym, ◌∙◌}
-use Rattle.pli_meaning.specs.Nesting as N
+use Rattle.pli_language.specs.Nesting as N
 use Rattle.pli_phrase.proofs.Newest.{newest_none}
 use Rattle.pli_nest.proofs.Lists.{nothing}
 use Rattle.pli_nest.specs.View.{frame_of, frames_of}

@@ -1,5 +1,5 @@
 use Rattle.std.proofs.Common.{◌≡◌, ◌+◌, ◌≤◌, length}
-use Rattle.pli_meaning.specs.Nesting as N
+use Rattle.pli_language.specs.Nesting as N
 use Rattle.pli_nest.specs.View.{frames_of}
 use Rattle.pli_nest.proofs.limits.units.Given as goal
 

@@ -1,8 +1,8 @@
 use Rattle.std.proofs.Common.{map, [], ◌∷◌, ap, sym, ◌∙◌}
 use Rattle.std.specs.Prelude.{if◌then◌else◌}
-use Rattle.pli_meaning.specs.declared.fault.SourceKind.TheVariants.{EndName}
-use Rattle.pli_meaning.specs.Marks.{fault_at}
-use Rattle.pli_meaning.specs.View.{name_of}
+use Rattle.pli_language.specs.declared.fault.SourceKind.TheVariants.{EndName}
+use Rattle.pli_language.specs.Marks.{fault_at}
+use Rattle.pli_language.specs.View.{name_of}
 use Rattle.pli_nest.proofs.EndNames.{end_fault_among}
 use Rattle.pli_nest.proofs.place.end_fault.Goals as goal
 

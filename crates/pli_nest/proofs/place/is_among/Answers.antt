@@ -1,5 +1,5 @@
 use Rattle.std.proofs.Common.{map, ap, sym, ◌∙◌}
-use Rattle.pli_meaning.specs.View.{name_of}
+use Rattle.pli_language.specs.View.{name_of}
 use Rattle.pli_nest.specs.Steps.{is_among}
 use Rattle.pli_nest.proofs.EndNames.{among_none}
 use Rattle.pli_nest.proofs.Lists.{nothing}

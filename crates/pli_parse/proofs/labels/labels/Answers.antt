@@ -1,9 +1,9 @@
 use Rattle.std.proofs.Common.{◌≡◌, ℕ, List, [], ◌∷◌, ◌++◌, map, sym, ap, ◌∙◌}
 use Rattle.std.proofs.lemmas.List.{map_push}
-use Rattle.pli_meaning.specs.declared.token.Token.{Token}
-use Rattle.pli_meaning.specs.Spells.{name_at}
-use Rattle.pli_meaning.specs.Tree as T
-use Rattle.pli_meaning.specs.View.{name_of, option_of}
+use Rattle.pli_language.specs.declared.token.Token.{Token}
+use Rattle.pli_language.specs.Spells.{name_at}
+use Rattle.pli_language.specs.Tree as T
+use Rattle.pli_language.specs.View.{name_of, option_of}
 use Rattle.pli_parse.specs.Reading.{labels_from}
 use Rattle.pli_parse.proofs.LabelLaws.{after_labels, labels_on, labels_end}
 use Rattle.pli_parse.proofs.labels.labels.Goals as goal

@@ -1,5 +1,5 @@
 use Rattle.std.proofs.Common.{◌≡◌, length, map}
-use Rattle.pli_meaning.specs.View.{name_of}
+use Rattle.pli_language.specs.View.{name_of}
 use Rattle.pli_parse.specs.Reading.{labels_from}
 use Rattle.pli_parse.proofs.LabelLaws.{after_labels}
 use Rattle.pli_parse.proofs.labels.labels.Given as goal

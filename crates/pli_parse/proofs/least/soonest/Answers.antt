@@ -1,6 +1,6 @@
 use Rattle.std.proofs.Common.{◌+◌, drop, sym, ap, ◌∙◌}
 use Rattle.std.proofs.lemmas.List.{drop_all, at_drop_more}
-use Rattle.pli_meaning.specs.Refusals.{soonest}
+use Rattle.pli_language.specs.Refusals.{soonest}
 use Rattle.pli_parse.proofs.least.soonest.Goals as goal
 
 pub loop-fault-preserved : goal.loop-fault-preserved

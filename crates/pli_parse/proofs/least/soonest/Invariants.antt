@@ -1,5 +1,5 @@
 use Rattle.std.proofs.Common.{◌≡◌, drop}
-use Rattle.pli_meaning.specs.Refusals.{soonest}
+use Rattle.pli_language.specs.Refusals.{soonest}
 use Rattle.pli_parse.proofs.least.soonest.Given as goal
 
 abbrev pub invariant-loop-fault : goal.invariant-loop-fault

@@ -1,6 +1,6 @@
 use Rattle.std.proofs.Common.{◌+◌, drop, sym, ap, ◌∙◌, arith}
 use Rattle.std.proofs.lemmas.List.{drop_all, at_drop_more}
-use Rattle.pli_meaning.specs.Marks.{parentheses_marks}
+use Rattle.pli_language.specs.Marks.{parentheses_marks}
 use Rattle.pli_phrase.specs.View.{marks_of}
 use Rattle.pli_parse.proofs.parentheses.parentheses.Goals as goal
 

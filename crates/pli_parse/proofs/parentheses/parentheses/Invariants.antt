@@ -1,5 +1,5 @@
 use Rattle.std.proofs.Common.{◌≡◌, ◌≤◌, drop}
-use Rattle.pli_meaning.specs.Marks.{parentheses_marks}
+use Rattle.pli_language.specs.Marks.{parentheses_marks}
 use Rattle.pli_phrase.specs.View.{marks_of}
 use Rattle.pli_parse.proofs.parentheses.parentheses.Given as goal
 

@@ -1,6 +1,6 @@
 use Rattle.std.proofs.Common.{◌≡◌, None, Some, ℕ, List, sym, ap, ◌∙◌}
-use Rattle.pli_meaning.specs.declared.token.Token.{Token}
-use Rattle.pli_meaning.specs.Nesting.{Nest, outermost}
+use Rattle.pli_language.specs.declared.token.Token.{Token}
+use Rattle.pli_language.specs.Nesting.{Nest, outermost}
 use Rattle.pli_nest.specs.View.{nest_of}
 use Rattle.pli_parse.specs.Answers.{Verdict, answer, On, Ends, stepped}
 use Rattle.pli_parse.specs.Reading.{parsed, turn}

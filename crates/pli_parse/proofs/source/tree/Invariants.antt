@@ -1,5 +1,5 @@
 use Rattle.std.proofs.Common.{None, length}
-use Rattle.pli_meaning.specs.Nesting.{outermost}
+use Rattle.pli_language.specs.Nesting.{outermost}
 use Rattle.pli_nest.specs.View.{nest_of}
 use Rattle.pli_parse.specs.Answers.{answer}
 use Rattle.pli_parse.specs.Reading.{parsed}

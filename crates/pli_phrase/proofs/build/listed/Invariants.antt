@@ -1,6 +1,6 @@
 use Rattle.std.proofs.Common.{◌≡◌, vec_len}
-use Rattle.pli_meaning.specs.Tree as T
-use Rattle.pli_meaning.specs.View.{expr_of, exprs_of}
+use Rattle.pli_language.specs.Tree as T
+use Rattle.pli_language.specs.View.{expr_of, exprs_of}
 use Rattle.pli_phrase.specs.Reading.{exprs_with}
 use Rattle.pli_phrase.specs.View.{newest}
 use Rattle.pli_phrase.proofs.build.listed.Given as goal

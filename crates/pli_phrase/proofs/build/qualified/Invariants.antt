@@ -1,5 +1,5 @@
 use Rattle.std.proofs.Common.{◌≡◌, vec_len}
-use Rattle.pli_meaning.specs.View.{qualified_of}
+use Rattle.pli_language.specs.View.{qualified_of}
 use Rattle.pli_phrase.specs.Reading.{qualified}
 use Rattle.pli_phrase.specs.View.{newest, qualifier_of}
 use Rattle.pli_phrase.proofs.build.qualified.Given as goal

@@ -1,5 +1,5 @@
 use Rattle.std.proofs.Common.{◌≡◌, vec_len}
-use Rattle.pli_meaning.specs.View.{expr_of}
+use Rattle.pli_language.specs.View.{expr_of}
 use Rattle.pli_phrase.specs.Reading as R
 use Rattle.pli_phrase.specs.View.{frames_of}
 use Rattle.pli_phrase.proofs.engine.climbed.Given as goal

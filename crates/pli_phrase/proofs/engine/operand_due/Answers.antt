@@ -1,5 +1,5 @@
 use Rattle.std.proofs.Common.{◌≡◌, List, ℕ, Result, Ok, Err, IfOk, ap, sym, ◌∙◌}
-use Rattle.pli_meaning.specs.declared.token.Kind.TheVariants as K
+use Rattle.pli_language.specs.declared.token.Kind.TheVariants as K
 use Rattle.pli_phrase.specs.Reading as R
 use Rattle.pli_phrase.specs.View.{frames_of, marks_of, step_of}
 use Rattle.pli_phrase.proofs.engine.operand_due.Goals as goal

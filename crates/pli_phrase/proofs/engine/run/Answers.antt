@@ -1,9 +1,9 @@
 use Rattle.std.proofs.Common.{◌≡◌, arith, length, refl, List, [], ◌∷◌, Ok, ap, sym, ◌∙◌, subst}
-use Rattle.pli_meaning.specs.declared.token.Token.{Token}
-use Rattle.pli_meaning.specs.View.{expr_of}
+use Rattle.pli_language.specs.declared.token.Token.{Token}
+use Rattle.pli_language.specs.View.{expr_of}
 use Rattle.pli_phrase.specs.Answers.{Gives}
 use Rattle.pli_phrase.specs.Cursor.{Read}
-use Rattle.pli_meaning.specs.Tree as T
+use Rattle.pli_language.specs.Tree as T
 use Rattle.pli_phrase.specs.Reading as R
 use Rattle.pli_phrase.specs.View.{cursor_of, frames_of, marks_of, state_of, step_of}
 use Rattle.pli_phrase.proofs.Runs.{run_ends, run_empty}

@@ -1,7 +1,7 @@
 use Rattle.std.proofs.Common.{◌≡◌, true, List, [], ◌∷◌, ℕ, suc, length, arith, ap, sym, subst, ◌∙◌}
 use Rattle.std.proofs.lemmas.Result.{err_from_is_err_and}
-use Rattle.pli_meaning.specs.Tree as T
-use Rattle.pli_meaning.specs.View.{expr_of}
+use Rattle.pli_language.specs.Tree as T
+use Rattle.pli_language.specs.View.{expr_of}
 use Rattle.pli_phrase.specs.Cursor.{Cursor, Read}
 use Rattle.pli_phrase.specs.Lists.{past_comma}
 use Rattle.pli_phrase.specs.Reading.{expr_from, item_due, items_from}

@@ -1,5 +1,5 @@
 use Rattle.std.proofs.Common.{length, suc, []}
-use Rattle.pli_meaning.specs.View.{expr_of}
+use Rattle.pli_language.specs.View.{expr_of}
 use Rattle.pli_phrase.specs.Reading.{items_from}
 use Rattle.pli_phrase.specs.View.{cursor_of, newest}
 use Rattle.pli_phrase.proofs.Lists.{OnList}

@@ -1,5 +1,5 @@
 use Rattle.std.proofs.Common.{◌≡◌, ◌++◌, map, drop}
-use Rattle.pli_meaning.specs.Calls.{parameters_at}
+use Rattle.pli_typing.specs.Calls.{parameters_at}
 use Rattle.pli_declare.specs.ShownBlocks.{block_of}
 use Rattle.pli_operand.specs.Shown.{designated_of}
 use Rattle.pli_reference.proofs.call.parameters_at.Given as goal

@@ -1,6 +1,6 @@
 use Rattle.std.proofs.Common.{◌≡◌, ◌∙◌, List, ◌∷◌, [], ◌++◌, map, slice_get, ap, sym}
 use Rattle.std.proofs.lemmas.List.{map_push}
-use Rattle.pli_meaning.specs.Variables.{declarations_at, variables_in}
+use Rattle.pli_typing.specs.Variables.{declarations_at, variables_in}
 use Rattle.pli_declare.specs.ShownBlocks.{block_of}
 use Rattle.pli_operand.specs.Shown.{designated_of}
 use Rattle.pli_variables.specs.ShownShapes.{shape_of}

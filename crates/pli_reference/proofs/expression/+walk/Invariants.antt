@@ -1,5 +1,5 @@
 use Rattle.std.proofs.Common.{◌+◌, ◌*◌}
-use Rattle.pli_meaning.proofs.ExpressionWeights.{expr_weight, reference_weight, qualified_weight, arguments_weight, exprs_weight}
+use Rattle.pli_typing.proofs.ExpressionWeights.{expr_weight, reference_weight, qualified_weight, arguments_weight, exprs_weight}
 use Rattle.pli_reference.proofs.expression.+walk.Given as goal
 
 abbrev pub decreases-expression : goal.decreases-expression

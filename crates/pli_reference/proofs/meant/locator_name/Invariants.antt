@@ -1,6 +1,6 @@
 use Rattle.std.proofs.Common.{◌≡◌, map, drop}
-use Rattle.pli_meaning.specs.Variables.{locator_name}
-use Rattle.pli_meaning.specs.View.{attribute_of}
+use Rattle.pli_typing.specs.Variables.{locator_name}
+use Rattle.pli_language.specs.View.{attribute_of}
 use Rattle.pli_reference.proofs.meant.locator_name.Given as goal
 
 abbrev pub invariant-loop-attribute : goal.invariant-loop-attribute

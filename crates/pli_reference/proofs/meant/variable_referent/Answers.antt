@@ -1,9 +1,9 @@
 use Rattle.std.proofs.Common.{◌≡◌, ◌∙◌, map, ap, ap₂}
 use Rattle.std.specs.List.{list_any}
-use Rattle.pli_meaning.specs.Builtins.{number_list}
-use Rattle.pli_meaning.specs.Converting.{Designates}
-use Rattle.pli_meaning.specs.Declaring.{class_attributes, has}
-use Rattle.pli_meaning.specs.References as R
+use Rattle.pli_typing.specs.Builtins.{number_list}
+use Rattle.pli_typing.specs.Converting.{Designates}
+use Rattle.pli_language.specs.Declaring.{class_attributes, has}
+use Rattle.pli_typing.specs.References as R
 use Rattle.pli_declare.specs.Shown.{held_of}
 use Rattle.pli_reference.specs.Parts.{subscripted_by}
 use Rattle.pli_reference.specs.Shown.{locator_of, named_of, scope_of}

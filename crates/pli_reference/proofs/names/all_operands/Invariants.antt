@@ -1,5 +1,5 @@
 use Rattle.std.proofs.Common.{◌≡◌, ◌++◌, map}
-use Rattle.pli_meaning.specs.References.{all_operands}
+use Rattle.pli_typing.specs.References.{all_operands}
 use Rattle.pli_operand.specs.Shown.{operand_of}
 use Rattle.pli_reference.specs.Shown.{named_of}
 use Rattle.pli_reference.proofs.names.all_operands.Given as goal

@@ -1,7 +1,7 @@
 use Rattle.std.proofs.Common.{rules, tests, ◌∙◌}
 use Rattle.std.proofs.lemmas.Iterator.{YieldsList-from_slice}
 use Rattle.std.proofs.lemmas.Iterator.Search.{any_from_yields_List}
-use Rattle.pli_meaning.specs.References.{Named, is_empty}
+use Rattle.pli_typing.specs.References.{Named, is_empty}
 use Rattle.pli_declaring.proofs.Shown.{any_mapped}
 use Rattle.pli_reference.specs.Shown.{named_of}
 use Rattle.pli_reference.proofs.names.any_empty.Goals as goal

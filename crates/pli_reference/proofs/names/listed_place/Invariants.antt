@@ -1,5 +1,5 @@
 use Rattle.std.proofs.Common.{◌≡◌, map, drop}
-use Rattle.pli_meaning.specs.References.{listed_place}
+use Rattle.pli_typing.specs.References.{listed_place}
 use Rattle.pli_reference.specs.Shown.{named_of}
 use Rattle.pli_reference.proofs.names.listed_place.Given as goal
 

@@ -1,4 +1,4 @@
-use Rattle.pli_meaning.specs.TypedView.{reference_of}
+use Rattle.pli_typing.specs.TypedView.{reference_of}
 use Rattle.pli_reference.proofs.Parts.{element_shown}
 use Rattle.pli_reference.proofs.part.element.Goals as goal
 

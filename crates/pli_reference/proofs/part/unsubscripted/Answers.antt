@@ -1,4 +1,4 @@
-use Rattle.pli_meaning.specs.TypedView.{reference_of}
+use Rattle.pli_typing.specs.TypedView.{reference_of}
 use Rattle.pli_reference.proofs.Parts.{whole_shown}
 use Rattle.pli_reference.proofs.part.unsubscripted.Goals as goal
 

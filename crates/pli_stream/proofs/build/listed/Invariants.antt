@@ -1,5 +1,5 @@
 use Rattle.std.proofs.Common.{◌≡◌, vec_len}
-use Rattle.pli_meaning.specs.View.{formats_of}
+use Rattle.pli_language.specs.View.{formats_of}
 use Rattle.pli_phrase.specs.View.{newest}
 use Rattle.pli_stream.specs.Reading as R
 use Rattle.pli_stream.specs.View.{item_of}

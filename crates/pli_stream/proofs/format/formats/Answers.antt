@@ -1,8 +1,8 @@
 use Rattle.std.proofs.Common.{◌≡◌, arith, sym, ap, ◌∙◌, subst, Bool, Ok}
 use Rattle.std.proofs.lemmas.Result.{err_from_is_err_and}
-use Rattle.pli_meaning.specs.Formats.{Direction}
-use Rattle.pli_meaning.specs.View.{formats_of}
-use Rattle.pli_meaning.specs.Tree as T
+use Rattle.pli_language.specs.Formats.{Direction}
+use Rattle.pli_language.specs.View.{formats_of}
+use Rattle.pli_language.specs.Tree as T
 use Rattle.pli_phrase.specs.Cursor.{Cursor, Read}
 use Rattle.pli_phrase.specs.View.{cursor_of}
 use Rattle.pli_attributes.proofs.Loops.{fails_on}

@@ -1,5 +1,5 @@
 use Rattle.std.proofs.Common.{length, map}
-use Rattle.pli_meaning.specs.View.{edit_pair_of}
+use Rattle.pli_language.specs.View.{edit_pair_of}
 use Rattle.pli_phrase.specs.View.{cursor_of}
 use Rattle.pli_stream.specs.Reading.{pairs_from}
 use Rattle.pli_stream.specs.View.{direction_of}

@@ -1,7 +1,7 @@
 use Rattle.std.proofs.Common.{◌≡◌, vec_len}
 use Rattle.std.specs.Prelude.{map}
-use Rattle.pli_meaning.specs.TypedTree as Y
-use Rattle.pli_meaning.specs.TypedView.{argument_of, arguments_of}
+use Rattle.pli_typing.specs.TypedTree as Y
+use Rattle.pli_typing.specs.TypedView.{argument_of, arguments_of}
 use Rattle.pli_transfer.specs.Shown.{arguments_onto}
 use Rattle.pli_transfer.proofs.argument.arguments_in.Given as goal
 

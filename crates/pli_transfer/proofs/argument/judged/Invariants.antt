@@ -1,8 +1,8 @@
 use Rattle.std.proofs.Common.{◌≡◌}
 use Rattle.std.specs.Prelude.{drop, map}
 use Rattle.std.specs.Vec.Iter.{into_iter_items}
-use Rattle.pli_meaning.specs.Calls.{arguments_judged}
-use Rattle.pli_meaning.specs.TypedView.{argument_of}
+use Rattle.pli_typing.specs.Calls.{arguments_judged}
+use Rattle.pli_typing.specs.TypedView.{argument_of}
 use Rattle.pli_operand.specs.Notes.{noted}
 use Rattle.pli_operand.specs.Shown.{designated_of, notes_of, operand_of}
 use Rattle.pli_transfer.specs.Shown.{arguments_onto, callee_of}

@@ -1,8 +1,8 @@
 use Rattle.std.proofs.Common.{ap}
-use Rattle.pli_meaning.specs.Converting.{operand_stored}
-use Rattle.pli_meaning.specs.TypedStatementView.{stmt_of}
-use Rattle.pli_meaning.specs.TypedTree as Y
-use Rattle.pli_meaning.specs.TypedView.{leaf_type_of, reference_of}
+use Rattle.pli_typing.specs.Converting.{operand_stored}
+use Rattle.pli_typing.specs.TypedStatementView.{stmt_of}
+use Rattle.pli_typing.specs.TypedTree as Y
+use Rattle.pli_typing.specs.TypedView.{leaf_type_of, reference_of}
 use Rattle.pli_operand.specs.Shown.{notes_of, operand_of}
 use Rattle.pli_transfer.proofs.Noted.{noted_in}
 use Rattle.pli_transfer.proofs.assignment.assigned_scalar.Goals as goal

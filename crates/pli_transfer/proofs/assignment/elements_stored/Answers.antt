@@ -1,9 +1,9 @@
 use Rattle.std.proofs.Common.{ap}
 use Rattle.std.specs.Prelude.{Some}
-use Rattle.pli_meaning.specs.Converting.{stored_as}
-use Rattle.pli_meaning.specs.TypedStatementView.{stmt_of}
-use Rattle.pli_meaning.specs.TypedTree as Y
-use Rattle.pli_meaning.specs.TypedView.{leaf_type_of, reference_of, value_of}
+use Rattle.pli_typing.specs.Converting.{stored_as}
+use Rattle.pli_typing.specs.TypedStatementView.{stmt_of}
+use Rattle.pli_typing.specs.TypedTree as Y
+use Rattle.pli_typing.specs.TypedView.{leaf_type_of, reference_of, value_of}
 use Rattle.pli_operand.specs.Shown.{notes_of}
 use Rattle.pli_transfer.proofs.Noted.{noted_in}
 use Rattle.pli_transfer.proofs.assignment.elements_stored.Goals as goal

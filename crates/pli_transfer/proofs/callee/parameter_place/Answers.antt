@@ -1,8 +1,8 @@
 use Rattle.std.proofs.Common.{rules, tests, ◌≡◌, ◌∙◌, ◌==◌, sym, refl, Bool, true, false}
 use Rattle.std.proofs.lemmas.Iterator.{YieldsList-from_slice, IsFirst-from_position, index_from_first}
-use Rattle.pli_meaning.specs.Calls.{index_in}
-use Rattle.pli_meaning.specs.Variables.{index_where}
-use Rattle.pli_meaning.specs.Converting.{Designated}
+use Rattle.pli_typing.specs.Calls.{index_in}
+use Rattle.pli_typing.specs.Variables.{index_where}
+use Rattle.pli_typing.specs.Converting.{Designated}
 use Rattle.pli_operand.specs.Shown.{designated_of}
 use Rattle.pli_transfer.proofs.Firsts.{hit, miss, index_mapped}
 use Rattle.pli_transfer.proofs.callee.parameter_place.Goals as goal

@@ -1,6 +1,6 @@
 use Rattle.std.proofs.Common.{◌∙◌, map, ap}
-use Rattle.pli_meaning.specs.Assigning.{get_item}
-use Rattle.pli_meaning.specs.TypedStatementView.{get_item_of}
+use Rattle.pli_typing.specs.Assigning.{get_item}
+use Rattle.pli_typing.specs.TypedStatementView.{get_item_of}
 use Rattle.pli_operand.specs.Shown.{notes_of, operand_of}
 use Rattle.pli_transfer.proofs.Arguments.{none_there}
 use Rattle.pli_transfer.proofs.Each.{each_end, each_noted, each_value}

@@ -1,7 +1,7 @@
 use Rattle.std.proofs.Common.{◌≡◌, ◌++◌, map}
-use Rattle.pli_meaning.specs.Assigning.{put_item}
-use Rattle.pli_meaning.specs.Judging.{each}
-use Rattle.pli_meaning.specs.TypedStatementView.{put_item_of}
+use Rattle.pli_typing.specs.Assigning.{put_item}
+use Rattle.pli_typing.specs.Judging.{each}
+use Rattle.pli_typing.specs.TypedStatementView.{put_item_of}
 use Rattle.pli_operand.specs.Notes.{noted}
 use Rattle.pli_operand.specs.Shown.{notes_of, operand_of}
 use Rattle.pli_transfer.proofs.item.put_items.Given as goal

@@ -2,9 +2,9 @@ use Rattle.std.proofs.Common.{rules, tests, refl, ap, ◌∙◌, Bool}
 use Rattle.std.specs.Prelude.{not, ◌&&◌, ◌==◌, length}
 use Rattle.std.proofs.lemmas.Iterator.{YieldsList-from_slice, YieldsList-from_zip}
 use Rattle.std.proofs.lemmas.Iterator.Search.{any_from_yields_List}
-use Rattle.pli_meaning.specs.Assigning.{leaves_match, same_type}
-use Rattle.pli_meaning.specs.TypedTree.{Leaf}
-use Rattle.pli_meaning.specs.TypedView.{leaf_of}
+use Rattle.pli_typing.specs.Assigning.{leaves_match, same_type}
+use Rattle.pli_typing.specs.TypedTree.{Leaf}
+use Rattle.pli_typing.specs.TypedView.{leaf_of}
 use Rattle.pli_operand.specs.Shown.{leaf_behind}
 use Rattle.pli_transfer.proofs.Pairs.{each_pair, unequal}
 use Rattle.pli_transfer.proofs.matching.all_match.Goals as goal

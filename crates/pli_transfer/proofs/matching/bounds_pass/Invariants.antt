@@ -1,6 +1,6 @@
 use Rattle.std.proofs.Common.{◌≡◌, map, length}
-use Rattle.pli_meaning.specs.Calls.{bounds_pass}
-use Rattle.pli_meaning.specs.TypedView.{bounds_of}
+use Rattle.pli_typing.specs.Calls.{bounds_pass}
+use Rattle.pli_typing.specs.TypedView.{bounds_of}
 use Rattle.pli_transfer.proofs.matching.bounds_pass.Given as goal
 
 abbrev pub invariant-loop-p : goal.invariant-loop-p

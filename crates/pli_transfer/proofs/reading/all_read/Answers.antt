@@ -2,9 +2,9 @@ use Rattle.std.proofs.Common.{rules, tests, ap, ◌∙◌, Bool}
 use Rattle.std.specs.Prelude.{not}
 use Rattle.std.proofs.lemmas.Iterator.{YieldsList-from_slice}
 use Rattle.std.proofs.lemmas.Iterator.Search.{any_from_yields_List}
-use Rattle.pli_meaning.specs.Assigning.{is_read}
-use Rattle.pli_meaning.specs.TypedTree.{Leaf}
-use Rattle.pli_meaning.specs.TypedView.{leaf_of}
+use Rattle.pli_typing.specs.Assigning.{is_read}
+use Rattle.pli_typing.specs.TypedTree.{Leaf}
+use Rattle.pli_typing.specs.TypedView.{leaf_of}
 use Rattle.pli_operand.specs.Shown.{leaf_behind}
 use Rattle.pli_declaring.proofs.Shown.{any_mapped}
 use Rattle.pli_transfer.proofs.reading.all_read.Goals as goal

@@ -1,5 +1,5 @@
 use Rattle.std.proofs.Common.{◌∙◌, ap}
-use Rattle.pli_meaning.specs.View.{stmt_of}
+use Rattle.pli_language.specs.View.{stmt_of}
 use Rattle.pli_tree.specs.Shown.{alone, context_of}
 use Rattle.pli_generation.proofs.Extents.{found_is}
 use Rattle.pli_operand.specs.Notes.{noted}

@@ -1,6 +1,6 @@
 use Rattle.std.proofs.Common.{◌∙◌, ap}
-use Rattle.pli_meaning.specs.SingleStatements as S
-use Rattle.pli_meaning.specs.View.{counting_of}
+use Rattle.pli_typing.specs.SingleStatements as S
+use Rattle.pli_language.specs.View.{counting_of}
 use Rattle.pli_reference.specs.Shown.{scope_of}
 use Rattle.pli_generation.proofs.Extents.{found_is}
 use Rattle.pli_operand.specs.Notes.{noted}

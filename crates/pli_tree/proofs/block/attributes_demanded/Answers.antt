@@ -1,6 +1,6 @@
 use Rattle.std.proofs.Common.{map}
-use Rattle.pli_meaning.specs.Generations as G
-use Rattle.pli_meaning.specs.View.{attribute_of}
+use Rattle.pli_typing.specs.Generations as G
+use Rattle.pli_language.specs.View.{attribute_of}
 use Rattle.pli_generation.proofs.Extents.{found_is}
 use Rattle.pli_operand.specs.Shown.{notes_of}
 use Rattle.pli_variables.specs.Rows.{blocks_shown}

@@ -1,7 +1,7 @@
 use Rattle.std.proofs.Common.{◌≡◌, ◌++◌, map, drop}
-use Rattle.pli_meaning.specs.Refusals.{soonest}
-use Rattle.pli_meaning.specs.Resolving.{block_variables}
-use Rattle.pli_meaning.specs.TypedStatementView.{declared_variable_of}
+use Rattle.pli_language.specs.Refusals.{soonest}
+use Rattle.pli_typing.specs.Resolving.{block_variables}
+use Rattle.pli_typing.specs.TypedStatementView.{declared_variable_of}
 use Rattle.pli_declare.specs.ShownBlocks.{block_of}
 use Rattle.pli_variables.specs.Rows.{blocks_shown}
 use Rattle.pli_tree.proofs.block.block_variables.Given as goal

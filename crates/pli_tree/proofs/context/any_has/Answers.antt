@@ -2,7 +2,7 @@ use Rattle.std.proofs.Common.{rules, tests, ◌∙◌}
 use Rattle.std.specs.List.{list_any}
 use Rattle.std.proofs.lemmas.Iterator.{YieldsList-from_slice}
 use Rattle.std.proofs.lemmas.Iterator.Search.{any_from_yields_List}
-use Rattle.pli_meaning.specs.Declaring.{same_place}
+use Rattle.pli_language.specs.Declaring.{same_place}
 use Rattle.pli_tree.specs.Shown.{labels_of_list}
 use Rattle.pli_tree.proofs.Labels.{any_flat}
 use Rattle.pli_tree.proofs.context.any_has.Goals as goal

@@ -1,8 +1,8 @@
 use Rattle.std.proofs.Common.{rules, tests, ◌∙◌}
 use Rattle.std.proofs.lemmas.Iterator.{YieldsList-from_slice}
 use Rattle.std.proofs.lemmas.Iterator.Search.{any_from_yields_List}
-use Rattle.pli_meaning.specs.Declaring.{same_place}
-use Rattle.pli_meaning.specs.View.{name_of}
+use Rattle.pli_language.specs.Declaring.{same_place}
+use Rattle.pli_language.specs.View.{name_of}
 use Rattle.pli_declaring.proofs.Shown.{any_mapped}
 use Rattle.pli_tree.proofs.context.any_label.Goals as goal
 

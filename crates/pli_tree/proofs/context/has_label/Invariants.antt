@@ -1,8 +1,8 @@
 use Rattle.std.proofs.Common.{◌≡◌, ◌≤◌}
 use Rattle.std.specs.List.{list_any}
-use Rattle.pli_meaning.specs.Declaring.{same_place}
-use Rattle.pli_meaning.specs.SingleStatements.{labels_in}
-use Rattle.pli_meaning.specs.View.{items_of}
+use Rattle.pli_language.specs.Declaring.{same_place}
+use Rattle.pli_typing.specs.SingleStatements.{labels_in}
+use Rattle.pli_language.specs.View.{items_of}
 use Rattle.pli_declare.proofs.Weights.{items_weight}
 use Rattle.pli_tree.proofs.context.has_label.Given as goal
 

@@ -1,9 +1,9 @@
 use Rattle.std.proofs.Common.{◌≡◌, vec_len}
 use Rattle.std.specs.Prelude.{map}
-use Rattle.pli_meaning.specs.Resolving.{letters_of}
-use Rattle.pli_meaning.specs.TypedStatementView.{stmts_of}
-use Rattle.pli_meaning.specs.TypedTree as Y
-use Rattle.pli_meaning.specs.View.{name_of}
+use Rattle.pli_typing.specs.Resolving.{letters_of}
+use Rattle.pli_typing.specs.TypedStatementView.{stmts_of}
+use Rattle.pli_typing.specs.TypedTree as Y
+use Rattle.pli_language.specs.View.{name_of}
 use Rattle.pli_tree.specs.Shown.{part_of, parts_onto}
 use Rattle.pli_tree.proofs.listed.listed.Given as goal
 

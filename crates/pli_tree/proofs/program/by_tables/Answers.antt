@@ -1,8 +1,8 @@
 use Rattle.std.proofs.Common.{◌∙◌, ap}
 use Rattle.std.specs.Prelude.{None}
-use Rattle.pli_meaning.specs.Refusals.{soonest}
-use Rattle.pli_meaning.specs.Resolving as Z
-use Rattle.pli_meaning.specs.View.{items_of, tree_of}
+use Rattle.pli_language.specs.Refusals.{soonest}
+use Rattle.pli_typing.specs.Resolving as Z
+use Rattle.pli_language.specs.View.{items_of, tree_of}
 use Rattle.pli_variables.specs.Rows.{blocks_shown}
 use Rattle.pli_tree.specs.Shown.{context_of}
 use Rattle.pli_tree.proofs.Blocks.{faults_are}

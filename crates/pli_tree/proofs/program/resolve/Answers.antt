@@ -1,9 +1,9 @@
 use Rattle.std.proofs.Common.{◌≡◌, [], Option, inr, subst}
 use Rattle.std.specs.Prelude.{MatchOption}
-use Rattle.pli_meaning.specs.declared.fault.SourceFault.{SourceFault}
-use Rattle.pli_meaning.specs.Resolving as Z
-use Rattle.pli_meaning.specs.TypedStatementView.{program_of}
-use Rattle.pli_meaning.specs.View.{tree_of}
+use Rattle.pli_language.specs.declared.fault.SourceFault.{SourceFault}
+use Rattle.pli_typing.specs.Resolving as Z
+use Rattle.pli_typing.specs.TypedStatementView.{program_of}
+use Rattle.pli_language.specs.View.{tree_of}
 use Rattle.pli_tree.proofs.Blocks.{found_least, resolved_is}
 use Rattle.pli_tree.proofs.program.resolve.Goals as goal
 

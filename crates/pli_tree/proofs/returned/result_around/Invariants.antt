@@ -1,5 +1,5 @@
 use Rattle.std.proofs.Common.{◌≡◌, length}
-use Rattle.pli_meaning.specs.SingleStatements.{result_around}
+use Rattle.pli_typing.specs.SingleStatements.{result_around}
 use Rattle.pli_variables.specs.Rows.{blocks_shown}
 use Rattle.pli_tree.proofs.returned.result_around.Given as goal
 

@@ -1,7 +1,7 @@
 use Rattle.std.proofs.Common.{◌≡◌, ◌+◌, ◌∙◌, ◌∷◌, map, drop, ap}
-use Rattle.pli_meaning.specs.Generations as G
-use Rattle.pli_meaning.specs.TypedStatementView.{freeing_of}
-use Rattle.pli_meaning.specs.View.{freeing_of as freed_of}
+use Rattle.pli_typing.specs.Generations as G
+use Rattle.pli_typing.specs.TypedStatementView.{freeing_of}
+use Rattle.pli_language.specs.View.{freeing_of as freed_of}
 use Rattle.pli_declare.proofs.Chains.{drop_here}
 use Rattle.pli_operand.specs.Shown.{notes_of}
 use Rattle.pli_reference.specs.Shown.{scope_of}

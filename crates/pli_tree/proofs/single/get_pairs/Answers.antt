@@ -1,7 +1,7 @@
 use Rattle.std.proofs.Common.{◌≡◌, ◌+◌, ◌∙◌, ◌∷◌, map, drop, ap}
-use Rattle.pli_meaning.specs.SingleStatements as S
-use Rattle.pli_meaning.specs.TypedStatementView.{get_pair_of}
-use Rattle.pli_meaning.specs.View.{edit_pair_of}
+use Rattle.pli_typing.specs.SingleStatements as S
+use Rattle.pli_typing.specs.TypedStatementView.{get_pair_of}
+use Rattle.pli_language.specs.View.{edit_pair_of}
 use Rattle.pli_declare.proofs.Chains.{drop_here}
 use Rattle.pli_operand.specs.Shown.{notes_of}
 use Rattle.pli_reference.specs.Shown.{scope_of}

@@ -1,8 +1,8 @@
 use Rattle.std.proofs.Common.{◌≡◌, ◌++◌, map, drop}
-use Rattle.pli_meaning.specs.Judging.{each}
-use Rattle.pli_meaning.specs.SingleStatements as S
-use Rattle.pli_meaning.specs.TypedStatementView.{get_pair_of}
-use Rattle.pli_meaning.specs.View.{edit_pair_of}
+use Rattle.pli_typing.specs.Judging.{each}
+use Rattle.pli_typing.specs.SingleStatements as S
+use Rattle.pli_typing.specs.TypedStatementView.{get_pair_of}
+use Rattle.pli_language.specs.View.{edit_pair_of}
 use Rattle.pli_operand.specs.Notes.{noted}
 use Rattle.pli_operand.specs.Shown.{notes_of}
 use Rattle.pli_reference.specs.Shown.{scope_of}

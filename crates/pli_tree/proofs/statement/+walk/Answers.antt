@@ -1,13 +1,13 @@
 use Rattle.std.proofs.Common.{◌≡◌, ◌∙◌, ◌++◌, map, refl, sym, ap, append-nil, arith}
 use Rattle.std.specs.Prelude.{None, Some}
 use Rattle.std.proofs.lemmas.Result.{IfOk-weaker}
-use Rattle.pli_meaning.specs.Refusals.{soonest}
-use Rattle.pli_meaning.specs.Resolving as Z
-use Rattle.pli_meaning.specs.Tree as T
-use Rattle.pli_meaning.specs.TypedTree as Y
-use Rattle.pli_meaning.specs.TypedStatementView.{procedure_of, stmts_of}
-use Rattle.pli_meaning.specs.View.{expr_of, item_of, items_of, name_of, option_of, stmt_of}
-use Rattle.pli_meaning.proofs.Views.{items_of-More}
+use Rattle.pli_language.specs.Refusals.{soonest}
+use Rattle.pli_typing.specs.Resolving as Z
+use Rattle.pli_language.specs.Tree as T
+use Rattle.pli_typing.specs.TypedTree as Y
+use Rattle.pli_typing.specs.TypedStatementView.{procedure_of, stmts_of}
+use Rattle.pli_language.specs.View.{expr_of, item_of, items_of, name_of, option_of, stmt_of}
+use Rattle.pli_language.proofs.Views.{items_of-More}
 use Rattle.pli_declare.proofs.Weights.{items_weight}
 use Rattle.pli_declaring.proofs.Faults.{soonest_none}
 use Rattle.pli_tree.specs.Shown.{context_of}

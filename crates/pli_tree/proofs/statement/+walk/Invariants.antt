@@ -1,8 +1,8 @@
 use Rattle.std.proofs.Common.{◌≡◌, ◌≤◌, ◌+◌, ◌*◌, ◌++◌, map, length}
-use Rattle.pli_meaning.specs.Refusals.{soonest}
-use Rattle.pli_meaning.specs.Resolving.{statements}
-use Rattle.pli_meaning.specs.TypedStatementView.{procedure_of}
-use Rattle.pli_meaning.specs.View.{items_of}
+use Rattle.pli_language.specs.Refusals.{soonest}
+use Rattle.pli_typing.specs.Resolving.{statements}
+use Rattle.pli_typing.specs.TypedStatementView.{procedure_of}
+use Rattle.pli_language.specs.View.{items_of}
 use Rattle.pli_declare.proofs.Weights.{stmt_weight, item_weight, items_weight}
 use Rattle.pli_tree.specs.Shown.{behind_items, context_of, part_of, parts_onto}
 use Rattle.pli_tree.proofs.statement.+walk.Given as goal

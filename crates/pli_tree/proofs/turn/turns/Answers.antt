@@ -1,6 +1,6 @@
-use Rattle.pli_meaning.specs.TypedStatementView.{turns_of}
-use Rattle.pli_meaning.specs.TypedView.{bit_of, number_of}
-use Rattle.pli_meaning.specs.View.{counting_of, option_of}
+use Rattle.pli_typing.specs.TypedStatementView.{turns_of}
+use Rattle.pli_typing.specs.TypedView.{bit_of, number_of}
+use Rattle.pli_language.specs.View.{counting_of, option_of}
 use Rattle.pli_operand.specs.Shown.{notes_of, operand_of}
 use Rattle.pli_reference.specs.Shown.{scope_of}
 use Rattle.pli_transfer.specs.Shown.{scalar_of}

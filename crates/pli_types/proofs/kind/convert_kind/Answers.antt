@@ -1,7 +1,7 @@
 use Rattle.std.proofs.Common.{◌≡◌, sym, subst, Option, Some, None, MatchOption}
-use Rattle.pli_meaning.specs.Kinds.{Kind, Converts, NeverConverts, conversion}
-use Rattle.pli_meaning.specs.View.{option_of}
-use Rattle.pli_meaning.proofs.Conversions.{decides}
+use Rattle.pli_typing.specs.Kinds.{Kind, Converts, NeverConverts, conversion}
+use Rattle.pli_language.specs.View.{option_of}
+use Rattle.pli_typing.proofs.Conversions.{decides}
 use Rattle.pli_types.specs.declared.kind.Conversion.{Conversion}
 use Rattle.pli_types.specs.View.{conversion_of, kind_of}
 use Rattle.pli_types.proofs.kind.convert_kind.Goals as goal

@@ -1,5 +1,5 @@
 use Rattle.std.proofs.Common.{◌≡◌, ◌*◌, map, drop}
-use Rattle.pli_meaning.specs.Signatures.{capped, element_count}
+use Rattle.pli_typing.specs.Signatures.{capped, element_count}
 use Rattle.pli_types.specs.View.{bounds_of}
 use Rattle.pli_types.proofs.size.element_count.Given as goal
 

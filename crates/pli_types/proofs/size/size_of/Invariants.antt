@@ -1,5 +1,5 @@
 use Rattle.std.proofs.Common.{◌≡◌, ◌+◌, map, drop}
-use Rattle.pli_meaning.specs.Signatures.{capped, leaves_size}
+use Rattle.pli_typing.specs.Signatures.{capped, leaves_size}
 use Rattle.pli_types.specs.View.{leaf_of}
 use Rattle.pli_types.proofs.size.size_of.Given as goal
 

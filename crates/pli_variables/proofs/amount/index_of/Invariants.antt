@@ -1,5 +1,5 @@
 use Rattle.std.proofs.Common.{◌≡◌, ◌+◌, drop}
-use Rattle.pli_meaning.specs.Variables.{index_where}
+use Rattle.pli_typing.specs.Variables.{index_where}
 use Rattle.pli_variables.specs.Written.{all_shown, stands_at}
 use Rattle.pli_variables.proofs.amount.index_of.Given as goal
 

@@ -1,6 +1,6 @@
 use Rattle.std.proofs.Common.{◌≡◌, drop, map}
-use Rattle.pli_meaning.specs.Variables.{size_of_area}
-use Rattle.pli_meaning.specs.View.{attribute_of}
+use Rattle.pli_typing.specs.Variables.{size_of_area}
+use Rattle.pli_language.specs.View.{attribute_of}
 use Rattle.pli_variables.specs.Written.{all_shown}
 use Rattle.pli_variables.proofs.amount.size_of_area.Given as goal
 

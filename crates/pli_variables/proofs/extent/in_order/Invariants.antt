@@ -1,5 +1,5 @@
 use Rattle.std.proofs.Common.{◌≡◌, length}
-use Rattle.pli_meaning.specs.Variables.{in_order}
+use Rattle.pli_typing.specs.Variables.{in_order}
 use Rattle.pli_variables.specs.Written.{all_shown, ordered_on}
 use Rattle.pli_variables.proofs.extent.in_order.Given as goal
 

@@ -1,5 +1,5 @@
 use Rattle.std.proofs.Common.{◌≡◌, ◌++◌, take, drop}
-use Rattle.pli_meaning.specs.Variables.{with_extent}
+use Rattle.pli_typing.specs.Variables.{with_extent}
 use Rattle.pli_variables.specs.Written.{all_shown, extent_shown}
 use Rattle.pli_variables.proofs.extent.place_among.Given as goal
 

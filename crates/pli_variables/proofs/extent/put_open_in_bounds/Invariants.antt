@@ -1,7 +1,7 @@
 use Rattle.std.proofs.Common.{◌≡◌, ◌++◌, map, drop}
 use Rattle.std.specs.List.{flat_map}
-use Rattle.pli_meaning.specs.View.{bound_of}
-use Rattle.pli_meaning.specs.Variables.{open_in_bound}
+use Rattle.pli_language.specs.View.{bound_of}
+use Rattle.pli_typing.specs.Variables.{open_in_bound}
 use Rattle.pli_variables.specs.Written.{all_shown}
 use Rattle.pli_variables.proofs.extent.put_open_in_bounds.Given as goal
 

@@ -1,5 +1,5 @@
 use Rattle.std.proofs.Common.{◌≡◌, ◌++◌, drop, map}
-use Rattle.pli_meaning.specs.Variables.{written_extents}
+use Rattle.pli_typing.specs.Variables.{written_extents}
 use Rattle.pli_variables.specs.Held.{groups_held}
 use Rattle.pli_variables.specs.Written.{groups_written}
 use Rattle.pli_variables.proofs.home.written_in.Given as goal

@@ -1,6 +1,6 @@
 use Rattle.std.proofs.Common.{◌≡◌, drop, map}
-use Rattle.pli_meaning.specs.Variables.{area_name}
-use Rattle.pli_meaning.specs.View.{attribute_of}
+use Rattle.pli_typing.specs.Variables.{area_name}
+use Rattle.pli_language.specs.View.{attribute_of}
 use Rattle.pli_variables.proofs.kind.area_name.Given as goal
 
 abbrev pub invariant-loop-attribute : goal.invariant-loop-attribute

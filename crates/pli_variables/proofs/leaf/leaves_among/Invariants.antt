@@ -1,6 +1,6 @@
 use Rattle.std.proofs.Common.{◌≡◌, ◌++◌, drop, map}
-use Rattle.pli_meaning.specs.TypedView.{leaf_of as leaf_typed}
-use Rattle.pli_meaning.specs.Variables.{leaf_of, leaves_in}
+use Rattle.pli_typing.specs.TypedView.{leaf_of as leaf_typed}
+use Rattle.pli_typing.specs.Variables.{leaf_of, leaves_in}
 use Rattle.pli_declare.specs.Shown.{held_of}
 use Rattle.pli_variables.specs.Rows.{blocks_shown}
 use Rattle.pli_variables.specs.Written.{all_shown}

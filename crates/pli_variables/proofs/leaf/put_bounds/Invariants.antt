@@ -1,7 +1,7 @@
 use Rattle.std.proofs.Common.{◌≡◌, ◌++◌, drop, map}
-use Rattle.pli_meaning.specs.TypedView.{bounds_of as bounds_typed}
-use Rattle.pli_meaning.specs.Variables.{bounds_of, extent_of}
-use Rattle.pli_meaning.specs.View.{bound_of}
+use Rattle.pli_typing.specs.TypedView.{bounds_of as bounds_typed}
+use Rattle.pli_typing.specs.Variables.{bounds_of, extent_of}
+use Rattle.pli_language.specs.View.{bound_of}
 use Rattle.pli_variables.specs.Written.{all_shown}
 use Rattle.pli_variables.proofs.leaf.put_bounds.Given as goal
 

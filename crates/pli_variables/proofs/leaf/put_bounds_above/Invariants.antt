@@ -1,8 +1,8 @@
 use Rattle.std.proofs.Common.{◌≡◌, ◌++◌, drop, map}
 use Rattle.std.specs.List.{flat_map}
-use Rattle.pli_meaning.specs.Declarations.{dimensions_of}
-use Rattle.pli_meaning.specs.TypedView.{bounds_of as bounds_typed}
-use Rattle.pli_meaning.specs.Variables.{bounds_of, extent_of}
+use Rattle.pli_language.specs.Declarations.{dimensions_of}
+use Rattle.pli_typing.specs.TypedView.{bounds_of as bounds_typed}
+use Rattle.pli_typing.specs.Variables.{bounds_of, extent_of}
 use Rattle.pli_declare.specs.Shown.{variable_of}
 use Rattle.pli_variables.specs.Written.{all_shown}
 use Rattle.pli_variables.proofs.leaf.put_bounds_above.Given as goal

@@ -1,5 +1,5 @@
 use Rattle.std.proofs.Common.{◌≡◌, ◌++◌, drop, map}
-use Rattle.pli_meaning.specs.View.{initial_item_of}
+use Rattle.pli_language.specs.View.{initial_item_of}
 use Rattle.pli_variables.proofs.leaf.put_items.Given as goal
 
 abbrev pub invariant-loop-item : goal.invariant-loop-item

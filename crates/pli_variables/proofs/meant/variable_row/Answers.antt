@@ -1,5 +1,5 @@
 use Rattle.std.proofs.Common.{◌≡◌, map, subst, sym, List, Option, IfOk, refl, arith}
-use Rattle.pli_meaning.specs.TypedTree as Y
+use Rattle.pli_typing.specs.TypedTree as Y
 use Rattle.pli_declare.specs.ShownBlocks.{block_of}
 use Rattle.pli_declare.proofs.Choices.{got, got_none}
 use Rattle.pli_variables.specs.Rows.{row_shown}

@@ -1,5 +1,5 @@
 use Rattle.std.proofs.Common.{◌≡◌, ◌≤◌, ◌+◌, drop, length, map}
-use Rattle.pli_meaning.specs.Variables.{leaves_in}
+use Rattle.pli_typing.specs.Variables.{leaves_in}
 use Rattle.pli_declare.specs.Shown.{held_of}
 use Rattle.pli_variables.proofs.members.count_of_leaves.Given as goal
 

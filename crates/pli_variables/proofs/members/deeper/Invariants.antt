@@ -1,5 +1,5 @@
 use Rattle.std.proofs.Common.{◌≡◌, ◌++◌, drop, map, take}
-use Rattle.pli_meaning.specs.Variables.{while_deeper}
+use Rattle.pli_typing.specs.Variables.{while_deeper}
 use Rattle.pli_declare.specs.Shown.{held_of}
 use Rattle.pli_variables.proofs.members.deeper.Given as goal
 

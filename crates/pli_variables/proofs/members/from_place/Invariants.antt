@@ -1,5 +1,5 @@
 use Rattle.std.proofs.Common.{◌≡◌, drop, map}
-use Rattle.pli_meaning.specs.Variables.{from_place}
+use Rattle.pli_typing.specs.Variables.{from_place}
 use Rattle.pli_declare.specs.Shown.{held_of}
 use Rattle.pli_variables.proofs.members.from_place.Given as goal
 

@@ -1,5 +1,5 @@
 use Rattle.std.proofs.Common.{◌≡◌, ◌++◌, map, drop}
-use Rattle.pli_meaning.specs.Variables.{members_first}
+use Rattle.pli_typing.specs.Variables.{members_first}
 use Rattle.pli_declare.specs.Shown.{declaration_of, held_of}
 use Rattle.pli_variables.proofs.members.members_first.Given as goal
 

@@ -1,5 +1,5 @@
 use Rattle.std.proofs.Common.{◌≡◌, ◌++◌, map, drop}
-use Rattle.pli_meaning.specs.Variables.{variables_in}
+use Rattle.pli_typing.specs.Variables.{variables_in}
 use Rattle.pli_declare.specs.Shown.{declaration_of}
 use Rattle.pli_variables.specs.Held.{groups_held}
 use Rattle.pli_variables.proofs.members.variables_in.Given as goal

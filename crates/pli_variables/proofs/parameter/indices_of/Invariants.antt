@@ -1,7 +1,7 @@
 use Rattle.std.proofs.Common.{◌≡◌, ◌++◌, drop, map}
-use Rattle.pli_meaning.specs.Calls.{begins_named}
-use Rattle.pli_meaning.specs.Variables.{index_where}
-use Rattle.pli_meaning.specs.View.{name_of}
+use Rattle.pli_typing.specs.Calls.{begins_named}
+use Rattle.pli_typing.specs.Variables.{index_where}
+use Rattle.pli_language.specs.View.{name_of}
 use Rattle.pli_variables.specs.Held.{groups_held}
 use Rattle.pli_variables.proofs.parameter.indices_of.Given as goal
 

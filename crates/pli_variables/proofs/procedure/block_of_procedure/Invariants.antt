@@ -1,8 +1,8 @@
 use Rattle.std.proofs.Common.{◌≡◌, ◌+◌, drop, map}
-use Rattle.pli_meaning.specs.Calls.{is_block_of}
-use Rattle.pli_meaning.specs.Declarations.{Block}
-use Rattle.pli_meaning.specs.Variables.{index_where}
-use Rattle.pli_meaning.specs.View.{procedure_head_of}
+use Rattle.pli_typing.specs.Calls.{is_block_of}
+use Rattle.pli_language.specs.Declarations.{Block}
+use Rattle.pli_typing.specs.Variables.{index_where}
+use Rattle.pli_language.specs.View.{procedure_head_of}
 use Rattle.pli_declare.specs.ShownBlocks.{block_of}
 use Rattle.pli_variables.proofs.procedure.block_of_procedure.Given as goal
 

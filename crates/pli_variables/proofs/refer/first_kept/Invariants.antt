@@ -1,6 +1,6 @@
 use Rattle.std.proofs.Common.{◌≡◌, drop, map}
 use Rattle.std.specs.List.{flat_map}
-use Rattle.pli_meaning.specs.Generations.{kept_in}
+use Rattle.pli_typing.specs.Generations.{kept_in}
 use Rattle.pli_declare.specs.Shown.{held_of}
 use Rattle.pli_variables.specs.Kept.{first_kept}
 use Rattle.pli_variables.proofs.refer.first_kept.Given as goal

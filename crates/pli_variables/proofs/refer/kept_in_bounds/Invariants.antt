@@ -1,7 +1,7 @@
 use Rattle.std.proofs.Common.{◌≡◌, drop, map}
 use Rattle.std.specs.List.{flat_map}
-use Rattle.pli_meaning.specs.Generations.{kept_in_bound}
-use Rattle.pli_meaning.specs.View.{bound_of}
+use Rattle.pli_typing.specs.Generations.{kept_in_bound}
+use Rattle.pli_language.specs.View.{bound_of}
 use Rattle.pli_variables.specs.Kept.{first_kept}
 use Rattle.pli_variables.proofs.refer.kept_in_bounds.Given as goal
 

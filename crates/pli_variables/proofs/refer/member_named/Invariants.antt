@@ -1,7 +1,7 @@
 use Rattle.std.proofs.Common.{◌≡◌, ◌≤◌, ◌+◌, drop, map}
-use Rattle.pli_meaning.specs.Generations.{is_named}
-use Rattle.pli_meaning.specs.Variables.{index_where, leaves_in}
-use Rattle.pli_meaning.specs.View.{name_of}
+use Rattle.pli_typing.specs.Generations.{is_named}
+use Rattle.pli_typing.specs.Variables.{index_where, leaves_in}
+use Rattle.pli_language.specs.View.{name_of}
 use Rattle.pli_declare.specs.Shown.{held_of}
 use Rattle.pli_variables.proofs.refer.member_named.Given as goal
 

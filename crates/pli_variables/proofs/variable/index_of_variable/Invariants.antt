@@ -1,5 +1,5 @@
 use Rattle.std.proofs.Common.{◌≡◌, ◌+◌, drop}
-use Rattle.pli_meaning.specs.Variables.{index_where, begins_at}
+use Rattle.pli_typing.specs.Variables.{index_where, begins_at}
 use Rattle.pli_variables.specs.Held.{groups_held}
 use Rattle.pli_variables.proofs.variable.index_of_variable.Given as goal
 

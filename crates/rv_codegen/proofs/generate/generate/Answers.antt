@@ -1,5 +1,5 @@
 use Rattle.std.proofs.Common.{◌∙◌, subst, sym, ap, map, refl}
-use Rattle.pli_meaning.specs.Encoding.{word_of}
+use Rattle.rv_meaning.specs.Encoding.{word_of}
 use Rattle.rv_codegen.specs.Promise.{AllFit}
 use Rattle.rv_codegen.proofs.Trees.{tree_emits, code_of}
 use Rattle.rv_codegen.proofs.generate.generate.Goals as goal

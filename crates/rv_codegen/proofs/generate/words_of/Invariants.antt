@@ -1,5 +1,5 @@
 use Rattle.std.proofs.Common.{◌≡◌, ◌++◌, map, drop}
-use Rattle.pli_meaning.specs.Encoding.{word_of}
+use Rattle.rv_meaning.specs.Encoding.{word_of}
 use Rattle.rv_codegen.specs.Promise.{AllFit}
 use Rattle.rv_codegen.proofs.generate.words_of.Given as goal
 

@@ -1,5 +1,5 @@
 use Rattle.std.proofs.Common.{◌≡◌, ◌++◌, map, drop}
-use Rattle.pli_meaning.specs.View.{declare_item_of}
+use Rattle.pli_language.specs.View.{declare_item_of}
 use Rattle.rv_codegen.specs.Emitted.{declared_names}
 use Rattle.rv_codegen.proofs.names.add_declared.Given as goal
 

@@ -1,5 +1,5 @@
 use Rattle.std.proofs.Common.{◌≡◌, ◌++◌, map}
-use Rattle.pli_meaning.specs.View.{items_of}
+use Rattle.pli_language.specs.View.{items_of}
 use Rattle.rv_codegen.specs.Emitted.{items_names}
 use Rattle.rv_codegen.proofs.names.add_items.Given as goal
 

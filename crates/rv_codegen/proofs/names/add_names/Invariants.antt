@@ -1,5 +1,5 @@
 use Rattle.std.proofs.Common.{◌≡◌, ◌++◌, map, drop}
-use Rattle.pli_meaning.specs.View.{declared_name_of}
+use Rattle.pli_language.specs.View.{declared_name_of}
 use Rattle.rv_codegen.proofs.names.add_names.Given as goal
 
 abbrev pub invariant-loop-declared : goal.invariant-loop-declared

@@ -1,5 +1,5 @@
 use Rattle.std.proofs.Common.{◌≡◌, ◌+◌, ◌≤◌, ◌^◌, ◌++◌, map}
-use Rattle.pli_meaning.specs.View.{items_of}
+use Rattle.pli_language.specs.View.{items_of}
 use Rattle.rv_codegen.specs.Emitted.{items_put}
 use Rattle.rv_codegen.specs.Weights.{items_weight, SmallLines}
 use Rattle.rv_codegen.proofs.statement.put_items.Given as goal

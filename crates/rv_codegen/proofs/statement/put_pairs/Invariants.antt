@@ -1,5 +1,5 @@
 use Rattle.std.proofs.Common.{◌≡◌, ◌+◌, ◌≤◌, ◌^◌, ◌++◌, map, drop}
-use Rattle.pli_meaning.specs.View.{edit_pair_of}
+use Rattle.pli_language.specs.View.{edit_pair_of}
 use Rattle.rv_codegen.specs.Emitted.{pairs_put}
 use Rattle.rv_codegen.specs.Weights.{pairs_weight}
 use Rattle.rv_codegen.proofs.statement.put_pairs.Given as goal

@@ -1,6 +1,6 @@
 use Rattle.std.proofs.Common.{ℕ, ◌<◌, ◌+◌, ◌*◌}
-use Rattle.pli_meaning.specs.Memory.{load}
-use Rattle.pli_meaning.specs.Images.{IsInstruction}
+use Rattle.rv_meaning.specs.Memory.{load}
+use Rattle.rv_meaning.specs.Images.{IsInstruction}
 use Rattle.rv_image.proofs.header.are_instructions.Given as goal
 
 abbrev pub invariant-loop-k : goal.invariant-loop-k

@@ -1,5 +1,5 @@
 use Rattle.std.proofs.Common.{◌≤◌, ◌<◌, length, arith}
-use Rattle.pli_meaning.specs.Images.{image_end}
+use Rattle.rv_meaning.specs.Images.{image_end}
 use Rattle.rv_image.proofs.Parts.{Begun, word_refused, table_refused, entry_refused, trailing_refused, all_kept, words_kept, entry_kept}
 use Rattle.rv_image.proofs.header.checked.Goals as goal
 

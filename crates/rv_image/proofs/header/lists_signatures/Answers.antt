@@ -1,5 +1,5 @@
 use Rattle.std.proofs.Common.{ℕ, List, ◌↔◌, IsTrue, subst}
-use Rattle.pli_meaning.specs.Tables.{IsTable}
+use Rattle.rv_meaning.specs.Tables.{IsTable}
 use Rattle.rv_image.proofs.Parts.{table_part}
 use Rattle.rv_image.proofs.header.lists_signatures.Goals as goal
 

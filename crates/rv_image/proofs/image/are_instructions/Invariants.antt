@@ -1,5 +1,5 @@
 use Rattle.std.proofs.Common.{ℕ, ◌<◌, slice_index}
-use Rattle.pli_meaning.specs.Images.{IsInstruction}
+use Rattle.rv_meaning.specs.Images.{IsInstruction}
 use Rattle.rv_image.proofs.image.are_instructions.Given as goal
 
 abbrev pub invariant-loop-word : goal.invariant-loop-word

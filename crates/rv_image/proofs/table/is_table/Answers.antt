@@ -1,5 +1,5 @@
 use Rattle.std.proofs.Common.{◌≡◌, ◌∷◌, [], drop, refl}
-use Rattle.pli_meaning.specs.Memory.{load}
+use Rattle.rv_meaning.specs.Memory.{load}
 use Rattle.rv_image.specs.Reading.{words_of}
 use Rattle.rv_image.proofs.Words.{words_of-short, words_of-first}
 use Rattle.rv_image.proofs.Tables.{no_words, table_goes, table_back, table_stuck, table_shorter}

@@ -1,5 +1,5 @@
 use Rattle.std.proofs.Common.{◌↔◌, length}
-use Rattle.pli_meaning.specs.Tables.{IsTable}
+use Rattle.rv_meaning.specs.Tables.{IsTable}
 use Rattle.rv_image.specs.Reading.{words_of}
 use Rattle.rv_image.proofs.table.is_table.Given as goal
 

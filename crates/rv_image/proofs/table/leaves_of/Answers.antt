@@ -1,5 +1,5 @@
 use Rattle.std.proofs.Common.{◌≡◌, true, false, sym}
-use Rattle.pli_meaning.specs.Tables.{stands}
+use Rattle.rv_meaning.specs.Tables.{stands}
 use Rattle.rv_image.specs.Reading.{words_of, leaves_from}
 use Rattle.rv_image.specs.Shapes.{shape}
 use Rattle.rv_image.proofs.Loops.{leaves_go_on, leaves_end, leaves_unfit, leaves_done}

@@ -1,6 +1,6 @@
 use Rattle.std.proofs.Common.{◌≡◌, ℕ, List, [], ◌∷◌, ◌++◌, ◌+◌, take, get_or, ap, sym, ◌∙◌, append_assoc}
 use Rattle.std.proofs.lemmas.List.{take_more}
-use Rattle.pli_meaning.specs.Memory.{bytes_of_word, bytes_of_words}
+use Rattle.rv_meaning.specs.Memory.{bytes_of_word, bytes_of_words}
 use Rattle.rv_image.proofs.Words.{bytes_of_words-append}
 use Rattle.rv_image.proofs.word.push_words.Goals as goal
 

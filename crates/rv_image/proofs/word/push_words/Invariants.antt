@@ -1,5 +1,5 @@
 use Rattle.std.proofs.Common.{◌≡◌, ◌++◌, take}
-use Rattle.pli_meaning.specs.Memory.{bytes_of_words}
+use Rattle.rv_meaning.specs.Memory.{bytes_of_words}
 use Rattle.rv_image.proofs.word.push_words.Given as goal
 
 abbrev pub invariant-loop-word : goal.invariant-loop-word

@@ -1,5 +1,5 @@
 use Rattle.std.proofs.Common.{◌≡◌, ℕ, List, [], ◌∷◌, ◌++◌, ◌+◌, ◌*◌, add-one, ap, sym, ◌∙◌}
-use Rattle.pli_meaning.specs.Memory.{load}
+use Rattle.rv_meaning.specs.Memory.{load}
 use Rattle.rv_image.proofs.Words.{words_at-more}
 use Rattle.rv_image.proofs.word.words_at.Goals as goal
 

@@ -1,5 +1,5 @@
 use Rattle.std.proofs.Common.{◌≡◌}
-use Rattle.pli_meaning.specs.Images.{words_at}
+use Rattle.rv_meaning.specs.Images.{words_at}
 use Rattle.rv_image.proofs.word.words_at.Given as goal
 
 abbrev pub invariant-loop-k : goal.invariant-loop-k

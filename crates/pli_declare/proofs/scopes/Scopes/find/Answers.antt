@@ -1,8 +1,8 @@
 use Rattle.std.proofs.Common.{◌≡◌, ◌++◌, ◌∷◌, [], ℕ, List, Option, Some, None, map, sym, ap, ◌∙◌, Bor}
 use Rattle.std.proofs.lemmas.List.{map-append}
 use Rattle.std.specs.Prelude.{slice_get}
-use Rattle.pli_meaning.specs.Declarations.{Block}
-use Rattle.pli_meaning.specs.Means.{means_from, around_of}
+use Rattle.pli_language.specs.Declarations.{Block}
+use Rattle.pli_language.specs.Means.{means_from, around_of}
 use Rattle.pli_declare.specs.declared.scope.Block.{Block as BlockHeld}
 use Rattle.pli_declare.specs.Among.{letters_of}
 use Rattle.pli_declare.specs.ShownBlocks.{block_of}

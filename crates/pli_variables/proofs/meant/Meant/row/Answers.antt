@@ -1,7 +1,7 @@
 use Rattle.std.proofs.Common.{length, sym, ap, ◌∙◌, List, Option, Vec}
 use Rattle.std.specs.declared.alloc.Global.{Global}
-use Rattle.pli_meaning.specs.declared.typed.Variable.{Variable as VariableHeld}
-use Rattle.pli_meaning.specs.TypedTree as Y
+use Rattle.pli_typing.specs.declared.typed.Variable.{Variable as VariableHeld}
+use Rattle.pli_typing.specs.TypedTree as Y
 use Rattle.pli_variables.specs.Rows.{blocks_shown, row_shown, variable_row}
 use Rattle.pli_variables.proofs.Tabled.{variables_truly, row_found, count_found, row_missing}
 use Rattle.pli_variables.proofs.meant.Meant.row.Goals as goal

@@ -1,6 +1,6 @@
 use Rattle.std.proofs.Common.{arith}
 use Rattle.std.proofs.lemmas.Result.{err_from_is_err_and}
-use Rattle.pli_meaning.specs.Images.{AreBelow, image, HasBytes}
+use Rattle.rv_meaning.specs.Images.{AreBelow, image, HasBytes}
 use Rattle.rv_image.proofs.Parts.{no_room, parts_read}
 use Rattle.rv_image.proofs.image.Image.from_bytes.Goals as goal
 

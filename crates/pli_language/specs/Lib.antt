@@ -1,0 +1,16 @@
+pub mod Keywords
+pub mod Tokens
+pub mod Tree
+pub mod View
+pub mod Refusals
+pub mod Declarations
+pub mod Means
+pub mod Declaring
+pub mod Spells
+pub mod Marks
+pub mod Attributes
+pub mod Formats
+pub mod Heads
+pub mod Nesting
+pub mod Parsing
+pub mod Laws

@@ -1,5 +1,0 @@
-use Rattle.pli_meaning.proofs.Conversions.{computed, converts}
-use Rattle.pli_meaning.proofs.laws.conversion_exact.Goals as goal
-
-pub returns : goal.returns
-returns c = λ from to d. (λ h. computed h, converts from to d)

@@ -1,5 +1,0 @@
-use Rattle.pli_meaning.proofs.ImageBytes.{keeps}
-use Rattle.pli_meaning.proofs.laws.keeps_all.Goals as goal
-
-pub returns : goal.returns
-returns c = λ i b fault h. keeps i b fault h

@@ -1,5 +1,0 @@
-use Rattle.pli_meaning.proofs.Least.{least_found}
-use Rattle.pli_meaning.proofs.laws.least_found.Goals as goal
-
-pub returns : goal.returns
-returns c = λ faults. least_found faults

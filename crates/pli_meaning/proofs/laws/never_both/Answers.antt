@@ -1,5 +1,0 @@
-use Rattle.pli_meaning.proofs.UniqueSource.{never_both}
-use Rattle.pli_meaning.proofs.laws.never_both.Goals as goal
-
-pub returns : goal.returns
-returns c = λ source tokens tree f a b. never_both a b

@@ -1,5 +1,0 @@
-use Rattle.pli_meaning.proofs.UniqueSource.{spelled_once}
-use Rattle.pli_meaning.proofs.laws.spelled_once.Goals as goal
-
-pub returns : goal.returns
-returns c = λ source tokens tree tree' a b. spelled_once a b

@@ -1,0 +1,17 @@
+pub mod Signatures
+pub mod Kinds
+pub mod TypedTree
+pub mod Judging
+pub mod Variables
+pub mod Converting
+pub mod Calls
+pub mod Builtins
+pub mod Operators
+pub mod References
+pub mod Assigning
+pub mod Generations
+pub mod SingleStatements
+pub mod Resolving
+pub mod TypedView
+pub mod TypedStatementView
+pub mod Laws

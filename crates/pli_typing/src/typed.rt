@@ -1,0 +1,685 @@
+// The typed tree: the tree with the declaration, or the built-in, at each reference and the kind at each expression.
+
+use pli_language::condition::Condition;
+use pli_language::declaration::InitialItem;
+use pli_language::expr::Name;
+use pli_language::stmt::Formats;
+
+/// Where the generations of a variable come from.
+#[derive(Clone, Copy, PartialEq, Eq, Debug)]
+pub enum StorageClass {
+    Automatic,
+    Parameter,
+    Static,
+    Based,
+    Controlled,
+}
+
+/// A variable of level 1: its class, the number of the block that declares it, that block's level (0 for the outermost
+/// procedure), and its place among the variables of level 1 that the block declares.
+#[derive(Clone, Copy, PartialEq, Eq, Debug)]
+pub struct Variable {
+    pub class: StorageClass,
+    pub block: usize,
+    pub level: usize,
+    pub index: usize,
+}
+
+/// A part of a variable: the first of its leaves, and how many they are.
+#[derive(Clone, Copy, PartialEq, Eq, Debug)]
+pub struct Part {
+    pub first: usize,
+    pub count: usize,
+}
+
+/// A bound, length or size: a constant, the argument's (`*`), what a member of the same generation tells, or the value of
+/// one of its variable's evaluations.
+#[derive(Clone, Copy, PartialEq, Eq, Debug)]
+pub enum Extent {
+    Constant(i128),
+    Star,
+    Refer,
+    Evaluated(usize),
+}
+
+/// The bounds of one dimension.
+#[derive(Clone, Copy, PartialEq, Eq, Debug)]
+pub struct Bounds {
+    pub lower: Extent,
+    pub upper: Extent,
+}
+
+/// The kind of a leaf. An OFFSET may be declared with an area; an area's size isn't rounded yet.
+#[derive(Clone, Copy, PartialEq, Eq, Debug)]
+pub enum LeafType {
+    Fixed(u64),
+    Character(Extent),
+    Varying(Extent),
+    Bit,
+    Pointer,
+    Offset(Option<Variable>),
+    Area(Extent),
+}
+
+/// A leaf with all its bounds, inherited ones first.
+#[derive(Debug, Drop)]
+pub struct Leaf<'a> {
+    pub kind: LeafType,
+    pub bounds: Vec<Bounds>,
+    pub initial: Vec<&'a InitialItem>,
+}
+
+/// A sign before a number.
+#[derive(Clone, Copy, PartialEq, Eq, Debug)]
+pub enum Sign {
+    Positive,
+    Negative,
+}
+
+/// An operator between two numbers.
+#[derive(Clone, Copy, PartialEq, Eq, Debug)]
+pub enum ArithmeticOperator {
+    Sum,
+    Difference,
+    Product,
+    Quotient,
+}
+
+/// An operator between two bits.
+#[derive(Clone, Copy, PartialEq, Eq, Debug)]
+pub enum BitOperator {
+    Conjunction,
+    Disjunction,
+}
+
+/// A comparison of two values.
+#[derive(Clone, Copy, PartialEq, Eq, Debug)]
+pub enum Comparison {
+    IsEqual,
+    IsNotEqual,
+    IsLess,
+    IsGreater,
+    IsLessOrEqual,
+    IsGreaterOrEqual,
+}
+
+/// MAX or MIN.
+#[derive(Clone, Copy, PartialEq, Eq, Debug)]
+pub enum Extremum {
+    Greatest,
+    Least,
+}
+
+/// A procedure that is called: its block's number, and the level of the block that declares it.
+#[derive(Clone, Copy, PartialEq, Eq, Debug)]
+pub struct Callee {
+    pub procedure: usize,
+    pub level: usize,
+}
+
+/// An expression that is a number. Dimensions are counted from 1.
+#[cycle(typed)]
+#[derive(Debug, Drop)]
+pub enum Number<'a> {
+    Constant(u64),
+    In(Box<Reference<'a>>),
+    From {
+        callee: Callee,
+        arguments: Box<Arguments<'a>>,
+    },
+    OfText(Box<Text<'a>>),
+    OfBit(Box<Bit<'a>>),
+    Signed {
+        sign: Sign,
+        operand: Box<Number<'a>>,
+    },
+    Calculated {
+        operator: ArithmeticOperator,
+        left: Box<Number<'a>>,
+        right: Box<Number<'a>>,
+    },
+    Absolute(Box<Number<'a>>),
+    SignOf(Box<Number<'a>>),
+    Extreme {
+        which: Extremum,
+        first: Box<Number<'a>>,
+        more: Numbers<'a>,
+    },
+    Modulo {
+        dividend: Box<Number<'a>>,
+        divisor: Box<Number<'a>>,
+    },
+    Divided {
+        precision: u64,
+        dividend: Box<Number<'a>>,
+        divisor: Box<Number<'a>>,
+    },
+    LengthOf(Box<Text<'a>>),
+    IndexOf {
+        searched: Box<Text<'a>>,
+        sought: Box<Text<'a>>,
+    },
+    VerifyOf {
+        searched: Box<Text<'a>>,
+        allowed: Box<Text<'a>>,
+    },
+    LowerBound {
+        array: Box<Reference<'a>>,
+        dimension: u64,
+    },
+    UpperBound {
+        array: Box<Reference<'a>>,
+        dimension: u64,
+    },
+    ElementsOf {
+        array: Box<Reference<'a>>,
+        dimension: u64,
+    },
+    AllocationsOf(Variable),
+    OnCode,
+}
+
+/// A list of numbers.
+#[cycle(typed)]
+#[derive(Debug, Drop)]
+pub enum Numbers<'a> {
+    End,
+    More {
+        first: Box<Number<'a>>,
+        rest: Box<Numbers<'a>>,
+    },
+}
+
+/// An expression that is a text. A number becomes text by the places of its precision.
+#[cycle(typed)]
+#[derive(Debug, Drop)]
+pub enum Text<'a> {
+    Constant(&'a [u8]),
+    In(Box<Reference<'a>>),
+    From {
+        callee: Callee,
+        arguments: Box<Arguments<'a>>,
+    },
+    OfNumber {
+        precision: u64,
+        number: Box<Number<'a>>,
+    },
+    OfBit(Box<Bit<'a>>),
+    Joined {
+        left: Box<Text<'a>>,
+        right: Box<Text<'a>>,
+    },
+    SubstringFrom {
+        text: Box<Text<'a>>,
+        start: Box<Number<'a>>,
+    },
+    Substring {
+        text: Box<Text<'a>>,
+        start: Box<Number<'a>>,
+        count: Box<Number<'a>>,
+    },
+}
+
+/// An expression that is a bit. Locators are compared for being equal, or for not being so.
+#[cycle(typed)]
+#[derive(Debug, Drop)]
+pub enum Bit<'a> {
+    Constant(bool),
+    In(Box<Reference<'a>>),
+    From {
+        callee: Callee,
+        arguments: Box<Arguments<'a>>,
+    },
+    OfText(Box<Text<'a>>),
+    Negated(Box<Bit<'a>>),
+    Combined {
+        operator: BitOperator,
+        left: Box<Bit<'a>>,
+        right: Box<Bit<'a>>,
+    },
+    NumbersCompared {
+        comparison: Comparison,
+        left: Box<Number<'a>>,
+        right: Box<Number<'a>>,
+    },
+    TextsCompared {
+        comparison: Comparison,
+        left: Box<Text<'a>>,
+        right: Box<Text<'a>>,
+    },
+    BitsCompared {
+        comparison: Comparison,
+        left: Box<Bit<'a>>,
+        right: Box<Bit<'a>>,
+    },
+    PointersCompared {
+        equal: bool,
+        left: Box<Pointer<'a>>,
+        right: Box<Pointer<'a>>,
+    },
+    OffsetsCompared {
+        equal: bool,
+        left: Box<Offset<'a>>,
+        right: Box<Offset<'a>>,
+    },
+}
+
+/// An expression that is a POINTER.
+#[cycle(typed)]
+#[derive(Debug, Drop)]
+pub enum Pointer<'a> {
+    Null,
+    In(Box<Reference<'a>>),
+    From {
+        callee: Callee,
+        arguments: Box<Arguments<'a>>,
+    },
+    AddressOf(Box<Reference<'a>>),
+    Into {
+        offset: Box<Offset<'a>>,
+        area: Variable,
+    },
+}
+
+/// An expression that is an OFFSET.
+#[cycle(typed)]
+#[derive(Debug, Drop)]
+pub enum Offset<'a> {
+    Null,
+    In(Box<Reference<'a>>),
+    From {
+        callee: Callee,
+        arguments: Box<Arguments<'a>>,
+    },
+    Into {
+        pointer: Box<Pointer<'a>>,
+        area: Variable,
+    },
+}
+
+/// A part of a variable's generation, or an element of it: no subscripts mean the whole part, else there are as many as the
+/// part has dimensions. A BASED variable is located, and no other.
+#[cycle(typed)]
+#[derive(Debug, Drop)]
+pub enum Reference<'a> {
+    Plain {
+        variable: Variable,
+        part: Part,
+        subscripts: Numbers<'a>,
+    },
+    Located {
+        locator: Box<Pointer<'a>>,
+        variable: Variable,
+        part: Part,
+        subscripts: Numbers<'a>,
+    },
+}
+
+/// An argument by reference, or a copy of the parameter's kind. A POINTER for an OFFSET of the callee's own area is converted
+/// last: by the area that a parameter stands for, or where that area isn't made yet.
+#[cycle(typed)]
+#[derive(Debug, Drop)]
+pub enum Argument<'a> {
+    ByReference(Reference<'a>),
+    ByCopy {
+        kind: LeafType,
+        value: Stored<'a>,
+    },
+    ByOffsetInParameter {
+        pointer: Pointer<'a>,
+        parameter: usize,
+    },
+    ByOffsetInAutomatic(Pointer<'a>),
+}
+
+/// The arguments of a call.
+#[cycle(typed)]
+#[derive(Debug, Drop)]
+pub enum Arguments<'a> {
+    End,
+    More {
+        first: Box<Argument<'a>>,
+        rest: Box<Arguments<'a>>,
+    },
+}
+
+/// A value on its way into storage, converted to the kind that is there.
+#[cycle(typed)]
+#[derive(Debug, Drop)]
+pub enum Stored<'a> {
+    Number { precision: u64, value: Number<'a> },
+    Text(Text<'a>),
+    Bit(Bit<'a>),
+    Pointer(Pointer<'a>),
+    Offset(Offset<'a>),
+}
+
+/// A call of a procedure.
+#[derive(Debug, Drop)]
+pub struct Call<'a> {
+    pub callee: Callee,
+    pub arguments: Arguments<'a>,
+}
+
+/// The value of an expression with its kind; NULL is a POINTER or an OFFSET as its place wants it.
+#[derive(Debug, Drop)]
+pub enum Value<'a> {
+    Number {
+        precision: u64,
+        value: Number<'a>,
+    },
+    Text(Text<'a>),
+    Bit(Bit<'a>),
+    Pointer(Pointer<'a>),
+    Offset {
+        area: Option<Variable>,
+        value: Offset<'a>,
+    },
+    Null,
+}
+
+/// What is checked as soon as an extent is evaluated: a length from 0 to 1,024, a size from 0 on, a pair of bounds, or
+/// nothing yet.
+#[derive(Clone, Copy, PartialEq, Eq, Debug)]
+pub enum Check {
+    None,
+    Length,
+    Size,
+    Bounds(Bounds),
+}
+
+/// An extent that is evaluated, with its check.
+#[derive(Debug, Drop)]
+pub struct Evaluation<'a> {
+    pub value: Number<'a>,
+    pub check: Check,
+}
+
+/// The member, a leaf, that keeps the one REFER extent, and what ALLOCATE sets it to.
+#[derive(Clone, Copy, PartialEq, Eq, Debug)]
+pub struct ReferMember {
+    pub member: usize,
+    pub amount: Extent,
+}
+
+/// A variable of level 1 or a member of it: how many structures hold it, and how many dimensions it declares itself.
+#[derive(Clone, Copy, PartialEq, Eq, Debug)]
+pub struct Member {
+    pub depth: usize,
+    pub dimensions: usize,
+}
+
+/// A variable of level 1, with itself and all its members in declared order. Each extent as it is written is evaluated once, in
+/// source order, for all leaves that share it.
+#[derive(Debug, Drop)]
+pub struct DeclaredVariable<'a> {
+    pub class: StorageClass,
+    pub members: Vec<Member>,
+    pub leaves: Vec<Leaf<'a>>,
+    pub refer: Option<ReferMember>,
+    pub evaluations: Vec<Evaluation<'a>>,
+}
+
+/// A locator that ALLOCATE sets.
+#[derive(Debug, Drop)]
+pub enum LocatorTarget<'a> {
+    Pointer(Reference<'a>),
+    Offset {
+        target: Reference<'a>,
+        area: Variable,
+    },
+}
+
+/// What ALLOCATE makes. Without an area the heap is meant.
+#[derive(Debug, Drop)]
+pub enum Allocation<'a> {
+    Based {
+        variable: Variable,
+        area: Option<Variable>,
+        target: LocatorTarget<'a>,
+    },
+    Controlled(Variable),
+}
+
+/// What FREE ends. With an area the generation must stand there.
+#[derive(Debug, Drop)]
+pub enum Freeing<'a> {
+    Based {
+        variable: Variable,
+        locator: Pointer<'a>,
+        area: Option<Variable>,
+    },
+    Controlled(Variable),
+}
+
+/// A variable that counts turns: a number or a text.
+#[derive(Debug, Drop)]
+pub enum Counter<'a> {
+    Number {
+        precision: u64,
+        reference: Reference<'a>,
+    },
+    Text(Reference<'a>),
+}
+
+/// What GET reads into: a scalar, or an aggregate element by element.
+#[derive(Debug, Drop)]
+pub enum GetItem<'a> {
+    Scalar(Reference<'a>),
+    Aggregate(Reference<'a>),
+}
+
+/// What PUT writes: a value, or an aggregate element by element.
+#[derive(Debug, Drop)]
+pub enum PutItem<'a> {
+    Value(Value<'a>),
+    Aggregate(Reference<'a>),
+}
+
+/// A data list of GET with the format list that it goes by.
+#[derive(Debug, Drop)]
+pub struct GetPair<'a> {
+    pub items: Vec<GetItem<'a>>,
+    pub formats: &'a Formats,
+}
+
+/// A data list of PUT with the format list that it goes by.
+#[derive(Debug, Drop)]
+pub struct PutPair<'a> {
+    pub items: Vec<PutItem<'a>>,
+    pub formats: &'a Formats,
+}
+
+/// What a block is. An on-unit is that of its BEGIN, or one around a single statement, which declares nothing.
+#[derive(Clone, Copy, PartialEq, Eq, Debug)]
+pub enum BlockKind {
+    Procedure,
+    Begin,
+    Unit,
+    SimpleUnit,
+}
+
+/// A block's kind, its number among the blocks of the program (a simple unit has that of the block around it), its level,
+/// and the line of its first word (of ON for a simple unit).
+#[derive(Clone, Copy, PartialEq, Eq, Debug)]
+pub struct BlockHead {
+    pub kind: BlockKind,
+    pub number: usize,
+    pub level: usize,
+    pub line: u32,
+}
+
+/// What DO says of its turns: one at most, or as many as are counted.
+#[derive(Debug, Drop)]
+pub enum Turns<'a> {
+    Once {
+        variable: Reference<'a>,
+        start: Stored<'a>,
+        condition: Option<Bit<'a>>,
+    },
+    Counted {
+        counter: Counter<'a>,
+        start: Value<'a>,
+        limit: Option<Number<'a>>,
+        step: Number<'a>,
+        condition: Option<Bit<'a>>,
+    },
+}
+
+/// A statement, with the line of its first token after labels.
+#[cycle(typed_stmt)]
+#[derive(Debug, Drop)]
+pub enum Stmt<'a> {
+    Null {
+        line: u32,
+    },
+    Assign {
+        target: Reference<'a>,
+        source: Stored<'a>,
+        line: u32,
+    },
+    /// One value into each element of an array.
+    AssignElements {
+        target: Reference<'a>,
+        source: Stored<'a>,
+        line: u32,
+    },
+    AssignAggregate {
+        target: Reference<'a>,
+        source: Reference<'a>,
+        line: u32,
+    },
+    AssignArea {
+        target: Variable,
+        source: Variable,
+        line: u32,
+    },
+    EmptyArea {
+        target: Variable,
+        line: u32,
+    },
+    If {
+        condition: Bit<'a>,
+        unit: Box<Stmt<'a>>,
+        line: u32,
+    },
+    IfElse {
+        condition: Bit<'a>,
+        unit: Box<Stmt<'a>>,
+        otherwise: Box<Stmt<'a>>,
+        line: u32,
+    },
+    Do {
+        body: Stmts<'a>,
+        line: u32,
+    },
+    DoWhile {
+        condition: Bit<'a>,
+        body: Stmts<'a>,
+        line: u32,
+    },
+    DoTurns {
+        turns: Turns<'a>,
+        body: Stmts<'a>,
+        line: u32,
+    },
+    Begin {
+        head: BlockHead,
+        body: Stmts<'a>,
+    },
+    OnSystem {
+        condition: Condition,
+        line: u32,
+    },
+    OnUnit {
+        condition: Condition,
+        head: BlockHead,
+        body: Stmts<'a>,
+        line: u32,
+    },
+    Call {
+        call: Call<'a>,
+        line: u32,
+    },
+    Return {
+        line: u32,
+    },
+    /// With the kind of RETURNS.
+    ReturnValue {
+        kind: LeafType,
+        value: Stored<'a>,
+        line: u32,
+    },
+    /// A label of the block at a level.
+    Goto {
+        level: usize,
+        label: &'a [u8],
+        line: u32,
+    },
+    Stop {
+        line: u32,
+    },
+    Signal {
+        condition: Condition,
+        line: u32,
+    },
+    Revert {
+        condition: Condition,
+        line: u32,
+    },
+    Allocate {
+        allocations: Vec<Allocation<'a>>,
+        line: u32,
+    },
+    Free {
+        freeings: Vec<Freeing<'a>>,
+        line: u32,
+    },
+    Get {
+        skip: Option<u64>,
+        pairs: Vec<GetPair<'a>>,
+        line: u32,
+    },
+    Put {
+        skip: Option<u64>,
+        pairs: Vec<PutPair<'a>>,
+        line: u32,
+    },
+}
+
+/// A list of statements, each behind its labels, and the labels of its END.
+#[cycle(typed_stmt)]
+#[derive(Debug, Drop)]
+pub enum Stmts<'a> {
+    End {
+        labels: &'a [Name],
+    },
+    More {
+        labels: &'a [Name],
+        first: Box<Stmt<'a>>,
+        rest: Box<Stmts<'a>>,
+    },
+}
+
+/// A block.
+#[derive(Debug, Drop)]
+pub struct Block<'a> {
+    pub head: BlockHead,
+    pub body: Stmts<'a>,
+}
+
+/// A procedure: its block, for each parameter its place among the block's variables, and what RETURNS says.
+#[derive(Debug, Drop)]
+pub struct Procedure<'a> {
+    pub block: Block<'a>,
+    pub parameters: Vec<usize>,
+    pub result: Option<LeafType>,
+}
+
+/// A program: the variables of level 1 of each block, by its number, and the procedures in source order, of which the first
+/// is the main one.
+#[derive(Debug, Drop)]
+pub struct Typed<'a> {
+    pub variables: Vec<Vec<DeclaredVariable<'a>>>,
+    pub procedures: Vec<Procedure<'a>>,
+}

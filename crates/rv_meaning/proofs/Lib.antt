@@ -1,0 +1,3 @@
+mod MachineRows
+pub mod MemoryLaws
+pub mod ImageBytes

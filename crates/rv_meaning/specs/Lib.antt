@@ -1,0 +1,7 @@
+pub mod Words
+pub mod Memory
+pub mod Encoding
+pub mod Machine
+pub mod Tables
+pub mod Images
+pub mod Laws
