@@ -414,7 +414,8 @@ fn assigned_referent<'a>(
     match target {
         Referent::Designates(designated) => assigned_to(alloc, notes, place, designated, source),
         Referent::Gives(value) => Ok(value_target(notes, place, target_place, value, source)),
-        Referent::UnknownValue | Referent::EmptyArea | Referent::Nothing => {
+        Referent::UnknownValue => Ok(no_target(notes, place, target_place, source)),
+        Referent::EmptyArea | Referent::Nothing => {
             Ok(no_target(notes, place, target_place, source))
         }
         Referent::NotKnown => Ok(unknown_target(place, source)),
