@@ -7,4 +7,4 @@ returns-in-Ok-clause-meant c = λ valid.
     answered made c.args.base c.args.input.now c.args.bound c.run.result valid c.ranges.bound.fits (c.run.ensures.told valid made.picture made.pictured)
 
 pub returns-in-Err-clause-meant : goal.returns-in-Err-clause-meant
-returns-in-Err-clause-meant c = λ valid. refused c.args.input.now c.args.bound c.in-Err-fault c.uncompiled.result c.in-Err.ensures c.uncompiled.ensures
+returns-in-Err-clause-meant c = λ valid. refused c.args.input.now c.args.bound _ c.uncompiled.result c.in-Err.ensures c.uncompiled.ensures
