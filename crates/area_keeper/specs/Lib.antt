@@ -1,0 +1,4 @@
+pub mod Keeper
+pub mod KeptAreas
+pub mod KeeperLaws
+pub mod Chain
