@@ -17,16 +17,20 @@ agrees_twice old mid new from to g h = record { same = λ j a b. h.same j a b �
 
 -- ---- what is read
 
-pub word_same : (old new : List ℕ) (from to at : ℕ) → Agrees old new from to → from ≤ at → at + 4 ≤ to → word_at at new ≡ word_at at old
+pub word_same :
+    (old new : List ℕ) (from to at : ℕ) → Agrees old new from to → from ≤ at → at + 4 ≤ to → word_at at new ≡ word_at at old
 word_same old new from to at h a b = load-same 4 new old at (λ j c d. h.same j (omega arith) (omega arith))
 
 pub length_part : (at count : ℕ) (bytes : List ℕ) → at + count ≤ length bytes → length (part at count bytes) ≡ count
 length_part at count bytes h = length-take-le count (drop at bytes) (omega (arith, length-drop at bytes))
 
-pub byte_part : (at count : ℕ) (bytes : List ℕ) (j : ℕ) → j < count → slice_index (part at count bytes) j ≡ slice_index bytes (at + j)
+pub byte_part :
+    (at count : ℕ) (bytes : List ℕ) (j : ℕ) → j < count → slice_index (part at count bytes) j ≡ slice_index bytes (at + j)
 byte_part at count bytes j h = get_or-take count (drop at bytes) j 0 h ∙ get_or-drop at bytes j 0
 
-pub part_same : (old new : List ℕ) (at count : ℕ) → at + count ≤ length old → at + count ≤ length new → Agrees old new at (at + count) → part at count new ≡ part at count old
+pub part_same :
+    (old new : List ℕ) (at count : ℕ) → at + count ≤ length old → at + count ≤ length new → Agrees old new at (at + count) →
+    part at count new ≡ part at count old
 part_same old new at count a b h =
     let e : length (part at count new) ≡ count = length_part at count new b in
     let f : length (part at count old) ≡ count = length_part at count old a in
@@ -55,29 +59,39 @@ length_with_part new at m h =
     omega (arith, length-append (take at m) (new ++ drop (at + length new) m), length-append new (drop (at + length new) m), length-take-le at m (omega arith), length-drop (at + length new) m)
 
 -- the bytes below a part, of the part, and past it
-pub byte_below : (new : List ℕ) (at : ℕ) (m : List ℕ) (j : ℕ) → at ≤ length m → j < at → slice_index (with_part new at m) j ≡ slice_index m j
+pub byte_below :
+    (new : List ℕ) (at : ℕ) (m : List ℕ) (j : ℕ) → at ≤ length m → j < at →
+    slice_index (with_part new at m) j ≡ slice_index m j
 byte_below new at m j h i =
     get_or_append_left (take at m) (new ++ drop (at + length new) m) 0 j (omega (arith, length-take-le at m h)) ∙ get_or-take at m j 0 i
 
-pub byte_inside : (new : List ℕ) (at : ℕ) (m : List ℕ) (j : ℕ) → at ≤ length m → j < length new → slice_index (with_part new at m) (at + j) ≡ slice_index new j
+pub byte_inside :
+    (new : List ℕ) (at : ℕ) (m : List ℕ) (j : ℕ) → at ≤ length m → j < length new →
+    slice_index (with_part new at m) (at + j) ≡ slice_index new j
 byte_inside new at m j h i =
     let e : at + j - at ≡ j = omega arith in
     get_or-append_right (take at m) (new ++ drop (at + length new) m) at (at + j) 0 (length-take-le at m h) (omega arith)
     ∙ (ap (λ k. slice_index (new ++ drop (at + length new) m) k) e ∙ get_or_append_left new (drop (at + length new) m) 0 j i)
 
-pub byte_past : (new : List ℕ) (at : ℕ) (m : List ℕ) (j : ℕ) → at ≤ length m → at + length new ≤ j → slice_index (with_part new at m) j ≡ slice_index m j
+pub byte_past :
+    (new : List ℕ) (at : ℕ) (m : List ℕ) (j : ℕ) → at ≤ length m → at + length new ≤ j →
+    slice_index (with_part new at m) j ≡ slice_index m j
 byte_past new at m j h i =
     let e : at + length new + (j - at - length new) ≡ j = omega arith in
     get_or-append_right (take at m) (new ++ drop (at + length new) m) at j 0 (length-take-le at m h) (omega arith)
     ∙ (get_or-append_right new (drop (at + length new) m) (length new) (j - at) 0 refl (omega arith)
     ∙ (get_or-drop (at + length new) m (j - at - length new) 0 ∙ ap (λ k. slice_index m k) e))
 
-pub agrees_with_part : (new : List ℕ) (at : ℕ) (m : List ℕ) (from to : ℕ) → at ≤ length m → (to ≤ at) ⊎ (at + length new ≤ from) → Agrees m (with_part new at m) from to
+pub agrees_with_part :
+    (new : List ℕ) (at : ℕ) (m : List ℕ) (from to : ℕ) → at ≤ length m → (to ≤ at) ⊎ (at + length new ≤ from) →
+    Agrees m (with_part new at m) from to
 agrees_with_part new at m from to h (inl i) = record { same = λ j a b. byte_below new at m j h (omega arith) }
 agrees_with_part new at m from to h (inr i) = record { same = λ j a b. byte_past new at m j h (omega arith) }
 
 -- a part that is copied to the same place
-pub agrees_copied : (from to : List ℕ) (at count : ℕ) → at + count ≤ length from → at + count ≤ length to → Agrees from (with_part (part at count from) at to) at (at + count)
+pub agrees_copied :
+    (from to : List ℕ) (at count : ℕ) → at + count ≤ length from → at + count ≤ length to →
+    Agrees from (with_part (part at count from) at to) at (at + count)
 agrees_copied from to at count h i =
     record {
       same = λ j a b.

@@ -5,13 +5,13 @@ use Rattle.std.specs.Int.{w32}
 use Rattle.std.specs.List.{All}
 use Rattle.std.proofs.Math.Nat.{pow-suc}
 use Rattle.std.proofs.Math.Facts.{sfits_to_z, Fits-of_lt}
-use Rattle.std.proofs.lemmas.Bool.Decides.{nat_tests}
 use Rattle.std.proofs.lemmas.List.{get_or_past}
 use Rattle.std.proofs.lemmas.List.Elements.{All-get_or, All-from_get_or, All-set, All-append, All-take, All-drop}
 use Rattle.rv_meaning.specs.Images.{AreBelow}
 use Rattle.rv_meaning.specs.Memory.{load, store}
 use Rattle.rv_meaning.specs.Words.{word}
 use Rattle.pli_typing.specs.Signatures.{footprint}
+use Rattle.area_keeper.proofs.Tests.{eq_tells}
 use Rattle.area_keeper.specs.Keeper.{Kept, KeptArea}
 use Rattle.area_keeper.specs.KeptAreas.{kept_at, part, with_part}
 use Rattle.area_keeper.specs.KeeperLaws.{KeepsBytes}
@@ -65,19 +65,25 @@ made_below capacity m h =
 bytes_placed : (x y : ℕ × List ℕ) → Some x ≡ Some y → x.1 ≡ y.1
 bytes_placed x y e = let f : x ≡ y = cc e in ap (λ (r : ℕ × List ℕ). r.1) f
 
-placed_below : (size signature : ℕ) (extent : ℤ) (gs : List Kept) (m : List ℕ) (r : Option ℕ) (o : ℕ) (new : List ℕ) → AreBelow 256 m → placed_at size signature extent gs m r ≡ Some (o, new) → AreBelow 256 new
+placed_below :
+    (size signature : ℕ) (extent : ℤ) (gs : List Kept) (m : List ℕ) (r : Option ℕ) (o : ℕ) (new : List ℕ) → AreBelow 256 m →
+    placed_at size signature extent gs m r ≡ Some (o, new) → AreBelow 256 new
 placed_below size signature extent gs m None o new h e = absurd (cc e)
 placed_below size signature extent gs m (Some p) o new h e =
     let n : Kept = record { offset = p; size = size; signature = signature; extent = extent } in
     let f : linked n gs m ≡ new = bytes_placed (p, linked n gs m) (o, new) e in
     subst (AreBelow 256) f (with_word_below _ _ (with_header n (link_from p gs) m) (header_below n (link_from p gs) m h))
 
-allocated_below : (size signature : ℕ) (extent : ℤ) (m : List ℕ) (a : Option KeptArea) (o : ℕ) (new : List ℕ) → AreBelow 256 m → allocated_in size signature extent m a ≡ Some (o, new) → AreBelow 256 new
+allocated_below :
+    (size signature : ℕ) (extent : ℤ) (m : List ℕ) (a : Option KeptArea) (o : ℕ) (new : List ℕ) → AreBelow 256 m →
+    allocated_in size signature extent m a ≡ Some (o, new) → AreBelow 256 new
 allocated_below size signature extent m None o new h e = absurd (cc e)
 allocated_below size signature extent m (Some a) o new h e =
     placed_below size signature extent a.placed m (room_from 0 a.capacity (footprint size) a.placed) o new h e
 
-freed_at_below : (o signature : ℕ) (gs : List Kept) (m : List ℕ) (r : Option Kept) (new : List ℕ) → AreBelow 256 m → freed_if o signature gs m r ≡ Some new → AreBelow 256 new
+freed_at_below :
+    (o signature : ℕ) (gs : List Kept) (m : List ℕ) (r : Option Kept) (new : List ℕ) → AreBelow 256 m →
+    freed_if o signature gs m r ≡ Some new → AreBelow 256 new
 freed_at_below o signature gs m None new h e = absurd (cc e)
 freed_at_below o signature gs m (Some g) new h e = by_test (g.signature == signature) e
   where
@@ -87,17 +93,23 @@ freed_at_below o signature gs m (Some g) new h e = by_test (g.signature == signa
         subst (AreBelow 256) f (with_word_below _ _ m h)
     by_test false e = absurd (cc e)
 
-freed_below : (o signature : ℕ) (m : List ℕ) (a : Option KeptArea) (new : List ℕ) → AreBelow 256 m → freed_in o signature m a ≡ Some new → AreBelow 256 new
+freed_below :
+    (o signature : ℕ) (m : List ℕ) (a : Option KeptArea) (new : List ℕ) → AreBelow 256 m →
+    freed_in o signature m a ≡ Some new → AreBelow 256 new
 freed_below o signature m None new h e = absurd (cc e)
 freed_below o signature m (Some a) new h e = freed_at_below o signature a.placed m (kept_at a.placed o) new h e
 
-copied_below : (from to : List ℕ) (s t : Option KeptArea) (new : List ℕ) → AreBelow 256 from → AreBelow 256 to → copied_in from to s t ≡ Some new → AreBelow 256 new
+copied_below :
+    (from to : List ℕ) (s t : Option KeptArea) (new : List ℕ) → AreBelow 256 from → AreBelow 256 to →
+    copied_in from to s t ≡ Some new → AreBelow 256 new
 copied_below from to None None new g h e = absurd (cc e)
 copied_below from to None (Some t) new g h e = absurd (cc e)
 copied_below from to (Some s) None new g h e = absurd (cc e)
 copied_below from to (Some s) (Some t) new g h e = by_test (nat_le (last_end s.placed) t.capacity) e
   where
-    by_test : (b : Bool) → cond b (Some (with_part (part first_link (4 + last_end s.placed) from) first_link to)) None ≡ Some new → AreBelow 256 new
+    by_test :
+        (b : Bool) → cond b (Some (with_part (part first_link (4 + last_end s.placed) from) first_link to)) None ≡ Some new →
+        AreBelow 256 new
     by_test true e =
         let f : with_part (part first_link (4 + last_end s.placed) from) first_link to ≡ new = cc e in
         subst (AreBelow 256) f (with_part_below (part first_link (4 + last_end s.placed) from) first_link to (part_below first_link (4 + last_end s.placed) from g) h)
@@ -113,14 +125,13 @@ load_below (suc n) m at h =
     let first : slice_index m at < 256 = h at in
     omega (arith, e, rest, first)
 
-eq_tells : (a b : ℕ) → (a == b) ≡ true → a ≡ b
-eq_tells a b e = grind (arith, nat_tests)
-
 leads_at : (link : ℕ) (m : List ℕ) (gs : List Kept) (o : ℕ) (g : Kept) → Leads link m gs → kept_at gs o ≡ Some g → kept_in o m ≡ g
 leads_at link m [] o g l e = absurd (cc e)
 leads_at link m (h ∷ gs) o g l e = by_test (h.offset == o) refl e (λ f. leads_at (word_at (link_of h.offset) m) m gs o g l.2 f)
   where
-    by_test : (t : Bool) → (h.offset == o) ≡ t → cond t (Some h) (kept_at gs o) ≡ Some g → (kept_at gs o ≡ Some g → kept_in o m ≡ g) → kept_in o m ≡ g
+    by_test :
+        (t : Bool) → (h.offset == o) ≡ t → cond t (Some h) (kept_at gs o) ≡ Some g →
+        (kept_at gs o ≡ Some g → kept_in o m ≡ g) → kept_in o m ≡ g
     by_test true t e rest =
         let f : h ≡ g = cc e in
         ap (λ x. kept_in x m) (sym (eq_tells h.offset o t)) ∙ (l.1 ∙ f)

@@ -1,9 +1,9 @@
 -- The chain keeps every law.
-use Rattle.std.proofs.Common.{◌≡◌, ◌≢◌, ◌⊎◌, inl, inr, ℕ, suc, ◌+◌, ◌^◌, ◌%◌, ◌<◌, ◌≤◌, List, [], length, Some, None, true, false, refl, sym, ap, ◌∙◌, subst, arith}
-use Rattle.std.specs.Prelude.{FitsSigned, cond, nat_le, ◌==◌}
+use Rattle.std.proofs.Common.{◌≡◌, ◌⊎◌, inl, inr, ℕ, suc, ◌+◌, ◌^◌, ◌%◌, ◌<◌, ◌≤◌, List, [], length, Some, None, refl, sym, ap, ◌∙◌, subst, arith}
+use Rattle.std.specs.Prelude.{FitsSigned, cond}
 use Rattle.std.specs.Int.{w32}
-use Rattle.std.proofs.lemmas.Bool.Decides.{nat_tests}
 use Rattle.pli_typing.specs.Signatures.{footprint}
+use Rattle.area_keeper.proofs.Tests.{eq_false, eq_true, le_false, le_true}
 use Rattle.area_keeper.specs.Keeper.{Kept, KeptArea}
 use Rattle.area_keeper.specs.KeptAreas.{kept_end, InOrder, kept_at, with_kept, without_kept, part, with_part}
 use Rattle.area_keeper.specs.KeeperLaws.{greatest_capacity, SameData, Becomes, KeepsMaking, KeepsOrder, KeepsAllocating, KeepsFreeing, KeepsCopying, KeepsWriting, Keeps}
@@ -19,14 +19,17 @@ use Rattle.area_keeper.proofs.ChainWrites.{word_there, word_other, Fits, length_
 
 -- ---- making
 
-made_stands : (capacity : ℕ) (bytes : List ℕ) → capacity % 16 ≡ 0 → capacity ≤ greatest_capacity → length bytes ≡ 16 + capacity → Becomes chain capacity [] bytes (chain_made capacity bytes)
+made_stands :
+    (capacity : ℕ) (bytes : List ℕ) → capacity % 16 ≡ 0 → capacity ≤ greatest_capacity → length bytes ≡ 16 + capacity →
+    Becomes chain capacity [] bytes (chain_made capacity bytes)
 made_stands capacity bytes r b n =
     record {
       as_many = length_made capacity bytes;
       stands = stands_for (chain_made capacity bytes) capacity [] (record { front = made_front capacity bytes r b n; ordered = omega arith; leads = made_link capacity bytes n });
     }
 
-emptied_stands : (bytes : List ℕ) (a : KeptArea) → chain_area bytes ≡ Some a → Becomes chain a.capacity [] bytes (chain_emptied bytes)
+emptied_stands :
+    (bytes : List ℕ) (a : KeptArea) → chain_area bytes ≡ Some a → Becomes chain a.capacity [] bytes (chain_emptied bytes)
 emptied_stands bytes a e =
     let s = stands_from bytes a e in
     let n = length_word bytes 12 0 in
@@ -60,7 +63,9 @@ chain_order =
 
 -- ---- allocating
 
-all_but_linked : (n : Kept) (gs : List Kept) (bytes : List ℕ) → AllBut bytes (linked n gs bytes) (link_before first_link n.offset gs) n.offset
+all_but_linked :
+    (n : Kept) (gs : List Kept) (bytes : List ℕ) →
+    AllBut bytes (linked n gs bytes) (link_before first_link n.offset gs) n.offset
 all_but_linked n gs bytes =
     let h = with_header n (link_from n.offset gs) bytes in
     let place = link_before first_link n.offset gs in
@@ -70,7 +75,10 @@ length_linked : (n : Kept) (gs : List Kept) (bytes : List ℕ) → length (linke
 length_linked n gs bytes =
     length_word (with_header n (link_from n.offset gs) bytes) (link_before first_link n.offset gs) (suc n.offset) ∙ length_header n (link_from n.offset gs) bytes
 
-placed_stands : (bytes : List ℕ) (capacity : ℕ) (gs : List Kept) (n : Kept) → Stands bytes capacity gs → n.signature < 2 ^ 32 → FitsSigned w32 n.extent → Room 0 capacity (footprint n.size) gs n.offset → Becomes chain capacity (with_kept n gs) bytes (linked n gs bytes) × SameData chain gs bytes (linked n gs bytes)
+placed_stands :
+    (bytes : List ℕ) (capacity : ℕ) (gs : List Kept) (n : Kept) → Stands bytes capacity gs → n.signature < 2 ^ 32 →
+    FitsSigned w32 n.extent → Room 0 capacity (footprint n.size) gs n.offset →
+    Becomes chain capacity (with_kept n gs) bytes (linked n gs bytes) × SameData chain gs bytes (linked n gs bytes)
 placed_stands bytes capacity gs n s sg x r =
     let new = linked n gs bytes in
     let link = link_from n.offset gs in
@@ -117,11 +125,14 @@ chain_allocating =
 
 -- ---- freeing
 
-all_but_unlinked : (o : ℕ) (gs : List Kept) (bytes : List ℕ) → AllButPart bytes (unlinked o gs bytes) (link_before first_link o gs) 4
+all_but_unlinked :
+    (o : ℕ) (gs : List Kept) (bytes : List ℕ) → AllButPart bytes (unlinked o gs bytes) (link_before first_link o gs) 4
 all_but_unlinked o gs bytes =
     record { agrees = λ from to a. agrees_word bytes (link_before first_link o gs) (link_from (suc o) gs) from to a }
 
-freed_stands : (bytes : List ℕ) (capacity : ℕ) (gs : List Kept) (o : ℕ) (g : Kept) → Stands bytes capacity gs → kept_at gs o ≡ Some g → Becomes chain capacity (without_kept o gs) bytes (unlinked o gs bytes) × SameData chain (without_kept o gs) bytes (unlinked o gs bytes)
+freed_stands :
+    (bytes : List ℕ) (capacity : ℕ) (gs : List Kept) (o : ℕ) (g : Kept) → Stands bytes capacity gs → kept_at gs o ≡ Some g →
+    Becomes chain capacity (without_kept o gs) bytes (unlinked o gs bytes) × SameData chain (without_kept o gs) bytes (unlinked o gs bytes)
 freed_stands bytes capacity gs o g s e =
     let new = unlinked o gs bytes in
     let link = link_from (suc o) gs in
@@ -148,12 +159,6 @@ freed_stands bytes capacity gs o g s e =
       same_data bytes new 0 capacity (without_kept o gs) order (omega (arith, many)) (omega (arith, many, m)) (data_without bytes new o gs (data_relinking bytes new place gs f (before_not_in_data first_link o 0 capacity gs s.ordered (omega arith)))),
     )
 
-eq_true : (a b : ℕ) → a ≡ b → (a == b) ≡ true
-eq_true a b e = grind (arith, nat_tests)
-
-eq_false : (a b : ℕ) → a ≢ b → (a == b) ≡ false
-eq_false a b e = grind (arith, nat_tests)
-
 chain_freeing : KeepsFreeing chain
 chain_freeing =
     record {
@@ -170,7 +175,10 @@ chain_freeing =
 
 -- ---- copying
 
-copied_stands : (from to : List ℕ) (source target : ℕ) (gs hs : List Kept) → Stands from source gs → Stands to target hs → last_end gs ≤ target → Becomes chain target gs to (with_part (part first_link (4 + last_end gs) from) first_link to) × SameData chain gs from (with_part (part first_link (4 + last_end gs) from) first_link to)
+copied_stands :
+    (from to : List ℕ) (source target : ℕ) (gs hs : List Kept) → Stands from source gs → Stands to target hs →
+    last_end gs ≤ target →
+    Becomes chain target gs to (with_part (part first_link (4 + last_end gs) from) first_link to) × SameData chain gs from (with_part (part first_link (4 + last_end gs) from) first_link to)
 copied_stands from to source target gs hs s t l =
     let end = last_end gs in
     let piece = part first_link (4 + end) from in
@@ -195,13 +203,9 @@ copied_stands from to source target gs hs s t l =
       same_data from new 0 end gs near (omega (arith, last, source_many)) (omega (arith, l, many, m)) (data_within from new 12 (12 + (4 + end)) 0 end gs near f (omega arith) (omega arith)),
     )
 
-le_true : (a b : ℕ) → a ≤ b → nat_le a b ≡ true
-le_true a b e = grind (arith, nat_tests)
-
-le_false : (a b : ℕ) → b < a → nat_le a b ≡ false
-le_false a b e = grind (arith, nat_tests)
-
-copied_by : (from to : List ℕ) (s t : KeptArea) → chain_area from ≡ Some s → chain_area to ≡ Some t → copied_in from to (chain_area from) (chain_area to) ≡ copied_in from to (Some s) (Some t)
+copied_by :
+    (from to : List ℕ) (s t : KeptArea) → chain_area from ≡ Some s → chain_area to ≡ Some t →
+    copied_in from to (chain_area from) (chain_area to) ≡ copied_in from to (Some s) (Some t)
 copied_by from to s t e f = ap (λ x. copied_in from to x (chain_area to)) e ∙ ap (λ x. copied_in from to (Some s) x) f
 
 chain_copying : KeepsCopying chain
@@ -219,7 +223,10 @@ chain_copying =
 
 -- ---- data
 
-written_stands : (bytes : List ℕ) (capacity : ℕ) (gs : List Kept) (o : ℕ) (g : Kept) (new : List ℕ) (at : ℕ) → Stands bytes capacity gs → kept_at gs o ≡ Some g → 32 + o ≤ at → at + length new ≤ 32 + o + g.size → Becomes chain capacity gs bytes (with_part new at bytes) × SameData chain (without_kept o gs) bytes (with_part new at bytes)
+written_stands :
+    (bytes : List ℕ) (capacity : ℕ) (gs : List Kept) (o : ℕ) (g : Kept) (new : List ℕ) (at : ℕ) → Stands bytes capacity gs →
+    kept_at gs o ≡ Some g → 32 + o ≤ at → at + length new ≤ 32 + o + g.size →
+    Becomes chain capacity gs bytes (with_part new at bytes) × SameData chain (without_kept o gs) bytes (with_part new at bytes)
 written_stands bytes capacity gs o g new at s e a b =
     let after = with_part new at bytes in
     let there = kept_where 0 capacity o gs g s.ordered e in
@@ -247,6 +254,9 @@ chain_writing =
           let s = stands_from bytes a e in
           let w = kept_where 0 a.capacity o a.placed g s.ordered there in
           omega (arith, w.2, w.3, s.front.as_many);
+      aligned = λ bytes a o g e there.
+          let w = kept_where 0 a.capacity o a.placed g (stands_from bytes a e).ordered there in
+          omega (arith, w.1);
       apart = λ bytes a o p g h e there other ne.
           let s = stands_from bytes a e in
           let v = kept_where 0 a.capacity o a.placed g s.ordered there in
@@ -257,7 +267,9 @@ chain_writing =
           (record { becomes = done.0; data_stay = done.1; places_stay = same_places bytes (with_part new at bytes) (without_kept o a.placed) }, refl);
     }
   where
-    far : (o p : ℕ) (g h : Kept) → g.offset ≡ o → h.offset ≡ p → (kept_end g ≤ p) ⊎ (kept_end h ≤ o) → (32 + o + g.size ≤ 32 + p) ⊎ (32 + p + h.size ≤ 32 + o)
+    far :
+        (o p : ℕ) (g h : Kept) → g.offset ≡ o → h.offset ≡ p → (kept_end g ≤ p) ⊎ (kept_end h ≤ o) →
+        (32 + o + g.size ≤ 32 + p) ⊎ (32 + p + h.size ≤ 32 + o)
     far o p g h a b (inl x) = inl (omega (arith, a, x))
     far o p g h a b (inr x) = inr (omega (arith, b, x))
 

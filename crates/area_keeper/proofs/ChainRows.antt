@@ -5,39 +5,39 @@ use Rattle.area_keeper.specs.Keeper.{Kept, KeptArea}
 use Rattle.area_keeper.specs.KeptAreas.{part, with_part}
 use Rattle.area_keeper.specs.Chain.{chain}
 
-abbrev generation : (offset size signature : ℕ) → ℤ → Kept
+abbrev pub generation : (offset size signature : ℕ) → ℤ → Kept
 generation o n s z = record { offset = o; size = n; signature = s; extent = z }
 
-abbrev area : ℕ → List Kept → Option KeptArea
+abbrev pub area : ℕ → List Kept → Option KeptArea
 area c gs = Some (record { capacity = c; placed = gs })
 
 -- the bytes after something, and nothing where it wasn't done
-abbrev placed : Option (ℕ × List ℕ) → List ℕ
+abbrev pub placed : Option (ℕ × List ℕ) → List ℕ
 placed None = []
 placed (Some r) = r.1
 
-abbrev offset : Option (ℕ × List ℕ) → Option ℕ
+abbrev pub offset : Option (ℕ × List ℕ) → Option ℕ
 offset None = None
 offset (Some r) = Some r.0
 
-abbrev done : Option (List ℕ) → List ℕ
+abbrev pub done : Option (List ℕ) → List ℕ
 done None = []
 done (Some bytes) = bytes
 
-abbrev empty : List ℕ
+abbrev pub empty : List ℕ
 empty = chain.made 96 (replicate 112 7)
 
-abbrev one : List ℕ
+abbrev pub one : List ℕ
 one = placed (chain.allocated 16 5 (pos 3) empty)
 
-abbrev two : List ℕ
+abbrev pub two : List ℕ
 two = placed (chain.allocated 16 6 (pos 0) one)
 
-abbrev full : List ℕ
+abbrev pub full : List ℕ
 full = placed (chain.allocated 13 5 (negsuc 1) two)
 
 -- the first and the last are freed
-abbrev holed : List ℕ
+abbrev pub holed : List ℕ
 holed = done (chain.freed 64 5 (done (chain.freed 0 5 full)))
 
 empty_stands : chain.area_of empty ≡ area 96 []
@@ -52,7 +52,8 @@ second_at = refl
 third_at : offset (chain.allocated 13 5 (negsuc 1) two) ≡ Some 64
 third_at = refl
 
-full_stands : chain.area_of full ≡ area 96 (generation 0 16 5 (pos 3) ∷ generation 32 16 6 (pos 0) ∷ generation 64 13 5 (negsuc 1) ∷ [])
+full_stands :
+    chain.area_of full ≡ area 96 (generation 0 16 5 (pos 3) ∷ generation 32 16 6 (pos 0) ∷ generation 64 13 5 (negsuc 1) ∷ [])
 full_stands = refl
 
 no_room : chain.allocated 0 5 (pos 0) full ≡ None
@@ -80,7 +81,7 @@ emptied_stands = refl
 -- ---- copies
 
 -- a generation at 32 with its data written
-abbrev written : List ℕ
+abbrev pub written : List ℕ
 written = with_part (replicate 16 9) (chain.data_at 32 holed) holed
 
 too_small : chain.copied written (chain.made 32 (replicate 48 0)) ≡ None
@@ -104,6 +105,13 @@ zeros = refl
 -- one byte more than the capacity
 too_long : chain.area_of (7 ∷ full) ≡ None
 too_long = refl
+
+unmarked : chain.area_of (with_part (0 ∷ []) 0 full) ≡ None
+unmarked = refl
+
+-- a capacity that isn't that of so many bytes
+another_capacity : chain.area_of (with_part (80 ∷ []) 4 full) ≡ None
+another_capacity = refl
 
 -- the first generation's link leads to itself
 around : chain.area_of (with_part (1 ∷ []) 28 full) ≡ None

@@ -1,11 +1,13 @@
-mod ChainRows
+mod Tests
 pub mod Agreement
-pub mod Walking
+mod Walking
+mod Linking
+mod Order
+mod ChainData
+mod ChainWrites
+mod ChainBytes
+mod ChainKeeps
+mod ChainRows
 pub mod Alikeness
-pub mod Linking
-pub mod Order
-pub mod ChainData
-pub mod ChainWrites
-pub mod ChainKeeps
-pub mod ChainBytes
-pub mod LeastPlaces
+mod LeastPlaces
+mod WrongKeepers

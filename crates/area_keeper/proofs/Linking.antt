@@ -1,29 +1,12 @@
 -- Headers in a chain: what stays when bytes agree, and what a header and a link more, or a link past one, lead to.
-use Rattle.std.proofs.Common.{◌≡◌, ◌⊎◌, inl, inr, ℕ, suc, ◌+◌, ◌*◌, ◌/◌, ◌%◌, ◌<◌, ◌≤◌, List, [], ◌∷◌, Some, None, Bool, true, false, refl, sym, ap, ◌∙◌, subst, arith}
+use Rattle.std.proofs.Common.{◌≡◌, ◌⊎◌, inl, inr, ℕ, suc, ◌+◌, ◌*◌, ◌/◌, ◌%◌, ◌≤◌, List, [], ◌∷◌, Some, None, Bool, true, false, refl, sym, ap, ◌∙◌, subst, arith}
 use Rattle.std.specs.Prelude.{cond, nat_le, nat_lt, ◌==◌}
-use Rattle.std.proofs.lemmas.Bool.Decides.{nat_tests}
+use Rattle.area_keeper.proofs.Tests.{eq_tells, le_tells, lt_false, lt_tells, lt_true}
 use Rattle.area_keeper.specs.Keeper.{Kept}
 use Rattle.area_keeper.specs.KeptAreas.{kept_end, InOrder, kept_at, with_kept, without_kept}
 use Rattle.area_keeper.specs.Chain.{word_at, link_of, kept_in, link_before, link_from, room_from}
 use Rattle.area_keeper.proofs.Agreement.{Agrees, agrees_within, word_same, kept_same}
 use Rattle.area_keeper.proofs.Walking.{Leads}
-
-lt_true : (a b : ℕ) → a < b → nat_lt a b ≡ true
-lt_true a b e = grind (arith, nat_tests)
-
-lt_false : (a b : ℕ) → b ≤ a → nat_lt a b ≡ false
-lt_false a b e = grind (arith, nat_tests)
-
-lt_tells : (a b : ℕ) (t : Bool) → nat_lt a b ≡ t → cond t (a < b) (b ≤ a)
-lt_tells a b true e = grind (arith, nat_tests)
-lt_tells a b false e = grind (arith, nat_tests)
-
-le_tells : (a b : ℕ) (t : Bool) → nat_le a b ≡ t → cond t (a ≤ b) (b < a)
-le_tells a b true e = grind (arith, nat_tests)
-le_tells a b false e = grind (arith, nat_tests)
-
-eq_tells : (a b : ℕ) → (a == b) ≡ true → a ≡ b
-eq_tells a b e = grind (arith, nat_tests)
 
 -- ---- room for so many bytes
 
@@ -46,10 +29,13 @@ apart_behind x o capacity bytes (g ∷ gs) i h =
 ends_aligned : (o n : ℕ) → o % 16 ≡ 0 → (o + (16 + (n + 15) / 16 * 16)) % 16 ≡ 0
 ends_aligned o n h = omega (arith, h)
 
-pub room_sound : (start capacity bytes : ℕ) (gs : List Kept) (o : ℕ) → start % 16 ≡ 0 → InOrder start capacity gs → room_from start capacity bytes gs ≡ Some o → Room start capacity bytes gs o
+pub room_sound :
+    (start capacity bytes : ℕ) (gs : List Kept) (o : ℕ) → start % 16 ≡ 0 → InOrder start capacity gs →
+    room_from start capacity bytes gs ≡ Some o → Room start capacity bytes gs o
 room_sound start capacity bytes [] o a i e = by_test (nat_le (start + bytes) capacity) refl e
   where
-    by_test : (t : Bool) → nat_le (start + bytes) capacity ≡ t → cond t (Some start) None ≡ Some o → Room start capacity bytes [] o
+    by_test :
+        (t : Bool) → nat_le (start + bytes) capacity ≡ t → cond t (Some start) None ≡ Some o → Room start capacity bytes [] o
     by_test true t e =
         let f : start ≡ o = cc e in
         subst (λ x. Room start capacity bytes [] x) f (record { behind_start = omega arith; aligned = a; within = le_tells (start + bytes) capacity true t; apart = tt })
@@ -57,7 +43,11 @@ room_sound start capacity bytes [] o a i e = by_test (nat_le (start + bytes) cap
 room_sound start capacity bytes (g ∷ gs) o a i e =
     by_test (nat_le (start + bytes) g.offset) refl e (λ f. room_sound (kept_end g) capacity bytes gs o (ends_aligned g.offset _ i.1) i.3 f)
   where
-    by_test : (t : Bool) → nat_le (start + bytes) g.offset ≡ t → cond t (Some start) (room_from (kept_end g) capacity bytes gs) ≡ Some o → (room_from (kept_end g) capacity bytes gs ≡ Some o → Room (kept_end g) capacity bytes gs o) → Room start capacity bytes (g ∷ gs) o
+    by_test :
+        (t : Bool) → nat_le (start + bytes) g.offset ≡ t →
+        cond t (Some start) (room_from (kept_end g) capacity bytes gs) ≡ Some o →
+        (room_from (kept_end g) capacity bytes gs ≡ Some o → Room (kept_end g) capacity bytes gs o) →
+        Room start capacity bytes (g ∷ gs) o
     by_test true t e rest =
         let f : start ≡ o = cc e in
         let b = le_tells (start + bytes) g.offset true t in
@@ -74,29 +64,40 @@ room_sound start capacity bytes (g ∷ gs) o a i e =
 -- ---- where links stand
 
 -- the link to an offset stands where the walk begins, or in a header behind it
-before_where : (at o start capacity : ℕ) (gs : List Kept) → InOrder start capacity gs → (link_before at o gs ≡ at) ⊎ (28 + start ≤ link_before at o gs)
+before_where :
+    (at o start capacity : ℕ) (gs : List Kept) → InOrder start capacity gs →
+    (link_before at o gs ≡ at) ⊎ (28 + start ≤ link_before at o gs)
 before_where at o start capacity [] i = inl refl
 before_where at o start capacity (g ∷ gs) i =
     by_test (nat_lt g.offset o) (before_where (link_of g.offset) o (kept_end g) capacity gs i.3)
   where
-    by_test : (t : Bool) → (link_before (link_of g.offset) o gs ≡ link_of g.offset) ⊎ (28 + kept_end g ≤ link_before (link_of g.offset) o gs) → (cond t (link_before (link_of g.offset) o gs) at ≡ at) ⊎ (28 + start ≤ cond t (link_before (link_of g.offset) o gs) at)
+    by_test :
+        (t : Bool) →
+        (link_before (link_of g.offset) o gs ≡ link_of g.offset) ⊎ (28 + kept_end g ≤ link_before (link_of g.offset) o gs) →
+        (cond t (link_before (link_of g.offset) o gs) at ≡ at) ⊎ (28 + start ≤ cond t (link_before (link_of g.offset) o gs) at)
     by_test true (inl r) = inr (omega (arith, i.0, r))
     by_test true (inr r) = inr (omega (arith, i.0, r))
     by_test false r = inl refl
 
-pub before_least : (at o start capacity : ℕ) (gs : List Kept) → InOrder start capacity gs → at ≤ 28 + start → at ≤ link_before at o gs
+pub before_least :
+    (at o start capacity : ℕ) (gs : List Kept) → InOrder start capacity gs → at ≤ 28 + start → at ≤ link_before at o gs
 before_least at o start capacity gs i h = by_where (before_where at o start capacity gs i)
   where
     by_where : (link_before at o gs ≡ at) ⊎ (28 + start ≤ link_before at o gs) → at ≤ link_before at o gs
     by_where (inl r) = omega (arith, r)
     by_where (inr r) = omega (arith, h, r)
 
-pub before_below : (at o start capacity : ℕ) (gs : List Kept) → o % 16 ≡ 0 → InOrder start capacity gs → at + 4 ≤ 16 + o → link_before at o gs + 4 ≤ 16 + o
+pub before_below :
+    (at o start capacity : ℕ) (gs : List Kept) → o % 16 ≡ 0 → InOrder start capacity gs → at + 4 ≤ 16 + o →
+    link_before at o gs + 4 ≤ 16 + o
 before_below at o start capacity [] a i h = h
 before_below at o start capacity (g ∷ gs) a i h =
     by_test (nat_lt g.offset o) refl (λ j. before_below (link_of g.offset) o (kept_end g) capacity gs a i.3 j)
   where
-    by_test : (t : Bool) → nat_lt g.offset o ≡ t → (link_of g.offset + 4 ≤ 16 + o → link_before (link_of g.offset) o gs + 4 ≤ 16 + o) → cond t (link_before (link_of g.offset) o gs) at + 4 ≤ 16 + o
+    by_test :
+        (t : Bool) → nat_lt g.offset o ≡ t →
+        (link_of g.offset + 4 ≤ 16 + o → link_before (link_of g.offset) o gs + 4 ≤ 16 + o) →
+        cond t (link_before (link_of g.offset) o gs) at + 4 ≤ 16 + o
     by_test true t rest = rest (omega (arith, a, i.1, lt_tells g.offset o true t))
     by_test false t rest = h
 
@@ -110,12 +111,18 @@ front_not_in_data x start capacity [] i h = tt
 front_not_in_data x start capacity (g ∷ gs) i h =
     (inl (omega (arith, i.0, h)), front_not_in_data x (kept_end g) capacity gs i.3 (omega (arith, i.0, h)))
 
-pub before_not_in_data : (at o start capacity : ℕ) (gs : List Kept) → InOrder start capacity gs → at + 4 ≤ 16 + start → NotInData (link_before at o gs) gs
+pub before_not_in_data :
+    (at o start capacity : ℕ) (gs : List Kept) → InOrder start capacity gs → at + 4 ≤ 16 + start →
+    NotInData (link_before at o gs) gs
 before_not_in_data at o start capacity [] i h = tt
 before_not_in_data at o start capacity (g ∷ gs) i h =
     by_test (nat_lt g.offset o) (before_where (link_of g.offset) o (kept_end g) capacity gs i.3) (before_not_in_data (link_of g.offset) o (kept_end g) capacity gs i.3 (omega arith))
   where
-    by_test : (t : Bool) → (link_before (link_of g.offset) o gs ≡ link_of g.offset) ⊎ (28 + kept_end g ≤ link_before (link_of g.offset) o gs) → NotInData (link_before (link_of g.offset) o gs) gs → NotInData (cond t (link_before (link_of g.offset) o gs) at) (g ∷ gs)
+    by_test :
+        (t : Bool) →
+        (link_before (link_of g.offset) o gs ≡ link_of g.offset) ⊎ (28 + kept_end g ≤ link_before (link_of g.offset) o gs) →
+        NotInData (link_before (link_of g.offset) o gs) gs →
+        NotInData (cond t (link_before (link_of g.offset) o gs) at) (g ∷ gs)
     by_test true (inl r) rest = (inl (omega (arith, r)), rest)
     by_test true (inr r) rest = (inr (omega (arith, r)), rest)
     by_test false r rest = front_not_in_data at start capacity (g ∷ gs) i h
@@ -126,7 +133,9 @@ abbrev pub SameHeaders : (old new : List ℕ) → List Kept → Type 0
 SameHeaders old new [] = Unit {0}
 SameHeaders old new (g ∷ gs) = Agrees old new (16 + g.offset) (32 + g.offset) × SameHeaders old new gs
 
-pub headers_within : (old new : List ℕ) (from to start capacity : ℕ) (gs : List Kept) → InOrder start capacity gs → Agrees old new from to → from ≤ 16 + start → 16 + capacity ≤ to → SameHeaders old new gs
+pub headers_within :
+    (old new : List ℕ) (from to start capacity : ℕ) (gs : List Kept) → InOrder start capacity gs → Agrees old new from to →
+    from ≤ 16 + start → 16 + capacity ≤ to → SameHeaders old new gs
 headers_within old new from to start capacity [] i h a b = tt
 headers_within old new from to start capacity (g ∷ gs) i h a b =
     (agrees_within old new from to (16 + g.offset) (32 + g.offset) h (omega (arith, i.0, a)) (omega (arith, i.2, b)), headers_within old new from to (kept_end g) capacity gs i.3 h (omega (arith, i.0, a)) b)
@@ -139,7 +148,9 @@ leads_same old new link (g ∷ gs) h l =
     (l.0, k ∙ l.1, subst (λ (x : ℕ). Leads x new gs) (sym w) (leads_same old new (word_at (link_of g.offset) old) gs h.1 l.2))
 
 -- a link from elsewhere to the first of these
-relinked : (old new : List ℕ) (start capacity o link other : ℕ) (gs : List Kept) → InOrder start capacity gs → o ≤ start → SameHeaders old new gs → Leads link old gs → other ≡ link_from o gs → Leads other new gs
+relinked :
+    (old new : List ℕ) (start capacity o link other : ℕ) (gs : List Kept) → InOrder start capacity gs → o ≤ start →
+    SameHeaders old new gs → Leads link old gs → other ≡ link_from o gs → Leads other new gs
 relinked old new start capacity o link other [] i h s l e = e
 relinked old new start capacity o link other (g ∷ gs) i h s l e =
     let t = lt_false g.offset o (omega (arith, i.0, h)) in
@@ -150,18 +161,27 @@ relinked old new start capacity o link other (g ∷ gs) i h s l e =
 
 -- which bytes stay where a header and the link to it are written, and where so many bytes at one place are
 pub record AllBut (old new : List ℕ) (place header : ℕ) : Type 0 where
-  pub agrees : (from to : ℕ) → (to ≤ place) ⊎ (place + 4 ≤ from) → (to ≤ 16 + header) ⊎ (32 + header ≤ from) → Agrees old new from to
+  pub agrees :
+      (from to : ℕ) → (to ≤ place) ⊎ (place + 4 ≤ from) → (to ≤ 16 + header) ⊎ (32 + header ≤ from) → Agrees old new from to
 
 pub record AllButPart (old new : List ℕ) (place count : ℕ) : Type 0 where
   pub agrees : (from to : ℕ) → (to ≤ place) ⊎ (place + count ≤ from) → Agrees old new from to
 
-pub placing : (old new : List ℕ) (n : Kept) (at start capacity bytes place : ℕ) (gs : List Kept) → InOrder start capacity gs → Leads (word_at at old) old gs → start ≤ n.offset → 16 ≤ bytes → Apart n.offset bytes gs → at + 4 ≤ 16 + start → place ≡ link_before at n.offset gs → word_at place new ≡ suc n.offset → kept_in n.offset new ≡ n → word_at (28 + n.offset) new ≡ link_from n.offset gs → AllBut old new place n.offset → Leads (word_at at new) new (with_kept n gs)
+pub placing :
+    (old new : List ℕ) (n : Kept) (at start capacity bytes place : ℕ) (gs : List Kept) → InOrder start capacity gs →
+    Leads (word_at at old) old gs → start ≤ n.offset → 16 ≤ bytes → Apart n.offset bytes gs → at + 4 ≤ 16 + start →
+    place ≡ link_before at n.offset gs → word_at place new ≡ suc n.offset → kept_in n.offset new ≡ n →
+    word_at (28 + n.offset) new ≡ link_from n.offset gs → AllBut old new place n.offset →
+    Leads (word_at at new) new (with_kept n gs)
 placing old new n at start capacity bytes place [] i l h b a d e w k v f =
     (subst (λ x. word_at x new ≡ suc n.offset) e w, k, v)
 placing old new n at start capacity bytes place (g ∷ gs) i l h b a d e w k v f =
     by_case a.0 (λ j p x. placing old new n (link_of g.offset) (kept_end g) capacity bytes place gs i.3 l.2 j b a.1 (omega arith) p w k x f)
   where
-    by_case : (kept_end g ≤ n.offset) ⊎ (n.offset + bytes ≤ g.offset) → (kept_end g ≤ n.offset → place ≡ link_before (link_of g.offset) n.offset gs → word_at (28 + n.offset) new ≡ link_from n.offset gs → Leads (word_at (link_of g.offset) new) new (with_kept n gs)) → Leads (word_at at new) new (with_kept n (g ∷ gs))
+    by_case :
+        (kept_end g ≤ n.offset) ⊎ (n.offset + bytes ≤ g.offset) →
+        (kept_end g ≤ n.offset → place ≡ link_before (link_of g.offset) n.offset gs → word_at (28 + n.offset) new ≡ link_from n.offset gs → Leads (word_at (link_of g.offset) new) new (with_kept n gs)) →
+        Leads (word_at at new) new (with_kept n (g ∷ gs))
     by_case (inl j) rest =
         let t = lt_true g.offset n.offset (omega (arith, j)) in
         let u = lt_false n.offset g.offset (omega (arith, j)) in
@@ -186,12 +206,17 @@ placing old new n at start capacity bytes place (g ∷ gs) i l h b a d e w k v f
 
 -- ---- a generation less
 
-pub kept_where : (start capacity o : ℕ) (gs : List Kept) (g : Kept) → InOrder start capacity gs → kept_at gs o ≡ Some g → (start ≤ o) × (o % 16 ≡ 0) × (kept_end g ≤ capacity) × (g.offset ≡ o)
+pub kept_where :
+    (start capacity o : ℕ) (gs : List Kept) (g : Kept) → InOrder start capacity gs → kept_at gs o ≡ Some g →
+    (start ≤ o) × (o % 16 ≡ 0) × (kept_end g ≤ capacity) × (g.offset ≡ o)
 kept_where start capacity o [] g i e = absurd (cc e)
 kept_where start capacity o (h ∷ gs) g i e =
     by_test (h.offset == o) refl e (λ f. kept_where (kept_end h) capacity o gs g i.3 f)
   where
-    by_test : (t : Bool) → (h.offset == o) ≡ t → cond t (Some h) (kept_at gs o) ≡ Some g → (kept_at gs o ≡ Some g → (kept_end h ≤ o) × (o % 16 ≡ 0) × (kept_end g ≤ capacity) × (g.offset ≡ o)) → (start ≤ o) × (o % 16 ≡ 0) × (kept_end g ≤ capacity) × (g.offset ≡ o)
+    by_test :
+        (t : Bool) → (h.offset == o) ≡ t → cond t (Some h) (kept_at gs o) ≡ Some g →
+        (kept_at gs o ≡ Some g → (kept_end h ≤ o) × (o % 16 ≡ 0) × (kept_end g ≤ capacity) × (g.offset ≡ o)) →
+        (start ≤ o) × (o % 16 ≡ 0) × (kept_end g ≤ capacity) × (g.offset ≡ o)
     by_test true t e rest =
         let f : h ≡ g = cc e in
         let q : h.offset ≡ o = eq_tells h.offset o t in
@@ -200,12 +225,18 @@ kept_where start capacity o (h ∷ gs) g i e =
         let r = rest e in
         (omega (arith, i.0, r.0), r.1, r.2, r.3)
 
-pub removing : (old new : List ℕ) (at start capacity o place : ℕ) (gs : List Kept) (g : Kept) → InOrder start capacity gs → Leads (word_at at old) old gs → at + 4 ≤ 16 + start → kept_at gs o ≡ Some g → place ≡ link_before at o gs → word_at place new ≡ link_from (suc o) gs → AllButPart old new place 4 → Leads (word_at at new) new (without_kept o gs)
+pub removing :
+    (old new : List ℕ) (at start capacity o place : ℕ) (gs : List Kept) (g : Kept) → InOrder start capacity gs →
+    Leads (word_at at old) old gs → at + 4 ≤ 16 + start → kept_at gs o ≡ Some g → place ≡ link_before at o gs →
+    word_at place new ≡ link_from (suc o) gs → AllButPart old new place 4 → Leads (word_at at new) new (without_kept o gs)
 removing old new at start capacity o place [] g i l d m e w f = absurd (cc m)
 removing old new at start capacity o place (h ∷ gs) g i l d m e w f =
     by_test (h.offset == o) refl m (λ q p x. removing old new (link_of h.offset) (kept_end h) capacity o place gs g i.3 l.2 (omega arith) q p x f)
   where
-    by_test : (t : Bool) → (h.offset == o) ≡ t → cond t (Some h) (kept_at gs o) ≡ Some g → (kept_at gs o ≡ Some g → place ≡ link_before (link_of h.offset) o gs → word_at place new ≡ link_from (suc o) gs → Leads (word_at (link_of h.offset) new) new (without_kept o gs)) → Leads (word_at at new) new (cond t gs (h ∷ without_kept o gs))
+    by_test :
+        (t : Bool) → (h.offset == o) ≡ t → cond t (Some h) (kept_at gs o) ≡ Some g →
+        (kept_at gs o ≡ Some g → place ≡ link_before (link_of h.offset) o gs → word_at place new ≡ link_from (suc o) gs → Leads (word_at (link_of h.offset) new) new (without_kept o gs)) →
+        Leads (word_at at new) new (cond t gs (h ∷ without_kept o gs))
     by_test true t m rest =
         let q : h.offset ≡ o = eq_tells h.offset o t in
         let p : place ≡ at = e ∙ ap (λ c. cond c (link_before (link_of h.offset) o gs) at) (lt_false h.offset o (omega (arith, q))) in

@@ -16,6 +16,7 @@ use Rattle.area_keeper.specs.KeeperLaws.{greatest_capacity}
 abbrev pub mark : ℕ
 mark = 0x4e414843
 
+-- a word has four bytes, the lowest first
 abbrev pub word_at : (at : ℕ) → List ℕ → ℕ
 word_at at bytes = load 4 bytes at
 
@@ -33,6 +34,7 @@ first_link = 12
 abbrev pub link_of : (offset : ℕ) → ℕ
 link_of offset = 28 + offset
 
+-- a header's first three words stand in front of its link
 abbrev pub kept_in : (offset : ℕ) → List ℕ → Kept
 kept_in offset bytes =
     kept_as offset (word_at (16 + offset) bytes) (word_at (20 + offset) bytes) (signed (word_at (24 + offset) bytes))
@@ -62,11 +64,13 @@ walked (suc n) start capacity (suc o) bytes =
     then behind (kept_in o bytes) (walked n (kept_end (kept_in o bytes)) capacity (word_at (link_of o) bytes) bytes)
     else None
 
+-- whether bytes begin with an area's own header, and are as many as its capacity takes
 abbrev pub has_front : List ℕ → Bool
 has_front bytes =
     (word_at 0 bytes == mark)
     && ((capacity_in bytes % 16 == 0) && (nat_le (capacity_in bytes) greatest_capacity && (length bytes == 16 + capacity_in bytes)))
 
+-- bytes with that header stand for an area if the walk from its link comes to an end
 abbrev pub area_with : (capacity : ℕ) → Option (List Kept) → Option KeptArea
 area_with capacity None = None
 area_with capacity (Some gs) = Some (record { capacity = capacity; placed = gs })
@@ -81,6 +85,7 @@ chain_area bytes = area_behind (has_front bytes) bytes
 
 -- ---- what changes bytes
 
+-- the mark, the capacity, and a link to nothing; other bytes stay
 abbrev pub chain_made : (capacity : ℕ) → List ℕ → List ℕ
 chain_made capacity bytes = with_word first_link 0 (with_word 4 capacity (with_word 0 mark bytes))
 
@@ -103,7 +108,7 @@ room_from start capacity bytes [] = if nat_le (start + bytes) capacity then Some
 room_from start capacity bytes (g ∷ gs) =
     if nat_le (start + bytes) g.offset then Some start else room_from (kept_end g) capacity bytes gs
 
--- a generation's header, and the link to it
+-- a generation's header, and the link to it; its data stay what the bytes were
 abbrev pub linked : Kept → List Kept → List ℕ → List ℕ
 linked g gs bytes = with_word (link_before first_link g.offset gs) (suc g.offset) (with_header g (link_from g.offset gs) bytes)
 
@@ -121,6 +126,7 @@ allocated_in size signature extent bytes (Some a) =
 abbrev pub unlinked : (offset : ℕ) → List Kept → List ℕ → List ℕ
 unlinked o gs bytes = with_word (link_before first_link o gs) (link_from (suc o) gs) bytes
 
+-- a generation of another signature stays
 abbrev pub freed_if : (offset signature : ℕ) → List Kept → List ℕ → Option Kept → Option (List ℕ)
 freed_if o signature gs bytes None = None
 freed_if o signature gs bytes (Some g) = if g.signature == signature then Some (unlinked o gs bytes) else None

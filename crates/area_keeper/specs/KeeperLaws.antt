@@ -41,7 +41,7 @@ pub record Leaves (k : Keeper) (same : List Kept) (capacity : ℕ) (placed : Lis
 
 -- which bytes an area takes, and how it begins
 pub record KeepsMaking (k : Keeper) : Type 0 where
-  -- headers beside footprints cost a fourth of the capacity at most, and 32 bytes: the heap's place is reserved so
+  -- what an area takes beside its capacity is a fourth of it at most, and 32 bytes: so much is reserved
   pub few : (capacity : ℕ) → 4 * k.bytes_for capacity ≤ 5 * capacity + 4 * 32
   -- storage that was never an area becomes one, whatever its bytes
   pub made :
@@ -58,7 +58,7 @@ pub record KeepsOrder (k : Keeper) : Type 0 where
   -- the capacity is one that an area can be declared with
   pub rounded : (bytes : List ℕ) (a : KeptArea) → k.area_of bytes ≡ Some a → a.capacity % 16 ≡ 0
   pub bounded : (bytes : List ℕ) (a : KeptArea) → k.area_of bytes ≡ Some a → a.capacity ≤ greatest_capacity
-  -- so the length tells the capacity, and bytes of another variable are no area of this one
+  -- an area is as long as its capacity takes, no more and no less
   pub as_many : (bytes : List ℕ) (a : KeptArea) → k.area_of bytes ≡ Some a → length bytes ≡ k.bytes_for a.capacity
 
 -- ALLOCATE: a signature's number and an extent are words; a size that has a gap is one
@@ -113,6 +113,10 @@ pub record KeepsWriting (k : Keeper) : Type 0 where
   pub within :
       (bytes : List ℕ) (a : KeptArea) (offset : ℕ) (g : Kept) →
       k.area_of bytes ≡ Some a → kept_at a.placed offset ≡ Some g → k.data_at offset bytes + g.size ≤ length bytes
+  -- so that words in data are where the machine can load and store them
+  pub aligned :
+      (bytes : List ℕ) (a : KeptArea) (offset : ℕ) (g : Kept) →
+      k.area_of bytes ≡ Some a → kept_at a.placed offset ≡ Some g → k.data_at offset bytes % 4 ≡ 0
   -- no byte is data of two
   pub apart :
       (bytes : List ℕ) (a : KeptArea) (o p : ℕ) (g h : Kept) →
@@ -165,6 +169,8 @@ PlacesAtLeast =
 
 -- what is kept and what the storage machine has in its place go on alike
 pub record KeepsAlike : Type 0 where
+  -- so no law speaks of nothing: each list that is kept is alike to one
+  pub some : (gs : List Kept) → (ps : List Placed) × Alike gs ps
   pub ordered :
       (capacity : ℕ) (gs : List Kept) (ps : List Placed) → Alike gs ps → InOrder 0 capacity gs → IsOrdered 0 capacity ps
   pub placed :

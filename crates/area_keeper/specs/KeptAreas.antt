@@ -6,9 +6,11 @@ use Rattle.area_keeper.specs.Keeper.{Kept}
 
 -- ---- generations in the order of their offsets
 
+-- what ALLOCATE makes of its arguments
 abbrev pub kept_as : (offset size signature : ℕ) → (extent : ℤ) → Kept
 kept_as offset size signature extent = record { offset = offset; size = size; signature = signature; extent = extent }
 
+-- where a footprint ends
 abbrev pub kept_end : Kept → ℕ
 kept_end g = g.offset + footprint g.size
 
@@ -18,10 +20,12 @@ InOrder start capacity [] = start ≤ capacity
 InOrder start capacity (g ∷ gs) =
     (start ≤ g.offset) × (g.offset % 16 ≡ 0) × (kept_end g ≤ capacity) × InOrder (kept_end g) capacity gs
 
+-- the generation at an offset
 abbrev pub kept_at : List Kept → (offset : ℕ) → Option Kept
 kept_at [] o = None
 kept_at (g ∷ gs) o = if g.offset == o then Some g else kept_at gs o
 
+-- with another in its order, and without the one at an offset
 abbrev pub with_kept : Kept → List Kept → List Kept
 with_kept n [] = n ∷ []
 with_kept n (g ∷ gs) = if nat_lt n.offset g.offset then n ∷ g ∷ gs else g ∷ with_kept n gs
