@@ -50,6 +50,6 @@ answered c base input bound (Err (F.Machine fault acts output)) valid fits told 
 pub refused : {s : List ℕ} (input : List ℕ) (bound : ℕ) (fault : SourceFault) (r : RunFault) → IsRefused s fault → IsUncompiledFor fault r → Answers s input bound (Err r)
 refused input bound fault (F.Memory acts output) broken told = inl told.1
 refused {s = s} input bound fault (F.Source same) broken told =
-    (subst (λ f. IsRefused s f) (sym told.0) broken , subst (λ (f : SourceFault). f.kind ≢ SourceKind.Memory) (sym told.0) told.1)
+    (subst (λ f. IsRefused s f) (sym told.0) broken, subst (λ (f : SourceFault). f.kind ≢ SourceKind.Memory) (sym told.0) told.1)
 refused input bound fault F.BadBase broken told = absurd told
 refused input bound fault (F.Machine other acts output) broken told = absurd told
