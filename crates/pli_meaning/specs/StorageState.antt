@@ -233,7 +233,7 @@ binding_at s Y.ControlledClass v = newest_in s.heap v.index (offsets_of s.contro
 abbrev pub standing_for : State → Y.Variable → Option Binding
 standing_for s v = binding_at s v.class v
 
--- ---- the unit in force (chapter 6)
+-- ---- the unit in force (chapter 6), whatever a unit is: a block of the program here, the address of its code for the services
 
 abbrev pub same_condition : Condition → Condition → Bool
 same_condition C.Area C.Area = true
@@ -243,15 +243,16 @@ same_condition C.Endfile C.Endfile = true
 same_condition C.Error C.Error = true
 same_condition _ _ = false
 
-abbrev pub unit_for : List (Condition × OnUnit) → Condition → Option OnUnit
+abbrev pub unit_for : {U : Type 0} → List (Condition × U) → Condition → Option U
 unit_for [] c = None
 unit_for (u ∷ us) c = if same_condition u.0 c then Some u.1 else unit_for us c
 
-abbrev pub without_unit : Condition → List (Condition × OnUnit) → List (Condition × OnUnit)
+abbrev pub without_unit : {U : Type 0} → Condition → List (Condition × U) → List (Condition × U)
 without_unit c [] = []
 without_unit c (u ∷ us) = if same_condition u.0 c then us else u ∷ without_unit c us
 
-abbrev pub first_unit : Activation → Option OnUnit → Option (Activation × OnUnit) → Option (Activation × OnUnit)
+-- an activation with its own unit, else what is found further down
+abbrev pub first_unit : {A U : Type 0} → A → Option U → Option (A × U) → Option (A × U)
 first_unit a None further = further
 first_unit a (Some u) further = Some (a, u)
 

@@ -63,12 +63,12 @@ ones = 2 ^ 32 - 1
 abbrev pub structure_data : List ℕ
 structure_data = bytes_of_words (11 ∷ 12 ∷ []) ++ codes "abc" ++ 0 ∷ codes "def" ++ 0 ∷ codes "ghi" ++ 0 ∷ codes "jkl" ++ 0 ∷ []
 
--- code; at 16 a name of a kind, offset and serial; at 32 a record of it with a signature, the subscripts at 48, and a REFER
--- extent; at 48 a subscript; from 52 on a shape; at 128 data
-abbrev pub memory : (name : List ℕ) → (signature subscript extent : ℕ) → (shape bytes : List ℕ) → List ℕ
-memory name signature subscript extent shape bytes =
+-- code; at 16 a name of a kind, offset and serial; at 32 a record of it with a signature, the place of the subscripts and a REFER
+-- extent; from 52 on a shape; at 128 data
+abbrev pub memory : (name : List ℕ) → (signature place extent : ℕ) → (shape bytes : List ℕ) → List ℕ
+memory name signature place extent shape bytes =
     replicate 16 0
-    ++ bytes_of_words (name ++ 16 ∷ signature ∷ 48 ∷ extent ∷ subscript ∷ shape)
+    ++ bytes_of_words (name ++ 16 ∷ signature ∷ place ∷ extent ∷ 0 ∷ shape)
     ++ replicate (76 - 4 * length shape) 0
     ++ bytes
 

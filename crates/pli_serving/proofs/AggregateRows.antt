@@ -11,9 +11,9 @@ use Rattle.pli_serving.proofs.AggregatePieces.{up_to, variable_of, ones, structu
 
 -- ---- 40, mode 0
 
-abbrev holding : (signature subscript : ℕ) → List Entry → Call
-holding signature subscript entries =
-    call (variable_of signature entries) (memory variable_name signature subscript 0 [] structure_data)
+abbrev holding : (signature place : ℕ) → List Entry → Call
+holding signature place entries =
+    call (variable_of signature entries) (memory variable_name signature place 0 [] structure_data)
 
 abbrev taken : (kind : LeafKind) → List Bounds → List (List ℕ) → TakenLeaf
 taken kind bounds elements = record { kind = kind; bounds = bounds; elements = elements }
@@ -34,14 +34,14 @@ abbrev row_entry : Entry
 row_entry =
     AggregateEntry (taken (Fixed 31) [] ((12 ∷ 0 ∷ 0 ∷ 0 ∷ []) ∷ []) ∷ taken (Character 3) (up_to 2 ∷ []) (codes "ghi" ∷ codes "jkl" ∷ []) ∷ [])
 
-abbrev take : (signature subscript first count given : ℕ) → Shown
-take signature subscript first count given =
-    entries_of (aggregate_served (holding signature subscript (TextEntry (codes "q") ∷ [])) 32 first count given 0)
+abbrev take : (signature place first count given : ℕ) → Shown
+take signature place first count given =
+    entries_of (aggregate_served (holding signature place (TextEntry (codes "q") ∷ [])) 32 first count given 0)
 
 take_whole : take 0 0 0 2 0 ≡ Entries (whole_entry ∷ TextEntry (codes "q") ∷ []) 32 0
 take_whole = refl
 
-take_row : take 0 2 0 2 1 ≡ Entries (row_entry ∷ TextEntry (codes "q") ∷ []) 32 0
+take_row : take 0 1 0 2 1 ≡ Entries (row_entry ∷ TextEntry (codes "q") ∷ []) 32 0
 take_row = refl
 
 take_member :
@@ -52,10 +52,10 @@ take_member = refl
 take_leaf_that_is_not_there : take 0 0 1 2 0 ≡ BadService
 take_leaf_that_is_not_there = refl
 
-take_row_outside : take 0 3 0 2 1 ≡ BadService
+take_row_outside : take 0 2 0 2 1 ≡ BadService
 take_row_outside = refl
 
-take_too_many_subscripts : take 0 1 0 2 2 ≡ BadService
+take_too_many_subscripts : take 0 0 0 2 2 ≡ BadService
 take_too_many_subscripts = refl
 
 take_area : take 10 0 0 1 0 ≡ BadService
@@ -97,16 +97,16 @@ take_varying = refl
 
 -- ---- 40, mode 1
 
-abbrev put : (signature subscript given : ℕ) → List Entry → (count : ℕ) → Shown
-put signature subscript given entries count =
+abbrev put : (signature place given : ℕ) → List Entry → (count : ℕ) → Shown
+put signature place given entries count =
     bytes_of count 128 (aggregate_served
-    (call (variable_of signature entries) (memory variable_name signature subscript 0 [] (replicate 32 46))) 32 0 2 given 1)
+    (call (variable_of signature entries) (memory variable_name signature place 0 [] (replicate 32 46))) 32 0 2 given 1)
 
 put_whole : put 0 0 0 (whole_entry ∷ TextEntry [] ∷ []) 24
     ≡ Bytes (bytes_of_words (11 ∷ 12 ∷ []) ++ codes "abc.def.ghi.jkl.") 1 32 0
 put_whole = refl
 
-put_row : put 0 2 1 (row_entry ∷ []) 24
+put_row : put 0 1 1 (row_entry ∷ []) 24
     ≡ Bytes (codes "...." ++ bytes_of_words (12 ∷ []) ++ codes "........ghi.jkl.") 0 32 0
 put_row = refl
 

@@ -13,8 +13,8 @@ use Rattle.pli_serving.proofs.AggregatePieces.{member, part, variable_of, ones, 
 
 -- ---- the service's order is the storage machine's
 
-abbrev structure_with : (subscript : ℕ) → (shape : List ℕ) → Call
-structure_with subscript shape = call (variable_of 0 []) (memory variable_name 0 subscript 0 shape structure_data)
+abbrev structure_with : (place : ℕ) → (shape : List ℕ) → Call
+structure_with place shape = call (variable_of 0 []) (memory variable_name 0 place 0 shape structure_data)
 
 abbrev served_elements : Call → Option (List Element)
 served_elements c = then_found (aggregate_at c 32) (λ a. then_found (item_shape_at c 52) (elements_by c a))
@@ -32,8 +32,8 @@ whole_in_order : served_elements (structure_with 0 whole_shape) ≡ machine_elem
 whole_in_order = refl
 
 row_in_order :
-    served_elements (structure_with 2 row_shape)
-    ≡ machine_elements (structure_with 2 row_shape) (part 0 2) (pos 2 ∷ [])
+    served_elements (structure_with 1 row_shape)
+    ≡ machine_elements (structure_with 1 row_shape) (part 0 2) (pos 2 ∷ [])
 row_in_order = refl
 
 member_in_order : served_elements (structure_with 0 member_shape) ≡ machine_elements (structure_with 0 member_shape) (part 1 1) []
@@ -66,21 +66,21 @@ last_element = refl
 no_seventh_element : served (structure_with 0 whole_shape) 6 ≡ BadService
 no_seventh_element = refl
 
-row_count : served (structure_with 2 row_shape) ones ≡ Bytes (buffer 0 0) 0 3 0
+row_count : served (structure_with 1 row_shape) ones ≡ Bytes (buffer 0 0) 0 3 0
 row_count = refl
 
-row_element : served (structure_with 2 row_shape) 1 ≡ Bytes (buffer 2 3) 0 144 0
+row_element : served (structure_with 1 row_shape) 1 ≡ Bytes (buffer 2 3) 0 144 0
 row_element = refl
 
 member_element : served (structure_with 0 member_shape) 2 ≡ Bytes (buffer 2 3) 0 144 0
 member_element = refl
 
 -- a row that the structure doesn't have
-element_outside : served (structure_with 3 row_shape) 0 ≡ Bytes (buffer 1 31) 0 32 107
+element_outside : served (structure_with 2 row_shape) 0 ≡ BadService
 element_outside = refl
 
 -- a second subscript, which the first leaf doesn't have
-too_many_subscripts : served (structure_with 1 (2 ∷ 0 ∷ 2 ∷ 0 ∷ 0 ∷ 0 ∷ 0 ∷ 1 ∷ 0 ∷ 1 ∷ [])) ones ≡ BadService
+too_many_subscripts : served (structure_with 0 (2 ∷ 0 ∷ 2 ∷ 0 ∷ 0 ∷ 0 ∷ 0 ∷ 1 ∷ 0 ∷ 1 ∷ [])) ones ≡ BadService
 too_many_subscripts = refl
 
 -- ---- other names and signatures
@@ -161,13 +161,6 @@ shape_to_end :
     (call (variable_of 0 []) (memory variable_name 0 0 0 [] (replicate 368 0 ++ bytes_of_words (0 ∷ 1 ∷ 0 ∷ 0 ∷ [])))) 32 496 ones 112)
     ≡ Bytes [] 0 2 0
 shape_to_end = refl
-
--- subscripts in the code
-subscripts_in_code :
-    bytes_of 0 0 (element_served
-    (call (variable_of 0 []) (memory (1 ∷ 0 ∷ 1 ∷ 0 ∷ 16 ∷ 0 ∷ 12 ∷ 0 ∷ []) 0 0 0 (16 ∷ row_shape) structure_data)) 32 72 ones 112)
-    ≡ BadService
-subscripts_in_code = refl
 
 -- ---- a REFER extent: with 4 allocated, so many in force
 

@@ -1,6 +1,6 @@
--- Aggregates as services are given them: a record of four words, which are where a name stands, the number of its signature, where
--- the subscripts given stand, and the REFER extent in force.
-use Rattle.std.specs.Prelude.{ℕ, zero, suc, ◌+◌, ℤ, Bool, ◌&&◌, ◌==◌, nat_le, List, [], ◌++◌, drop, length, map, Option, Some, None, if◌then◌else◌}
+-- Aggregates as services are given them: a record of four words, which are where a name stands, the number of its signature, the place
+-- of the subscripts given among all of their dimensions, row by row, and the REFER extent in force.
+use Rattle.std.specs.Prelude.{ℕ, zero, suc, ◌+◌, ℤ, Bool, ◌&&◌, ◌==◌, nat_le, List, [], ◌++◌, take, drop, length, map, Option, Some, None, slice_get, if◌then◌else◌}
 use Rattle.std.specs.List.{list_all, flat_map, range_with_len}
 use Rattle.std.specs.Option.{option_map}
 use Rattle.rv_meaning.specs.Words.{signed}
@@ -12,7 +12,6 @@ use Rattle.pli_meaning.specs.Evaluating.{Designated, leaf_at}
 use Rattle.pli_meaning.specs.Streaming.{element_holds}
 use Rattle.pli_meaning.specs.StreamOrder.{Element}
 use Rattle.pli_serving.specs.Bytes.{is_data, word_at}
-use Rattle.pli_serving.specs.Templates.{put_before}
 use Rattle.pli_serving.specs.Values.{all_subscripts, element_address, generation_at}
 use Rattle.pli_serving.specs.ServiceState.{Services, Living, living_of}
 use Rattle.pli_serving.specs.Finding.{Call, Found, Finding, FoundAt, NotLiving, NoArea, named}
@@ -25,7 +24,7 @@ pub record Aggregate : Type 0 where
   pub name : Name
   pub signature : ℕ
   pub shape : Shape
-  pub subscripts_at : ℕ
+  pub subscripts_place : ℕ
   pub extent : ℤ
 
 abbrev pub signature_had : Option Living → Option ℕ
@@ -44,7 +43,7 @@ aggregate_of c at n signature shape =
       name = n;
       signature = signature;
       shape = shape;
-      subscripts_at = word_at (at + 8) c.memory;
+      subscripts_place = word_at (at + 8) c.memory;
       extent = signed (word_at (at + 12) c.memory);
     }
 
@@ -59,16 +58,17 @@ aggregate_named c at =
 abbrev pub aggregate_at : Call → (at : ℕ) → Option Aggregate
 aggregate_at c at = if is_data c.layout at 16 then aggregate_named c at else None
 
--- so many subscripts, as words; none where one isn't data
-abbrev pub subscripts_at : Call → (given at : ℕ) → Option (List ℤ)
-subscripts_at c zero at = Some []
-subscripts_at c (suc given) at =
-    if is_data c.layout at 4 then put_before (Some (signed (word_at at c.memory))) (subscripts_at c given (at + 4)) else None
+-- the subscripts at a place among those of so many first dimensions, row by row; whatever the place is where none are given
+abbrev pub subscripts_of : (place given : ℕ) → List Bounds → Option (List ℤ)
+subscripts_of place zero bounds = Some []
+subscripts_of place (suc given) bounds = slice_get (all_subscripts (take (suc given) bounds)) place
 
 -- the subscripts given to a leaf, none where it has fewer dimensions
-abbrev pub subscripts_given : Call → Aggregate → (leaf given : ℕ) → Option (List ℤ)
-subscripts_given c a leaf given =
-    if nat_le given (length (leaf_at a.shape a.extent leaf).bounds) then subscripts_at c given a.subscripts_at else None
+abbrev pub subscripts_given : Aggregate → (leaf given : ℕ) → Option (List ℤ)
+subscripts_given a leaf given =
+    if nat_le given (length (leaf_at a.shape a.extent leaf).bounds)
+    then subscripts_of a.subscripts_place given (leaf_at a.shape a.extent leaf).bounds
+    else None
 
 -- ---- generations in memory
 
@@ -121,5 +121,5 @@ part_found c a part is NoArea = None
 -- so many leaves from one on, behind so many subscripts; none where no generation lives that has them
 abbrev pub part_of_leaves : Call → Aggregate → (first count given : ℕ) → Option PartFound
 part_of_leaves c a first count given =
-    then_found (subscripts_given c a first given)
+    then_found (subscripts_given a first given)
     (λ is. part_found c a (record { first = first; count = count }) is (named c a.name a.signature))

@@ -75,7 +75,7 @@ item_shape_at c at = if is_data c.layout at 16 then item_shape_of c at (members_
 abbrev pub elements_by : Call → Aggregate → ItemShape → Option (List Element)
 elements_by c a i =
     if nat_le (i.first + leaves_inside (nest_of i.members)) (length a.shape.signature.leaves)
-    then then_found (subscripts_given c a i.first i.given)
+    then then_found (subscripts_given a i.first i.given)
     (λ is. Some (elements_inside (nest_of i.members) i.first (leaves_with a.extent a.shape) is))
     else None
 

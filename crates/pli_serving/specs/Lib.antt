@@ -22,5 +22,4 @@ pub mod Edits
 pub mod Aggregates
 pub mod ElementService
 pub mod AggregateServices
-pub mod UnitsInForce
 pub mod Serving

@@ -3,7 +3,7 @@ use Rattle.std.specs.Prelude.{ℕ, ◌==◌, List, [], ◌∷◌, Option, Some, 
 use Rattle.pli_language.specs.declared.condition.Condition.{Condition}
 use Rattle.pli_language.specs.declared.condition.Condition.TheVariants as C
 use Rattle.pli_meaning.specs.World.{raising}
-use Rattle.pli_serving.specs.UnitsInForce.{unit_for, without_unit, first_unit}
+use Rattle.pli_meaning.specs.StorageState.{unit_for, without_unit, first_unit}
 use Rattle.pli_serving.specs.ServiceState.{Services, OnUnit, SystemUnit, CodeUnit, Activation}
 use Rattle.pli_serving.specs.Answers.{Answer, Done, with_world, acting}
 use Rattle.pli_serving.specs.Finding.{Call}
