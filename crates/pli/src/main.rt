@@ -15,6 +15,7 @@ use pli_meaning::outcome::Outcome;
 use pli_run::report::{Line, Notice, refused_image, refused_source, report, unread, unwritten};
 use pli_run::run::RunFault;
 use source_run::compile_and_run;
+use std::fs::File;
 use std::io::Read;
 use std::process::ExitCode;
 use std::{env, fs, io};
@@ -22,12 +23,38 @@ use std::{env, fs, io};
 /// The status where the words ask for nothing that the program does.
 const USAGE: u8 = 64;
 
+/// How many bytes of a source are read at most: one more than a source may have, which tells that it is too long.
+const MOST_OF_A_SOURCE: u64 = 1_048_577;
+
+/// What is told where memory runs out before there is anything to tell of.
+const NO_MEMORY: Notice<'static> = Notice {
+    status: 4,
+    line: Some(Line::Memory),
+};
+
 // The status, told with its line on standard error.
 fn tell(rt: &HostRuntime, notice: Notice<'_>) -> u8 {
     if let Some(line) = notice.line {
         let _ = eprintln!(rt; "{line}");
     }
     notice.status
+}
+
+// A source, of which no more is read than tells that it is too long.
+fn source_of(rt: &HostRuntime, name: &str) -> io::Result<Vec<u8>> {
+    let mut bytes = Vec::new(rt.alloc());
+    File::open(rt, name)?
+        .take(MOST_OF_A_SOURCE)
+        .read_to_end(&mut bytes)?;
+    Ok(bytes)
+}
+
+// What is told of a file that couldn't be read, by its name, or `stdin`.
+fn unread_for<'a>(name: &'a str, error: &io::Error) -> Notice<'a> {
+    match error.kind() {
+        io::ErrorKind::OutOfMemory => NO_MEMORY,
+        _ => unread(name),
+    }
 }
 
 // The whole input: of the file that is named, or standard input.
@@ -63,12 +90,14 @@ fn shown(rt: &HostRuntime, ran: &Result<Outcome, RunFault>) -> u8 {
 // `pli run`.
 fn run(rt: &HostRuntime, matches: &ArgMatches<'_>) -> u8 {
     let name = matches.get_str(command::SOURCE).unwrap_or("");
-    let Ok(source) = fs::read(rt, name) else {
-        return tell(rt, unread(name));
+    let source = match source_of(rt, name) {
+        Ok(source) => source,
+        Err(error) => return tell(rt, unread_for(name, &error)),
     };
     let file = matches.get_str(command::INPUT);
-    let Ok(input) = input_of(rt, file) else {
-        return tell(rt, unread(file.unwrap_or("stdin")));
+    let input = match input_of(rt, file) {
+        Ok(input) => input,
+        Err(error) => return tell(rt, unread_for(file.unwrap_or("stdin"), &error)),
     };
     let bound = matches.get_one::<u64>(command::BOUND).unwrap_or(0);
     let base = matches.get_one::<u32>(command::BASE).unwrap_or(0);
@@ -81,8 +110,9 @@ fn run(rt: &HostRuntime, matches: &ArgMatches<'_>) -> u8 {
 // `pli compile`.
 fn write_image(rt: &HostRuntime, matches: &ArgMatches<'_>) -> u8 {
     let name = matches.get_str(command::SOURCE).unwrap_or("");
-    let Ok(source) = fs::read(rt, name) else {
-        return tell(rt, unread(name));
+    let source = match source_of(rt, name) {
+        Ok(source) => source,
+        Err(error) => return tell(rt, unread_for(name, &error)),
     };
     let bytes = match compiled_bytes(rt.alloc(), &source) {
         Ok(bytes) => bytes,
@@ -98,12 +128,14 @@ fn write_image(rt: &HostRuntime, matches: &ArgMatches<'_>) -> u8 {
 // `pli exec`.
 fn exec(rt: &HostRuntime, matches: &ArgMatches<'_>) -> u8 {
     let name = matches.get_str(command::IMAGE).unwrap_or("");
-    let Ok(image) = fs::read(rt, name) else {
-        return tell(rt, unread(name));
+    let image = match fs::read(rt, name) {
+        Ok(image) => image,
+        Err(error) => return tell(rt, unread_for(name, &error)),
     };
     let file = matches.get_str(command::INPUT);
-    let Ok(input) = input_of(rt, file) else {
-        return tell(rt, unread(file.unwrap_or("stdin")));
+    let input = match input_of(rt, file) {
+        Ok(input) => input,
+        Err(error) => return tell(rt, unread_for(file.unwrap_or("stdin"), &error)),
     };
     let bound = matches.get_one::<u64>(command::BOUND).unwrap_or(0);
     let base = matches.get_one::<u32>(command::BASE).unwrap_or(0);
@@ -116,8 +148,9 @@ fn exec(rt: &HostRuntime, matches: &ArgMatches<'_>) -> u8 {
 // `pli list`.
 fn list(rt: &HostRuntime, matches: &ArgMatches<'_>) -> io::Result<u8> {
     let name = matches.get_str(command::SOURCE).unwrap_or("");
-    let Ok(source) = fs::read(rt, name) else {
-        return Ok(tell(rt, unread(name)));
+    let source = match source_of(rt, name) {
+        Ok(source) => source,
+        Err(error) => return Ok(tell(rt, unread_for(name, &error))),
     };
     let image = match compile(rt.alloc(), &source) {
         Ok(image) => image,
@@ -135,8 +168,12 @@ fn told(rt: &HostRuntime, error: &clap::Error) -> io::Result<u8> {
     if error.kind() == ErrorKind::OutOfMemory {
         return Err(io::Error::from(io::ErrorKind::OutOfMemory));
     }
-    error.print(rt)?;
-    Ok(if error.use_stderr() { USAGE } else { 0 })
+    let printed = error.print(rt);
+    Ok(match error.use_stderr() {
+        true => USAGE,
+        false if printed.is_err() => tell(rt, unwritten("stdout")),
+        false => 0,
+    })
 }
 
 // Parses the words, and does what they ask for.
@@ -155,15 +192,18 @@ fn answer(rt: &HostRuntime) -> io::Result<u8> {
     }
 }
 
-fn main(rt: HostRuntime) -> ExitCode {
-    match answer(&rt) {
-        Ok(status) => ExitCode::from(status),
-        Err(_) => ExitCode::from(tell(
-            &rt,
-            Notice {
-                status: 4,
-                line: Some(Line::Memory),
-            },
-        )),
+// What is told where the words couldn't be taken in: one that isn't UTF-8 is none that the program knows.
+fn unanswered(rt: &HostRuntime, error: &io::Error) -> u8 {
+    if error.kind() != io::ErrorKind::InvalidData {
+        return tell(rt, NO_MEMORY);
     }
+    let _ = eprintln!(rt; "error: a word that isn't UTF-8");
+    USAGE
+}
+
+fn main(rt: HostRuntime) -> ExitCode {
+    ExitCode::from(match answer(&rt) {
+        Ok(status) => status,
+        Err(error) => unanswered(&rt, &error),
+    })
 }

@@ -35,6 +35,23 @@ pub enum Line<'a> {
     Unwritten(&'a str),
 }
 
+// A file's name, with its control characters escaped, so that what is told of it stays one line.
+#[derive(Clone, Copy, Debug)]
+struct FileName<'a>(&'a str);
+
+impl fmt::Display for FileName<'_> {
+    fn fmt<W: fmt::Write>(&self, f: &mut fmt::Formatter<W>) -> fmt::Result {
+        for character in self.0.chars() {
+            if character.is_control() {
+                write!(f, "{}", character.escape_default())?;
+            } else {
+                write!(f, "{character}")?;
+            }
+        }
+        Ok(())
+    }
+}
+
 impl fmt::Display for Line<'_> {
     fn fmt<W: fmt::Write>(&self, f: &mut fmt::Formatter<W>) -> fmt::Result {
         match self {
@@ -50,8 +67,8 @@ impl fmt::Display for Line<'_> {
             Line::Base => write!(f, "BASE"),
             Line::Limit(Limit::Depth) => write!(f, "LIMIT DEPTH"),
             Line::Limit(Limit::Automatic) => write!(f, "LIMIT AUTOMATIC"),
-            Line::Unread(name) => write!(f, "CANNOT READ {name}"),
-            Line::Unwritten(name) => write!(f, "CANNOT WRITE {name}"),
+            Line::Unread(name) => write!(f, "CANNOT READ {}", FileName(name)),
+            Line::Unwritten(name) => write!(f, "CANNOT WRITE {}", FileName(name)),
         }
     }
 }

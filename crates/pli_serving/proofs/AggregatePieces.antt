@@ -4,7 +4,7 @@ use lib.Chars.{codes}
 use Rattle.rv_meaning.specs.Memory.{bytes_of_words}
 use Rattle.pli_typing.specs.Signatures.{Bounds, PlainClass}
 use Rattle.pli_typing.specs.TypedTree as Y
-use Rattle.pli_serving.specs.Templates.{Template, OpenLeaf, OpenKind, OpenFixed, OpenCharacter, OpenVarying, OpenBit, OpenPointer, OpenOffset, OpenArea}
+use Rattle.pli_types.specs.Templates.{Template, OpenLeaf, OpenKind, OpenFixed, OpenCharacter, OpenVarying, OpenBit, OpenPointer, OpenOffset, OpenArea}
 use Rattle.pli_serving.specs.ServiceState.{Services, Entry}
 use Rattle.pli_serving.proofs.RowCalls.{idle}
 

@@ -6,7 +6,7 @@ use Rattle.pli_typing.specs.Signatures.{PlainClass}
 use Rattle.pli_meaning.specs.BasicValues.{Name, NullName, VariableName, BasedName}
 use Rattle.area_keeper.specs.Chain.{chain}
 use Rattle.pli_serving.specs.Bytes.{bytes_at, with_bytes, name_bytes}
-use Rattle.pli_serving.specs.Templates.{OpenArea}
+use Rattle.pli_types.specs.Templates.{OpenArea}
 use Rattle.pli_serving.specs.ServiceState.{Services}
 use Rattle.pli_serving.specs.Answers.{Answer, Bad}
 use Rattle.pli_serving.specs.Finding.{Call}

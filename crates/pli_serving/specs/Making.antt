@@ -6,7 +6,8 @@ use Rattle.pli_meaning.specs.BasicValues.{VariableName}
 use Rattle.pli_meaning.specs.Contents.{Shape, Generation, footprint_of, fresh}
 use Rattle.pli_meaning.specs.StorageState.{most_automatic}
 use Rattle.pli_serving.specs.Bytes.{is_data, bytes_at, with_bytes, name_size, name_bytes}
-use Rattle.pli_serving.specs.Templates.{Template, shape_at}
+use Rattle.pli_types.specs.Templates.{Template}
+use Rattle.pli_serving.specs.Templates.{shape_at}
 use Rattle.pli_serving.specs.Values.{generation_bytes}
 use Rattle.pli_serving.specs.ServiceState.{Services, Living, height}
 use Rattle.pli_serving.specs.Answers.{Answer, Done}

@@ -7,7 +7,8 @@ use Rattle.pli_typing.specs.Signatures.{LeafKind, Bounds}
 use Rattle.pli_meaning.specs.World.{World, first_world}
 use Rattle.pli_meaning.specs.InputLines.{Input, first_input}
 use Rattle.pli_meaning.specs.Streaming.{FormatItem}
-use Rattle.pli_serving.specs.Templates.{Template, template_of}
+use Rattle.pli_types.specs.Templates.{Template}
+use Rattle.pli_serving.specs.Templates.{template_of}
 
 -- ---- what lives
 

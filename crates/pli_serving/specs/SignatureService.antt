@@ -6,7 +6,8 @@ use Rattle.pli_meaning.specs.Making.{in_order, is_length}
 use Rattle.pli_meaning.specs.Contents.{Shape, same_int, same_offset, same_class}
 use Rattle.area_keeper.specs.Keeper.{Keeper}
 use Rattle.pli_serving.specs.Bytes.{Layout, is_data, word_at}
-use Rattle.pli_serving.specs.Templates.{OpenKind, OpenFixed, OpenCharacter, OpenVarying, OpenArea, OpenBit, OpenPointer, OpenOffset, OpenLeaf, Template, put_before, shape_of}
+use Rattle.pli_types.specs.Templates.{OpenKind, OpenFixed, OpenCharacter, OpenVarying, OpenArea, OpenBit, OpenPointer, OpenOffset, OpenLeaf, Template}
+use Rattle.pli_serving.specs.Templates.{put_before, shape_of}
 use Rattle.pli_serving.specs.Answers.{Answer, Done}
 use Rattle.pli_serving.specs.Finding.{Call}
 use Rattle.pli_serving.specs.Arguments.{own_signature, data_bytes}

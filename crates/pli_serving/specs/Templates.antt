@@ -5,24 +5,8 @@ use Rattle.rv_meaning.specs.declared.image.TableKind.TheVariants as K
 use Rattle.rv_meaning.specs.Words.{signed}
 use Rattle.rv_meaning.specs.Tables as T
 use Rattle.pli_typing.specs.Signatures.{LeafKind, Fixed, Character, Varying, Bit, Pointer, Offset, Area, Bounds, Leaf, Class, PlainClass, ControlledClass}
+use Rattle.pli_types.specs.Templates.{OpenKind, OpenFixed, OpenCharacter, OpenVarying, OpenArea, OpenBit, OpenPointer, OpenOffset, OpenLeaf, Template}
 use Rattle.pli_meaning.specs.Contents.{Shape}
-
--- the kinds of leaves; a length or capacity may be open
-pub data OpenKind : Type 0 where
-  OpenFixed : (precision : ℕ) → OpenKind
-  OpenCharacter OpenVarying OpenArea : Option ℕ → OpenKind
-  OpenBit OpenPointer OpenOffset : OpenKind
-
--- a leaf, with all its pairs of bounds, of which some may be open
-pub record OpenLeaf : Type 0 where
-  pub kind : OpenKind
-  pub bounds : List (Option Bounds)
-
--- The extent that REFER tells is never open: as in a signature it counts as a length, or an upper bound, of 0.
-pub record Template : Type 0 where
-  pub class : Class
-  pub refer : Option ℕ
-  pub leaves : List OpenLeaf
 
 -- ---- the image's table
 

@@ -1,10 +1,11 @@
 -- Products that are capped at each step.
-use Rattle.std.proofs.Common.{◌≡◌, ◌<◌, ◌≤◌, ◌⊎◌, inl, inr, ℕ, zero, suc, ◌+◌, ◌-◌, pos, List, get_or, length, drop, map, ◌*◌, ◌^◌, refl, sym, ap, ◌∙◌, arith, true, false, Bool}
+use Rattle.std.proofs.Common.{◌≡◌, ◌<◌, ◌≤◌, ◌⊎◌, inl, inr, ℕ, zero, suc, ◌+◌, ◌-◌, List, Option, None, get_or, length, drop, map, ◌*◌, ◌^◌, refl, sym, ap, ◌∙◌, arith, true, false, Bool}
 use Rattle.std.specs.Prelude.{nat_lt}
 use Rattle.std.proofs.lemmas.Bool.Decides.{nat_tests}
 use Rattle.std.proofs.lemmas.List.{at_drop_more}
 use Rattle.pli_typing.specs.Signatures.{capped, element_count, span}
 use Rattle.pli_types.specs.declared.signature.Bounds.{Bounds}
+use Rattle.pli_types.specs.Templates.{bounds_so_far}
 use Rattle.pli_types.specs.View.{bounds_of}
 
 few_or_many : (a : ℕ) → (a < 2 ^ 64) ⊎ (2 ^ 64 ≤ a)
@@ -40,8 +41,7 @@ next_factor before r factor rest whole target e w h =
     ap (λ n. capped (n * rest)) e ∙ capped_times (before * factor) rest ∙ regroup before factor rest ∙ ap (λ n. capped (before * n)) (sym w) ∙ h
 
 -- the elements of one more dimension
-pub next_dimension : (xs : List Bounds) (i before elements r target : ℕ) → i < length xs → elements ≡ span (bounds_of (get_or xs i (record { lower = pos 0; upper = pos 0 }))) → r ≡ capped (before * elements) → capped (before * element_count (map bounds_of (drop i xs))) ≡ target → capped (r * element_count (map bounds_of (drop (i + 1) xs))) ≡ target
+pub next_dimension : (xs : List (Option Bounds)) (i before elements r target : ℕ) → i < length xs → elements ≡ span (bounds_so_far (bounds_of (get_or xs i None))) → r ≡ capped (before * elements) → capped (before * element_count (map bounds_so_far (map bounds_of (drop i xs)))) ≡ target → capped (r * element_count (map bounds_so_far (map bounds_of (drop (i + 1) xs)))) ≡ target
 next_dimension xs i before elements r target inside s e h =
-    let blank : Bounds = record { lower = pos 0; upper = pos 0 } in
-    let count = λ (bs : List Bounds). element_count (map bounds_of bs) in
-    next_factor before r elements (count (drop (i + 1) xs)) _ target e (at_drop_more count xs i blank inside ∙ ap (λ n. n * count (drop (i + 1) xs)) (sym s)) h
+    let count = λ (bs : List (Option Bounds)). element_count (map bounds_so_far (map bounds_of bs)) in
+    next_factor before r elements (count (drop (i + 1) xs)) _ target e (at_drop_more count xs i None inside ∙ ap (λ n. n * count (drop (i + 1) xs)) (sym s)) h

@@ -1,7 +1,8 @@
 -- The definitions' kinds, conversions and signatures, as the values of this crate show them.
-use Rattle.std.specs.Prelude.{map}
+use Rattle.std.specs.Prelude.{map, Option, Some, None}
 use Rattle.pli_typing.specs.Kinds as K
 use Rattle.pli_typing.specs.Signatures as S
+use Rattle.pli_types.specs.Templates as T
 use Rattle.pli_types.specs.declared.kind.Kind.{Kind}
 use Rattle.pli_types.specs.declared.kind.Kind.TheVariants.{Number, Text, Bit, Pointer, Offset, Null, Area}
 use Rattle.pli_types.specs.declared.kind.Conversion.{Conversion}
@@ -33,24 +34,28 @@ conversion_of TextToBit = K.TextToBit
 conversion_of OffsetToPointer = K.OffsetToPointer
 conversion_of PointerToOffset = K.PointerToOffset
 
-abbrev pub leaf_kind_of : LeafKind → S.LeafKind
-leaf_kind_of (L.Fixed p) = S.Fixed p
-leaf_kind_of (L.Character n) = S.Character n
-leaf_kind_of (L.Varying n) = S.Varying n
-leaf_kind_of L.Bit = S.Bit
-leaf_kind_of L.Pointer = S.Pointer
-leaf_kind_of L.Offset = S.Offset
-leaf_kind_of (L.Area n) = S.Area n
+abbrev pub leaf_kind_of : LeafKind → T.OpenKind
+leaf_kind_of (L.Fixed p) = T.OpenFixed p
+leaf_kind_of (L.Character n) = T.OpenCharacter n
+leaf_kind_of (L.Varying n) = T.OpenVarying n
+leaf_kind_of L.Bit = T.OpenBit
+leaf_kind_of L.Pointer = T.OpenPointer
+leaf_kind_of L.Offset = T.OpenOffset
+leaf_kind_of (L.Area n) = T.OpenArea n
 
-abbrev pub bounds_of : Bounds → S.Bounds
-bounds_of b = record { lower = b.lower; upper = b.upper }
+abbrev pub pair_of : Bounds → S.Bounds
+pair_of b = record { lower = b.lower; upper = b.upper }
 
-abbrev pub leaf_of : Leaf → S.Leaf
+abbrev pub bounds_of : Option Bounds → Option S.Bounds
+bounds_of None = None
+bounds_of (Some b) = Some (pair_of b)
+
+abbrev pub leaf_of : Leaf → T.OpenLeaf
 leaf_of l = record { kind = leaf_kind_of l.kind; bounds = map bounds_of l.bounds.items }
 
 abbrev pub class_of : Class → S.Class
 class_of Plain = S.PlainClass
 class_of Controlled = S.ControlledClass
 
-abbrev pub signature_of : Signature → S.Signature
-signature_of g = record { class = class_of g.class; leaves = map leaf_of g.leaves.items }
+abbrev pub template_of : Signature → T.Template
+template_of g = record { class = class_of g.class; refer = g.refer; leaves = map leaf_of g.leaves.items }

@@ -11,11 +11,12 @@ fn a_text_has_its_size(rt: HostRuntime) -> Result<(), Fail> {
     let alloc = rt.alloc();
     let mut leaves = Vec::new(alloc);
     leaves.push(Leaf {
-        kind: LeafKind::Character { length: 5 },
+        kind: LeafKind::Character { length: Some(5) },
         bounds: SmallVec::from_slice(alloc, &[])?,
     })?;
     let signature = Signature {
         class: Class::Plain,
+        refer: None,
         leaves,
     };
     assert!(rt; size_of(&signature) == 8 && footprint(8) == 32);
