@@ -1,6 +1,6 @@
 -- Texts by their starts, kept oldest first.
-use Rattle.std.proofs.Common.{◌≡◌, ℕ, zero, suc, ◌+◌, ◌-◌, ◌<◌, ◌≤◌, List, [], ◌∷◌, ◌++◌, length, reverse, take, drop, get_or, Ok, Err, refl, sym, ap, subst, ◌∙◌, arith}
-use Rattle.std.proofs.lemmas.List.{reverse-append, length-reverse, length-take, length-take-le, length-drop, length-append, take_more, take_all, take-take, take-append-drop, take_at, drop_at, drop-append-le, get_or-reverse, get_or-take, get_or_read, drop-take}
+use Rattle.std.proofs.Common.{◌≡◌, ℕ, zero, suc, ◌+◌, ◌-◌, ◌<◌, ◌≤◌, List, [], ◌∷◌, ◌++◌, length, reverse, take, drop, get_or, refl, sym, ap, subst, ◌∙◌, arith}
+use Rattle.std.proofs.lemmas.List.{reverse-append, length-reverse, length-take-le, length-drop, take_more, take_all, take-take, take-append-drop, drop_at, drop-append-le, get_or-reverse, get_or-take, get_or_read, drop-take}
 use Rattle.pli_text.specs.Operands.{top_of}
 use Rattle.pli_text.specs.Pieces.{cut_at, IsInOrder, pieces, AreInOrder}
 

@@ -1,13 +1,13 @@
 -- The text of a number is the one that std writes, and the value of digits as it is read.
-use Rattle.std.proofs.Common.{◌≡◌, ℕ, suc, ◌+◌, ◌-◌, ◌*◌, ◌^◌, ◌<◌, ◌≤◌, true, false, List, [], ◌∷◌, length, drop, get_or, Option, Some, None, ℤ, pos, negsuc, nat_le, refl, sym, ap, ◌∙◌, arith, rules, SFits, w32}
+use Rattle.std.proofs.Common.{◌≡◌, ℕ, suc, ◌+◌, ◌-◌, ◌*◌, ◌^◌, ◌<◌, true, List, [], ◌∷◌, length, drop, get_or, None, ℤ, pos, negsuc, ap, ◌∙◌, arith, rules, SFits, w32}
 use Rattle.std.specs.Fmt.{decimal, signed_decimal}
 use Rattle.std.proofs.lemmas.Fmt.{PrependsLastDigit, decimal_from_prepends, length-decimal-le}
-use Rattle.std.proofs.lemmas.List.{append-nil, drop_more, drop_all}
+use Rattle.std.proofs.lemmas.List.{append-nil, drop_more}
 use Rattle.std.proofs.lemmas.Bool.Decides.{nat_tests}
 use Rattle.pli_language.specs.Tokens.{is_digit}
 use Rattle.pli_meaning.specs.Stream.{digits_before, decimal_digits, decimal_text}
-use Rattle.pli_meaning.specs.Texts.{digits_behind, digits_value}
-use Rattle.pli_text.specs.Digits.{within_magnitude, small_value}
+use Rattle.pli_meaning.specs.Texts.{digits_behind}
+use Rattle.pli_text.specs.Digits.{within_magnitude}
 
 prepends : PrependsLastDigit digits_before
 prepends = search rules

@@ -1,12 +1,12 @@
 -- Bytes whose end is padded, cut, moved to the front or joined.
-use Rattle.std.proofs.Common.{◌≡◌, ℕ, zero, suc, ◌+◌, ◌-◌, ◌<◌, ◌≤◌, min, List, [], ◌∷◌, ◌++◌, length, take, drop, replicate, Option, Some, None, Ok, Err, nat_le, refl, sym, ap, subst, ◌∙◌, arith}
+use Rattle.std.proofs.Common.{◌≡◌, ℕ, zero, suc, ◌+◌, ◌-◌, ◌<◌, ◌≤◌, min, List, [], ◌∷◌, ◌++◌, length, take, drop, replicate, Option, Some, None, Ok, Err, refl, sym, ap, subst, ◌∙◌, arith}
 use Rattle.std.proofs.lemmas.Bool.Decides.{nat_tests}
-use Rattle.std.proofs.lemmas.List.{length-take, length-take-le, length-drop, length-append, length-replicate, take-take, take-append-le, take_all, take_at, drop_at, drop-append-le, drop-drop, drop-take, drop_all, take-replicate, drop-replicate, take_min}
+use Rattle.std.proofs.lemmas.List.{length-take, length-take-le, length-drop, length-append, take-take, take-append-le, take_at, drop_at, drop-append-le, drop-drop, drop-take, take-replicate, drop-replicate, take_min}
 use Rattle.std.proofs.lemmas.List.Edits.{take-paste}
 use Rattle.std.specs.List.{copy_within}
 use Rattle.std.specs.Prelude.{slice_range}
 use Rattle.pli_text.specs.declared.fault.TextFault.{TextFault}
-use Rattle.pli_text.specs.Operands.{left_of, right_of, Becomes}
+use Rattle.pli_text.specs.Operands.{Becomes}
 use Rattle.pli_meaning.specs.Texts.{fitted, joined}
 
 -- ---- padded or cut to n bytes from x on

@@ -1,4 +1,4 @@
-use Rattle.std.proofs.Common.{◌≡◌, ◌≤◌, ◌<◌, ◌^◌, length, drop}
+use Rattle.std.proofs.Common.{◌≡◌, ◌≤◌, ◌^◌, drop}
 use Rattle.pli_meaning.specs.Texts.{digits_behind}
 use Rattle.pli_text.specs.Digits.{within_magnitude, small_value}
 use Rattle.pli_text.proofs.number.magnitude.Given as goal

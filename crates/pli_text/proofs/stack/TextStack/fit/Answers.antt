@@ -1,4 +1,4 @@
-use Rattle.std.proofs.Common.{◌≡◌, ◌+◌, ◌-◌, ◌≤◌, ◌∷◌, ◌++◌, ap, sym, ◌∙◌, length, take, drop, get_or, replicate, rules, arith}
+use Rattle.std.proofs.Common.{◌≡◌, ◌+◌, ◌-◌, ◌∷◌, ◌++◌, ap, sym, ◌∙◌, length, take, drop, replicate, arith}
 use Rattle.pli_meaning.specs.Texts.{fitted}
 use Rattle.pli_text.proofs.Cuts.{length-pieces, top-seen, changed-seen, start-within}
 use Rattle.pli_text.proofs.Fitting.{front-kept, end-fitted}

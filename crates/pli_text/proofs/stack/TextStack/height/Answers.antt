@@ -1,4 +1,4 @@
-use Rattle.std.proofs.Common.{◌≡◌, ◌+◌, ◌-◌, ◌≤◌, ap, sym, ◌∙◌, length, take, drop, get_or, rules, arith}
+use Rattle.std.proofs.Common.{ap, length, arith}
 use Rattle.pli_text.proofs.Cuts.{length-pieces}
 use Rattle.pli_text.proofs.stack.TextStack.height.Goals as goal
 

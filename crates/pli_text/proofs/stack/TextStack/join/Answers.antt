@@ -1,4 +1,4 @@
-use Rattle.std.proofs.Common.{◌≡◌, ◌+◌, ◌-◌, ◌≤◌, ℕ, List, Ok, Err, subst, ◌∷◌, ◌++◌, ap, sym, ◌∙◌, length, take, drop, get_or, replicate, rules, arith}
+use Rattle.std.proofs.Common.{◌≡◌, ◌+◌, ◌-◌, ℕ, List, Ok, Err, subst, ◌∷◌, ◌++◌, ap, sym, ◌∙◌, length, take, drop, get_or, arith}
 use Rattle.std.proofs.lemmas.List.{length-drop, length-take-le}
 use Rattle.pli_text.specs.declared.fault.TextFault.TheVariants.{TooLong}
 use Rattle.pli_text.specs.Pieces.{pieces}

@@ -1,4 +1,4 @@
-use Rattle.std.proofs.Common.{◌≡◌, ◌+◌, ◌-◌, ◌≤◌, ◌∷◌, ◌++◌, ap, sym, ◌∙◌, length, take, drop, get_or, replicate, rules, arith}
+use Rattle.std.proofs.Common.{◌≡◌, ◌+◌, ◌-◌, ◌∷◌, ap, sym, ◌∙◌, length, take, drop, arith}
 use Rattle.std.proofs.lemmas.List.{drop-take}
 use Rattle.pli_text.proofs.Cuts.{length-pieces, top-seen, changed-seen}
 use Rattle.pli_text.proofs.Fitting.{front-shortened}

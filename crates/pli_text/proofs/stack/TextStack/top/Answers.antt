@@ -1,4 +1,4 @@
-use Rattle.std.proofs.Common.{◌≡◌, ◌+◌, ◌-◌, ◌≤◌, ap, sym, ◌∙◌, length, take, drop, get_or, rules, arith}
+use Rattle.std.proofs.Common.{◌≡◌, ◌+◌, ◌-◌, ap, sym, ◌∙◌, length, drop, arith}
 use Rattle.std.proofs.lemmas.List.{take_rest}
 use Rattle.pli_text.proofs.Cuts.{length-pieces, top-seen}
 use Rattle.pli_text.proofs.stack.TextStack.top.Goals as goal

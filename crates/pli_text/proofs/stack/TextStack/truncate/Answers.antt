@@ -1,4 +1,4 @@
-use Rattle.std.proofs.Common.{◌≡◌, ◌+◌, ◌-◌, ◌≤◌, ◌∷◌, ◌++◌, ap, sym, ◌∙◌, length, take, drop, get_or, replicate, rules, arith}
+use Rattle.std.proofs.Common.{◌≡◌, ◌-◌, ap, length, drop, arith}
 use Rattle.std.proofs.lemmas.List.{length-take}
 use Rattle.pli_text.proofs.Cuts.{length-pieces, pieces-truncated, in_order-truncated}
 use Rattle.pli_text.proofs.stack.TextStack.truncate.Goals as goal
