@@ -1,0 +1,6 @@
+pub mod Blanks
+pub mod Cuts
+pub mod Decimals
+pub mod Finding
+pub mod Fitting
+pub mod Padding
