@@ -1,0 +1,3 @@
+pub mod RowPieces
+pub mod Running
+mod FirstRuns
