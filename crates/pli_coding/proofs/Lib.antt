@@ -1,3 +1,7 @@
 pub mod RowPieces
 pub mod Running
-mod FirstRuns
+mod ConditionRuns
+mod StreamRuns
+mod StorageRuns
+mod AreaRuns
+mod BlockRuns

@@ -1,7 +1,6 @@
 -- Images run in a short memory: the machine's steps, with the services over the chain of areas.
-use Rattle.std.proofs.Common.{ℕ, zero, suc, ◌+◌, ◌-◌, ◌*◌, ◌==◌, List, [], ◌∷◌, ◌++◌, Option, Some, None, map, length, replicate, if◌then◌else◌}
+use Rattle.std.proofs.Common.{ℕ, zero, suc, ◌+◌, ◌-◌, ◌*◌, List, [], ◌∷◌, ◌++◌, length, replicate}
 use Rattle.std.specs.Prelude.{slice_index}
-use Rattle.rv_meaning.specs.declared.instr.Instr.{Instr}
 use Rattle.rv_meaning.specs.Machine.{Loaded, State, Effect, Goes, Faults, Calls, effect, written}
 use Rattle.rv_meaning.specs.Words.{sum}
 use Rattle.pli_meaning.specs.declared.outcome.End.{End}
@@ -11,13 +10,12 @@ use Rattle.area_keeper.specs.Chain.{chain}
 use Rattle.pli_serving.specs.Bytes.{Layout}
 use Rattle.pli_serving.specs.ServiceState.{Services, first_services}
 use Rattle.pli_serving.specs.Answers.{Answer, Done, Ends, Bad}
-use Rattle.pli_serving.specs.Finding.{Call}
 use Rattle.pli_serving.specs.Serving.{serves}
-use Rattle.pli_coding.specs.Assembly.{Code, size_of}
+use Rattle.pli_coding.specs.Assembly.{Code}
 use Rattle.pli_coding.specs.Linking.{data_start}
 use Rattle.pli_coding.specs.Frames.{MemoryParts}
 use Rattle.pli_coding.specs.SignatureTable.{table_of}
-use Rattle.pli_coding.specs.Images.{picture_of, picture_of_code, code_of}
+use Rattle.pli_coding.specs.Images.{picture_of_code, code_of}
 use Rattle.pli_meaning.specs.Headline.{Picture}
 
 -- where things lie: the stacks, and the heap with its capacity, up to the end
@@ -25,6 +23,10 @@ pub record Short : Type 0 where
   pub stack_start : ℕ
   pub stack_end : ℕ
   pub heap_capacity : ℕ
+
+abbrev pub short : (stack_start stack_end heap_capacity : ℕ) → Short
+short stack_start stack_end heap_capacity =
+    record { stack_start = stack_start; stack_end = stack_end; heap_capacity = heap_capacity }
 
 abbrev pub parts_of : Short → MemoryParts
 parts_of m = record { stack_start = m.stack_start; stack_end = m.stack_end; area_bytes = chain.bytes_for }

@@ -1,6 +1,6 @@
 -- The code of a whole program, and its image: the start, the routines of raises, those of extents, and the procedures; the static
 -- data that they name; and the table.
-use Rattle.std.specs.Prelude.{ℕ, zero, suc, ◌+◌, ◌*◌, ◌-◌, pos, Bool, true, false, ◌&&◌, nat_lt, List, [], ◌∷◌, ◌++◌, length, map, Option, Some, None, if◌then◌else◌}
+use Rattle.std.specs.Prelude.{ℕ, suc, ◌-◌, pos, nat_lt, List, [], ◌∷◌, ◌++◌, length, map, if◌then◌else◌}
 use Rattle.rv_meaning.specs.declared.instr.Instr.TheVariants as I
 use Rattle.rv_meaning.specs.declared.instr.Instr.{Instr}
 use Rattle.rv_meaning.specs.declared.instr.BranchTest.TheVariants as Test
@@ -11,9 +11,9 @@ use Rattle.pli_typing.specs.TypedTree as Y
 use Rattle.pli_meaning.specs.DeclaredShapes.{head_of}
 use Rattle.pli_meaning.specs.Headline.{Picture}
 use Rattle.pli_coding.specs.Registers.{zero_register, return_register, stack_register, frame_register, a0, a1, a2, a3, a4, u0, u1}
-use Rattle.pli_coding.specs.Assembly.{Datum, NumberWord, ProcedureEntry, RaiseCondition, RaiseError, ErrorEnd, DataPlace, Plain, BaseIn, OffsetOf, CallTo, JumpAhead, Mark, Code, size_of}
+use Rattle.pli_coding.specs.Assembly.{NumberWord, ProcedureEntry, RaiseCondition, RaiseError, ErrorEnd, DataPlace, Plain, BaseIn, OffsetOf, CallTo, JumpAhead, Mark, Code, size_of}
 use Rattle.pli_coding.specs.Linking.{linked, links_of, data_bytes}
-use Rattle.pli_coding.specs.Instructions.{add, subtract, move, small, constant, number, plus, load_word, store_word, skip_where, service}
+use Rattle.pli_coding.specs.Instructions.{add, subtract, move, small, constant, number, plus, store_word, skip_where, service}
 use Rattle.pli_coding.specs.Frames.{MemoryParts, own_offset, lower_top, name_bytes}
 use Rattle.pli_coding.specs.SignatureTable.{table_of}
 use Rattle.pli_coding.specs.StaticForms.{places_datum}

@@ -1,5 +1,5 @@
 -- The code of procedures, and of the routines that evaluate the extents of variables which ALLOCATE makes.
-use Rattle.std.specs.Prelude.{ℕ, zero, suc, ◌+◌, ◌==◌, max, pos, Bool, true, false, ◌&&◌, List, [], ◌∷◌, ◌++◌, length, Option, Some, None, is_some, if◌then◌else◌}
+use Rattle.std.specs.Prelude.{ℕ, suc, ◌==◌, pos, Bool, true, false, List, [], ◌∷◌, ◌++◌, length, Option, Some, None, if◌then◌else◌}
 use Rattle.rv_meaning.specs.declared.instr.Instr.TheVariants as I
 use Rattle.rv_meaning.specs.declared.instr.BranchTest.TheVariants as Test
 use Rattle.pli_typing.specs.TypedTree as Y
@@ -9,8 +9,8 @@ use Rattle.pli_coding.specs.Registers.{zero_register, return_register, frame_reg
 use Rattle.pli_coding.specs.Assembly.{Plain, ProcedureEntry, ReturnPlace, ExtentRoutine, Mark, Code}
 use Rattle.pli_coding.specs.Instructions.{move, small, number, plus, load_word, skip_where, service, error_raised}
 use Rattle.pli_coding.specs.Frames.{frame_below, own_offset, result}
-use Rattle.pli_coding.specs.Environments.{BlockPlace, BlockOwner, Environment, in_frame, owned_by, Taken, none_taken, with_words}
-use Rattle.pli_coding.specs.Extents.{extent_words, number_word, extents_code, refer_amount, extents_words}
+use Rattle.pli_coding.specs.Environments.{BlockPlace, BlockOwner, Environment, in_frame, owned_by, none_taken}
+use Rattle.pli_coding.specs.Extents.{number_word, extents_code, refer_amount, extents_words}
 use Rattle.pli_coding.specs.Allocating.{act_code}
 use Rattle.pli_coding.specs.Entries.{all_restored, frame_begun, frame_ended, block_entered, block_left, parameters_given, arguments_copied, variables_code}
 use Rattle.pli_coding.specs.Statements.{block_words, stmts_words, stmts_code}

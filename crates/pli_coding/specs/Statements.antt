@@ -349,7 +349,8 @@ abbrev mutual
   stmt_code e t (Y.IfElse condition unit otherwise line) =
       act_code line ++ (bit_code e t condition ++ one_of (stmt_code e t unit) (stmt_code e t otherwise))
   stmt_code e t (Y.Do body line) = act_code line ++ stmts_code e t body
-  stmt_code e t (Y.DoWhile condition body line) = while_met (act_code line ++ bit_code e t condition) (stmts_code e t body)
+  stmt_code e t (Y.DoWhile condition body line) =
+      act_code line ++ while_met (act_code line ++ bit_code e t condition) (stmts_code e t body)
   stmt_code e t (Y.DoOnce variable start condition body line) =
       act_code line ++ (assigned_code e t variable start ++ once_code e t condition line (stmts_code e t body))
   stmt_code e t (Y.DoCount counter start limit step condition body line) =
