@@ -6,7 +6,7 @@ use Rattle.pli_meaning.specs.declared.outcome.End.TheVariants as E
 use Rattle.pli_language.specs.Tree as T
 use Rattle.pli_typing.specs.TypedTree as Y
 use Rattle.pli_coding.proofs.RowPieces.{place, automatic, based, whole, located, plain, scalar, part, bounds, initial, leaf, evaluation, refer, member, declared, head, put_pair, procedure, program}
-use Rattle.pli_coding.proofs.Running.{short, run_of, Shows}
+use Rattle.pli_coding.proofs.Running.{fitted, run_of, Shows}
 
 -- T: PROC OPTIONS(MAIN);
 -- DCL P PTR, X FIXED BIN(31) BASED; BEGIN; DCL A AREA(64); ALLOCATE X IN(A) SET(P); END;
@@ -22,7 +22,7 @@ area_ended_with_block =
     [])))) [] None) ∷ [])
 
 area_ended_with_block-runs :
-    run_of (short 4096 5120 256) 20000 area_ended_with_block [] ≡ Shows (record { acts = 6; output = []; raised = ((C.Error, 101) ∷ []); end = (E.Error 101 3) })
+    run_of (fitted area_ended_with_block 1024 256) 20000 area_ended_with_block [] ≡ Shows (record { acts = 6; output = []; raised = ((C.Error, 101) ∷ []); end = (E.Error 101 3) })
 area_ended_with_block-runs = refl
 
 -- T: PROC OPTIONS(MAIN);
@@ -45,7 +45,7 @@ area_full_in_two_gaps =
     (automatic 1 0 0)) (Y.SetPointer (whole (automatic 1 0 1)))) ∷ []) 2) (Y.EndOfList [])))))) [] None) ∷ [])
 
 area_full_in_two_gaps-runs :
-    run_of (short 4096 5120 256) 20000 area_full_in_two_gaps [] ≡ Shows (record {
+    run_of (fitted area_full_in_two_gaps 1024 256) 20000 area_full_in_two_gaps [] ≡ Shows (record {
       acts = 11;
       output = codes "FULL" ++ (10 ∷ []);
       raised = ((C.Area, 10) ∷ []);
@@ -78,7 +78,7 @@ area_retry_after_free =
     (T.FixedFormat 3) T.NoFormat)))) ∷ []) 2) 2) (Y.EndOfList [])))))) [] None) ∷ [])
 
 area_retry_after_free-runs :
-    run_of (short 4096 5120 256) 20000 area_retry_after_free [] ≡ Shows (record {
+    run_of (fitted area_retry_after_free 1024 256) 20000 area_retry_after_free [] ≡ Shows (record {
       acts = 14;
       output = codes "SAME  0  7" ++ (10 ∷ []);
       raised = ((C.Area, 10) ∷ []);
@@ -107,7 +107,7 @@ copy_keeps_offsets =
     2) T.NoFormat)) ∷ []) 2) (Y.EndOfList [])))))))) [] None) ∷ [])
 
 copy_keeps_offsets-runs :
-    run_of (short 4096 5120 256) 20000 copy_keeps_offsets [] ≡ Shows (record { acts = 9; output = codes " 8" ++ (10 ∷ []); raised = []; end = E.Finished })
+    run_of (fitted copy_keeps_offsets 1024 256) 20000 copy_keeps_offsets [] ≡ Shows (record { acts = 9; output = codes " 8" ++ (10 ∷ []); raised = []; end = E.Finished })
 copy_keeps_offsets-runs = refl
 
 -- T: PROC OPTIONS(MAIN);
@@ -135,7 +135,7 @@ least_gap_taken =
     (T.FormatThen place 1 (T.TextFormat None) T.NoFormat)) ∷ []) 2) 2) (Y.EndOfList [])))))) [] None) ∷ [])
 
 least_gap_taken-runs :
-    run_of (short 4096 5120 256) 20000 least_gap_taken [] ≡ Shows (record { acts = 8; output = codes "LEAST" ++ (10 ∷ []); raised = []; end = E.Finished })
+    run_of (fitted least_gap_taken 1024 256) 20000 least_gap_taken [] ≡ Shows (record { acts = 8; output = codes "LEAST" ++ (10 ∷ []); raised = []; end = E.Finished })
 least_gap_taken-runs = refl
 
 -- T: PROC OPTIONS(MAIN);
@@ -167,7 +167,7 @@ list_walked_in_a_copy =
     (automatic 1 0 4)))) (part 1 1) Y.NoNumber))) 2) (Y.EndOfList [])))) 2) (Y.EndOfList []))))))) [] None) ∷ [])
 
 list_walked_in_a_copy-runs :
-    run_of (short 4096 5120 256) 20000 list_walked_in_a_copy [] ≡ Shows (record { acts = 39; output = codes "  3  2  1" ++ (10 ∷ []); raised = []; end = E.Finished })
+    run_of (fitted list_walked_in_a_copy 1024 256) 20000 list_walked_in_a_copy [] ≡ Shows (record { acts = 39; output = codes "  3  2  1" ++ (10 ∷ []); raised = []; end = E.Finished })
 list_walked_in_a_copy-runs = refl
 
 -- T: PROC OPTIONS(MAIN);
@@ -183,7 +183,7 @@ offset_into_other_area =
     (Y.PointerIn (whole (automatic 1 0 3))) (automatic 1 0 0))) 2) (Y.EndOfList [])))) [] None) ∷ [])
 
 offset_into_other_area-runs :
-    run_of (short 4096 5120 256) 20000 offset_into_other_area [] ≡ Shows (record { acts = 5; output = []; raised = ((C.Error, 110) ∷ []); end = (E.Error 110 2) })
+    run_of (fitted offset_into_other_area 1024 256) 20000 offset_into_other_area [] ≡ Shows (record { acts = 5; output = []; raised = ((C.Error, 110) ∷ []); end = (E.Error 110 2) })
 offset_into_other_area-runs = refl
 
 -- T: PROC OPTIONS(MAIN);
@@ -204,7 +204,7 @@ refer_member_above_extent =
     Y.NoNumber))))) ∷ []) (T.FormatThen place 1 (T.FixedFormat 3) T.NoFormat)) ∷ []) 2) (Y.EndOfList []))))) [] None) ∷ [])
 
 refer_member_above_extent-runs :
-    run_of (short 4096 5120 256) 20000 refer_member_above_extent [] ≡ Shows (record { acts = 7; output = []; raised = ((C.Error, 107) ∷ []); end = (E.Error 107 2) })
+    run_of (fitted refer_member_above_extent 1024 256) 20000 refer_member_above_extent [] ≡ Shows (record { acts = 7; output = []; raised = ((C.Error, 107) ∷ []); end = (E.Error 107 2) })
 refer_member_above_extent-runs = refl
 
 -- T: PROC OPTIONS(MAIN);
@@ -225,7 +225,7 @@ refer_member_lowered =
     Y.NoNumber))))) ∷ []) (T.FormatThen place 1 (T.FixedFormat 3) T.NoFormat)) ∷ []) 2) (Y.EndOfList []))))) [] None) ∷ [])
 
 refer_member_lowered-runs :
-    run_of (short 4096 5120 256) 20000 refer_member_lowered [] ≡ Shows (record { acts = 7; output = []; raised = ((C.Error, 102) ∷ []); end = (E.Error 102 2) })
+    run_of (fitted refer_member_lowered 1024 256) 20000 refer_member_lowered [] ≡ Shows (record { acts = 7; output = []; raised = ((C.Error, 102) ∷ []); end = (E.Error 102 2) })
 refer_member_lowered-runs = refl
 
 -- T: PROC OPTIONS(MAIN);
@@ -248,7 +248,7 @@ refused_area_assignment =
     1 (T.FixedFormat 2) T.NoFormat)) ∷ []) 2) (Y.EndOfList []))))))) [] None) ∷ [])
 
 refused_area_assignment-runs :
-    run_of (short 4096 5120 256) 20000 refused_area_assignment [] ≡ Shows (record {
+    run_of (fitted refused_area_assignment 1024 256) 20000 refused_area_assignment [] ≡ Shows (record {
       acts = 12;
       output = codes "NO 4" ++ (10 ∷ []);
       raised = ((C.Area, 10) ∷ []);

@@ -8,7 +8,7 @@ use Rattle.pli_typing.specs.TypedTree.{Negative}
 use Rattle.pli_language.specs.Tree as T
 use Rattle.pli_typing.specs.TypedTree as Y
 use Rattle.pli_coding.proofs.RowPieces.{place, automatic, parameter, whole, plain, scalar, part, bounds, initial, leaf, evaluation, member, declared, head, put_pair, procedure, program}
-use Rattle.pli_coding.proofs.Running.{short, run_of, Shows}
+use Rattle.pli_coding.proofs.Running.{fitted, run_of, Shows}
 
 -- T: PROC OPTIONS(MAIN);
 -- CALL P(3); P: PROC(N); DCL N FIXED BIN(31), A(N) FIXED BIN(31); A = 7; A(2) = 1; PUT EDIT (A) (F(2)); END P;
@@ -27,7 +27,7 @@ adjustable_array =
     (Y.EndOfList []))))) (0 ∷ []) None) ∷ [])
 
 adjustable_array-runs :
-    run_of (short 4096 5120 256) 20000 adjustable_array [] ≡ Shows (record { acts = 11; output = codes " 7 1 7" ++ (10 ∷ []); raised = []; end = E.Finished })
+    run_of (fitted adjustable_array 1024 256) 20000 adjustable_array [] ≡ Shows (record { acts = 11; output = codes " 7 1 7" ++ (10 ∷ []); raised = []; end = E.Finished })
 adjustable_array-runs = refl
 
 -- T: PROC OPTIONS(MAIN);
@@ -47,7 +47,7 @@ adjustable_array_passed =
     (Y.EndOfList []))))) (0 ∷ []) None) ∷ [])
 
 adjustable_array_passed-runs :
-    run_of (short 4096 5120 256) 20000 adjustable_array_passed [] ≡ Shows (record { acts = 8; output = []; raised = ((C.Error, 102) ∷ []); end = (E.Error 102 2) })
+    run_of (fitted adjustable_array_passed 1024 256) 20000 adjustable_array_passed [] ≡ Shows (record { acts = 8; output = []; raised = ((C.Error, 102) ∷ []); end = (E.Error 102 2) })
 adjustable_array_passed-runs = refl
 
 -- T: PROC OPTIONS(MAIN);
@@ -67,7 +67,7 @@ argument_by_reference =
     (Y.NumberConstant 1))) 2) (Y.EndOfList []))) (0 ∷ []) None) ∷ [])
 
 argument_by_reference-runs :
-    run_of (short 4096 5120 256) 20000 argument_by_reference [] ≡ Shows (record { acts = 10; output = codes " 2" ++ (10 ∷ []); raised = []; end = E.Finished })
+    run_of (fitted argument_by_reference 1024 256) 20000 argument_by_reference [] ≡ Shows (record { acts = 10; output = codes " 2" ++ (10 ∷ []); raised = []; end = E.Finished })
 argument_by_reference-runs = refl
 
 -- T: PROC OPTIONS(MAIN);
@@ -80,7 +80,7 @@ automatic_one_too_many =
     (Y.EndOfList [])) [] None) ∷ [])
 
 automatic_one_too_many-runs :
-    run_of (short 4096 5120 256) 20000 automatic_one_too_many [] ≡ Shows (record { acts = 1; output = []; raised = []; end = (E.Limit L.Automatic) })
+    run_of (fitted automatic_one_too_many 1024 256) 20000 automatic_one_too_many [] ≡ Shows (record { acts = 1; output = []; raised = []; end = (E.Limit L.Automatic) })
 automatic_one_too_many-runs = refl
 
 -- T: PROCEDURE OPTIONS(MAIN); PUT EDIT (1+2) (F(5)); END T;
@@ -91,7 +91,7 @@ bound_of_five_steps =
     1 (T.FixedFormat 5) T.NoFormat)) ∷ []) 1) (Y.EndOfList []))) [] None) ∷ [])
 
 bound_of_five_steps-runs :
-    run_of (short 4096 5120 256) 20000 bound_of_five_steps [] ≡ Shows (record { acts = 4; output = codes "    3" ++ (10 ∷ []); raised = []; end = E.Finished })
+    run_of (fitted bound_of_five_steps 1024 256) 20000 bound_of_five_steps [] ≡ Shows (record { acts = 4; output = codes "    3" ++ (10 ∷ []); raised = []; end = E.Finished })
 bound_of_five_steps-runs = refl
 
 -- T: PROC OPTIONS(MAIN);
@@ -108,7 +108,7 @@ do_counts_down =
     [])
 
 do_counts_down-runs :
-    run_of (short 4096 5120 256) 20000 do_counts_down [] ≡ Shows (record { acts = 15; output = codes " 3 2 1 0" ++ (10 ∷ []); raised = []; end = E.Finished })
+    run_of (fitted do_counts_down 1024 256) 20000 do_counts_down [] ≡ Shows (record { acts = 15; output = codes " 3 2 1 0" ++ (10 ∷ []); raised = []; end = E.Finished })
 do_counts_down-runs = refl
 
 -- T: PROC OPTIONS(MAIN);
@@ -124,7 +124,7 @@ do_while_counts =
     2) (Y.EndOfList []))) [] None) ∷ [])
 
 do_while_counts-runs :
-    run_of (short 4096 5120 256) 20000 do_while_counts [] ≡ Shows (record { acts = 16; output = codes " 0 1 2" ++ (10 ∷ []); raised = []; end = E.Finished })
+    run_of (fitted do_while_counts 1024 256) 20000 do_while_counts [] ≡ Shows (record { acts = 16; output = codes " 0 1 2" ++ (10 ∷ []); raised = []; end = E.Finished })
 do_while_counts-runs = refl
 
 -- T: PROC OPTIONS(MAIN); DCL 1 A, 2 I, 2 B, 3 I; A.I = 1; END;
@@ -136,7 +136,7 @@ full_match_wins =
     None) ∷ [])
 
 full_match_wins-runs :
-    run_of (short 4096 5120 256) 20000 full_match_wins [] ≡ Shows (record { acts = 3; output = []; raised = []; end = E.Finished })
+    run_of (fitted full_match_wins 1024 256) 20000 full_match_wins [] ≡ Shows (record { acts = 3; output = []; raised = []; end = E.Finished })
 full_match_wins-runs = refl
 
 -- T: PROC OPTIONS(MAIN);
@@ -151,7 +151,7 @@ function_without_value =
     [] (Some (Y.FixedLeaf 31))) ∷ [])
 
 function_without_value-runs :
-    run_of (short 4096 5120 256) 20000 function_without_value [] ≡ Shows (record { acts = 5; output = []; raised = ((C.Error, 112) ∷ []); end = (E.Error 112 3) })
+    run_of (fitted function_without_value 1024 256) 20000 function_without_value [] ≡ Shows (record { acts = 5; output = []; raised = ((C.Error, 112) ∷ []); end = (E.Error 112 3) })
 function_without_value-runs = refl
 
 -- T: PROC OPTIONS(MAIN);
@@ -167,7 +167,7 @@ goto_out_of_procedure =
     (T.FixedFormat 2) T.NoFormat)) ∷ []) 2) (Y.EndOfList [])))) [] None) ∷ [])
 
 goto_out_of_procedure-runs :
-    run_of (short 4096 5120 256) 20000 goto_out_of_procedure [] ≡ Shows (record { acts = 8; output = codes " 1" ++ (10 ∷ []); raised = []; end = E.Stopped })
+    run_of (fitted goto_out_of_procedure 1024 256) 20000 goto_out_of_procedure [] ≡ Shows (record { acts = 8; output = codes " 1" ++ (10 ∷ []); raised = []; end = E.Stopped })
 goto_out_of_procedure-runs = refl
 
 -- T: PROC OPTIONS(MAIN);
@@ -188,7 +188,7 @@ names_if_then_else =
     [])))) [] None) ∷ [])
 
 names_if_then_else-runs :
-    run_of (short 4096 5120 256) 20000 names_if_then_else [] ≡ Shows (record { acts = 7; output = codes " 5 5" ++ (10 ∷ []); raised = []; end = E.Finished })
+    run_of (fitted names_if_then_else 1024 256) 20000 names_if_then_else [] ≡ Shows (record { acts = 7; output = codes " 5 5" ++ (10 ∷ []); raised = []; end = E.Finished })
 names_if_then_else-runs = refl
 
 -- T: PROC OPTIONS(MAIN);
@@ -201,7 +201,7 @@ number_too_wide =
     2) (Y.EndOfList []))) [] None) ∷ [])
 
 number_too_wide-runs :
-    run_of (short 4096 5120 256) 20000 number_too_wide [] ≡ Shows (record { acts = 4; output = []; raised = ((C.Error, 105) ∷ []); end = (E.Error 105 2) })
+    run_of (fitted number_too_wide 1024 256) 20000 number_too_wide [] ≡ Shows (record { acts = 4; output = []; raised = ((C.Error, 105) ∷ []); end = (E.Error 105 2) })
 number_too_wide-runs = refl
 
 -- T: PROCEDURE OPTIONS(MAIN); PUT EDIT (1+2) (F(5)); END T;
@@ -212,7 +212,7 @@ put_sum =
     1 (T.FixedFormat 5) T.NoFormat)) ∷ []) 1) (Y.EndOfList []))) [] None) ∷ [])
 
 put_sum-runs :
-    run_of (short 4096 5120 256) 20000 put_sum [] ≡ Shows (record { acts = 4; output = codes "    3" ++ (10 ∷ []); raised = []; end = E.Finished })
+    run_of (fitted put_sum 1024 256) 20000 put_sum [] ≡ Shows (record { acts = 4; output = codes "    3" ++ (10 ∷ []); raised = []; end = E.Finished })
 put_sum-runs = refl
 
 -- T: PROC OPTIONS(MAIN);
@@ -225,7 +225,7 @@ start_no_number =
     (Y.NumberConstant 1)) (Y.NumberConstant 1) None (Y.EndOfList []) 2) (Y.EndOfList []))) [] None) ∷ [])
 
 start_no_number-runs :
-    run_of (short 4096 5120 256) 20000 start_no_number [] ≡ Shows (record { acts = 4; output = []; raised = ((C.Error, 104) ∷ []); end = (E.Error 104 2) })
+    run_of (fitted start_no_number 1024 256) 20000 start_no_number [] ≡ Shows (record { acts = 4; output = []; raised = ((C.Error, 104) ∷ []); end = (E.Error 104 2) })
 start_no_number-runs = refl
 
 -- T: PROC OPTIONS(MAIN);
@@ -239,7 +239,7 @@ start_converted_behind_limit =
     (Y.EndOfList []))) [] None) ∷ [])
 
 start_converted_behind_limit-runs :
-    run_of (short 4096 5120 256) 20000 start_converted_behind_limit [] ≡ Shows (record {
+    run_of (fitted start_converted_behind_limit 1024 256) 20000 start_converted_behind_limit [] ≡ Shows (record {
       acts = 5;
       output = [];
       raised = ((C.ZeroDivide, 30) ∷ (C.Error, 30) ∷ []);
@@ -259,7 +259,7 @@ start_checked_behind_step =
     [])
 
 start_checked_behind_step-runs :
-    run_of (short 4096 5120 256) 20000 start_checked_behind_step [] ≡ Shows (record {
+    run_of (fitted start_checked_behind_step 1024 256) 20000 start_checked_behind_step [] ≡ Shows (record {
       acts = 5;
       output = [];
       raised = ((C.ZeroDivide, 30) ∷ (C.Error, 30) ∷ []);
@@ -278,7 +278,7 @@ sum_too_large =
     (T.FormatThen place 1 (T.FixedFormat 9) T.NoFormat)) ∷ []) 2) (Y.EndOfList []))) [] None) ∷ [])
 
 sum_too_large-runs :
-    run_of (short 4096 5120 256) 20000 sum_too_large [] ≡ Shows (record {
+    run_of (fitted sum_too_large 1024 256) 20000 sum_too_large [] ≡ Shows (record {
       acts = 5;
       output = [];
       raised = ((C.FixedOverflow, 20) ∷ (C.Error, 20) ∷ []);
@@ -297,7 +297,7 @@ zero_divide_ends =
     (Y.NumberConstant 0))) 2) (Y.EndOfList []))) [] None) ∷ [])
 
 zero_divide_ends-runs :
-    run_of (short 4096 5120 256) 20000 zero_divide_ends [] ≡ Shows (record {
+    run_of (fitted zero_divide_ends 1024 256) 20000 zero_divide_ends [] ≡ Shows (record {
       acts = 5;
       output = [];
       raised = ((C.ZeroDivide, 30) ∷ (C.Error, 30) ∷ []);

@@ -7,7 +7,7 @@ use Rattle.pli_typing.specs.TypedTree.{Negative}
 use Rattle.pli_language.specs.Tree as T
 use Rattle.pli_typing.specs.TypedTree as Y
 use Rattle.pli_coding.proofs.RowPieces.{place, automatic, whole, scalar, head, put_pair, procedure, program}
-use Rattle.pli_coding.proofs.Running.{short, run_of, Shows}
+use Rattle.pli_coding.proofs.Running.{fitted, run_of, Shows}
 
 -- T: PROC OPTIONS(MAIN);
 -- DCL X FIXED BIN(31); ON ZERODIVIDE PUT EDIT (1) (F(2)); CALL Q; L: X = 1 / 0; STOP; Q: PROC; ON ZERODIVIDE PUT EDIT (2)
@@ -26,7 +26,7 @@ goto_drops_units =
     (Y.EndOfList []))) 2) (Y.StmtThen [] (Y.Goto 0 (codes "L") 2) (Y.EndOfList [])))) [] None) ∷ [])
 
 goto_drops_units-runs :
-    run_of (short 4096 5120 256) 20000 goto_drops_units [] ≡ Shows (record {
+    run_of (fitted goto_drops_units 1024 256) 20000 goto_drops_units [] ≡ Shows (record {
       acts = 13;
       output = codes " 1" ++ (10 ∷ []);
       raised = ((C.ZeroDivide, 30) ∷ []);
@@ -48,7 +48,7 @@ quotient_overflow =
     []) (T.FormatThen place 1 (T.FixedFormat 12) T.NoFormat)) ∷ []) 2) (Y.EndOfList []))))) [] None) ∷ [])
 
 quotient_overflow-runs :
-    run_of (short 4096 5120 256) 20000 quotient_overflow [] ≡ Shows (record {
+    run_of (fitted quotient_overflow 1024 256) 20000 quotient_overflow [] ≡ Shows (record {
       acts = 9;
       output = codes " -2147483648" ++ (10 ∷ []);
       raised = ((C.FixedOverflow, 20) ∷
@@ -71,7 +71,7 @@ revert_restores_system =
     [])))))) [] None) ∷ [])
 
 revert_restores_system-runs :
-    run_of (short 4096 5120 256) 20000 revert_restores_system [] ≡ Shows (record {
+    run_of (fitted revert_restores_system 1024 256) 20000 revert_restores_system [] ≡ Shows (record {
       acts = 12;
       output = codes " 1" ++ (10 ∷ []);
       raised = ((C.ZeroDivide, 30) ∷
@@ -98,7 +98,7 @@ unit_found_by_numbers =
     (Y.EndOfList [])))) [] None) ∷ [])
 
 unit_found_by_numbers-runs :
-    run_of (short 4096 5120 256) 20000 unit_found_by_numbers [] ≡ Shows (record {
+    run_of (fitted unit_found_by_numbers 1024 256) 20000 unit_found_by_numbers [] ≡ Shows (record {
       acts = 15;
       output = codes " 2 199" ++ (10 ∷ []);
       raised = ((C.Error, 199) ∷ []);

@@ -6,7 +6,7 @@ use Rattle.pli_language.specs.Tree as T
 use Rattle.pli_typing.specs.TypedTree as Y
 use Rattle.pli_coding.proofs.RowPieces.{automatic, static, whole, scalar, initial, leaf, member, declared, head, procedure, program}
 use Rattle.pli_coding.proofs.FormPieces.{n, minus, text, num, txt, bit, numbers, const, line, list, set, set_text, set_bit, format_then, fixed, any, put_with, number_item, text_item, bit_item, put_numbers, put_texts, simple_unit}
-use Rattle.pli_coding.proofs.Running.{short, run_of}
+use Rattle.pli_coding.proofs.Running.{fitted, run_of}
 use Rattle.pli_coding.proofs.StorageMachine.{machine_shows, computing}
 
 abbrev main : List Y.Stmt → Y.Procedure
@@ -58,7 +58,7 @@ numbers_program =
     ∷ []) any
     ∷ []) ∷ [])
 
-numbers_agree : run_of (short 6144 7168 64) 20000 numbers_program [] ≡ machine_shows numbers_program []
+numbers_agree : run_of (fitted numbers_program 1024 64) 20000 numbers_program [] ≡ machine_shows numbers_program []
 unfolding computing
 numbers_agree = refl
 
@@ -92,6 +92,6 @@ texts_program =
     ∷ put_texts (Y.Substring (txt s) (n 6) (n 2) ∷ [])
     ∷ []) ∷ [])
 
-texts_agree : run_of (short 4096 5120 64) 20000 texts_program [] ≡ machine_shows texts_program []
+texts_agree : run_of (fitted texts_program 1024 64) 20000 texts_program [] ≡ machine_shows texts_program []
 unfolding computing
 texts_agree = refl

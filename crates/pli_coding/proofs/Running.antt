@@ -12,7 +12,8 @@ use Rattle.pli_serving.specs.ServiceState.{Services, first_services}
 use Rattle.pli_serving.specs.Answers.{Answer, Done, Ends, Bad}
 use Rattle.pli_serving.specs.Serving.{serves}
 use Rattle.pli_coding.specs.Assembly.{Code}
-use Rattle.pli_coding.specs.Linking.{data_start}
+use Rattle.pli_coding.specs.Linking.{data_start, data_bytes}
+use Rattle.pli_typing.specs.Signatures.{rounded_up}
 use Rattle.pli_coding.specs.Frames.{MemoryParts}
 use Rattle.pli_coding.specs.SignatureTable.{table_of}
 use Rattle.pli_coding.specs.Images.{picture_of_code, code_of}
@@ -30,6 +31,14 @@ short stack_start stack_end heap_capacity =
 
 abbrev pub parts_of : Short → MemoryParts
 parts_of m = record { stack_start = m.stack_start; stack_end = m.stack_end; area_bytes = chain.bytes_for }
+
+-- right behind a program's code and data: room for the stacks, and a heap. With other places the code is no longer.
+abbrev pub data_end : Code → ℕ
+data_end code = rounded_up 16 (data_start code + length (data_bytes code))
+
+abbrev pub fitted : Y.Program → (room heap_capacity : ℕ) → Short
+fitted p room heap_capacity =
+    let start = data_end (code_of (parts_of (short 65536 131072 0)) p) in short start (start + room) heap_capacity
 
 abbrev pub end_of : Short → ℕ
 end_of m = m.stack_end + chain.bytes_for m.heap_capacity

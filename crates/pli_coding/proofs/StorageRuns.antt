@@ -6,7 +6,7 @@ use Rattle.pli_meaning.specs.declared.outcome.End.TheVariants as E
 use Rattle.pli_language.specs.Tree as T
 use Rattle.pli_typing.specs.TypedTree as Y
 use Rattle.pli_coding.proofs.RowPieces.{place, automatic, parameter, based, controlled, whole, located, scalar, bounds, initial, leaf, evaluation, member, declared, head, put_pair, procedure, program}
-use Rattle.pli_coding.proofs.Running.{short, run_of, Shows}
+use Rattle.pli_coding.proofs.Running.{fitted, run_of, Shows}
 
 -- T: PROC OPTIONS(MAIN);
 -- DCL N FIXED BIN(31) INIT(2), C(N) FIXED BIN(31) CTL; ALLOCATE C; N = 3; ALLOCATE C; PUT EDIT (HBOUND(C,1)) (F(2)); FREE C;
@@ -27,7 +27,7 @@ controlled_extents =
     ∷ []) 2) (Y.EndOfList [])))))))) [] None) ∷ [])
 
 controlled_extents-runs :
-    run_of (short 4096 5120 256) 20000 controlled_extents [] ≡ Shows (record { acts = 12; output = codes " 3 2" ++ (10 ∷ []); raised = []; end = E.Finished })
+    run_of (fitted controlled_extents 1024 256) 20000 controlled_extents [] ≡ Shows (record { acts = 12; output = codes " 3 2" ++ (10 ∷ []); raised = []; end = E.Finished })
 controlled_extents-runs = refl
 
 -- T: PROC OPTIONS(MAIN);
@@ -55,7 +55,7 @@ controlled_stack =
     [])))))) (0 ∷ []) None) ∷ [])
 
 controlled_stack-runs :
-    run_of (short 4096 5120 256) 20000 controlled_stack [] ≡ Shows (record {
+    run_of (fitted controlled_stack 1024 256) 20000 controlled_stack [] ≡ Shows (record {
       acts = 34;
       output = codes " 2 1 0 0" ++ (10 ∷ []);
       raised = ((C.Error, 101) ∷ []);
@@ -75,7 +75,7 @@ free_of_a_variable =
     (based 1 0 2) (Y.PointerIn (whole (automatic 1 0 0))) None) ∷ []) 2) (Y.EndOfList [])))) [] None) ∷ [])
 
 free_of_a_variable-runs :
-    run_of (short 4096 5120 256) 20000 free_of_a_variable [] ≡ Shows (record { acts = 5; output = []; raised = ((C.Error, 110) ∷ []); end = (E.Error 110 2) })
+    run_of (fitted free_of_a_variable 1024 256) 20000 free_of_a_variable [] ≡ Shows (record { acts = 5; output = []; raised = ((C.Error, 110) ∷ []); end = (E.Error 110 2) })
 free_of_a_variable-runs = refl
 
 -- T: PROC OPTIONS(MAIN);
@@ -93,7 +93,7 @@ old_locator_finds_new =
     2))))) ∷ []) (T.FormatThen place 1 (T.FixedFormat 2) T.NoFormat)) ∷ []) 2) (Y.EndOfList []))))))) [] None) ∷ [])
 
 old_locator_finds_new-runs :
-    run_of (short 4096 5120 256) 20000 old_locator_finds_new [] ≡ Shows (record { acts = 8; output = codes " 6" ++ (10 ∷ []); raised = []; end = E.Finished })
+    run_of (fitted old_locator_finds_new 1024 256) 20000 old_locator_finds_new [] ≡ Shows (record { acts = 8; output = codes " 6" ++ (10 ∷ []); raised = []; end = E.Finished })
 old_locator_finds_new-runs = refl
 
 -- T: PROC OPTIONS(MAIN);
@@ -114,7 +114,7 @@ pointer_after_block_end =
     3) T.NoFormat)) ∷ []) 4) (Y.EndOfList [])))) (Y.EndOfList [])))) [] None) ∷ [])
 
 pointer_after_block_end-runs :
-    run_of (short 4096 5120 256) 20000 pointer_after_block_end [] ≡ Shows (record { acts = 8; output = []; raised = ((C.Error, 101) ∷ []); end = (E.Error 101 4) })
+    run_of (fitted pointer_after_block_end 1024 256) 20000 pointer_after_block_end [] ≡ Shows (record { acts = 8; output = []; raised = ((C.Error, 101) ∷ []); end = (E.Error 101 4) })
 pointer_after_block_end-runs = refl
 
 -- T: PROC OPTIONS(MAIN);
@@ -131,5 +131,5 @@ pointer_misses_controlled =
     2) T.NoFormat)) ∷ []) 2) (Y.EndOfList [])))))) [] None) ∷ [])
 
 pointer_misses_controlled-runs :
-    run_of (short 4096 5120 256) 20000 pointer_misses_controlled [] ≡ Shows (record { acts = 7; output = []; raised = ((C.Error, 101) ∷ []); end = (E.Error 101 2) })
+    run_of (fitted pointer_misses_controlled 1024 256) 20000 pointer_misses_controlled [] ≡ Shows (record { acts = 7; output = []; raised = ((C.Error, 101) ∷ []); end = (E.Error 101 2) })
 pointer_misses_controlled-runs = refl

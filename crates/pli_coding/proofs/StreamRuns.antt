@@ -6,7 +6,7 @@ use Rattle.pli_meaning.specs.declared.outcome.End.TheVariants as E
 use Rattle.pli_language.specs.Tree as T
 use Rattle.pli_typing.specs.TypedTree as Y
 use Rattle.pli_coding.proofs.RowPieces.{place, automatic, whole, scalar, part, bounds, initial, leaf, member, declared, head, get_pair, put_pair, procedure, program}
-use Rattle.pli_coding.proofs.Running.{short, run_of, Shows}
+use Rattle.pli_coding.proofs.Running.{fitted, run_of, Shows}
 
 -- T: PROC OPTIONS(MAIN);
 -- DCL A FIXED BIN(31) INIT(1), IF(2) FIXED BIN(31); IF (A) = 1 THEN PUT EDIT ('Y') (A); IF (1) = 7; PUT EDIT (IF) (F(3));
@@ -24,7 +24,7 @@ assignment_or_if =
     T.NoFormat)) ∷ []) 2) (Y.EndOfList []))))) [] None) ∷ [])
 
 assignment_or_if-runs :
-    run_of (short 4096 5120 256) 20000 assignment_or_if [] ≡ Shows (record { acts = 9; output = codes "Y  7  0" ++ (10 ∷ []); raised = []; end = E.Finished })
+    run_of (fitted assignment_or_if 1024 256) 20000 assignment_or_if [] ≡ Shows (record { acts = 9; output = codes "Y  7  0" ++ (10 ∷ []); raised = []; end = E.Finished })
 assignment_or_if-runs = refl
 
 -- T: PROC OPTIONS(MAIN);
@@ -38,7 +38,7 @@ column_reached =
     None) T.NoFormat)))) ∷ []) 2) (Y.EndOfList []))) [] None) ∷ [])
 
 column_reached-runs :
-    run_of (short 4096 5120 256) 20000 column_reached [] ≡ Shows (record { acts = 6; output = codes "A  B" ++ (10 ∷ []); raised = []; end = E.Finished })
+    run_of (fitted column_reached 1024 256) 20000 column_reached [] ≡ Shows (record { acts = 6; output = codes "A  B" ++ (10 ∷ []); raised = []; end = E.Finished })
 column_reached-runs = refl
 
 -- T: PROC OPTIONS(MAIN);
@@ -54,7 +54,7 @@ field_over_line_end =
     T.NoFormat)) ∷ []) 2) (Y.EndOfList [])))) [] None) ∷ [])
 
 field_over_line_end-runs :
-    run_of (short 4096 5120 256) 20000 field_over_line_end (49 ∷ 13 ∷ 10 ∷ 50 ∷ []) ≡ Shows (record {
+    run_of (fitted field_over_line_end 1024 256) 20000 field_over_line_end (49 ∷ 13 ∷ 10 ∷ 50 ∷ []) ≡ Shows (record {
       acts = 8;
       output = codes " 1 2" ++ (10 ∷ []);
       raised = [];
@@ -74,7 +74,7 @@ format_used_again =
     (T.SpaceFormat 1) (T.FormatThen place 1 (T.SkipFormat 1) T.NoFormat)))) ∷ []) 2) (Y.EndOfList []))) [] None) ∷ [])
 
 format_used_again-runs :
-    run_of (short 4096 5120 256) 20000 format_used_again [] ≡ Shows (record {
+    run_of (fitted format_used_again 1024 256) 20000 format_used_again [] ≡ Shows (record {
       acts = 10;
       output = codes " 1 " ++ (10 ∷ []) ++ codes " 2 " ++ (10 ∷ []) ++ codes " 3"
           ++ (10 ∷ []);
@@ -96,7 +96,7 @@ letter_in_number_field =
     T.NoFormat)) ∷ []) 2) (Y.EndOfList [])))) [] None) ∷ [])
 
 letter_in_number_field-runs :
-    run_of (short 4096 5120 256) 20000 letter_in_number_field (codes "A2") ≡ Shows (record {
+    run_of (fitted letter_in_number_field 1024 256) 20000 letter_in_number_field (codes "A2") ≡ Shows (record {
       acts = 5;
       output = [];
       raised = ((C.Error, 104) ∷ []);
@@ -119,7 +119,7 @@ number_becomes_text =
     [])))) [] None) ∷ [])
 
 number_becomes_text-runs :
-    run_of (short 4096 5120 256) 20000 number_becomes_text [] ≡ Shows (record {
+    run_of (fitted number_becomes_text 1024 256) 20000 number_becomes_text [] ≡ Shows (record {
       acts = 6;
       output = codes "       42   !" ++ (10 ∷ []);
       raised = [];
@@ -142,7 +142,7 @@ overflow_wraps =
     [])
 
 overflow_wraps-runs :
-    run_of (short 4096 5120 256) 20000 overflow_wraps [] ≡ Shows (record {
+    run_of (fitted overflow_wraps 1024 256) 20000 overflow_wraps [] ≡ Shows (record {
       acts = 10;
       output = codes "OV -32768" ++ (10 ∷ []);
       raised = ((C.FixedOverflow, 20) ∷ []);
@@ -165,7 +165,7 @@ read_texts_until_endfile =
     T.NoFormat)) ∷ []) 2) (Y.EndOfList []))))))) [] None) ∷ [])
 
 read_texts_until_endfile-runs :
-    run_of (short 4096 5120 256) 20000 read_texts_until_endfile (codes "12") ≡ Shows (record {
+    run_of (fitted read_texts_until_endfile 1024 256) 20000 read_texts_until_endfile (codes "12") ≡ Shows (record {
       acts = 14;
       output = codes "12    END" ++ (10 ∷ []);
       raised =
@@ -190,7 +190,7 @@ read_until_endfile =
     (Y.EndOfList []))))))) [] None) ∷ [])
 
 read_until_endfile-runs :
-    run_of (short 4096 5120 256) 20000 read_until_endfile (codes "12") ≡ Shows (record {
+    run_of (fitted read_until_endfile 1024 256) 20000 read_until_endfile (codes "12") ≡ Shows (record {
       acts = 14;
       output = codes "  12 END" ++ (10 ∷ []);
       raised = ((C.Endfile, 40)
@@ -213,7 +213,7 @@ substr_at_the_end =
     (T.FormatThen place 1 (T.TextFormat None) T.NoFormat)) ∷ []) 2) (Y.EndOfList [])))) [] None) ∷ [])
 
 substr_at_the_end-runs :
-    run_of (short 4096 5120 256) 20000 substr_at_the_end [] ≡ Shows (record {
+    run_of (fitted substr_at_the_end 1024 256) 20000 substr_at_the_end [] ≡ Shows (record {
       acts = 7;
       output = codes "!" ++ (10 ∷ []);
       raised = ((C.Error, 103) ∷ []);
@@ -232,7 +232,7 @@ texts_joined =
     1 (T.TextFormat None) T.NoFormat)) ∷ []) 2) (Y.EndOfList []))) [] None) ∷ [])
 
 texts_joined-runs :
-    run_of (short 4096 5120 256) 20000 texts_joined [] ≡ Shows (record { acts = 4; output = codes "AB" ++ (10 ∷ []); raised = []; end = E.Finished })
+    run_of (fitted texts_joined 1024 256) 20000 texts_joined [] ≡ Shows (record { acts = 4; output = codes "AB" ++ (10 ∷ []); raised = []; end = E.Finished })
 texts_joined-runs = refl
 
 -- T: PROC OPTIONS(MAIN);
@@ -253,7 +253,7 @@ unit_found_dynamically =
     Y.NoArgument) 2) (Y.EndOfList [])))) [] None) ∷ [])
 
 unit_found_dynamically-runs :
-    run_of (short 4096 5120 256) 20000 unit_found_dynamically [] ≡ Shows (record {
+    run_of (fitted unit_found_dynamically 1024 256) 20000 unit_found_dynamically [] ≡ Shows (record {
       acts = 15;
       output = codes "IN 199" ++ (10 ∷ []);
       raised = ((C.Error, 199) ∷ []);
@@ -284,9 +284,9 @@ structures_read =
     (Y.EndOfList []))))) [] None ∷ [])
 
 structures_read-runs :
-    run_of (short 4096 5120 256) 20000 structures_read (codes "1X2Y") ≡ Shows (record { acts = 13; output = codes " 1X 2Y" ++ (10 ∷ []); raised = []; end = E.Finished })
+    run_of (fitted structures_read 1024 256) 20000 structures_read (codes "1X2Y") ≡ Shows (record { acts = 13; output = codes " 1X 2Y" ++ (10 ∷ []); raised = []; end = E.Finished })
 structures_read-runs = refl
 
 structures_cut :
-    run_of (short 4096 5120 256) 20000 structures_read (codes "1X2") ≡ Shows (record { acts = 8; output = []; raised = (C.Endfile, 40) ∷ (C.Error, 40) ∷ []; end = E.Error 40 2 })
+    run_of (fitted structures_read 1024 256) 20000 structures_read (codes "1X2") ≡ Shows (record { acts = 8; output = []; raised = (C.Endfile, 40) ∷ (C.Error, 40) ∷ []; end = E.Error 40 2 })
 structures_cut = refl
