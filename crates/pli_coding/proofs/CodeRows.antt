@@ -1,0 +1,183 @@
+-- The code of small forms, the frame of a block, the table and the static data, computed.
+use Rattle.std.proofs.Common.{◌≡◌, ℕ, zero, suc, ◌+◌, pos, negsuc, false, List, [], ◌∷◌, ◌++◌, map, None, refl}
+use lib.Chars.{codes}
+use Rattle.rv_meaning.specs.declared.instr.Instr.TheVariants as I
+use Rattle.rv_meaning.specs.declared.instr.RegisterOp.TheVariants as Op
+use Rattle.rv_meaning.specs.declared.instr.ImmediateOp.TheVariants as Imm
+use Rattle.rv_meaning.specs.declared.instr.LoadKind.TheVariants as Load
+use Rattle.rv_meaning.specs.declared.instr.BranchTest.TheVariants as Test
+use Rattle.rv_meaning.specs.Tables.{table_words}
+use Rattle.pli_language.specs.Tree as T
+use Rattle.pli_typing.specs.TypedTree as Y
+use Rattle.area_keeper.specs.Chain.{chain}
+use Rattle.pli_coding.specs.Registers as R
+use Rattle.pli_coding.specs.Assembly.{ConstantBytes, InitialValues, Plain, JumpTo, CallTo, RaiseError, RaiseCondition, Code}
+use Rattle.pli_coding.specs.StaticData.{static_data, placed_from, bytes_from}
+use Rattle.pli_coding.specs.Frames.{MemoryParts, fixed_size, automatic_place, frame_end, word_in, words_place}
+use Rattle.pli_coding.specs.SignatureTable.{table_of}
+use Rattle.pli_coding.specs.Environments.{Environment, none_taken, block_around}
+use Rattle.pli_coding.specs.Arithmetic.{sum_code}
+use Rattle.pli_coding.specs.Locating.{leaf_resolved, located}
+use Rattle.pli_coding.specs.Expressions.{number_code, text_code}
+use Rattle.pli_coding.specs.Temporaries.{number_words}
+use Rattle.pli_coding.specs.Images.{environment_of, code_of, blocks_of}
+use Rattle.pli_coding.proofs.RowPieces.{automatic, parameter, whole, scalar, bounds, initial, leaf, member, declared, head, procedure, program}
+
+abbrev parts : MemoryParts
+parts = record { stack_start = 4096; stack_end = 8192; area_bytes = chain.bytes_for }
+
+-- ---- a program with a procedure in it: A FIXED(31), B(2,3) FIXED(15), C CHAR(5) VARYING INIT('AB'), S FIXED(31) STATIC; the
+-- procedure P(N) has D FIXED(31), another A FIXED(31), and a begin block with X FIXED(15)
+
+abbrev up_to : ℕ → Y.Bounds
+up_to n = bounds (Y.ConstantExtent (pos 1)) (Y.ConstantExtent (pos n))
+
+abbrev small : Y.Program
+small =
+    program ([] ∷
+    (scalar Y.AutomaticClass (Y.FixedLeaf 31)
+    ∷ declared Y.AutomaticClass (member 0 2 ∷ []) (leaf (Y.FixedLeaf 15) (up_to 2 ∷ up_to 3 ∷ []) [] ∷ []) None []
+    ∷ declared Y.AutomaticClass (member 0 0 ∷ [])
+    (leaf (Y.VaryingLeaf (Y.ConstantExtent (pos 5))) [] (initial 1 (T.InitialText (codes "AB")) ∷ []) ∷ []) None []
+    ∷ scalar Y.StaticClass (Y.FixedLeaf 31) ∷ [])
+    ∷ (scalar Y.ParameterClass (Y.FixedLeaf 31) ∷ scalar Y.AutomaticClass (Y.FixedLeaf 31) ∷ scalar Y.AutomaticClass (Y.FixedLeaf 31) ∷ [])
+    ∷ (scalar Y.AutomaticClass (Y.FixedLeaf 15) ∷ []) ∷ [])
+    (procedure (Y.BlockOf (head Y.ProcedureBlock 1 0 1) (Y.EndOfList [])) [] None
+    ∷ procedure
+    (Y.BlockOf (head Y.ProcedureBlock 2 1 2)
+    (Y.StmtThen [] (Y.Begin (Y.BlockOf (head Y.BeginBlock 3 2 3) (Y.EndOfList []))) (Y.EndOfList []))) (0 ∷ []) None
+    ∷ [])
+
+abbrev within : (block level : ℕ) → Environment
+within block level = record (environment_of parts small) { block = block; level = level }
+
+-- ---- frames
+
+-- one after the other, each name with its data behind it: 16 and 16, 16 and 24 rounded up, 16 and 7 rounded up
+variables_stand_apart :
+    map (automatic_place parts small 1 0) (0 ∷ 1 ∷ 2 ∷ 3 ∷ []) ≡ (144 ∷ 176 ∷ 224 ∷ 256 ∷ [])
+variables_stand_apart = refl
+
+frame_holds_all : frame_end parts small 1 0 ≡ 256
+frame_holds_all = refl
+
+-- a display of one word and a parameter of five: 144 and 24
+fixed_part_is_rounded : fixed_size 1 1 ≡ 176
+fixed_part_is_rounded = refl
+
+parameters_take_no_storage : map (automatic_place parts small 2 1) (1 ∷ 2 ∷ []) ≡ (176 ∷ 208 ∷ [])
+parameters_take_no_storage = refl
+
+-- six words from the third one on end below the first two
+temporaries_stand_below : words_place 2 6 ∷ word_in 2 6 5 ∷ words_place 0 2 ∷ [] ≡ (negsuc 31 ∷ negsuc 11 ∷ negsuc 7 ∷ [])
+temporaries_stand_below = refl
+
+blocks_are_in_order : map (λ b. b.level) (blocks_of small.procedures) ≡ (0 ∷ 1 ∷ 2 ∷ [])
+blocks_are_in_order = refl
+
+block_around_is_found : map (block_around (within 3 2)) (0 ∷ 1 ∷ 2 ∷ []) ≡ (1 ∷ 2 ∷ 3 ∷ [])
+block_around_is_found = refl
+
+-- ---- the table
+
+-- four signatures of eight variables
+equal_signatures_stand_once :
+    table_words (table_of small)
+    ≡ (0 ∷ 1 ∷ 0 ∷ 1 ∷ 31 ∷ 0 ∷
+    0 ∷ 1 ∷ 0 ∷ 1 ∷ 15 ∷ 2 ∷ 1 ∷ 2 ∷ 1 ∷ 3 ∷
+    0 ∷ 1 ∷ 0 ∷ 3 ∷ 5 ∷ 0 ∷
+    0 ∷ 1 ∷ 0 ∷ 1 ∷ 15 ∷ 0 ∷ [])
+equal_signatures_stand_once = refl
+
+-- ---- numbers
+
+abbrev number : ℕ → Y.Number
+number n = Y.NumberConstant n
+
+abbrev plus : Y.Number → Y.Number → Y.Number
+plus a b = Y.Calculated Y.Sum a b
+
+abbrev stores_in : Code → ℕ
+stores_in [] = 0
+stores_in (Plain (I.Store kind rs value offset) ∷ is) = 1 + stores_in is
+stores_in (i ∷ is) = stores_in is
+
+-- (1 + 2) + (3 + 4) goes without memory
+sum_of_sums_needs_no_memory :
+    stores_in (number_code (within 1 0) none_taken (plus (plus (number 1) (number 2)) (plus (number 3) (number 4)))) ≡ 0
+sum_of_sums_needs_no_memory = refl
+
+abbrev deep : ℕ → Y.Number
+deep zero = number 1
+deep (suc n) = plus (number 1) (deep n)
+
+-- of nine operands that wait two are in words: each is stored once, and once more where its sum overflows
+eighth_number_waits_in_a_word :
+    stores_in (number_code (within 1 0) none_taken (deep 7)) ∷ stores_in (number_code (within 1 0) none_taken (deep 9)) ∷ []
+    ≡ (0 ∷ 4 ∷ [])
+eighth_number_waits_in_a_word = refl
+
+number_words_count_each : number_words (deep 9) ≡ 9
+number_words_count_each = refl
+
+-- a sum below its left operand, against a negative right one
+sum_is_tested :
+    sum_code none_taken
+    ≡ (Plain (I.Registers Op.Add R.u2 R.u1 R.a0)
+    ∷ Plain (I.Registers Op.SetLess R.u3 R.u2 R.u1)
+    ∷ Plain (I.Immediate Imm.SetLess R.u4 R.a0 (pos 0))
+    ∷ Plain (I.Immediate Imm.Add R.a0 R.u2 (pos 0))
+    ∷ Plain (I.Branch Test.Equal R.u3 R.u4 (pos 28))
+    ∷ Plain (I.Immediate Imm.Add (R.held 0) R.a0 (pos 0))
+    ∷ Plain (I.Immediate Imm.Add R.a0 R.zero_register (pos 2))
+    ∷ Plain (I.Immediate Imm.Add R.a1 R.zero_register (pos 20))
+    ∷ CallTo RaiseCondition
+    ∷ Plain (I.Immediate Imm.Add R.a0 (R.held 0) (pos 0))
+    ∷ [])
+sum_is_tested = refl
+
+abbrev number_in : Y.Variable → Y.Number
+number_in v = Y.NumberIn (whole v)
+
+-- a variable of the running block is one load, one of the block around two
+direct_scalar_is_a_load :
+    number_code (within 1 0) none_taken (number_in (automatic 1 0 0))
+    ∷ number_code (within 2 1) none_taken (number_in (automatic 1 0 0)) ∷ []
+    ≡ ((Plain (I.Load Load.Word R.a0 R.frame_register (pos 160)) ∷ [])
+    ∷ (Plain (I.Load Load.Word R.u3 R.frame_register (pos 144)) ∷ Plain (I.Load Load.Word R.a0 R.u3 (pos 160)) ∷ [])
+    ∷ [])
+direct_scalar_is_a_load = refl
+
+-- ---- services
+
+abbrev last_three : Code → Code
+last_three (a ∷ b ∷ c ∷ []) = a ∷ b ∷ c ∷ []
+last_three [] = []
+last_three (a ∷ is) = last_three is
+
+-- behind service 8 comes the test of its status
+status_is_tested :
+    last_three (leaf_resolved (within 2 1) (located (within 2 1) none_taken (parameter 2 1 0)) 0 false)
+    ≡ (Plain I.Ecall ∷ Plain (I.Branch Test.Equal R.a1 R.zero_register (pos 12)) ∷ JumpTo RaiseError ∷ [])
+status_is_tested = refl
+
+-- ---- static data
+
+abbrev pushed : List ℕ → Code
+pushed bytes = text_code (within 1 0) none_taken (Y.TextConstant bytes)
+
+texts_stand_once : static_data (pushed (codes "AB") ++ (pushed (codes "C") ++ pushed (codes "AB"))) ≡ (ConstantBytes (codes "AB") ∷ ConstantBytes (codes "C") ∷ [])
+texts_stand_once = refl
+
+-- the INITIAL values of C, the storage of S
+small_data : map (λ p. p.place) (placed_from 100 (static_data (code_of parts small))) ≡ (100 ∷ 112 ∷ 144 ∷ [])
+small_data = refl
+
+-- a list of one leaf, whose values stand 12 bytes behind it: one value, once, a text of 2 bytes
+initial_values_follow :
+    bytes_from
+    (placed_from 0 (InitialValues (record { leaf = 0; values = codes "ABCD" } ∷ []) ∷ ConstantBytes (codes "ABCD") ∷ []))
+    0
+    (placed_from 0 (InitialValues (record { leaf = 0; values = codes "ABCD" } ∷ []) ∷ ConstantBytes (codes "ABCD") ∷ []))
+    ≡ 1 ∷ 0 ∷ 0 ∷ 0 ∷ 0 ∷ 0 ∷ 0 ∷ 0 ∷ 12 ∷ 0 ∷ 0 ∷ 0 ∷ codes "ABCD"
+initial_values_follow = refl

@@ -1,0 +1,403 @@
+-- GET and PUT with EDIT. What is written waits while control items are carried out; a format item is asked for by a service that
+-- makes no act before the one that acts.
+use Rattle.std.specs.Prelude.{ℕ, suc, ◌+◌, max, ℤ, pos, negsuc, Bool, true, false, ◌&&◌, ◌||◌, List, [], ◌∷◌, ◌++◌, take, drop, Option, Some, None, if◌then◌else◌}
+use Rattle.std.specs.List.{list_any}
+use Rattle.rv_meaning.specs.declared.instr.LoadKind.TheVariants as Load
+use Rattle.rv_meaning.specs.declared.instr.StoreKind.TheVariants as Store
+use Rattle.rv_meaning.specs.declared.instr.Instr.TheVariants as I
+use Rattle.rv_meaning.specs.declared.instr.RegisterOp.TheVariants as Op
+use Rattle.rv_meaning.specs.declared.instr.ImmediateOp.TheVariants as Imm
+use Rattle.rv_meaning.specs.declared.instr.BranchTest.TheVariants as Test
+use Rattle.rv_meaning.specs.declared.image.TableKind.{TableKind}
+use Rattle.rv_meaning.specs.declared.image.TableKind.TheVariants as K
+use Rattle.rv_meaning.specs.Tables.{kind_number}
+use Rattle.pli_language.specs.declared.condition.Condition.TheVariants as C
+use Rattle.pli_language.specs.Tree as T
+use Rattle.pli_typing.specs.TypedTree as Y
+use Rattle.pli_meaning.specs.Codes.{endfile_code}
+use Rattle.pli_meaning.specs.Numbers.{operator_precision}
+use Rattle.pli_coding.specs.Registers.{zero_register, frame_register, a0, a1, a2, a3, a4, u0, u1, u2, u3}
+use Rattle.pli_coding.specs.Assembly.{Item, Plain, BaseIn, OffsetOf, DataPlace, JumpAhead, JumpBack, Code, size_of}
+use Rattle.pli_coding.specs.Instructions.{immediate, registers, add, subtract, move, small, constant, number, load_word, store_word, skip_where, choice, repeated_while_zero, service, tested_service, status_tested}
+use Rattle.pli_coding.specs.Frames.{buffer, buffer_kind, buffer_size, words_place}
+use Rattle.pli_coding.specs.StaticForms.{formats_datum, shape_datum}
+use Rattle.pli_coding.specs.Environments.{Environment, declaration_of, Taken, with_words, with_number, save, fetch}
+use Rattle.pli_coding.specs.Arithmetic.{raised, overflow_raised, fitted_code}
+use Rattle.pli_coding.specs.Locating.{own_place}
+use Rattle.pli_coding.specs.Expressions.{given_in, type_in, number_code, text_code, bit_code}
+use Rattle.pli_coding.specs.Temporaries.{number_words, text_words, bit_words, reference_words}
+use Rattle.pli_coding.specs.Storing.{word_stored, top_stored, behind_record, words_behind_record, record_code, record_given, aggregate_words}
+
+-- ---- which data items a format list has
+
+abbrev mutual
+  pub has_fixed : T.Formats → Bool
+  has_fixed T.NoFormat = false
+  has_fixed (T.FormatThen place repetition first rest) = is_fixed first || has_fixed rest
+
+  pub is_fixed : T.Format → Bool
+  is_fixed (T.FixedFormat width) = true
+  is_fixed (T.FormatList formats) = has_fixed formats
+  is_fixed _ = false
+
+abbrev mutual
+  pub has_text : T.Formats → Bool
+  has_text T.NoFormat = false
+  has_text (T.FormatThen place repetition first rest) = is_text first || has_text rest
+
+  pub is_text : T.Format → Bool
+  is_text (T.TextFormat width) = true
+  is_text (T.FormatList formats) = has_text formats
+  is_text _ = false
+
+-- ---- the next data item
+
+abbrev pub controls_carried_out : Code
+controls_carried_out = repeated_while_zero (service 35)
+
+-- by what service 35 said, 1 for F and 2 for A, where the list has both
+abbrev pub by_item : T.Formats → (fixed text : Code) → Code
+by_item formats fixed text =
+    if has_fixed formats && has_text formats then small u1 1 ∷ choice Test.Equal a0 u1 fixed text
+    else (if has_fixed formats then fixed else text)
+
+-- ---- PUT of one value
+
+-- a field that is too narrow is an ERROR (105) before anything is written
+abbrev pub number_written : Code
+number_written = small a1 0 ∷ (tested_service 36 ++ (small a1 1 ∷ service 36))
+
+abbrev pub text_written : Code
+text_written = service 37
+
+abbrev pub number_put : Taken → T.Formats → (text : Code) → Code
+number_put t formats text =
+    controls_carried_out ++ by_item formats (fetch a0 t ++ number_written) (fetch a0 t ++ (text ++ text_written))
+
+abbrev pub text_put : T.Formats → Code
+text_put formats =
+    controls_carried_out ++ by_item formats (small a0 0 ∷ (tested_service 26 ++ number_written)) text_written
+
+-- a number with the places of its precision; with 0 a bit
+abbrev pub as_text : (precision : ℕ) → Code
+as_text precision = small a1 precision ∷ service 21
+
+abbrev pub value_put : Environment → Taken → T.Formats → Y.Value → Code
+value_put e t formats (Y.NumberValue precision x) = number_code e t x ++ (save a0 t ++ number_put t formats (as_text precision))
+value_put e t formats (Y.TextValue x) = text_code e t x ++ text_put formats
+value_put e t formats (Y.BitValue x) = bit_code e t x ++ (save a0 t ++ number_put t formats (as_text 0))
+value_put e t formats _ = []
+
+-- ---- elements of aggregates: a record, behind it the number of the next element and that of all
+
+abbrev pub is_type : TableKind → Y.LeafType → Bool
+is_type K.Fixed (Y.FixedLeaf p) = true
+is_type K.Character (Y.CharacterLeaf x) = true
+is_type K.Varying (Y.VaryingLeaf x) = true
+is_type K.Bit Y.BitLeaf = true
+is_type _ _ = false
+
+abbrev pub leaves_in : Environment → Y.Reference → List Y.Leaf
+leaves_in e (Y.Referring v locator part subscripts) = take part.count (drop part.first (declaration_of e v).leaves)
+
+-- whether a part has leaves of a kind
+abbrev pub has_kind : Environment → Y.Reference → TableKind → Bool
+has_kind e r kind = list_any (λ l. is_type kind l.type) (leaves_in e r)
+
+abbrev pub shape_in : Environment → Y.Reference → Code
+shape_in e (Y.Referring v locator part subscripts) =
+    OffsetOf a1 (DataPlace (shape_datum (declaration_of e v).members part (given_in subscripts))) ∷ []
+
+-- what is in use while elements go
+pub record Elements : Type 0 where
+  pub taken : Taken
+  pub behind : Taken
+
+abbrev pub elements_of : Taken → Y.Reference → Elements
+elements_of t r = record { taken = t; behind = behind_record r t }
+
+abbrev pub next_place : Elements → ℤ
+next_place l = words_place l.behind.words 1
+
+abbrev pub count_place : Elements → ℤ
+count_place l = words_place (l.behind.words + 1) 1
+
+-- behind the two numbers
+abbrev pub free_in : Elements → Taken
+free_in l = with_words 2 l.behind
+
+abbrev pub element_asked : Environment → Elements → Y.Reference → (number : Code) → Code
+element_asked e l r number =
+    record_given e l.taken ++ (shape_in e r ++ (number ++ (own_place e a3 (pos buffer) ++ (small a4 1 ∷ service 8))))
+
+-- how many there are
+abbrev pub elements_counted : Environment → Elements → Y.Reference → Code
+elements_counted e l r =
+    element_asked e l r (constant a2 (negsuc 0))
+    ++ (store_word frame_register a0 (count_place l) ++ store_word frame_register zero_register (next_place l))
+
+-- the offset of the next one in a0, and what it is in the buffer
+abbrev pub element_described : Environment → Elements → Y.Reference → Code
+element_described e l r = element_asked e l r (load_word a2 frame_register (next_place l))
+
+-- it must live (101) and be there in full (107)
+abbrev pub element_found : Environment → Elements → Y.Reference → Code
+element_found e l r = element_described e l r ++ status_tested
+
+abbrev pub next_loaded : Elements → Code
+next_loaded l = load_word u1 frame_register (next_place l) ++ load_word u2 frame_register (count_place l)
+
+abbrev pub next_counted : Elements → Code
+next_counted l =
+    load_word u1 frame_register (next_place l)
+    ++ (immediate Imm.Add u1 u1 (pos 1) ∷ store_word frame_register u1 (next_place l))
+
+-- what is done for each element, given the words behind it; both sizes are those of the code itself
+abbrev pub for_elements : Elements → (each : Code) → Code
+for_elements l each =
+    next_loaded l
+    ++ (skip_where Test.Less u1 u2 (JumpAhead (size_of each + (size_of (next_counted l) + 2)) ∷ [])
+    ++ (each
+    ++ (next_counted l
+    ++ JumpBack (size_of (next_loaded l) + (3 + (size_of each + size_of (next_counted l)))) ∷ [])))
+
+-- ---- by the kind in the buffer
+
+pub record KindCode : Type 0 where
+  pub kind : ℕ
+  pub code : Code
+
+abbrev pub kind_if : Bool → (kind : ℕ) → Code → List KindCode
+kind_if holds kind code = if holds then record { kind = kind; code = code } ∷ [] else []
+
+-- the last of them needs no test
+abbrev pub by_kind : List KindCode → Code
+by_kind [] = []
+by_kind (k ∷ []) = k.code
+by_kind (k ∷ l ∷ more) =
+    load_word u0 frame_register buffer_kind ++ (small u1 k.kind ∷ choice Test.Equal u0 u1 k.code (by_kind (l ∷ more)))
+
+-- numbers, bits, and texts of both kinds
+abbrev pub by_kinds_of : Environment → Y.Reference → (fixed bit text : Code) → Code
+by_kinds_of e r fixed bit text =
+    by_kind
+    (kind_if (has_kind e r K.Fixed) (kind_number K.Fixed) fixed
+    ++ (kind_if (has_kind e r K.Bit) (kind_number K.Bit) bit
+    ++ kind_if (has_kind e r K.Character || has_kind e r K.Varying) (kind_number K.Character) text))
+
+-- ---- an element, from its offset in a0
+
+-- its address in u3
+abbrev pub element_addressed : Code
+element_addressed = BaseIn u0 ∷ add u3 u0 a0 ∷ []
+
+-- by its precision, in u2: two bytes, or four
+abbrev pub by_precision : (half word : Item) → Code
+by_precision half word = small u1 16 ∷ choice Test.Less u2 u1 (half ∷ []) (word ∷ [])
+
+abbrev pub fixed_loaded : Code
+fixed_loaded =
+    element_addressed
+    ++ (load_word u2 frame_register buffer_size
+    ++ by_precision (Plain (I.Load Load.Half a0 u3 (pos 0))) (Plain (I.Load Load.Word a0 u3 (pos 0))))
+
+-- what waits there
+abbrev pub fixed_stored : Taken → Code
+fixed_stored t =
+    element_addressed
+    ++ (fetch a0 t
+    ++ (load_word u2 frame_register buffer_size
+    ++ by_precision (Plain (I.Store Store.Half u3 a0 (pos 0))) (Plain (I.Store Store.Word u3 a0 (pos 0)))))
+
+-- the length in a1, and in a2 whether the text varies
+abbrev pub text_described : Code
+text_described =
+    load_word a1 frame_register buffer_size
+    ++ (load_word a2 frame_register buffer_kind ++ immediate Imm.Add a2 a2 (negsuc 1) ∷ [])
+
+-- ---- PUT of an aggregate
+
+-- the precision waits behind the number
+abbrev pub fixed_element_put : Taken → T.Formats → Code
+fixed_element_put t formats =
+    fixed_loaded
+    ++ (save a0 t ++ (save u2 (with_number t) ++ number_put t formats (fetch a1 (with_number t) ++ service 21)))
+
+abbrev pub bit_element_put : Taken → T.Formats → Code
+bit_element_put t formats =
+    element_addressed ++ (Plain (I.Load Load.ByteUnsigned a0 u3 (pos 0)) ∷ (save a0 t ++ number_put t formats (as_text 0)))
+
+abbrev pub text_element_put : T.Formats → Code
+text_element_put formats = text_described ++ (service 20 ++ text_put formats)
+
+abbrev pub element_put : Environment → Elements → T.Formats → Y.Reference → Code
+element_put e l formats r =
+    element_found e l r
+    ++ by_kinds_of e r (fixed_element_put (free_in l) formats) (bit_element_put (free_in l) formats) (text_element_put formats)
+
+abbrev pub elements_put : Environment → Elements → T.Formats → Y.Reference → Code
+elements_put e l formats r = record_code e l.taken r ++ (elements_counted e l r ++ for_elements l (element_put e l formats r))
+
+abbrev pub item_put : Environment → Taken → T.Formats → Y.PutItem → Code
+item_put e t formats (Y.PutValue v) = value_put e t formats v
+item_put e t formats (Y.PutAggregate r) = elements_put e (elements_of t r) formats r
+
+abbrev pub items_put : Environment → Taken → T.Formats → List Y.PutItem → Code
+items_put e t formats [] = []
+items_put e t formats (i ∷ is) = item_put e t formats i ++ items_put e t formats is
+
+-- ---- places in format lists: 0 for GET, 1 for PUT
+
+abbrev pub edit_begun : T.Formats → (mode : ℕ) → Code
+edit_begun formats mode = OffsetOf a0 (DataPlace (formats_datum formats)) ∷ small a1 mode ∷ service 34
+
+abbrev pub edit_ended : Code
+edit_ended = service 38
+
+abbrev pub skip_option : (mode : ℕ) → Option ℕ → Code
+skip_option mode None = []
+skip_option mode (Some n) = number a0 n ++ (small a1 mode ∷ service 39)
+
+abbrev pub put_pair : Environment → Taken → Y.PutPair → Code
+put_pair e t p = edit_begun p.formats 1 ++ (items_put e t p.formats p.items ++ edit_ended)
+
+abbrev pub put_pairs : Environment → Taken → List Y.PutPair → Code
+put_pairs e t [] = []
+put_pairs e t (p ∷ ps) = put_pair e t p ++ put_pairs e t ps
+
+abbrev pub put_code : Environment → Taken → Option ℕ → List Y.PutPair → Code
+put_code e t skip pairs = skip_option 1 skip ++ put_pairs e t pairs
+
+-- ---- GET of one value
+
+-- what is next, in a0; with no character left ENDFILE, and then the statement's exit, so many words behind this
+abbrev pub field_awaited : (behind : ℕ) → Code
+field_awaited behind =
+    controls_carried_out
+    ++ (small u1 3 ∷ skip_where Test.NotEqual a0 u1 (raised C.Endfile endfile_code ++ JumpAhead behind ∷ []))
+
+-- the field as a number in a0, or as the top text
+abbrev pub number_got : T.Formats → Code
+number_got formats = by_item formats (tested_service 36) (service 37 ++ (small a0 0 ∷ tested_service 26))
+
+abbrev pub text_got : T.Formats → Code
+text_got formats = by_item formats (tested_service 36 ++ as_text operator_precision) (service 37)
+
+abbrev pub bit_got : Code
+bit_got = service 37 ++ (small a0 1 ∷ tested_service 26)
+
+-- a field is converted before its target is reached
+abbrev pub field_stored : Environment → Taken → T.Formats → Y.Reference → Y.LeafType → Code
+field_stored e t formats r (Y.FixedLeaf p) = number_got formats ++ (fitted_code t p ++ word_stored e t r)
+field_stored e t formats r (Y.CharacterLeaf x) = text_got formats ++ top_stored e t r
+field_stored e t formats r (Y.VaryingLeaf x) = text_got formats ++ top_stored e t r
+field_stored e t formats r Y.BitLeaf = bit_got ++ word_stored e t r
+field_stored e t formats r _ = []
+
+abbrev pub awaited_before : (code : Code) → (behind : ℕ) → Code
+awaited_before code behind = field_awaited (size_of code + behind) ++ code
+
+-- ---- GET of an aggregate
+
+-- a number of the precision that waits at t
+abbrev pub number_narrowed : Taken → Code
+number_narrowed t =
+    fetch u2 t
+    ++ (small u1 operator_precision
+    ∷ subtract u2 u1 u2
+    ∷ registers Op.ShiftLeft u1 a0 u2
+    ∷ registers Op.ShiftRightArithmetic u1 u1 u2
+    ∷ skip_where Test.Equal u1 a0 (move a0 u1 ∷ overflow_raised (with_number t)))
+
+-- what is next waits at t; the precision, and then the number, behind it
+abbrev pub fixed_element_got : Environment → Elements → (t : Taken) → T.Formats → Y.Reference → Code
+fixed_element_got e l t formats r =
+    load_word u2 frame_register buffer_size
+    ++ (save u2 (with_number t)
+    ++ (fetch a0 t
+    ++ (number_got formats
+    ++ (number_narrowed (with_number t)
+    ++ (save a0 (with_number t) ++ (element_found e l r ++ fixed_stored (with_number t)))))))
+
+abbrev pub bit_element_got : Environment → Elements → (t : Taken) → Y.Reference → Code
+bit_element_got e l t r =
+    bit_got
+    ++ (save a0 t
+    ++ (element_found e l r ++ (element_addressed ++ (fetch a0 t ++ Plain (I.Store Store.Byte u3 a0 (pos 0)) ∷ []))))
+
+abbrev pub text_element_got : Environment → Elements → (t : Taken) → T.Formats → Y.Reference → Code
+text_element_got e l t formats r =
+    fetch a0 t ++ (text_got formats ++ (element_found e l r ++ (text_described ++ service 27)))
+
+abbrev pub element_got : Environment → Elements → T.Formats → Y.Reference → Code
+element_got e l formats r =
+    save a0 (free_in l)
+    ++ (element_described e l r
+    ++ by_kinds_of e r
+    (fixed_element_got e l (free_in l) formats r)
+    (bit_element_got e l (free_in l) r)
+    (text_element_got e l (free_in l) formats r))
+
+abbrev pub elements_got : Environment → Elements → T.Formats → Y.Reference → (behind : ℕ) → Code
+elements_got e l formats r behind =
+    record_code e l.taken r
+    ++ (elements_counted e l r
+    ++ for_elements l (awaited_before (element_got e l formats r) (size_of (next_counted l) + (2 + behind))))
+
+abbrev pub item_got : Environment → Taken → T.Formats → Y.GetItem → (behind : ℕ) → Code
+item_got e t formats (Y.GetScalar r) behind = awaited_before (field_stored e t formats r (type_in e r)) behind
+item_got e t formats (Y.GetAggregate r) behind = elements_got e (elements_of t r) formats r behind
+
+abbrev pub items_got : Environment → Taken → T.Formats → (behind : ℕ) → List Y.GetItem → Code
+items_got e t formats behind [] = []
+items_got e t formats behind (i ∷ is) =
+    item_got e t formats i (size_of (items_got e t formats behind is) + behind) ++ items_got e t formats behind is
+
+-- behind a pair's own end
+abbrev pub get_pair : Environment → Taken → Y.GetPair → (behind : ℕ) → Code
+get_pair e t p behind =
+    edit_begun p.formats 0 ++ (items_got e t p.formats (size_of edit_ended + behind) p.items ++ edit_ended)
+
+-- behind the pairs two words lead past the exit
+abbrev pub get_pairs : Environment → Taken → List Y.GetPair → Code
+get_pairs e t [] = JumpAhead (size_of edit_ended) ∷ []
+get_pairs e t (p ∷ ps) = get_pair e t p (size_of (get_pairs e t ps)) ++ get_pairs e t ps
+
+abbrev pub get_code : Environment → Taken → Option ℕ → List Y.GetPair → Code
+get_code e t skip pairs = skip_option 0 skip ++ (get_pairs e t pairs ++ edit_ended)
+
+-- ---- words that these take
+
+abbrev pub value_words : Y.Value → ℕ
+value_words (Y.NumberValue precision x) = max 1 (number_words x)
+value_words (Y.TextValue x) = text_words x
+value_words (Y.BitValue x) = max 1 (bit_words x)
+value_words _ = 0
+
+-- a record, the two numbers, and up to three that wait
+abbrev pub elements_words : Y.Reference → ℕ
+elements_words r = max (aggregate_words r) (words_behind_record r + 5)
+
+abbrev pub put_item_words : Y.PutItem → ℕ
+put_item_words (Y.PutValue v) = value_words v
+put_item_words (Y.PutAggregate r) = elements_words r
+
+abbrev pub put_items_words : List Y.PutItem → ℕ
+put_items_words [] = 0
+put_items_words (i ∷ is) = max (put_item_words i) (put_items_words is)
+
+abbrev pub put_words : List Y.PutPair → ℕ
+put_words [] = 0
+put_words (p ∷ ps) = max (put_items_words p.items) (put_words ps)
+
+abbrev pub get_item_words : Y.GetItem → ℕ
+get_item_words (Y.GetScalar r) = suc (reference_words r)
+get_item_words (Y.GetAggregate r) = elements_words r
+
+abbrev pub get_items_words : List Y.GetItem → ℕ
+get_items_words [] = 0
+get_items_words (i ∷ is) = max (get_item_words i) (get_items_words is)
+
+abbrev pub get_words : List Y.GetPair → ℕ
+get_words [] = 0
+get_words (p ∷ ps) = max (get_items_words p.items) (get_words ps)

@@ -1,0 +1,2 @@
+// The code of the whole language, as definitions.
+#![tactic(auto)]
