@@ -11,20 +11,36 @@ use std::process::Abort;
 
 const PLACE: Place = Place { at: 96, len: 8 };
 
+fn enter<R: Abort>(rt: &R, roots: &mut Roots, owner: u32, wanted: u64) -> Result<(), GenFault> {
+    let serial = if owner == 0 {
+        roots.enter(PLACE, 5)?
+    } else {
+        roots.enter_owned(PLACE, 5, owner)?
+    };
+    assert!(rt; serial == wanted);
+    Ok(())
+}
+
+fn lives<R: Abort>(rt: &R, roots: &Roots, serial: u64, wanted: bool) {
+    assert!(rt; roots.root(serial).is_some() == wanted);
+    assert!(rt; roots.resolve(serial, 5).is_ok() == wanted);
+    assert!(rt; roots.resolve(serial, 6).is_err());
+}
+
 #[test]
 fn serials_are_given_once(rt: HostRuntime) -> Result<(), GenFault> {
     let mut roots = Roots::new(rt.alloc());
-    assert_eq!(rt; roots.enter(PLACE, 5)?, 1);
-    assert_eq!(rt; roots.resolve(1, 5), Ok(PLACE));
-    assert_eq!(rt; roots.resolve(1, 6), Err(GenFault::Dead));
+    enter(&rt, &mut roots, 0, 1)?;
+    lives(&rt, &roots, 1, true);
     roots.leave(1);
-    assert_eq!(rt; roots.resolve(1, 5), Err(GenFault::Dead));
-    assert_eq!(rt; roots.enter(PLACE, 5)?, 2);
-    assert_eq!(rt; roots.enter_owned(PLACE, 5, 1)?, 3);
-    assert_eq!(rt; roots.enter_owned(PLACE, 5, 2)?, 4);
+    lives(&rt, &roots, 1, false);
+    enter(&rt, &mut roots, 0, 2)?;
+    enter(&rt, &mut roots, 1, 3)?;
+    enter(&rt, &mut roots, 2, 4)?;
     roots.leave_above(1);
-    assert!(rt; roots.root(2).is_some() && roots.root(3).is_some());
-    assert!(rt; roots.root(4).is_none());
+    lives(&rt, &roots, 2, true);
+    lives(&rt, &roots, 3, true);
+    lives(&rt, &roots, 4, false);
     Ok(())
 }
 
@@ -37,35 +53,49 @@ fn push<R: Abort>(rt: &R, controlled: &mut Controlled, heap: &mut [u8]) -> Resul
     controlled.push::<Chain>(heap, 1, 16, 5)
 }
 
-fn pop<R: Abort>(rt: &R, controlled: &mut Controlled, heap: &mut [u8]) -> Result<(), GenFault>
+fn pop<R: Abort>(rt: &R, controlled: &mut Controlled, heap: &mut [u8], works: bool)
     requires { 2 ≤ length controlled.old }
     ensures { 2 ≤ length controlled.new }
 {
     assert!(rt; Chain::open(heap).is_ok());
-    controlled.pop::<Chain>(heap, 1)
+    assert!(rt; controlled.pop::<Chain>(heap, 1).is_ok() == works);
+}
+
+fn newest<R: Abort>(rt: &R, controlled: &Controlled, count: u64, offset: u32)
+    requires { 2 ≤ length controlled.now }
+{
+    assert!(rt; controlled.count(1) == count);
+    match controlled.top(1) {
+        Ok((at, signature)) => assert!(rt; at == offset && signature == 5),
+        Err(_) => assert!(rt; count == 0),
+    }
+}
+
+fn push_and_pop<R: Abort>(
+    rt: &R,
+    controlled: &mut Controlled,
+    heap: &mut [u8],
+) -> Result<(), GenFault>
+    requires { 2 ≤ length controlled.old }
+{
+    newest(rt, controlled, 0, 0);
+    push(rt, controlled, heap)?;
+    let second = push(rt, controlled, heap)?;
+    newest(rt, controlled, 2, second);
+    assert!(rt; push(rt, controlled, heap).is_err());
+    pop(rt, controlled, heap, true);
+    newest(rt, controlled, 1, 0);
+    assert!(rt; Chain::open(heap).is_ok());
+    Chain::empty(heap);
+    pop(rt, controlled, heap, false);
+    newest(rt, controlled, 1, 0);
+    Ok(())
 }
 
 #[test]
 fn generations_are_pushed_and_popped(rt: HostRuntime) -> Result<(), GenFault> {
     let mut heap = [0; 80];
-    let heap = heap.as_mut_slice();
-    Chain::make(heap, 64);
+    Chain::make(&mut heap, 64);
     let mut controlled = Controlled::new(rt.alloc(), 2)?;
-    assert_eq!(rt; controlled.top(1), Err(GenFault::NoGeneration));
-    assert_eq!(rt; push(&rt, &mut controlled, heap)?, 0);
-    assert_eq!(rt; push(&rt, &mut controlled, heap)?, 32);
-    assert_eq!(rt; push(&rt, &mut controlled, heap), Err(GenFault::HeapFull));
-    assert_eq!(rt; controlled.count(1), 2);
-    assert_eq!(rt; controlled.top(1), Ok((32, 5)));
-    assert_eq!(rt; pop(&rt, &mut controlled, heap), Ok(()));
-    assert_eq!(rt; controlled.top(1), Ok((0, 5)));
-    assert!(rt; Chain::open(heap).is_ok());
-    Chain::empty(heap);
-    assert_eq!(rt;
-        pop(&rt, &mut controlled, heap),
-        Err(GenFault::NoGeneration)
-    );
-    assert_eq!(rt; controlled.count(1), 1);
-    assert_eq!(rt; controlled.count(0), 0);
-    Ok(())
+    push_and_pop(&rt, &mut controlled, &mut heap)
 }
