@@ -8,3 +8,5 @@ mod StreamRuns
 mod StorageRuns
 mod AreaRuns
 mod FormRuns
+mod ArraysApart
+mod UnitKinds
