@@ -21,7 +21,7 @@ use Rattle.pli_coding.specs.Locating.{leaf_resolved, located}
 use Rattle.pli_coding.specs.Expressions.{number_code, text_code}
 use Rattle.pli_coding.specs.Temporaries.{number_words}
 use Rattle.pli_coding.specs.Images.{environment_of, code_of, blocks_of}
-use Rattle.pli_coding.proofs.RowPieces.{automatic, parameter, whole, scalar, bounds, initial, leaf, member, declared, head, procedure, program}
+use Rattle.pli_coding.proofs.RowPieces.{part, automatic, parameter, whole, scalar, bounds, initial, leaf, member, declared, head, procedure, program}
 
 abbrev parts : MemoryParts
 parts = record { stack_start = 4096; stack_end = 8192; area_bytes = chain.bytes_for }
@@ -136,6 +136,15 @@ sum_is_tested :
     ∷ [])
 sum_is_tested = refl
 
+abbrev first_of : Code → Code
+first_of [] = []
+first_of (i ∷ is) = i ∷ []
+
+left_operand_comes_first :
+    first_of (number_code (within 1 0) none_taken (Y.Calculated Y.Difference (number 5) (number 3)))
+    ≡ (Plain (I.Immediate Imm.Add R.a0 R.zero_register (pos 5)) ∷ [])
+left_operand_comes_first = refl
+
 abbrev number_in : Y.Variable → Y.Number
 number_in v = Y.NumberIn (whole v)
 
@@ -160,6 +169,21 @@ status_is_tested :
     last_three (leaf_resolved (within 2 1) (located (within 2 1) none_taken (parameter 2 1 0)) 0 false)
     ≡ (Plain I.Ecall ∷ Plain (I.Branch Test.Equal R.a1 R.zero_register (pos 12)) ∷ JumpTo RaiseError ∷ [])
 status_is_tested = refl
+
+-- ---- subscripts
+
+abbrev errors_in : Code → ℕ
+errors_in [] = 0
+errors_in (JumpTo RaiseError ∷ is) = 1 + errors_in is
+errors_in (i ∷ is) = errors_in is
+
+-- an element of two dimensions is tested twice
+subscripts_are_tested :
+    errors_in
+    (number_code (within 1 0) none_taken
+    (Y.NumberIn (Y.Referring (automatic 1 0 1) Y.NotLocated (part 0 1) (Y.NumberThen (number 1) (Y.NumberThen (number 2) Y.NoNumber)))))
+    ≡ 2
+subscripts_are_tested = refl
 
 -- ---- static data
 

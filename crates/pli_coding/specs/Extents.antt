@@ -5,7 +5,6 @@ use Rattle.rv_meaning.specs.declared.instr.Register.{Register}
 use Rattle.rv_meaning.specs.declared.instr.ImmediateOp.TheVariants as Imm
 use Rattle.rv_meaning.specs.declared.instr.ShiftOp.TheVariants as Shift
 use Rattle.rv_meaning.specs.declared.instr.BranchTest.TheVariants as Test
-use Rattle.pli_typing.specs.Signatures.{natural}
 use Rattle.pli_typing.specs.TypedTree as Y
 use Rattle.pli_meaning.specs.Codes.{extent_code}
 use Rattle.pli_meaning.specs.Numbers.{operator_precision}
@@ -13,7 +12,7 @@ use Rattle.pli_meaning.specs.Texts.{most_text}
 use Rattle.pli_coding.specs.Registers.{zero_register, frame_register, a0, a1, a2, a3, u1}
 use Rattle.pli_coding.specs.Assembly.{Datum, DataPlace, OffsetOf, Code}
 use Rattle.pli_coding.specs.Instructions.{immediate, shift, move, small, constant, number, load_word, store_word, skip_where, service, error_raised}
-use Rattle.pli_coding.specs.Frames.{greatest_area, words_place}
+use Rattle.pli_coding.specs.Frames.{greatest_area, capacity_of, words_place}
 use Rattle.pli_coding.specs.StaticForms.{size_datum, bounds_datum, same_extent, initial_datum}
 use Rattle.pli_coding.specs.Environments.{Environment, Taken, with_words}
 use Rattle.pli_coding.specs.Locating.{table_number}
@@ -94,7 +93,7 @@ evaluations_code e t d place (x ∷ xs) =
 -- a constant size that the table can't tell
 abbrev pub constant_filled : Taken → List Y.Leaf → Y.LeafType → Code
 constant_filled t leaves (Y.AreaLeaf (Y.ConstantExtent z)) =
-    if nat_lt greatest_area (natural z)
+    if nat_lt greatest_area (capacity_of z)
     then constant a3 z ++ filled_in t (size_datum (Y.ConstantExtent z) leaves)
     else []
 constant_filled t leaves _ = []

@@ -1,6 +1,6 @@
 -- Where a block's frame has what, in bytes from the frame's address: temporaries below it; above it what is saved, the display,
 -- the parameters, and then one variable after the other.
-use Rattle.std.specs.Prelude.{ℕ, zero, suc, ◌+◌, ◌*◌, ◌^◌, ◌-◌, ℤ, pos, neg_ℤ, Bool, true, false, ◌&&◌, min, List, [], ◌∷◌, length, Option, Some, None, if◌then◌else◌}
+use Rattle.std.specs.Prelude.{ℕ, zero, suc, ◌+◌, ◌*◌, ◌^◌, ◌-◌, ℤ, pos, neg_ℤ, Bool, true, false, ◌&&◌, nat_le, min, List, [], ◌∷◌, length, Option, Some, None, if◌then◌else◌}
 use Rattle.std.specs.List.{list_all}
 use Rattle.pli_typing.specs.Signatures.{rounded_up, rounded_down, data_size, natural}
 use Rattle.pli_typing.specs.TypedTree as Y
@@ -74,7 +74,7 @@ fixed_size level parameters = rounded_up 16 (parameter_place level parameters)
 
 -- ---- variables
 
--- a size that doesn't fit the largest area is filled in when the program runs
+-- the table tells no greater capacity: it is filled in when the program runs
 abbrev pub greatest_area : ℕ
 greatest_area = 2 ^ 20
 
@@ -82,10 +82,18 @@ abbrev pub is_constant : Y.Extent → Bool
 is_constant (Y.ConstantExtent z) = true
 is_constant _ = false
 
+-- what an AREA of a size holds
+abbrev pub capacity_of : ℤ → ℕ
+capacity_of z = rounded_down 16 (natural z)
+
+abbrev pub is_constant_area : Y.Extent → Bool
+is_constant_area (Y.ConstantExtent z) = nat_le (capacity_of z) greatest_area
+is_constant_area _ = false
+
 abbrev pub is_constant_type : Y.LeafType → Bool
 is_constant_type (Y.CharacterLeaf e) = is_constant e
 is_constant_type (Y.VaryingLeaf e) = is_constant e
-is_constant_type (Y.AreaLeaf e) = is_constant e
+is_constant_type (Y.AreaLeaf e) = is_constant_area e
 is_constant_type _ = true
 
 abbrev pub are_constant : Y.Bounds → Bool
@@ -100,7 +108,7 @@ has_constant_size d = list_all is_constant_leaf d.leaves
 
 -- an area with what its keeper adds
 abbrev pub area_size : MemoryParts → Y.Extent → ℕ
-area_size parts (Y.ConstantExtent z) = parts.area_bytes (rounded_down 16 (natural z))
+area_size parts (Y.ConstantExtent z) = parts.area_bytes (capacity_of z)
 area_size parts _ = 0
 
 abbrev pub size_of_leaves : MemoryParts → Y.DeclaredVariable → List Y.Leaf → ℕ

@@ -6,9 +6,9 @@ use Rattle.rv_meaning.specs.declared.image.TableKind.TheVariants as K
 use Rattle.rv_meaning.specs.Words.{word}
 use Rattle.rv_meaning.specs.Tables.{Pair, TableLeaf, TableSignature, run_time_size, is_run_time, signature_words}
 use Rattle.pli_language.specs.Keywords.{same_bytes}
-use Rattle.pli_typing.specs.Signatures.{natural, rounded_down}
+use Rattle.pli_typing.specs.Signatures.{natural}
 use Rattle.pli_typing.specs.TypedTree as Y
-use Rattle.pli_coding.specs.Frames.{greatest_area}
+use Rattle.pli_coding.specs.Frames.{greatest_area, capacity_of}
 
 -- ---- one signature
 
@@ -26,7 +26,7 @@ length_size _ = run_time_size
 
 abbrev pub capacity_size : Y.Extent → ℕ
 capacity_size (Y.ConstantExtent z) =
-    if nat_le (rounded_down 16 (natural z)) greatest_area then rounded_down 16 (natural z) else run_time_size
+    if nat_le (capacity_of z) greatest_area then capacity_of z else run_time_size
 capacity_size _ = run_time_size
 
 abbrev pub leaf_with : List Y.Bounds → TableKind → (size : ℕ) → TableLeaf

@@ -5,8 +5,8 @@ use Rattle.pli_language.specs.declared.condition.Condition.TheVariants as C
 use Rattle.pli_meaning.specs.declared.outcome.End.TheVariants as E
 use Rattle.pli_language.specs.Tree as T
 use Rattle.pli_typing.specs.TypedTree as Y
-use Rattle.pli_coding.proofs.RowPieces.{place, automatic, based, whole, located, plain, scalar, part, bounds, initial, leaf, evaluation, refer, member, declared, head, put_pair, procedure, program}
-use Rattle.pli_coding.proofs.Running.{fitted, run_of, Shows}
+use Rattle.coding_runs.proofs.RowPieces.{place, automatic, based, whole, located, plain, scalar, part, bounds, initial, leaf, evaluation, refer, member, declared, head, put_pair, procedure, program}
+use Rattle.coding_runs.proofs.Running.{fitted, run_of, Shows}
 
 -- T: PROC OPTIONS(MAIN);
 -- DCL P PTR, X FIXED BIN(31) BASED; BEGIN; DCL A AREA(64); ALLOCATE X IN(A) SET(P); END;

@@ -5,8 +5,8 @@ use Rattle.pli_language.specs.declared.condition.Condition.TheVariants as C
 use Rattle.pli_meaning.specs.declared.outcome.End.TheVariants as E
 use Rattle.pli_language.specs.Tree as T
 use Rattle.pli_typing.specs.TypedTree as Y
-use Rattle.pli_coding.proofs.RowPieces.{place, automatic, whole, scalar, part, bounds, initial, leaf, member, declared, head, get_pair, put_pair, procedure, program}
-use Rattle.pli_coding.proofs.Running.{fitted, run_of, Shows}
+use Rattle.coding_runs.proofs.RowPieces.{place, automatic, whole, scalar, part, bounds, initial, leaf, member, declared, head, get_pair, put_pair, procedure, program}
+use Rattle.coding_runs.proofs.Running.{fitted, run_of, Shows}
 
 -- T: PROC OPTIONS(MAIN);
 -- DCL A FIXED BIN(31) INIT(1), IF(2) FIXED BIN(31); IF (A) = 1 THEN PUT EDIT ('Y') (A); IF (1) = 7; PUT EDIT (IF) (F(3));

@@ -7,8 +7,8 @@ use Rattle.pli_meaning.specs.declared.outcome.Limit.TheVariants as L
 use Rattle.pli_typing.specs.TypedTree.{Negative}
 use Rattle.pli_language.specs.Tree as T
 use Rattle.pli_typing.specs.TypedTree as Y
-use Rattle.pli_coding.proofs.RowPieces.{place, automatic, parameter, whole, plain, scalar, part, bounds, initial, leaf, evaluation, member, declared, head, put_pair, procedure, program}
-use Rattle.pli_coding.proofs.Running.{fitted, run_of, Shows}
+use Rattle.coding_runs.proofs.RowPieces.{place, automatic, parameter, whole, plain, scalar, part, bounds, initial, leaf, evaluation, member, declared, head, put_pair, procedure, program}
+use Rattle.coding_runs.proofs.Running.{fitted, run_of, Shows}
 
 -- T: PROC OPTIONS(MAIN);
 -- CALL P(3); P: PROC(N); DCL N FIXED BIN(31), A(N) FIXED BIN(31); A = 7; A(2) = 1; PUT EDIT (A) (F(2)); END P;

@@ -2,7 +2,7 @@
 use Rattle.std.proofs.Common.{ℕ, pos, List, [], ◌∷◌, map, None}
 use Rattle.pli_language.specs.Tree as T
 use Rattle.pli_typing.specs.TypedTree as Y
-use Rattle.pli_coding.proofs.RowPieces.{place, whole, part, put_pair, get_pair, head, bounds}
+use Rattle.coding_runs.proofs.RowPieces.{place, whole, part, put_pair, get_pair, head, bounds}
 
 abbrev pub n : ℕ → Y.Number
 n value = Y.NumberConstant value

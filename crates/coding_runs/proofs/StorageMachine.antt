@@ -9,7 +9,7 @@ use Rattle.pli_meaning.specs.Making as K
 use Rattle.pli_meaning.specs.Placing as A
 use Rattle.pli_meaning.specs.Streaming as S
 use Rattle.pli_meaning.specs.Executing as M
-use Rattle.pli_coding.proofs.Running.{shown_in, Seen, Shows, Fails}
+use Rattle.coding_runs.proofs.Running.{shown_in, Seen, Shows, Fails}
 
 abbrev seen_in : Option World → Seen
 seen_in None = Fails 0

@@ -6,8 +6,8 @@ use Rattle.pli_meaning.specs.declared.outcome.End.TheVariants as E
 use Rattle.pli_typing.specs.TypedTree.{Negative}
 use Rattle.pli_language.specs.Tree as T
 use Rattle.pli_typing.specs.TypedTree as Y
-use Rattle.pli_coding.proofs.RowPieces.{place, automatic, whole, scalar, head, put_pair, procedure, program}
-use Rattle.pli_coding.proofs.Running.{fitted, run_of, Shows}
+use Rattle.coding_runs.proofs.RowPieces.{place, automatic, whole, scalar, head, put_pair, procedure, program}
+use Rattle.coding_runs.proofs.Running.{fitted, run_of, Shows}
 
 -- T: PROC OPTIONS(MAIN);
 -- DCL X FIXED BIN(31); ON ZERODIVIDE PUT EDIT (1) (F(2)); CALL Q; L: X = 1 / 0; STOP; Q: PROC; ON ZERODIVIDE PUT EDIT (2)

@@ -4,10 +4,10 @@ use lib.Chars.{codes}
 use Rattle.pli_language.specs.declared.condition.Condition.TheVariants as C
 use Rattle.pli_language.specs.Tree as T
 use Rattle.pli_typing.specs.TypedTree as Y
-use Rattle.pli_coding.proofs.RowPieces.{automatic, static, whole, scalar, initial, leaf, member, declared, head, procedure, program}
-use Rattle.pli_coding.proofs.FormPieces.{n, minus, text, num, txt, bit, numbers, const, line, list, set, set_text, set_bit, format_then, fixed, any, put_with, number_item, text_item, bit_item, put_numbers, put_texts, simple_unit}
-use Rattle.pli_coding.proofs.Running.{fitted, run_of}
-use Rattle.pli_coding.proofs.StorageMachine.{machine_shows, computing}
+use Rattle.coding_runs.proofs.RowPieces.{automatic, static, whole, scalar, initial, leaf, member, declared, head, procedure, program}
+use Rattle.coding_runs.proofs.FormPieces.{n, minus, text, num, txt, bit, numbers, const, line, list, set, set_text, set_bit, format_then, fixed, any, put_with, number_item, text_item, bit_item, put_numbers, put_texts, simple_unit}
+use Rattle.coding_runs.proofs.Running.{fitted, run_of}
+use Rattle.coding_runs.proofs.StorageMachine.{machine_shows, computing}
 
 abbrev main : List Y.Stmt → Y.Procedure
 main statements = procedure (Y.BlockOf (head Y.ProcedureBlock 1 0 1) (list statements)) [] None
@@ -95,3 +95,12 @@ texts_program =
 texts_agree : run_of (fitted texts_program 1024 64) 20000 texts_program [] ≡ machine_shows texts_program []
 unfolding computing
 texts_agree = refl
+
+-- ---- an area that no limit lets be: its capacity is filled in first
+
+abbrev large_area : Y.Program
+large_area = program ([] ∷ (scalar Y.AutomaticClass (Y.AreaLeaf (const 2000000)) ∷ []) ∷ []) (main [] ∷ [])
+
+large_area_agrees : run_of (fitted large_area 512 64) 20000 large_area [] ≡ machine_shows large_area []
+unfolding computing
+large_area_agrees = refl

@@ -5,8 +5,8 @@ use Rattle.pli_language.specs.declared.condition.Condition.TheVariants as C
 use Rattle.pli_meaning.specs.declared.outcome.End.TheVariants as E
 use Rattle.pli_language.specs.Tree as T
 use Rattle.pli_typing.specs.TypedTree as Y
-use Rattle.pli_coding.proofs.RowPieces.{place, automatic, parameter, based, controlled, whole, located, scalar, bounds, initial, leaf, evaluation, member, declared, head, put_pair, procedure, program}
-use Rattle.pli_coding.proofs.Running.{fitted, run_of, Shows}
+use Rattle.coding_runs.proofs.RowPieces.{place, automatic, parameter, based, controlled, whole, located, scalar, bounds, initial, leaf, evaluation, member, declared, head, put_pair, procedure, program}
+use Rattle.coding_runs.proofs.Running.{fitted, run_of, Shows}
 
 -- T: PROC OPTIONS(MAIN);
 -- DCL N FIXED BIN(31) INIT(2), C(N) FIXED BIN(31) CTL; ALLOCATE C; N = 3; ALLOCATE C; PUT EDIT (HBOUND(C,1)) (F(2)); FREE C;

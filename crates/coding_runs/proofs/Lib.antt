@@ -1,0 +1,12 @@
+pub mod RowPieces
+pub mod FormPieces
+pub mod Running
+pub mod StorageMachine
+mod BlockRuns
+mod ConditionRuns
+mod StreamRuns
+mod StorageRuns
+mod AreaRuns
+mod FormRuns
+mod ArraysApart
+mod UnitKinds

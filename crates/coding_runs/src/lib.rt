@@ -1,0 +1,2 @@
+// Worked programs whose images run in the checker.
+#![tactic(auto)]
