@@ -10,3 +10,7 @@ mod AreaRuns
 mod FormRuns
 mod ArraysApart
 mod UnitKinds
+mod TurnKinds
+mod BlocksLeft
+mod AreaKinds
+mod OffsetKinds
