@@ -1,0 +1,5 @@
+// The signatures of a run by their numbers: those of the image's table, and those that the run fills in.
+#![tactic(auto)]
+
+mod reading;
+pub mod signatures;
