@@ -1,3 +1,6 @@
 pub mod Lists
 pub mod Readings
 pub mod Tables
+pub mod Fillings
+pub mod Equals
+pub mod Numbers
