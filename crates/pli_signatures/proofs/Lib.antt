@@ -4,3 +4,5 @@ pub mod Tables
 pub mod Fillings
 pub mod Equals
 pub mod Numbers
+pub mod Capping
+pub mod Wholes

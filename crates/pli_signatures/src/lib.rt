@@ -2,7 +2,11 @@
 #![tactic(auto)]
 
 mod copying;
-pub mod equality;
+pub mod element;
+mod equality;
 pub mod filling;
+mod in_force;
 mod reading;
 pub mod signatures;
+mod size;
+mod whole;
