@@ -10,3 +10,5 @@ mod reading;
 pub mod signatures;
 mod size;
 mod whole;
+#[cfg(test)]
+mod tests;
