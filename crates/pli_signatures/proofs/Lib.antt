@@ -6,3 +6,4 @@ pub mod Equals
 pub mod Numbers
 pub mod Capping
 pub mod Wholes
+pub mod Told

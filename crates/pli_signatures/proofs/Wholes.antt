@@ -111,10 +111,10 @@ refer_out : (z : ℤ) (refer : Option ℕ) (ls : List S.Leaf) (leaf : ℕ) → l
 refer_out z None ls leaf h = out_of ls leaf h
 refer_out z (Some m) ls leaf h = let n = last_length z ls in out_of (last_refers z ls) leaf (omega (arith, n, h))
 
-abbrev so_far_of : Leaf → S.Leaf
+abbrev pub so_far_of : Leaf → S.Leaf
 so_far_of l = leaf_so_far (leaf_of l)
 
-abbrev all_so_far : List Leaf → List S.Leaf
+abbrev pub all_so_far : List Leaf → List S.Leaf
 all_so_far ls = map leaf_so_far (map leaf_of ls)
 
 so_far_length : (ls : List Leaf) → length (all_so_far ls) ≡ length ls

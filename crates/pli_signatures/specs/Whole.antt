@@ -1,10 +1,9 @@
 -- Signatures of which no extent is open: whether one is, and its leaves with the REFER extent in force.
 use Rattle.std.specs.Prelude.{ℕ, ◌+◌, ℤ, Bool, true, false, ◌&&◌, ◌==◌, nat_lt, List, [], ◌∷◌, length, Option, Some, None, is_some, slice_get, option_map, if◌then◌else◌}
-use Rattle.pli_typing.specs.Signatures.{Bounds, Leaf, capped, leaves_size, footprint, data_size}
+use Rattle.pli_typing.specs.Signatures.{Bounds, Leaf, capped, data_size}
 use Rattle.pli_types.specs.Templates.{OpenKind, OpenFixed, OpenCharacter, OpenVarying, OpenArea, OpenBit, OpenPointer, OpenOffset, OpenLeaf, Template, so_far}
-use Rattle.pli_meaning.specs.Contents.{Shape, leaf_refers, leaves_with}
+use Rattle.pli_meaning.specs.Contents.{Shape, leaf_refers, leaves_with, signature_of, footprint_of, fresh}
 use Rattle.pli_serving.specs.Arguments.{capacity_of}
-use Rattle.pli_serving.specs.Making.{footprint_of_shape}
 use Rattle.pli_serving.specs.Values.{leaf_place}
 
 abbrev pub is_known_kind : OpenKind → Bool
@@ -60,3 +59,18 @@ size_in (Some s) = Some (capped (data_size s.signature))
 abbrev pub capacity_in : Option Shape → Option ℕ
 capacity_in None = None
 capacity_in (Some s) = capacity_of s
+
+-- the data size with the REFER extent in force, capped
+abbrev pub size_told : Option Shape → (extent : ℤ) → Option ℕ
+size_told None z = None
+size_told (Some s) z = Some (capped (data_size (signature_of (fresh s z []))))
+
+-- the bytes that a generation with this REFER extent takes in an area, capped
+abbrev pub footprint_told : Option Shape → (extent : ℤ) → Option ℕ
+footprint_told None z = None
+footprint_told (Some s) z = Some (capped (footprint_of (fresh s z [])))
+
+-- bounds with this upper bound in the first dimension
+abbrev pub bounds_told : ℤ → List Bounds → List Bounds
+bounds_told z [] = []
+bounds_told z (b ∷ bs) = record { lower = b.lower; upper = z } ∷ bs

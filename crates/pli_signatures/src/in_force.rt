@@ -8,14 +8,14 @@ ghost use Rattle.pli_serving.specs.Arguments.{capacity_of_kind, capacity_of};
 ghost use Rattle.pli_meaning.specs.Contents.{leaves_with};
 ghost use Rattle.pli_serving.specs.Templates.{shape_at};
 ghost use Rattle.pli_signatures.specs.View.{leaf_in_force};
-ghost use Rattle.pli_signatures.specs.Whole.{shape_so_far, extent_told, leaf_in, place_in, size_in, capacity_in};
+ghost use Rattle.pli_signatures.specs.Whole.{shape_so_far, extent_told, leaf_in, place_in, size_in, capacity_in, size_told, footprint_told};
 
 use crate::element::LeafInForce;
 use crate::signatures::Signatures;
-use crate::size::leaves_size;
+use crate::size::{last_told_size, leaves_size};
 use crate::whole::{is_whole, leaf_told};
 use pli_types::signature::{LeafKind, Signature};
-use pli_types::size::size_of;
+use pli_types::size::{footprint, size_of};
 use std::alloc::{AllocError, Global};
 
 /// The extent, where REFER tells it of this leaf of so many: of the last one.
@@ -73,6 +73,15 @@ fn capacity_of(signature: &Signature) -> Option<u32>
         return None;
     }
     capacity_of_kind(signature.leaves[0].kind)
+}
+
+fn size_with(signature: &Signature, extent: i32) -> u64
+    ensures { result ≡ capped (leaves_size (leaves_with extent (shape_so_far (template_of signature.now)))) }
+{
+    match signature.refer {
+        Some(_) => last_told_size(&signature.leaves, extent),
+        None => leaves_size(&signature.leaves),
+    }
 }
 
 impl Signatures {
@@ -143,6 +152,27 @@ impl Signatures {
     {
         match self.whole(number) {
             Some(signature) => capacity_of(signature),
+            None => None,
+        }
+    }
+
+    /// The data size of a generation with this REFER extent, in bytes; `u64::MAX` where it is more.
+    pub fn size_with(&self, number: u32, extent: i32) -> Option<u64>
+        ensures { result ≡ size_told (shape_at self.now number) extent }
+    {
+        match self.whole(number) {
+            Some(signature) => Some(size_with(signature, extent)),
+            None => None,
+        }
+    }
+
+    /// The bytes that a generation with this REFER extent takes in an area; `u64::MAX` where they are more.
+    #[tactic(auto, using(crate::proofs::Told::footprint_capped))]
+    pub fn footprint(&self, number: u32, extent: i32) -> Option<u64>
+        ensures { result ≡ footprint_told (shape_at self.now number) extent }
+    {
+        match self.whole(number) {
+            Some(signature) => Some(footprint(size_with(signature, extent))),
             None => None,
         }
     }

@@ -46,6 +46,7 @@ fn a_signature_is_filled_in(rt: HostRuntime) -> Result<(), Fail> {
     assert_eq!(rt; signatures.leaf_place(3, 1), Some(12));
     assert_eq!(rt; signatures.data_size(3), Some(60));
     assert_eq!(rt; signatures.capacity(3), None);
+    assert!(rt; signatures.size_with(1, 5) == Some(24) && signatures.footprint(1, 5) == Some(48));
     Ok(())
 }
 
