@@ -1,11 +1,10 @@
 -- Lists are compared item by item.
-use Rattle.std.proofs.Common.{◌≡◌, ◌≢◌, ℕ, zero, suc, ◌+◌, ◌<◌, ◌≤◌, List, [], ◌∷◌, length, map, drop, get_or, Bool, true, false, Option, None, refl, ap, sym, ◌∙◌, arith}
+use Rattle.std.proofs.Common.{◌≡◌, ◌≢◌, ℕ, suc, ◌+◌, ◌<◌, ◌≤◌, List, [], ◌∷◌, length, map, drop, get_or, Bool, true, false, Option, None, refl, ap, sym, ◌∙◌, arith}
 use Rattle.std.specs.Prelude.{◌&&◌}
 use Rattle.std.proofs.lemmas.List.{at_drop_more, drop_all}
 use Rattle.pli_types.specs.declared.signature.Bounds.{Bounds}
 use Rattle.pli_types.specs.declared.signature.Leaf.{Leaf}
 use Rattle.pli_types.specs.View.{bounds_of, leaf_of}
-use Rattle.pli_types.specs.Templates as O
 use Rattle.pli_serving.specs.SignatureService.{same_pair, same_pairs, same_open_kind, same_open_leaves}
 use Rattle.pli_signatures.specs.Numbering.{same_leaf}
 

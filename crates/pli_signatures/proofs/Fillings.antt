@@ -10,8 +10,7 @@ use Rattle.pli_serving.specs.SignatureService as V
 use Rattle.pli_serving.specs.SignatureService.{filled_pair, filled_pairs, filled_leaf, filled_leaves, filled_at, filled, with_leaves}
 use Rattle.pli_types.specs.declared.signature.Bounds as R
 use Rattle.pli_types.specs.declared.signature.Leaf as R2
-use Rattle.pli_types.specs.declared.signature.Signature as R3
-use Rattle.pli_types.specs.View.{pair_of, bounds_of, leaf_of, template_of}
+use Rattle.pli_types.specs.View.{pair_of, bounds_of, leaf_of}
 use Rattle.pli_signatures.specs.View.{place_of}
 use Rattle.pli_signatures.specs.declared.filling.ExtentPlace.{ExtentPlace}
 

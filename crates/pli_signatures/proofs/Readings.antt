@@ -1,7 +1,7 @@
 -- One more pair, leaf or signature is read.
-use Rattle.std.proofs.Common.{◌≡◌, ℕ, suc, ◌+◌, ◌-◌, ◌<◌, ◌≤◌, List, [], ◌∷◌, ◌++◌, map, Option, Bool, refl, ap, sym, ◌∙◌, drop, arith, append_assoc, eqb}
+use Rattle.std.proofs.Common.{◌≡◌, ℕ, suc, ◌+◌, ◌-◌, ◌<◌, ◌≤◌, List, [], ◌∷◌, ◌++◌, map, Option, Bool, ap, sym, ◌∙◌, drop, arith, eqb}
 use Rattle.std.specs.Prelude.{◌&&◌}
-use Rattle.std.proofs.lemmas.List.{map-append, append-nil}
+use Rattle.std.proofs.lemmas.List.{append-nil}
 use Rattle.pli_serving.specs.Templates as T
 use Rattle.pli_types.specs.declared.signature.Bounds.{Bounds}
 use Rattle.pli_types.specs.declared.signature.Leaf.{Leaf}

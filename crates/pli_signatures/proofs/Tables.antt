@@ -1,14 +1,13 @@
 -- What is read from the words of signatures are these signatures.
-use Rattle.std.proofs.Common.{◌≡◌, ℕ, zero, suc, ◌+◌, ◌*◌, ◌<◌, ◌≤◌, List, [], ◌∷◌, ◌++◌, length, map, drop, Bool, true, false, cond, Option, Some, None, refl, ap, sym, subst, ◌∙◌, arith, append_assoc, eqb, get_or, length-drop}
-use Rattle.std.specs.Prelude.{IsTrue, nat_le, ◌&&◌, ◌||◌, min, option_map, is_some, ◌^◌, ◌-◌}
+use Rattle.std.proofs.Common.{◌≡◌, ℕ, zero, suc, ◌+◌, ◌*◌, ◌<◌, ◌≤◌, List, [], ◌∷◌, ◌++◌, length, map, drop, Bool, true, false, cond, Some, None, refl, ap, sym, ◌∙◌, arith, append_assoc, eqb, get_or, length-drop}
+use Rattle.std.specs.Prelude.{IsTrue, nat_le, ◌&&◌, ◌||◌, min, option_map, is_some}
 use Rattle.std.proofs.lemmas.List.{append-nil}
-use Rattle.std.proofs.lemmas.Bool.{leb-true, eqb-true}
+use Rattle.std.proofs.lemmas.Bool.{leb-true}
 use Rattle.std.proofs.lemmas.Bool.Decides.{nat_tests}
 use Rattle.rv_meaning.specs.declared.image.TableKind.{TableKind}
 use Rattle.rv_meaning.specs.declared.image.TableKind.TheVariants as K
 use Rattle.rv_meaning.specs.Tables.{Pair, TableLeaf, TableSignature, kind_number, pairs_words, leaf_words, leaves_words, signature_words, table_words, size_fits, run_time_size, LeavesFit, IsSignature, AreSignatures}
-use Rattle.pli_typing.specs.Signatures.{Bounds}
-use Rattle.pli_types.specs.Templates.{OpenKind, OpenCharacter, OpenVarying, OpenFixed, OpenLeaf, Template}
+use Rattle.pli_types.specs.Templates.{OpenCharacter, OpenVarying, OpenFixed, OpenLeaf, Template}
 use Rattle.pli_serving.specs.Templates as T
 use Rattle.pli_signatures.specs.Reading.{length_read, kind_read, pairs_read, leaf_read, behind_leaf, leaves_read, behind_leaves, signature_read, behind_signature}
 

@@ -5,8 +5,8 @@ use Rattle.pli_typing.specs.Signatures as S
 use Rattle.pli_typing.specs.Signatures.{capped, element_count, span, leaf_size, leaves_size, footprint}
 use Rattle.pli_types.specs.declared.signature.Bounds.{Bounds}
 use Rattle.pli_types.specs.declared.signature.Leaf.{Leaf}
-use Rattle.pli_types.specs.Templates.{bounds_so_far, leaf_so_far}
-use Rattle.pli_types.specs.View.{bounds_of, leaf_of, pair_of}
+use Rattle.pli_types.specs.Templates.{bounds_so_far}
+use Rattle.pli_types.specs.View.{bounds_of, pair_of}
 use Rattle.pli_meaning.specs.Contents.{leaf_refers, last_refers}
 use Rattle.pli_signatures.specs.Whole.{bounds_told}
 use Rattle.pli_signatures.proofs.Capping.{few_or_many, capped_few, capped_many}

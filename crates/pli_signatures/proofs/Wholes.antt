@@ -8,11 +8,10 @@ use Rattle.pli_typing.specs.Signatures.{capped, leaves_size}
 use Rattle.pli_types.specs.Templates.{OpenKind, OpenFixed, OpenCharacter, OpenVarying, OpenArea, OpenBit, OpenPointer, OpenOffset, OpenLeaf, Template, kind_so_far, bounds_so_far, leaf_so_far}
 use Rattle.pli_types.specs.declared.signature.Leaf.{Leaf}
 use Rattle.pli_types.specs.View.{leaf_of}
-use Rattle.pli_meaning.specs.Contents.{Shape, leaf_refers, last_refers, leaves_refer}
-use Rattle.pli_serving.specs.Templates.{whole_kind, whole_bounds, whole_leaves, leaf_with, put_before, shape_with, shape_of, shape_in}
+use Rattle.pli_meaning.specs.Contents.{last_refers, leaves_refer}
+use Rattle.pli_serving.specs.Templates.{whole_kind, whole_bounds, whole_leaves, leaf_with, put_before, shape_with, shape_in}
 use Rattle.pli_serving.specs.Arguments.{capacity_of_kind, capacity_of_leaves}
-use Rattle.pli_serving.specs.Values.{leaf_place}
-use Rattle.pli_signatures.specs.Whole.{is_known_kind, are_known, is_known_leaf, are_known_leaves, shape_so_far, leaf_told, extent_told, leaf_in, place_in}
+use Rattle.pli_signatures.specs.Whole.{is_known_kind, are_known, is_known_leaf, are_known_leaves, shape_so_far, leaf_told, extent_told, place_in}
 
 kind_is : (k : OpenKind) → whole_kind k ≡ cond (is_known_kind k) (Some (kind_so_far k)) None
 kind_is (OpenFixed p) = refl

@@ -1,5 +1,5 @@
 -- Signatures of which no extent is open: whether one is, and its leaves with the REFER extent in force.
-use Rattle.std.specs.Prelude.{ℕ, ◌+◌, ℤ, Bool, true, false, ◌&&◌, ◌==◌, nat_lt, List, [], ◌∷◌, length, Option, Some, None, is_some, slice_get, option_map, if◌then◌else◌}
+use Rattle.std.specs.Prelude.{ℕ, ◌+◌, ℤ, Bool, true, ◌&&◌, ◌==◌, nat_lt, List, [], ◌∷◌, length, Option, Some, None, is_some, slice_get, if◌then◌else◌}
 use Rattle.pli_typing.specs.Signatures.{Bounds, Leaf, capped, data_size}
 use Rattle.pli_types.specs.Templates.{OpenKind, OpenFixed, OpenCharacter, OpenVarying, OpenArea, OpenBit, OpenPointer, OpenOffset, OpenLeaf, Template, so_far}
 use Rattle.pli_meaning.specs.Contents.{Shape, leaf_refers, leaves_with, signature_of, footprint_of, fresh}

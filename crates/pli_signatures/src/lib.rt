@@ -9,6 +9,6 @@ mod in_force;
 mod reading;
 pub mod signatures;
 mod size;
-mod whole;
 #[cfg(test)]
 mod tests;
+mod whole;

@@ -9,7 +9,30 @@ use std::test::Fail;
 /// Class, leaves and REFER, then each leaf's kind, size and pairs: two texts of an open length, the second an array of 0:1 by open
 /// bounds; and a number beside bits whose upper bound it tells.
 const TABLE: [u32; 24] = [
-    0, 2, 0, 3, 0xFFFF_FFFF, 0, 2, 0xFFFF_FFFF, 2, 0, 1, 1, 0, 0, 2, 1, 1, 15, 0, 4, 0, 1, 1, 0,
+    0,
+    2,
+    0,
+    3,
+    0xFFFF_FFFF,
+    0,
+    2,
+    0xFFFF_FFFF,
+    2,
+    0,
+    1,
+    1,
+    0,
+    0,
+    2,
+    1,
+    1,
+    15,
+    0,
+    4,
+    0,
+    1,
+    1,
+    0,
 ];
 
 const LENGTHS: [ExtentPlace; 2] = [

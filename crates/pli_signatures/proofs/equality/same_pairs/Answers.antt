@@ -1,4 +1,3 @@
-use Rattle.std.proofs.Common.{◌≡◌, length, sym}
 use Rattle.pli_signatures.proofs.Equals.{next_pair, no_pair, pairs_uneven, all_pairs}
 use Rattle.pli_signatures.proofs.equality.same_pairs.Goals as goal
 

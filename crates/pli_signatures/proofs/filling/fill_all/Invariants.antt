@@ -1,4 +1,4 @@
-use Rattle.std.proofs.Common.{◌≡◌, map, drop, Option, Some}
+use Rattle.std.proofs.Common.{◌≡◌, map, drop, Some}
 use Rattle.pli_types.specs.View.{pair_of, template_of}
 use Rattle.pli_serving.specs.SignatureService.{filled}
 use Rattle.pli_signatures.specs.View.{place_of}

@@ -1,4 +1,4 @@
-use Rattle.std.proofs.Common.{◌≡◌, ◌≤◌, ◌<◌, length, ◌+◌, eqb, is_some, map, ap, sym, ◌∙◌, arith}
+use Rattle.std.proofs.Common.{◌≡◌, ◌≤◌, ◌<◌, length, ◌+◌, eqb, is_some, ap, sym, ◌∙◌, arith}
 use Rattle.std.specs.Prelude.{◌&&◌}
 use Rattle.pli_types.specs.View.{pair_of, leaf_of, template_of}
 use Rattle.pli_serving.specs.SignatureService.{with_leaves, filled_leaf}

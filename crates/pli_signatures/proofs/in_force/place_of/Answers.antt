@@ -1,4 +1,4 @@
-use Rattle.std.proofs.Common.{◌≡◌, ◌<◌, length, take, map, refl, ap, ◌∙◌, arith}
+use Rattle.std.proofs.Common.{◌<◌, length, take, map, refl, ap, ◌∙◌, arith}
 use Rattle.pli_typing.specs.Signatures.{capped, leaves_size}
 use Rattle.pli_types.specs.Templates.{leaf_so_far}
 use Rattle.pli_types.specs.View.{leaf_of, template_of}

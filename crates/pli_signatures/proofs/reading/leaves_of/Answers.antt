@@ -1,5 +1,4 @@
-use Rattle.std.proofs.Common.{◌≡◌, ◌++◌, [], ◌∷◌, List, drop, Option, sym, ap, ◌∙◌, arith}
-use Rattle.pli_types.specs.View.{leaf_of}
+use Rattle.std.proofs.Common.{◌≡◌, ap, ◌∙◌, arith}
 use Rattle.pli_signatures.specs.Reading.{leaf_read, behind_leaf}
 use Rattle.pli_signatures.proofs.Readings.{leaves_on, behind_on}
 use Rattle.pli_signatures.proofs.reading.leaves_of.Goals as goal

@@ -1,5 +1,4 @@
-use Rattle.std.proofs.Common.{◌≡◌, ◌++◌, [], ◌∷◌, List, drop, Option, sym, ◌∙◌, arith}
-use Rattle.pli_types.specs.declared.signature.Bounds.{Bounds}
+use Rattle.std.proofs.Common.{◌≡◌, drop, sym}
 use Rattle.pli_signatures.proofs.Readings.{pairs_on}
 use Rattle.pli_signatures.proofs.reading.pairs_of.Goals as goal
 

@@ -1,8 +1,8 @@
-use Rattle.std.proofs.Common.{◌≡◌, ◌<◌, ◌++◌, List, [], ◌∷◌, map, length, ap, sym, ◌∙◌, arith}
+use Rattle.std.proofs.Common.{◌≡◌, ◌<◌, [], ◌∷◌, map, length, arith}
 use Rattle.std.proofs.lemmas.Bool.Decides.{nat_tests}
 use Rattle.std.proofs.lemmas.List.{map-append}
 use Rattle.pli_types.specs.View.{template_of}
-use Rattle.pli_signatures.proofs.Tables.{all_left, one_more_read, all_read, behind_signature_short}
+use Rattle.pli_signatures.proofs.Tables.{one_more_read, all_read, behind_signature_short}
 use Rattle.pli_signatures.proofs.signatures.Signatures.from_table.Goals as goal
 
 pub loop-rest-smaller : goal.loop-rest-smaller
