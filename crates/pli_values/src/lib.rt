@@ -1,0 +1,10 @@
+// Names, values, INITIAL values and format lists as they stand in a machine's memory. Memory is its bytes, an address a place
+// among them.
+#![tactic(auto)]
+
+pub mod element;
+pub mod layout;
+pub mod name;
+#[cfg(test)]
+mod tests;
+pub mod word;

@@ -1,0 +1,47 @@
+// Each call once; what the definitions give is theirs to say.
+
+use crate::element::{ElementKind, Value, put_element, put_value, value_at};
+use crate::layout::Layout;
+use crate::name::{Name, name_at, offset_of, offset_word, put_name};
+use pli_types::signature::LeafKind;
+
+#[test]
+fn data_lies_between_the_code_and_the_end(rt: HostRuntime) {
+    let layout = Layout {
+        code_bytes: 16,
+        heap_at: 32,
+        heap_capacity: 32,
+        end: 64,
+    };
+    assert!(rt; layout.is_data(16, 48) && !layout.is_data(12, 4) && !layout.is_data(u64::MAX, 2));
+}
+
+#[test]
+fn names_are_read_as_they_were_written(rt: HostRuntime) {
+    let name = Name::Based {
+        area: 1 << 40,
+        offset: 48,
+    };
+    let mut memory = [7; 20];
+    put_name(&mut memory, 4, name);
+    assert_eq!(rt; name_at(&memory, 4), Some(name));
+    assert_eq!(rt; name_at(&memory, 0), None);
+    assert_eq!(rt; offset_of(offset_word(None)), None);
+    assert_eq!(rt; offset_of(offset_word(Some(32))), Some(32));
+}
+
+#[test]
+fn values_are_read_as_they_were_written(rt: HostRuntime) {
+    let mut memory = [7; 12];
+    let number = ElementKind::Fixed { precision: 15 };
+    let behind = put_element(&mut memory, 0, number, Value::Number(-2));
+    assert_eq!(rt; behind, 4);
+    let text = ElementKind::of(LeafKind::Varying { length: Some(4) });
+    put_value(&mut memory, 4, text, Value::Text(b"PL/I."));
+    assert_eq!(rt;
+        memory.as_slice(),
+        b"\xfe\xff\0\0\x04\0PL/I\x07\x07".as_slice()
+    );
+    assert!(rt; matches!(value_at(&memory, 0, number), Value::Number(-2)));
+    assert!(rt; matches!(value_at(&memory, 4, text), Value::Text(b"PL/I")));
+}
