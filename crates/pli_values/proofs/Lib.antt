@@ -1,3 +1,5 @@
+pub mod Calls
 pub mod Elements
+pub mod Items
 pub mod Parts
 pub mod Texts

@@ -1,2 +1,4 @@
+pub mod Calls
+pub mod Leaves
 pub mod Sizes
 pub mod View

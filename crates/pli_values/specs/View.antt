@@ -1,11 +1,15 @@
--- The definitions' layouts, names and values, as the values of this crate show them.
+-- The definitions' layouts, names, values and INITIAL items, as the values of this crate show them.
 use Rattle.pli_meaning.specs.BasicValues as B
+use Rattle.pli_language.specs.Tree as T
 use Rattle.pli_serving.specs.Bytes as D
 use Rattle.pli_typing.specs.Signatures as S
 use Rattle.pli_values.specs.declared.element.ElementKind.{ElementKind}
 use Rattle.pli_values.specs.declared.element.ElementKind.TheVariants as E
 use Rattle.pli_values.specs.declared.element.Value.{Value}
 use Rattle.pli_values.specs.declared.element.Value.TheVariants as V
+use Rattle.pli_values.specs.declared.initial.Initial.{Initial}
+use Rattle.pli_values.specs.declared.initial.Initial.TheVariants as I
+use Rattle.pli_values.specs.declared.initial.Item.{Item}
 use Rattle.pli_values.specs.declared.layout.Layout.{Layout}
 use Rattle.pli_values.specs.declared.name.Name.{Name}
 use Rattle.pli_values.specs.declared.name.Name.TheVariants.{Null, Variable, Based}
@@ -33,3 +37,13 @@ value_of (V.Text t) = B.BasicText t.now
 value_of (V.Bit b) = B.BasicBit b
 value_of (V.Pointer n) = B.BasicPointer (name_of n)
 value_of (V.Offset o) = B.BasicOffset o
+
+abbrev pub initial_of : Initial → T.InitialValue
+initial_of I.Skip = T.InitialSkip
+initial_of (I.Number z) = T.InitialNumber z
+initial_of (I.Bit b) = T.InitialBit b
+initial_of (I.Text t) = T.InitialText t.now
+initial_of I.Null = T.InitialNull
+
+abbrev pub item_of : Item → T.InitialItem
+item_of i = record { repetition = i.repetition; value = initial_of i.value }

@@ -15,9 +15,9 @@ pub struct Layout {
 
 impl Layout {
     /// Whether so many bytes from an address on are data.
-    pub fn is_data(&self, at: u64, bytes: u64) -> bool
+    pub fn is_data(&self, at: usize, bytes: usize) -> bool
         ensures { result ≡ is_data (layout_of self.now) at bytes }
     {
-        u64::from(self.code_bytes) <= at && at.saturating_add(bytes) <= u64::from(self.end)
+        self.code_bytes as usize <= at && at.saturating_add(bytes) <= self.end as usize
     }
 }

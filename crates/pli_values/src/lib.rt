@@ -3,8 +3,11 @@
 #![tactic(auto)]
 
 pub mod element;
+pub mod initial;
+pub mod laws;
 pub mod layout;
 pub mod name;
+pub mod source;
 #[cfg(test)]
 mod tests;
 pub mod word;

@@ -1,9 +1,14 @@
 // Each call once; what the definitions give is theirs to say.
 
 use crate::element::{ElementKind, Value, put_element, put_value, value_at};
+use crate::initial::is_initial;
+use crate::laws::initial_values_of_memory;
 use crate::layout::Layout;
 use crate::name::{Name, name_at, offset_of, offset_word, put_name};
-use pli_types::signature::LeafKind;
+use crate::source::Source;
+use pli_types::signature::{Leaf, LeafKind};
+use smallvec::SmallVec;
+use std::test::Fail;
 
 #[test]
 fn data_lies_between_the_code_and_the_end(rt: HostRuntime) {
@@ -13,7 +18,7 @@ fn data_lies_between_the_code_and_the_end(rt: HostRuntime) {
         heap_capacity: 32,
         end: 64,
     };
-    assert!(rt; layout.is_data(16, 48) && !layout.is_data(12, 4) && !layout.is_data(u64::MAX, 2));
+    assert!(rt; layout.is_data(16, 48) && !layout.is_data(12, 4) && !layout.is_data(usize::MAX, 2));
 }
 
 #[test]
@@ -44,4 +49,33 @@ fn values_are_read_as_they_were_written(rt: HostRuntime) {
     );
     assert!(rt; matches!(value_at(&memory, 0, number), Value::Number(-2)));
     assert!(rt; matches!(value_at(&memory, 4, text), Value::Text(b"PL/I")));
+}
+
+const LIST: [u8; 40] = *b"\0\0\0\0\x01\0\0\0\0\0\0\0\x0c\0\0\0\x01\0\0\0\x03\0\0\0\x02\0\0\0\x03\0\0\0ABC\0\0\0\0\0";
+
+#[test]
+fn initial_values_are_right_for_their_leaf(rt: HostRuntime) -> Result<(), Fail> {
+    let layout = Layout {
+        code_bytes: 4,
+        heap_at: 40,
+        heap_capacity: 0,
+        end: 40,
+    };
+    let source = Source {
+        layout,
+        memory: &LIST,
+    };
+    let text = Leaf {
+        kind: LeafKind::Character { length: Some(2) },
+        bounds: SmallVec::from_slice(rt.alloc(), &[])?,
+    };
+    let bit = Leaf {
+        kind: LeafKind::Bit,
+        bounds: SmallVec::from_slice(rt.alloc(), &[])?,
+    };
+    initial_values_of_memory();
+    assert!(rt; is_initial(&source, &[], 0));
+    assert!(rt; is_initial(&source, &[text], 4));
+    assert!(rt; !is_initial(&source, &[bit], 4));
+    Ok(())
 }
