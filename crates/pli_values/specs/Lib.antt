@@ -1,4 +1,5 @@
 pub mod Calls
+pub mod Items
 pub mod Leaves
 pub mod Sizes
 pub mod View

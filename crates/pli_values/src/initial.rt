@@ -97,7 +97,8 @@ fn value_read<'a>(
     }
 }
 
-fn item_read<'a>(source: &Source<'a>, kind: ElementKind, at: usize) -> Option<Item<'a>>
+/// An item that a leaf of this kind can have, where one stands at an address.
+pub fn item_read<'a>(source: &Source<'a>, kind: ElementKind, at: usize) -> Option<Item<'a>>
     ensures { option_of item_of result ≡ item_at (call_of source.now) (element_kind_of kind) at }
 {
     if !source.layout.is_data(at, 12) {
@@ -111,7 +112,7 @@ fn item_read<'a>(source: &Source<'a>, kind: ElementKind, at: usize) -> Option<It
 }
 
 /// The address behind an item.
-fn behind_item(source: &Source, at: usize) -> usize
+pub fn behind_item(source: &Source, at: usize) -> usize
     requires { at + 12 ≤ source.now.layout.end }
     ensures { result ≡ at + item_size (D.word_at (at + 4) source.now.memory.now) (D.word_at (at + 8) source.now.memory.now) }
 {

@@ -4,6 +4,7 @@
 
 pub mod element;
 pub mod initial;
+pub mod leaf_items;
 pub mod laws;
 pub mod layout;
 pub mod name;
