@@ -39,7 +39,7 @@ element_behind kind v at stored zeros m n o s z inside f h =
     behind_part (value_bytes kind v) (replicate zeros 0) m n o at (at + stored) f (ap (λ j. at + j) l) (omega (arith, l)) h
     ∙ ap (λ j. with_bytes (value_bytes kind v ++ replicate j 0) at m) z
 
-stored_within : (kind : LeafKind) → stored_size kind ≤ leaf_bytes kind
+pub stored_within : (kind : LeafKind) → stored_size kind ≤ leaf_bytes kind
 stored_within (Area n) = omega arith
 stored_within (Fixed p) = omega arith
 stored_within (Character n) = omega arith

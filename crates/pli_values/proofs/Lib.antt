@@ -1,5 +1,6 @@
 pub mod Calls
 pub mod Elements
+pub mod Fresh
 pub mod Items
 pub mod Lasting
 pub mod Parts

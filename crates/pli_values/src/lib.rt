@@ -3,6 +3,7 @@
 #![tactic(auto)]
 
 pub mod element;
+pub mod generation;
 pub mod initial;
 pub mod leaf_items;
 pub mod laws;
