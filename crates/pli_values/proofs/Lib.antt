@@ -4,4 +4,5 @@ pub mod Fresh
 pub mod Items
 pub mod Lasting
 pub mod Parts
+pub mod Subscripts
 pub mod Texts
