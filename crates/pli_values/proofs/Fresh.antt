@@ -46,7 +46,7 @@ length_fresh kind values n = simp (length-append, length-replicate, length_value
 times_more : (w n : ℕ) → w + w * n ≡ w * suc n
 times_more w n = omega arith
 
-length_run : (kind : LeafKind) (values : ℕ → InitialValue) (first n : ℕ) → length (run_of (fresh_element kind values) first n) ≡ written_size kind * n
+pub length_run : (kind : LeafKind) (values : ℕ → InitialValue) (first n : ℕ) → length (run_of (fresh_element kind values) first n) ≡ written_size kind * n
 length_run kind values first zero = omega arith
 length_run kind values first (suc n) =
     length-append (fresh_element kind values first) (run_of (fresh_element kind values) (suc first) n)
@@ -75,7 +75,7 @@ next_written kind values at here n bytes m m1 m2 f e inside b g =
     ∙ ap (λ xs. with_bytes xs at m) (run_more (fresh_element kind values) 0 n)
     ∙ ap (λ j. with_bytes (run_of (fresh_element kind values) 0 j) at m) s
 
-written_within : (kind : LeafKind) → written_size kind ≤ element_size kind
+pub written_within : (kind : LeafKind) → written_size kind ≤ element_size kind
 written_within kind = let w = stored_within kind in omega arith
 
 -- there is room for one element more

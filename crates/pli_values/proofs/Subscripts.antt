@@ -79,8 +79,8 @@ rows piece place (b ∷ bs) pre is base l p =
     let row = λ (z : ℤ). flat_map (λ js. piece (place js)) (more z) in
     let size = element_count bs in
     let inner = λ (j : ℕ). (let z = b.lower +ℤ pos j in
-        ap (λ xs. flat_map (λ js. piece (place js)) (with_more (length bs) xs (is ++ z ∷ []))) (sym (append_assoc pre (b ∷ []) bs))
-        ∙ rows piece place bs (pre ++ b ∷ []) (is ++ z ∷ []) (base + j * size) (length-append is (z ∷ []) ∙ ap (λ n. n + 1) l ∙ sym (length-append pre (b ∷ []))) (λ js. ap place (append_assoc is (z ∷ []) js) ∙ p (z ∷ js) ∙ place_under base j size (element_place bs js) (natural (z -ℤ b.lower)) (distance b.lower j))) in
+    ap (λ xs. flat_map (λ js. piece (place js)) (with_more (length bs) xs (is ++ z ∷ []))) (sym (append_assoc pre (b ∷ []) bs))
+    ∙ rows piece place bs (pre ++ b ∷ []) (is ++ z ∷ []) (base + j * size) (length-append is (z ∷ []) ∙ ap (λ n. n + 1) l ∙ sym (length-append pre (b ∷ []))) (λ js. ap place (append_assoc is (z ∷ []) js) ∙ p (z ∷ js) ∙ place_under base j size (element_place bs js) (natural (z -ℤ b.lower)) (distance b.lower j))) in
     let start : base + 0 * size ≡ base = omega arith in
     ap (λ o. flat_map (λ js. piece (place js)) (flat_map more (subscripts_of o))) (slice_get_behind pre bs b (length is) l)
     ∙ flat_flat more (λ js. piece (place js)) (numbers_from b.lower (span b))

@@ -1,13 +1,14 @@
 // The data of a generation as it begins.
 
-ghost use Rattle.std.specs.Prelude.{◌≡◌, ◌+◌, ◌*◌, ◌≤◌, is_some, length, true};
+ghost use Rattle.std.specs.Prelude.{◌≡◌, ◌+◌, ◌*◌, ◌≤◌, List, is_some, length, true};
+ghost use Rattle.pli_typing.specs.Signatures.{Bounds, capped, element_count};
 ghost use Rattle.pli_meaning.specs.Contents as C;
 ghost use Rattle.pli_meaning.specs.Contents.{initial_at};
 ghost use Rattle.pli_serving.specs.Bytes.{with_bytes};
 ghost use Rattle.pli_serving.specs.Stored.{kept_value};
 ghost use Rattle.pli_serving.specs.Values.{element_bytes, element_size};
 ghost use Rattle.pli_values.specs.Items.{items_behind, items_left};
-ghost use Rattle.pli_values.specs.Runs.{fresh_element, run_of};
+ghost use Rattle.pli_values.specs.Runs.{fresh_element, fresh_leaf, run_of};
 ghost use Rattle.pli_values.specs.Sizes.{written_size};
 ghost use Rattle.pli_values.specs.View.{element_kind_of, initial_of, value_of};
 
@@ -60,4 +61,18 @@ fn put_elements(memory: &mut [u8], at: usize, count: usize, items: Items) -> usi
         at = put_element(memory, at, kind, value);
     }
     at
+}
+
+/// Writes the data of a leaf as a generation begins, with the values of INITIAL in turn, and gives the place behind it. `count` is how
+/// many elements the leaf has, or the greatest number where there are more, which take no bytes.
+pub fn put_leaf(memory: &mut [u8], at: usize, count: usize, items: Items) -> usize
+    requires right { is_some (items_behind items) ≡ true }
+    requires inside { at + element_size (element_kind_of items.kind) * count ≤ length memory.old }
+    ensures written { (bounds : List Bounds) → capped (element_count bounds) ≡ count → memory.new ≡ with_bytes (fresh_leaf (element_kind_of items.entry.kind) bounds (items_left items.entry)) at memory.old }
+    ensures behind { (bounds : List Bounds) → capped (element_count bounds) ≡ count → result ≡ at + length (fresh_leaf (element_kind_of items.entry.kind) bounds (items_left items.entry)) }
+{
+    if items.kind.size() == 0 {
+        return at;
+    }
+    put_elements(memory, at, count, items)
 }

@@ -36,7 +36,11 @@ pub struct Item<'a> {
 fn has_precision(precision: u8, number: u32) -> bool
     ensures { result ≡ is_of_precision precision (signed number) }
 {
-    let magnitude = if number < 1 << 31 { number } else { u32::MAX - number };
+    let magnitude = if number < 1 << 31 {
+        number
+    } else {
+        u32::MAX - number
+    };
     precision >= 31 || magnitude < 1 << precision
 }
 
@@ -118,7 +122,12 @@ pub fn behind_item(source: &Source, at: usize) -> usize
 {
     let what = word_at(source.memory, at + 4);
     let number = word_at(source.memory, at + 8) as usize;
-    at + 12 + if what == 2 { number.next_multiple_of(4) } else { 0 }
+    at + 12
+        + if what == 2 {
+            number.next_multiple_of(4)
+        } else {
+            0
+        }
 }
 
 /// Whether so many items that a leaf of this kind can have stand from an address on. Each takes 12 bytes at least, so that no more

@@ -5,9 +5,9 @@
 pub mod element;
 pub mod generation;
 pub mod initial;
-pub mod leaf_items;
 pub mod laws;
 pub mod layout;
+pub mod leaf_items;
 pub mod name;
 pub mod source;
 #[cfg(test)]

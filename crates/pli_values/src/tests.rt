@@ -1,9 +1,11 @@
 // Each call once; what the definitions give is theirs to say.
 
 use crate::element::{ElementKind, Value, put_element, put_value, value_at};
-use crate::initial::is_initial;
+use crate::generation::put_leaf;
+use crate::initial::{Initial, Item, is_initial};
 use crate::laws::initial_values_of_memory;
 use crate::layout::Layout;
+use crate::leaf_items::Items;
 use crate::name::{Name, name_at, offset_of, offset_word, put_name};
 use crate::source::Source;
 use pli_types::signature::{Leaf, LeafKind};
@@ -51,7 +53,8 @@ fn values_are_read_as_they_were_written(rt: HostRuntime) {
     assert!(rt; matches!(value_at(&memory, 4, text), Value::Text(b"PL/I")));
 }
 
-const LIST: [u8; 40] = *b"\0\0\0\0\x01\0\0\0\0\0\0\0\x0c\0\0\0\x01\0\0\0\x03\0\0\0\x02\0\0\0\x03\0\0\0ABC\0\0\0\0\0";
+const LIST: [u8; 40] =
+    *b"\0\0\0\0\x01\0\0\0\0\0\0\0\x0c\0\0\0\x01\0\0\0\x03\0\0\0\x02\0\0\0\x03\0\0\0ABC\0\0\0\0\0";
 
 #[test]
 fn initial_values_are_right_for_their_leaf(rt: HostRuntime) -> Result<(), Fail> {
@@ -78,4 +81,35 @@ fn initial_values_are_right_for_their_leaf(rt: HostRuntime) -> Result<(), Fail> 
     assert!(rt; is_initial(&source, &[text], 4));
     assert!(rt; !is_initial(&source, &[bit], 4));
     Ok(())
+}
+
+#[test]
+fn a_leaf_begins_with_its_initial_values(rt: HostRuntime) {
+    let source = Source {
+        layout: Layout {
+            code_bytes: 4,
+            heap_at: 40,
+            heap_capacity: 0,
+            end: 40,
+        },
+        memory: &LIST,
+    };
+    let first = Item {
+        repetition: 1,
+        value: Initial::Skip,
+    };
+    let items = Items {
+        source,
+        kind: ElementKind::Character { length: 2 },
+        current: first,
+        left: 0,
+        at: 40,
+    };
+    let mut memory = [7; 20];
+    let behind = put_leaf(&mut memory, 4, 3, items);
+    assert_eq!(rt; behind, 16);
+    assert_eq!(rt;
+        memory.as_slice(),
+        b"\x07\x07\x07\x07  \0\0  \0\0  \0\0\x07\x07\x07\x07".as_slice()
+    );
 }
