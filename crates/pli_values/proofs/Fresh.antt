@@ -1,17 +1,16 @@
 -- How elements begin.
-use Rattle.std.proofs.Common.{zero, suc, ◌≡◌, ◌≤◌, ◌<◌, ℕ, ℤ, ◌+◌, ◌-◌, ◌*◌, Bool, List, [], ◌∷◌, ◌++◌, length, take, drop, replicate, refl, sym, ap, ◌∙◌, arith, append_assoc, append-nil}
+use Rattle.std.proofs.Common.{zero, suc, ◌≡◌, ◌≤◌, ◌<◌, ℕ, ℤ, ◌+◌, ◌*◌, Bool, List, [], ◌++◌, length, drop, replicate, refl, sym, ap, ◌∙◌, arith, append_assoc, append-nil}
 use Rattle.std.proofs.lemmas.List.{length-append, length-replicate, take_all, take_at}
 use Rattle.std.proofs.Math.Nat.{mul-le-mul_right}
 use Rattle.pli_language.specs.Tree.{InitialValue}
-use Rattle.pli_typing.specs.Signatures.{LeafKind, Fixed, Character, Varying, Bit, Pointer, Offset, Area, leaf_bytes}
-use Rattle.pli_meaning.specs.BasicValues.{BasicValue, BasicNumber, BasicBit}
-use Rattle.pli_meaning.specs.Contents.{initial_of}
+use Rattle.pli_typing.specs.Signatures.{LeafKind, Fixed, Character, Varying, Bit, Pointer, Offset, Area}
+use Rattle.pli_meaning.specs.BasicValues.{BasicNumber, BasicBit}
 use Rattle.pli_meaning.specs.Texts.{fitted}
 use Rattle.pli_serving.specs.Bytes.{with_bytes}
 use Rattle.pli_serving.specs.Stored.{kept_value}
-use Rattle.pli_serving.specs.Values.{value_bytes, element_bytes, element_size}
+use Rattle.pli_serving.specs.Values.{element_size}
 use Rattle.pli_values.specs.Runs.{run_of, fresh_element}
-use Rattle.pli_values.specs.Sizes.{stored_size, written_size}
+use Rattle.pli_values.specs.Sizes.{written_size}
 use Rattle.pli_values.proofs.Elements.{length_value, stored_within}
 use Rattle.pli_values.proofs.Parts.{behind_part}
 use Rattle.pli_values.proofs.Texts.{character_kept}

@@ -1,5 +1,5 @@
 -- Lists of INITIAL items, item by item.
-use Rattle.std.proofs.Common.{zero, suc, ◌≡◌, ◌≤◌, ◌<◌, ℕ, ◌+◌, ◌-◌, ◌&&◌, if◌then◌else◌, slice_get, get_or, length, map, Bool, true, false, Option, Some, None, is_some, is_none, List, [], ◌∷◌, refl, sym, ap, ◌∙◌, arith}
+use Rattle.std.proofs.Common.{zero, suc, ◌≡◌, ◌<◌, ℕ, ◌+◌, ◌-◌, ◌&&◌, if◌then◌else◌, slice_get, Bool, true, false, Option, Some, None, is_some, is_none, List, [], ◌∷◌, refl, sym, ap, ◌∙◌, arith}
 use Rattle.pli_language.specs.Tree.{InitialItem}
 use Rattle.pli_language.specs.View.{option_of}
 use Rattle.pli_types.specs.declared.signature.Leaf as P

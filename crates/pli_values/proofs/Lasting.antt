@@ -1,7 +1,7 @@
 -- What items give the elements one behind the other.
-use Rattle.std.proofs.Common.{zero, suc, ◌≡◌, ◌≤◌, ◌<◌, ℕ, ◌+◌, ◌-◌, Bool, true, false, Option, Some, None, is_some, nat_lt, unwrap_or, List, [], ◌∷◌, if◌then◌else◌, refl, sym, ap, ◌∙◌, arith}
+use Rattle.std.proofs.Common.{◌≡◌, ◌<◌, ℕ, ◌+◌, ◌-◌, Bool, true, false, Option, Some, None, is_some, nat_lt, unwrap_or, List, [], ◌∷◌, if◌then◌else◌, refl, sym, ap, ◌∙◌, arith}
 use Rattle.std.proofs.lemmas.Bool.Decides.{nat_tests}
-use Rattle.pli_language.specs.Tree.{InitialItem, InitialValue, InitialSkip}
+use Rattle.pli_language.specs.Tree.{InitialItem, InitialSkip}
 use Rattle.pli_typing.specs.Signatures.{LeafKind}
 use Rattle.pli_meaning.specs.Contents.{initial_at}
 use Rattle.pli_serving.specs.Finding.{Call}

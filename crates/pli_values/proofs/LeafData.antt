@@ -1,9 +1,9 @@
 -- The data of a leaf as a generation begins.
-use Rattle.std.proofs.Common.{zero, suc, ◌≡◌, ◌≤◌, ◌<◌, ℕ, ◌+◌, ◌-◌, ◌*◌, ◌^◌, List, [], ◌∷◌, ◌++◌, length, take, drop, refl, sym, ap, ◌∙◌, arith}
+use Rattle.std.proofs.Common.{◌≡◌, ◌≤◌, ◌<◌, ℕ, ◌+◌, ◌*◌, ◌^◌, List, ◌++◌, length, take, drop, sym, ap, ◌∙◌, arith}
 use Rattle.std.proofs.lemmas.List.{nil_from_length, take-append-drop}
 use Rattle.std.proofs.Math.Nat.{mul-le-mul_right}
-use Rattle.pli_language.specs.Tree.{InitialItem, InitialValue}
-use Rattle.pli_typing.specs.Signatures.{LeafKind, Bounds, capped, element_count, leaf_bytes}
+use Rattle.pli_language.specs.Tree.{InitialItem}
+use Rattle.pli_typing.specs.Signatures.{LeafKind, Bounds, capped, element_count}
 use Rattle.pli_meaning.specs.Contents.{initial_at}
 use Rattle.pli_serving.specs.Bytes.{with_bytes}
 use Rattle.pli_serving.specs.Values.{element_size}

@@ -1,5 +1,5 @@
 -- The items that are left at a place among those of a leaf.
-use Rattle.std.specs.Prelude.{ℕ, List, [], ◌∷◌, Option, unwrap_or}
+use Rattle.std.specs.Prelude.{List, [], ◌∷◌, Option, unwrap_or}
 use Rattle.pli_language.specs.Tree.{InitialItem}
 use Rattle.pli_serving.specs.InitialValues.{items_from}
 use Rattle.pli_values.specs.declared.leaf_items.Items.{Items}

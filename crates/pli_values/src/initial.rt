@@ -122,12 +122,8 @@ pub fn behind_item(source: &Source, at: usize) -> usize
 {
     let what = word_at(source.memory, at + 4);
     let number = word_at(source.memory, at + 8) as usize;
-    at + 12
-        + if what == 2 {
-            number.next_multiple_of(4)
-        } else {
-            0
-        }
+    let text = if what == 2 { number } else { 0 };
+    at + 12 + text.next_multiple_of(4)
 }
 
 /// Whether so many items that a leaf of this kind can have stand from an address on. Each takes 12 bytes at least, so that no more

@@ -1,4 +1,4 @@
-use Rattle.std.proofs.Common.{◌≡◌, ◌≤◌, ◌∙◌, ◌+◌, ◌*◌, ap, arith, length}
+use Rattle.std.proofs.Common.{◌≡◌, ◌∙◌, ◌+◌, ap, arith}
 use Rattle.pli_meaning.specs.Contents as C
 use Rattle.pli_meaning.specs.Contents.{initial_at}
 use Rattle.pli_serving.specs.Stored.{kept_value}

@@ -1,4 +1,4 @@
-use Rattle.std.proofs.Common.{◌≡◌, ◌<◌, ◌≤◌, ◌∙◌, ◌+◌, ◌*◌, ◌^◌, arith, length, rules, sym}
+use Rattle.std.proofs.Common.{◌<◌, ◌≤◌, ◌∙◌, ◌*◌, ◌^◌, arith, length, rules, sym}
 use Rattle.pli_typing.specs.Signatures.{element_count}
 use Rattle.pli_serving.specs.Values.{element_size}
 use Rattle.pli_values.specs.Items.{items_left}

@@ -1,4 +1,4 @@
-use Rattle.std.proofs.Common.{length, refl, rules, arith}
+use Rattle.std.proofs.Common.{length, refl, rules}
 use Rattle.std.proofs.lemmas.Option.{slice_get_read}
 use Rattle.pli_values.specs.Calls.{call_of}
 use Rattle.pli_values.specs.View.{element_kind_of}
