@@ -1,0 +1,5 @@
+pub mod Engine
+pub mod Showing
+pub mod Growing
+pub mod Reach
+pub mod Promises
