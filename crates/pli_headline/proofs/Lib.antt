@@ -3,3 +3,5 @@ pub mod Showing
 pub mod Growing
 pub mod Reach
 pub mod Promises
+pub mod Linking
+pub mod Items
