@@ -5,3 +5,5 @@ pub mod Reach
 pub mod Promises
 pub mod Linking
 pub mod Items
+pub mod Numbers
+pub mod Bodies
