@@ -7,3 +7,4 @@ pub mod Linking
 pub mod Items
 pub mod Numbers
 pub mod Bodies
+pub mod Jumps
