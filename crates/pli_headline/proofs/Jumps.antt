@@ -18,7 +18,8 @@ use Rattle.pli_headline.specs.Runs.{Whole, Runs, next, of_effect, run_on}
 use Rattle.pli_headline.proofs.Engine.{Base, at_base, HasAt, address, most_code, effect_at, next_address, branch_taken, branch_passed, run_on-add, with_register, passes}
 use Rattle.pli_headline.proofs.Linking.{HasItems, items_front, items_back, size_append}
 use Rattle.pli_headline.proofs.Items.{Linked, At}
-use Rattle.pli_headline.proofs.Bodies.{Ground, Body, Known}
+use Rattle.pli_coding.specs.Registers.{zero_register, return_register, far_register}
+use Rattle.pli_headline.proofs.Bodies.{Ground, Body, Known, Free, with', set_known, lose_known}
 use Rattle.pli_headline.proofs.Reach.{Family, Reach, cost}
 
 -- ---- parts of linked code
@@ -113,3 +114,52 @@ jumped code b i j link through w inside small' target here has set =
     let e : run_on 1 (at_base code b) (Runs w) ≡ Runs w' = one.ran ∙ ap Runs one.holds in
     let to = ap (λ u. sum u (word (lower_part d))) (set w.machine.registers up) ∙ jump_sum b.at i j b.valid.1 (omega (arith, inside, small')) target in
     ap (run_on 1 (at_base code b)) e ∙ jump_register code b (suc i) j link through (lower_part d) w' (omega (arith, inside, small')) refl has.1.0 to
+
+-- ---- jumps to symbols
+
+-- to the place of a symbol, with what is known; the credits may grow
+pub jump_piece : {links : Links} {code : List Instr} {i : ℕ} {g : Ground} {v : Services} {h t : ℕ → ℕ} {rs : Base → List (ℕ × ℕ)} (c c' : ℕ) (f : Family) (s : Symbol) (j : ℕ) → c + 2 ≤ c' → place_of links s ≡ 4 * j → j ≤ most_code → Free rs 31 → Linked links code i (JumpTo s ∷ []) → ((b : Base) → At b i (Known g v h t rs b) (f b)) → Reach code c f v c' v (λ b w. At b j (Known g v h t rs b) w)
+jump_piece {links = links} {code = code} {i = i} c c' f s j paid target near free l at =
+    let has = subst (λ n. HasAt code i (jump_code zero_register far_register (distance (4 * i) n))) target l.has.0 in
+    record {
+      count = 2;
+      paid = omega (arith, paid);
+      goes = λ b. record {
+        after = _;
+        ran = jumped code b i j zero_register far_register (f b) (let n = l.inside in omega (arith, n)) l.small' near (at b).pc has (λ x u. refl);
+        holds = record { pc = refl; holds = lose_known (f b) 31 _ _ free (at b).holds };
+      };
+    }
+
+-- the same with the place behind it in the return register
+pub call_piece : {links : Links} {code : List Instr} {i : ℕ} {g : Ground} {v : Services} {h t : ℕ → ℕ} {rs : Base → List (ℕ × ℕ)} (c c' : ℕ) (f : Family) (s : Symbol) (j : ℕ) → c + 2 ≤ c' → place_of links s ≡ 4 * j → j ≤ most_code → Free rs 1 → Linked links code i (CallTo s ∷ []) → ((b : Base) → At b i (Known g v h t rs b) (f b)) → Reach code c f v c' v (λ b w. At b j (Known g v h t (with' 1 (λ b'. address b' (i + 2)) rs) b) w)
+call_piece {links = links} {code = code} {i = i} {rs = rs} c c' f s j paid target near free l at =
+    let has = subst (λ n. HasAt code i (jump_code return_register return_register (distance (4 * i) n))) target l.has.0 in
+    let two : suc (suc i) ≡ i + 2 = omega arith in
+    record {
+      count = 2;
+      paid = omega (arith, paid);
+      goes = λ b. record {
+        after = _;
+        ran = jumped code b i j return_register return_register (f b) (let n = l.inside in omega (arith, n)) l.small' near (at b).pc has (λ x u. refl);
+        holds = record {
+          pc = refl;
+          holds = set_known _ 1 (address b (suc (suc i))) _ (λ b'. address b' (i + 2)) free (ap (address b) two) (lose_known (f b) 1 (sum (address b i) (upper_part (distance (4 * i) (4 * j)) * 2 ^ 12)) (address b (suc i)) free (at b).holds);
+        };
+      };
+    }
+
+-- over small code that stands ahead
+pub ahead_piece : {links : Links} {code : List Instr} {i : ℕ} {g : Ground} {v : Services} {h t : ℕ → ℕ} {rs : Base → List (ℕ × ℕ)} (c : ℕ) (f : Family) (words : ℕ) → i + (2 + words) ≤ length code → Free rs 31 → Linked links code i (JumpAhead words ∷ []) → ((b : Base) → At b i (Known g v h t rs b) (f b)) → Reach code c f v (c + (2 + words)) v (λ b w. At b (i + (2 + words)) (Known g v h t rs b) w)
+ahead_piece {links = links} {code = code} {i = i} c f words inside free l at =
+    let e : 4 * i + 4 * (2 + words) ≡ 4 * (i + (2 + words)) = omega arith in
+    let has = subst (λ n. HasAt code i (jump_code zero_register far_register (distance (4 * i) n))) e l.has.0 in
+    record {
+      count = 2;
+      paid = omega arith;
+      goes = λ b. record {
+        after = _;
+        ran = jumped code b i (i + (2 + words)) zero_register far_register (f b) (let n = l.inside in omega (arith, n)) l.small' (let s = l.small' in omega (arith, inside, s)) (at b).pc has (λ x u. refl);
+        holds = record { pc = refl; holds = lose_known (f b) 31 _ _ free (at b).holds };
+      };
+    }

@@ -8,3 +8,4 @@ pub mod Items
 pub mod Numbers
 pub mod Bodies
 pub mod Jumps
+pub mod Temporaries
