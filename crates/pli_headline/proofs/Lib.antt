@@ -9,3 +9,4 @@ pub mod Numbers
 pub mod Bodies
 pub mod Jumps
 pub mod Temporaries
+pub mod Calls

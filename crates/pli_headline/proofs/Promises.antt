@@ -16,7 +16,7 @@ use Rattle.pli_headline.specs.Runs.{Picture, Whole, Run, Runs, Ended, Stopped, n
 use Rattle.pli_headline.specs.Headline.{Keeps, Headline}
 use Rattle.pli_headline.proofs.Engine.{Base, at_base, run_on-add, run_on-ended, run_on-stopped}
 use Rattle.pli_headline.proofs.Growing.{Grows, runs_grow}
-use Rattle.pli_headline.proofs.Reach.{Family, cost, acts_of, Pausing, Ending, Comes, only}
+use Rattle.pli_headline.proofs.Reach.{Family, cost, acts_of, Pausing, Ending, Comes, never}
 
 -- the machine with its services at the start, at each base
 abbrev pub first_family : Picture → (input : List ℕ) → Family
@@ -37,17 +37,17 @@ pub data Comes_at (image : Picture) (program : Program) (input : List ℕ) (k : 
   pauses : (v : Services) → meaning program input k ≡ Some v.world → v.world.acts ≡ k → v.world.end ≡ E.Running → Pausing image.code 0 (first_family image input) (first_served image input) v → Comes_at image program input k
   ends : (v : Services) → meaning program input k ≡ Some v.world → v.world.acts ≤ k → v.world.end ≢ E.Running → Ending image.code 0 (first_family image input) (first_served image input) v → Comes_at image program input k
 
-pub from_flow : (laws : Laws) (image : Picture) (program : Program) (input : List ℕ) (k : ℕ) (flow : Flow (Unit {0})) → meaning program input k ≡ M.shown flow → Comes image.code 0 (first_family image input) (first_served image input) (only (λ x t. ⊥)) flow → Comes_at image program input k
-from_flow laws image program input k (Normal x s) e c = absurd c
-from_flow laws image program input k (Jump height label s) e c = absurd c
-from_flow laws image program input k (Return x s) e c = absurd c
+pub from_flow : (laws : Laws) (image : Picture) (program : Program) (input : List ℕ) (k : ℕ) (flow : Flow (Unit {0})) → meaning program input k ≡ M.shown flow → Comes image.code 0 (first_family image input) (first_served image input) never flow → Comes_at image program input k
+from_flow laws image program input k (Normal x s) e c = absurd c.to
+from_flow laws image program input k (Jump height label s) e c = absurd c.to
+from_flow laws image program input k (Return x s) e c = absurd c.to
 from_flow laws image program input k (F.Ended s) e c =
-    let m = e ∙ ap Some (sym c.1) in
-    ends c.0 m (laws.allowed program input k c.0.world m).0 c.2.over c.2
+    let m = e ∙ ap Some (sym c.to.1) in
+    ends c.to.0 m (laws.allowed program input k c.to.0.world m).0 c.to.2.over c.to.2
 from_flow laws image program input k (Paused s) e c =
-    let m = e ∙ ap Some (sym c.1) in
-    pauses c.0 m ((laws.allowed program input k c.0.world m).1 c.2.running) c.2.running c.2
-from_flow laws image program input k Stuck e c = absurd c
+    let m = e ∙ ap Some (sym c.to.1) in
+    pauses c.to.0 m ((laws.allowed program input k c.to.0.world m).1 c.to.2.running) c.to.2.running c.to.2
+from_flow laws image program input k Stuck e c = absurd c.to
 
 -- a program whose code is proved to do what it means
 pub record Works (image : Picture) (program : Program) : Type 0 where

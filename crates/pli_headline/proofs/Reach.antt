@@ -107,55 +107,75 @@ ending_then {code} {i} {f} r e =
 
 -- ---- flows
 
--- where a part's code leads: what holds behind it with a result, and where a jump or a return goes on
+-- where a part's code leads, as what holds of credits, machines and services: behind it with a result, and where a jump or a
+-- return goes on
 pub record Aims (R : Type 0) : Type 1 where
-  pub done : R → State → Type 0
-  pub jumped : (height : ℕ) → Label → State → Type 0
-  pub returned : Option BasicValue → State → Type 0
+  pub done : ℕ → Family → Services → R → State → Type 0
+  pub jumped : ℕ → Family → Services → (height : ℕ) → Label → State → Type 0
+  pub returned : ℕ → Family → Services → Option BasicValue → State → Type 0
 
--- the same with other results
-abbrev pub towards : {Q R : Type 0} → Aims R → (Q → State → Type 0) → Aims Q
-towards aims done = record { done = done; jumped = aims.jumped; returned = aims.returned }
-
--- a part that is left at its end alone
-abbrev pub only : {R : Type 0} → (R → State → Type 0) → Aims R
-only done = record { done = done; jumped = λ height label s. ⊥; returned = λ v s. ⊥ }
-
--- whatever leads to the first leads to the second
-pub record Leads {R : Type 0} (aims aims' : Aims R) : Type 0 where
-  pub done : (x : R) (s : State) → aims.done x s → aims'.done x s
-  pub jumped : (height : ℕ) (label : Label) (s : State) → aims.jumped height label s → aims'.jumped height label s
-  pub returned : (x : Option BasicValue) (s : State) → aims.returned x s → aims'.returned x s
-
-pub only_leads : {R : Type 0} (done : R → State → Type 0) (aims : Aims R) → ((x : R) (s : State) → done x s → aims.done x s) → Leads (only done) aims
-only_leads done aims h = record { done = h; jumped = λ height label s a. absurd a; returned = λ x s a. absurd a }
+-- a part that is never left but by a pause or the end of the run
+abbrev pub never : {R : Type 0} → Aims R
+never = record { done = λ c f v r s. ⊥; jumped = λ c f v height label s. ⊥; returned = λ c f v r s. ⊥ }
 
 -- what a flow of the meaning comes to in a run
-abbrev pub Comes : {R : Type 0} → List Instr → ℕ → Family → Services → Aims R → Flow R → Type 0
-Comes code i f v aims (Normal r s) = aims.done r s
-Comes code i f v aims (Jump height label s) = aims.jumped height label s
-Comes code i f v aims (Return r s) = aims.returned r s
-Comes code i f v aims (F.Ended s) = (v' : Services) × (v'.world ≡ s.world) × Ending code i f v v'
-Comes code i f v aims (Paused s) = (v' : Services) × (v'.world ≡ s.world) × Pausing code i f v v'
-Comes code i f v aims Stuck = ⊥
+abbrev ComesTo : {R : Type 0} → List Instr → ℕ → Family → Services → Aims R → Flow R → Type 0
+ComesTo code i f v aims (Normal r s) = aims.done i f v r s
+ComesTo code i f v aims (Jump height label s) = aims.jumped i f v height label s
+ComesTo code i f v aims (Return r s) = aims.returned i f v r s
+ComesTo code i f v aims (F.Ended s) = (v' : Services) × (v'.world ≡ s.world) × Ending code i f v v'
+ComesTo code i f v aims (Paused s) = (v' : Services) × (v'.world ≡ s.world) × Pausing code i f v v'
+ComesTo code i f v aims Stuck = ⊥
 
--- a part, and what goes on with its result
-pub comes_on : {Q R : Type 0} (code : List Instr) (i : ℕ) (f : Family) (v : Services) (done : Q → State → Type 0) (aims : Aims R) (k : ℕ) (flow : Flow Q) (next' : Q → Meaning R) → Comes code i f v (towards aims done) flow → ((q : Q) (s : State) → done q s → Comes code i f v aims (next' q k s)) → Comes code i f v aims (flow_on k flow next')
-comes_on code i f v done aims k (Normal q s) next' c n = n q s c
-comes_on code i f v done aims k (Jump height label s) next' c n = c
-comes_on code i f v done aims k (Return r s) next' c n = c
-comes_on code i f v done aims k (F.Ended s) next' c n = c
-comes_on code i f v done aims k (Paused s) next' c n = c
-comes_on code i f v done aims k Stuck next' c n = c
+pub record Comes {R : Type 0} (code : List Instr) (i : ℕ) (f : Family) (v : Services) (aims : Aims R) (flow : Flow R) : Type 0 where
+  pub to : ComesTo code i f v aims flow
+
+-- what is aimed at may be reached later
+pub record Closed {R : Type 0} (code : List Instr) (aims : Aims R) : Type 1 where
+  pub done : {i : ℕ} {f : Family} {v : Services} {i' : ℕ} {v' : Services} {Q : Base → Whole → Type 0} (r : Reach code i f v i' v' Q) (x : R) (s : State) → aims.done i' (reached r) v' x s → aims.done i f v x s
+  pub jumped : {i : ℕ} {f : Family} {v : Services} {i' : ℕ} {v' : Services} {Q : Base → Whole → Type 0} (r : Reach code i f v i' v' Q) (height : ℕ) (label : Label) (s : State) → aims.jumped i' (reached r) v' height label s → aims.jumped i f v height label s
+  pub returned : {i : ℕ} {f : Family} {v : Services} {i' : ℕ} {v' : Services} {Q : Base → Whole → Type 0} (r : Reach code i f v i' v' Q) (x : Option BasicValue) (s : State) → aims.returned i' (reached r) v' x s → aims.returned i f v x s
+
+pub never_closed : {R : Type 0} (code : List Instr) → Closed {R = R} code never
+never_closed code =
+    record { done = λ r x s a. absurd a; jumped = λ r height label s a. absurd a; returned = λ r x s a. absurd a }
 
 -- a flow that comes from a place which is reached
-pub comes_from : {R : Type 0} {code : List Instr} {i : ℕ} {f : Family} {v : Services} {i' : ℕ} {v' : Services} {Q : Base → Whole → Type 0} (aims aims' : Aims R) (flow : Flow R) (r : Reach code i f v i' v' Q) → Leads aims aims' → Comes code i' (reached r) v' aims flow → Comes code i f v aims' flow
-comes_from aims aims' (Normal x s) r g c = g.done x s c
-comes_from aims aims' (Jump height label s) r g c = g.jumped height label s c
-comes_from aims aims' (Return x s) r g c = g.returned x s c
-comes_from aims aims' (F.Ended s) r g c = (c.0, c.1, ending_then r c.2)
-comes_from aims aims' (Paused s) r g c = (c.0, c.1, pausing_then r c.2)
-comes_from aims aims' Stuck r g c = c
+comes_to_from : {R : Type 0} {code : List Instr} {i : ℕ} {f : Family} {v : Services} {i' : ℕ} {v' : Services} {Q : Base → Whole → Type 0} {aims : Aims R} (closed : Closed code aims) (flow : Flow R) (r : Reach code i f v i' v' Q) → ComesTo code i' (reached r) v' aims flow → ComesTo code i f v aims flow
+comes_to_from closed (Normal x s) r c = closed.done r x s c
+comes_to_from closed (Jump height label s) r c = closed.jumped r height label s c
+comes_to_from closed (Return x s) r c = closed.returned r x s c
+comes_to_from closed (F.Ended s) r c = (c.0, c.1, ending_then r c.2)
+comes_to_from closed (Paused s) r c = (c.0, c.1, pausing_then r c.2)
+comes_to_from closed Stuck r c = c
+
+pub comes_from : {R : Type 0} {code : List Instr} {i : ℕ} {f : Family} {v : Services} {i' : ℕ} {v' : Services} {Q : Base → Whole → Type 0} {aims : Aims R} {flow : Flow R} (closed : Closed code aims) (r : Reach code i f v i' v' Q) → Comes code i' (reached r) v' aims flow → Comes code i f v aims flow
+comes_from {flow = flow} closed r c = record { to = comes_to_from closed flow r c.to }
+
+-- the same, from any machine of which holds what is reached
+pub onward : {R : Type 0} {code : List Instr} {i : ℕ} {f : Family} {v : Services} {i' : ℕ} {v' : Services} {Q : Base → Whole → Type 0} {aims : Aims R} {flow : Flow R} (closed : Closed code aims) → Reach code i f v i' v' Q → ((f' : Family) → ((b : Base) → Q b (f' b)) → Comes code i' f' v' aims flow) → Comes code i f v aims flow
+onward closed r next' = comes_from closed r (next' (reached r) (reached_holds r))
+
+-- a part whose result another part goes on with
+abbrev pub before : {Q R : Type 0} → List Instr → Aims R → ℕ → (Q → Meaning R) → Aims Q
+before code aims k next' =
+    record { done = λ i f v q s. Comes code i f v aims (next' q k s); jumped = aims.jumped; returned = aims.returned }
+
+pub before_closed : {Q R : Type 0} {code : List Instr} {aims : Aims R} (k : ℕ) (next' : Q → Meaning R) → Closed code aims → Closed code (before code aims k next')
+before_closed k next' closed =
+    record { done = λ r q s c. comes_from closed r c; jumped = closed.jumped; returned = closed.returned }
+
+comes_to_on : {Q R : Type 0} (code : List Instr) (i : ℕ) (f : Family) (v : Services) (aims : Aims R) (k : ℕ) (flow : Flow Q) (next' : Q → Meaning R) → ComesTo code i f v (before code aims k next') flow → ComesTo code i f v aims (flow_on k flow next')
+comes_to_on code i f v aims k (Normal q s) next' c = c.to
+comes_to_on code i f v aims k (Jump height label s) next' c = c
+comes_to_on code i f v aims k (Return r s) next' c = c
+comes_to_on code i f v aims k (F.Ended s) next' c = c
+comes_to_on code i f v aims k (Paused s) next' c = c
+comes_to_on code i f v aims k Stuck next' c = c
+
+pub comes_on : {Q R : Type 0} {code : List Instr} {i : ℕ} {f : Family} {v : Services} {aims : Aims R} (k : ℕ) (flow : Flow Q) (next' : Q → Meaning R) → Comes code i f v (before code aims k next') flow → Comes code i f v aims (flow_on k flow next')
+comes_on {code = code} {i = i} {f = f} {v = v} {aims = aims} k flow next' c =
+    record { to = comes_to_on code i f v aims k flow next' c.to }
 
 -- less holds
 pub reach_map : {code : List Instr} {i : ℕ} {f : Family} {v : Services} {i' : ℕ} {v' : Services} {Q : Base → Whole → Type 0} (P : Base → Whole → Type 0) → Reach code i f v i' v' Q → ((b : Base) (w : Whole) → Q b w → P b w) → Reach code i f v i' v' P
@@ -169,11 +189,3 @@ reach_map P r h =
 -- with more credits
 pub reach_with : {code : List Instr} {i : ℕ} {f : Family} {v : Services} {i' : ℕ} {v' : Services} {Q : Base → Whole → Type 0} (i'' : ℕ) → i' ≤ i'' → Reach code i f v i' v' Q → Reach code i f v i'' v' Q
 reach_with i'' h r = record { count = r.count; paid = omega (arith, r.paid, h); goes = r.goes }
-
-pub comes_map : {R : Type 0} (code : List Instr) (i : ℕ) (f : Family) (v : Services) (aims aims' : Aims R) (flow : Flow R) → Leads aims aims' → Comes code i f v aims flow → Comes code i f v aims' flow
-comes_map code i f v aims aims' (Normal x s) g c = g.done x s c
-comes_map code i f v aims aims' (Jump height label s) g c = g.jumped height label s c
-comes_map code i f v aims aims' (Return x s) g c = g.returned x s c
-comes_map code i f v aims aims' (F.Ended s) g c = c
-comes_map code i f v aims aims' (Paused s) g c = c
-comes_map code i f v aims aims' Stuck g c = c
