@@ -10,3 +10,4 @@ pub mod Bodies
 pub mod Jumps
 pub mod Temporaries
 pub mod Calls
+pub mod Raising
