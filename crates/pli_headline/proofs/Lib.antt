@@ -11,3 +11,4 @@ pub mod Jumps
 pub mod Temporaries
 pub mod Calls
 pub mod Raising
+pub mod Operators

@@ -181,3 +181,39 @@ error_piece {X = X} {links = links} {code = code} {g = g} {v = v} {h = h} {t = t
     let q = skip_taken 0 f2 Test.Equal a0 zero_register (JumpAhead (size_of error_end) ∷ []) (front_of (to_unit (size_of error_end)) error_end at_test) at2 (λ b. zero_equal _ _ (at2 b).holds.regs.0 (zero_is (at2 b).holds.body)) in
     subst (Comes code 0 f2 (raised_by C.Error n v) _) (sym (unit_of_error X around n k s2 (serving2.alone C.Error)))
     (onward closed q (λ f3 at3. error_ends closed 3 f3 n k around.line small' (let i = mine.inside in omega (arith, i)) (back_of (to_unit (size_of error_end)) error_end at_test) serving2 at3)))))
+
+-- ---- other conditions
+
+unit_of_raise : (around : Around) (c : Condition) (n k : ℕ) (s : State) → force s.activations c ≡ None → ((looked >>= (λ u. R.unit_run around n (force u.activations c))) k s) ≡ R.error around n k s
+unfolding looked ◌>>=◌ R.unit_run
+unit_of_raise around c n k s e = ap (λ o. R.unit_run around n o k s) e
+
+-- a condition is raised at its routine
+pub raise_piece : {links : Links} {code : List Instr} {g : Ground} {v : Services} {h t : ℕ → ℕ} {s : State} {aims : Aims (Unit {0})} (closed : Closed code aims) (routines : Routines links code) (credits : ℕ) (f : Family) (around : Around) (c : Condition) (number n k : ℕ) → U.condition_of number ≡ Some c → n < 2 ^ 16 → credits + 4 < cost code → Serving k s v around.line → ((b : Base) → At b routines.at (Known g v h t (conditioned number n) b) (f b)) → Comes code credits f v aims (R.raised around c n k s)
+unfolding R.raised ◌>>◌
+raise_piece {links = links} {code = code} {g = g} {v = v} {h = h} {t = t} {s = s} closed routines credits f around c number n k is small' few serving at =
+    let later = routines.later in
+    let front = Mark RaiseCondition ∷ BaseIn u0 ∷ subtract a2 return_register u0 ∷ small a7 30 ∷ [] in
+    let behind = to_unit (size_of error_code) ++ (error_code ++ unit_begun) in
+    let mine = routines.linked in
+    let r = straight credits f v v (λ b. Known g v h t (raising_regs number n) b) (front_of front (Plain I.Ecall ∷ behind) mine) (omega arith) (λ b. (at b).pc)
+    (λ b. let o = (at b).holds in let z = zero_is o.body in (
+      omega (arith, later),
+      refl,
+      record {
+        body = record { services = o.body.services; registers = o.body.registers; bytes = o.body.bytes; memory = o.body.memory };
+        regs = (o.regs.0, (o.regs.1.0, (small_is _ 30 z (lit< tt), tt)));
+      },
+    )) in
+    let at_call = back_of front (Plain I.Ecall ∷ behind) mine in
+    let at_test = rest_of (Plain I.Ecall) behind at_call in
+    let next' = λ (u : Unit {0}). looked >>= (λ x. R.unit_run around n (force x.activations c)) in
+    onward closed r (λ f1 at1.
+    comes_on k (act (raising c n) k s) next'
+    (raised_here (before_closed k next' closed) (credits + 4) f1 c number n k few (first_of (Plain I.Ecall) behind at_call) is small' serving at1
+    (λ f2 serving2 at2.
+    let s2 = with_world (raising c n s.world) s in
+    let q = skip_taken 0 f2 Test.Equal a0 zero_register (JumpAhead (size_of error_code) ∷ []) (front_of (to_unit (size_of error_code)) (error_code ++ unit_begun) at_test) at2 (λ b. zero_equal _ _ (at2 b).holds.regs.0 (zero_is (at2 b).holds.body)) in
+    subst (Comes code 0 f2 (raised_by c n v) _) (sym (unit_of_raise around c n k s2 (serving2.alone c)))
+    (onward closed q (λ f3 at3. error_piece closed routines 3 f3 around n k small' (let i = mine.inside in omega (arith, i)) serving2
+    (λ b. let o = at3 b in record { pc = o.pc ∙ ap (address b) (omega arith); holds = record { body = o.holds.body; regs = (o.holds.regs.1.0, tt) } }))))))
