@@ -12,3 +12,4 @@ pub mod Temporaries
 pub mod Calls
 pub mod Raising
 pub mod Operators
+pub mod Variables
