@@ -13,3 +13,4 @@ pub mod Calls
 pub mod Raising
 pub mod Operators
 pub mod Variables
+pub mod Expressions
