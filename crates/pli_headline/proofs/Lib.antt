@@ -14,3 +14,6 @@ pub mod Raising
 pub mod Operators
 pub mod Variables
 pub mod Expressions
+pub mod Acts
+pub mod Assignments
+pub mod States
