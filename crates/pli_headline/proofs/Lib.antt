@@ -17,3 +17,4 @@ pub mod Expressions
 pub mod Acts
 pub mod Assignments
 pub mod States
+pub mod Statements

@@ -22,7 +22,7 @@ pub record Holds (s : State) (block j : ℕ) (z : ℤ) : Type 0 where
   pub value : values 0 [] ≡ BasicNumber z
   pub wide : IsWide z
 
-pub holds_number : {s : State} {block j : ℕ} {z : ℤ} → Holds s block j z → HoldsNumber s (own block j) z
+abbrev pub holds_number : {s : State} {block j : ℕ} {z : ℤ} → Holds s block j z → HoldsNumber s (own block j) z
 holds_number {j = j} h =
     record { serial = suc j; values = h.values; stands = h.stands; lives = ap (if_same_shape number_shape) h.lives; value = h.value; wide = h.wide }
 
