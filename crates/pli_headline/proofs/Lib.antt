@@ -18,3 +18,4 @@ pub mod Acts
 pub mod Assignments
 pub mod States
 pub mod Statements
+pub mod MainGround
