@@ -19,3 +19,5 @@ pub mod Assignments
 pub mod States
 pub mod Statements
 pub mod MainGround
+pub mod ProvedStatements
+pub mod Finishing

@@ -81,7 +81,7 @@ pub record Does {e : Environment} {block count : ℕ} (bl : Block e block count)
 counted_holds : {s : State} {block j : ℕ} {z : ℤ} (w : World) → Holds s block j z → Holds (with_world w s) block j z
 counted_holds w h = record { values = h.values; stands = h.stands; lives = h.lives; value = h.value; wide = h.wide }
 
-null_does : {e : Environment} {block count : ℕ} (bl : Block e block count) (links : Links) (code : List Instr) (around : Around) (line : ℕ) → line < 2 ^ 31 → Does bl links code (act_code line) (M.statement around (Y.Null line))
+pub null_does : {e : Environment} {block count : ℕ} (bl : Block e block count) (links : Links) (code : List Instr) (around : Around) (line : ℕ) → line < 2 ^ 31 → Does bl links code (act_code line) (M.statement around (Y.Null line))
 unfolding M.statement
 null_does bl links code around line fits =
     record {
@@ -90,7 +90,7 @@ null_does bl links code around line fits =
     }
 
 -- an assignment, whose target is a variable of the block
-assign_does : {e : Environment} {block count : ℕ} (bl : Block e block count) (links : Links) (code : List Instr) (routines : Routines links code) (around : Around) (j : ℕ) (x : Y.Number) (line : ℕ) → j < count → IsProvedNumber block count x → number_words x ≤ bl.words → line < 2 ^ 31 → Does bl links code (act_code line ++ assigned_code (outermost e) none_taken (whole (own block j)) (Y.StoredNumber 31 x)) (M.statement around (Y.Assign (whole (own block j)) (Y.StoredNumber 31 x) line))
+pub assign_does : {e : Environment} {block count : ℕ} (bl : Block e block count) (links : Links) (code : List Instr) (routines : Routines links code) (around : Around) (j : ℕ) (x : Y.Number) (line : ℕ) → j < count → IsProvedNumber block count x → number_words x ≤ bl.words → line < 2 ^ 31 → Does bl links code (act_code line ++ assigned_code (outermost e) none_taken (whole (own block j)) (Y.StoredNumber 31 x)) (M.statement around (Y.Assign (whole (own block j)) (Y.StoredNumber 31 x) line))
 unfolding M.statement ◌>>◌
 assign_does {e} {block} {count} bl links code routines around j x line below is room fits =
     record {
