@@ -21,3 +21,4 @@ pub mod Statements
 pub mod MainGround
 pub mod ProvedStatements
 pub mod Finishing
+mod Rows
