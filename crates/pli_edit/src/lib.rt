@@ -1,0 +1,9 @@
+// Edit-directed input: fields that are taken, and the items that pass characters and lines.
+#![tactic(auto)]
+
+pub mod fault;
+pub mod input;
+mod mark;
+mod reading;
+#[cfg(test)]
+mod tests;
