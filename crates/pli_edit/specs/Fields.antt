@@ -23,3 +23,14 @@ abbrev pub TakesNumber : (width : ℕ) → (old : Input) → (is_left : Bool) �
 TakesNumber width old false result new = (result ≡ Err AtEnd) × (new ≡ old)
 TakesNumber width old true (Err Memory) new = new ≡ old
 TakesNumber width old true result new = IsNumberOf (number_in_text (field_of width old)) result × (new ≡ behind_field width old)
+-- ---- PUT
+
+-- this output, or without memory the output stays
+abbrev pub IsWritten : (output old : List ℕ) → Result (Unit {0}) EditFault → (new : List ℕ) → Type 0
+IsWritten output old (Ok done) new = new ≡ output
+IsWritten output old (Err fault) new = (fault ≡ Memory) × (new ≡ old)
+
+-- a number's field behind the output, where it is wide enough
+abbrev pub IsFieldWritten : Option (List ℕ) → (old : List ℕ) → Result (Unit {0}) EditFault → (new : List ℕ) → Type 0
+IsFieldWritten (Some field) old result new = IsWritten (with_field field old) old result new
+IsFieldWritten None old result new = (result ≡ Err TooWide) × (new ≡ old)

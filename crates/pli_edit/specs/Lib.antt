@@ -1,2 +1,3 @@
+pub mod LastLine
 pub mod Fields
 pub mod Marks

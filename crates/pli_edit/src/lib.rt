@@ -3,7 +3,9 @@
 
 pub mod fault;
 pub mod input;
+mod line;
 mod mark;
+pub mod output;
 mod reading;
 #[cfg(test)]
 mod tests;
