@@ -1,6 +1,6 @@
 -- The act of a statement, which sets its line.
-use Rattle.std.proofs.Common.{◌≡◌, ℕ, suc, ◌+◌, ◌*◌, ◌^◌, ◌<◌, ◌≤◌, List, [], ◌∷◌, ◌++◌, length, refl, ap, ◌∙◌, subst, sym, arith, lit<, add-one}
-use Rattle.std.specs.Prelude.{ℤ, pos}
+use Rattle.std.proofs.Common.{◌≡◌, ℕ, suc, ◌+◌, ◌^◌, ◌<◌, List, [], ◌∷◌, ◌++◌, refl, ap, ◌∙◌, arith, lit<, add-one}
+use Rattle.std.specs.Prelude.{pos}
 use Rattle.std.proofs.lemmas.Int.{ints}
 use Rattle.rv_meaning.specs.declared.instr.Instr.{Instr}
 use Rattle.rv_meaning.specs.declared.instr.Instr.TheVariants as I
@@ -12,15 +12,14 @@ use Rattle.pli_serving.specs.ServiceState.{Services}
 use Rattle.pli_serving.specs.Answers.{Done}
 use Rattle.pli_serving.specs.ActsAndEnds as W
 use Rattle.pli_coding.specs.Registers.{a0, a1, a7}
-use Rattle.pli_coding.specs.Assembly.{Plain, Code, size_of}
+use Rattle.pli_coding.specs.Assembly.{Plain, size_of}
 use Rattle.pli_coding.specs.Instructions.{small, number}
 use Rattle.pli_coding.specs.Allocating.{act_code}
 use Rattle.pli_coding.specs.Linking.{Links}
-use Rattle.pli_headline.specs.Runs.{Whole}
 use Rattle.pli_headline.proofs.Engine.{Base, address}
 use Rattle.pli_headline.proofs.Linking.{size_append}
 use Rattle.pli_headline.proofs.Items.{Linked, At, straight}
-use Rattle.pli_headline.proofs.Bodies.{Ground, Known, Free, zero_is, constant_piece}
+use Rattle.pli_headline.proofs.Bodies.{Ground, Known, zero_is, constant_piece}
 use Rattle.pli_headline.proofs.Jumps.{front_of, back_of}
 use Rattle.pli_headline.proofs.Temporaries.{nothing}
 use Rattle.pli_headline.proofs.Calls.{Serving, comes_act, called, Calling, call_acts, call_pauses, acts}

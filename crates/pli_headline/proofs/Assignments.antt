@@ -1,5 +1,5 @@
 -- Assignments to variables that hold numbers.
-use Rattle.std.proofs.Common.{◌≡◌, ℕ, suc, ◌+◌, ◌*◌, ◌^◌, ◌<◌, ◌≤◌, List, [], ◌∷◌, ◌++◌, length, Bool, true, false, refl, sym, ap, ◌∙◌, subst, arith}
+use Rattle.std.proofs.Common.{◌≡◌, ℕ, ◌+◌, ◌<◌, ◌≤◌, List, [], ◌++◌, length, Bool, refl, sym, ap, ◌∙◌, subst, arith}
 use Rattle.std.specs.Prelude.{ℤ, pos, cond}
 use Rattle.rv_meaning.specs.declared.instr.Instr.{Instr}
 use Rattle.rv_meaning.specs.Words.{word}
@@ -10,7 +10,7 @@ use Rattle.pli_language.specs.declared.condition.Condition.TheVariants as C
 use Rattle.pli_meaning.specs.BasicValues.{VariableName, BasicValue, BasicNumber}
 use Rattle.pli_meaning.specs.Numbers.{Gives, Raises, checked, wrapped}
 use Rattle.pli_meaning.specs.StorageState.{State, with_world, with_generation}
-use Rattle.pli_meaning.specs.Control.{Flow, Normal, Meaning, give, flow_on, stored, ◌>>=◌}
+use Rattle.pli_meaning.specs.Control.{Normal, Meaning, give, flow_on, stored, ◌>>=◌}
 use Rattle.pli_meaning.specs.Raising as R
 use Rattle.pli_meaning.specs.Raising.{Around}
 use Rattle.pli_meaning.specs.Evaluating as V
@@ -18,10 +18,10 @@ use Rattle.pli_meaning.specs.Placing as P
 use Rattle.pli_meaning.specs.Executing as M
 use Rattle.pli_serving.specs.ServiceState.{Services}
 use Rattle.pli_coding.specs.Registers.{frame_register, a0}
-use Rattle.pli_coding.specs.Assembly.{Code, size_of}
+use Rattle.pli_coding.specs.Assembly.{size_of}
 use Rattle.pli_coding.specs.Instructions.{store_word}
-use Rattle.pli_coding.specs.Environments.{Environment, Taken, none_taken, with_number, save, fetch}
-use Rattle.pli_coding.specs.Expressions.{number_code, reference_code, type_in, address_in}
+use Rattle.pli_coding.specs.Environments.{Environment, none_taken, with_number, save, fetch}
+use Rattle.pli_coding.specs.Expressions.{number_code, type_in, address_in}
 use Rattle.pli_coding.specs.Locating as L
 use Rattle.pli_coding.specs.Storing.{assigned_code}
 use Rattle.pli_coding.specs.Temporaries.{number_words}
@@ -31,7 +31,7 @@ use Rattle.pli_headline.proofs.Engine.{Base, address}
 use Rattle.pli_headline.proofs.Linking.{size_append}
 use Rattle.pli_headline.proofs.Items.{Linked, At}
 use Rattle.pli_headline.proofs.Numbers.{IsWide, word_small}
-use Rattle.pli_headline.proofs.Bodies.{Ground, Known, Free, reserved_are, store_piece}
+use Rattle.pli_headline.proofs.Bodies.{Ground, Known, reserved_are, store_piece}
 use Rattle.pli_headline.proofs.Jumps.{front_of, back_of}
 use Rattle.pli_headline.proofs.Temporaries.{Temporaries, nothing, held_with, words_with, waiting_saved, save_piece, fetch_piece}
 use Rattle.pli_headline.proofs.Calls.{Serving}

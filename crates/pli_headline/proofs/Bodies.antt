@@ -1,8 +1,7 @@
 -- What holds of a machine between two pieces of code, and single pieces: constants, loads, stores and sums with a displacement
 -- of any size. What stands in memory is a parameter, so that pieces of expressions know nothing of it but their temporaries.
-use Rattle.std.proofs.Common.{◌≡◌, ℕ, zero, suc, ◌+◌, ◌-◌, ◌*◌, ◌%◌, ◌^◌, ◌<◌, ◌≤◌, List, [], ◌∷◌, length, Bool, true, false, refl, sym, ap, ◌∙◌, subst, arith, lit<}
-use Rattle.std.specs.Prelude.{ℤ, pos, neg_ℤ, nat_lt, cond, ◌==◌}
-use Rattle.std.proofs.lemmas.Int.{ints}
+use Rattle.std.proofs.Common.{◌≡◌, ℕ, zero, suc, ◌+◌, ◌*◌, ◌%◌, ◌^◌, ◌<◌, ◌≤◌, List, [], ◌∷◌, length, Bool, true, false, refl, sym, ap, ◌∙◌, subst, arith}
+use Rattle.std.specs.Prelude.{ℤ, cond}
 use Rattle.rv_meaning.specs.declared.instr.Instr.{Instr}
 use Rattle.rv_meaning.specs.declared.instr.Instr.TheVariants as I
 use Rattle.rv_meaning.specs.declared.instr.ImmediateOp.TheVariants as Imm
@@ -19,7 +18,7 @@ use Rattle.pli_coding.specs.Assembly.{Code, Plain, size_of}
 use Rattle.pli_coding.specs.Instructions.{add, constant, plus, load_word, store_word, is_immediate}
 use Rattle.pli_coding.specs.Linking.{Links, upper_part, lower_part}
 use Rattle.pli_headline.specs.Runs.{Whole}
-use Rattle.pli_headline.proofs.Engine.{Base, address, most_code, WordAt}
+use Rattle.pli_headline.proofs.Engine.{Base, address, WordAt}
 use Rattle.pli_headline.proofs.Items.{Linked, At, Items, straight, parts_sum}
 use Rattle.pli_headline.proofs.Numbers.{far_sum}
 use Rattle.pli_headline.proofs.Reach.{Family, Reach}

@@ -1,5 +1,5 @@
 -- Calls of services: what is answered, and the acts of the meaning beside them.
-use Rattle.std.proofs.Common.{◌≡◌, ◌≢◌, ℕ, suc, ◌+◌, ◌*◌, ◌^◌, ◌<◌, ◌≤◌, List, [], ◌∷◌, length, Some, None, Bool, true, false, refl, ap, ◌∙◌, arith}
+use Rattle.std.proofs.Common.{◌≡◌, ◌≢◌, ℕ, suc, ◌+◌, ◌*◌, ◌^◌, ◌<◌, ◌≤◌, List, [], ◌∷◌, Some, None, Bool, true, false, refl, ap, ◌∙◌, arith}
 use Rattle.std.specs.Prelude.{nat_lt, cond}
 use Rattle.std.proofs.Math.Nat.{mul-le-mul_left}
 use Rattle.std.proofs.lemmas.Bool.{ltb-true, lt-ltb}
@@ -9,7 +9,6 @@ use Rattle.pli_language.specs.declared.condition.Condition.{Condition}
 use Rattle.pli_meaning.specs.declared.outcome.End.{End}
 use Rattle.pli_meaning.specs.declared.outcome.End.TheVariants as E
 use Rattle.rv_meaning.specs.Machine as M
-use Rattle.rv_meaning.specs.Words.{sum}
 use Rattle.area_keeper.specs.Chain.{chain}
 use Rattle.pli_meaning.specs.World.{World, ending}
 use Rattle.pli_meaning.specs.StorageState.{State, with_world, force}
@@ -26,7 +25,6 @@ use Rattle.pli_headline.specs.Runs.{Whole, Runs, answered, run_on, served, layou
 use Rattle.pli_headline.proofs.Engine.{Base, address, most_code, call_next, next_address}
 use Rattle.pli_headline.proofs.Items.{Linked, At}
 use Rattle.pli_headline.proofs.Reach.{Family, cost, acts_of, ActNext, Pausing, Ending, Reach, stay, Aims, Comes}
-use Rattle.pli_headline.proofs.Bodies.{Ground, Known}
 
 -- ---- what stands between the meaning and the services
 

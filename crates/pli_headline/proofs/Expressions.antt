@@ -1,6 +1,6 @@
 -- Expressions of numbers: the code gives the number of the meaning in a0, or the run ends with it.
-use Rattle.std.proofs.Common.{◌≡◌, ℕ, suc, ◌+◌, ◌*◌, ◌^◌, ◌<◌, ◌≤◌, List, [], ◌∷◌, ◌++◌, length, Some, Bool, true, false, refl, sym, ap, ◌∙◌, subst, arith}
-use Rattle.std.specs.Prelude.{ℤ, pos, cond, max, slice_get}
+use Rattle.std.proofs.Common.{◌≡◌, ℕ, suc, ◌+◌, ◌^◌, ◌<◌, ◌≤◌, List, ◌++◌, Some, Bool, true, false, refl, sym, ap, ◌∙◌, subst, arith}
+use Rattle.std.specs.Prelude.{ℤ, pos, cond, slice_get}
 use Rattle.std.proofs.lemmas.Bool.Decides.{nat_tests}
 use Rattle.std.proofs.Math.Nat.{le-max_left, le-max_right}
 use Rattle.rv_meaning.specs.declared.instr.Instr.{Instr}
@@ -18,13 +18,13 @@ use Rattle.pli_meaning.specs.Evaluating as V
 use Rattle.pli_serving.specs.ServiceState.{Services}
 use Rattle.pli_coding.specs.Registers.{frame_register, a0, u1}
 use Rattle.pli_coding.specs.Assembly.{Code, size_of}
-use Rattle.pli_coding.specs.Instructions.{number, load_word}
+use Rattle.pli_coding.specs.Instructions.{load_word}
 use Rattle.pli_coding.specs.Environments.{Environment, Taken, is_register_left, with_number, save, fetch}
 use Rattle.pli_coding.specs.Arithmetic.{calculated_code, signed_code}
 use Rattle.pli_coding.specs.Expressions.{number_code}
 use Rattle.pli_coding.specs.Temporaries.{number_words}
 use Rattle.pli_coding.specs.Linking.{Links}
-use Rattle.pli_headline.specs.ProvedSoFar.{plain_number, IsOwnNumber, IsProvedNumber, IsProvedOperator}
+use Rattle.pli_headline.specs.ProvedSoFar.{plain_number, IsProvedNumber, IsProvedOperator}
 use Rattle.pli_headline.proofs.Engine.{Base, address}
 use Rattle.pli_headline.proofs.Linking.{size_append}
 use Rattle.pli_headline.proofs.Items.{Linked, At}
@@ -34,7 +34,7 @@ use Rattle.pli_headline.proofs.Jumps.{front_of, back_of}
 use Rattle.pli_headline.proofs.Temporaries.{Temporaries, Stays, stays_same, stays_then, stays_saved, stays_less, waiting_saved, waiting_kept, held_with, words_with, nothing, save_piece, fetch_piece}
 use Rattle.pli_headline.proofs.Calls.{Serving}
 use Rattle.pli_headline.proofs.Raising.{Routines}
-use Rattle.pli_headline.proofs.Operators.{valued, IsAdding, Gone, calculated_piece, signed_piece}
+use Rattle.pli_headline.proofs.Operators.{valued, IsAdding, calculated_piece, signed_piece}
 use Rattle.pli_headline.proofs.Variables.{HoldsNumber, whole, own, number_gives, outermost, data_place, number_loaded}
 use Rattle.pli_headline.proofs.Reach.{Family, Aims, Comes, Closed, before, before_closed, comes_on, onward}
 

@@ -1,20 +1,18 @@
 -- Runs of straight code, item by item: addresses and offsets are two instructions.
-use Rattle.std.proofs.Common.{◌≡◌, ℕ, zero, suc, ◌+◌, ◌-◌, ◌*◌, ◌/◌, ◌%◌, ◌^◌, ◌<◌, ◌≤◌, List, [], ◌∷◌, length, true, refl, sym, ap, ◌∙◌, subst, arith}
-use Rattle.std.specs.Prelude.{ℤ, pos, ◌-ℤ◌, nat_lt, cond}
+use Rattle.std.proofs.Common.{◌≡◌, ℕ, zero, suc, ◌+◌, ◌*◌, ◌^◌, ◌<◌, ◌≤◌, List, [], ◌∷◌, length, true, refl, sym, ap, ◌∙◌, subst, arith}
+use Rattle.std.specs.Prelude.{nat_lt, cond}
 use Rattle.std.proofs.lemmas.Bool.{eq-eqb}
 use Rattle.std.proofs.lemmas.Int.{ints}
 use Rattle.std.proofs.Math.Nat.{mul-le-mul_left}
 use Rattle.rv_meaning.specs.declared.instr.Instr.{Instr}
-use Rattle.rv_meaning.specs.declared.instr.Instr.TheVariants as I
-use Rattle.rv_meaning.specs.declared.instr.ImmediateOp.TheVariants as Imm
 use Rattle.rv_meaning.specs.Words.{word, sum}
 use Rattle.rv_meaning.specs.Machine.{written}
 use Rattle.pli_serving.specs.ServiceState.{Services}
-use Rattle.pli_coding.specs.Assembly.{Symbol, Item, Plain, BaseIn, OffsetOf, OffsetAhead, JumpTo, CallTo, JumpAhead, JumpBack, Mark, Code, item_size, size_of}
+use Rattle.pli_coding.specs.Assembly.{Item, Plain, BaseIn, OffsetOf, OffsetAhead, JumpTo, CallTo, JumpAhead, JumpBack, Mark, Code, item_size, size_of}
 use Rattle.pli_coding.specs.Linking.{Links, upper_part, lower_part, distance, place_of, item_code}
 use Rattle.pli_headline.specs.Runs.{Whole, Runs, run_on}
-use Rattle.pli_headline.proofs.Engine.{Base, at_base, HasAt, address, most_code, Steps, Path, Passed, passes, run_on-add}
-use Rattle.pli_headline.proofs.Linking.{HasItems, item_length}
+use Rattle.pli_headline.proofs.Engine.{Base, at_base, HasAt, address, most_code, Steps, Passed, passes, run_on-add}
+use Rattle.pli_headline.proofs.Linking.{HasItems}
 use Rattle.pli_headline.proofs.Reach.{Family, Reach, cost}
 
 -- ---- numbers in two parts

@@ -1,6 +1,6 @@
 -- Places of pieces in linked code, branches over small code, and jumps of any length.
-use Rattle.std.proofs.Common.{◌≡◌, ℕ, zero, suc, ◌+◌, ◌-◌, ◌*◌, ◌/◌, ◌%◌, ◌^◌, ◌<◌, ◌≤◌, List, [], ◌∷◌, ◌++◌, length, Some, true, false, refl, sym, ap, ◌∙◌, subst, arith}
-use Rattle.std.specs.Prelude.{ℤ, pos, ◌-ℤ◌, cond, ◌==◌, slice_get}
+use Rattle.std.proofs.Common.{◌≡◌, ℕ, suc, ◌+◌, ◌-◌, ◌*◌, ◌%◌, ◌^◌, ◌<◌, ◌≤◌, List, [], ◌∷◌, ◌++◌, length, Some, true, false, refl, ap, ◌∙◌, subst, arith}
+use Rattle.std.specs.Prelude.{ℤ, pos, cond, slice_get}
 use Rattle.std.proofs.lemmas.Int.{ints}
 use Rattle.std.proofs.lemmas.Bool.{eq-eqb}
 use Rattle.rv_meaning.specs.declared.instr.Instr.{Instr}
@@ -15,12 +15,12 @@ use Rattle.pli_coding.specs.Assembly.{Symbol, Item, JumpTo, CallTo, JumpAhead, C
 use Rattle.pli_coding.specs.Instructions.{skip_where}
 use Rattle.pli_coding.specs.Linking.{Links, upper_part, lower_part, distance, jump_code, place_of}
 use Rattle.pli_headline.specs.Runs.{Whole, Runs, next, of_effect, run_on}
-use Rattle.pli_headline.proofs.Engine.{Base, at_base, HasAt, address, most_code, effect_at, next_address, branch_taken, branch_passed, run_on-add, with_register, passes}
-use Rattle.pli_headline.proofs.Linking.{HasItems, items_front, items_back, size_append}
+use Rattle.pli_headline.proofs.Engine.{Base, at_base, HasAt, address, most_code, effect_at, next_address, branch_taken, branch_passed, with_register, passes}
+use Rattle.pli_headline.proofs.Linking.{items_front, items_back, size_append}
 use Rattle.pli_headline.proofs.Items.{Linked, At}
 use Rattle.pli_coding.specs.Registers.{zero_register, return_register, far_register}
-use Rattle.pli_headline.proofs.Bodies.{Ground, Body, Known, Free, with', set_known, lose_known}
-use Rattle.pli_headline.proofs.Reach.{Family, Reach, cost}
+use Rattle.pli_headline.proofs.Bodies.{Ground, Known, Free, with', set_known, lose_known}
+use Rattle.pli_headline.proofs.Reach.{Family, Reach}
 
 -- ---- parts of linked code
 

@@ -13,7 +13,7 @@ use Rattle.pli_headline.specs.ProvedSoFar.{plain_number}
 use Rattle.pli_headline.proofs.Engine.{Base, address}
 use Rattle.pli_headline.proofs.Numbers.{IsWide, above_sum, above_small, word_small}
 use Rattle.pli_headline.proofs.Bodies.{Ground, PlaceOf}
-use Rattle.pli_headline.proofs.Temporaries.{Temporaries, put}
+use Rattle.pli_headline.proofs.Temporaries.{Temporaries}
 use Rattle.pli_headline.proofs.Variables.{data_place}
 use Rattle.pli_headline.proofs.States.{with_number_at}
 use Rattle.pli_headline.proofs.Statements.{Block}

@@ -1,5 +1,5 @@
 -- Sums, differences and signs, with their overflow.
-use Rattle.std.proofs.Common.{◌≡◌, ℕ, suc, ◌+◌, ◌*◌, ◌^◌, ◌<◌, ◌≤◌, List, [], ◌∷◌, ◌++◌, length, Bool, true, false, refl, sym, ap, ◌∙◌, subst, arith, lit<}
+use Rattle.std.proofs.Common.{◌≡◌, ℕ, ◌+◌, ◌^◌, ◌<◌, List, [], ◌∷◌, ◌++◌, Bool, true, false, refl, sym, ap, ◌∙◌, subst, arith, lit<}
 use Rattle.std.specs.Prelude.{ℤ, pos, neg_ℤ, ◌+ℤ◌, ◌-ℤ◌, int_lt, cond, ◌==◌, if◌then◌else◌, ⊤}
 use Rattle.pli_language.specs.declared.condition.Condition.TheVariants as C
 use Rattle.rv_meaning.specs.declared.instr.Instr.{Instr}
@@ -8,7 +8,7 @@ use Rattle.rv_meaning.specs.declared.instr.ImmediateOp.TheVariants as Imm
 use Rattle.rv_meaning.specs.declared.instr.BranchTest.TheVariants as Test
 use Rattle.rv_meaning.specs.Words.{word, signed, sum, flag, operated}
 use Rattle.pli_typing.specs.TypedTree as Y
-use Rattle.pli_meaning.specs.Numbers.{Checked, Gives, Raises, is_of_precision, wrapped, checked, sign_applied}
+use Rattle.pli_meaning.specs.Numbers.{Gives, Raises, is_of_precision, wrapped, checked, sign_applied}
 use Rattle.pli_meaning.specs.Operations.{calculated}
 use Rattle.pli_meaning.specs.StorageState.{State}
 use Rattle.pli_meaning.specs.Control.{Meaning, give, ◌>>◌}
@@ -16,18 +16,17 @@ use Rattle.pli_meaning.specs.Raising as R
 use Rattle.pli_meaning.specs.Raising.{Around}
 use Rattle.pli_serving.specs.ServiceState.{Services}
 use Rattle.pli_coding.specs.Registers.{zero_register, a0, a1, u1, u2, u3, u4}
-use Rattle.pli_coding.specs.Assembly.{RaiseCondition, CallTo, Item, Code, size_of}
+use Rattle.pli_coding.specs.Assembly.{RaiseCondition, CallTo, size_of}
 use Rattle.pli_coding.specs.Instructions.{small, add, subtract, move, immediate, registers, skip_where, lowest_number}
 use Rattle.pli_coding.specs.Environments.{Taken, is_register_left, save, fetch}
-use Rattle.pli_coding.specs.Arithmetic.{raised, overflow_raised, sum_code, difference_code, lowest_checked, calculated_code, signed_code}
+use Rattle.pli_coding.specs.Arithmetic.{overflow_raised, sum_code, difference_code, calculated_code, signed_code}
 use Rattle.pli_coding.specs.Linking.{Links}
-use Rattle.pli_headline.specs.Runs.{Whole}
 use Rattle.pli_headline.proofs.Engine.{Base, address}
 use Rattle.pli_headline.proofs.Items.{Linked, At, straight}
 use Rattle.pli_headline.proofs.Numbers.{IsWide, word_small, sum-word, difference-word, sum_fits, sum_over, difference_fits, difference_over, least_word, negated-word, negated_fits, negated_over}
-use Rattle.pli_headline.proofs.Bodies.{Ground, Known, Free, zero_is}
+use Rattle.pli_headline.proofs.Bodies.{Ground, Known, zero_is}
 use Rattle.pli_headline.proofs.Jumps.{first_of, rest_of, front_of, back_of, skip_taken, skip_passed, call_piece}
-use Rattle.pli_headline.proofs.Temporaries.{Temporaries, held_with, words_with, nothing, save_piece}
+use Rattle.pli_headline.proofs.Temporaries.{Temporaries, held_with, words_with, save_piece}
 use Rattle.pli_headline.proofs.Calls.{Serving}
 use Rattle.pli_headline.proofs.Raising.{Routines, small_is, conditioned, raise_piece}
 use Rattle.pli_headline.proofs.Reach.{Family, Aims, Comes, Closed, before_closed, comes_on, onward}

@@ -1,5 +1,5 @@
 -- Conditions are raised: without a unit in force the run ends.
-use Rattle.std.proofs.Common.{◌≡◌, ℕ, suc, ◌+◌, ◌*◌, ◌^◌, ◌<◌, ◌≤◌, List, [], ◌∷◌, ◌++◌, length, Some, None, true, refl, sym, ap, ◌∙◌, subst, arith, lit<, add-one}
+use Rattle.std.proofs.Common.{◌≡◌, ℕ, suc, ◌+◌, ◌*◌, ◌^◌, ◌<◌, ◌≤◌, List, [], ◌∷◌, ◌++◌, Some, None, true, refl, sym, ap, ◌∙◌, subst, arith, lit<, add-one}
 use Rattle.std.specs.Prelude.{cond, Option, ◌==◌}
 use Rattle.std.proofs.lemmas.Bool.{lt-ltb}
 use Rattle.pli_language.specs.declared.condition.Condition.{Condition}
@@ -10,28 +10,26 @@ use Rattle.rv_meaning.specs.declared.instr.Instr.TheVariants as I
 use Rattle.rv_meaning.specs.declared.instr.BranchTest.TheVariants as Test
 use Rattle.rv_meaning.specs.Words.{sum}
 use Rattle.pli_meaning.specs.World.{World, raising, ending}
-use Rattle.pli_meaning.specs.StorageState.{State, Activation, OnUnit, with_world, force}
-use Rattle.pli_meaning.specs.Control.{Meaning, act, looked, finish, ◌>>=◌, ◌>>◌}
+use Rattle.pli_meaning.specs.StorageState.{State, with_world, force}
+use Rattle.pli_meaning.specs.Control.{act, looked, finish, ◌>>=◌, ◌>>◌}
 use Rattle.pli_meaning.specs.Raising as R
 use Rattle.pli_meaning.specs.Raising.{Around}
 use Rattle.pli_serving.specs.ServiceState as S
 use Rattle.pli_serving.specs.ServiceState.{Services}
 use Rattle.pli_serving.specs.Answers as N
 use Rattle.pli_serving.specs.Answers.{Answer, Done, Ends, Bad, acting}
-use Rattle.pli_serving.specs.Finding.{Call}
 use Rattle.pli_serving.specs.OnUnits as U
 use Rattle.pli_serving.specs.ActsAndEnds as W
 use Rattle.pli_serving.specs.Outcomes.{or_bad, bad_unless}
 use Rattle.pli_coding.specs.Registers.{zero_register, return_register, a0, a2, a7, u0}
-use Rattle.pli_coding.specs.Assembly.{RaiseCondition, RaiseError, ErrorEnd, Mark, BaseIn, OffsetOf, JumpAhead, Plain, Code, size_of}
+use Rattle.pli_coding.specs.Assembly.{RaiseCondition, RaiseError, ErrorEnd, Mark, BaseIn, OffsetOf, JumpAhead, Plain, size_of}
 use Rattle.pli_coding.specs.Linking.{Links, place_of}
 use Rattle.pli_coding.specs.Instructions.{small, subtract}
 use Rattle.pli_coding.specs.Images.{raise_code, error_code, unit_begun, to_unit, error_end}
-use Rattle.pli_headline.specs.Runs.{Whole}
-use Rattle.pli_headline.proofs.Engine.{Base, address, most_code}
+use Rattle.pli_headline.proofs.Engine.{Base, address}
 use Rattle.pli_headline.proofs.Items.{Linked, At, straight}
-use Rattle.pli_headline.proofs.Bodies.{Ground, Body, Known, zero_is}
-use Rattle.pli_headline.proofs.Jumps.{first_of, rest_of, front_of, back_of, linked_at, skip_taken}
+use Rattle.pli_headline.proofs.Bodies.{Ground, Known, zero_is}
+use Rattle.pli_headline.proofs.Jumps.{first_of, rest_of, front_of, back_of, skip_taken}
 use Rattle.pli_headline.proofs.Calls.{Serving, comes_act, comes_finish, call_at, called, Calling, call_acts, call_pauses, end_pauses, call_ends, acts}
 use Rattle.pli_headline.proofs.Reach.{Family, cost, Aims, Comes, Closed, before_closed, comes_on, onward, reached, reached_holds}
 

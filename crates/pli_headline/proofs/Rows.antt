@@ -5,9 +5,9 @@ use Rattle.rv_meaning.specs.declared.instr.Instr.TheVariants as I
 use Rattle.area_keeper.specs.Chain.{chain}
 use Rattle.pli_language.specs.Tree as T
 use Rattle.pli_typing.specs.TypedTree as Y
-use Rattle.pli_headline.specs.Runs.{Picture, Stopped, layout_of, shown_by}
+use Rattle.pli_headline.specs.Runs.{Stopped, layout_of, shown_by}
 use Rattle.pli_headline.specs.Headline.{step_cost}
-use Rattle.pli_headline.specs.ProvedSoFar.{IsProvedSoFar, plain_number}
+use Rattle.pli_headline.specs.ProvedSoFar.{IsProvedSoFar, IsOwnNumber, plain_number}
 
 -- a fault is no world
 fault_shown : shown_by (Stopped BadService) ≡ None
@@ -46,7 +46,7 @@ program =
 
 small_program : IsProvedSoFar program
 small_program =
-    let i = record { index = 0; declared = lit< tt; is = refl } in
+    let i : IsOwnNumber 1 1 whole_i = record { index = 0; declared = lit< tt; is = refl } in
     record {
       head = head;
       body = body;

@@ -1,9 +1,9 @@
 -- The state of a block whose variables hold numbers: variable j has serial j + 1.
-use Rattle.std.proofs.Common.{◌≡◌, ◌≢◌, ℕ, zero, suc, ◌+◌, ◌<◌, List, [], ◌∷◌, Option, Some, None, Bool, true, false, refl, sym, ap, ◌∙◌, subst, arith}
-use Rattle.std.specs.Prelude.{ℤ, pos, cond, ◌==◌, if◌then◌else◌}
-use Rattle.std.proofs.lemmas.Bool.{eqb-true, eq-eqb}
+use Rattle.std.proofs.Common.{◌≡◌, ℕ, suc, ◌<◌, List, [], ◌∷◌, Some, Bool, true, false, refl, sym, ap, ◌∙◌, subst, arith}
+use Rattle.std.specs.Prelude.{ℤ, cond, ◌==◌, if◌then◌else◌}
+use Rattle.std.proofs.lemmas.Bool.{eqb-true}
 use Rattle.std.proofs.lemmas.Bool.Decides.{nat_tests}
-use Rattle.pli_meaning.specs.BasicValues.{VariableName, BasicValue, BasicNumber}
+use Rattle.pli_meaning.specs.BasicValues.{BasicValue, BasicNumber}
 use Rattle.pli_meaning.specs.Contents.{Generation}
 use Rattle.pli_meaning.specs.StorageState.{State, Living, generation_of, living_of, living_changed, generation_changed, standing_for, if_same_shape}
 use Rattle.pli_meaning.specs.Placing as P

@@ -1,26 +1,25 @@
 -- Temporaries: values that wait in registers while some are left, else in words below the frame.
-use Rattle.std.proofs.Common.{◌≡◌, ◌≢◌, ℕ, zero, suc, ◌+◌, ◌-◌, ◌*◌, ◌%◌, ◌^◌, ◌<◌, ◌≤◌, List, [], ◌∷◌, length, Bool, true, false, refl, sym, ap, ◌∙◌, subst, arith}
-use Rattle.std.specs.Prelude.{ℤ, pos, neg_ℤ, nat_lt, cond, ◌==◌, if◌then◌else◌}
+use Rattle.std.proofs.Common.{◌≡◌, ℕ, zero, suc, ◌+◌, ◌-◌, ◌*◌, ◌^◌, ◌<◌, List, [], ◌∷◌, length, Bool, true, false, refl, sym, ap, ◌∙◌, arith}
+use Rattle.std.specs.Prelude.{pos, cond, ◌==◌, if◌then◌else◌}
 use Rattle.std.proofs.lemmas.Bool.{eq-eqb, ltb-true}
 use Rattle.std.proofs.lemmas.Bool.Decides.{nat_tests}
 use Rattle.rv_meaning.specs.declared.instr.Instr.{Instr}
-use Rattle.rv_meaning.specs.declared.instr.Instr.TheVariants as I
 use Rattle.rv_meaning.specs.declared.instr.Register.{Register}
 use Rattle.rv_meaning.specs.Words.{word, sum}
 use Rattle.rv_meaning.specs.Memory.{load, store}
 use Rattle.rv_meaning.specs.Machine.{memory_size, written}
 use Rattle.pli_serving.specs.ServiceState.{Services}
 use Rattle.pli_coding.specs.Registers.{held, frame_register}
-use Rattle.pli_coding.specs.Assembly.{Code, size_of}
+use Rattle.pli_coding.specs.Assembly.{size_of}
 use Rattle.pli_coding.specs.Instructions.{move, load_word, store_word}
 use Rattle.pli_coding.specs.Frames.{words_place}
 use Rattle.pli_coding.specs.Environments.{Taken, is_register_left, with_number, save, fetch}
 use Rattle.pli_coding.specs.Linking.{Links}
 use Rattle.pli_headline.specs.Runs.{Whole}
-use Rattle.pli_headline.proofs.Engine.{Base, address}
+use Rattle.pli_headline.proofs.Engine.{Base}
 use Rattle.pli_headline.proofs.Items.{Linked, At, straight}
 use Rattle.pli_headline.proofs.Numbers.{below_sum, below_small}
-use Rattle.pli_headline.proofs.Bodies.{Ground, Body, Known, Regs, Free, PlaceOf, with', nth, reserved, reserved_are, set_known, load_piece, store_piece}
+use Rattle.pli_headline.proofs.Bodies.{Ground, Known, Free, PlaceOf, with', nth, reserved, reserved_are, set_known, load_piece, store_piece}
 use Rattle.pli_headline.proofs.Reach.{Family, Reach, reach_map}
 
 -- ---- what stands in temporaries

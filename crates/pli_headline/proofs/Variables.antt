@@ -1,12 +1,12 @@
 -- Variables of the running block that hold a number: in the meaning, and the code that reaches them.
-use Rattle.std.proofs.Common.{◌≡◌, ℕ, zero, suc, ◌+◌, ◌*◌, ◌<◌, ◌≤◌, List, [], ◌∷◌, ◌++◌, length, Option, Some, None, true, false, refl, sym, ap, ◌∙◌, subst, arith}
+use Rattle.std.proofs.Common.{◌≡◌, ℕ, ◌+◌, List, [], ◌++◌, Option, Some, ap, ◌∙◌}
 use Rattle.std.specs.Prelude.{ℤ, pos, slice_get, take, unwrap_or, if◌then◌else◌}
 use Rattle.pli_typing.specs.TypedTree as Y
 use Rattle.pli_meaning.specs.BasicValues.{VariableName, BasicValue, BasicNumber}
 use Rattle.pli_meaning.specs.Contents.{Shape, Generation, number_in, is_within}
 use Rattle.pli_meaning.specs.DeclaredShapes.{shape_of, variables_of_block}
 use Rattle.pli_meaning.specs.StorageState.{State, Binding, standing_for, named}
-use Rattle.pli_meaning.specs.Control.{Flow, Meaning, give, flow_on, looked, choose, ◌>>=◌, ◌>>◌}
+use Rattle.pli_meaning.specs.Control.{give, flow_on, looked, choose, ◌>>=◌, ◌>>◌}
 use Rattle.pli_meaning.specs.Raising as R
 use Rattle.pli_meaning.specs.Raising.{Around}
 use Rattle.pli_meaning.specs.Evaluating as V
