@@ -1,10 +1,9 @@
 -- Linked code is made of instructions whose fields hold their operands.
-use Rattle.std.proofs.Common.{◌≡◌, ℕ, zero, suc, ◌+◌, ◌*◌, ◌<◌, ◌≤◌, List, [], ◌∷◌, ◌++◌, map, length, drop, refl, sym, ap, ◌∙◌, subst, append-nil, arith}
+use Rattle.std.proofs.Common.{◌≡◌, ℕ, zero, suc, ◌+◌, ◌*◌, ◌≤◌, List, [], ◌∷◌, ◌++◌, map, length, drop, refl, sym, ap, ◌∙◌, subst, append-nil, arith}
 use Rattle.std.proofs.lemmas.List.{drop_all}
-use Rattle.std.specs.Prelude.{slice_index}
 use Rattle.rv_meaning.specs.declared.instr.Instr.{Instr}
 use Rattle.rv_meaning.specs.Encoding.{Fits, word_of}
-use Rattle.rv_meaning.specs.Images.{IsInstruction, AllInstructions}
+use Rattle.rv_meaning.specs.Images.{AllInstructions}
 use Rattle.pli_coding.specs.Assembly.{Item, Plain, BaseIn, OffsetOf, OffsetAhead, JumpTo, CallTo, JumpAhead, JumpBack, Mark, Code, item_size}
 use Rattle.pli_coding.specs.Linking.{Links, item_code, linked}
 use Rattle.rv_assembly.specs.declared.item.Item.{Item as Held}

@@ -1,8 +1,7 @@
 -- The loops that write the bytes of data.
-use Rattle.std.proofs.Common.{◌≡◌, ℕ, suc, ◌+◌, ◌-◌, ◌<◌, List, [], ◌∷◌, ◌++◌, map, length, drop, get_or, refl, sym, ap, ◌∙◌, append_assoc, append-nil, add-one, arith}
+use Rattle.std.proofs.Common.{◌≡◌, ℕ, ◌+◌, ◌-◌, ◌<◌, List, [], ◌∷◌, ◌++◌, map, length, drop, get_or, sym, ap, ◌∙◌, append_assoc, arith}
 use Rattle.std.specs.Prelude.{replicate}
 use Rattle.std.proofs.lemmas.List.{replicate-append-replicate}
-use Rattle.pli_coding.specs.Assembly.{Datum}
 use Rattle.pli_coding.specs.StaticData.{PlacedDatum, datum_size, datum_bytes, bytes_from}
 use Rattle.rv_assembly.specs.declared.placing.PlacedDatum.{PlacedDatum as Held}
 use Rattle.rv_assembly.specs.Borrowed.{datum}

@@ -1,9 +1,9 @@
 -- The loop over code that becomes words.
-use Rattle.std.proofs.Common.{◌≡◌, ℕ, suc, ◌+◌, ◌*◌, ◌^◌, ◌<◌, List, [], ◌∷◌, ◌++◌, map, length, drop, get_or, refl, sym, ap, ◌∙◌, subst, append_assoc, arith}
+use Rattle.std.proofs.Common.{◌≡◌, ℕ, ◌+◌, ◌*◌, ◌^◌, ◌<◌, List, ◌∷◌, ◌++◌, map, length, drop, get_or, sym, ap, ◌∙◌, subst, append_assoc, arith}
 use Rattle.std.proofs.lemmas.List.{map-append}
 use Rattle.rv_meaning.specs.declared.instr.Instr.{Instr}
 use Rattle.rv_meaning.specs.Encoding.{word_of}
-use Rattle.pli_coding.specs.Assembly.{Item, Code, item_size, size_of}
+use Rattle.pli_coding.specs.Assembly.{item_size}
 use Rattle.pli_coding.specs.Linking.{Links, item_code, linked}
 use Rattle.rv_assembly.specs.declared.item.Item.{Item as Held}
 use Rattle.rv_assembly.specs.View.{item_of}

@@ -1,7 +1,6 @@
 -- The loops over the items of code.
-use Rattle.std.proofs.Common.{◌≡◌, ℕ, suc, ◌+◌, ◌*◌, ◌<◌, ◌^◌, List, [], ◌∷◌, ◌++◌, map, length, drop, get_or, refl, sym, ap, ◌∙◌, append_assoc, append-nil, add-one, drop-cons, arith}
-use Rattle.std.specs.Prelude.{slice_index_or}
-use Rattle.pli_coding.specs.Assembly.{Symbol, Item, Plain, BaseIn, OffsetOf, OffsetAhead, JumpTo, CallTo, JumpAhead, JumpBack, Mark, Code, item_size, size_of}
+use Rattle.std.proofs.Common.{◌≡◌, ℕ, suc, ◌+◌, ◌*◌, ◌<◌, ◌^◌, List, ◌∷◌, ◌++◌, map, length, drop, get_or, refl, sym, ap, ◌∙◌, append_assoc, add-one, drop-cons, arith}
+use Rattle.pli_coding.specs.Assembly.{Item, Plain, BaseIn, OffsetOf, OffsetAhead, JumpTo, CallTo, JumpAhead, JumpBack, Mark, Code, item_size, size_of}
 use Rattle.pli_coding.specs.Linking.{MarkedPlace, marks_from}
 use Rattle.rv_assembly.specs.declared.item.Item.{Item as Held}
 use Rattle.rv_assembly.specs.View.{item_of}

@@ -1,5 +1,5 @@
 -- The loop over data that is placed.
-use Rattle.std.proofs.Common.{◌≡◌, ℕ, ◌+◌, ◌<◌, List, [], ◌∷◌, ◌++◌, map, length, drop, get_or, refl, sym, ap, ◌∙◌, append_assoc}
+use Rattle.std.proofs.Common.{◌≡◌, ℕ, ◌+◌, ◌<◌, List, [], ◌∷◌, ◌++◌, map, length, drop, get_or, sym, ap, ◌∙◌, append_assoc}
 use Rattle.pli_coding.specs.Assembly.{Datum}
 use Rattle.pli_coding.specs.StaticData.{PlacedDatum, datum_size, begins_at, placed_from}
 use Rattle.rv_assembly.specs.declared.statics.DatumRef.{DatumRef}

@@ -1,5 +1,5 @@
 -- What is put in its place when the code behind it is known.
-use Rattle.std.proofs.Common.{◌≡◌, ℕ, zero, suc, ◌+◌, ◌-◌, ◌*◌, ◌<◌, List, [], ◌∷◌, ◌++◌, length, refl, sym, ap, ◌∙◌, subst, arith, append_assoc, length-append}
+use Rattle.std.proofs.Common.{◌≡◌, ℕ, ◌+◌, ◌-◌, ◌<◌, [], ◌∷◌, ◌++◌, length, refl, sym, ap, ◌∙◌, subst, arith, append_assoc, length-append}
 use Rattle.std.specs.Prelude.{slice_set, slice_index_or}
 use Rattle.std.proofs.Math.Seq.{set-append_seam}
 use Rattle.rv_meaning.specs.declared.instr.Register.{Register}
@@ -59,11 +59,6 @@ jumped_is before inner =
 
 -- ---- two places
 
--- the second one, seen from before the first
-pub is_later_jump : (before second first : Code) → IsPlace 2 (before ++ (branch_kept ∷ (second ++ (jump_kept ∷ first)))) (jump_place (before ++ (branch_kept ∷ second)))
-is_later_jump before second first =
-    subst (λ u. IsPlace 2 u (jump_place (before ++ (branch_kept ∷ second)))) (append_assoc before (branch_kept ∷ second) (jump_kept ∷ first)) (is_jump (before ++ (branch_kept ∷ second)) first)
-
 pub between : (before second : Code) → words_between (branch_place before) (jump_place (before ++ (branch_kept ∷ second))) ≡ size_of second + 2
 unfolding words_between branch_place jump_place
 between before second =
@@ -84,10 +79,11 @@ second_patched before second first x y =
     ∙ set-append_seam (before ++ (x ∷ second)) jump_kept first y
     ∙ append_assoc before (x ∷ second) (y ∷ first)
 
-pub chosen_is : (before second first : Code) (test : BranchTest) (r s : Register)
+chosen_whole : (before second first : Code) (test : BranchTest) (r s : Register)
     → chosen (before ++ (branch_kept ∷ (second ++ (jump_kept ∷ first)))) (branch_place before) (jump_place (before ++ (branch_kept ∷ second))) test r s
     ≡ before ++ choice test r s first second
-chosen_is before second first test r s =
+unfolding chosen
+chosen_whole before second first test r s =
     let b = branch_place before in
     let j = jump_place (before ++ (branch_kept ∷ second)) in
     let code : Code = before ++ (branch_kept ∷ (second ++ (jump_kept ∷ first))) in
@@ -101,6 +97,13 @@ chosen_is before second first test r s =
     ∙ ap (λ n. before ++ (x ∷ (second ++ (JumpAhead n ∷ first)))) behind
     ∙ ap (λ n. before ++ (branch test r s n ∷ (second ++ (JumpAhead (size_of first) ∷ first)))) length_is
     ∙ ap (λ u. before ++ (branch test r s (size_of (second ++ JumpAhead (size_of first) ∷ [])) ∷ u)) (sym (append_assoc second (JumpAhead (size_of first) ∷ []) first))
+
+pub chosen_is : (before second first : Code) (test : BranchTest) (r s : Register)
+    → chosen ((before ++ (branch_kept ∷ second)) ++ (jump_kept ∷ first)) (branch_place before) (jump_place (before ++ (branch_kept ∷ second))) test r s
+    ≡ before ++ choice test r s first second
+chosen_is before second first test r s =
+    ap (λ u. chosen u (branch_place before) (jump_place (before ++ (branch_kept ∷ second))) test r s) (append_assoc before (branch_kept ∷ second) (jump_kept ∷ first))
+    ∙ chosen_whole before second first test r s
 
 pub repeated_is : (before inner : Code) → repeated_from (size_of before) (before ++ inner) ≡ before ++ repeated_while_zero inner
 unfolding repeated_from

@@ -1,5 +1,5 @@
 -- Symbols and data that are one are equal as the program compares them.
-use Rattle.std.proofs.Common.{◌≡◌, ℕ, Bool, true, false, ◌&&◌, ◌==◌, nat_eq, List, [], ◌∷◌, map, refl, sym, ap, ◌∙◌, Bor}
+use Rattle.std.proofs.Common.{◌≡◌, ℕ, Bool, true, false, ◌&&◌, ◌==◌, nat_eq, List, [], ◌∷◌, map, refl, ap, ◌∙◌}
 use Rattle.std.specs.Cmp.Lexicographic.{pointwise}
 use Rattle.pli_language.specs.Keywords.{same_bytes}
 use Rattle.pli_coding.specs.Assembly.{same_initial, same_datum, same_symbol}

@@ -1,5 +1,5 @@
 -- The definitions' data, as borrowed data shows it, and data by its sort.
-use Rattle.std.specs.Prelude.{ℕ, Bool, List, [], ◌∷◌, map}
+use Rattle.std.specs.Prelude.{Bool, List, [], map}
 use Rattle.pli_coding.specs.Assembly as A
 use Rattle.pli_coding.specs.StaticData.{is_initial, is_constant, is_word, is_storage, data_of_symbol}
 use Rattle.rv_assembly.specs.declared.statics.DatumRef.{DatumRef}

@@ -1,5 +1,5 @@
 -- Items whose numbers their words hold.
-use Rattle.std.specs.Prelude.{ℕ, ◌<◌, ◌^◌, ⊤, List, [], ◌∷◌}
+use Rattle.std.specs.Prelude.{ℕ, ◌<◌, ◌^◌, ⊤, [], ◌∷◌}
 use Rattle.rv_meaning.specs.Encoding.{Fits}
 use Rattle.pli_coding.specs.Assembly.{Item, Plain, BaseIn, OffsetOf, OffsetAhead, JumpTo, CallTo, JumpAhead, JumpBack, Mark, Code}
 

@@ -1,6 +1,6 @@
 -- Marked places, as the linker's values show them, and how the first of a symbol is found.
-use Rattle.std.specs.Prelude.{◌≡◌, ℕ, List, [], ◌∷◌, map, Option, Some, None, if◌then◌else◌}
-use Rattle.pli_coding.specs.Assembly.{Symbol, same_symbol, Item, Plain, BaseIn, OffsetOf, OffsetAhead, JumpTo, CallTo, JumpAhead, JumpBack, Mark}
+use Rattle.std.specs.Prelude.{ℕ, List, [], ◌∷◌}
+use Rattle.pli_coding.specs.Assembly.{Item, Plain, BaseIn, OffsetOf, OffsetAhead, JumpTo, CallTo, JumpAhead, JumpBack, Mark}
 use Rattle.pli_coding.specs.Linking as L
 use Rattle.rv_assembly.specs.declared.marks.MarkedPlace.{MarkedPlace}
 use Rattle.rv_assembly.specs.View.{symbol_of}

@@ -48,7 +48,7 @@ jumped_over code p = patched code p (JumpAhead (words_behind code p))
 unfoldable pub words_between : Place → Place → ℕ
 words_between p q = q.words - p.words
 
-abbrev pub chosen : Code → (branch jump : Place) → BranchTest → Register → Register → Code
+unfoldable pub chosen : Code → (branch jump : Place) → BranchTest → Register → Register → Code
 chosen code b j test r s =
     patched (patched code b (branch test r s (words_between b j))) j (JumpAhead (words_behind code j))
 

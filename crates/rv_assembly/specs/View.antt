@@ -1,5 +1,5 @@
 -- The definitions' items, symbols and data, as the values of this crate show them.
-use Rattle.std.specs.Prelude.{ℕ, List, map}
+use Rattle.std.specs.Prelude.{map}
 use Rattle.pli_coding.specs.Assembly as A
 use Rattle.rv_assembly.specs.declared.item.InitialLeaf.{InitialLeaf}
 use Rattle.rv_assembly.specs.declared.item.Datum.{Datum}

@@ -155,7 +155,7 @@ impl Code {
 
     /// A branch at the first place, past the jump at the second one, which goes over all that was written since: where the
     /// test holds, the code behind the jump is done, and else the code before it.
-    #[tactic(auto, using(crate::proofs::Places::still_place, crate::proofs::Places::behind_patched))]
+    #[tactic(auto, using(crate::proofs::Places::still_place, crate::proofs::Places::behind_patched), unfolding(crate::specs::Places::chosen))]
     pub fn choose(
         &mut self,
         branch: Place,

@@ -1,7 +1,6 @@
-use Rattle.std.proofs.Common.{◌==◌, List, map, take, sym, ap, subst, Bor}
+use Rattle.std.proofs.Common.{List, map, take, sym, ap, subst}
 use Rattle.std.proofs.lemmas.List.{take_all}
 use Rattle.pli_coding.specs.Linking.{MarkedPlace}
-use Rattle.rv_assembly.specs.declared.item.Symbol.{Symbol}
 use Rattle.rv_assembly.specs.contracts.item.SymbolPartialEq.TheImpl as symbol
 use Rattle.rv_assembly.specs.Marks.{mark_of}
 use Rattle.rv_assembly.specs.Found.{FindsMarks}

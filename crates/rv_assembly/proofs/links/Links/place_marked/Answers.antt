@@ -1,9 +1,6 @@
-use Rattle.std.proofs.Common.{ℕ, map, sym, ap, ◌∙◌, Option, Bor}
-use Rattle.std.specs.Option.{option_map_or}
+use Rattle.std.proofs.Common.{map}
 use Rattle.rv_assembly.specs.contracts.item.SymbolPartialEq.TheImpl as symbol
-use Rattle.rv_assembly.specs.View.{symbol_of}
 use Rattle.rv_assembly.specs.Marks.{mark_of}
-use Rattle.rv_assembly.specs.Found.{FindsMarks}
 use Rattle.rv_assembly.proofs.Finding.{marks_answer}
 use Rattle.rv_assembly.proofs.Same.{same_symbols}
 use Rattle.rv_assembly.proofs.links.Links.place_marked.Goals as goal
