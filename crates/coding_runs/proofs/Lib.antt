@@ -11,6 +11,9 @@ mod FormRuns
 mod ArraysApart
 mod UnitKinds
 mod TurnKinds
-mod BlocksLeft
 mod AreaKinds
-mod OffsetKinds
+mod BlockKinds
+mod ArgumentKinds
+mod StorageKinds
+mod LocatorKinds
+mod StreamKinds
