@@ -1,0 +1,4 @@
+pub mod Columns
+pub mod Markings
+pub mod Taking
+pub mod Ways

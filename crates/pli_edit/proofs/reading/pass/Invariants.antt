@@ -1,0 +1,12 @@
+use Rattle.std.proofs.Common.{◌≡◌, ◌+◌, ◌^◌, ◌<◌, length}
+use Rattle.pli_meaning.specs.InputLines.{place_behind}
+use Rattle.pli_edit.proofs.reading.pass.Given as goal
+
+abbrev pub invariant-loop-left : goal.invariant-loop-left
+invariant-loop-left l = record {
+  reached : place_behind l.left l.column l.marks ≡ place_behind l.fn.count l.fn.start l.fn.marks;
+  room : l.column + length l.marks < 2 ^ 64;
+}
+
+abbrev pub decreases-loop-left : goal.decreases-loop-left
+decreases-loop-left l = length l.marks

@@ -1,0 +1,36 @@
+-- Fields that are taken.
+use Rattle.std.specs.Prelude.{◌≡◌, ℕ, ℤ, Bool, true, false, Option, Some, None, Result, Ok, Err, Vec}
+use Rattle.std.specs.declared.alloc.Global.{Global}
+use Rattle.pli_meaning.specs.InputLines.{Input, has_character, field_of, behind_field}
+use Rattle.pli_meaning.specs.Texts.{number_in_text}
+use Rattle.pli_edit.specs.declared.fault.EditFault.{EditFault}
+use Rattle.pli_edit.specs.declared.fault.EditFault.TheVariants.{AtEnd, NotNumber, Memory}
+
+-- ---- GET
+
+-- a field is taken where a character is left; without one, or without memory, the input stays
+abbrev pub TakesText : (width : ℕ) → (old : Input) → (is_left : Bool) → Result (Vec ℕ Global) EditFault → (new : Input) → Type 0
+TakesText width old false result new = (result ≡ Err AtEnd) × (new ≡ old)
+TakesText width old true (Ok field) new = (field.items ≡ field_of width old) × (new ≡ behind_field width old)
+TakesText width old true (Err fault) new = (fault ≡ Memory) × (new ≡ old)
+
+-- a field's number; a field that stands for none is taken too
+abbrev pub IsNumberOf : Option ℤ → Result ℤ EditFault → Type 0
+IsNumberOf number (Ok z) = number ≡ Some z
+IsNumberOf number (Err fault) = (number ≡ None) × (fault ≡ NotNumber)
+
+abbrev pub TakesNumber : (width : ℕ) → (old : Input) → (is_left : Bool) → Result ℤ EditFault → (new : Input) → Type 0
+TakesNumber width old false result new = (result ≡ Err AtEnd) × (new ≡ old)
+TakesNumber width old true (Err Memory) new = new ≡ old
+TakesNumber width old true result new = IsNumberOf (number_in_text (field_of width old)) result × (new ≡ behind_field width old)
+-- ---- PUT
+
+-- this output, or without memory the output stays
+abbrev pub IsWritten : (output old : List ℕ) → Result (Unit {0}) EditFault → (new : List ℕ) → Type 0
+IsWritten output old (Ok done) new = new ≡ output
+IsWritten output old (Err fault) new = (fault ≡ Memory) × (new ≡ old)
+
+-- a number's field behind the output, where it is wide enough
+abbrev pub IsFieldWritten : Option (List ℕ) → (old : List ℕ) → Result (Unit {0}) EditFault → (new : List ℕ) → Type 0
+IsFieldWritten (Some field) old result new = IsWritten (with_field field old) old result new
+IsFieldWritten None old result new = (result ≡ Err TooWide) × (new ≡ old)
