@@ -1,10 +1,11 @@
--- Fields that are taken.
-use Rattle.std.specs.Prelude.{◌≡◌, ℕ, ℤ, Bool, true, false, Option, Some, None, Result, Ok, Err, Vec}
+-- Fields that are taken and written.
+use Rattle.std.specs.Prelude.{◌≡◌, ℕ, ℤ, Bool, true, false, List, Option, Some, None, Result, Ok, Err, Vec}
 use Rattle.std.specs.declared.alloc.Global.{Global}
 use Rattle.pli_meaning.specs.InputLines.{Input, has_character, field_of, behind_field}
-use Rattle.pli_meaning.specs.Texts.{number_in_text}
+use Rattle.pli_meaning.specs.Stream.{with_field}
+use Rattle.pli_meaning.specs.Texts.{fitted, number_in_text}
 use Rattle.pli_edit.specs.declared.fault.EditFault.{EditFault}
-use Rattle.pli_edit.specs.declared.fault.EditFault.TheVariants.{AtEnd, NotNumber, Memory}
+use Rattle.pli_edit.specs.declared.fault.EditFault.TheVariants.{AtEnd, TooWide, NotNumber, Memory}
 
 -- ---- GET
 
@@ -23,7 +24,13 @@ abbrev pub TakesNumber : (width : ℕ) → (old : Input) → (is_left : Bool) �
 TakesNumber width old false result new = (result ≡ Err AtEnd) × (new ≡ old)
 TakesNumber width old true (Err Memory) new = new ≡ old
 TakesNumber width old true result new = IsNumberOf (number_in_text (field_of width old)) result × (new ≡ behind_field width old)
+
 -- ---- PUT
+
+-- the field of A: the text itself without a width, else padded with blanks or cut on the right
+abbrev pub text_field : Option ℕ → List ℕ → List ℕ
+text_field None t = t
+text_field (Some width) t = fitted width t
 
 -- this output, or without memory the output stays
 abbrev pub IsWritten : (output old : List ℕ) → Result (Unit {0}) EditFault → (new : List ℕ) → Type 0

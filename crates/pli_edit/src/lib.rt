@@ -1,4 +1,4 @@
-// Edit-directed input: fields that are taken, and the items that pass characters and lines.
+// Edit-directed streams: the fields that GET takes from the input and PUT writes behind the output, and the items that move in both.
 #![tactic(auto)]
 
 pub mod fault;

@@ -2,11 +2,10 @@
 
 ghost use Rattle.std.specs.Prelude.{◌≡◌, ◌++◌, [], ◌∷◌};
 ghost use Rattle.pli_meaning.specs.Stream as stream;
-ghost use Rattle.pli_serving.specs.Edits.{text_field};
-ghost use Rattle.pli_edit.specs.Fields.{IsWritten, IsFieldWritten};
+ghost use Rattle.pli_edit.specs.Fields.{text_field, IsWritten, IsFieldWritten};
 
 use crate::fault::EditFault;
-use crate::line::line_behind;
+use crate::line::{append, line_behind};
 use itoa::Buffer;
 use pli_text::number::decimal;
 use std::alloc::Global;
@@ -119,12 +118,7 @@ impl Output {
     fn write(&mut self, before: u32, text: &[u8], behind: u32) -> Result<(), EditFault>
         ensures { IsWritten (self.old ++ (stream.blanks before ++ (text.now ++ stream.blanks behind))) self.old result self.new }
     {
-        let length = self.bytes.len();
-        self.bytes.reserve(before as usize + text.len() + behind as usize)?;
-        self.bytes.resize(length + before as usize, b' ').unwrap();
-        self.bytes.extend_from_slice(text).unwrap();
-        let end = self.bytes.len();
-        self.bytes.resize(end + behind as usize, b' ').unwrap();
+        append(&mut self.bytes, before, text, behind)?;
         self.line = line_behind(self.line + before as usize, text) + behind as usize;
         Ok(())
     }
