@@ -8,11 +8,9 @@ use std::alloc::AllocError;
 
 /// A text comes behind the bytes, between blanks. Without memory an `AllocError`, and then nothing changed.
 pub fn append(bytes: &mut Vec<u8>, before: u32, text: &[u8], behind: u32) -> Result<(), AllocError>
-    ensures {
-        MatchResult result
-            (λ _. bytes.new.items ≡ bytes.old.items ++ (blanks before ++ (text.now ++ blanks behind)))
-            (λ _. bytes.new.items ≡ bytes.old.items)
-    }
+    ensures { MatchResult result
+        (λ _. bytes.new.items ≡ bytes.old.items ++ (blanks before ++ (text.now ++ blanks behind)))
+        (λ _. bytes.new.items ≡ bytes.old.items) }
 {
     let length = bytes.len();
     bytes.reserve(before as usize + text.len() + behind as usize)?;

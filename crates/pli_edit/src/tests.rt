@@ -1,7 +1,8 @@
-// Each call once; with a refused allocation the answer is Memory, and nothing is taken.
+// Each call once; with a refused allocation the answer is Memory, and nothing is taken or written.
 
 use crate::fault::EditFault;
 use crate::input::Input;
+use crate::output::Output;
 use std::alloc::Global;
 use std::test::Fail;
 
@@ -28,4 +29,53 @@ fn fields_are_taken_or_memory_is_refused(rt: HostRuntime) -> Result<(), Fail> {
         Err(fault) => assert!(rt; fault == EditFault::Memory),
     }
     Ok(())
+}
+
+#[test]
+fn strange_fields_and_the_end_are_told(rt: HostRuntime) {
+    let Ok(mut input) = Input::new(rt.alloc(), b"A2\n12") else {
+        return;
+    };
+    let strange = input.get_f(1);
+    assert!(rt; strange == Err(EditFault::NotNumber) || strange == Err(EditFault::Memory));
+    input.skip(1);
+    let number = input.get_f(5);
+    let behind = input.get_f(5);
+    if number == Ok(12) {
+        assert!(rt; behind == Err(EditFault::AtEnd));
+    } else {
+        assert!(rt; number == Err(EditFault::Memory) && (behind == Ok(12) || behind == number));
+    }
+}
+
+// Numbers with a format that is used again, texts at columns, and a line that is left open.
+fn write(output: &mut Output) -> Result<(), EditFault> {
+    output.put_f(1, 2)?;
+    output.space(1)?;
+    output.skip(1)?;
+    output.put_f(-2, 3)?;
+    output.skip(2)?;
+    output.put_a(b"A", None)?;
+    output.column(4)?;
+    output.put_a(b"BCD", Some(2))?;
+    output.column(3)?;
+    output.put_a(b"E", Some(3))?;
+    output.finish()?;
+    output.finish()
+}
+
+#[test]
+fn fields_are_written_or_memory_is_refused(rt: HostRuntime) {
+    let mut output = Output::new(rt.alloc());
+    let whole = b" 1 \n -2\n\nA  BC\n  E  \n".as_slice();
+    match write(&mut output) {
+        Ok(()) => assert!(rt; output.bytes() == whole),
+        Err(fault) => assert!(rt; fault == EditFault::Memory && whole.starts_with(output.bytes())),
+    }
+}
+
+#[test]
+fn a_wide_number_is_refused(rt: HostRuntime) {
+    let mut output = Output::new(rt.alloc());
+    assert!(rt; output.put_f(12345, 4) == Err(EditFault::TooWide) && output.bytes().is_empty());
 }
