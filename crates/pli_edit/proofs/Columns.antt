@@ -1,5 +1,5 @@
 -- The column behind an output, by the length of its last line.
-use Rattle.std.proofs.Common.{◌≡◌, ℕ, zero, suc, ◌+◌, ◌-◌, ◌<◌, ◌≤◌, Bool, true, false, not, ◌==◌, List, [], ◌∷◌, ◌++◌, length, reverse, replicate, refl, sym, ap, ◌∙◌, append_assoc, add-zero, arith, if◌then◌else◌}
+use Rattle.std.proofs.Common.{◌≡◌, ℕ, zero, suc, ◌+◌, ◌<◌, ◌≤◌, Bool, not, ◌==◌, List, [], ◌∷◌, ◌++◌, length, reverse, replicate, refl, sym, ap, ◌∙◌, append_assoc, add-zero, arith, if◌then◌else◌}
 use Rattle.std.specs.Prelude.{take_while}
 use Rattle.std.specs.List.{prefix_len}
 use Rattle.std.proofs.Math.Nat.{min-le_right}

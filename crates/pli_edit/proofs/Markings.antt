@@ -1,8 +1,7 @@
 -- The first mark of bytes.
-use Rattle.std.proofs.Common.{◌≡◌, ◌≢◌, ℕ, suc, ◌+◌, ◌-◌, ◌<◌, ◌≤◌, Bool, true, false, ◌&&◌, ◌==◌, List, [], ◌∷◌, length, drop, get_or, Some, None, refl, sym, ap, ◌∙◌, arith}
+use Rattle.std.proofs.Common.{◌≡◌, ◌≢◌, ℕ, suc, ◌<◌, Bool, true, false, ◌&&◌, ◌==◌, List, [], ◌∷◌, length, get_or, Some, None, refl, arith}
 use Rattle.std.proofs.lemmas.Bool.{false_from_ne_true, eqb-true}
-use Rattle.std.proofs.lemmas.Bool.Decides.{nat_tests}
-use Rattle.pli_meaning.specs.InputLines.{Mark, CharacterMark, LineEndMark, marks_of, begins_with_line_feed}
+use Rattle.pli_meaning.specs.InputLines.{begins_with_line_feed}
 use Rattle.pli_edit.specs.declared.mark.Mark.TheVariants as M
 use Rattle.pli_edit.specs.Marks.{IsFirstMark}
 

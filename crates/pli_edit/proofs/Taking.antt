@@ -1,9 +1,9 @@
 -- Fields that are taken from the input.
-use Rattle.std.proofs.Common.{◌≡◌, ℕ, zero, suc, ◌+◌, ◌-◌, ◌≤◌, Bool, true, false, ◌&&◌, ◌==◌, cond, List, [], ◌∷◌, ◌++◌, length, take, replicate, Some, None, Ok, Err, ℤ, Option, refl, sym, ap, ◌∙◌, arith}
+use Rattle.std.proofs.Common.{◌≡◌, ℕ, zero, suc, ◌+◌, ◌-◌, ◌≤◌, Bool, true, false, ◌&&◌, ◌==◌, cond, List, [], ◌∷◌, ◌++◌, length, take, replicate, Some, None, Ok, Err, ℤ, refl, sym, ap, ◌∙◌, arith}
 use Rattle.std.specs.Prelude.{Vec}
 use Rattle.std.specs.declared.alloc.Global.{Global}
 use Rattle.std.proofs.lemmas.List.{take-replicate}
-use Rattle.pli_meaning.specs.InputLines.{Input, Mark, CharacterMark, LineEndMark, marks_of, begins_with_line_feed, field_of, behind_field}
+use Rattle.pli_meaning.specs.InputLines.{Input, Mark, marks_of, begins_with_line_feed, field_of, behind_field}
 use Rattle.pli_meaning.specs.Texts.{fitted, number_in_text}
 use Rattle.pli_edit.specs.declared.fault.EditFault.{EditFault}
 use Rattle.pli_edit.specs.declared.fault.EditFault.TheVariants.{AtEnd, TooWide, NotNumber, Memory}

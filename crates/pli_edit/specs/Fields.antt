@@ -1,7 +1,7 @@
 -- Fields that are taken and written.
 use Rattle.std.specs.Prelude.{◌≡◌, ℕ, ℤ, Bool, true, false, List, Option, Some, None, Result, Ok, Err, Vec}
 use Rattle.std.specs.declared.alloc.Global.{Global}
-use Rattle.pli_meaning.specs.InputLines.{Input, has_character, field_of, behind_field}
+use Rattle.pli_meaning.specs.InputLines.{Input, field_of, behind_field}
 use Rattle.pli_meaning.specs.Stream.{with_field}
 use Rattle.pli_meaning.specs.Texts.{fitted, number_in_text}
 use Rattle.pli_edit.specs.declared.fault.EditFault.{EditFault}

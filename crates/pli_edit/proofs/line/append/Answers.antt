@@ -1,4 +1,4 @@
-use Rattle.std.proofs.Common.{◌≡◌, ◌++◌, ◌+◌, ◌∙◌, ap, replicate, vec_len, length, arith}
+use Rattle.std.proofs.Common.{◌≡◌, ◌++◌, ◌+◌, ◌∙◌, ap, vec_len, arith}
 use Rattle.pli_meaning.specs.Stream.{blanks}
 use Rattle.pli_edit.proofs.Growing.{grown, three-behind}
 use Rattle.pli_edit.proofs.line.append.Goals as goal

@@ -1,4 +1,4 @@
-use Rattle.std.proofs.Common.{◌≡◌, ℕ, true, length, take, replicate, ◌-◌, ◌++◌, vec_len, sym, ap, ◌∙◌, arith}
+use Rattle.std.proofs.Common.{◌≡◌, true, length, take, replicate, ◌-◌, ◌++◌, vec_len, sym, ap, ◌∙◌, arith}
 use Rattle.pli_meaning.specs.InputLines.{has_character, field_of, behind_field, characters}
 use Rattle.pli_edit.proofs.Taking.{text-taken, field-padded}
 use Rattle.pli_edit.proofs.input.Input.get_a.Goals as goal

@@ -1,4 +1,4 @@
-use Rattle.std.proofs.Common.{◌≡◌, ◌+◌, ◌∙◌, sym, ap}
+use Rattle.std.proofs.Common.{◌+◌, ◌∙◌, sym, ap}
 use Rattle.pli_meaning.specs.Stream.{column_of}
 use Rattle.pli_edit.proofs.Columns.{column-written}
 use Rattle.pli_edit.proofs.output.Output.write.Goals as goal
