@@ -1,0 +1,12 @@
+pub mod Decodable
+pub mod Filling
+pub mod Finding
+pub mod Growing
+pub mod LinkedSteps
+pub mod Marking
+pub mod Naming
+pub mod Numbers
+pub mod Patching
+pub mod PlacedSteps
+pub mod Places
+pub mod Same
