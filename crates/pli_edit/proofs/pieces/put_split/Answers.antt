@@ -1,4 +1,3 @@
-use Rattle.std.proofs.Common.{◌≡◌}
 use Rattle.pli_edit.proofs.FormatPieces.{left_three, weight_three}
 use Rattle.pli_edit.proofs.pieces.put_split.Goals as goal
 
