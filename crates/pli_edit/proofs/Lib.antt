@@ -1,4 +1,5 @@
 pub mod Columns
+pub mod FormatPieces
 pub mod Growing
 pub mod Markings
 pub mod Taking

@@ -1,3 +1,4 @@
 pub mod LastLine
 pub mod Fields
+pub mod FormatPlaces
 pub mod Marks

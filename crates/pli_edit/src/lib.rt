@@ -2,10 +2,13 @@
 #![tactic(auto)]
 
 pub mod fault;
+pub mod format;
 pub mod input;
 mod line;
 mod mark;
 pub mod output;
+mod pieces;
+pub mod place;
 mod reading;
 #[cfg(test)]
 mod tests;

@@ -1,8 +1,10 @@
 // Each call once; with a refused allocation the answer is Memory, and nothing is taken or written.
 
 use crate::fault::EditFault;
+use crate::format::{Format, Node};
 use crate::input::Input;
 use crate::output::Output;
+use crate::place::FormatPlace;
 use std::alloc::Global;
 use std::test::Fail;
 
@@ -78,4 +80,67 @@ fn fields_are_written_or_memory_is_refused(rt: HostRuntime) {
 fn a_wide_number_is_refused(rt: HostRuntime) {
     let mut output = Output::new(rt.alloc());
     assert!(rt; output.put_f(12345, 4) == Err(EditFault::TooWide) && output.bytes().is_empty());
+}
+
+// The items of a format that is used again: a number, then two texts with a blank behind each, then a new line.
+fn walk(alloc: Global) -> Result<Vec<Format>, EditFault> {
+    let nodes = [
+        Node::Item(1, Format::Fixed(2)),
+        Node::List(2, 2),
+        Node::Item(1, Format::Text(None)),
+        Node::Item(1, Format::Space(1)),
+        Node::Item(1, Format::Skip(1)),
+    ];
+    let mut place = FormatPlace::new(alloc, Vec::from_slice(alloc, &nodes)?)?;
+    let mut items = Vec::new(alloc);
+    for _ in 0..8 {
+        let coming = place.coming()?;
+        let passed = place.pass()?;
+        if let Some(format) = passed {
+            if coming == passed {
+                items.push(format)?;
+            }
+        }
+    }
+    Ok(items)
+}
+
+#[test]
+fn a_format_is_used_again(rt: HostRuntime) {
+    let (number, text, blank) = (Format::Fixed(2), Format::Text(None), Format::Space(1));
+    match walk(rt.alloc()) {
+        Ok(items) => assert!(rt;
+            items.as_slice()
+                == [
+                    number,
+                    text,
+                    blank,
+                    text,
+                    blank,
+                    Format::Skip(1),
+                    number,
+                    text
+                ]
+                .as_slice()
+        ),
+        Err(fault) => assert!(rt; fault == EditFault::Memory),
+    }
+}
+
+#[test]
+fn repetitions_are_not_written_out(rt: HostRuntime) {
+    let nodes = [
+        Node::List(1000, 3),
+        Node::List(1000, 2),
+        Node::List(1000, 1),
+        Node::Item(1000, Format::Column(7)),
+    ];
+    let Ok(nodes) = Vec::from_slice(rt.alloc(), &nodes) else {
+        return;
+    };
+    let Ok(mut place) = FormatPlace::new(rt.alloc(), nodes) else {
+        return;
+    };
+    let passed = place.pass();
+    assert!(rt; passed == Ok(Some(Format::Column(7))) || passed == Err(EditFault::Memory));
 }
