@@ -273,6 +273,12 @@ pub behind_pushed : (old pushed now : List BlockWordsHeld) (x : BlockWordsHeld) 
 behind_pushed old pushed now x inner p e =
     e ∙ ap (λ u. u ++ inner) (ap (map block_words_of) p ∙ map_push block_words_of old x) ∙ append_assoc (map block_words_of old) (block_words_of x ∷ []) inner
 
+pub block_room : (old pushed now : List BlockWordsHeld) (x : BlockWordsHeld) (inner : List BlockWords) → pushed ≡ old ++ x ∷ [] → map block_words_of now ≡ map block_words_of pushed ++ inner → length old < length now
+block_room old pushed now x inner p e = block_within old now (block_words_of x) inner (behind_pushed old pushed now x inner p e)
+
+pub block_whole : (old pushed now : List BlockWordsHeld) (x y : BlockWordsHeld) (inner : List BlockWords) → pushed ≡ old ++ x ∷ [] → map block_words_of now ≡ map block_words_of pushed ++ inner → map block_words_of (slice_set now (length old) y) ≡ map block_words_of old ++ (block_words_of y ∷ inner)
+block_whole old pushed now x y inner p e = block_put old now (block_words_of x) y inner (behind_pushed old pushed now x inner p e)
+
 -- the blocks of one more procedure
 pub next_procedure : (xs : List Procedure) (i : ℕ) (x : Procedure) (now next target : List BlockWords) → i < length xs → x ≡ get_or xs i x → next ≡ now ++ (with_words (block_head_of x.block.head) (stmts_of x.block.body) ∷ blocks_among (stmts_of x.block.body)) → now ++ blocks_of (map procedure_of (drop i xs)) ≡ target → next ++ blocks_of (map procedure_of (drop (i + 1) xs)) ≡ target
 next_procedure xs i x now next target h e n is =

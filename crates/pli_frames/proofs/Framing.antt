@@ -1,11 +1,14 @@
 -- The frames of all blocks, one after the other, and the numbers of parameters that they ask for.
-use Rattle.std.proofs.Common.{◌≡◌, ℕ, suc, ◌+◌, ◌-◌, ◌<◌, Bool, true, false, cond, List, [], ◌∷◌, ◌++◌, map, length, drop, get_or, Option, Some, None, refl, sym, ap, ◌∙◌, append_assoc, append-nil, arith}
-use Rattle.std.specs.Prelude.{nat_eq, ◌==◌, if◌then◌else◌, unwrap_or}
+use Rattle.std.proofs.Common.{◌≡◌, ◌≤◌, ℕ, zero, suc, ◌+◌, ◌-◌, ◌<◌, Bool, true, false, cond, List, [], ◌∷◌, ◌++◌, map, length, drop, get_or, Option, Some, None, refl, sym, ap, ◌∙◌, append_assoc, append-nil, arith}
+use Rattle.std.specs.Prelude.{nat_eq, ◌==◌, if◌then◌else◌, slice_get, unwrap_or, Vec}
 use Rattle.std.proofs.lemmas.List.{map_push}
 use Rattle.pli_typing.specs.declared.typed.Procedure.{Procedure}
 use Rattle.pli_typing.specs.TypedTree as Y
-use Rattle.pli_typing.specs.TypedStatementView.{procedure_of}
-use Rattle.pli_meaning.specs.DeclaredShapes.{head_of, procedure_numbered}
+use Rattle.std.specs.declared.alloc.Global.{Global}
+use Rattle.pli_typing.specs.declared.typed.DeclaredVariable.{DeclaredVariable}
+use Rattle.pli_typing.specs.declared.typed.Typed.{Typed}
+use Rattle.pli_typing.specs.TypedStatementView.{declared_variable_of, procedure_of, program_of}
+use Rattle.pli_meaning.specs.DeclaredShapes.{head_of, procedure_numbered, variables_of_block}
 use Rattle.pli_coding.specs.Frames.{parameters_in, parameters_of_block}
 use Rattle.pli_frames.specs.declared.body.BlockWords.{BlockWords as BlockWordsHeld}
 use Rattle.pli_frames.specs.declared.frame.BlockFrame.{BlockFrame as BlockFrameHeld}
@@ -48,3 +51,23 @@ pub parameters_are : (n : ℕ) (ps : List Y.Procedure) → unwrap_or (parameters
 parameters_are n [] = refl
 parameters_are n (p ∷ ps) =
     found_length ((head_of p.block).number == n) p (procedure_numbered n ps) (parameters_found n ps) (parameters_are n ps)
+
+-- ---- what a block declares
+
+at_map : {X Y : Type 0} (f : X → Y) (xs : List X) (n : ℕ) (x : X) → n < length xs → x ≡ get_or xs n x → slice_get (map f xs) n ≡ Some (f x)
+at_map f [] n x h e = absurd (omega arith)
+at_map f (y ∷ xs) zero x h e = ap (λ z. Some (f z)) (sym e)
+at_map f (y ∷ xs) (suc n) x h e = at_map f xs n x (omega arith) e
+
+none_map : {X Y : Type 0} (f : X → Y) (xs : List X) (n : ℕ) → length xs ≤ n → slice_get (map f xs) n ≡ None
+none_map f [] n h = refl
+none_map f (y ∷ xs) zero h = absurd (omega arith)
+none_map f (y ∷ xs) (suc n) h = none_map f xs n (omega arith)
+
+pub variables_here : (t : Typed) (n : ℕ) (x : Vec DeclaredVariable Global) → n < length t.variables.items → x ≡ get_or t.variables.items n x → map declared_variable_of x.items ≡ variables_of_block (program_of t) n
+variables_here t n x h e =
+    sym (ap (λ o. unwrap_or o []) (at_map (λ (b : Vec DeclaredVariable Global). map declared_variable_of b.items) t.variables.items n x h e))
+
+pub variables_nowhere : (t : Typed) (n : ℕ) → length t.variables.items ≤ n → [] ≡ variables_of_block (program_of t) n
+variables_nowhere t n h =
+    sym (ap (λ o. unwrap_or o []) (none_map (λ (b : Vec DeclaredVariable Global). map declared_variable_of b.items) t.variables.items n h))

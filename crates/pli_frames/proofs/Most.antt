@@ -23,7 +23,7 @@ use Rattle.pli_coding.specs.Streams.{put_item_words, put_items_words, put_words,
 pub shown_from : {X Y : Type 0} (f : X → Y) (xs : List X) (i : ℕ) (x : X) → i < length xs → x ≡ get_or xs i x → map f (drop i xs) ≡ f x ∷ map f (drop (i + 1) xs)
 shown_from f xs i x h e = ap (map f) (drop_more xs i x h ∙ ap (λ y. y ∷ drop (i + 1) xs) (sym e))
 
-one_more : (now here rest : ℕ) → max (max now here) rest ≡ max now (max here rest)
+pub one_more : (now here rest : ℕ) → max (max now here) rest ≡ max now (max here rest)
 one_more now here rest = omega arith
 
 pub none_left : (n : ℕ) → max n 0 ≡ n

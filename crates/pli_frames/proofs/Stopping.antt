@@ -1,11 +1,12 @@
 -- Sums and products that are stopped at each step.
-use Rattle.std.proofs.Common.{◌≡◌, ◌<◌, ◌≤◌, ◌⊎◌, inl, inr, ℕ, zero, suc, ◌+◌, ◌-◌, ◌*◌, ◌/◌, ◌^◌, List, [], ◌∷◌, get_or, length, drop, map, refl, sym, ap, ◌∙◌, arith, true, false, Bool}
+use Rattle.std.proofs.Common.{◌≡◌, ◌<◌, ◌≤◌, ◌⊎◌, inl, inr, ℕ, zero, suc, ◌+◌, ◌-◌, ◌*◌, ◌/◌, ◌^◌, List, [], ◌∷◌, get_or, length, drop, map, refl, sym, ap, ◌∙◌, arith, true, false, true≢false, Bool}
 use Rattle.std.specs.Prelude.{nat_lt, ◌&&◌}
 use Rattle.std.specs.List.{list_all}
 use Rattle.std.proofs.lemmas.Bool.Decides.{nat_tests}
 use Rattle.pli_typing.specs.Signatures.{element_count, span, leaves_size, leaf_size, rounded_up}
 use Rattle.pli_typing.specs.declared.typed.Bounds.{Bounds}
 use Rattle.pli_typing.specs.declared.typed.Leaf.{Leaf}
+use Rattle.pli_typing.specs.TypedTree as Y
 use Rattle.pli_typing.specs.TypedView.{bounds_of, leaf_of}
 use Rattle.pli_meaning.specs.DeclaredShapes as shapes
 use Rattle.pli_coding.specs.Frames.{last_place, are_constant, is_constant_leaf}
@@ -55,10 +56,10 @@ next_factor before r factor rest whole target e w h =
     ∙ h
 
 -- the elements of one more dimension
-pub next_dimension : (xs : List Bounds) (i before r target : ℕ) (x : Bounds) → i < length xs → x ≡ get_or xs i x → r ≡ stopped (before * stopped (span (shapes.bounds_of [] (bounds_of x)))) → stopped (before * element_count (map (shapes.bounds_of []) (map bounds_of (drop i xs)))) ≡ target → stopped (r * element_count (map (shapes.bounds_of []) (map bounds_of (drop (i + 1) xs)))) ≡ target
-next_dimension xs i before r target x h e n is =
-    let count = λ (bs : _). element_count (map (shapes.bounds_of []) bs) in
-    next_factor before r (span (shapes.bounds_of [] (bounds_of x))) (count (map bounds_of (drop (i + 1) xs))) _ target n (ap count (shown_from bounds_of xs i x h e)) is
+pub next_dimension : (xs : List Bounds) (i before elements r target : ℕ) (x : Bounds) → i < length xs → x ≡ get_or xs i x → elements ≡ stopped (span (shapes.bounds_of [] (bounds_of x))) → r ≡ stopped (before * elements) → stopped (before * element_count (map (shapes.bounds_of []) (map bounds_of (drop i xs)))) ≡ target → stopped (r * element_count (map (shapes.bounds_of []) (map bounds_of (drop (i + 1) xs)))) ≡ target
+next_dimension xs i before elements r target x h e s n is =
+    let count = λ (bs : List Y.Bounds). element_count (map (shapes.bounds_of []) bs) in
+    next_factor before r (span (shapes.bounds_of [] (bounds_of x))) (count (map bounds_of (drop (i + 1) xs))) _ target (n ∙ ap (λ k. stopped (before * k)) s) (ap count (shown_from bounds_of xs i x h e)) is
 
 rounded_stopped : (n : ℕ) → (stopped n + 3) / 4 * 4 ≡ stopped (rounded_up 4 n)
 rounded_stopped n = omega arith
@@ -74,7 +75,7 @@ plus_stopped before here rest = omega arith
 -- one more leaf
 pub next_leaf : (xs : List Leaf) (i before r target : ℕ) (x : Leaf) → i < length xs → x ≡ get_or xs i x → r ≡ stopped (before + stopped (leaf_size (shapes.leaf_of [] (leaf_of x)))) → stopped (before + leaves_size (map (shapes.leaf_of []) (map leaf_of (drop i xs)))) ≡ target → stopped (r + leaves_size (map (shapes.leaf_of []) (map leaf_of (drop (i + 1) xs)))) ≡ target
 next_leaf xs i before r target x h e n is =
-    let size = λ (ls : _). leaves_size (map (shapes.leaf_of []) ls) in
+    let size = λ (ls : List Y.Leaf). leaves_size (map (shapes.leaf_of []) ls) in
     ap (λ k. stopped (k + size (map leaf_of (drop (i + 1) xs)))) n
     ∙ plus_stopped before (leaf_size (shapes.leaf_of [] (leaf_of x))) (size (map leaf_of (drop (i + 1) xs)))
     ∙ ap (λ k. stopped (before + k)) (ap size (sym (shown_from leaf_of xs i x h e)))
@@ -84,7 +85,7 @@ next_leaf xs i before r target x h e n is =
 
 next_true : (b : Bool) (rest target : Bool) → b ≡ true → (b && rest) ≡ target → rest ≡ target
 next_true true rest target e is = is
-next_true false rest target () is
+next_true false rest target e is = absurd (true≢false (sym e))
 
 pub next_bounds : (xs : List Bounds) (i : ℕ) (x : Bounds) (target : Bool) → i < length xs → x ≡ get_or xs i x → are_constant (bounds_of x) ≡ true → list_all are_constant (map bounds_of (drop i xs)) ≡ target → list_all are_constant (map bounds_of (drop (i + 1) xs)) ≡ target
 next_bounds xs i x target h e t is =

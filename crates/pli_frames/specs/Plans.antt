@@ -37,11 +37,14 @@ frame_with head words parameters ds =
       end = variable_place parts (fixed_size head.level parameters) ds (length ds);
     }
 
+abbrev pub declaring_frame : Y.Program → BlockWords → BlockFrame
+declaring_frame program b =
+    frame_with b.head b.words (length (parameters_of_block program b.head.number)) (variables_of_block program b.head.number)
+
 -- a simple unit declares nothing: the number is that of the block around it
 abbrev pub frame_by_kind : Y.Program → BlockWords → Y.BlockKind → BlockFrame
 frame_by_kind program b Y.SimpleUnit = frame_with b.head b.words 0 []
-frame_by_kind program b _ =
-    frame_with b.head b.words (length (parameters_of_block program b.head.number)) (variables_of_block program b.head.number)
+frame_by_kind program b _ = declaring_frame program b
 
 abbrev pub frame_of : Y.Program → BlockWords → BlockFrame
 frame_of program b = frame_by_kind program b b.head.kind

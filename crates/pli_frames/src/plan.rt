@@ -1,10 +1,11 @@
 // The frames of all blocks of a program.
 
-ghost use Rattle.std.specs.Prelude.{◌≡◌, ℕ, nat_eq, map, unwrap_or, IfOk};
+ghost use Rattle.std.specs.Prelude.{◌≡◌, ℕ, nat_eq, map, length, IfOk};
 ghost use Rattle.indexmap.specs.IndexMap.{get};
 ghost use Rattle.pli_typing.specs.TypedStatementView.{procedure_of, program_of};
+ghost use Rattle.pli_coding.specs.Frames.{parameters_of_block};
 ghost use Rattle.pli_frames.specs.Blocks.{block_words_of};
-ghost use Rattle.pli_frames.specs.Plans.{frame_of, frame_shown, parameters_found, planned};
+ghost use Rattle.pli_frames.specs.Plans.{declaring_frame, frame_of, frame_shown, parameters_found, planned};
 
 use crate::body::{BlockWords, blocks_of};
 use crate::frame::{BlockFrame, frame_with};
@@ -29,8 +30,11 @@ fn parameters_by_number(
     Ok(counts)
 }
 
-fn parameters_of(counts: &IndexMap<usize, usize>, number: usize) -> usize
-    ensures { result ≡ unwrap_or (get nat_eq counts.now number) 0 }
+/// How many parameters the block of a number has.
+#[tactic(auto, using(crate::proofs::Framing::parameters_are))]
+fn parameters_of(typed: &Typed, counts: &IndexMap<usize, usize>, number: usize) -> usize
+    requires { (n : ℕ) → get nat_eq counts.now n ≡ parameters_found n (program_of typed.now).procedures }
+    ensures { result ≡ length (parameters_of_block (program_of typed.now) number) }
 {
     match counts.get(&number) {
         Some(count) => *count,
@@ -38,25 +42,41 @@ fn parameters_of(counts: &IndexMap<usize, usize>, number: usize) -> usize
     }
 }
 
+/// The frame of a block that may declare variables.
+#[tactic(auto, using(crate::proofs::Framing::variables_here, crate::proofs::Framing::variables_nowhere))]
+fn declaring_frame(
+    alloc: Global,
+    typed: &Typed,
+    counts: &IndexMap<usize, usize>,
+    block: &BlockWords,
+) -> Result<BlockFrame, AllocError>
+    requires { (n : ℕ) → get nat_eq counts.now n ≡ parameters_found n (program_of typed.now).procedures }
+    ensures { IfOk result (λ f. frame_shown f ≡ declaring_frame (program_of typed.now) (block_words_of block.now)) }
+{
+    let number = block.head.number;
+    let parameters = parameters_of(typed, counts, number);
+    if number < typed.variables.len() {
+        let variables = &typed.variables[number];
+        return Ok(frame_with(alloc, block.head, block.words, parameters, variables)?);
+    }
+    Ok(frame_with(alloc, block.head, block.words, parameters, &[])?)
+}
+
 /// The frame of a block.
-#[tactic(auto, using(crate::proofs::Framing::parameters_are))]
 fn frame_of(
     alloc: Global,
     typed: &Typed,
     counts: &IndexMap<usize, usize>,
-    block: BlockWords,
+    block: &BlockWords,
 ) -> Result<BlockFrame, AllocError>
-    requires { (n : ℕ) → get nat_eq counts.now n ≡ parameters_found n (map procedure_of typed.now.procedures.items) }
-    ensures { IfOk result (λ f. frame_shown f ≡ frame_of (program_of typed.now) (block_words_of block)) }
+    requires { (n : ℕ) → get nat_eq counts.now n ≡ parameters_found n (program_of typed.now).procedures }
+    ensures { IfOk result (λ f. frame_shown f ≡ frame_of (program_of typed.now) (block_words_of block.now)) }
 {
-    if block.head.kind == BlockKind::SimpleUnit {
-        return frame_with(alloc, block.head, block.words, 0, &[]);
-    }
-    let number = block.head.number;
-    let parameters = parameters_of(counts, number);
-    match typed.variables.get(number) {
-        Some(variables) => frame_with(alloc, block.head, block.words, parameters, variables),
-        None => frame_with(alloc, block.head, block.words, parameters, &[]),
+    match block.head.kind {
+        BlockKind::SimpleUnit => frame_with(alloc, block.head, block.words, 0, &[]),
+        BlockKind::Procedure => declaring_frame(alloc, typed, counts, block),
+        BlockKind::Begin => declaring_frame(alloc, typed, counts, block),
+        BlockKind::Unit => declaring_frame(alloc, typed, counts, block),
     }
 }
 
@@ -71,7 +91,7 @@ pub fn plan(alloc: Global, typed: &Typed) -> Result<Vec<BlockFrame>, AllocError>
     let blocks = blocks_of(alloc, &typed.procedures)?;
     let mut frames = Vec::new(alloc);
     for block in &blocks {
-        frames.push(frame_of(alloc, typed, &counts, *block)?)?;
+        frames.push(frame_of(alloc, typed, &counts, block)?)?;
     }
     Ok(frames)
 }

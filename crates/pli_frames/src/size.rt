@@ -67,8 +67,9 @@ fn leaf_bytes(kind: LeafType) -> u64
 }
 
 /// The elements of one dimension.
-fn span(bounds: Bounds) -> u64
-    ensures { result ≡ stopped (sizes.span (shapes.bounds_of [] (bounds_of bounds))) }
+fn span(bounds: &Bounds) -> u64
+    ensures value { result ≡ stopped (sizes.span (shapes.bounds_of [] (bounds_of bounds.now))) }
+    ensures few { result ≤ form.last_place }
 {
     let (lower, upper) = (amount(bounds.lower), amount(bounds.upper));
     if upper < lower {
@@ -89,7 +90,7 @@ fn element_count(dimensions: &[Bounds]) -> u64
 {
     let mut count: u64 = 1;
     for bounds in dimensions {
-        count = stopped(count * span(*bounds));
+        count = stopped(count * span(bounds));
     }
     count
 }
@@ -215,7 +216,8 @@ pub(crate) fn is_automatic(class: StorageClass) -> bool
 /// What a variable takes in the frame, in bytes: its name, and its data where that has a constant size; `LAST_PLACE` where
 /// it is more.
 pub fn frame_bytes(variable: &DeclaredVariable) -> u64
-    ensures { result ≡ stopped (form.frame_bytes parts (declared_variable_of variable.now)) }
+    ensures few { result ≤ form.last_place }
+    ensures bytes { result ≡ stopped (form.frame_bytes parts (declared_variable_of variable.now)) }
 {
     if !is_automatic(variable.class) {
         return 0;

@@ -10,3 +10,6 @@ invariant-loop-left l = record {
   within : l.left ≤ length l.procedures;
   found : (n : ℕ) → get nat_eq l.counts n ≡ parameters_found n (map procedure_of (drop l.left l.procedures));
 }
+
+abbrev pub decreases-loop-left : goal.decreases-loop-left
+decreases-loop-left l = l.left

@@ -5,4 +5,4 @@ use Rattle.pli_frames.specs.Plans.{frame_of, frame_shown}
 use Rattle.pli_frames.proofs.plan.plan.Given as goal
 
 abbrev pub invariant-loop-block : goal.invariant-loop-block
-invariant-loop-block l = map frame_shown l.frames.items ++ map (frame_of (program_of l.typed)) (map block_words_of (drop l.block-index l.blocks.items)) ≡ map (frame_of (program_of l.typed)) (map block_words_of l.blocks.items)
+invariant-loop-block l = map frame_shown l.frames.items ++ map (frame_of (program_of l.typed)) (map block_words_of (drop l.block-index l.block-items)) ≡ map (frame_of (program_of l.typed)) (map block_words_of l.block-items)
