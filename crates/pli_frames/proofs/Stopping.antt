@@ -3,6 +3,7 @@ use Rattle.std.proofs.Common.{◌≡◌, ◌<◌, ◌≤◌, ◌⊎◌, inl, inr
 use Rattle.std.specs.Prelude.{nat_lt, ◌&&◌}
 use Rattle.std.specs.List.{list_all}
 use Rattle.std.proofs.lemmas.Bool.Decides.{nat_tests}
+use Rattle.std.proofs.lemmas.List.{drop_more}
 use Rattle.pli_typing.specs.Signatures.{element_count, span, leaves_size, leaf_size, rounded_up}
 use Rattle.pli_typing.specs.declared.typed.Bounds.{Bounds}
 use Rattle.pli_typing.specs.declared.typed.Leaf.{Leaf}
@@ -56,10 +57,13 @@ next_factor before r factor rest whole target e w h =
     ∙ h
 
 -- the elements of one more dimension
-pub next_dimension : (xs : List Bounds) (i before elements r target : ℕ) (x : Bounds) → i < length xs → x ≡ get_or xs i x → elements ≡ stopped (span (shapes.bounds_of [] (bounds_of x))) → r ≡ stopped (before * elements) → stopped (before * element_count (map (shapes.bounds_of []) (map bounds_of (drop i xs)))) ≡ target → stopped (r * element_count (map (shapes.bounds_of []) (map bounds_of (drop (i + 1) xs)))) ≡ target
-next_dimension xs i before elements r target x h e s n is =
-    let count = λ (bs : List Y.Bounds). element_count (map (shapes.bounds_of []) bs) in
-    next_factor before r (span (shapes.bounds_of [] (bounds_of x))) (count (map bounds_of (drop (i + 1) xs))) _ target (n ∙ ap (λ k. stopped (before * k)) s) (ap count (shown_from bounds_of xs i x h e)) is
+pub next_dimension : (xs : List Bounds) (i before elements r target : ℕ) (blank : Bounds) → i < length xs → elements ≡ stopped (span (shapes.bounds_of [] (bounds_of (get_or xs i blank)))) → r ≡ stopped (before * elements) → stopped (before * element_count (map (shapes.bounds_of []) (map bounds_of (drop i xs)))) ≡ target → stopped (r * element_count (map (shapes.bounds_of []) (map bounds_of (drop (i + 1) xs)))) ≡ target
+next_dimension xs i before elements r target blank h s n is =
+    let count = λ (bs : List Bounds). element_count (map (shapes.bounds_of []) (map bounds_of bs)) in
+    next_factor before r (span (shapes.bounds_of [] (bounds_of (get_or xs i blank)))) (count (drop (i + 1) xs)) _ target (n ∙ ap (λ k. stopped (before * k)) s) (ap count (drop_more xs i blank h)) is
+
+pub still_few : (n r : ℕ) → r ≡ stopped n → r ≤ last_place
+still_few n r e = omega arith
 
 rounded_stopped : (n : ℕ) → (stopped n + 3) / 4 * 4 ≡ stopped (rounded_up 4 n)
 rounded_stopped n = omega arith

@@ -11,7 +11,7 @@ use crate::forms::{
     put_words,
 };
 use crate::turns::turns_words;
-use crate::words::{bit_words, call_words, stored_words};
+use crate::words::{bit_words, call_words, most, stored_words};
 use pli_typing::typed::{BlockHead, Procedure, Stmt, Stmts};
 use std::alloc::{AllocError, Global};
 
@@ -110,7 +110,7 @@ fn statements(blocks: &mut Vec<BlockWords>, body: &Stmts) -> Result<u32, AllocEr
         ..
     } = rest
     {
-        words = words.max(statement(blocks, first)?);
+        words = most(words, statement(blocks, first)?);
         rest = behind;
     }
     Ok(words)

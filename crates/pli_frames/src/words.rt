@@ -18,6 +18,13 @@ pub(crate) fn more(count: u32, words: u32) -> Result<u32, AllocError>
     count.checked_add(words).ok_or(AllocError)
 }
 
+/// The greater of two numbers of words.
+pub(crate) fn most(first: u32, second: u32) -> u32
+    ensures { result ≡ max first second }
+{
+    first.max(second)
+}
+
 /// The words of a form, and of another one while a number waits.
 pub(crate) fn behind_number(first: u32, second: u32) -> Result<u32, AllocError>
     ensures { IfOk result (λ n. n ≡ max first (suc second)) }
