@@ -49,7 +49,9 @@ fn statement(blocks: &mut Vec<BlockWords>, stmt: &Stmt) -> Result<u32, AllocErro
             Ok(aggregate_words(target)?.max(aggregate_words(source)?))
         }
         Stmt::If {
-            condition, unit, ..
+            condition,
+            unit,
+            ..
         } => Ok(bit_words(condition)?.max(statement(blocks, unit)?)),
         Stmt::IfElse {
             condition,
@@ -63,7 +65,9 @@ fn statement(blocks: &mut Vec<BlockWords>, stmt: &Stmt) -> Result<u32, AllocErro
         }
         Stmt::Do { body, .. } => statements(blocks, body),
         Stmt::DoWhile {
-            condition, body, ..
+            condition,
+            body,
+            ..
         } => Ok(bit_words(condition)?.max(statements(blocks, body)?)),
         Stmt::DoTurns { turns, body, .. } => {
             let body = statements(blocks, body)?;

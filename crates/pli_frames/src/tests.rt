@@ -146,7 +146,9 @@ fn sizes_are_as_worked_out(rt: HostRuntime) -> Result<(), Fail> {
         StorageClass::Automatic,
         LeafType::Area(Extent::Constant(100)),
     )?;
-    assert!(rt; has_constant_size(&area) && constant_size(&area) == 112 && frame_bytes(&area) == 128);
+    assert!(rt;
+        has_constant_size(&area) && constant_size(&area) == 112 && frame_bytes(&area) == 128
+    );
     assert_eq!(rt; extents_words(&area)?, 4);
     assert_eq!(rt; fixed_size(2, 3)?, 224);
     Ok(())

@@ -74,7 +74,9 @@ pub fn number_words(number: &Number) -> Result<u32, AllocError>
             behind_number(number_words(dividend)?, number_words(divisor)?)
         }
         Number::Divided {
-            dividend, divisor, ..
+            dividend,
+            divisor,
+            ..
         } => behind_number(number_words(dividend)?, number_words(divisor)?),
         Number::LengthOf(text) => text_words(text),
         Number::IndexOf { searched, sought } => {
