@@ -1,0 +1,7 @@
+mod Bodies
+mod Framing
+mod Most
+mod Placing
+mod Stopping
+mod Walks
+mod Weights
