@@ -1,0 +1,5 @@
+pub mod Elements
+pub mod Numbering
+pub mod Reading
+pub mod View
+pub mod Whole

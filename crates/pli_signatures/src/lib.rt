@@ -1,0 +1,14 @@
+// The signatures of a run by their numbers: those of the image's table, and those that the run fills in.
+#![tactic(auto)]
+
+mod copying;
+pub mod element;
+mod equality;
+pub mod filling;
+mod in_force;
+mod reading;
+pub mod signatures;
+mod size;
+#[cfg(test)]
+mod tests;
+mod whole;

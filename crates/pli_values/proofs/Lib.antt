@@ -1,0 +1,9 @@
+pub mod Calls
+pub mod Elements
+pub mod Fresh
+pub mod Items
+pub mod Lasting
+pub mod LeafData
+pub mod Parts
+pub mod Subscripts
+pub mod Texts

@@ -1,0 +1,6 @@
+pub mod Calls
+pub mod Items
+pub mod Leaves
+pub mod Runs
+pub mod Sizes
+pub mod View

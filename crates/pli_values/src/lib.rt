@@ -1,0 +1,15 @@
+// Names, values, INITIAL values and format lists as they stand in a machine's memory. Memory is its bytes, an address a place
+// among them.
+#![tactic(auto)]
+
+pub mod element;
+pub mod generation;
+pub mod initial;
+pub mod laws;
+pub mod layout;
+pub mod leaf_items;
+pub mod name;
+pub mod source;
+#[cfg(test)]
+mod tests;
+pub mod word;
