@@ -18,10 +18,10 @@ use std::alloc::{AllocError, Global};
 pub enum ElementKind {
     /// FIXED BINARY with its precision.
     Fixed { precision: u8 },
-    /// CHARACTER of so many bytes.
+    /// CHARACTER of so many bytes: as many as a member of REFER can tell.
     Character { length: u32 },
     /// CHARACTER VARYING of up to so many bytes.
-    Varying { length: u32 },
+    Varying { length: u16 },
     Bit,
     Pointer,
     Offset,
@@ -30,7 +30,8 @@ pub enum ElementKind {
 }
 
 impl ElementKind {
-    fn bytes(self) -> u64
+    /// The bytes of its value.
+    pub fn value_bytes(self) -> u64
         ensures { result ≡ leaf_bytes (kind_of self) }
     {
         match self {
@@ -48,7 +49,7 @@ impl ElementKind {
     pub fn size(self) -> u64
         ensures { result ≡ element_size (kind_of self) }
     {
-        self.bytes().next_multiple_of(4)
+        self.value_bytes().next_multiple_of(4)
     }
 
     /// The number of the kind, and its precision, length or capacity, 0 for what has none.
@@ -58,7 +59,7 @@ impl ElementKind {
         match self {
             ElementKind::Fixed { precision } => [1, u32::from(precision)],
             ElementKind::Character { length } => [2, length],
-            ElementKind::Varying { length } => [3, length],
+            ElementKind::Varying { length } => [3, u32::from(length)],
             ElementKind::Bit => [4, 0],
             ElementKind::Pointer => [5, 0],
             ElementKind::Offset => [6, 0],

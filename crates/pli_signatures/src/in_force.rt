@@ -1,6 +1,6 @@
 // Whole signatures by their numbers, with the REFER extent in force: 0 for one without REFER.
 
-ghost use Rattle.std.specs.Prelude.{◌≡◌, ℤ, length, IfOk, MatchOption, Some, None, is_some, slice_get, option_map};
+ghost use Rattle.std.specs.Prelude.{◌≡◌, ◌<◌, ℤ, length, IfOk, MatchOption, Some, None, is_some, slice_get, option_map};
 ghost use Rattle.pli_typing.specs.Signatures.{capped, leaves_size};
 ghost use Rattle.pli_types.specs.Templates.{kind_so_far};
 ghost use Rattle.pli_types.specs.View.{leaf_kind_of, template_of};
@@ -19,10 +19,11 @@ use pli_types::size::{footprint, size_of};
 use std::alloc::{AllocError, Global};
 
 /// The extent, where REFER tells it of this leaf of so many: of the last one.
-fn extent_told(has_refer: bool, leaf: u32, count: usize, extent: i32) -> Option<i32>
+pub fn extent_told(has_refer: bool, leaf: usize, count: usize, extent: i32) -> Option<i32>
+    requires inside { leaf < count }
     ensures { result ≡ extent_told has_refer leaf count extent }
 {
-    if has_refer && leaf as usize + 1 == count {
+    if has_refer && leaf + 1 == count {
         return Some(extent);
     }
     None
@@ -40,7 +41,7 @@ fn leaf_of(
     if leaf as usize >= count {
         return Ok(None);
     }
-    let told = extent_told(signature.refer.is_some(), leaf, count, extent);
+    let told = extent_told(signature.refer.is_some(), leaf as usize, count, extent);
     let found = leaf_told(alloc, &signature.leaves[leaf as usize], told)?;
     Ok(Some(found))
 }

@@ -5,10 +5,10 @@ mod copying;
 pub mod element;
 mod equality;
 pub mod filling;
-mod in_force;
+pub mod in_force;
 mod reading;
 pub mod signatures;
-mod size;
+pub mod size;
 #[cfg(test)]
 mod tests;
 mod whole;

@@ -2,7 +2,7 @@
 
 ghost use Rattle.std.specs.Prelude.{◌≡◌, [], map, Some};
 ghost use Rattle.pli_typing.specs.Signatures.{capped, element_count, leaf_size, leaves_size, span};
-ghost use Rattle.pli_types.specs.Templates.{amount_so_far, bounds_so_far, kind_so_far, leaf_so_far};
+ghost use Rattle.pli_types.specs.Templates.{bounds_so_far, kind_so_far, leaf_so_far};
 ghost use Rattle.pli_types.specs.View.{bounds_of, leaf_kind_of, leaf_of, pair_of};
 ghost use Rattle.pli_meaning.specs.Contents.{leaf_refers, last_refers};
 ghost use Rattle.pli_signatures.specs.View.{kind_of};
@@ -11,12 +11,6 @@ ghost use Rattle.pli_signatures.specs.Whole.{bounds_told, leaf_told};
 use crate::element::{ElementKind, span};
 use pli_types::signature::{Bounds, Leaf, LeafKind};
 
-fn length_so_far(length: Option<u16>) -> u32
-    ensures { result ≡ amount_so_far length }
-{
-    length.map_or(0, u32::from)
-}
-
 /// The kind of a leaf's elements, an open length or capacity as 0.
 pub fn element_kind(kind: LeafKind) -> ElementKind
     ensures { kind_of result ≡ kind_so_far (leaf_kind_of kind) }
@@ -24,10 +18,10 @@ pub fn element_kind(kind: LeafKind) -> ElementKind
     match kind {
         LeafKind::Fixed { precision } => ElementKind::Fixed { precision },
         LeafKind::Character { length } => ElementKind::Character {
-            length: length_so_far(length),
+            length: length.map_or(0, u32::from),
         },
         LeafKind::Varying { length } => ElementKind::Varying {
-            length: length_so_far(length),
+            length: length.unwrap_or(0),
         },
         LeafKind::Bit => ElementKind::Bit,
         LeafKind::Pointer => ElementKind::Pointer,
@@ -98,6 +92,31 @@ fn kind_told(kind: ElementKind, extent: i32) -> ElementKind
             length: extent.max(0) as u32,
         },
         _ => kind,
+    }
+}
+
+/// The kind of a leaf's elements, with the extent where REFER tells one of it.
+pub fn kind_in_force(leaf: &Leaf, told: Option<i32>) -> ElementKind
+    ensures { kind_of result ≡ (leaf_told told (leaf_so_far (leaf_of leaf.now))).kind }
+{
+    let kind = element_kind(leaf.kind);
+    match told {
+        Some(extent) => if leaf.bounds.is_empty() {
+            kind_told(kind, extent)
+        } else {
+            kind
+        },
+        None => kind,
+    }
+}
+
+/// The elements of a leaf, with the extent where REFER tells one of it; `u64::MAX` where there are more.
+pub fn count_in_force(leaf: &Leaf, told: Option<i32>) -> u64
+    ensures { result ≡ capped (element_count (leaf_told told (leaf_so_far (leaf_of leaf.now))).bounds) }
+{
+    match told {
+        Some(extent) => count_told(&leaf.bounds, extent),
+        None => count_so_far(&leaf.bounds),
     }
 }
 

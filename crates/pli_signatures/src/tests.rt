@@ -2,7 +2,9 @@
 
 use crate::element::{ElementKind, element_count, element_place, is_within};
 use crate::filling::ExtentPlace;
+use crate::in_force::extent_told;
 use crate::signatures::Signatures;
+use crate::size::{count_in_force, kind_in_force};
 use pli_types::signature::Bounds;
 use std::test::Fail;
 
@@ -87,6 +89,17 @@ fn a_leaf_has_its_elements(rt: HostRuntime) -> Result<(), Fail> {
     let bounds = bits.bounds.as_slice();
     assert!(rt; element_count(bounds) == 5 && is_within(bounds, &[5]) && !is_within(bounds, &[6]));
     assert_eq!(rt; element_place(&[to(2), to(3)], &[2, 3]), Some(5));
+    let told = extent_told(true, 1, 2, 5);
+    let Some(signature) = signatures.get(1) else {
+        assert!(rt; false);
+        return Ok(());
+    };
+    let Some(last) = signature.leaves.get(1) else {
+        assert!(rt; false);
+        return Ok(());
+    };
+    assert!(rt; told == Some(5) && kind_in_force(last, told) == bits.kind);
+    assert!(rt; count_in_force(last, told) == 5 && count_in_force(last, None) == 0);
     Ok(())
 }
 
