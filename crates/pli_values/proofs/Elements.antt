@@ -29,7 +29,7 @@ length_value Pointer v = length_name (name_in v)
 length_value Offset v = refl
 length_value (Area n) v = refl
 
-length_element : (kind : LeafKind) (v : BasicValue) → length (element_bytes kind v) ≡ written_size kind
+pub length_element : (kind : LeafKind) (v : BasicValue) → length (element_bytes kind v) ≡ written_size kind
 length_element kind v = simp (length-append, length-replicate, length_value) (omega arith)
 
 -- zeros written behind a value

@@ -18,7 +18,7 @@ behind_first a None h = absurd (cc)
 behind_first a (Some rest) h = refl
 
 -- an item of no element gives none
-none_of : (i : InitialItem) (is : List InitialItem) (n : ℕ) → i.repetition ≡ 0 → initial_at is n ≡ initial_at (i ∷ is) n
+pub none_of : (i : InitialItem) (is : List InitialItem) (n : ℕ) → i.repetition ≡ 0 → initial_at is n ≡ initial_at (i ∷ is) n
 none_of i is n e =
     let d : n ≡ n - i.repetition = omega arith in
     let t : false ≡ nat_lt n i.repetition = grind (arith, nat_tests) in

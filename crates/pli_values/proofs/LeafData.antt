@@ -10,9 +10,9 @@ use Rattle.pli_serving.specs.Values.{element_size}
 use Rattle.pli_values.specs.Runs.{fresh_element, fresh_leaf, run_of}
 use Rattle.pli_values.specs.Sizes.{written_size}
 use Rattle.pli_values.proofs.Fresh.{length_run, written_within}
-use Rattle.pli_values.proofs.Subscripts.{leaf_run}
+use Rattle.pli_values.proofs.LeafRuns.{leaf_run}
 
-length_leaf : (kind : LeafKind) (bounds : List Bounds) (items : List InitialItem) → length (fresh_leaf kind bounds items) ≡ written_size kind * element_count bounds
+pub length_leaf : (kind : LeafKind) (bounds : List Bounds) (items : List InitialItem) → length (fresh_leaf kind bounds items) ≡ written_size kind * element_count bounds
 length_leaf kind bounds items =
     ap length (sym (leaf_run kind (initial_at items) bounds)) ∙ length_run kind (initial_at items) 0 (element_count bounds)
 

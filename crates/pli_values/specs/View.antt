@@ -2,9 +2,6 @@
 use Rattle.pli_meaning.specs.BasicValues as B
 use Rattle.pli_language.specs.Tree as T
 use Rattle.pli_serving.specs.Bytes as D
-use Rattle.pli_typing.specs.Signatures as S
-use Rattle.pli_values.specs.declared.element.ElementKind.{ElementKind}
-use Rattle.pli_values.specs.declared.element.ElementKind.TheVariants as E
 use Rattle.pli_values.specs.declared.element.Value.{Value}
 use Rattle.pli_values.specs.declared.element.Value.TheVariants as V
 use Rattle.pli_values.specs.declared.initial.Initial.{Initial}
@@ -21,15 +18,6 @@ abbrev pub name_of : Name → B.Name
 name_of Null = B.NullName
 name_of (Variable serial) = B.VariableName serial
 name_of (Based area offset) = B.BasedName area offset
-
-abbrev pub element_kind_of : ElementKind → S.LeafKind
-element_kind_of (E.Fixed p) = S.Fixed p
-element_kind_of (E.Character n) = S.Character n
-element_kind_of (E.Varying n) = S.Varying n
-element_kind_of E.Bit = S.Bit
-element_kind_of E.Pointer = S.Pointer
-element_kind_of E.Offset = S.Offset
-element_kind_of (E.Area n) = S.Area n
 
 abbrev pub value_of : Value → B.BasicValue
 value_of (V.Number z) = B.BasicNumber z

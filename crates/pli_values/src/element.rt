@@ -9,26 +9,13 @@ ghost use Rattle.pli_meaning.specs.Contents.{bit_in, name_in, number_in, offset_
 ghost use Rattle.pli_serving.specs.Bytes.{bytes_at, with_bytes};
 ghost use Rattle.pli_serving.specs.Stored.{kept_bytes, kept_value};
 ghost use Rattle.pli_serving.specs.Values.{element_bytes, element_size, value_at};
-ghost use Rattle.pli_types.specs.Templates.{kind_so_far};
-ghost use Rattle.pli_types.specs.View.{leaf_kind_of};
+ghost use Rattle.pli_signatures.specs.View.{kind_of};
 ghost use Rattle.pli_values.specs.Sizes.{stored_size, written_size};
-ghost use Rattle.pli_values.specs.View.{element_kind_of, name_of, value_of};
+ghost use Rattle.pli_values.specs.View.{name_of, value_of};
 
 use crate::name::{Name, name_at, offset_of, offset_word, put_name};
 use crate::word::{fill, half_at, put_bytes, put_half, put_word, word_at};
-use pli_types::signature::LeafKind;
-
-/// The kind of an element, of which nothing is open. Lengths and capacities are in bytes.
-#[derive(Clone, Copy, PartialEq, Eq, Debug)]
-pub enum ElementKind {
-    Fixed { precision: u8 },
-    Character { length: u16 },
-    Varying { length: u16 },
-    Bit,
-    Pointer,
-    Offset,
-    Area { capacity: u32 },
-}
+use pli_signatures::element::ElementKind;
 
 /// The value of an element.
 #[derive(Clone, Copy)]
@@ -40,58 +27,27 @@ pub enum Value<'a> {
     Offset(Option<u32>),
 }
 
-impl ElementKind {
-    /// The kind of a leaf, in which a length or capacity that is open counts as 0.
-    pub fn of(kind: LeafKind) -> ElementKind
-        ensures { element_kind_of result ≡ kind_so_far (leaf_kind_of kind) }
-    {
-        match kind {
-            LeafKind::Fixed { precision } => ElementKind::Fixed { precision },
-            LeafKind::Character { length } => ElementKind::Character {
-                length: length.unwrap_or(0),
-            },
-            LeafKind::Varying { length } => ElementKind::Varying {
-                length: length.unwrap_or(0),
-            },
-            LeafKind::Bit => ElementKind::Bit,
-            LeafKind::Pointer => ElementKind::Pointer,
-            LeafKind::Offset => ElementKind::Offset,
-            LeafKind::Area { capacity } => ElementKind::Area {
-                capacity: capacity.unwrap_or(0),
-            },
-        }
-    }
+/// The bytes of a value of this kind.
+fn value_bytes(kind: ElementKind) -> usize
+    ensures { result ≡ S.leaf_bytes (kind_of kind) }
+{
+    kind.value_bytes() as usize
+}
 
-    /// The bytes of its value.
-    pub fn value_bytes(self) -> usize
-        ensures { result ≡ S.leaf_bytes (element_kind_of self) }
-    {
-        match self {
-            ElementKind::Fixed { precision } => if precision <= 15 { 2 } else { 4 },
-            ElementKind::Character { length } => usize::from(length),
-            ElementKind::Varying { length } => 2 + usize::from(length),
-            ElementKind::Bit => 1,
-            ElementKind::Pointer => 16,
-            ElementKind::Offset => 4,
-            ElementKind::Area { capacity } => capacity as usize,
-        }
-    }
+/// The bytes of an element: those of its value rounded up to 4.
+pub fn element_size(kind: ElementKind) -> usize
+    ensures { result ≡ element_size (kind_of kind) }
+{
+    kind.size() as usize
+}
 
-    /// The bytes that a store writes: none for an area.
-    fn stored_bytes(self) -> usize
-        ensures { result ≡ stored_size (element_kind_of self) }
-    {
-        match self {
-            ElementKind::Area { .. } => 0,
-            kind => kind.value_bytes(),
-        }
-    }
-
-    /// The bytes of an element: those of its value rounded up to 4.
-    pub fn size(self) -> usize
-        ensures { result ≡ element_size (element_kind_of self) }
-    {
-        self.value_bytes().next_multiple_of(4)
+/// The bytes that a store writes: none for an area.
+fn stored_bytes(kind: ElementKind) -> usize
+    ensures { result ≡ stored_size (kind_of kind) }
+{
+    match kind {
+        ElementKind::Area { .. } => 0,
+        kind => value_bytes(kind),
     }
 }
 
@@ -161,11 +117,11 @@ fn put_number(memory: &mut [u8], at: usize, precision: u8, number: i32)
 }
 
 /// Writes a text with blanks behind it up to so many bytes, or as much of it as they hold.
-fn put_fitted(memory: &mut [u8], at: usize, most: u16, text: &[u8])
+fn put_fitted(memory: &mut [u8], at: usize, most: u32, text: &[u8])
     requires { at + most ≤ length memory.old }
     ensures { memory.new ≡ with_bytes (fitted most text.now) at memory.old }
 {
-    let most = usize::from(most);
+    let most = most as usize;
     let kept = text.len().min(most);
     put_bytes(memory, at, &text[..kept]);
     fill(memory, at + kept, most - kept, b' ');
@@ -173,7 +129,7 @@ fn put_fitted(memory: &mut [u8], at: usize, most: u16, text: &[u8])
 
 /// Writes a text of CHARACTER.
 #[tactic(auto, using(crate::proofs::Texts::character_kept))]
-fn put_character(memory: &mut [u8], at: usize, most: u16, text: &[u8])
+fn put_character(memory: &mut [u8], at: usize, most: u32, text: &[u8])
     requires { at + most ≤ length memory.old }
     ensures { memory.new ≡ with_bytes (kept_bytes (S.Character most) (B.BasicText text.now)) at memory.old }
 {
@@ -187,14 +143,14 @@ fn put_varying(memory: &mut [u8], at: usize, most: u16, text: &[u8])
 {
     let kept = text.len().min(usize::from(most));
     put_half(memory, at, kept as u16);
-    put_fitted(memory, at + 2, most, &text[..kept]);
+    put_fitted(memory, at + 2, u32::from(most), &text[..kept]);
 }
 
 /// Writes a value as an element of a kind keeps it: a text padded or cut. Of a value of another kind, what `Value` reads of it.
 /// An area has no value: nothing is written.
 pub fn put_value(memory: &mut [u8], at: usize, kind: ElementKind, value: Value)
-    requires { at + S.leaf_bytes (element_kind_of kind) ≤ length memory.old }
-    ensures { memory.new ≡ with_bytes (kept_bytes (element_kind_of kind) (value_of value.entry)) at memory.old }
+    requires { at + S.leaf_bytes (kind_of kind) ≤ length memory.old }
+    ensures { memory.new ≡ with_bytes (kept_bytes (kind_of kind) (value_of value.entry)) at memory.old }
 {
     match kind {
         ElementKind::Fixed { precision } => put_number(memory, at, precision, value.number()),
@@ -210,13 +166,13 @@ pub fn put_value(memory: &mut [u8], at: usize, kind: ElementKind, value: Value)
 /// Writes a whole element, a value as the element keeps it and zeros up to the element's end, and gives the place behind what was
 /// written. Of an area, which has no value, only the zeros are written.
 pub fn put_element(memory: &mut [u8], at: usize, kind: ElementKind, value: Value) -> usize
-    requires { at + element_size (element_kind_of kind) ≤ length memory.old }
-    ensures written { memory.new ≡ with_bytes (element_bytes (element_kind_of kind) (kept_value (element_kind_of kind) (value_of value.entry))) at memory.old }
-    ensures behind { result ≡ at + written_size (element_kind_of kind) }
+    requires { at + element_size (kind_of kind) ≤ length memory.old }
+    ensures written { memory.new ≡ with_bytes (element_bytes (kind_of kind) (kept_value (kind_of kind) (value_of value.entry))) at memory.old }
+    ensures behind { result ≡ at + written_size (kind_of kind) }
 {
     put_value(memory, at, kind, value);
-    let end = at + kind.stored_bytes();
-    let zeros = kind.size() - kind.value_bytes();
+    let end = at + stored_bytes(kind);
+    let zeros = element_size(kind) - value_bytes(kind);
     fill(memory, end, zeros, 0);
     end + zeros
 }
@@ -245,12 +201,12 @@ fn number_at(memory: &[u8], at: usize, precision: u8) -> i32
 
 /// The value of an element. A locator of no kind is the null one. An area has no value: it reads as 0.
 pub fn value_at(memory: &[u8], at: usize, kind: ElementKind) -> Value<'_>
-    requires { at + S.leaf_bytes (element_kind_of kind) ≤ length memory.now }
-    ensures { value_of result ≡ value_at (element_kind_of kind) at memory.now }
+    requires { at + S.leaf_bytes (kind_of kind) ≤ length memory.now }
+    ensures { value_of result ≡ value_at (kind_of kind) at memory.now }
 {
     match kind {
         ElementKind::Fixed { precision } => Value::Number(number_at(memory, at, precision)),
-        ElementKind::Character { length } => Value::Text(&memory[at..at + usize::from(length)]),
+        ElementKind::Character { length } => Value::Text(&memory[at..at + length as usize]),
         ElementKind::Varying { .. } => Value::Text(varying_at(memory, at)),
         ElementKind::Bit => Value::Bit(memory[at] == 1),
         ElementKind::Pointer => Value::Pointer(name_at(memory, at).unwrap_or(Name::Null)),

@@ -1,4 +1,4 @@
-// The data of a generation as it begins.
+// The data of a leaf as a generation begins.
 
 ghost use Rattle.std.specs.Prelude.{◌≡◌, ◌+◌, ◌*◌, ◌≤◌, List, is_some, length, true};
 ghost use Rattle.pli_typing.specs.Signatures.{Bounds, capped, element_count};
@@ -7,20 +7,22 @@ ghost use Rattle.pli_meaning.specs.Contents.{initial_at};
 ghost use Rattle.pli_serving.specs.Bytes.{with_bytes};
 ghost use Rattle.pli_serving.specs.Stored.{kept_value};
 ghost use Rattle.pli_serving.specs.Values.{element_bytes, element_size};
+ghost use Rattle.pli_signatures.specs.View.{kind_of};
 ghost use Rattle.pli_values.specs.Items.{items_behind, items_left};
 ghost use Rattle.pli_values.specs.Runs.{fresh_element, fresh_leaf, run_of};
 ghost use Rattle.pli_values.specs.Sizes.{written_size};
-ghost use Rattle.pli_values.specs.View.{element_kind_of, initial_of, value_of};
+ghost use Rattle.pli_values.specs.View.{initial_of, value_of};
 
-use crate::element::{ElementKind, Value, put_element};
+use crate::element::{Value, element_size, put_element};
 use crate::initial::Initial;
 use crate::leaf_items::Items;
 use crate::name::Name;
+use pli_signatures::element::ElementKind;
 
 /// How an element of a kind begins where INITIAL gives it nothing.
 #[tactic(auto, using(crate::proofs::Fresh::default_text))]
 fn default_value<'a>(kind: ElementKind) -> Value<'a>
-    ensures { element_bytes (element_kind_of kind) (kept_value (element_kind_of kind) (value_of result)) ≡ element_bytes (element_kind_of kind) (C.default_value (element_kind_of kind)) }
+    ensures { element_bytes (kind_of kind) (kept_value (kind_of kind) (value_of result)) ≡ element_bytes (kind_of kind) (C.default_value (kind_of kind)) }
 {
     match kind {
         ElementKind::Fixed { .. } => Value::Number(0),
@@ -35,7 +37,7 @@ fn default_value<'a>(kind: ElementKind) -> Value<'a>
 
 #[tactic(auto, using(crate::proofs::Fresh::number_kept, crate::proofs::Fresh::bit_kept))]
 fn initial_value<'a>(kind: ElementKind, initial: Initial<'a>) -> Value<'a>
-    ensures { element_bytes (element_kind_of kind) (kept_value (element_kind_of kind) (value_of result)) ≡ element_bytes (element_kind_of kind) (C.initial_of (element_kind_of kind) (initial_of initial.entry)) }
+    ensures { element_bytes (kind_of kind) (kept_value (kind_of kind) (value_of result)) ≡ element_bytes (kind_of kind) (C.initial_of (kind_of kind) (initial_of initial.entry)) }
 {
     match initial {
         Initial::Number(number) => Value::Number(number),
@@ -49,9 +51,9 @@ fn initial_value<'a>(kind: ElementKind, initial: Initial<'a>) -> Value<'a>
 /// Writes so many elements, one behind the other, with the values of INITIAL in turn, and gives the place behind them.
 fn put_elements(memory: &mut [u8], at: usize, count: usize, items: Items) -> usize
     requires right { is_some (items_behind items) ≡ true }
-    requires inside { at + element_size (element_kind_of items.kind) * count ≤ length memory.old }
-    ensures written { memory.new ≡ with_bytes (run_of (fresh_element (element_kind_of items.entry.kind) (initial_at (items_left items.entry))) 0 count) at memory.old }
-    ensures behind { result ≡ at + written_size (element_kind_of items.entry.kind) * count }
+    requires inside { at + element_size (kind_of items.kind) * count ≤ length memory.old }
+    ensures written { memory.new ≡ with_bytes (run_of (fresh_element (kind_of items.entry.kind) (initial_at (items_left items.entry))) 0 count) at memory.old }
+    ensures behind { result ≡ at + written_size (kind_of items.entry.kind) * count }
 {
     let kind = items.kind;
     let mut items = items;
@@ -67,11 +69,11 @@ fn put_elements(memory: &mut [u8], at: usize, count: usize, items: Items) -> usi
 /// many elements the leaf has, or the greatest number where there are more, which take no bytes.
 pub fn put_leaf(memory: &mut [u8], at: usize, count: usize, items: Items) -> usize
     requires right { is_some (items_behind items) ≡ true }
-    requires inside { at + element_size (element_kind_of items.kind) * count ≤ length memory.old }
-    ensures written { (bounds : List Bounds) → capped (element_count bounds) ≡ count → memory.new ≡ with_bytes (fresh_leaf (element_kind_of items.entry.kind) bounds (items_left items.entry)) at memory.old }
-    ensures behind { (bounds : List Bounds) → capped (element_count bounds) ≡ count → result ≡ at + length (fresh_leaf (element_kind_of items.entry.kind) bounds (items_left items.entry)) }
+    requires inside { at + element_size (kind_of items.kind) * count ≤ length memory.old }
+    ensures written { (bounds : List Bounds) → capped (element_count bounds) ≡ count → memory.new ≡ with_bytes (fresh_leaf (kind_of items.entry.kind) bounds (items_left items.entry)) at memory.old }
+    ensures behind { (bounds : List Bounds) → capped (element_count bounds) ≡ count → result ≡ at + length (fresh_leaf (kind_of items.entry.kind) bounds (items_left items.entry)) }
 {
-    if items.kind.size() == 0 {
+    if element_size(items.kind) == 0 {
         return at;
     }
     put_elements(memory, at, count, items)

@@ -1,19 +1,18 @@
 // INITIAL values in memory.
 
-ghost use Rattle.std.specs.Prelude.{◌≡◌, ◌+◌, ◌≤◌, is_some, slice_get};
+ghost use Rattle.std.specs.Prelude.{◌≡◌, ◌+◌, ◌≤◌, is_some};
 ghost use Rattle.rv_meaning.specs.Words.{signed};
 ghost use Rattle.pli_language.specs.View.{option_of};
 ghost use Rattle.pli_meaning.specs.Numbers.{is_of_precision};
 ghost use Rattle.pli_serving.specs.Bytes as D;
-ghost use Rattle.pli_serving.specs.InitialValues.{initial_null, initial_number, initial_text, initial_value, initial_values, item_at, item_size, items_at, items_from, leaves_from};
+ghost use Rattle.pli_serving.specs.InitialValues.{initial_null, initial_number, initial_text, initial_value, item_at, item_size, items_from};
+ghost use Rattle.pli_signatures.specs.View.{kind_of};
 ghost use Rattle.pli_values.specs.Calls.{call_of};
-ghost use Rattle.pli_values.specs.Leaves.{leaves_of};
-ghost use Rattle.pli_values.specs.View.{element_kind_of, initial_of, item_of};
+ghost use Rattle.pli_values.specs.View.{initial_of, item_of};
 
-use crate::element::ElementKind;
 use crate::source::Source;
 use crate::word::word_at;
-use pli_types::signature::Leaf;
+use pli_signatures::element::ElementKind;
 
 /// What INITIAL gives an element.
 #[derive(Clone, Copy)]
@@ -45,7 +44,7 @@ fn has_precision(precision: u8, number: u32) -> bool
 }
 
 fn number_value<'a>(kind: ElementKind, number: u32) -> Option<Initial<'a>>
-    ensures { option_of initial_of result ≡ initial_number (element_kind_of kind) number }
+    ensures { option_of initial_of result ≡ initial_number (kind_of kind) number }
 {
     match kind {
         ElementKind::Fixed { precision } if has_precision(precision, number) => {
@@ -57,7 +56,7 @@ fn number_value<'a>(kind: ElementKind, number: u32) -> Option<Initial<'a>>
 }
 
 fn text_value(kind: ElementKind, text: &[u8]) -> Option<Initial<'_>>
-    ensures { option_of initial_of result ≡ initial_text (element_kind_of kind) text.now }
+    ensures { option_of initial_of result ≡ initial_text (kind_of kind) text.now }
 {
     match kind {
         ElementKind::Character { .. } => Some(Initial::Text(text)),
@@ -67,7 +66,7 @@ fn text_value(kind: ElementKind, text: &[u8]) -> Option<Initial<'_>>
 }
 
 fn null_value<'a>(kind: ElementKind) -> Option<Initial<'a>>
-    ensures { option_of initial_of result ≡ initial_null (element_kind_of kind) }
+    ensures { option_of initial_of result ≡ initial_null (kind_of kind) }
 {
     match kind {
         ElementKind::Pointer => Some(Initial::Null),
@@ -84,7 +83,7 @@ fn value_read<'a>(
     number: u32,
     at: usize,
 ) -> Option<Initial<'a>>
-    ensures { option_of initial_of result ≡ initial_value (call_of source.now) (element_kind_of kind) what number at }
+    ensures { option_of initial_of result ≡ initial_value (call_of source.now) (kind_of kind) what number at }
 {
     match what {
         0 => Some(Initial::Skip),
@@ -103,7 +102,7 @@ fn value_read<'a>(
 
 /// An item that a leaf of this kind can have, where one stands at an address.
 pub fn item_read<'a>(source: &Source<'a>, kind: ElementKind, at: usize) -> Option<Item<'a>>
-    ensures { option_of item_of result ≡ item_at (call_of source.now) (element_kind_of kind) at }
+    ensures { option_of item_of result ≡ item_at (call_of source.now) (kind_of kind) at }
 {
     if !source.layout.is_data(at, 12) {
         return None;
@@ -128,8 +127,8 @@ pub fn behind_item(source: &Source, at: usize) -> usize
 
 /// Whether so many items that a leaf of this kind can have stand from an address on. Each takes 12 bytes at least, so that no more
 /// are looked at than the memory has room for.
-fn are_items(source: &Source, kind: ElementKind, count: u32, at: usize) -> bool
-    ensures { result ≡ is_some (items_from (call_of source.now) (element_kind_of kind) count at) }
+pub fn are_items(source: &Source, kind: ElementKind, count: u32, at: usize) -> bool
+    ensures { result ≡ is_some (items_from (call_of source.now) (kind_of kind) count at) }
 {
     let mut at = at;
     let mut left = count;
@@ -141,49 +140,4 @@ fn are_items(source: &Source, kind: ElementKind, count: u32, at: usize) -> bool
         left -= 1;
     }
     true
-}
-
-/// Whether values for the leaf of a number stand at an address, behind the word with their number.
-#[tactic(auto, using(crate::proofs::Items::leaf_missing))]
-fn are_leaf_items(source: &Source, leaves: &[Leaf], leaf: u32, at: usize) -> bool
-    ensures { result ≡ is_some (items_at (call_of source.now) (slice_get (leaves_of leaves.now) leaf) at) }
-{
-    let Some(found) = leaves.get(leaf as usize) else {
-        return false;
-    };
-    let kind = ElementKind::of(found.kind);
-    source.layout.is_data(at, 4) && are_items(source, kind, word_at(source.memory, at), at + 4)
-}
-
-/// Whether so many leaves with their values are named from an address on; `start` is where all begin.
-fn are_leaves(source: &Source, leaves: &[Leaf], start: usize, count: u32, at: usize) -> bool
-    requires { start + 4 ≤ source.now.layout.end }
-    ensures { result ≡ is_some (leaves_from (call_of source.now) (leaves_of leaves.now) start count at) }
-{
-    let mut at = at;
-    let mut left = count;
-    while left > 0 {
-        if !source.layout.is_data(at, 8) {
-            return false;
-        }
-        let leaf = word_at(source.memory, at);
-        let distance = word_at(source.memory, at + 4) as usize;
-        if !are_leaf_items(source, leaves, leaf, start + distance) {
-            return false;
-        }
-        at += 8;
-        left -= 1;
-    }
-    true
-}
-
-/// Whether INITIAL values that these leaves can have stand at an address; with 0 as address they have none. Each leaf that is named
-/// takes 8 bytes and each of its values 12 at least, so a walk over one list ends where memory does; lists that overlap are walked
-/// as often as they are named.
-pub fn is_initial(source: &Source, leaves: &[Leaf], at: usize) -> bool
-    ensures { result ≡ is_some (initial_values (call_of source.now) (leaves_of leaves.now) at) }
-{
-    at == 0
-        || source.layout.is_data(at, 4)
-            && are_leaves(source, leaves, at, word_at(source.memory, at), at + 4)
 }

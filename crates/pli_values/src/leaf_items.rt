@@ -1,13 +1,17 @@
 // The values of a leaf's INITIAL, element by element.
 
-ghost use Rattle.std.specs.Prelude.{◌≡◌, ℕ, ◌+◌, is_some, true};
+ghost use Rattle.std.specs.Prelude.{◌≡◌, ℕ, ◌+◌, [], is_some, true, unwrap_or};
 ghost use Rattle.pli_meaning.specs.Contents.{initial_at};
+ghost use Rattle.pli_serving.specs.InitialValues.{items_from};
+ghost use Rattle.pli_signatures.specs.View.{kind_of};
+ghost use Rattle.pli_values.specs.Calls.{call_of};
 ghost use Rattle.pli_values.specs.Items.{items_behind, items_left};
 ghost use Rattle.pli_values.specs.View.{initial_of};
 
-use crate::element::ElementKind;
 use crate::initial::{Initial, Item, behind_item, item_read};
+use crate::lists::ItemList;
 use crate::source::Source;
+use pli_signatures::element::ElementKind;
 
 /// A place among the items of a leaf: what is left of one, and how many stand behind it from an address on.
 #[derive(Clone, Copy)]
@@ -40,6 +44,26 @@ impl Items<'_> {
 }
 
 impl<'a> Items<'a> {
+    /// The values of a list.
+    pub fn of(source: Source<'a>, kind: ElementKind, list: ItemList) -> Items<'a>
+        requires { is_some (items_from (call_of source) (kind_of kind) list.count list.at) ≡ true }
+        ensures right { is_some (items_behind result) ≡ true }
+        ensures kind { result.kind ≡ kind }
+        ensures values { (n : ℕ) → initial_at (items_left result) n ≡ initial_at (unwrap_or (items_from (call_of source.entry) (kind_of kind) list.count list.at) []) n }
+    {
+        let current = Item {
+            repetition: 0,
+            value: Initial::Skip,
+        };
+        Items {
+            source,
+            kind,
+            current,
+            left: list.count,
+            at: list.at,
+        }
+    }
+
     /// What the next element begins with: nothing special where the items have ended.
     pub fn next(&mut self) -> Initial<'a>
         requires { is_some (items_behind self.old) ≡ true }

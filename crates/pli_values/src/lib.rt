@@ -2,14 +2,18 @@
 // among them.
 #![tactic(auto)]
 
+pub mod begun;
 pub mod element;
 pub mod generation;
 pub mod initial;
 pub mod laws;
 pub mod layout;
 pub mod leaf_items;
+pub mod lists;
 pub mod name;
+pub mod places;
 pub mod source;
+pub mod subscripts;
 #[cfg(test)]
 mod tests;
 pub mod word;

@@ -3,8 +3,11 @@
 ghost use Rattle.std.specs.Prelude.{◌≡◌, ◌+◌, ◌++◌, ◌≤◌, length};
 ghost use Rattle.pli_language.specs.View.{option_of};
 ghost use Rattle.pli_serving.specs.Bytes.{name_at, name_bytes, number_bytes, offset_of, offset_word, with_bytes};
+ghost use Rattle.pli_serving.specs.Arguments.{name_in};
+ghost use Rattle.pli_values.specs.Calls.{call_of};
 ghost use Rattle.pli_values.specs.View.{name_of};
 
+use crate::source::Source;
 use crate::word::{fill, long_at, put_long, put_word, word_at};
 
 /// What a locator names: nothing, a variable's generation by its serial, or a generation by its offset in an area, which
@@ -39,6 +42,16 @@ pub fn name_at(memory: &[u8], at: usize) -> Option<Name>
         }),
         _ => None,
     }
+}
+
+/// The name at an address, `None` where that isn't data or the name's kind is that of none.
+pub fn name_in(source: &Source, at: usize) -> Option<Name>
+    ensures { option_of name_of result ≡ name_in (call_of source.now) at }
+{
+    if !source.layout.is_data(at, NAME_BYTES) {
+        return None;
+    }
+    name_at(source.memory, at)
 }
 
 fn put_parts(memory: &mut [u8], at: usize, kind: u32, offset: u32, serial: u64)

@@ -1,7 +1,7 @@
 // Bytes of memory, and numbers of several bytes in it, the lowest byte first.
 
-ghost use Rattle.std.specs.Prelude.{◌≡◌, ◌+◌, ◌≤◌, length, replicate};
-ghost use Rattle.rv_meaning.specs.Memory.{load};
+ghost use Rattle.std.specs.Prelude.{◌≡◌, ◌+◌, ◌*◌, ◌≤◌, length, replicate};
+ghost use Rattle.rv_meaning.specs.Memory.{bytes_of_words, load};
 ghost use Rattle.pli_serving.specs.Bytes.{number_bytes, with_bytes, word_at};
 
 pub fn half_at(memory: &[u8], at: usize) -> u16
@@ -62,4 +62,16 @@ pub fn put_long(memory: &mut [u8], at: usize, value: u64)
     ensures { memory.new ≡ with_bytes (number_bytes 8 value) at memory.old }
 {
     put_bytes(memory, at, &value.to_le_bytes());
+}
+
+/// Writes words, one behind the other.
+pub fn put_words(memory: &mut [u8], at: usize, words: &[u32])
+    requires { at + 4 * length words.now ≤ length memory.old }
+    ensures { memory.new ≡ with_bytes (bytes_of_words words.now) at memory.old }
+{
+    let mut here = at;
+    for word in words {
+        put_word(memory, here, *word);
+        here += 4;
+    }
 }

@@ -3,21 +3,22 @@ use Rattle.pli_meaning.specs.Contents as C
 use Rattle.pli_meaning.specs.Contents.{initial_at}
 use Rattle.pli_serving.specs.Stored.{kept_value}
 use Rattle.pli_serving.specs.Values.{element_bytes}
+use Rattle.pli_signatures.specs.View.{kind_of}
 use Rattle.pli_values.specs.Items.{items_left}
 use Rattle.pli_values.specs.Sizes.{written_size}
-use Rattle.pli_values.specs.View.{element_kind_of, value_of}
+use Rattle.pli_values.specs.View.{value_of}
 use Rattle.pli_values.proofs.Fresh.{next_place, next_written, room}
 use Rattle.pli_values.proofs.generation.put_elements.Goals as goal
 
 pub put_element-at-requires : goal.put_element-at-requires
 put_element-at-requires c =
-    let r = room (element_kind_of c.args.items.kind) c.loop-done.done c.args.count (omega arith) in
+    let r = room (kind_of c.args.items.kind) c.loop-done.done c.args.count (omega arith) in
     let p = c.loop-done.invariant.place in
     omega (arith, r)
 
 pub loop-done-preserved : goal.loop-done-preserved
 loop-done-preserved c =
-    let kind = element_kind_of c.args.items.kind in
+    let kind = kind_of c.args.items.kind in
     let values = initial_at (items_left c.args.items) in
     let done = c.loop-done.done in
     let known = c.loop-done.invariant in

@@ -1,7 +1,8 @@
 use Rattle.std.proofs.Common.{◌≡◌, ◌∙◌, Some, arith}
 use Rattle.pli_serving.specs.InitialValues.{item_at}
+use Rattle.pli_signatures.specs.View.{kind_of}
 use Rattle.pli_values.specs.Calls.{call_of}
-use Rattle.pli_values.specs.View.{element_kind_of, item_of}
+use Rattle.pli_values.specs.View.{item_of}
 use Rattle.pli_values.proofs.Lasting.{right_next, same_next}
 use Rattle.pli_values.proofs.leaf_items.Items.skip_ended.Goals as goal
 
@@ -9,7 +10,7 @@ pub loop-self-preserved : goal.loop-self-preserved
 loop-self-preserved c =
     let old = c.loop-self.self in
     let call = call_of old.source in
-    let kind = element_kind_of old.kind in
+    let kind = kind_of old.kind in
     let a = item_of c.in-Some.item in
     let e : Some a ≡ item_at call kind old.at = c.in-Some.ensures in
     record {

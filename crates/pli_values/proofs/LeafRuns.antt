@@ -25,15 +25,15 @@ run_append piece first (suc m) n =
     ∙ sym (append_assoc (piece first) (run_of piece (suc first) m) (run_of piece (suc first + m) n))
     ∙ ap (λ k. (piece first ++ run_of piece (suc first) m) ++ run_of piece k n) f
 
-flat_flat : (f : ℤ → List (List ℤ)) (g : List ℤ → List ℕ) (zs : List ℤ) → flat_map g (flat_map f zs) ≡ flat_map (λ z. flat_map g (f z)) zs
+pub flat_flat : (f : ℤ → List (List ℤ)) (g : List ℤ → List ℕ) (zs : List ℤ) → flat_map g (flat_map f zs) ≡ flat_map (λ z. flat_map g (f z)) zs
 flat_flat f g [] = refl
 flat_flat f g (z ∷ zs) = flat_map-append g (f z) (flat_map f zs) ∙ ap (λ xs. flat_map g (f z) ++ xs) (flat_flat f g zs)
 
-slice_get_behind : (pre bs : List Bounds) (b : Bounds) (n : ℕ) → n ≡ length pre → slice_get (pre ++ b ∷ bs) n ≡ Some b
+pub slice_get_behind : (pre bs : List Bounds) (b : Bounds) (n : ℕ) → n ≡ length pre → slice_get (pre ++ b ∷ bs) n ≡ Some b
 slice_get_behind [] bs b n e = ap (slice_get (b ∷ bs)) e
 slice_get_behind (p ∷ pre) bs b n e = ap (slice_get (p ∷ (pre ++ b ∷ bs))) e ∙ slice_get_behind pre bs b (length pre) refl
 
-next_int : (z : ℤ) (j : ℕ) → z +ℤ pos j +ℤ pos 1 ≡ z +ℤ pos (suc j)
+pub next_int : (z : ℤ) (j : ℕ) → z +ℤ pos j +ℤ pos 1 ≡ z +ℤ pos (suc j)
 next_int z j = omega (arith, ints)
 
 distance : (z : ℤ) (j : ℕ) → natural (z +ℤ pos j -ℤ z) ≡ j
@@ -42,7 +42,7 @@ distance z j = ap natural d
     d : z +ℤ pos j -ℤ z ≡ pos j
     d = omega (arith, ints)
 
-no_distance : (z : ℤ) → z ≡ z +ℤ pos 0
+pub no_distance : (z : ℤ) → z ≡ z +ℤ pos 0
 no_distance z = omega (arith, ints)
 
 row_more : (base j size : ℕ) → base + j * size + size ≡ base + suc j * size
