@@ -1,7 +1,6 @@
 -- The data of a generation as it begins, leaf by leaf.
-use Rattle.std.proofs.Common.{zero, suc, ◌≡◌, ◌≤◌, ◌<◌, ℕ, ℤ, ◌+◌, ◌-◌, ◌*◌, ◌&&◌, ◌==◌, if◌then◌else◌, slice_get, get_or, unwrap_or, length, map, take, drop, Bool, true, false, Option, Some, None, is_some, List, [], ◌∷◌, ◌++◌, refl, sym, ap, ◌∙◌, arith, append-nil}
+use Rattle.std.proofs.Common.{zero, suc, ◌≡◌, ◌≤◌, ◌<◌, ℕ, ℤ, ◌+◌, ◌*◌, ◌&&◌, ◌==◌, if◌then◌else◌, slice_get, get_or, unwrap_or, length, map, drop, Bool, true, false, Option, Some, None, is_some, List, [], ◌∷◌, ◌++◌, refl, sym, ap, ◌∙◌, arith, append-nil}
 use Rattle.std.specs.List.{flat_map}
-use Rattle.std.proofs.lemmas.Bool.Decides.{nat_tests}
 use Rattle.std.proofs.lemmas.List.{drop_all, length-map}
 use Rattle.std.proofs.Math.Nat.{mul-le-mul_left, mul-le-mul_right}
 use Rattle.std.proofs.lemmas.Option.{slice_get-get_or, unwrap_or-slice_get}
@@ -11,7 +10,7 @@ use Rattle.pli_types.specs.declared.signature.Leaf as P
 use Rattle.pli_types.specs.Templates.{bounds_so_far}
 use Rattle.pli_types.specs.View.{bounds_of}
 use Rattle.pli_meaning.specs.BasicValues.{BasicValue, BasicNumber}
-use Rattle.pli_meaning.specs.StreamOrder.{numbers_from, subscripts_of, with_more}
+use Rattle.pli_meaning.specs.StreamOrder.{subscripts_of, with_more}
 use Rattle.pli_meaning.specs.Contents.{Generation, leaf_refers, last_refers, leaves_refer, same_subscripts, element_place, fresh, initial_at, initial_in, initial_of}
 use Rattle.pli_serving.specs.AreaServices.{with_member}
 use Rattle.pli_serving.specs.Bytes.{with_bytes}

@@ -1,16 +1,12 @@
 -- Lists of INITIAL items, item by item.
-use Rattle.std.proofs.Common.{zero, suc, ◌≡◌, ◌<◌, ℕ, ◌+◌, ◌-◌, ◌&&◌, if◌then◌else◌, slice_get, Bool, true, false, Option, Some, None, is_some, is_none, List, [], ◌∷◌, refl, sym, ap, ◌∙◌, arith}
+use Rattle.std.proofs.Common.{zero, suc, ◌≡◌, ◌<◌, ℕ, ◌+◌, ◌-◌, Bool, false, Option, Some, None, is_some, is_none, List, refl, sym, ap, ◌∙◌, arith}
 use Rattle.pli_language.specs.Tree.{InitialItem}
 use Rattle.pli_language.specs.View.{option_of}
-use Rattle.pli_types.specs.declared.signature.Leaf as P
-use Rattle.pli_types.specs.Templates.{kind_so_far, leaf_so_far}
-use Rattle.pli_types.specs.View.{leaf_kind_of, leaf_of}
-use Rattle.pli_typing.specs.Signatures.{LeafKind, Leaf}
-use Rattle.pli_serving.specs.Bytes.{word_at, is_data}
+use Rattle.pli_typing.specs.Signatures.{LeafKind}
+use Rattle.pli_serving.specs.Bytes.{word_at}
 use Rattle.pli_serving.specs.Finding.{Call}
 use Rattle.pli_serving.specs.Templates.{put_before}
-use Rattle.pli_serving.specs.InitialValues.{items_from, item_at, item_size, items_at, with_items, leaves_from, Initial}
-use Rattle.pli_values.specs.Leaves.{leaves_of}
+use Rattle.pli_serving.specs.InitialValues.{items_from, item_at, item_size}
 use Rattle.pli_values.specs.declared.initial.Item.{Item}
 use Rattle.pli_values.specs.View.{item_of}
 

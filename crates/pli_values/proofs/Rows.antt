@@ -1,5 +1,5 @@
 -- The subscripts of all elements in row-major order, by their places.
-use Rattle.std.proofs.Common.{zero, suc, ◌≡◌, ◌≤◌, ◌<◌, ◌⊎◌, inl, inr, ℕ, ℤ, pos, ◌+ℤ◌, ◌+◌, ◌-◌, ◌*◌, ◌/◌, ◌%◌, slice_get, length, map, drop, take, get_or, reverse, Option, Some, None, List, [], ◌∷◌, ◌++◌, refl, sym, ap, ◌∙◌, arith, append_assoc, append-nil}
+use Rattle.std.proofs.Common.{zero, suc, ◌≡◌, ◌≤◌, ◌<◌, ◌⊎◌, inl, inr, ℕ, ℤ, pos, ◌+ℤ◌, ◌+◌, ◌-◌, ◌*◌, ◌/◌, ◌%◌, slice_get, length, map, drop, take, get_or, reverse, Some, None, List, [], ◌∷◌, ◌++◌, refl, sym, ap, ◌∙◌, arith, append_assoc, append-nil}
 use Rattle.std.specs.List.{flat_map}
 use Rattle.std.proofs.lemmas.Bool.{cases_lt}
 use Rattle.std.proofs.lemmas.Int.{ints}
@@ -12,7 +12,7 @@ use Rattle.pli_types.specs.declared.signature.Bounds.{Bounds}
 use Rattle.pli_types.specs.View.{pair_of}
 use Rattle.pli_meaning.specs.StreamOrder.{numbers_from, subscripts_of, with_more}
 use Rattle.pli_serving.specs.Values.{all_subscripts}
-use Rattle.pli_values.proofs.LeafRuns.{slice_get_behind, next_int, no_distance}
+use Rattle.pli_values.proofs.LeafRuns.{slice_get_behind, no_distance}
 
 -- ---- lists of lists
 

@@ -16,7 +16,7 @@ use crate::lists::ItemList;
 use crate::source::Source;
 use pli_signatures::element::ElementKind;
 use pli_signatures::in_force::extent_told;
-use pli_signatures::size::{count_in_force, kind_in_force};
+use pli_signatures::size::{count_in_force, kind_in_force, last_told_size, leaves_size};
 use pli_types::signature::Signature;
 
 /// What a generation begins with: its signature, of which no extent is open, the REFER extent, the member that keeps the extent, if one
@@ -31,6 +31,17 @@ pub struct Begun<'a> {
 }
 
 impl Begun<'_> {
+    /// The bytes of the data; `u64::MAX` where they are more.
+    pub fn data_size(&self) -> u64
+        ensures { result ≡ capped (leaves_size (leaves_of self.now)) }
+    {
+        let leaves = &self.signature.leaves;
+        match self.signature.refer {
+            Some(_) => last_told_size(leaves, self.extent),
+            None => leaves_size(leaves),
+        }
+    }
+
     /// The extent, where REFER tells it of this leaf.
     fn told(&self, leaf: usize) -> Option<i32>
         requires there { leaf < length self.now.signature.now.leaves.items }

@@ -1,6 +1,6 @@
 // The memory that lists are read from.
 
-ghost use Rattle.std.specs.Prelude.{◌≤◌, length};
+ghost use Rattle.std.specs.Prelude.{◌≡◌, ◌≤◌, length};
 
 use crate::layout::Layout;
 
@@ -10,4 +10,14 @@ pub struct Source<'a> {
     pub layout: Layout,
     pub memory: &'a [u8],
     ghost within: { layout.end ≤ length memory.now },
+}
+
+impl<'a> Source<'a> {
+    pub fn new(layout: Layout, memory: &'a [u8]) -> Source<'a>
+        requires { layout.end ≤ length memory.now }
+        ensures layout { result.layout ≡ layout }
+        ensures memory { result.memory.now ≡ memory.now }
+    {
+        Source { layout, memory }
+    }
 }

@@ -152,10 +152,8 @@ fn a_generation_begins_with_its_extent(rt: HostRuntime) -> Result<(), Fail> {
         heap_capacity: 0,
         end: 40,
     };
-    let source = Source {
-        layout,
-        memory: &BITS,
-    };
+    let data = BITS;
+    let source = Source::new(layout, &data);
     let signature = counted_bits(rt.alloc())?;
     let Some(lists) = initial_lists(rt.alloc(), &source, &signature.leaves, 4)? else {
         assert!(rt; false);
@@ -168,6 +166,10 @@ fn a_generation_begins_with_its_extent(rt: HostRuntime) -> Result<(), Fail> {
         source,
         lists: &lists,
     };
+    if begun.data_size() > 12 {
+        assert!(rt; false);
+        return Ok(());
+    }
     let mut memory = [7; 16];
     put_generation(&mut memory, 4, &begun);
     assert_eq!(rt;
@@ -179,7 +181,7 @@ fn a_generation_begins_with_its_extent(rt: HostRuntime) -> Result<(), Fail> {
 
 #[test]
 fn places_and_names_stand_in_data(rt: HostRuntime) -> Result<(), Fail> {
-    let mut memory = [9; 32];
+    let mut memory = [0; 32];
     put_words(&mut memory, 4, &[2, 0, 255, 1, 3]);
     let layout = Layout {
         code_bytes: 4,

@@ -1,4 +1,4 @@
-use Rattle.std.proofs.Common.{◌≡◌, ◌∙◌, Some, ap, is_some, length, refl, rules, slice_get, sym}
+use Rattle.std.proofs.Common.{◌∙◌, ap, is_some, length, refl, rules, sym}
 use Rattle.std.proofs.lemmas.Option.{slice_get_read}
 use Rattle.pli_values.specs.Calls.{call_of}
 use Rattle.pli_signatures.specs.View.{kind_of}

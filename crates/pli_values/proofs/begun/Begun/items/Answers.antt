@@ -1,4 +1,4 @@
-use Rattle.std.proofs.Common.{ℕ, ◌∙◌, ap}
+use Rattle.std.proofs.Common.{◌∙◌, ap}
 use Rattle.pli_meaning.specs.Contents.{initial_at}
 use Rattle.pli_signatures.specs.View.{kind_of}
 use Rattle.pli_values.proofs.Beginnings.{list_known, list_same, list_some}
