@@ -1,5 +1,5 @@
-// Names, values, INITIAL values and format lists as they stand in a machine's memory. Memory is its bytes, an address a place
-// among them.
+// Names, values, INITIAL values and generations as they begin, places of extents, and subscripts, in a machine's memory. Memory is
+// its bytes, an address a place among them.
 #![tactic(auto)]
 
 pub mod begun;
