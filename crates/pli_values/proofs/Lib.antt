@@ -1,0 +1,13 @@
+pub mod Beginnings
+pub mod Calls
+pub mod Elements
+pub mod ExtentPlaces
+pub mod Fresh
+pub mod Items
+pub mod Lasting
+pub mod LeafData
+pub mod LeafLists
+pub mod LeafRuns
+pub mod Parts
+pub mod Rows
+pub mod Texts
