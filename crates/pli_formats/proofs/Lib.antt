@@ -1,0 +1,4 @@
+pub mod Calls
+pub mod Forests
+pub mod Nodes
+pub mod Within

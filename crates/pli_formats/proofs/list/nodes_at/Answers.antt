@@ -1,0 +1,27 @@
+use Rattle.std.proofs.Common.{◌≡◌, ◌+◌, ◌-◌, ◌<◌, ◌≤◌, ◌^◌, [], ◌∷◌, ◌++◌, length, ap, sym, ◌∙◌, arith}
+use Rattle.std.proofs.lemmas.List.{length-append}
+use Rattle.pli_values.specs.Calls.{call_of}
+use Rattle.pli_formats.specs.Reading.{items_in}
+use Rattle.pli_formats.proofs.Nodes.{node_read}
+use Rattle.pli_formats.proofs.list.nodes_at.Goals as goal
+
+pub overflow_add-left : goal.overflow_add-left
+overflow_add-left c =
+    let e : c.args.source.now.layout.end < 2 ^ 32 = omega (arith, c.end_of-most.type_inv, c.end_of-most.ensures) in
+    omega (arith, e, c.loop-left.invariant.bounded, c.loop-left.invariant.room, c.items_in.type_inv, c.from.ensures)
+
+pub loop-left-preserved : goal.loop-left-preserved
+loop-left-preserved c =
+    let v = c.loop-left.invariant in
+    let nodes = c.loop-left.nodes.items in
+    let n = c.in-Some.node in
+    let more : c.push.new.self.items ≡ nodes ++ n ∷ [] = c.in_ok-push.ensures.items in
+    let long : length c.push.new.self.items ≡ length nodes + 1 = ap length more ∙ length-append nodes (n ∷ []) in
+    let inside : c.loop-left.here + 12 ≤ c.args.source.now.layout.end = c.in-Some.ensures.within in
+    let next : c.loop-left.left - 1 + c.from.result ≡ c.loop-left.left - 1 + items_in n = ap (λ k. c.loop-left.left - 1 + k) (c.from.ensures ∙ c.items_in.ensures) in
+    record {
+      here = omega (arith, v.here, long);
+      room = omega (arith, v.here, long, inside);
+      bounded = omega (arith, v.bounded, long, c.from.ensures, c.items_in.type_inv);
+      read = node_read (call_of c.args.source.now) nodes c.push.new.self.items n c.loop-left.left (c.loop-left.left - 1 + c.from.result) c.loop-left.here _ (sym c.in-Some.ensures.node) (omega arith) inside next more v.read;
+    }
