@@ -1,0 +1,6 @@
+// The services of images, as they are called.
+#![tactic(auto)]
+
+mod flow;
+mod reply;
+mod shown;
