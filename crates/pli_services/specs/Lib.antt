@@ -1,3 +1,2 @@
-pub mod Answering
-pub mod Shown
 pub mod Flowing
+pub mod Shown

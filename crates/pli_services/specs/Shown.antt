@@ -1,8 +1,8 @@
 -- What a run shows, as the services see it, and acts that change it.
 use Rattle.std.specs.Prelude.{◌≡◌, ◌+◌, ◌^◌, true, false, nat_lt, Result, Ok, Err}
 use Rattle.pli_meaning.specs.World.{World}
-use Rattle.pli_services.specs.declared.reply.Refusal.{Refusal}
-use Rattle.pli_services.specs.declared.reply.Refusal.TheVariants as F
+use Rattle.pli_answering.specs.declared.reply.Refusal.{Refusal}
+use Rattle.pli_answering.specs.declared.reply.Refusal.TheVariants as F
 use Rattle.pli_services.specs.declared.shown.Shown.{Shown}
 
 abbrev pub world_of : Shown → World

@@ -5,10 +5,10 @@ ghost use Rattle.pli_serving.specs.Finding.{Call};
 ghost use Rattle.pli_serving.specs.ActsAndEnds as acts;
 ghost use Rattle.pli_serving.specs.OnUnits as units;
 ghost use Rattle.pli_activations.specs.Entered.{unit_shown};
-ghost use Rattle.pli_services.specs.Answering.{Answers};
+ghost use Rattle.pli_answering.specs.Answering.{Answers};
 ghost use Rattle.pli_services.specs.Flowing.{with_flow};
 
-use crate::reply::{Refusal, Reply};
+use pli_answering::reply::{Refusal, Reply};
 use crate::shown::Shown;
 use pli_activations::activations::Activations;
 use pli_conditions::units::Unit;
@@ -83,7 +83,9 @@ impl Flow {
         if self.activations.height() == 0 {
             return Err(Refusal::Bad);
         }
-        self.activations.establish(found, unit_of(at))?;
+        if self.activations.establish(found, unit_of(at)).is_err() {
+            return Err(Refusal::Memory);
+        }
         Ok(Reply::Done(condition, at))
     }
 

@@ -2,5 +2,4 @@
 #![tactic(auto)]
 
 mod flow;
-mod reply;
 mod shown;

@@ -4,7 +4,7 @@ ghost use Rattle.std.specs.Prelude.{◌≡◌, ◌+◌, ◌^◌, true, false, na
 ghost use Rattle.pli_meaning.specs.World.{counted, ending, raising};
 ghost use Rattle.pli_services.specs.Shown.{world_of, Acts};
 
-use crate::reply::Refusal;
+use pli_answering::reply::Refusal;
 use pli_edit::output::Output;
 use pli_language::condition::Condition;
 use pli_meaning::outcome::End;

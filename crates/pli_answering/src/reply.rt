@@ -1,9 +1,8 @@
 // How a service replies.
 
 ghost use Rattle.std.specs.Prelude.{◌≡◌};
-ghost use Rattle.pli_services.specs.declared.reply.Refusal.TheVariants.{Memory};
+ghost use Rattle.pli_answering.specs.declared.reply.Refusal.TheVariants.{Memory};
 
-use pli_conditions::fault::OnUnitsFault;
 use std::alloc::{AllocError, AllocFailed};
 
 /// What a service that did its work gives: the results in a0 and a1, or the end of the run.
@@ -32,15 +31,6 @@ impl<T: Drop> From<AllocFailed<T>> for Refusal {
     ghost from_gives = { λ _ e. e ≡ Memory };
 
     fn from(_: AllocFailed<T>) -> Refusal {
-        Refusal::Memory
-    }
-}
-
-/// A block is entered and a unit established but where memory is refused.
-impl From<OnUnitsFault> for Refusal {
-    ghost from_gives = { λ _ e. e ≡ Memory };
-
-    fn from(_: OnUnitsFault) -> Refusal {
         Refusal::Memory
     }
 }

@@ -3,10 +3,10 @@ use Rattle.std.specs.Prelude.{◌≡◌, ℕ, List, Result, Ok, Err}
 use Rattle.pli_serving.specs.ServiceState.{Services}
 use Rattle.pli_serving.specs.Answers.{Answer, Done, Ends, Bad}
 use Rattle.pli_serving.specs.Finding.{Call}
-use Rattle.pli_services.specs.declared.reply.Reply.{Reply}
-use Rattle.pli_services.specs.declared.reply.Reply.TheVariants as R
-use Rattle.pli_services.specs.declared.reply.Refusal.{Refusal}
-use Rattle.pli_services.specs.declared.reply.Refusal.TheVariants as F
+use Rattle.pli_answering.specs.declared.reply.Reply.{Reply}
+use Rattle.pli_answering.specs.declared.reply.Reply.TheVariants as R
+use Rattle.pli_answering.specs.declared.reply.Refusal.{Refusal}
+use Rattle.pli_answering.specs.declared.reply.Refusal.TheVariants as F
 
 -- the reply, with the services and the memory after it, is this answer; what is refused changes nothing
 abbrev pub Replies : Answer → (old : Services) → (memory : List ℕ) → Result Reply Refusal → (new : Services) → (after : List ℕ) → Type 0

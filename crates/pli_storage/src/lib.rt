@@ -1,0 +1,6 @@
+// What the variables of a run hold in memory, and the services that make, find, copy and free it.
+#![tactic(auto)]
+
+mod bytes;
+mod held;
+mod variables;
