@@ -1,11 +1,13 @@
 -- What lives by a serial: serials rise, so it is the same from the oldest and from the newest on.
-use Rattle.std.proofs.Common.{◌≡◌, ◌≢◌, ℕ, ◌+◌, ◌<◌, ◌≤◌, List, [], ◌∷◌, ◌++◌, refl, sym, ap, ◌∙◌, Option, Some, None, Bool, true, false, arith}
-use Rattle.std.specs.Prelude.{option_map, map, reverse, cond, ◌==◌, is_some, if◌then◌else◌}
+use Rattle.std.proofs.Common.{◌≡◌, ◌≢◌, ℕ, ◌+◌, ◌<◌, ◌≤◌, List, [], ◌∷◌, ◌++◌, refl, sym, ap, ◌∙◌, Option, Some, None, Result, Ok, Err, Bool, true, false, arith}
+use Rattle.std.specs.Prelude.{option_map, map, reverse, cond, ◌==◌, is_some, nat_le, if◌then◌else◌}
 use Rattle.std.proofs.lemmas.List.{map-append, reverse-append}
 use Rattle.std.proofs.lemmas.Bool.Decides.{nat_tests}
 use Rattle.pli_serving.specs.ServiceState.{Living, living_of}
 use Rattle.controlled_gens.specs.declared.roots.Root.{Root}
-use Rattle.controlled_gens.specs.Rooted.{Rise, living, livings, root_of}
+use Rattle.controlled_gens.specs.Rooted.{IsEntered, Rise, Rooted, living, livings, root_of, up_to_owner}
+use Rattle.controlled_gens.specs.declared.fault.GenFault.{GenFault}
+use Rattle.controlled_gens.proofs.Rising.{rise_filter, rise_push}
 use Rattle.pli_storage.specs.Variables.{living_root}
 
 eq_true : (a b : ℕ) → a ≡ b → (a == b) ≡ true
@@ -26,11 +28,11 @@ none_above s least (e ∷ es) serials h r =
 -- the last one counts where no other has the serial
 last : (ls : List Living) (l : Living) (s : ℕ) (found : Option Living) → living_of ls s ≡ found → living_of (ls ++ l ∷ []) s ≡ (if is_some found then found else living_of (l ∷ []) s)
 last [] l s found e = rw (sym e) refl
-last (k ∷ ks) l s found e = by_test (k.serial == s) e
+last (k ∷ ks) l s found e = by_test (k.serial == s) e (last ks l s found)
   where
-    by_test : (t : Bool) → (if t then Some k else living_of ks s) ≡ found → (if t then Some k else living_of (ks ++ l ∷ []) s) ≡ (if is_some found then found else living_of (l ∷ []) s)
-    by_test true e = rw (sym e) refl
-    by_test false e = last ks l s found e
+    by_test : (t : Bool) → (if t then Some k else living_of ks s) ≡ found → (living_of ks s ≡ found → living_of (ks ++ l ∷ []) s ≡ (if is_some found then found else living_of (l ∷ []) s)) → (if t then Some k else living_of (ks ++ l ∷ []) s) ≡ (if is_some found then found else living_of (l ∷ []) s)
+    by_test true e further = rw (sym e) refl
+    by_test false e further = further e
 
 front : (e : ℕ × Root) (es : List (ℕ × Root)) → livings (e ∷ es) ≡ livings es ++ living e ∷ []
 front e es = ap (map living) (reverse-append (e ∷ []) es) ∙ map-append living (reverse es) (e ∷ [])
@@ -49,5 +51,12 @@ found_by_serial s least (e ∷ es) serials r =
         let back = eq_true e.0 s (sym same) in
         rw (none, back, same) refl
     by_test false t =
-        let back = eq_false e.0 s (λ f. absurd (omega (arith, cc (eq_true s e.0 (sym f))))) in
+        let back = eq_false e.0 s (λ f. let other : (s == e.0) ≡ true = eq_true s e.0 (sym f) in absurd (cc)) in
         elim (root_of es s) as (λ o. option_map (living_root s) o ≡ (if is_some (option_map (living_root s) o) then option_map (living_root s) o else living_of (living e ∷ []) s)) [ Some root ↦ refl | None ↦ rw back refl ]
+
+pub rise_entered : (old new : Rooted) (root : Root) (result : Result ℕ GenFault) → IsEntered old new root result → Rise 0 old.roots old.serials → Rise 0 new.roots new.serials
+rise_entered old new root (Ok serial) e r = rw (e.2) (rise_push 0 old.roots old.serials serial root r (omega (arith, e.1)))
+rise_entered old new root (Err fault) e r = rw (e.1) r
+
+pub rise_left : (owner : ℕ) (old new : Rooted) → new ≡ up_to_owner owner old → Rise 0 old.roots old.serials → Rise 0 new.roots new.serials
+rise_left owner old new e r = rw e (rise_filter (λ e. nat_le e.1.owner owner) 0 old.roots old.serials r)
