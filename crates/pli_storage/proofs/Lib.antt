@@ -1,3 +1,4 @@
 pub mod Areas
+pub mod Lookups
 pub mod Parts
 pub mod Serials

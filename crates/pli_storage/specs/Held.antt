@@ -4,9 +4,9 @@ use Rattle.area_keeper.specs.Keeper.{Keeper}
 use Rattle.area_keeper.specs.KeeperLaws.{greatest_capacity}
 use Rattle.controlled_gens.specs.Rooted.{livings}
 use Rattle.controlled_gens.specs.Stacks.{controlled_of}
-use Rattle.pli_serving.specs.Bytes.{Layout}
 use Rattle.pli_serving.specs.ServiceState.{Services}
 use Rattle.pli_serving.specs.Finding.{Call}
+use Rattle.pli_values.specs.declared.layout.Layout.{Layout}
 use Rattle.pli_values.specs.View.{layout_of}
 use Rattle.pli_storage.specs.declared.held.Held.{Held}
 

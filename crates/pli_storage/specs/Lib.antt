@@ -1,2 +1,5 @@
+pub mod Areas
+pub mod Descriptions
+pub mod Findings
 pub mod Held
 pub mod Variables

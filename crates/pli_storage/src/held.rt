@@ -1,6 +1,6 @@
 // What the variables of a run hold.
 
-ghost use Rattle.std.specs.Prelude.{◌≡◌, option_map, List, ℕ};
+ghost use Rattle.std.specs.Prelude.{◌≡◌, option_map, is_some, List, ℕ};
 ghost use Rattle.area_keeper.specs.Keeper.{Keeper};
 ghost use Rattle.controlled_gens.specs.Rooted.{livings};
 ghost use Rattle.pli_serving.specs.Finding.{Call, area_bytes, area_living};
@@ -8,6 +8,7 @@ ghost use Rattle.pli_serving.specs.ServiceState.{living_of};
 ghost use Rattle.pli_storage.specs.Held.{with_held};
 
 use crate::variables::Variables;
+use area_heap::keeper::AreaKeeper;
 use controlled_gens::controlled::Controlled;
 use pli_signatures::signatures::Signatures;
 use pli_values::layout::Layout;
@@ -28,6 +29,13 @@ pub struct Held {
 pub struct AreaPlace {
     pub at: u32,
     pub capacity: u32,
+}
+
+/// Whether the bytes are those of an area.
+pub fn is_area<K: AreaKeeper>(bytes: &[u8]) -> bool
+    ensures { result ≡ is_some (K.keeper.area_of bytes.now) }
+{
+    K::open(bytes).is_ok()
 }
 
 impl Held {

@@ -2,5 +2,8 @@
 #![tactic(auto)]
 
 mod bytes;
+mod finding;
 mod held;
+mod named_areas;
+mod names;
 mod variables;
