@@ -2,7 +2,7 @@
 use Rattle.std.proofs.Common.{◌≡◌, ℕ, ◌+◌, ◌-◌, ◌≤◌, List, [], ◌++◌, length, take, drop, Option, Some, None, Bool, true, false, refl, sym, ap, ◌∙◌, arith, length-drop}
 use Rattle.std.specs.Prelude.{min, nat_le}
 use Rattle.std.proofs.lemmas.Bool.Decides.{nat_tests}
-use Rattle.std.proofs.lemmas.List.{append-nil, nil_from_length, take_all, take_min}
+use Rattle.std.proofs.lemmas.List.{append-nil, drop-drop, nil_from_length, take-append-drop, take_all, take_min}
 use Rattle.std.proofs.Math.Seq.{take-length}
 use Rattle.std.proofs.Math.ListN.{drop_of_length-le}
 use Rattle.area_heap.specs.Answers.{bytes_or}
@@ -38,14 +38,15 @@ put_reached m at new h = by_test (nat_le at (length m)) refl
         let behind : length m ≤ at = grind (arith, nat_tests) in
         let e : min at (length m) ≡ length m = omega arith in
         let none : new ≡ [] = nil_from_length new (omega (arith, h, e)) in
-        let left : take (length m) m ++ ([] ++ drop (length m + 0) m) ≡ m = rw (take-length, drop_of_length-le m {length m + 0} (omega arith)) append-nil in
-        let right : take at m ++ ([] ++ drop (at + 0) m) ≡ m = rw (take_all at m behind, drop_of_length-le m {at + 0} (omega (arith, behind))) append-nil in
+        let left : take (length m) m ++ ([] ++ drop (length m + 0) m) ≡ m = rw (take-length, drop_of_length-le m {i = length m + 0} (omega arith)) (append-nil m) in
+        let right : take at m ++ ([] ++ drop (at + 0) m) ≡ m = rw (take_all at m behind, drop_of_length-le m {i = at + 0} (omega (arith, behind))) (append-nil m) in
         rw (e, none) (left ∙ sym right)
 
 -- ---- what is written back
 
 put_back : (m : List ℕ) (at count : ℕ) → at + count ≤ length m → take at m ++ (bytes_at count at m ++ drop (at + count) m) ≡ m
-put_back m at count h = grind (arith, common_steps)
+put_back m at count h =
+    rw (sym (drop-drop count at m)) (ap (λ rest. take at m ++ rest) (take-append-drop count (drop at m)) ∙ take-append-drop at m)
 
 pub put_or : (m : List ℕ) (at count : ℕ) (new : List ℕ) (o : Option (List ℕ)) → at + count ≤ length m → length new ≡ count → new ≡ bytes_or (bytes_at count at m) o → take at m ++ (new ++ drop (at + count) m) ≡ written_or at m o
 put_or m at count new None h l e = ap (λ b. take at m ++ (b ++ drop (at + count) m)) e ∙ put_back m at count h

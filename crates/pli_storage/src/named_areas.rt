@@ -2,7 +2,9 @@
 
 ghost use Rattle.std.specs.Prelude.{◌≡◌, ◌+◌, ◌≤◌, Some, length, List, ℕ, IsSome, option_map, is_some, is_ok, IfOk, if◌then◌else◌};
 ghost use Rattle.area_heap.specs.Answers.{done_or};
-ghost use Rattle.pli_serving.specs.Arguments.{area_if, area_named};
+ghost use Rattle.area_keeper.specs.Keeper.{Keeper};
+ghost use Rattle.pli_values.specs.View.{name_of};
+ghost use Rattle.pli_serving.specs.Arguments.{area_if, area_named, area_of_name};
 ghost use Rattle.pli_serving.specs.Bytes.{bytes_at, with_bytes};
 ghost use Rattle.pli_serving.specs.Finding.{Call};
 ghost use Rattle.pli_storage.specs.Areas.{area_argument, bytes_of, written_or};
@@ -84,22 +86,34 @@ pub fn copy_at<K: AreaKeeper>(
 }
 
 impl Held {
-    /// The area whose name stands at an address; the heap has none.
-    #[tactic(auto, using(crate::proofs::Named::named_variable))]
+    /// The area that a name names; the heap has none.
+    fn area_of_name(&self, name: Name) -> Option<NamedArea>
+        ensures { (k : Keeper) → (m : List ℕ) → (c : Call) → area_of_name (with_held k self.now m c) (Some (name_of name)) ≡ option_map (area_argument (with_held k self.now m c)) result }
+    {
+        match name {
+            Name::Variable { serial } => match self.area_living(serial) {
+                Some(place) => Some(NamedArea { serial, place }),
+                None => None,
+            },
+            Name::Null => None,
+            Name::Based { .. } => None,
+        }
+    }
+
+    /// The area whose name stands at an address.
+    #[tactic(auto, using(crate::proofs::Naming::area_unnamed, crate::proofs::Naming::area_so))]
     pub fn area_named<K: AreaKeeper>(&self, memory: &[u8], at: u32) -> Option<NamedArea>
         requires { IsLaid K.keeper self.now.layout memory.now }
         ensures { (c : Call) → area_named (with_held K.keeper self.now memory.now c) at ≡ option_map (area_argument (with_held K.keeper self.now memory.now c)) result }
     {
         match self.name_at::<K>(memory, at) {
-            Some(Name::Variable { serial }) => match self.area_living(serial) {
-                Some(place) => Some(NamedArea { serial, place }),
-                None => None,
-            },
-            _ => None,
+            Some(name) => self.area_of_name(name),
+            None => None,
         }
     }
 
     /// The serial of the area whose name stands at an address, with 0 of none.
+    #[tactic(auto, using(crate::proofs::Naming::area_if_none, crate::proofs::Naming::area_if_so))]
     pub fn area_if<K: AreaKeeper>(&self, memory: &[u8], at: u32) -> Option<Option<u64>>
         requires { IsLaid K.keeper self.now.layout memory.now }
         ensures { (c : Call) → area_if (with_held K.keeper self.now memory.now c) at ≡ result }
