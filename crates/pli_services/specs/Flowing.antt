@@ -1,5 +1,6 @@
 -- A call of a service whose services hold what a run's flow does.
 use Rattle.std.specs.Prelude.{option_map}
+use Rattle.pli_meaning.specs.World.{first_world}
 use Rattle.pli_serving.specs.ServiceState.{Services, Waiting}
 use Rattle.pli_serving.specs.Finding.{Call}
 use Rattle.pli_services.specs.Shown.{world_of}
@@ -20,3 +21,7 @@ flowing f v =
 
 abbrev pub with_flow : Flow → Call → Call
 with_flow f c = record c { services = flowing f c.services }
+
+-- the call's services before a run begins
+abbrev pub unstarted : Call → Call
+unstarted c = record c { services = record c.services { world = first_world; line = 0; activations = []; waiting = None } }

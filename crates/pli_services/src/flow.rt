@@ -1,4 +1,4 @@
-// How a run goes on: services 1, 2 and 28 to 33 but for the end of blocks.
+// How a run goes on: services 1, 2, 28 to 30, 32 and 33.
 
 ghost use Rattle.std.specs.Prelude.{◌≡◌, Some, None, if◌then◌else◌};
 ghost use Rattle.pli_serving.specs.Finding.{Call};
@@ -6,7 +6,7 @@ ghost use Rattle.pli_serving.specs.ActsAndEnds as acts;
 ghost use Rattle.pli_serving.specs.OnUnits as units;
 ghost use Rattle.pli_activations.specs.Entered.{unit_shown};
 ghost use Rattle.pli_answering.specs.Answering.{Answers};
-ghost use Rattle.pli_services.specs.Flowing.{with_flow};
+ghost use Rattle.pli_services.specs.Flowing.{unstarted, with_flow};
 
 use pli_answering::reply::{Refusal, Reply};
 use crate::shown::Shown;
@@ -14,6 +14,7 @@ use pli_activations::activations::Activations;
 use pli_conditions::units::Unit;
 use pli_language::condition::Condition;
 use pli_meaning::outcome::End;
+use std::alloc::Global;
 
 /// A raise whose unit is about to be entered: its code, the address where the program goes on behind the unit, and its line.
 #[derive(Clone, Copy, PartialEq, Eq, Debug)]
@@ -33,6 +34,18 @@ pub struct Flow {
 }
 
 impl Flow {
+    /// No block is entered, and no raise waits.
+    pub fn new(alloc: Global) -> Flow
+        ensures { (c : Call) → with_flow result c ≡ unstarted c }
+    {
+        Flow {
+            shown: Shown::new(alloc),
+            line: 0,
+            activations: Activations::new(alloc),
+            waiting: None,
+        }
+    }
+
     /// 1: the line becomes current; with mode 0 an act is made, with 1 none.
     pub fn act(&mut self, line: u32, mode: u32) -> Result<Reply, Refusal>
         ensures { (c : Call) → Answers (λ c. acts.act_served c line mode) (with_flow self.old c) result (with_flow self.new c) }

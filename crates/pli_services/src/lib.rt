@@ -1,5 +1,9 @@
-// The services of images, as they are called.
+// The services of images over the parts that they keep, as far as they stand: acts, the end of a run, on-units, raises, and blocks
+// that are entered.
 #![tactic(auto)]
 
-mod flow;
-mod shown;
+pub mod blocks;
+pub mod flow;
+pub mod shown;
+#[cfg(test)]
+mod tests;

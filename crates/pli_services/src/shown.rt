@@ -1,13 +1,14 @@
 // What a run shows, which changes at acts alone.
 
 ghost use Rattle.std.specs.Prelude.{◌≡◌, ◌+◌, ◌^◌, true, false, nat_lt, MatchResult};
-ghost use Rattle.pli_meaning.specs.World.{counted, ending, raising};
+ghost use Rattle.pli_meaning.specs.World.{counted, ending, first_world, raising};
 ghost use Rattle.pli_services.specs.Shown.{world_of, Acts};
 
 use pli_answering::reply::Refusal;
 use pli_edit::output::Output;
 use pli_language::condition::Condition;
 use pli_meaning::outcome::End;
+use std::alloc::Global;
 
 /// The acts that were made, the output, the conditions that were raised, and how the run stands.
 #[derive(Drop)]
@@ -19,6 +20,18 @@ pub struct Shown {
 }
 
 impl Shown {
+    /// Nothing is shown, and the run goes on.
+    pub fn new(alloc: Global) -> Shown
+        ensures { world_of result ≡ first_world }
+    {
+        Shown {
+            acts: 0,
+            output: Output::new(alloc),
+            raised: Vec::new(alloc),
+            end: End::Running,
+        }
+    }
+
     /// An act that shows nothing.
     pub fn count(&mut self) -> Result<(), Refusal>
         ensures { Acts (world_of self.old) (counted (world_of self.old)) result (world_of self.new) }

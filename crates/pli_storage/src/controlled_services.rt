@@ -30,7 +30,6 @@ fn counted(count: u64, second: u32) -> Result<Reply, Refusal>
 
 impl Held {
     /// 19: how many generations a variable has. One that no register holds has no memory.
-    #[tactic(auto, using(crate::proofs::Newest::as_many))]
     pub fn count(&self, variable: u32, second: u32) -> Result<Reply, Refusal>
         requires { length self.now.controlled ≡ 2 ^ 16 }
         ensures { (k : Keeper) → (m : List ℕ) → (c : Call) → Answers (λ c. services.count_served c variable second) (with_held k self.now m c) result (with_held k self.now m c) }

@@ -1,12 +1,12 @@
 // What the variables of a run hold in memory, and the services that make, find, copy and free it.
 #![tactic(auto)]
 
-mod area_services;
-mod bytes;
-mod controlled_services;
-mod finding;
-mod held;
-mod named_areas;
-mod names;
-mod signature_service;
-mod variables;
+pub mod area_services;
+pub mod bytes;
+pub mod controlled_services;
+pub mod finding;
+pub mod held;
+pub mod named_areas;
+pub mod names;
+pub mod signature_service;
+pub mod variables;
