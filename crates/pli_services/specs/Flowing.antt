@@ -1,5 +1,5 @@
 -- A call of a service whose services hold what a run's flow does.
-use Rattle.std.specs.Prelude.{option_map}
+use Rattle.std.specs.Prelude.{[], None, option_map}
 use Rattle.pli_meaning.specs.World.{first_world}
 use Rattle.pli_serving.specs.ServiceState.{Services, Waiting}
 use Rattle.pli_serving.specs.Finding.{Call}

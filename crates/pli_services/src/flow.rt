@@ -8,9 +8,9 @@ ghost use Rattle.pli_activations.specs.Entered.{unit_shown};
 ghost use Rattle.pli_answering.specs.Answering.{Answers};
 ghost use Rattle.pli_services.specs.Flowing.{unstarted, with_flow};
 
-use pli_answering::reply::{Refusal, Reply};
 use crate::shown::Shown;
 use pli_activations::activations::Activations;
+use pli_answering::reply::{Refusal, Reply};
 use pli_conditions::units::Unit;
 use pli_language::condition::Condition;
 use pli_meaning::outcome::End;

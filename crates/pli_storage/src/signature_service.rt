@@ -48,6 +48,16 @@ fn reserved<K: AreaKeeper>(signatures: &Signatures, number: u32) -> u32
     }
 }
 
+/// The bounds that two words give.
+fn bounds_given(lower: u32, upper: u32) -> Bounds
+    ensures { pair_of result ≡ service.bounds_given lower upper }
+{
+    Bounds {
+        lower: lower.cast_signed(),
+        upper: upper.cast_signed(),
+    }
+}
+
 impl Held {
     /// The number of a signature with an extent at places that share it.
     #[tactic(auto, using(crate::proofs::Reserving::filled_none, crate::proofs::Reserving::unfilled, crate::proofs::Reserving::filled_so))]
@@ -82,10 +92,7 @@ impl Held {
         requires { IsLaid K.keeper self.old.layout memory.now }
         ensures { (c : Call) → Answers (λ c. service.signature_served c number places lower upper) (with_held K.keeper self.old memory.now c) result (with_held K.keeper self.new memory.now c) }
     {
-        let extent = Bounds {
-            lower: lower.cast_signed(),
-            upper: upper.cast_signed(),
-        };
+        let extent = bounds_given(lower, upper);
         match places_at(alloc, &Source::new(self.layout, memory), places as usize)? {
             Some(list) => self.fill::<K>(alloc, number, &list, extent),
             None => Err(Refusal::Bad),

@@ -4,6 +4,7 @@ use Rattle.pli_typing.specs.Signatures.{Bounds}
 use Rattle.pli_serving.specs.Outcomes.{or_bad}
 use Rattle.pli_serving.specs.SignatureService.{ExtentPlace, bounds_given, places_at}
 use Rattle.pli_signatures.specs.View.{place_of}
+use Rattle.pli_types.specs.View.{pair_of}
 use Rattle.pli_values.specs.View.{layout_of}
 use Rattle.pli_values.specs.declared.layout.Layout.{Layout}
 use Rattle.pli_storage.specs.Extents.{extent_filled}
@@ -18,9 +19,7 @@ returns-in-Some g c = λ c'.
         ∙ sym c.in_ok-list.ensures
         ∙ ap (option_map (λ places. map place_of places.items)) c.in-Some.is
         ∙ ap (λ items. Some (map place_of items)) (sym c.deref.ensures.value) in
-    let lower_is : c.cast_signed.result ≡ (bounds_given c.args.lower c.args.upper).lower = search rules in
-    let upper_is : c.cast_signed-2.result ≡ (bounds_given c.args.lower c.args.upper).upper = search rules in
-    replies_by _ (extent_filled (with_held g.K.AreaKeeper.keeper c.args.self.now c.args.memory.now c') (record { lower = c.cast_signed.result; upper = c.cast_signed-2.result }) c.args.number (map place_of c.deref.result.now)) (holding c.args.self.now c'.services) c.args.memory.now c.fill.result (holding c.fill.new.self c'.services) c.args.memory.now
+    replies_by _ (extent_filled (with_held g.K.AreaKeeper.keeper c.args.self.now c.args.memory.now c') (pair_of c.bounds_given-extent.result) c.args.number (map place_of c.deref.result.now)) (holding c.args.self.now c'.services) c.args.memory.now c.fill.result (holding c.fill.new.self c'.services) c.args.memory.now
     (ap (λ (ps : Option (List ExtentPlace)). or_bad ps (λ ps. extent_filled (with_held g.K.AreaKeeper.keeper c.args.self.now c.args.memory.now c') (bounds_given c.args.lower c.args.upper) c.args.number ps)) places_are
-    ∙ ap₂ (λ (lower upper : ℤ). extent_filled (with_held g.K.AreaKeeper.keeper c.args.self.now c.args.memory.now c') (record { lower = lower; upper = upper }) c.args.number (map place_of c.deref.result.now)) (sym lower_is) (sym upper_is))
+    ∙ ap (λ (extent : Bounds). extent_filled (with_held g.K.AreaKeeper.keeper c.args.self.now c.args.memory.now c') extent c.args.number (map place_of c.deref.result.now)) (sym c.bounds_given-extent.ensures))
     (c.fill.ensures c.args.memory.now c')
