@@ -28,6 +28,7 @@ asked_named c area offset signature f e = by_own (signature == own_signature) e
     by_number : (t : Bool) → (if t then Some (named c (BasedName area offset) signature) else None) ≡ Some f → named c (BasedName area offset) signature ≡ f
     by_number true e = cc
     by_number false e = cc
+
     by_own : (t : Bool) → (if t then None else (if is_some (slice_get c.services.signatures signature) then Some (named c (BasedName area offset) signature) else None)) ≡ Some f → named c (BasedName area offset) signature ≡ f
     by_own true e = cc
     by_own false e = by_number (is_some (slice_get c.services.signatures signature)) e

@@ -28,6 +28,7 @@ placed_found c a offset signature (k ∷ ks) = by_test (k.offset == offset) refl
     by_signature : (t : Bool) → offset ≡ k.offset → (if t then FoundAt (record { at = a.at + c.keeper.data_at offset a.bytes; signature = k.signature; extent = k.extent }) else NotLiving) ≡ kept_finding c a (if t then Some k else None)
     by_signature true e = rw e refl
     by_signature false e = refl
+
     by_test : (t : Bool) → (k.offset == offset) ≡ t → if_of_signature signature (found_kept c a offset ks) ≡ kept_finding c a (of_signature signature (kept_at ks offset)) → if_of_signature signature (if t then FoundAt (record { at = a.at + c.keeper.data_at offset a.bytes; signature = k.signature; extent = k.extent }) else found_kept c a offset ks) ≡ kept_finding c a (of_signature signature (if t then Some k else kept_at ks offset))
     by_test true t further = by_signature (k.signature == signature) (same k.offset offset t)
     by_test false t further = further
@@ -51,6 +52,7 @@ found_at c k at bytes offset signature start extent e s z = by_area (k.area_of b
         let start_is : start ≡ k.data_at g.offset bytes = cc in
         let extent_is : extent ≡ g.extent = cc in
         rw (e, start_is, extent_is, sym (h g refl)) refl
+
     by_area : (o : Option KeptArea) → Ok start ≡ start_or_fault k bytes (kept_of offset signature o) → Ok extent ≡ extent_or_fault (kept_of offset signature o) → if_of_signature signature (found_in_area c (area_with at bytes) offset o) ≡ FoundAt (record { at = at + start; signature = signature; extent = extent })
     by_area None s z = cc
     by_area (Some a) s z = placed_found c (area_with at bytes) offset signature a.placed ∙ by_kept (of_signature signature (kept_at a.placed offset)) (λ g f. signature_is signature (kept_at a.placed offset) g f) s z
@@ -61,6 +63,7 @@ not_found c k at bytes offset signature fault i s = by_area (k.area_of bytes) i 
     by_kept : (o : Option Kept) → Err fault ≡ start_or_fault k bytes o → kept_finding c (area_with at bytes) o ≡ NotLiving
     by_kept None s = refl
     by_kept (Some g) s = cc
+
     by_area : (o : Option KeptArea) → IsSome o → Err fault ≡ start_or_fault k bytes (kept_of offset signature o) → if_of_signature signature (found_in_area c (area_with at bytes) offset o) ≡ NotLiving
     by_area None i s = cc
     by_area (Some a) i s = placed_found c (area_with at bytes) offset signature a.placed ∙ by_kept (of_signature signature (kept_at a.placed offset)) s
@@ -71,6 +74,7 @@ no_extent c k at bytes offset signature fault i s = by_area (k.area_of bytes) i 
     by_kept : (o : Option Kept) → Err fault ≡ extent_or_fault o → kept_finding c (area_with at bytes) o ≡ NotLiving
     by_kept None s = refl
     by_kept (Some g) s = cc
+
     by_area : (o : Option KeptArea) → IsSome o → Err fault ≡ extent_or_fault (kept_of offset signature o) → if_of_signature signature (found_in_area c (area_with at bytes) offset o) ≡ NotLiving
     by_area None i s = cc
     by_area (Some a) i s = placed_found c (area_with at bytes) offset signature a.placed ∙ by_kept (of_signature signature (kept_at a.placed offset)) s

@@ -109,6 +109,7 @@ numbered_from place t (u ∷ us) = by_test (same_template u t) refl (numbered_fr
     behind : (b : Bool) (d : ℕ) → slice_get (if b then us ++ t ∷ [] else us) d ≡ Some t → slice_get (if b then u ∷ us ++ t ∷ [] else u ∷ us) (suc d) ≡ Some t
     behind true d e = e
     behind false d e = e
+
     by_test : (b : Bool) → same_template u t ≡ b → ((distance : ℕ) × (number_from (suc place) t us ≡ suc place + distance) × (slice_get (if distance == length us then us ++ t ∷ [] else us) distance ≡ Some t)) → (distance : ℕ) × ((if b then place else number_from (suc place) t us) ≡ place + distance) × (slice_get (if distance == suc (length us) then u ∷ us ++ t ∷ [] else u ∷ us) distance ≡ Some t)
     by_test true e further =
         let other : (0 == suc (length us)) ≡ false = grind (arith, nat_tests) in

@@ -17,7 +17,7 @@ ghost use Rattle.pli_values.specs.View.{name_of};
 use crate::finding::{Finding, HEAP_SERIAL};
 use crate::held::{AreaPlace, Held};
 use crate::named_areas::{NamedArea, copy_at, empty_at, free_at, is_area_at};
-use crate::names::{NOT_IN_AREA, NO_GENERATION};
+use crate::names::{NO_GENERATION, NOT_IN_AREA};
 use area_heap::keeper::AreaKeeper;
 use pli_answering::reply::{Refusal, Reply};
 use pli_values::name::Name;

@@ -103,7 +103,13 @@ impl Held {
     }
 
     /// The generation at an offset in the area variable of a serial.
-    fn find_in_variable<K: AreaKeeper>(&self, memory: &[u8], serial: u64, offset: u32, signature: u32) -> Finding
+    fn find_in_variable<K: AreaKeeper>(
+        &self,
+        memory: &[u8],
+        serial: u64,
+        offset: u32,
+        signature: u32,
+    ) -> Finding
         ensures { (c : Call) → if_of_signature signature (found_based (with_held K.keeper self.now memory.now c) offset (area_living (with_held K.keeper self.now memory.now c) (living_of (livings self.now.variables.roots) serial))) ≡ finding_of result }
     {
         match self.area_living(serial) {
@@ -131,7 +137,13 @@ impl Held {
     }
 
     /// The generation at an offset in the area of a serial.
-    fn find_based<K: AreaKeeper>(&self, memory: &[u8], area: u64, offset: u32, signature: u32) -> Finding
+    fn find_based<K: AreaKeeper>(
+        &self,
+        memory: &[u8],
+        area: u64,
+        offset: u32,
+        signature: u32,
+    ) -> Finding
         requires { IsLaid K.keeper self.now.layout memory.now }
         ensures { (c : Call) → if_of_signature signature (found (with_held K.keeper self.now memory.now c) (B.BasedName area offset)) ≡ finding_of result }
     {

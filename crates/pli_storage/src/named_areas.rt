@@ -32,7 +32,10 @@ fn reach<K: AreaKeeper>(memory: &[u8], place: AreaPlace) -> (usize, usize)
     ensures put { (new : List ℕ) → length new ≡ result.1 → with_bytes new result.0 memory.now ≡ with_bytes new place.at memory.now }
 {
     let start = (place.at as usize).min(memory.len());
-    (start, K::bytes_for(place.capacity).min(memory.len() - start))
+    (
+        start,
+        K::bytes_for(place.capacity).min(memory.len() - start),
+    )
 }
 
 /// Whether an area's bytes are those of one.
@@ -80,7 +83,10 @@ pub fn copy_at<K: AreaKeeper>(
     ensures answer { IfOk result (λ answer. answer ≡ done_or AreaFault.TooSmall (K.keeper.copied (bytes_of K.keeper from memory.old) (bytes_of K.keeper place memory.old))) }
     ensures memory { memory.new ≡ (if is_ok result then written_or place.at memory.old (K.keeper.copied (bytes_of K.keeper from memory.old) (bytes_of K.keeper place memory.old)) else memory.old) }
 {
-    let source = Vec::from_slice(alloc, bytes_at(memory, from.at as usize, K::bytes_for(from.capacity)))?;
+    let source = Vec::from_slice(
+        alloc,
+        bytes_at(memory, from.at as usize, K::bytes_for(from.capacity)),
+    )?;
     let (start, count) = reach::<K>(memory, place);
     Ok(K::copy_from(&mut memory[start..start + count], &source))
 }

@@ -114,10 +114,14 @@ impl Held {
     {
         match self.signatures.leaf_place(found.signature, leaf) {
             Some(place) => {
-                let described = self.signatures.leaf(alloc, found.signature, leaf, found.extent)?;
+                let described = self
+                    .signatures
+                    .leaf(alloc, found.signature, leaf, found.extent)?;
                 match described {
                     Some(described) => {
-                        self.resolve_placed::<K>(alloc, memory, found, leaf, buffer, place, &described)
+                        self.resolve_placed::<K>(
+                            alloc, memory, found, leaf, buffer, place, &described,
+                        )
                     }
                     None => Err(Refusal::Bad),
                 }
@@ -232,7 +236,11 @@ impl Held {
         if !self.layout.is_data(destination as usize, NAME_BYTES) {
             return Err(Refusal::Bad);
         }
-        put_name(memory, destination as usize, pointer_into(within.serial, offset));
+        put_name(
+            memory,
+            destination as usize,
+            pointer_into(within.serial, offset),
+        );
         Ok(Reply::Done(offset, area))
     }
 

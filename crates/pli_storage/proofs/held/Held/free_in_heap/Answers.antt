@@ -8,9 +8,9 @@ use Rattle.pli_storage.proofs.held.Held.free_in_heap.Goals as goal
 pub returns-in-Some : goal.returns-in-Some
 returns-in-Some g c = λ c' f e.
     let there : area_at (with_held g.K.AreaKeeper.keeper c.args.self.now c.args.memory.now c') c.args.area ≡ Some (area_bytes (with_held g.K.AreaKeeper.keeper c.args.self.now c.args.memory.now c') c.in-Some.place.capacity c.in-Some.place.at) =
-        ap (λ s. area_at (with_held g.K.AreaKeeper.keeper c.args.self.now c.args.memory.now c') s) c.requires.heap
-        ∙ ap (λ (a : AreaBytes). Some a) (heap_is g.K.AreaKeeper.keeper c.args.self.now c.args.memory.now c' c.in-Some.ensures.there.2)
-        ∙ ap₂ (λ (capacity at : ℕ). Some (area_bytes (with_held g.K.AreaKeeper.keeper c.args.self.now c.args.memory.now c') capacity at)) (sym c.in-Some.ensures.there.1) (sym c.in-Some.ensures.there.0) in
+    ap (λ s. area_at (with_held g.K.AreaKeeper.keeper c.args.self.now c.args.memory.now c') s) c.requires.heap
+    ∙ ap (λ (a : AreaBytes). Some a) (heap_is g.K.AreaKeeper.keeper c.args.self.now c.args.memory.now c' c.in-Some.ensures.there.2)
+    ∙ ap₂ (λ (capacity at : ℕ). Some (area_bytes (with_held g.K.AreaKeeper.keeper c.args.self.now c.args.memory.now c') capacity at)) (sym c.in-Some.ensures.there.1) (sym c.in-Some.ensures.there.0) in
     c.free_placed.ensures c' f there e
 
 pub returns-in-None : goal.returns-in-None
