@@ -1,5 +1,5 @@
 -- Blocks that are entered, as code holds what is known of them, and from the place on where their kind is known.
-use Rattle.std.specs.Prelude.{ℕ, ◌∷◌, nat_lt, length, None, if◌then◌else◌}
+use Rattle.std.specs.Prelude.{ℕ, ◌∷◌, nat_lt, None, if◌then◌else◌}
 use Rattle.pli_meaning.specs.declared.outcome.End.TheVariants as E
 use Rattle.pli_meaning.specs.declared.outcome.Limit.TheVariants as L
 use Rattle.pli_meaning.specs.StorageState.{most_activations}
