@@ -1,5 +1,5 @@
 -- An area that takes over what another holds, by what the keeper makes of both.
-use Rattle.std.proofs.Common.{◌≡◌, ℕ, List, sym, ap, Option, Some, None, Result, Ok, Err}
+use Rattle.std.proofs.Common.{◌≡◌, ℕ, List, sym, ap, Option, Some, None, Ok, Err}
 use Rattle.area_heap.specs.declared.fault.AreaFault.{AreaFault}
 use Rattle.area_heap.specs.declared.fault.AreaFault.TheVariants.{TooSmall}
 use Rattle.area_heap.specs.Answers.{done_or}

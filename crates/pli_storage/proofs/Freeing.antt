@@ -1,5 +1,5 @@
 -- Generations that are freed, by what their names name and by the bytes of their areas.
-use Rattle.std.proofs.Common.{◌≡◌, ◌≢◌, ℕ, List, refl, sym, ap, ◌∙◌, Option, Some, None, Bool, true, false, Result, Ok, Err, arith}
+use Rattle.std.proofs.Common.{◌≡◌, ◌≢◌, ℕ, List, refl, sym, ap, ◌∙◌, Option, Some, None, Bool, true, false, Ok, Err, arith}
 use Rattle.std.specs.Prelude.{◌==◌, is_some, slice_get, if◌then◌else◌}
 use Rattle.std.proofs.lemmas.Bool.Decides.{nat_tests}
 use Rattle.area_keeper.specs.Keeper.{KeptArea, Keeper}
@@ -7,12 +7,12 @@ use Rattle.area_keeper.specs.KeeperLaws.{Keeps}
 use Rattle.area_heap.specs.declared.fault.AreaFault.{AreaFault}
 use Rattle.area_heap.specs.declared.fault.AreaFault.TheVariants.{NoGeneration}
 use Rattle.area_heap.specs.Answers.{done_or}
-use Rattle.pli_meaning.specs.BasicValues.{Name, BasedName}
-use Rattle.pli_serving.specs.Answers.{Answer, Done, Bad}
-use Rattle.pli_serving.specs.Arguments.{area_if, asked, name_in, own_signature, where_found}
-use Rattle.pli_serving.specs.AreaServices.{free_served, name_freed, without_kept}
+use Rattle.pli_meaning.specs.BasicValues.{BasedName}
+use Rattle.pli_serving.specs.Answers.{Done, Bad}
+use Rattle.pli_serving.specs.Arguments.{asked, own_signature}
+use Rattle.pli_serving.specs.AreaServices.{without_kept}
 use Rattle.pli_serving.specs.Bytes.{with_bytes}
-use Rattle.pli_serving.specs.Finding.{AreaBytes, Call, Finding, Found, FoundAt, NoArea, NotLiving, area_at, area_bytes, area_living, found, found_based, found_in_area, heap_bytes, if_of_signature, named}
+use Rattle.pli_serving.specs.Finding.{AreaBytes, Call, Finding, Found, FoundAt, NoArea, NotLiving, area_at, area_living, found, found_based, found_in_area, heap_bytes, if_of_signature, named}
 use Rattle.pli_serving.specs.Outcomes.{or_bad}
 use Rattle.pli_serving.specs.ServiceState.{living_of}
 use Rattle.pli_storage.specs.declared.held.Held.{Held}
@@ -92,9 +92,6 @@ freed_not c name area offset signature f a fault e g k =
 
 pub nowhere_in_heap : (k : Keeper) (h : Held) (m : List ℕ) (c : Call) (serial offset signature : ℕ) → serial ≡ 0 → Keeps k → IsLaid k h.layout m → h.heap_made ≡ false → named (with_held k h m c) (BasedName serial offset) signature ≡ NotLiving
 nowhere_in_heap k h m c serial offset signature z keeps laid made = rw z (based_unmade k h m c offset signature keeps laid made)
-
-pub nowhere_living : (c : Call) (serial offset signature : ℕ) → area_at c serial ≡ None → named c (BasedName serial offset) signature ≡ NotLiving
-nowhere_living c serial offset signature e = ap (λ o. if_of_signature signature (found_based c offset o)) e
 
 pub at_living : (c : Call) (serial : ℕ) → serial ≢ 0 → area_at c serial ≡ area_living c (living_of c.services.living serial)
 at_living c serial h =

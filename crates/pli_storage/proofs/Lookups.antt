@@ -1,12 +1,12 @@
 -- Generations found in an area's bytes, in the heap before anything was placed in it, and where no area is.
-use Rattle.std.proofs.Common.{◌≡◌, ℕ, ◌+◌, ◌≤◌, ◌%◌, ℤ, List, [], ◌∷◌, length, take, drop, refl, sym, ap, ◌∙◌, Option, Some, None, Result, Ok, Err, Bool, true, false, arith, length-take, length-drop}
-use Rattle.std.specs.Prelude.{option_map, is_some, IsSome, ◌==◌, if◌then◌else◌}
+use Rattle.std.proofs.Common.{◌≡◌, ℕ, ◌+◌, ◌≤◌, ◌%◌, ℤ, List, [], ◌∷◌, length, refl, sym, ap, ◌∙◌, Option, Some, None, Ok, Err, Bool, true, false, arith, length-take, length-drop}
+use Rattle.std.specs.Prelude.{is_some, IsSome, ◌==◌, if◌then◌else◌}
 use Rattle.std.proofs.lemmas.Bool.Decides.{nat_tests}
 use Rattle.area_keeper.specs.Keeper.{Kept, KeptArea, Keeper}
 use Rattle.area_keeper.specs.KeptAreas.{kept_at}
 use Rattle.area_keeper.specs.KeeperLaws.{Keeps, greatest_capacity}
 use Rattle.area_heap.specs.declared.fault.AreaFault.{AreaFault}
-use Rattle.area_heap.specs.Answers.{done_or, extent_or_fault, kept_of, of_signature, start_or_fault}
+use Rattle.area_heap.specs.Answers.{extent_or_fault, kept_of, of_signature, start_or_fault}
 use Rattle.pli_serving.specs.Bytes.{bytes_at}
 use Rattle.pli_serving.specs.Finding as F
 use Rattle.pli_serving.specs.Finding.{AreaBytes, Call, FoundAt, NotLiving, NoArea, area_at, area_bytes, found_based, found_in_area, found_kept, heap_bytes, if_of_signature}

@@ -1,5 +1,5 @@
 -- Replies of a service by those of what it goes on with.
-use Rattle.std.proofs.Common.{◌≡◌, List, ℕ, subst, sym, Option, Some, None, Result}
+use Rattle.std.proofs.Common.{◌≡◌, List, ℕ, subst, sym, Result}
 use Rattle.pli_answering.specs.Answering.{Replies}
 use Rattle.pli_answering.specs.declared.reply.Reply.{Reply}
 use Rattle.pli_answering.specs.declared.reply.Refusal.{Refusal}

@@ -1,12 +1,12 @@
 -- The bytes to reserve, and the answer where an extent was filled in.
-use Rattle.std.proofs.Common.{◌≡◌, ℕ, ◌+◌, ◌*◌, ◌/◌, ◌^◌, ◌≤◌, ◌<◌, List, refl, sym, ap, ap₂, ◌∙◌, Option, Some, None, Bool, true, false, arith}
+use Rattle.std.proofs.Common.{◌≡◌, ℕ, List, refl, ap, ap₂, ◌∙◌, Option, Some, None, Bool, true, false, arith}
 use Rattle.std.specs.Prelude.{min, slice_get, if◌then◌else◌}
 use Rattle.area_keeper.specs.Keeper.{Keeper}
 use Rattle.pli_typing.specs.Signatures.{capped, rounded_up}
 use Rattle.pli_types.specs.Templates.{Template}
 use Rattle.pli_meaning.specs.Contents.{Shape}
 use Rattle.pli_serving.specs.Answers.{Done, Bad}
-use Rattle.pli_serving.specs.Arguments.{bytes_taken, capacity_of, data_bytes}
+use Rattle.pli_serving.specs.Arguments.{bytes_taken}
 use Rattle.pli_serving.specs.Finding.{Call}
 use Rattle.pli_serving.specs.Outcomes.{bad_unless, or_bad}
 use Rattle.pli_serving.specs.SignatureService.{most_reserved, number_of, numbered, reserved_for, with_template}

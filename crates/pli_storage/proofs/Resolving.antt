@@ -1,6 +1,6 @@
 -- Where a leaf of a generation begins, by what signatures answer.
-use Rattle.std.proofs.Common.{◌≡◌, ℕ, suc, ◌+◌, ◌-◌, ◌≤◌, ◌<◌, ◌^◌, ℤ, List, [], ◌∷◌, length, refl, sym, ap, ◌∙◌, Option, Some, None, Err, Bool, true, false, arith}
-use Rattle.std.specs.Prelude.{nat_lt, slice_get, if◌then◌else◌}
+use Rattle.std.proofs.Common.{◌≡◌, ℕ, suc, ◌+◌, ◌≤◌, ◌<◌, ◌^◌, ℤ, List, [], ◌∷◌, length, refl, sym, ap, ◌∙◌, Option, Some, None, Err, Bool, true, false, arith}
+use Rattle.std.specs.Prelude.{nat_lt, if◌then◌else◌}
 use Rattle.std.proofs.lemmas.Bool.Decides.{nat_tests}
 use Rattle.std.proofs.lemmas.Option.{slice_get_past}
 use Rattle.pli_typing.specs.Signatures.{Leaf, capped}
@@ -9,7 +9,7 @@ use Rattle.pli_answering.specs.Answering.{Replies}
 use Rattle.pli_answering.specs.declared.reply.Refusal.{Refusal}
 use Rattle.pli_answering.specs.declared.reply.Refusal.TheVariants as R
 use Rattle.pli_storage.specs.Descriptions.{IsDescribed}
-use Rattle.pli_serving.specs.Answers.{Answer, Done, Bad}
+use Rattle.pli_serving.specs.Answers.{Done, Bad}
 use Rattle.pli_serving.specs.Finding.{Call, Found}
 use Rattle.pli_serving.specs.Names.{described, leaf_words, resolved}
 use Rattle.pli_serving.specs.Outcomes.{or_bad}

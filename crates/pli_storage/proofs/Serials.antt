@@ -1,5 +1,5 @@
 -- What lives by a serial: serials rise, so it is the same from the oldest and from the newest on.
-use Rattle.std.proofs.Common.{◌≡◌, ◌≢◌, ℕ, ◌+◌, ◌<◌, ◌≤◌, List, [], ◌∷◌, ◌++◌, refl, sym, ap, ◌∙◌, Option, Some, None, Result, Ok, Err, Bool, true, false, arith}
+use Rattle.std.proofs.Common.{◌≡◌, ◌≢◌, ℕ, ◌≤◌, List, [], ◌∷◌, ◌++◌, refl, sym, ap, ◌∙◌, Option, Some, None, Result, Ok, Err, Bool, true, false, arith}
 use Rattle.std.specs.Prelude.{option_map, map, reverse, cond, ◌==◌, is_some, nat_le, if◌then◌else◌}
 use Rattle.std.proofs.lemmas.List.{map-append, reverse-append}
 use Rattle.std.proofs.lemmas.Bool.Decides.{nat_tests}

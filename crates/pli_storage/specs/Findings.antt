@@ -1,6 +1,5 @@
 -- What a name names, as code holds it.
-use Rattle.std.specs.Prelude.{ℕ, ◌+◌, List, Option, Some, None}
-use Rattle.area_keeper.specs.Keeper.{Kept}
+use Rattle.std.specs.Prelude.{ℕ, List}
 use Rattle.pli_serving.specs.Finding as F
 use Rattle.pli_storage.specs.declared.finding.Found.{Found}
 use Rattle.pli_storage.specs.declared.finding.Finding.{Finding}

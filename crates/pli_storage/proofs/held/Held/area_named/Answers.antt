@@ -1,4 +1,4 @@
-use Rattle.std.proofs.Common.{◌≡◌, ◌∙◌, ap, refl, Option, Some, None, ℕ}
+use Rattle.std.proofs.Common.{◌∙◌}
 use Rattle.pli_storage.specs.Held.{with_held}
 use Rattle.pli_values.specs.View.{name_of}
 use Rattle.pli_storage.proofs.Naming.{area_so, area_unnamed}

@@ -1,4 +1,4 @@
-use Rattle.std.proofs.Common.{◌≡◌, ◌∙◌, ap, refl, Option}
+use Rattle.std.proofs.Common.{◌∙◌, ap, refl, Option}
 use Rattle.pli_serving.specs.AreaServices.{without_kept}
 use Rattle.pli_serving.specs.Finding.{AreaBytes}
 use Rattle.pli_serving.specs.Outcomes.{or_bad}

@@ -1,4 +1,4 @@
-use Rattle.std.proofs.Common.{◌≡◌, ◌∙◌, ap, refl, Option, Some, None, ℕ}
+use Rattle.std.proofs.Common.{ap, refl, Option, ℕ}
 use Rattle.pli_storage.specs.Held.{with_held}
 use Rattle.pli_storage.proofs.Replying.{replies_by}
 use Rattle.pli_serving.specs.Outcomes.{or_bad}

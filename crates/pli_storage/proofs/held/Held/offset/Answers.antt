@@ -1,6 +1,5 @@
-use Rattle.std.proofs.Common.{◌≡◌, ◌∙◌, ap, refl, Option, Some, None, ℕ}
+use Rattle.std.proofs.Common.{ap, refl, Option}
 use Rattle.pli_storage.specs.Held.{with_held}
-use Rattle.pli_values.specs.View.{name_of}
 use Rattle.pli_meaning.specs.BasicValues.{Name}
 use Rattle.pli_meaning.specs.Evaluating.{offset_in_passed}
 use Rattle.pli_serving.specs.Arguments.{area_if}

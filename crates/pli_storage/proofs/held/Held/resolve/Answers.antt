@@ -1,4 +1,4 @@
-use Rattle.std.proofs.Common.{◌≡◌, ◌∙◌, ap, refl, Option, Some, None, ℕ}
+use Rattle.std.proofs.Common.{ap, refl, Option}
 use Rattle.pli_storage.specs.Held.{with_held}
 use Rattle.pli_serving.specs.Finding.{Finding}
 use Rattle.pli_storage.specs.Descriptions.{leaf_resolved}

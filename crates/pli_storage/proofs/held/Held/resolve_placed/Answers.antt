@@ -1,4 +1,4 @@
-use Rattle.std.proofs.Common.{◌≡◌, ◌∙◌, ◌^◌, ◌<◌, ap, sym, arith}
+use Rattle.std.proofs.Common.{◌∙◌, ◌^◌, ◌<◌, ap, sym, arith}
 use Rattle.pli_serving.specs.Answers.{Done}
 use Rattle.pli_serving.specs.Templates.{shape_at}
 use Rattle.pli_signatures.specs.View.{leaf_in_force}

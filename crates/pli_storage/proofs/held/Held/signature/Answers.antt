@@ -1,4 +1,4 @@
-use Rattle.std.proofs.Common.{◌≡◌, ◌∙◌, ℕ, ℤ, List, Option, Some, ap, ap₂, sym, map, rules}
+use Rattle.std.proofs.Common.{◌≡◌, ◌∙◌, ℕ, List, Option, Some, ap, ap₂, sym, map}
 use Rattle.std.specs.Prelude.{option_map}
 use Rattle.pli_typing.specs.Signatures.{Bounds}
 use Rattle.pli_serving.specs.Outcomes.{or_bad}
