@@ -1,0 +1,4 @@
+// How services reply to their calls.
+#![tactic(auto)]
+
+pub mod reply;

@@ -1,0 +1,12 @@
+pub mod Areas
+pub mod Assigning
+pub mod Freeing
+pub mod Lookups
+pub mod Naming
+pub mod Newest
+pub mod Parts
+pub mod Replying
+pub mod Reserving
+pub mod Resolving
+pub mod Same
+pub mod Serials
