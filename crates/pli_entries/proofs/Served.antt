@@ -1,16 +1,16 @@
 -- What the services of texts come to, by what is done with the newest texts.
-use Rattle.std.proofs.Common.{◌≡◌, ℕ, zero, suc, ◌+◌, ◌-◌, ◌≤◌, ◌<◌, true, false, if◌then◌else◌, List, [], ◌∷◌, length, drop, Option, Some, None, Result, Ok, Err, refl, sym, ap, subst, ◌∙◌, arith, length-drop}
+use Rattle.std.proofs.Common.{◌≡◌, ℕ, ◌-◌, ◌≤◌, ◌<◌, true, false, if◌then◌else◌, List, length, drop, Option, Some, None, Result, Ok, Err, sym, ap, subst, ◌∙◌}
 use Rattle.std.specs.Prelude.{◌==◌, ◌||◌}
 use Rattle.std.specs.Result.{IsErr, IsErrAnd}
 use Rattle.std.proofs.lemmas.Bool.{le-ltb, lt-ltb}
 use Rattle.pli_typing.specs.Signatures.{LeafKind}
 use Rattle.pli_meaning.specs.Codes.{conversion_code}
-use Rattle.pli_serving.specs.Answers.{Answer, Done, Bad}
+use Rattle.pli_serving.specs.Answers.{Answer, Done}
 use Rattle.pli_serving.specs.Blocks.{are_texts}
 use Rattle.pli_serving.specs.Finding.{Call}
-use Rattle.pli_serving.specs.Outcomes.{answering, bad_unless, becoming, on_text, on_two_texts, or_bad, or_status, with_entries}
-use Rattle.pli_serving.specs.ServiceState.{Entry, TextEntry, AggregateEntry}
-use Rattle.pli_text.specs.Operands.{top_of, left_of, right_of, IsOrStays, Becomes, Gives}
+use Rattle.pli_serving.specs.Outcomes.{bad_unless, becoming, on_text, or_bad, or_status, with_entries}
+use Rattle.pli_serving.specs.ServiceState.{Entry}
+use Rattle.pli_text.specs.Operands.{top_of, Gives}
 use Rattle.pli_serving.specs.TextServices.{cut_served, kept_cut, part_cut, store_served, text_kind, text_measured, text_stored, to_number_served, word_in_text}
 use Rattle.pli_text.specs.declared.fault.TextFault.{TextFault}
 use Rattle.pli_text.specs.declared.fault.TextFault.TheVariants as T
@@ -19,7 +19,7 @@ use Rattle.pli_entries.specs.declared.fault.EntryFault.TheVariants as F
 use Rattle.pli_entries.specs.declared.kept.Aggregate.{Aggregate}
 use Rattle.pli_entries.specs.Kept.{entries_of, ArePlaced}
 use Rattle.pli_entries.specs.Served.{fault_of, IsRefusal, IsServed, word_told}
-use Rattle.pli_entries.proofs.Stacks.{as_many, below_texts, higher, one_text, so_many, text_before, two_texts}
+use Rattle.pli_entries.proofs.Stacks.{one_text, so_many}
 
 -- entries as they are kept, of which so many on top are texts
 pub record Shown (n : ℕ) (ts : List (List ℕ)) (held : List Aggregate) (old : List Entry) : Type 0 where

@@ -1,4 +1,4 @@
-use Rattle.std.proofs.Common.{◌≡◌, ◌-◌, ◌∙◌, ap, length, slice_get, subst, sym, None, Some, Option}
+use Rattle.std.proofs.Common.{◌≡◌, ◌-◌, ◌∙◌, ap, length, slice_get, sym, None, Some}
 use Rattle.pli_serving.specs.Blocks.{are_texts}
 use Rattle.pli_entries.proofs.Stacks.{above, alone}
 use Rattle.pli_entries.proofs.entries.Entries.are_texts.Goals as goal

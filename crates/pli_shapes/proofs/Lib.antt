@@ -1,0 +1,4 @@
+pub mod Calls
+pub mod Forests
+pub mod Parts
+pub mod Within
