@@ -1,6 +1,6 @@
 // Each call once.
 
-use crate::laws::item_shapes_of_memory;
+use crate::laws::{item_shapes_of_memory, nests_of_parts};
 use crate::part::Part;
 use crate::shape::item_shape;
 use pli_values::layout::Layout;
@@ -29,6 +29,7 @@ fn shapes_are_read_or_memory_is_refused(rt: HostRuntime) -> Result<(), Fail> {
         memory: &SHAPE,
     };
     item_shapes_of_memory();
+    nests_of_parts();
     let Some(shape) = item_shape(rt.alloc(), &source, 4)? else {
         assert!(rt; false);
         return Ok(());
