@@ -1,0 +1,92 @@
+// The stack of entries.
+
+ghost use Rattle.std.specs.Prelude.{◌≡◌, ◌≤◌, ◌-◌, [], ◌∷◌, length, drop, map, MatchResult};
+ghost use Rattle.pli_serving.specs.Blocks.{are_texts};
+ghost use Rattle.pli_serving.specs.ServiceState.{AggregateEntry, TextEntry};
+ghost use Rattle.pli_entries.specs.declared.fault.EntryFault.TheVariants as F;
+ghost use Rattle.pli_entries.specs.Kept.{leaf_of};
+
+use crate::fault::EntryFault;
+use crate::kept::{Aggregate, keep_below};
+use crate::taken::TakenLeaf;
+use pli_text::stack::TextStack;
+use std::alloc::Global;
+use std::marker::Model;
+
+/// Texts and aggregates. An empty text stands in the place of each aggregate, so that texts on top are the newest texts.
+/// Contracts see the entries, newest first.
+#[derive(Drop)]
+pub struct Entries {
+    pub(crate) texts: TextStack,
+    pub(crate) aggregates: Vec<Aggregate>,
+}
+
+impl Model for Entries {
+    ghost use Rattle.std.specs.Prelude.{List, length, reverse};
+    ghost use Rattle.pli_serving.specs.ServiceState.{Entry};
+    ghost use Rattle.pli_entries.specs.Kept.{entries_of, ArePlaced};
+
+    ghost Value = { List Entry };
+
+    ghost view = { λ e. entries_of e.texts (reverse e.aggregates.items) };
+
+    ghost invariant = { λ e. ArePlaced (reverse e.aggregates.items) (length e.texts) };
+}
+
+impl Entries {
+    /// There is no entry.
+    pub fn new(alloc: Global) -> Entries
+        ensures { result ≡ [] }
+    {
+        Entries {
+            texts: TextStack::new(alloc),
+            aggregates: Vec::new(alloc),
+        }
+    }
+
+    /// How many entries there are.
+    pub fn height(&self) -> usize
+        ensures { result ≡ length self.now }
+    {
+        self.texts.height()
+    }
+
+    /// Whether so many entries on top are texts.
+    pub fn are_texts(&self, count: usize) -> bool
+        ensures { result ≡ are_texts count self.now }
+    {
+        let height = self.texts.height();
+        match self.aggregates.last() {
+            None => count <= height,
+            Some(newest) => count < height - newest.place,
+        }
+    }
+
+    /// Only the oldest entries stay, as many as this.
+    pub fn truncate(&mut self, height: usize)
+        requires { height ≤ length self.old }
+        ensures { self.new ≡ drop (length self.old - height) self.old }
+    {
+        self.texts.truncate(height);
+        keep_below(&mut self.aggregates, height);
+    }
+
+    /// A text comes on top. `Memory` where there is none, and then nothing changed.
+    pub fn push_text(&mut self, text: &[u8]) -> Result<(), EntryFault>
+        ensures { MatchResult result (λ _. self.new ≡ TextEntry text.now ∷ self.old) (λ e. (e ≡ F.Memory) × (self.new ≡ self.old)) }
+    {
+        self.texts.push(text)?;
+        Ok(())
+    }
+
+    /// An aggregate comes on top. `Memory` where there is none, and then nothing changed.
+    pub fn push_aggregate(&mut self, leaves: Vec<TakenLeaf>) -> Result<(), EntryFault>
+        ensures { MatchResult result (λ _. self.new ≡ AggregateEntry (map leaf_of leaves.items) ∷ self.old) (λ e. (e ≡ F.Memory) × (self.new ≡ self.old)) }
+    {
+        let place = self.texts.height();
+        self.aggregates.reserve(1)?;
+        self.texts.push(b"")?;
+        self.aggregates.push_reserved(Aggregate { place, leaves });
+        Ok(())
+    }
+}

@@ -1,0 +1,4 @@
+pub mod Members
+pub mod Nests
+pub mod Reading
+pub mod Sizes
