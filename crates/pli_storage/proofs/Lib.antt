@@ -5,6 +5,7 @@ pub mod Lookups
 pub mod Naming
 pub mod Newest
 pub mod Parts
+pub mod Popping
 pub mod Replying
 pub mod Reserving
 pub mod Resolving

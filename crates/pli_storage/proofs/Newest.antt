@@ -17,13 +17,13 @@ pub as_many : (gens : List Generation) → length (map controlled (reverse gens)
 as_many gens = length-map (reverse gens) controlled ∙ length-reverse gens
 
 -- the newest is the last one, and the first one from the other end
-ends : (g : Generation) (gs : List Generation) → (last : Generation) × (below : List Generation) × (slice_get (g ∷ gs) (length gs) ≡ Some last) × (reverse (g ∷ gs) ≡ last ∷ below)
+pub ends : (g : Generation) (gs : List Generation) → (last : Generation) × (below : List Generation) × (slice_get (g ∷ gs) (length gs) ≡ Some last) × (reverse (g ∷ gs) ≡ last ∷ below)
 ends g [] = (g, [], refl, refl)
 ends g (h ∷ gs) =
     let further = ends h gs in
     (further.0, further.1 ++ g ∷ [], further.2, reverse-append (g ∷ []) (h ∷ gs) ∙ ap (λ (l : List Generation). l ++ g ∷ []) further.3)
 
-top_is : (g : Generation) (gs : List Generation) → newest (g ∷ gs) ≡ Some (ends g gs).0
+pub top_is : (g : Generation) (gs : List Generation) → newest (g ∷ gs) ≡ Some (ends g gs).0
 top_is g gs =
     let at : length (g ∷ gs) - 1 ≡ length gs = omega arith in
     ap (λ i. slice_get (g ∷ gs) i) at ∙ (ends g gs).2

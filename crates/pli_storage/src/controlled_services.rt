@@ -1,15 +1,17 @@
 // Generations of CONTROLLED variables: services 17 to 19.
 
-ghost use Rattle.std.specs.Prelude.{◌≡◌, ◌^◌, ℕ, List, length};
+ghost use Rattle.std.specs.Prelude.{◌≡◌, ◌^◌, ◌<◌, ℕ, List, true, length};
 ghost use Rattle.area_keeper.specs.Keeper.{Keeper};
 ghost use Rattle.pli_answering.specs.Answering.{Answers};
+ghost use Rattle.controlled_gens.specs.Stacks.{generations_of};
 ghost use Rattle.pli_serving.specs.ControlledServices as services;
 ghost use Rattle.pli_serving.specs.Finding.{Call};
 ghost use Rattle.pli_serving.specs.Outcomes.{answering};
 ghost use Rattle.pli_storage.specs.Held.{with_held, IsLaid};
 
 use crate::finding::HEAP_SERIAL;
-use crate::held::Held;
+use crate::held::{AreaPlace, Held};
+use crate::named_areas::{is_area_at, reach};
 use crate::names::NO_GENERATION;
 use area_heap::keeper::AreaKeeper;
 use pli_answering::reply::{Refusal, Reply};
@@ -67,5 +69,59 @@ impl Held {
             }
             Err(_) => Ok(Reply::Done(NO_GENERATION, destination)),
         }
+    }
+
+    /// The newest generation of a variable that has one is removed.
+    #[tactic(auto, using(crate::proofs::Popping::pop_no_heap))]
+    fn pop_newest<K: AreaKeeper>(
+        &mut self,
+        memory: &mut [u8],
+        variable: u32,
+        second: u32,
+    ) -> Result<Reply, Refusal>
+        requires known { length self.old.controlled ≡ 2 ^ 16 }
+        requires below { variable < 2 ^ 16 }
+        requires laid { IsLaid K.keeper self.old.layout memory.old }
+        requires some { 0 < length (generations_of self.old.controlled variable) }
+        requires made { self.old.heap_made ≡ true }
+        ensures { (c : Call) → Answers (λ c. services.pop_served c variable second) (with_held K.keeper self.old memory.old c) result (with_held K.keeper self.new memory.new c) }
+    {
+        let place = AreaPlace {
+            at: self.layout.heap_at,
+            capacity: self.layout.heap_capacity,
+        };
+        if !is_area_at::<K>(memory, place) {
+            return Err(Refusal::Bad);
+        }
+        let (start, count) = reach::<K>(memory, place);
+        match self.controlled.pop::<K>(&mut memory[start..start + count], variable) {
+            Ok(()) => Ok(Reply::Done(variable, second)),
+            Err(_) => Err(Refusal::Bad),
+        }
+    }
+
+    /// 17: the newest generation is removed, if there is one.
+    #[tactic(auto, using(crate::proofs::Popping::popped_none, crate::proofs::Popping::pop_unmade))]
+    pub fn pop<K: AreaKeeper>(
+        &mut self,
+        memory: &mut [u8],
+        variable: u32,
+        second: u32,
+    ) -> Result<Reply, Refusal>
+        requires known { length self.old.controlled ≡ 2 ^ 16 }
+        requires laid { IsLaid K.keeper self.old.layout memory.old }
+        ensures { (c : Call) → Answers (λ c. services.pop_served c variable second) (with_held K.keeper self.old memory.old c) result (with_held K.keeper self.new memory.new c) }
+    {
+        if variable >= VARIABLES {
+            return Err(Refusal::Bad);
+        }
+        if self.controlled.count(variable) == 0 {
+            return Ok(Reply::Done(variable, second));
+        }
+        if !self.heap_made {
+            K::keeps();
+            return Err(Refusal::Bad);
+        }
+        self.pop_newest::<K>(memory, variable, second)
     }
 }

@@ -26,7 +26,7 @@ pub struct NamedArea {
 
 /// Where an area's bytes begin and how many they are, as far as memory reaches.
 #[tactic(auto, using(crate::proofs::Parts::reached, crate::proofs::Parts::put_reached))]
-fn reach<K: AreaKeeper>(memory: &[u8], place: AreaPlace) -> (usize, usize)
+pub fn reach<K: AreaKeeper>(memory: &[u8], place: AreaPlace) -> (usize, usize)
     ensures inside { result.0 + result.1 ≤ length memory.now }
     ensures bytes { bytes_at result.1 result.0 memory.now ≡ bytes_of K.keeper place memory.now }
     ensures put { (new : List ℕ) → length new ≡ result.1 → with_bytes new result.0 memory.now ≡ with_bytes new place.at memory.now }
