@@ -1,8 +1,7 @@
-use Rattle.std.proofs.Common.{◌≡◌, ◌+◌, ◌<◌, ◌^◌, length, true, Some, None, ap, sym, ◌∙◌, arith, rules}
+use Rattle.std.proofs.Common.{◌≡◌, ◌<◌, ◌^◌, length, true, None, rules}
 use Rattle.pli_serving.specs.Bytes.{is_data}
 use Rattle.pli_values.specs.View.{layout_of}
 use Rattle.pli_values.specs.Calls.{call_of}
-use Rattle.pli_shapes.specs.Members.{members_of}
 use Rattle.pli_shapes.proofs.Parts.{put_back, shape_at, shape_read}
 use Rattle.pli_shapes.proofs.shape.item_shape.Goals as goal
 

@@ -1,4 +1,4 @@
-use Rattle.std.proofs.Common.{length, refl, arith, rules}
+use Rattle.std.proofs.Common.{length, refl, arith}
 use Rattle.std.proofs.lemmas.Option.{slice_get_past, slice_get_read}
 use Rattle.pli_shapes.proofs.Within.{ended_past, further_counted, further_high, further_within}
 use Rattle.pli_shapes.proofs.sizes.parts_in.Goals as goal
