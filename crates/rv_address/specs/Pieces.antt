@@ -1,0 +1,52 @@
+-- Pieces of the code of addresses.
+use Rattle.std.specs.Prelude.{ℕ, suc, ◌*◌, List, [], ◌∷◌, ◌++◌}
+use Rattle.rv_meaning.specs.declared.instr.BranchTest.TheVariants as Test
+use Rattle.pli_typing.specs.TypedTree as Y
+use Rattle.pli_meaning.specs.Codes.{subscript_code}
+use Rattle.pli_coding.specs.Registers.{frame_register, a0, a1, u0, u1, u2, u3}
+use Rattle.pli_coding.specs.Assembly.{BaseIn, Code}
+use Rattle.pli_coding.specs.Instructions.{add, subtract, move, load_word, store_word, service, status_tested, skip_where, error_raised}
+use Rattle.pli_coding.specs.Frames.{buffer_lower, buffer_upper, automatic_place}
+use Rattle.pli_coding.specs.Environments.{Environment, Taken, fetch, with_number}
+use Rattle.pli_coding.specs.Locating.{Address, place_behind, waiting_number, bound_loaded, direct_base, subscript_counted, subscripts_counted, element_added}
+
+-- the distance of bounds that aren't both constant
+abbrev pub range_held : Y.Bounds → (dimension : ℕ) → Code
+range_held b dimension =
+    bound_loaded u2 b.upper (buffer_upper dimension)
+    ++ (bound_loaded u0 b.lower (buffer_lower dimension) ++ subtract u2 u2 u0 ∷ [])
+
+abbrev pub subscript_tested : Code
+subscript_tested = skip_where Test.GreaterOrEqualUnsigned u2 u1 (error_raised subscript_code)
+
+-- the base of a STATIC variable's data
+abbrev pub static_base : Environment → Y.Variable → Code
+static_base e v = direct_base e v Y.StaticClass
+
+-- the place of a variable's name behind its base
+abbrev pub direct_start : Environment → Y.Variable → Y.StorageClass → ℕ
+direct_start e v Y.StaticClass = 0
+direct_start e v _ = automatic_place e.parts e.program v.block v.level v.index
+
+-- what stands behind a leaf that was found
+abbrev pub found_added : Taken → Y.Leaf → (given : ℕ) → Code
+found_added t l given = subscripts_counted t 0 given l.bounds ++ (BaseIn u0 ∷ add u3 u3 u0 ∷ element_added u3 l.type given)
+
+-- the nth word of a name
+abbrev pub word_loaded : Address → (n : ℕ) → Code
+word_loaded from n = load_word u1 from.register (place_behind (4 * n) from.displacement)
+
+abbrev pub word_stored : Address → (n : ℕ) → Code
+word_stored to n = store_word to.register u1 (place_behind (4 * n) to.displacement)
+
+-- what is kept of the newest generation, behind its offset and number
+abbrev pub newest_kept : Taken → Code
+newest_kept t = service 18 ++ (store_word frame_register a1 (waiting_number t) ++ (move a1 a0 ∷ status_tested))
+
+-- a subscript that waits, and one after the other for these dimensions
+abbrev pub waiting_counted : Taken → (dimension : ℕ) → Y.Bounds → Code
+waiting_counted t dimension b = fetch u1 t ++ subscript_counted dimension b
+
+abbrev pub all_counted : Taken → (dimension : ℕ) → List Y.Bounds → Code
+all_counted t dimension [] = []
+all_counted t dimension (b ∷ bs) = waiting_counted t dimension b ++ all_counted (with_number t) (suc dimension) bs

@@ -1,0 +1,81 @@
+// Places of a frame that are a variable's own: of an AUTOMATIC one, and of a parameter.
+
+ghost use Rattle.std.specs.Prelude.{◌≡◌, ◌+◌, ◌≤◌, map, length, IfOk};
+ghost use Rattle.pli_typing.specs.TypedView.{variable_of};
+ghost use Rattle.pli_typing.specs.TypedStatementView.{declared_variable_of, program_of};
+ghost use Rattle.pli_coding.specs.Frames as form;
+ghost use Rattle.pli_coding.specs.Locating as locating;
+ghost use Rattle.pli_frames.specs.Parts.{parts};
+ghost use Rattle.rv_address.specs.Around.{environment_of};
+
+use crate::environment::{Environment, variables_of_block};
+use pli_frames::fixed::parameter_place;
+use pli_frames::frame::fixed_size;
+use pli_frames::size::{LAST_PLACE, frame_bytes};
+use pli_typing::typed::{DeclaredVariable, Typed, Variable};
+use std::alloc::AllocError;
+
+/// The parameters of a block, by their places among its variables; none where it is no procedure.
+#[tactic(auto, using(crate::proofs::Framing::here, crate::proofs::Framing::not_here, std::proofs::lemmas::List::drop_all))]
+pub fn parameters_of_block<'a>(typed: &'a Typed, block: usize) -> &'a [usize]
+    ensures { result.now ≡ form.parameters_of_block (program_of typed.now) block }
+{
+    let procedures = typed.procedures.as_slice();
+    for procedure in procedures {
+        if procedure.block.head.number == block {
+            return procedure.parameters.as_slice();
+        }
+    }
+    &[]
+}
+
+/// The place of a variable among the parameters of its block, or the place behind them.
+#[tactic(auto, using(crate::proofs::Framing::this_parameter, crate::proofs::Framing::next_parameter, std::proofs::lemmas::List::drop_all))]
+fn place_among(index: usize, parameters: &[usize]) -> usize
+    ensures { result ≡ locating.place_among index parameters.now }
+{
+    let mut place = 0;
+    for parameter in parameters {
+        if *parameter == index {
+            return place;
+        }
+        place += 1;
+    }
+    place
+}
+
+/// The place of a parameter's name, in bytes from the frame's address.
+pub fn name_of_parameter(environment: &Environment, variable: Variable) -> Result<u32, AllocError>
+    ensures { IfOk result (λ n. n ≡ locating.name_of_parameter (environment_of environment.now) (variable_of variable)) }
+{
+    let parameters = parameters_of_block(environment.known.typed, variable.block);
+    parameter_place(variable.level, place_among(variable.index, parameters))
+}
+
+/// The place of the variable of an index, where the first one stands at the start.
+#[tactic(auto, using(crate::proofs::Framing::next_place, crate::proofs::Framing::reached_place, std::proofs::lemmas::List::drop_all))]
+fn variable_place(start: u32, variables: &[DeclaredVariable], index: usize) -> u32
+    ensures { result ≡ form.variable_place parts start (map declared_variable_of variables.now) index }
+{
+    let mut at = start;
+    let mut left = index;
+    for variable in variables {
+        if left == 0 {
+            return at;
+        }
+        at = LAST_PLACE.min(u64::from(at) + frame_bytes(variable)) as u32;
+        left -= 1;
+    }
+    at
+}
+
+/// The place of an AUTOMATIC variable's name, in bytes from the frame's address.
+pub fn automatic_place(environment: &Environment, variable: Variable) -> Result<u32, AllocError>
+    ensures { IfOk result (λ n. n ≡ form.automatic_place parts (environment_of environment.now).program (variable_of variable).block (variable_of variable).level (variable_of variable).index) }
+{
+    let typed = environment.known.typed;
+    let parameters = parameters_of_block(typed, variable.block);
+    let start = fixed_size(variable.level, parameters.len())?;
+    let variables = variables_of_block(typed, variable.block)?;
+    Ok(variable_place(start, variables, variable.index))
+}

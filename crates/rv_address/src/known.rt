@@ -1,0 +1,150 @@
+// A program with its table of signatures, made once: equal signatures have one number.
+
+ghost use Rattle.std.specs.Prelude.{◌≡◌, ◌≤◌, ◌++◌, ◌∷◌, [], length, map, IfOk, OnOk};
+ghost use Rattle.rv_meaning.specs.Tables.{signature_words};
+ghost use Rattle.pli_language.specs.Keywords.{same_bytes};
+ghost use Rattle.pli_typing.specs.TypedView.{variable_of};
+ghost use Rattle.pli_typing.specs.TypedStatementView.{declared_variable_of, program_of};
+ghost use Rattle.pli_coding.specs.SignatureTable.{number_in_table, signature_of, table_of};
+ghost use Rattle.rv_address.specs.Rows.{items_of, number_at, numbers_in_words, numbers_of, place_in, rows_of, with_row, with_rows, with_words, words_of, number_rows};
+
+use crate::signature::signature_words;
+use pli_typing::typed::{DeclaredVariable, Typed, Variable};
+use std::alloc::{AllocError, Global};
+
+/// A typed program with its table, each signature as its words, and for each variable its signature's number.
+#[derive(Drop)]
+pub struct Known<'t, 'a> {
+    pub typed: &'t Typed<'a>,
+    table: Vec<Vec<u32>>,
+    numbers: Vec<Vec<usize>>,
+    ghost exact_table: { ∥ map items_of table.items ≡ words_of (table_of (program_of typed.now)) ∥₁ },
+    ghost exact_numbers: { ∥ map items_of numbers.items ≡ numbers_of (program_of typed.now) ∥₁ },
+}
+
+fn are_same(a: &[u32], b: &[u32]) -> bool
+    ensures { result ≡ same_bytes a.now b.now }
+{
+    a == b
+}
+
+/// The place of a signature among those of the table, or the place behind them.
+#[tactic(auto, using(crate::proofs::Tabled::this_place, crate::proofs::Tabled::next_place, std::proofs::lemmas::List::drop_all))]
+fn place_in(words: &[u32], table: &[Vec<u32>]) -> usize
+    ensures few { result ≤ length table.now }
+    ensures place { result ≡ place_in words.now (map items_of table.now) }
+{
+    let mut place = 0;
+    for one in table {
+        if are_same(words, one) {
+            return place;
+        }
+        place += 1;
+    }
+    place
+}
+
+/// A signature more, where the table has none like it.
+#[tactic(auto, using(crate::proofs::Tabled::already_there, crate::proofs::Tabled::not_there))]
+fn put_words(table: &mut Vec<Vec<u32>>, words: Vec<u32>) -> Result<(), AllocError>
+    ensures { OnOk result (map items_of table.new.items ≡ with_words words.items (map items_of table.old.items)) }
+{
+    if place_in(&words, table) < table.len() {
+        return Ok(());
+    }
+    table.push(words)?;
+    Ok(())
+}
+
+#[tactic(auto, using(crate::proofs::Tabled::next_variable, std::proofs::lemmas::List::drop_all))]
+fn put_row(
+    alloc: Global,
+    table: &mut Vec<Vec<u32>>,
+    variables: &[DeclaredVariable],
+) -> Result<(), AllocError>
+    ensures { OnOk result (map items_of table.new.items ≡ with_row (map declared_variable_of variables.now) (map items_of table.old.items)) }
+{
+    for variable in variables {
+        put_words(table, signature_words(alloc, variable)?)?;
+    }
+    Ok(())
+}
+
+#[tactic(auto, using(crate::proofs::Tabled::next_row, crate::proofs::Tabled::all_rows, std::proofs::lemmas::List::drop_all))]
+fn table_of(alloc: Global, typed: &Typed) -> Result<Vec<Vec<u32>>, AllocError>
+    ensures { IfOk result (λ t. map items_of t.items ≡ words_of (table_of (program_of typed.now))) }
+{
+    let mut table = Vec::new(alloc);
+    let blocks = typed.variables.as_slice();
+    for variables in blocks {
+        put_row(alloc, &mut table, variables)?;
+    }
+    Ok(table)
+}
+
+#[tactic(auto, using(crate::proofs::Tabled::next_number, crate::proofs::Tabled::no_more, std::proofs::lemmas::List::drop_all))]
+fn numbers_in(
+    alloc: Global,
+    table: &[Vec<u32>],
+    variables: &[DeclaredVariable],
+) -> Result<Vec<usize>, AllocError>
+    ensures { IfOk result (λ n. n.items ≡ numbers_in_words (map items_of table.now) (map declared_variable_of variables.now)) }
+{
+    let mut numbers = Vec::new(alloc);
+    for variable in variables {
+        let words = signature_words(alloc, variable)?;
+        numbers.push(place_in(&words, table))?;
+    }
+    Ok(numbers)
+}
+
+#[tactic(auto, using(crate::proofs::Tabled::next_numbers, crate::proofs::Tabled::no_more_rows, std::proofs::lemmas::List::drop_all))]
+fn number_rows(
+    alloc: Global,
+    table: &[Vec<u32>],
+    blocks: &[Vec<DeclaredVariable>],
+) -> Result<Vec<Vec<usize>>, AllocError>
+    ensures { IfOk result (λ n. map items_of n.items ≡ number_rows (map items_of table.now) (rows_of blocks.now)) }
+{
+    let mut rows = Vec::new(alloc);
+    for variables in blocks {
+        rows.push(numbers_in(alloc, table, variables)?)?;
+    }
+    Ok(rows)
+}
+
+impl<'t, 'a> Known<'t, 'a> {
+    /// A program with its table. Time is the product of the variables and the different signatures.
+    pub fn new(alloc: Global, typed: &'t Typed<'a>) -> Result<Known<'t, 'a>, AllocError>
+        ensures { IfOk result (λ k. k.typed.now ≡ typed.now) }
+    {
+        let table = table_of(alloc, typed)?;
+        let numbers = number_rows(alloc, &table, &typed.variables)?;
+        Ok(Known {
+            typed,
+            table,
+            numbers,
+        })
+    }
+
+    /// The words of each signature of the table, by its number.
+    pub fn table(&self) -> &[Vec<u32>]
+        ensures { map items_of result.now ≡ words_of (table_of (program_of self.now.typed.now)) }
+    {
+        self.table.as_slice()
+    }
+
+    /// The number of a variable's signature; of a variable that isn't declared it is want of memory.
+    pub fn number(&self, variable: Variable) -> Result<usize, AllocError>
+        ensures { IfOk result (λ n. n ≡ number_at (program_of self.now.typed.now) (variable_of variable)) }
+    {
+        if variable.block >= self.numbers.len() {
+            return Err(AllocError);
+        }
+        let row = &self.numbers[variable.block];
+        if variable.index >= row.len() {
+            return Err(AllocError);
+        }
+        Ok(row[variable.index])
+    }
+}
