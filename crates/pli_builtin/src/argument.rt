@@ -1,6 +1,6 @@
 // The arguments of built-in functions: how many they are, and what stands in where they are wrong.
 
-ghost use Rattle.std.specs.Prelude.{◌≡◌, ◌≢◌, [], ◌∷◌, length, MatchOption};
+ghost use Rattle.std.specs.Prelude.{◌≡◌, ◌≢◌, [], ◌∷◌, length, MatchOption, IfOk, OnOk};
 ghost use Rattle.std.specs.Vec.Iter.{into_iter_items};
 ghost use Rattle.pli_language.specs.declared.fault.SourceKind.TheVariants.{BadArguments};
 ghost use Rattle.pli_typing.specs.Builtins as B;
@@ -16,17 +16,18 @@ use pli_language::fault::SourceKind;
 use pli_operand::notes::Notes;
 use pli_operand::operand::{Operand, Referent};
 use pli_typing::typed::{Number, Pointer, Text, Value};
+use std::alloc::{AllocError, Global};
 use std::vec::IntoIter;
 
 /// Two operands.
-#[derive(Debug, Drop)]
+#[derive(Drop)]
 pub struct Pair<'t, 'a> {
     pub first: Operand<'t, 'a>,
     pub second: Operand<'t, 'a>,
 }
 
 /// Three operands.
-#[derive(Debug, Drop)]
+#[derive(Drop)]
 pub struct Triple<'t, 'a> {
     pub first: Operand<'t, 'a>,
     pub second: Operand<'t, 'a>,
@@ -34,7 +35,7 @@ pub struct Triple<'t, 'a> {
 }
 
 /// Four operands.
-#[derive(Debug, Drop)]
+#[derive(Drop)]
 pub struct Quadruple<'t, 'a> {
     pub first: Operand<'t, 'a>,
     pub second: Operand<'t, 'a>,
@@ -125,32 +126,44 @@ pub fn four<'t, 'a>(operands: IntoIter<Operand<'t, 'a>>) -> Option<Quadruple<'t,
 
 /// What is broken at a built-in's name, where its answer is a number.
 #[tactic(auto, using(pli_operand::proofs::Noting::noting), unfolding(pli_typing::specs::TypedView::number_of))]
-pub fn bad_number<'t, 'a>(notes: &mut Notes, place: Place) -> Referent<'t, 'a>
-    ensures noted { notes_of notes.new ≡ with_fault (notes_of notes.old) (fault place BadArguments) }
-    ensures value { referent_of result ≡ C.Gives (Y.NumberValue C.operator_digits (Y.NumberConstant 0)) }
+pub fn bad_number<'t, 'a>(
+    alloc: Global,
+    notes: &mut Notes,
+    place: Place,
+) -> Result<Referent<'t, 'a>, AllocError>
+    ensures noted { OnOk result (notes_of notes.new ≡ with_fault (notes_of notes.old) (fault place BadArguments)) }
+    ensures value { IfOk result (λ r. referent_of r ≡ C.Gives (Y.NumberValue C.operator_digits (Y.NumberConstant 0))) }
 {
     notes.broken(place, SourceKind::BadArguments);
-    number_answer(Number::Constant(0))
+    number_answer(alloc, Number::Constant(0))
 }
 
 /// The same, where its answer is a text.
 #[tactic(auto, using(pli_operand::proofs::Noting::noting), unfolding(pli_typing::specs::TypedView::text_of))]
-pub fn bad_text<'t, 'a>(notes: &mut Notes, place: Place) -> Referent<'t, 'a>
-    ensures noted { notes_of notes.new ≡ with_fault (notes_of notes.old) (fault place BadArguments) }
-    ensures value { referent_of result ≡ C.Gives (Y.TextValue (Y.TextConstant [])) }
+pub fn bad_text<'t, 'a>(
+    alloc: Global,
+    notes: &mut Notes,
+    place: Place,
+) -> Result<Referent<'t, 'a>, AllocError>
+    ensures noted { OnOk result (notes_of notes.new ≡ with_fault (notes_of notes.old) (fault place BadArguments)) }
+    ensures value { IfOk result (λ r. referent_of r ≡ C.Gives (Y.TextValue (Y.TextConstant []))) }
 {
     notes.broken(place, SourceKind::BadArguments);
-    Referent::Gives(Value::Text(Text::Constant(&[])))
+    Ok(Referent::Gives(Value::Text(Box::new(alloc, Text::Constant(&[]))?)))
 }
 
 /// The same, where its answer is a POINTER.
 #[tactic(auto, using(pli_operand::proofs::Noting::noting), unfolding(pli_typing::specs::TypedView::pointer_of))]
-pub fn bad_pointer<'t, 'a>(notes: &mut Notes, place: Place) -> Referent<'t, 'a>
-    ensures noted { notes_of notes.new ≡ with_fault (notes_of notes.old) (fault place BadArguments) }
-    ensures value { referent_of result ≡ C.Gives (Y.PointerValue Y.NullPointer) }
+pub fn bad_pointer<'t, 'a>(
+    alloc: Global,
+    notes: &mut Notes,
+    place: Place,
+) -> Result<Referent<'t, 'a>, AllocError>
+    ensures noted { OnOk result (notes_of notes.new ≡ with_fault (notes_of notes.old) (fault place BadArguments)) }
+    ensures value { IfOk result (λ r. referent_of r ≡ C.Gives (Y.PointerValue Y.NullPointer)) }
 {
     notes.broken(place, SourceKind::BadArguments);
-    pointer_answer(Pointer::Null)
+    pointer_answer(alloc, Pointer::Null)
 }
 
 /// A constant from 1 to a most.

@@ -48,11 +48,16 @@ fn made_of_array<'a>(
 
 /// A number of a dimension that the array hasn't.
 #[tactic(auto, using(pli_operand::proofs::Noting::noting))]
-fn no_dimension<'t, 'a>(notes: &mut Notes, place: Place, _array: Reference) -> Referent<'t, 'a>
-    ensures noted { notes_of notes.new ≡ noted (notes_of notes.old) (B.number_given (B.bad_number place)) }
-    ensures value { referent_of result ≡ (B.number_given (B.bad_number place)).value }
+fn no_dimension<'t, 'a>(
+    alloc: Global,
+    notes: &mut Notes,
+    place: Place,
+    _array: Reference,
+) -> Result<Referent<'t, 'a>, AllocError>
+    ensures noted { OnOk result (notes_of notes.new ≡ noted (notes_of notes.old) (B.number_given (B.bad_number place))) }
+    ensures value { IfOk result (λ r. referent_of r ≡ (B.number_given (B.bad_number place)).value) }
 {
-    bad_number(notes, place)
+    bad_number(alloc, notes, place)
 }
 
 #[tactic(auto, using(pli_operand::proofs::Noting::noting))]
@@ -68,24 +73,25 @@ fn dimension_of<'t, 'a>(
     ensures value { IfOk result (λ r. referent_of r ≡ (B.number_given (B.dimension_of place (bound_of which) (reference_of array.entry) dimension)).value) }
 {
     match dimension {
-        None => Ok(no_dimension(notes, place, array)),
-        Some(dimension) => Ok(number_answer(made_of_array(alloc, which, array, dimension)?)),
+        None => no_dimension(alloc, notes, place, array),
+        Some(dimension) => number_answer(alloc, made_of_array(alloc, which, array, dimension)?),
     }
 }
 
 /// The number of a dimension of an array that isn't known.
 #[tactic(auto, using(pli_operand::proofs::Noting::noting), unfolding(pli_typing::specs::TypedView::number_of))]
 fn any_dimension<'t, 'a>(
+    alloc: Global,
     notes: &mut Notes,
     place: Place,
     dimension: Option<u64>,
-) -> Referent<'t, 'a>
-    ensures noted { notes_of notes.new ≡ noted (notes_of notes.old) (B.number_given (B.dimension_of place (λ r m. Y.NumberConstant 0) C.no_reference dimension)) }
-    ensures value { referent_of result ≡ (B.number_given (B.dimension_of place (λ r m. Y.NumberConstant 0) C.no_reference dimension)).value }
+) -> Result<Referent<'t, 'a>, AllocError>
+    ensures noted { OnOk result (notes_of notes.new ≡ noted (notes_of notes.old) (B.number_given (B.dimension_of place (λ r m. Y.NumberConstant 0) C.no_reference dimension))) }
+    ensures value { IfOk result (λ r. referent_of r ≡ (B.number_given (B.dimension_of place (λ r m. Y.NumberConstant 0) C.no_reference dimension)).value) }
 {
     match dimension {
-        None => bad_number(notes, place),
-        Some(_) => number_answer(Number::Constant(0)),
+        None => bad_number(alloc, notes, place),
+        Some(_) => number_answer(alloc, Number::Constant(0)),
     }
 }
 
@@ -107,11 +113,16 @@ fn bound_of_array<'t, 'a>(
 
 /// A value isn't an array.
 #[tactic(auto, using(pli_operand::proofs::Noting::noting))]
-fn no_array<'t, 'a>(notes: &mut Notes, place: Place, _value: Value) -> Referent<'t, 'a>
-    ensures noted { notes_of notes.new ≡ noted (notes_of notes.old) (B.number_given (B.bad_number place)) }
-    ensures value { referent_of result ≡ (B.number_given (B.bad_number place)).value }
+fn no_array<'t, 'a>(
+    alloc: Global,
+    notes: &mut Notes,
+    place: Place,
+    _value: Value,
+) -> Result<Referent<'t, 'a>, AllocError>
+    ensures noted { OnOk result (notes_of notes.new ≡ noted (notes_of notes.old) (B.number_given (B.bad_number place))) }
+    ensures value { IfOk result (λ r. referent_of r ≡ (B.number_given (B.bad_number place)).value) }
 {
-    bad_number(notes, place)
+    bad_number(alloc, notes, place)
 }
 
 #[tactic(auto, using(pli_operand::proofs::Noting::noting))]
@@ -130,11 +141,11 @@ fn of_array<'t, 'a>(
         Referent::Designates(array) => bound_of_array(alloc, notes, place, which, array, constant),
         Referent::NotKnown => {
             let dimension = constant_within(MOST_DIMENSIONS, constant);
-            Ok(any_dimension(notes, place, dimension))
+            any_dimension(alloc, notes, place, dimension)
         }
-        Referent::Gives(value) => Ok(no_array(notes, place, value)),
+        Referent::Gives(value) => no_array(alloc, notes, place, value),
         Referent::UnknownValue | Referent::EmptyArea | Referent::Nothing => {
-            Ok(bad_number(notes, place))
+            bad_number(alloc, notes, place)
         }
     }
 }
@@ -167,7 +178,7 @@ pub fn of_dimension<'t, 'a>(
                 dimension.constant,
             )
         }
-        None => Ok(bad_number(notes, place)),
+        None => bad_number(alloc, notes, place),
     }
 }
 
@@ -178,37 +189,43 @@ fn is_controlled(class: StorageClass) -> bool
 }
 
 #[tactic(auto, using(pli_operand::proofs::Noting::noting), unfolding(pli_typing::specs::TypedView::number_of))]
-fn allocations_of<'t, 'a>(notes: &mut Notes, place: Place, referent: &Referent) -> Referent<'t, 'a>
-    ensures noted { notes_of notes.new ≡ noted (notes_of notes.old) (B.number_given (B.allocations_of place (referent_of referent.now))) }
-    ensures value { referent_of result ≡ (B.number_given (B.allocations_of place (referent_of referent.now))).value }
+fn allocations_of<'t, 'a>(
+    alloc: Global,
+    notes: &mut Notes,
+    place: Place,
+    referent: &Referent,
+) -> Result<Referent<'t, 'a>, AllocError>
+    ensures noted { OnOk result (notes_of notes.new ≡ noted (notes_of notes.old) (B.number_given (B.allocations_of place (referent_of referent.now)))) }
+    ensures value { IfOk result (λ r. referent_of r ≡ (B.number_given (B.allocations_of place (referent_of referent.now))).value) }
 {
     match referent {
         Referent::Designates(designated) => {
             let variable = variable_of(&designated.reference);
             if designated.is_whole && is_controlled(variable.class) {
-                return number_answer(Number::AllocationsOf(variable));
+                return number_answer(alloc, Number::AllocationsOf(variable));
             }
-            bad_number(notes, place)
+            bad_number(alloc, notes, place)
         }
-        Referent::NotKnown => number_answer(Number::Constant(0)),
+        Referent::NotKnown => number_answer(alloc, Number::Constant(0)),
         Referent::Gives(_) | Referent::UnknownValue | Referent::EmptyArea | Referent::Nothing =>
-            bad_number(notes, place),
+            bad_number(alloc, notes, place),
     }
 }
 
 /// ALLOCATION.
 #[tactic(auto, using(pli_operand::proofs::Noting::noting, crate::proofs::Counted::bad_of_controlled))]
 pub fn of_controlled<'t, 'a>(
+    alloc: Global,
     notes: &mut Notes,
     place: Place,
     operands: Vec<Operand>,
-) -> Referent<'t, 'a>
-    ensures noted { notes_of notes.new ≡ noted (notes_of notes.old) (B.number_given (B.of_controlled place (map operand_of operands.entry.items))) }
-    ensures value { referent_of result ≡ (B.number_given (B.of_controlled place (map operand_of operands.entry.items))).value }
+) -> Result<Referent<'t, 'a>, AllocError>
+    ensures noted { OnOk result (notes_of notes.new ≡ noted (notes_of notes.old) (B.number_given (B.of_controlled place (map operand_of operands.entry.items)))) }
+    ensures value { IfOk result (λ r. referent_of r ≡ (B.number_given (B.of_controlled place (map operand_of operands.entry.items))).value) }
 {
     match one(operands.into_iter()) {
-        Some(operand) => allocations_of(notes, place, &operand.referent),
-        None => bad_number(notes, place),
+        Some(operand) => allocations_of(alloc, notes, place, &operand.referent),
+        None => bad_number(alloc, notes, place),
     }
 }
 
@@ -233,11 +250,16 @@ fn is_addressed(designated: &Designated) -> bool
 
 /// What has no address.
 #[tactic(auto, using(pli_operand::proofs::Noting::noting))]
-fn no_address<'t, 'a>(notes: &mut Notes, place: Place, _designated: Designated) -> Referent<'t, 'a>
-    ensures noted { notes_of notes.new ≡ noted (notes_of notes.old) (B.pointer_given (B.bad_pointer place)) }
-    ensures value { referent_of result ≡ (B.pointer_given (B.bad_pointer place)).value }
+fn no_address<'t, 'a>(
+    alloc: Global,
+    notes: &mut Notes,
+    place: Place,
+    _designated: Designated,
+) -> Result<Referent<'t, 'a>, AllocError>
+    ensures noted { OnOk result (notes_of notes.new ≡ noted (notes_of notes.old) (B.pointer_given (B.bad_pointer place))) }
+    ensures value { IfOk result (λ r. referent_of r ≡ (B.pointer_given (B.bad_pointer place)).value) }
 {
-    bad_pointer(notes, place)
+    bad_pointer(alloc, notes, place)
 }
 
 #[tactic(auto, using(pli_operand::proofs::Noting::noting))]
@@ -251,18 +273,23 @@ fn address_of_part<'t, 'a>(
     ensures value { IfOk result (λ r. referent_of r ≡ (B.pointer_given (B.address_of place (C.Designates (designated_of designated.entry)))).value) }
 {
     if is_addressed(&designated) {
-        return Ok(pointer_answer(node::address_of(alloc, designated.reference)?));
+        return pointer_answer(alloc, node::address_of(alloc, designated.reference)?);
     }
-    Ok(no_address(notes, place, designated))
+    no_address(alloc, notes, place, designated)
 }
 
 /// A value has no address.
 #[tactic(auto, using(pli_operand::proofs::Noting::noting))]
-fn no_variable<'t, 'a>(notes: &mut Notes, place: Place, _value: Value) -> Referent<'t, 'a>
-    ensures noted { notes_of notes.new ≡ noted (notes_of notes.old) (B.pointer_given (B.bad_pointer place)) }
-    ensures value { referent_of result ≡ (B.pointer_given (B.bad_pointer place)).value }
+fn no_variable<'t, 'a>(
+    alloc: Global,
+    notes: &mut Notes,
+    place: Place,
+    _value: Value,
+) -> Result<Referent<'t, 'a>, AllocError>
+    ensures noted { OnOk result (notes_of notes.new ≡ noted (notes_of notes.old) (B.pointer_given (B.bad_pointer place))) }
+    ensures value { IfOk result (λ r. referent_of r ≡ (B.pointer_given (B.bad_pointer place)).value) }
 {
-    bad_pointer(notes, place)
+    bad_pointer(alloc, notes, place)
 }
 
 #[tactic(auto, using(pli_operand::proofs::Noting::noting), unfolding(pli_typing::specs::TypedView::pointer_of))]
@@ -277,10 +304,10 @@ fn address_of<'t, 'a>(
 {
     match referent {
         Referent::Designates(designated) => address_of_part(alloc, notes, place, designated),
-        Referent::NotKnown => Ok(pointer_answer(Pointer::Null)),
-        Referent::Gives(value) => Ok(no_variable(notes, place, value)),
+        Referent::NotKnown => pointer_answer(alloc, Pointer::Null),
+        Referent::Gives(value) => no_variable(alloc, notes, place, value),
         Referent::UnknownValue | Referent::EmptyArea | Referent::Nothing => {
-            Ok(bad_pointer(notes, place))
+            bad_pointer(alloc, notes, place)
         }
     }
 }
@@ -298,6 +325,6 @@ pub fn address<'t, 'a>(
 {
     match one(operands.into_iter()) {
         Some(operand) => address_of(alloc, notes, place, operand.referent),
-        None => Ok(bad_pointer(notes, place)),
+        None => bad_pointer(alloc, notes, place),
     }
 }

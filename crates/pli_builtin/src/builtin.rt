@@ -50,17 +50,18 @@ fn empty<'t, 'a>(notes: &mut Notes, place: Place, operands: Vec<Operand>) -> Ref
 /// ONCODE.
 #[tactic(auto, using(pli_operand::proofs::Noting::noting, crate::proofs::Counted::no_argument, crate::proofs::Counted::any_argument), unfolding(pli_typing::specs::TypedView::number_of))]
 fn condition_code<'t, 'a>(
+    alloc: Global,
     notes: &mut Notes,
     place: Place,
     operands: Vec<Operand>,
-) -> Referent<'t, 'a>
-    ensures noted { notes_of notes.new ≡ noted (notes_of notes.old) (B.without_arguments place (C.Gives (Y.NumberValue C.operator_digits Y.OnCode)) (map operand_of operands.entry.items)) }
-    ensures value { referent_of result ≡ (B.without_arguments place (C.Gives (Y.NumberValue C.operator_digits Y.OnCode)) (map operand_of operands.entry.items)).value }
+) -> Result<Referent<'t, 'a>, AllocError>
+    ensures noted { OnOk result (notes_of notes.new ≡ noted (notes_of notes.old) (B.without_arguments place (C.Gives (Y.NumberValue C.operator_digits Y.OnCode)) (map operand_of operands.entry.items))) }
+    ensures value { IfOk result (λ r. referent_of r ≡ (B.without_arguments place (C.Gives (Y.NumberValue C.operator_digits Y.OnCode)) (map operand_of operands.entry.items)).value) }
 {
     if !operands.is_empty() {
         notes.broken(place, SourceKind::BadArguments);
     }
-    number_answer(Number::OnCode)
+    number_answer(alloc, Number::OnCode)
 }
 
 /// Another word's isn't known.
@@ -96,13 +97,13 @@ pub fn builtin_called<'t, 'a>(
         Word::Lbound => of_dimension(alloc, notes, place, Bound::Lower, operands),
         Word::Hbound => of_dimension(alloc, notes, place, Bound::Upper, operands),
         Word::Dim => of_dimension(alloc, notes, place, Bound::Elements, operands),
-        Word::Allocation => Ok(of_controlled(notes, place, operands)),
+        Word::Allocation => Ok(of_controlled(alloc, notes, place, operands)?),
         Word::Addr => address(alloc, notes, place, operands),
         Word::Null => Ok(null(notes, place, operands)),
         Word::Empty => Ok(empty(notes, place, operands)),
         Word::Pointer => pointer_into(alloc, notes, place, operands),
         Word::Offset => offset_into(alloc, notes, place, operands),
-        Word::Oncode => Ok(condition_code(notes, place, operands)),
+        Word::Oncode => Ok(condition_code(alloc, notes, place, operands)?),
         _ => Ok(no_builtin(operands)),
     }
 }

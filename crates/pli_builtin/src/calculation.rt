@@ -67,10 +67,10 @@ fn made_of_texts<'a>(
 }
 
 /// A text that a built-in gives.
-fn text_answer<'t, 'a>(text: Text<'a>) -> Referent<'t, 'a>
-    ensures { referent_of result ≡ Gives (Y.TextValue (text_of text.entry)) }
+fn text_answer<'t, 'a>(alloc: Global, text: Text<'a>) -> Result<Referent<'t, 'a>, AllocError>
+    ensures { IfOk result (λ r. referent_of r ≡ Gives (Y.TextValue (text_of text.entry))) }
 {
-    Referent::Gives(Value::Text(text))
+    Ok(Referent::Gives(Value::Text(Box::new(alloc, text)?)))
 }
 
 #[tactic(auto, using(pli_operand::proofs::Noting::noting))]
@@ -85,7 +85,7 @@ fn of_one_number<'t, 'a>(
     ensures value { IfOk result (λ r. referent_of r ≡ (B.number_given (B.of_number place (number_function_of function) (operand_of operand.entry ∷ []))).value) }
 {
     let number = number_operand(alloc, notes, operand)?;
-    Ok(number_answer(made_of_number(alloc, function, number)?))
+    number_answer(alloc, made_of_number(alloc, function, number)?)
 }
 
 /// ABS and SIGN.
@@ -102,7 +102,7 @@ pub fn of_number<'t, 'a>(
 {
     match one(operands.into_iter()) {
         Some(operand) => of_one_number(alloc, notes, place, function, operand),
-        None => Ok(bad_number(notes, place)),
+        None => Ok(bad_number(alloc, notes, place)?),
     }
 }
 
@@ -119,7 +119,7 @@ fn of_two_numbers<'t, 'a>(
 {
     let dividend = number_operand(alloc, notes, dividend)?;
     let divisor = number_operand(alloc, notes, divisor)?;
-    Ok(number_answer(node::modulo(alloc, dividend, divisor)?))
+    Ok(number_answer(alloc, node::modulo(alloc, dividend, divisor)?)?)
 }
 
 /// MOD.
@@ -140,7 +140,7 @@ pub fn modulo<'t, 'a>(
                 second: divisor,
             },
         ) => of_two_numbers(alloc, notes, place, dividend, divisor),
-        None => Ok(bad_number(notes, place)),
+        None => Ok(bad_number(alloc, notes, place)?),
     }
 }
 
@@ -157,22 +157,23 @@ fn extreme<'t, 'a>(
 {
     let first = number_operand(alloc, notes, first)?;
     let more = numbers_left(alloc, notes, more)?;
-    Ok(number_answer(node::extreme(alloc, which, first, more)?))
+    Ok(number_answer(alloc, node::extreme(alloc, which, first, more)?)?)
 }
 
 /// MAX or MIN of less than two.
 #[tactic(auto, using(pli_operand::proofs::Noting::noting, crate::proofs::Counted::bad_of_many))]
 fn too_few<'t, 'a>(
+    alloc: Global,
     notes: &mut Notes,
     place: Place,
     which: Extremum,
     operands: Vec<Operand>,
-) -> Referent<'t, 'a>
+) -> Result<Referent<'t, 'a>, AllocError>
     requires { length operands.items < 2 }
-    ensures noted { notes_of notes.new ≡ noted (notes_of notes.old) (B.number_given (B.of_many place (extremum_of which) (map operand_of operands.entry.items))) }
-    ensures value { referent_of result ≡ (B.number_given (B.of_many place (extremum_of which) (map operand_of operands.entry.items))).value }
+    ensures noted { OnOk result (notes_of notes.new ≡ noted (notes_of notes.old) (B.number_given (B.of_many place (extremum_of which) (map operand_of operands.entry.items)))) }
+    ensures value { IfOk result (λ r. referent_of r ≡ (B.number_given (B.of_many place (extremum_of which) (map operand_of operands.entry.items))).value) }
 {
-    bad_number(notes, place)
+    bad_number(alloc, notes, place)
 }
 
 /// MAX and MIN take two numbers or more.
@@ -188,12 +189,12 @@ pub fn of_many<'t, 'a>(
     ensures value { IfOk result (λ r. referent_of r ≡ (B.number_given (B.of_many place (extremum_of which) (map operand_of operands.entry.items))).value) }
 {
     if operands.len() < 2 {
-        return Ok(too_few(notes, place, which, operands));
+        return too_few(alloc, notes, place, which, operands);
     }
     let mut operands = operands.into_iter();
     match operands.next() {
         Some(first) => extreme(alloc, notes, which, first, operands),
-        None => Ok(bad_number(notes, place)),
+        None => Ok(bad_number(alloc, notes, place)?),
     }
 }
 
@@ -208,7 +209,7 @@ fn length_of<'t, 'a>(
     ensures value { IfOk result (λ r. referent_of r ≡ (B.number_given (B.of_text place (operand_of operand.entry ∷ []))).value) }
 {
     let text = text_operand(alloc, notes, operand)?;
-    Ok(number_answer(node::length_of(alloc, text)?))
+    number_answer(alloc, node::length_of(alloc, text)?)
 }
 
 /// LENGTH.
@@ -224,7 +225,7 @@ pub fn of_text<'t, 'a>(
 {
     match one(operands.into_iter()) {
         Some(operand) => length_of(alloc, notes, place, operand),
-        None => Ok(bad_number(notes, place)),
+        None => Ok(bad_number(alloc, notes, place)?),
     }
 }
 
@@ -242,7 +243,7 @@ fn of_two_texts<'t, 'a>(
 {
     let first = text_operand(alloc, notes, first)?;
     let second = text_operand(alloc, notes, second)?;
-    Ok(number_answer(made_of_texts(alloc, function, first, second)?))
+    number_answer(alloc, made_of_texts(alloc, function, first, second)?)
 }
 
 /// INDEX and VERIFY.
@@ -259,7 +260,7 @@ pub fn of_texts<'t, 'a>(
 {
     match two(operands.into_iter()) {
         Some(Pair { first, second }) => of_two_texts(alloc, notes, place, function, first, second),
-        None => Ok(bad_number(notes, place)),
+        None => Ok(bad_number(alloc, notes, place)?),
     }
 }
 
@@ -276,7 +277,7 @@ fn substring_from<'t, 'a>(
 {
     let text = text_operand(alloc, notes, text)?;
     let start = number_operand(alloc, notes, start)?;
-    Ok(text_answer(node::substring_from(alloc, text, start)?))
+    text_answer(alloc, node::substring_from(alloc, text, start)?)
 }
 
 #[tactic(auto, using(pli_operand::proofs::Noting::noting))]
@@ -294,7 +295,7 @@ fn substring_within<'t, 'a>(
     let text = text_operand(alloc, notes, text)?;
     let start = number_operand(alloc, notes, start)?;
     let count = number_operand(alloc, notes, count)?;
-    Ok(text_answer(node::substring(alloc, text, start, count)?))
+    Ok(text_answer(alloc, node::substring(alloc, text, start, count)?)?)
 }
 
 /// SUBSTR of other than two.
@@ -317,7 +318,7 @@ fn substring_of_three<'t, 'a>(
                 third: count,
             },
         ) => substring_within(alloc, notes, place, text, start, count),
-        None => Ok(bad_text(notes, place)),
+        None => Ok(bad_text(alloc, notes, place)?),
     }
 }
 
@@ -342,22 +343,23 @@ pub fn substring<'t, 'a>(
                 second: start,
             },
         ) => substring_from(alloc, notes, place, text, start),
-        None => Ok(bad_text(notes, place)),
+        None => Ok(bad_text(alloc, notes, place)?),
     }
 }
 
 /// Without a right precision or scale.
 #[tactic(auto, using(pli_operand::proofs::Noting::noting))]
 fn no_quotient<'t, 'a>(
+    alloc: Global,
     notes: &mut Notes,
     place: Place,
     _dividend: Operand,
     _divisor: Operand,
-) -> Referent<'t, 'a>
-    ensures noted { notes_of notes.new ≡ noted (notes_of notes.old) (B.number_given (B.bad_number place)) }
-    ensures value { referent_of result ≡ (B.number_given (B.bad_number place)).value }
+) -> Result<Referent<'t, 'a>, AllocError>
+    ensures noted { OnOk result (notes_of notes.new ≡ noted (notes_of notes.old) (B.number_given (B.bad_number place))) }
+    ensures value { IfOk result (λ r. referent_of r ≡ (B.number_given (B.bad_number place)).value) }
 {
-    bad_number(notes, place)
+    bad_number(alloc, notes, place)
 }
 
 #[tactic(auto, using(pli_operand::proofs::Noting::noting))]
@@ -374,7 +376,7 @@ fn quotient_of<'t, 'a>(
 {
     let dividend = number_operand(alloc, notes, dividend)?;
     let divisor = number_operand(alloc, notes, divisor)?;
-    Ok(number_answer(node::divided(alloc, precision, dividend, divisor)?))
+    Ok(number_answer(alloc, node::divided(alloc, precision, dividend, divisor)?)?)
 }
 
 #[tactic(auto, using(pli_operand::proofs::Noting::noting))]
@@ -390,7 +392,7 @@ fn divided<'t, 'a>(
     ensures value { IfOk result (λ r. referent_of r ≡ (B.number_given (B.divided place precision (operand_of dividend.entry) (operand_of divisor.entry))).value) }
 {
     match precision {
-        None => Ok(no_quotient(notes, place, dividend, divisor)),
+        None => Ok(no_quotient(alloc, notes, place, dividend, divisor)?),
         Some(precision) => quotient_of(alloc, notes, place, precision, dividend, divisor),
     }
 }
@@ -411,7 +413,7 @@ fn scaled<'t, 'a>(
     if is_zero(scale) {
         return divided(alloc, notes, place, precision, dividend, divisor);
     }
-    Ok(no_quotient(notes, place, dividend, divisor))
+    no_quotient(alloc, notes, place, dividend, divisor)
 }
 
 /// DIVIDE of other than three.
@@ -446,7 +448,7 @@ fn quotient_of_four<'t, 'a>(
                 divisor,
             )
         }
-        None => Ok(bad_number(notes, place)),
+        None => Ok(bad_number(alloc, notes, place)?),
     }
 }
 
@@ -475,6 +477,6 @@ pub fn quotient<'t, 'a>(
             let precision = constant_within(OPERATOR_DIGITS, precision.constant);
             divided(alloc, notes, place, precision, dividend, divisor)
         }
-        None => Ok(bad_number(notes, place)),
+        None => Ok(bad_number(alloc, notes, place)?),
     }
 }

@@ -30,7 +30,7 @@ pub enum ComparedAs {
 }
 
 /// Two values with the places of their expressions; that of the first is the comparison's.
-#[derive(Debug, Drop)]
+#[derive(Drop)]
 pub struct Sides<'a> {
     pub left: Value<'a>,
     pub right: Value<'a>,
@@ -86,8 +86,8 @@ fn as_numbers<'a>(
     ensures noted { OnOk result (notes_of notes.new ≡ noted (notes_of notes.old) (O.values_compared (comparison_of comparison) (sides_of sides.entry) O.AsNumbers)) }
     ensures value { IfOk result (λ b. bit_of b ≡ (O.values_compared (comparison_of comparison) (sides_of sides.entry) O.AsNumbers).value) }
 {
-    let left = number_wanted(alloc, notes, sides.left_place, Some(sides.left))?;
-    let right = number_wanted(alloc, notes, sides.right_place, Some(sides.right))?;
+    let left = number_wanted(notes, sides.left_place, Some(sides.left));
+    let right = number_wanted(notes, sides.right_place, Some(sides.right));
     node::numbers_compared(alloc, comparison, left, right)
 }
 
@@ -101,8 +101,8 @@ fn as_texts<'a>(
     ensures noted { OnOk result (notes_of notes.new ≡ noted (notes_of notes.old) (O.values_compared (comparison_of comparison) (sides_of sides.entry) O.AsTexts)) }
     ensures value { IfOk result (λ b. bit_of b ≡ (O.values_compared (comparison_of comparison) (sides_of sides.entry) O.AsTexts).value) }
 {
-    let left = text_wanted(alloc, notes, sides.left_place, Some(sides.left))?;
-    let right = text_wanted(alloc, notes, sides.right_place, Some(sides.right))?;
+    let left = text_wanted(notes, sides.left_place, Some(sides.left));
+    let right = text_wanted(notes, sides.right_place, Some(sides.right));
     node::texts_compared(alloc, comparison, left, right)
 }
 
@@ -131,8 +131,8 @@ fn pointers_equal<'a>(
     ensures noted { OnOk result (notes_of notes.new ≡ noted (notes_of notes.old) (O.pointers_compared (sides_of sides.entry) (Some equal))) }
     ensures value { IfOk result (λ b. bit_of b ≡ (O.pointers_compared (sides_of sides.entry) (Some equal)).value) }
 {
-    let left = pointer_wanted(alloc, notes, sides.left_place, Some(sides.left))?;
-    let right = pointer_wanted(alloc, notes, sides.right_place, Some(sides.right))?;
+    let left = pointer_wanted(notes, sides.left_place, Some(sides.left));
+    let right = pointer_wanted(notes, sides.right_place, Some(sides.right));
     node::pointers_compared(alloc, equal, left, right)
 }
 
@@ -146,8 +146,8 @@ fn offsets_equal<'a>(
     ensures noted { OnOk result (notes_of notes.new ≡ noted (notes_of notes.old) (O.offsets_compared (sides_of sides.entry) (Some equal))) }
     ensures value { IfOk result (λ b. bit_of b ≡ (O.offsets_compared (sides_of sides.entry) (Some equal)).value) }
 {
-    let left = offset_wanted(alloc, notes, None, sides.left_place, Some(sides.left))?;
-    let right = offset_wanted(alloc, notes, None, sides.right_place, Some(sides.right))?;
+    let left = offset_wanted(notes, None, sides.left_place, Some(sides.left));
+    let right = offset_wanted(notes, None, sides.right_place, Some(sides.right));
     node::offsets_compared(alloc, equal, left, right)
 }
 

@@ -29,7 +29,7 @@ fn own_offset<'a>(value: Value<'a>) -> Option<Offset<'a>>
     ensures { option_of offset_of result ≡ B.own_offset (value_of value.entry) }
 {
     match value {
-        Value::Offset { value, .. } => Some(value),
+        Value::Offset { value, .. } => Some(Box::into_inner(value)),
         Value::Null => Some(Offset::Null),
         Value::Number { .. } | Value::Text(_) | Value::Bit(_) | Value::Pointer(_) => None,
     }
@@ -74,7 +74,7 @@ fn pointer_of_offset<'t, 'a>(
 {
     let offset = offset_operand(alloc, notes, offset)?;
     let area = area_operand(notes, &area);
-    Ok(pointer_answer(node::pointer_into(alloc, offset, area)?))
+    pointer_answer(alloc, node::pointer_into(alloc, offset, area)?)
 }
 
 /// POINTER.
@@ -95,26 +95,30 @@ pub fn pointer_into<'t, 'a>(
                 second: area,
             },
         ) => pointer_of_offset(alloc, notes, place, offset, area),
-        None => Ok(bad_pointer(notes, place)),
+        None => Ok(bad_pointer(alloc, notes, place)?),
     }
 }
 
-fn offset_answer<'t, 'a>(offset: Offset<'a>) -> Referent<'t, 'a>
-    ensures { referent_of result ≡ C.Gives (Y.OffsetValue None (offset_of offset.entry)) }
+fn offset_answer<'t, 'a>(alloc: Global, offset: Offset<'a>) -> Result<Referent<'t, 'a>, AllocError>
+    ensures { IfOk result (λ r. referent_of r ≡ C.Gives (Y.OffsetValue None (offset_of offset.entry))) }
 {
-    Referent::Gives(Value::Offset {
+    Ok(Referent::Gives(Value::Offset {
         area: None,
-        value: offset,
-    })
+        value: Box::new(alloc, offset)?,
+    }))
 }
 
 #[tactic(auto, using(pli_operand::proofs::Noting::noting), unfolding(pli_typing::specs::TypedView::offset_of))]
-fn bad_offset<'t, 'a>(notes: &mut Notes, place: Place) -> Referent<'t, 'a>
-    ensures noted { notes_of notes.new ≡ noted (notes_of notes.old) (B.offset_into place []) }
-    ensures value { referent_of result ≡ (B.offset_into place []).value }
+fn bad_offset<'t, 'a>(
+    alloc: Global,
+    notes: &mut Notes,
+    place: Place,
+) -> Result<Referent<'t, 'a>, AllocError>
+    ensures noted { OnOk result (notes_of notes.new ≡ noted (notes_of notes.old) (B.offset_into place [])) }
+    ensures value { IfOk result (λ r. referent_of r ≡ (B.offset_into place []).value) }
 {
     notes.broken(place, SourceKind::BadArguments);
-    offset_answer(Offset::Null)
+    offset_answer(alloc, Offset::Null)
 }
 
 #[tactic(auto, using(pli_operand::proofs::Noting::noting))]
@@ -130,7 +134,7 @@ fn offset_of_pointer<'t, 'a>(
 {
     let pointer = pointer_operand(alloc, notes, pointer)?;
     let area = area_operand(notes, &area);
-    Ok(offset_answer(node::offset_into(alloc, pointer, area)?))
+    offset_answer(alloc, node::offset_into(alloc, pointer, area)?)
 }
 
 /// OFFSET. The answer belongs to no declared area.
@@ -151,6 +155,6 @@ pub fn offset_into<'t, 'a>(
                 second: area,
             },
         ) => offset_of_pointer(alloc, notes, place, pointer, area),
-        None => Ok(bad_offset(notes, place)),
+        None => Ok(bad_offset(alloc, notes, place)?),
     }
 }

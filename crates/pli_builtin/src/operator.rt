@@ -23,26 +23,32 @@ use std::alloc::{AllocError, Global};
 pub const OPERATOR_DIGITS: u64 = 31;
 
 /// A number that an operator gives.
-pub fn number_answer<'t, 'a>(number: Number<'a>) -> Referent<'t, 'a>
-    ensures { referent_of result ≡ O.number_answer (number_of number.entry) }
+pub fn number_answer<'t, 'a>(
+    alloc: Global,
+    number: Number<'a>,
+) -> Result<Referent<'t, 'a>, AllocError>
+    ensures { IfOk result (λ r. referent_of r ≡ O.number_answer (number_of number.entry)) }
 {
-    Referent::Gives(Value::Number {
+    Ok(Referent::Gives(Value::Number {
         precision: OPERATOR_DIGITS,
-        value: number,
-    })
+        value: Box::new(alloc, number)?,
+    }))
 }
 
 /// A POINTER that a built-in function gives.
-pub fn pointer_answer<'t, 'a>(pointer: Pointer<'a>) -> Referent<'t, 'a>
-    ensures { referent_of result ≡ C.Gives (Y.PointerValue (pointer_of pointer.entry)) }
+pub fn pointer_answer<'t, 'a>(
+    alloc: Global,
+    pointer: Pointer<'a>,
+) -> Result<Referent<'t, 'a>, AllocError>
+    ensures { IfOk result (λ r. referent_of r ≡ C.Gives (Y.PointerValue (pointer_of pointer.entry))) }
 {
-    Referent::Gives(Value::Pointer(pointer))
+    Ok(Referent::Gives(Value::Pointer(Box::new(alloc, pointer)?)))
 }
 
-fn bit_answer<'t, 'a>(bit: Bit<'a>) -> Referent<'t, 'a>
-    ensures { referent_of result ≡ O.bit_answer (bit_of bit.entry) }
+fn bit_answer<'t, 'a>(alloc: Global, bit: Bit<'a>) -> Result<Referent<'t, 'a>, AllocError>
+    ensures { IfOk result (λ r. referent_of r ≡ O.bit_answer (bit_of bit.entry)) }
 {
-    Referent::Gives(Value::Bit(bit))
+    Ok(Referent::Gives(Value::Bit(Box::new(alloc, bit)?)))
 }
 
 /// A sign before an operand.
@@ -57,7 +63,7 @@ fn signed<'t, 'a>(
     ensures value { IfOk result (λ r. referent_of r ≡ O.number_answer (Y.Signed (sign_of sign) (C.number_operand (operand_of operand.entry)).value)) }
 {
     let number = number_operand(alloc, notes, operand)?;
-    Ok(number_answer(node::signed(alloc, sign, number)?))
+    number_answer(alloc, node::signed(alloc, sign, number)?)
 }
 
 #[tactic(auto, using(pli_operand::proofs::Noting::noting))]
@@ -70,7 +76,7 @@ fn negated<'t, 'a>(
     ensures value { IfOk result (λ r. referent_of r ≡ O.bit_answer (Y.Negated (C.own_bit_operand (operand_of operand.entry)).value)) }
 {
     let bit = own_bit_operand(alloc, notes, operand)?;
-    Ok(bit_answer(node::negated(alloc, bit)?))
+    bit_answer(alloc, node::negated(alloc, bit)?)
 }
 
 /// An operator before an operand.
@@ -104,7 +110,7 @@ fn calculated<'t, 'a>(
 {
     let left = number_operand(alloc, notes, left)?;
     let right = number_operand(alloc, notes, right)?;
-    Ok(number_answer(node::calculated(alloc, operator, left, right)?))
+    Ok(number_answer(alloc, node::calculated(alloc, operator, left, right)?)?)
 }
 
 #[tactic(auto, using(pli_operand::proofs::Noting::noting))]
@@ -119,7 +125,8 @@ fn joined<'t, 'a>(
 {
     let left = text_operand(alloc, notes, left)?;
     let right = text_operand(alloc, notes, right)?;
-    Ok(Referent::Gives(Value::Text(node::joined(alloc, left, right)?)))
+    let text = node::joined(alloc, left, right)?;
+    Ok(Referent::Gives(Value::Text(Box::new(alloc, text)?)))
 }
 
 #[tactic(auto, using(pli_operand::proofs::Noting::noting))]
@@ -135,7 +142,7 @@ fn combined<'t, 'a>(
 {
     let left = own_bit_operand(alloc, notes, left)?;
     let right = own_bit_operand(alloc, notes, right)?;
-    Ok(bit_answer(node::combined(alloc, operator, left, right)?))
+    Ok(bit_answer(alloc, node::combined(alloc, operator, left, right)?)?)
 }
 
 #[tactic(auto, using(pli_operand::proofs::Noting::noting))]
@@ -162,7 +169,7 @@ fn comparison<'t, 'a>(
         left,
         right,
     )?;
-    Ok(bit_answer(bit))
+    bit_answer(alloc, bit)
 }
 
 /// An operator between two operands.

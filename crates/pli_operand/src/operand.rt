@@ -5,7 +5,7 @@ use pli_typing::typed::{Leaf, Reference, Value};
 
 /// A variable or a part of one: its leaves, for how many of their outer bounds subscripts stand, for how many no subscripts
 /// stand, whether it has members, and whether it is a whole variable of level 1.
-#[derive(Debug, Drop)]
+#[derive(Drop)]
 pub struct Designated<'t, 'a> {
     pub reference: Reference<'a>,
     pub leaves: &'t [Leaf<'a>],
@@ -17,7 +17,7 @@ pub struct Designated<'t, 'a> {
 
 /// An expression designates a part of a variable, gives a value, is EMPTY(), or is nothing that has a value; or nothing is
 /// known of it. An operand in parentheses gives a value even where its kind isn't known, so it is no reference.
-#[derive(Debug, Drop)]
+#[derive(Drop)]
 pub enum Referent<'t, 'a> {
     Designates(Designated<'t, 'a>),
     Gives(Value<'a>),
@@ -28,7 +28,7 @@ pub enum Referent<'t, 'a> {
 }
 
 /// An expression with the place of its first token, and its value where it is a constant.
-#[derive(Debug, Drop)]
+#[derive(Drop)]
 pub struct Operand<'t, 'a> {
     pub place: Place,
     pub constant: Option<i128>,

@@ -24,72 +24,55 @@ use std::alloc::{AllocError, Global};
 
 #[tactic(auto, using(crate::proofs::Noting::noting), unfolding(pli_typing::specs::TypedView::stored_of))]
 fn number_stored<'a>(
-    alloc: Global,
     notes: &mut Notes,
     precision: u64,
     place: Place,
     value: Option<Value<'a>>,
-) -> Result<Stored<'a>, AllocError>
-    ensures noted { OnOk result (notes_of notes.new ≡ noted (notes_of notes.old) (C.number_stored precision (C.number_wanted place (option_of value_of value.entry)))) }
-    ensures value { IfOk result (λ s. stored_of s ≡ (C.number_stored precision (C.number_wanted place (option_of value_of value.entry))).value) }
+) -> Stored<'a>
+    ensures noted { notes_of notes.new ≡ noted (notes_of notes.old) (C.number_stored precision (C.number_wanted place (option_of value_of value.entry))) }
+    ensures value { stored_of result ≡ (C.number_stored precision (C.number_wanted place (option_of value_of value.entry))).value }
 {
-    Ok(Stored::Number {
+    Stored::Number {
         precision,
-        value: number_wanted(alloc, notes, place, value)?,
-    })
+        value: number_wanted(notes, place, value),
+    }
 }
 
 #[tactic(auto, using(crate::proofs::Noting::noting), unfolding(pli_typing::specs::TypedView::stored_of))]
-fn text_stored<'a>(
-    alloc: Global,
-    notes: &mut Notes,
-    place: Place,
-    value: Option<Value<'a>>,
-) -> Result<Stored<'a>, AllocError>
-    ensures noted { OnOk result (notes_of notes.new ≡ noted (notes_of notes.old) (C.text_stored (C.text_wanted place (option_of value_of value.entry)))) }
-    ensures value { IfOk result (λ s. stored_of s ≡ (C.text_stored (C.text_wanted place (option_of value_of value.entry))).value) }
+fn text_stored<'a>(notes: &mut Notes, place: Place, value: Option<Value<'a>>) -> Stored<'a>
+    ensures noted { notes_of notes.new ≡ noted (notes_of notes.old) (C.text_stored (C.text_wanted place (option_of value_of value.entry))) }
+    ensures value { stored_of result ≡ (C.text_stored (C.text_wanted place (option_of value_of value.entry))).value }
 {
-    Ok(Stored::Text(text_wanted(alloc, notes, place, value)?))
+    Stored::Text(text_wanted(notes, place, value))
 }
 
 #[tactic(auto, using(crate::proofs::Noting::noting), unfolding(pli_typing::specs::TypedView::stored_of))]
-fn bit_stored<'a>(
-    alloc: Global,
-    notes: &mut Notes,
-    place: Place,
-    value: Option<Value<'a>>,
-) -> Result<Stored<'a>, AllocError>
-    ensures noted { OnOk result (notes_of notes.new ≡ noted (notes_of notes.old) (C.bit_stored (C.bit_wanted place (option_of value_of value.entry)))) }
-    ensures value { IfOk result (λ s. stored_of s ≡ (C.bit_stored (C.bit_wanted place (option_of value_of value.entry))).value) }
+fn bit_stored<'a>(notes: &mut Notes, place: Place, value: Option<Value<'a>>) -> Stored<'a>
+    ensures noted { notes_of notes.new ≡ noted (notes_of notes.old) (C.bit_stored (C.bit_wanted place (option_of value_of value.entry))) }
+    ensures value { stored_of result ≡ (C.bit_stored (C.bit_wanted place (option_of value_of value.entry))).value }
 {
-    Ok(Stored::Bit(bit_wanted(alloc, notes, place, value)?))
+    Stored::Bit(bit_wanted(notes, place, value))
 }
 
 #[tactic(auto, using(crate::proofs::Noting::noting), unfolding(pli_typing::specs::TypedView::stored_of))]
-fn pointer_stored<'a>(
-    alloc: Global,
-    notes: &mut Notes,
-    place: Place,
-    value: Option<Value<'a>>,
-) -> Result<Stored<'a>, AllocError>
-    ensures noted { OnOk result (notes_of notes.new ≡ noted (notes_of notes.old) (C.pointer_stored (C.pointer_wanted place (option_of value_of value.entry)))) }
-    ensures value { IfOk result (λ s. stored_of s ≡ (C.pointer_stored (C.pointer_wanted place (option_of value_of value.entry))).value) }
+fn pointer_stored<'a>(notes: &mut Notes, place: Place, value: Option<Value<'a>>) -> Stored<'a>
+    ensures noted { notes_of notes.new ≡ noted (notes_of notes.old) (C.pointer_stored (C.pointer_wanted place (option_of value_of value.entry))) }
+    ensures value { stored_of result ≡ (C.pointer_stored (C.pointer_wanted place (option_of value_of value.entry))).value }
 {
-    Ok(Stored::Pointer(pointer_wanted(alloc, notes, place, value)?))
+    Stored::Pointer(pointer_wanted(notes, place, value))
 }
 
 #[tactic(auto, using(crate::proofs::Noting::noting), unfolding(pli_typing::specs::TypedView::stored_of))]
 fn offset_stored<'a>(
-    alloc: Global,
     notes: &mut Notes,
     area: Option<Variable>,
     place: Place,
     value: Option<Value<'a>>,
-) -> Result<Stored<'a>, AllocError>
-    ensures noted { OnOk result (notes_of notes.new ≡ noted (notes_of notes.old) (C.offset_stored (C.offset_wanted (area_of area) place (option_of value_of value.entry)))) }
-    ensures value { IfOk result (λ s. stored_of s ≡ (C.offset_stored (C.offset_wanted (area_of area) place (option_of value_of value.entry))).value) }
+) -> Stored<'a>
+    ensures noted { notes_of notes.new ≡ noted (notes_of notes.old) (C.offset_stored (C.offset_wanted (area_of area) place (option_of value_of value.entry))) }
+    ensures value { stored_of result ≡ (C.offset_stored (C.offset_wanted (area_of area) place (option_of value_of value.entry))).value }
 {
-    Ok(Stored::Offset(offset_wanted(alloc, notes, area, place, value)?))
+    Stored::Offset(offset_wanted(notes, area, place, value))
 }
 
 /// There is a value.
@@ -114,22 +97,21 @@ fn none_stored<'a>(notes: &mut Notes, place: Place, value: Option<Value<'a>>) ->
 /// A value converted to the kind of the scalar that it goes into.
 #[tactic(auto, using(crate::proofs::Noting::noting))]
 pub fn stored_as<'a>(
-    alloc: Global,
     notes: &mut Notes,
     kind: LeafType,
     place: Place,
     value: Option<Value<'a>>,
-) -> Result<Stored<'a>, AllocError>
-    ensures noted { OnOk result (notes_of notes.new ≡ noted (notes_of notes.old) (C.stored_as (leaf_type_of kind) place (option_of value_of value.entry))) }
-    ensures value { IfOk result (λ s. stored_of s ≡ (C.stored_as (leaf_type_of kind) place (option_of value_of value.entry)).value) }
+) -> Stored<'a>
+    ensures noted { notes_of notes.new ≡ noted (notes_of notes.old) (C.stored_as (leaf_type_of kind) place (option_of value_of value.entry)) }
+    ensures value { stored_of result ≡ (C.stored_as (leaf_type_of kind) place (option_of value_of value.entry)).value }
 {
     match kind {
-        LeafType::Fixed(precision) => number_stored(alloc, notes, precision, place, value),
-        LeafType::Character(_) | LeafType::Varying(_) => text_stored(alloc, notes, place, value),
-        LeafType::Bit => bit_stored(alloc, notes, place, value),
-        LeafType::Pointer => pointer_stored(alloc, notes, place, value),
-        LeafType::Offset(area) => offset_stored(alloc, notes, area, place, value),
-        LeafType::Area(_) => Ok(none_stored(notes, place, value)),
+        LeafType::Fixed(precision) => number_stored(notes, precision, place, value),
+        LeafType::Character(_) | LeafType::Varying(_) => text_stored(notes, place, value),
+        LeafType::Bit => bit_stored(notes, place, value),
+        LeafType::Pointer => pointer_stored(notes, place, value),
+        LeafType::Offset(area) => offset_stored(notes, area, place, value),
+        LeafType::Area(_) => none_stored(notes, place, value),
     }
 }
 
@@ -146,7 +128,7 @@ pub fn operand_stored<'a>(
 {
     let place = operand.place;
     let value = operand_value(alloc, notes, operand)?;
-    stored_as(alloc, notes, kind, place, value)
+    Ok(stored_as(notes, kind, place, value))
 }
 
 /// Stands in for a variable.

@@ -32,7 +32,7 @@ fn number_in<'a>(
 {
     Ok(Value::Number {
         precision,
-        value: Number::In(Box::new(alloc, reference)?),
+        value: Box::new(alloc, Number::In(Box::new(alloc, reference)?))?,
     })
 }
 
@@ -40,21 +40,24 @@ fn number_in<'a>(
 fn text_in<'a>(alloc: Global, reference: Reference<'a>) -> Result<Value<'a>, AllocError>
     ensures { IfOk result (λ v. value_of v ≡ Y.TextValue (Y.TextIn (reference_of reference.entry))) }
 {
-    Ok(Value::Text(Text::In(Box::new(alloc, reference)?)))
+    let text = Text::In(Box::new(alloc, reference)?);
+    Ok(Value::Text(Box::new(alloc, text)?))
 }
 
 #[tactic(auto, unfolding(pli_typing::specs::TypedView::bit_of))]
 fn bit_in<'a>(alloc: Global, reference: Reference<'a>) -> Result<Value<'a>, AllocError>
     ensures { IfOk result (λ v. value_of v ≡ Y.BitValue (Y.BitIn (reference_of reference.entry))) }
 {
-    Ok(Value::Bit(Bit::In(Box::new(alloc, reference)?)))
+    let bit = Bit::In(Box::new(alloc, reference)?);
+    Ok(Value::Bit(Box::new(alloc, bit)?))
 }
 
 #[tactic(auto, unfolding(pli_typing::specs::TypedView::pointer_of))]
 fn pointer_in<'a>(alloc: Global, reference: Reference<'a>) -> Result<Value<'a>, AllocError>
     ensures { IfOk result (λ v. value_of v ≡ Y.PointerValue (Y.PointerIn (reference_of reference.entry))) }
 {
-    Ok(Value::Pointer(Pointer::In(Box::new(alloc, reference)?)))
+    let pointer = Pointer::In(Box::new(alloc, reference)?);
+    Ok(Value::Pointer(Box::new(alloc, pointer)?))
 }
 
 #[tactic(auto, unfolding(pli_typing::specs::TypedView::offset_of))]
@@ -67,7 +70,7 @@ fn offset_in<'a>(
 {
     Ok(Value::Offset {
         area,
-        value: Offset::In(Box::new(alloc, reference)?),
+        value: Box::new(alloc, Offset::In(Box::new(alloc, reference)?))?,
     })
 }
 
@@ -98,12 +101,13 @@ fn number_from<'a, 't>(
 ) -> Result<Referent<'t, 'a>, AllocError>
     ensures { IfOk result (λ r. referent_of r ≡ C.Gives (Y.NumberValue precision (Y.NumberFrom (Y.Calling callee.procedure callee.level (arguments_of arguments.entry))))) }
 {
+    let value = Number::From {
+        callee,
+        arguments: Box::new(alloc, arguments)?,
+    };
     Ok(Referent::Gives(Value::Number {
         precision,
-        value: Number::From {
-            callee,
-            arguments: Box::new(alloc, arguments)?,
-        },
+        value: Box::new(alloc, value)?,
     }))
 }
 
@@ -115,10 +119,11 @@ fn text_from<'a, 't>(
 ) -> Result<Referent<'t, 'a>, AllocError>
     ensures { IfOk result (λ r. referent_of r ≡ C.Gives (Y.TextValue (Y.TextFrom (Y.Calling callee.procedure callee.level (arguments_of arguments.entry))))) }
 {
-    Ok(Referent::Gives(Value::Text(Text::From {
+    let text = Text::From {
         callee,
         arguments: Box::new(alloc, arguments)?,
-    })))
+    };
+    Ok(Referent::Gives(Value::Text(Box::new(alloc, text)?)))
 }
 
 #[tactic(auto, unfolding(pli_typing::specs::TypedView::bit_of))]
@@ -129,10 +134,11 @@ fn bit_from<'a, 't>(
 ) -> Result<Referent<'t, 'a>, AllocError>
     ensures { IfOk result (λ r. referent_of r ≡ C.Gives (Y.BitValue (Y.BitFrom (Y.Calling callee.procedure callee.level (arguments_of arguments.entry))))) }
 {
-    Ok(Referent::Gives(Value::Bit(Bit::From {
+    let bit = Bit::From {
         callee,
         arguments: Box::new(alloc, arguments)?,
-    })))
+    };
+    Ok(Referent::Gives(Value::Bit(Box::new(alloc, bit)?)))
 }
 
 #[tactic(auto, unfolding(pli_typing::specs::TypedView::pointer_of))]
@@ -143,10 +149,11 @@ fn pointer_from<'a, 't>(
 ) -> Result<Referent<'t, 'a>, AllocError>
     ensures { IfOk result (λ r. referent_of r ≡ C.Gives (Y.PointerValue (Y.PointerFrom (Y.Calling callee.procedure callee.level (arguments_of arguments.entry))))) }
 {
-    Ok(Referent::Gives(Value::Pointer(Pointer::From {
+    let pointer = Pointer::From {
         callee,
         arguments: Box::new(alloc, arguments)?,
-    })))
+    };
+    Ok(Referent::Gives(Value::Pointer(Box::new(alloc, pointer)?)))
 }
 
 #[tactic(auto, unfolding(pli_typing::specs::TypedView::offset_of))]
@@ -158,12 +165,13 @@ fn offset_from<'a, 't>(
 ) -> Result<Referent<'t, 'a>, AllocError>
     ensures { IfOk result (λ r. referent_of r ≡ C.Gives (Y.OffsetValue (area_of area) (Y.OffsetFrom (Y.Calling callee.procedure callee.level (arguments_of arguments.entry))))) }
 {
+    let value = Offset::From {
+        callee,
+        arguments: Box::new(alloc, arguments)?,
+    };
     Ok(Referent::Gives(Value::Offset {
         area,
-        value: Offset::From {
-            callee,
-            arguments: Box::new(alloc, arguments)?,
-        },
+        value: Box::new(alloc, value)?,
     }))
 }
 
@@ -284,7 +292,7 @@ pub fn number_operand<'a>(
 {
     let place = operand.place;
     let value = operand_value(alloc, notes, operand)?;
-    number_wanted(alloc, notes, place, value)
+    Ok(number_wanted(notes, place, value))
 }
 
 /// An operand that is a text.
@@ -299,7 +307,7 @@ pub fn text_operand<'a>(
 {
     let place = operand.place;
     let value = operand_value(alloc, notes, operand)?;
-    text_wanted(alloc, notes, place, value)
+    Ok(text_wanted(notes, place, value))
 }
 
 /// An operand that is a bit, and isn't converted.
@@ -329,5 +337,5 @@ pub fn pointer_operand<'a>(
 {
     let place = operand.place;
     let value = operand_value(alloc, notes, operand)?;
-    pointer_wanted(alloc, notes, place, value)
+    Ok(pointer_wanted(notes, place, value))
 }

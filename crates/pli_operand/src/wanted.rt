@@ -13,82 +13,74 @@ use crate::notes::Notes;
 use pli_language::expr::Place;
 use pli_language::fault::SourceKind;
 use pli_typing::typed::{Bit, Number, Offset, Pointer, Text, Value, Variable};
-use std::alloc::{AllocError, Global};
 
 #[tactic(auto, unfolding(pli_typing::specs::TypedView::number_of))]
-fn number_of_text<'a>(alloc: Global, text: Text<'a>) -> Result<Option<Number<'a>>, AllocError>
-    ensures { IfOk result (λ x. option_of number_of x ≡ C.number_of (Y.TextValue (text_of text.entry))) }
+fn number_of_text<'a>(text: Box<Text<'a>>) -> Number<'a>
+    ensures { Some (number_of result) ≡ C.number_of (Y.TextValue (text_of text.entry.value)) }
 {
-    Ok(Some(Number::OfText(Box::new(alloc, text)?)))
+    Number::OfText(text)
 }
 
 #[tactic(auto, unfolding(pli_typing::specs::TypedView::number_of))]
-fn number_of_bit<'a>(alloc: Global, bit: Bit<'a>) -> Result<Option<Number<'a>>, AllocError>
-    ensures { IfOk result (λ x. option_of number_of x ≡ C.number_of (Y.BitValue (bit_of bit.entry))) }
+fn number_of_bit<'a>(bit: Box<Bit<'a>>) -> Number<'a>
+    ensures { Some (number_of result) ≡ C.number_of (Y.BitValue (bit_of bit.entry.value)) }
 {
-    Ok(Some(Number::OfBit(Box::new(alloc, bit)?)))
+    Number::OfBit(bit)
 }
 
 /// A value as a number, where it converts to one.
-pub fn number_of<'a>(alloc: Global, value: Value<'a>) -> Result<Option<Number<'a>>, AllocError>
-    ensures { IfOk result (λ n. option_of number_of n ≡ C.number_of (value_of value.entry)) }
+pub fn number_of<'a>(value: Value<'a>) -> Option<Number<'a>>
+    ensures { option_of number_of result ≡ C.number_of (value_of value.entry) }
 {
     match value {
-        Value::Number { value, .. } => Ok(Some(value)),
-        Value::Text(text) => number_of_text(alloc, text),
-        Value::Bit(bit) => number_of_bit(alloc, bit),
-        Value::Pointer(_) | Value::Offset { .. } | Value::Null => Ok(None),
+        Value::Number { value, .. } => Some(Box::into_inner(value)),
+        Value::Text(text) => Some(number_of_text(text)),
+        Value::Bit(bit) => Some(number_of_bit(bit)),
+        Value::Pointer(_) | Value::Offset { .. } | Value::Null => None,
     }
 }
 
 #[tactic(auto, unfolding(pli_typing::specs::TypedView::text_of))]
-fn text_of_number<'a>(
-    alloc: Global,
-    precision: u64,
-    number: Number<'a>,
-) -> Result<Option<Text<'a>>, AllocError>
-    ensures { IfOk result (λ x. option_of text_of x ≡ C.text_of (Y.NumberValue precision (number_of number.entry))) }
+fn text_of_number<'a>(precision: u64, number: Box<Number<'a>>) -> Text<'a>
+    ensures { Some (text_of result) ≡ C.text_of (Y.NumberValue precision (number_of number.entry.value)) }
 {
-    Ok(Some(Text::OfNumber {
-        precision,
-        number: Box::new(alloc, number)?,
-    }))
+    Text::OfNumber { precision, number }
 }
 
 #[tactic(auto, unfolding(pli_typing::specs::TypedView::text_of))]
-fn text_of_bit<'a>(alloc: Global, bit: Bit<'a>) -> Result<Option<Text<'a>>, AllocError>
-    ensures { IfOk result (λ x. option_of text_of x ≡ C.text_of (Y.BitValue (bit_of bit.entry))) }
+fn text_of_bit<'a>(bit: Box<Bit<'a>>) -> Text<'a>
+    ensures { Some (text_of result) ≡ C.text_of (Y.BitValue (bit_of bit.entry.value)) }
 {
-    Ok(Some(Text::OfBit(Box::new(alloc, bit)?)))
+    Text::OfBit(bit)
 }
 
 /// A value as a text, where it converts to one.
-pub fn text_of<'a>(alloc: Global, value: Value<'a>) -> Result<Option<Text<'a>>, AllocError>
-    ensures { IfOk result (λ t. option_of text_of t ≡ C.text_of (value_of value.entry)) }
+pub fn text_of<'a>(value: Value<'a>) -> Option<Text<'a>>
+    ensures { option_of text_of result ≡ C.text_of (value_of value.entry) }
 {
     match value {
-        Value::Number { precision, value } => text_of_number(alloc, precision, value),
-        Value::Text(text) => Ok(Some(text)),
-        Value::Bit(bit) => text_of_bit(alloc, bit),
-        Value::Pointer(_) | Value::Offset { .. } | Value::Null => Ok(None),
+        Value::Number { precision, value } => Some(text_of_number(precision, value)),
+        Value::Text(text) => Some(Box::into_inner(text)),
+        Value::Bit(bit) => Some(text_of_bit(bit)),
+        Value::Pointer(_) | Value::Offset { .. } | Value::Null => None,
     }
 }
 
 #[tactic(auto, unfolding(pli_typing::specs::TypedView::bit_of))]
-fn bit_of_text<'a>(alloc: Global, text: Text<'a>) -> Result<Option<Bit<'a>>, AllocError>
-    ensures { IfOk result (λ x. option_of bit_of x ≡ C.bit_of (Y.TextValue (text_of text.entry))) }
+fn bit_of_text<'a>(text: Box<Text<'a>>) -> Bit<'a>
+    ensures { Some (bit_of result) ≡ C.bit_of (Y.TextValue (text_of text.entry.value)) }
 {
-    Ok(Some(Bit::OfText(Box::new(alloc, text)?)))
+    Bit::OfText(text)
 }
 
 /// A value as a bit, where it converts to one.
-pub fn bit_of<'a>(alloc: Global, value: Value<'a>) -> Result<Option<Bit<'a>>, AllocError>
-    ensures { IfOk result (λ b. option_of bit_of b ≡ C.bit_of (value_of value.entry)) }
+pub fn bit_of<'a>(value: Value<'a>) -> Option<Bit<'a>>
+    ensures { option_of bit_of result ≡ C.bit_of (value_of value.entry) }
 {
     match value {
-        Value::Bit(bit) => Ok(Some(bit)),
-        Value::Text(text) => bit_of_text(alloc, text),
-        Value::Number { .. } | Value::Pointer(_) | Value::Offset { .. } | Value::Null => Ok(None),
+        Value::Bit(bit) => Some(Box::into_inner(bit)),
+        Value::Text(text) => Some(bit_of_text(text)),
+        Value::Number { .. } | Value::Pointer(_) | Value::Offset { .. } | Value::Null => None,
     }
 }
 
@@ -97,7 +89,7 @@ pub fn only_bit<'a>(value: Value<'a>) -> Option<Bit<'a>>
     ensures { option_of bit_of result ≡ C.only_bit (value_of value.entry) }
 {
     match value {
-        Value::Bit(bit) => Some(bit),
+        Value::Bit(bit) => Some(Box::into_inner(bit)),
         Value::Number { .. }
         | Value::Text(_)
         | Value::Pointer(_)
@@ -107,86 +99,60 @@ pub fn only_bit<'a>(value: Value<'a>) -> Option<Bit<'a>>
 }
 
 #[tactic(auto, unfolding(pli_typing::specs::TypedView::pointer_of))]
-fn pointer_into<'a>(
-    alloc: Global,
-    area: Variable,
-    offset: Offset<'a>,
-) -> Result<Option<Pointer<'a>>, AllocError>
-    ensures { IfOk result (λ p. option_of pointer_of p ≡ C.pointer_of (Y.OffsetValue (area_of (Some area)) (offset_of offset.entry))) }
+fn pointer_into<'a>(area: Variable, offset: Box<Offset<'a>>) -> Pointer<'a>
+    ensures { Some (pointer_of result) ≡ C.pointer_of (Y.OffsetValue (area_of (Some area)) (offset_of offset.entry.value)) }
 {
-    Ok(Some(Pointer::Into {
-        offset: Box::new(alloc, offset)?,
-        area,
-    }))
+    Pointer::Into { offset, area }
 }
 
-fn pointer_of_offset<'a>(
-    alloc: Global,
-    area: Option<Variable>,
-    offset: Offset<'a>,
-) -> Result<Option<Pointer<'a>>, AllocError>
-    ensures { IfOk result (λ p. option_of pointer_of p ≡ C.pointer_of (Y.OffsetValue (area_of area) (offset_of offset.entry))) }
+fn pointer_of_offset<'a>(area: Option<Variable>, offset: Box<Offset<'a>>) -> Option<Pointer<'a>>
+    ensures { option_of pointer_of result ≡ C.pointer_of (Y.OffsetValue (area_of area) (offset_of offset.entry.value)) }
 {
     match area {
-        Some(area) => pointer_into(alloc, area, offset),
-        None => Ok(None),
+        Some(area) => Some(pointer_into(area, offset)),
+        None => None,
     }
 }
 
 /// A value as a POINTER, where it converts to one.
 #[tactic(auto, unfolding(pli_typing::specs::TypedView::pointer_of))]
-pub fn pointer_of<'a>(alloc: Global, value: Value<'a>) -> Result<Option<Pointer<'a>>, AllocError>
-    ensures { IfOk result (λ p. option_of pointer_of p ≡ C.pointer_of (value_of value.entry)) }
+pub fn pointer_of<'a>(value: Value<'a>) -> Option<Pointer<'a>>
+    ensures { option_of pointer_of result ≡ C.pointer_of (value_of value.entry) }
 {
     match value {
-        Value::Pointer(pointer) => Ok(Some(pointer)),
-        Value::Offset { area, value } => pointer_of_offset(alloc, area, value),
-        Value::Null => Ok(Some(Pointer::Null)),
-        Value::Number { .. } | Value::Text(_) | Value::Bit(_) => Ok(None),
+        Value::Pointer(pointer) => Some(Box::into_inner(pointer)),
+        Value::Offset { area, value } => pointer_of_offset(area, value),
+        Value::Null => Some(Pointer::Null),
+        Value::Number { .. } | Value::Text(_) | Value::Bit(_) => None,
     }
 }
 
 #[tactic(auto, unfolding(pli_typing::specs::TypedView::offset_of))]
-fn offset_into<'a>(
-    alloc: Global,
-    area: Variable,
-    pointer: Pointer<'a>,
-) -> Result<Option<Offset<'a>>, AllocError>
-    ensures { IfOk result (λ o. option_of offset_of o ≡ C.offset_of (area_of (Some area)) (Y.PointerValue (pointer_of pointer.entry))) }
+fn offset_into<'a>(area: Variable, pointer: Box<Pointer<'a>>) -> Offset<'a>
+    ensures { Some (offset_of result) ≡ C.offset_of (area_of (Some area)) (Y.PointerValue (pointer_of pointer.entry.value)) }
 {
-    Ok(Some(Offset::Into {
-        pointer: Box::new(alloc, pointer)?,
-        area,
-    }))
+    Offset::Into { pointer, area }
 }
 
-fn offset_of_pointer<'a>(
-    alloc: Global,
-    area: Option<Variable>,
-    pointer: Pointer<'a>,
-) -> Result<Option<Offset<'a>>, AllocError>
-    ensures { IfOk result (λ o. option_of offset_of o ≡ C.offset_of (area_of area) (Y.PointerValue (pointer_of pointer.entry))) }
+fn offset_of_pointer<'a>(area: Option<Variable>, pointer: Box<Pointer<'a>>) -> Option<Offset<'a>>
+    ensures { option_of offset_of result ≡ C.offset_of (area_of area) (Y.PointerValue (pointer_of pointer.entry.value)) }
 {
     match area {
-        Some(area) => offset_into(alloc, area, pointer),
-        None => Ok(None),
+        Some(area) => Some(offset_into(area, pointer)),
+        None => None,
     }
 }
 
 /// A value as an OFFSET that is declared with this area, where it converts to one.
 #[tactic(auto, unfolding(pli_typing::specs::TypedView::offset_of))]
-pub fn offset_of<'a>(
-    alloc: Global,
-    area: Option<Variable>,
-    value: Value<'a>,
-) -> Result<Option<Offset<'a>>, AllocError>
-    ensures { IfOk result (λ o. option_of offset_of o ≡ C.offset_of (area_of area) (value_of value.entry)) }
+pub fn offset_of<'a>(area: Option<Variable>, value: Value<'a>) -> Option<Offset<'a>>
+    ensures { option_of offset_of result ≡ C.offset_of (area_of area) (value_of value.entry) }
 {
     match value {
-        Value::Offset { value, .. } => Ok(Some(value)),
-        Value::Null => Ok(Some(Offset::Null)),
-        Value::Pointer(pointer) => offset_of_pointer(alloc, area, pointer),
-        Value::Number { .. } | Value::Text(_) | Value::Bit(_) => Ok(None),
+        Value::Offset { value, .. } => Some(Box::into_inner(value)),
+        Value::Null => Some(Offset::Null),
+        Value::Pointer(pointer) => offset_of_pointer(area, pointer),
+        Value::Number { .. } | Value::Text(_) | Value::Bit(_) => None,
     }
 }
 
@@ -279,61 +245,37 @@ pub fn offset_or_mismatch<'a>(
 
 /// A number where one is wanted.
 #[tactic(auto, using(crate::proofs::Noting::noting), unfolding(pli_typing::specs::TypedView::number_of))]
-pub fn number_wanted<'a>(
-    alloc: Global,
-    notes: &mut Notes,
-    place: Place,
-    value: Option<Value<'a>>,
-) -> Result<Number<'a>, AllocError>
-    ensures noted { OnOk result (notes_of notes.new ≡ noted (notes_of notes.old) (C.number_wanted place (option_of value_of value.entry))) }
-    ensures value { IfOk result (λ x. number_of x ≡ (C.number_wanted place (option_of value_of value.entry)).value) }
+pub fn number_wanted<'a>(notes: &mut Notes, place: Place, value: Option<Value<'a>>) -> Number<'a>
+    ensures noted { notes_of notes.new ≡ noted (notes_of notes.old) (C.number_wanted place (option_of value_of value.entry)) }
+    ensures value { number_of result ≡ (C.number_wanted place (option_of value_of value.entry)).value }
 {
     match value {
-        None => Ok(Number::Constant(0)),
-        Some(value) => {
-            let found = number_of(alloc, value)?;
-            Ok(number_or_mismatch(notes, place, found))
-        }
+        None => Number::Constant(0),
+        Some(value) => number_or_mismatch(notes, place, number_of(value)),
     }
 }
 
 /// A text where one is wanted.
 #[tactic(auto, using(crate::proofs::Noting::noting), unfolding(pli_typing::specs::TypedView::text_of))]
-pub fn text_wanted<'a>(
-    alloc: Global,
-    notes: &mut Notes,
-    place: Place,
-    value: Option<Value<'a>>,
-) -> Result<Text<'a>, AllocError>
-    ensures noted { OnOk result (notes_of notes.new ≡ noted (notes_of notes.old) (C.text_wanted place (option_of value_of value.entry))) }
-    ensures value { IfOk result (λ x. text_of x ≡ (C.text_wanted place (option_of value_of value.entry)).value) }
+pub fn text_wanted<'a>(notes: &mut Notes, place: Place, value: Option<Value<'a>>) -> Text<'a>
+    ensures noted { notes_of notes.new ≡ noted (notes_of notes.old) (C.text_wanted place (option_of value_of value.entry)) }
+    ensures value { text_of result ≡ (C.text_wanted place (option_of value_of value.entry)).value }
 {
     match value {
-        None => Ok(Text::Constant(&[])),
-        Some(value) => {
-            let found = text_of(alloc, value)?;
-            Ok(text_or_mismatch(notes, place, found))
-        }
+        None => Text::Constant(&[]),
+        Some(value) => text_or_mismatch(notes, place, text_of(value)),
     }
 }
 
 /// A bit where one is wanted.
 #[tactic(auto, using(crate::proofs::Noting::noting), unfolding(pli_typing::specs::TypedView::bit_of))]
-pub fn bit_wanted<'a>(
-    alloc: Global,
-    notes: &mut Notes,
-    place: Place,
-    value: Option<Value<'a>>,
-) -> Result<Bit<'a>, AllocError>
-    ensures noted { OnOk result (notes_of notes.new ≡ noted (notes_of notes.old) (C.bit_wanted place (option_of value_of value.entry))) }
-    ensures value { IfOk result (λ x. bit_of x ≡ (C.bit_wanted place (option_of value_of value.entry)).value) }
+pub fn bit_wanted<'a>(notes: &mut Notes, place: Place, value: Option<Value<'a>>) -> Bit<'a>
+    ensures noted { notes_of notes.new ≡ noted (notes_of notes.old) (C.bit_wanted place (option_of value_of value.entry)) }
+    ensures value { bit_of result ≡ (C.bit_wanted place (option_of value_of value.entry)).value }
 {
     match value {
-        None => Ok(Bit::Constant(false)),
-        Some(value) => {
-            let found = bit_of(alloc, value)?;
-            Ok(bit_or_mismatch(notes, place, found))
-        }
+        None => Bit::Constant(false),
+        Some(value) => bit_or_mismatch(notes, place, bit_of(value)),
     }
 }
 
@@ -366,56 +308,39 @@ fn area_mentioned(notes: &mut Notes, value: &Option<Value>)
 }
 
 #[tactic(auto, using(crate::proofs::Noting::noting), unfolding(pli_typing::specs::TypedView::pointer_of))]
-fn pointer_converted<'a>(
-    alloc: Global,
-    notes: &mut Notes,
-    place: Place,
-    value: Option<Value<'a>>,
-) -> Result<Pointer<'a>, AllocError>
-    ensures noted { OnOk result (notes_of notes.new ≡ noted (notes_of notes.old) (C.wanted C.pointer_of Y.NullPointer place (option_of value_of value.entry))) }
-    ensures value { IfOk result (λ p. pointer_of p ≡ (C.wanted C.pointer_of Y.NullPointer place (option_of value_of value.entry)).value) }
+fn pointer_converted<'a>(notes: &mut Notes, place: Place, value: Option<Value<'a>>) -> Pointer<'a>
+    ensures noted { notes_of notes.new ≡ noted (notes_of notes.old) (C.wanted C.pointer_of Y.NullPointer place (option_of value_of value.entry)) }
+    ensures value { pointer_of result ≡ (C.wanted C.pointer_of Y.NullPointer place (option_of value_of value.entry)).value }
 {
     match value {
-        None => Ok(Pointer::Null),
-        Some(value) => {
-            let found = pointer_of(alloc, value)?;
-            Ok(pointer_or_mismatch(notes, place, found))
-        }
+        None => Pointer::Null,
+        Some(value) => pointer_or_mismatch(notes, place, pointer_of(value)),
     }
 }
 
 /// A POINTER where one is wanted.
 #[tactic(auto, using(crate::proofs::Noting::noting))]
-pub fn pointer_wanted<'a>(
-    alloc: Global,
-    notes: &mut Notes,
-    place: Place,
-    value: Option<Value<'a>>,
-) -> Result<Pointer<'a>, AllocError>
-    ensures noted { OnOk result (notes_of notes.new ≡ noted (notes_of notes.old) (C.pointer_wanted place (option_of value_of value.entry))) }
-    ensures value { IfOk result (λ p. pointer_of p ≡ (C.pointer_wanted place (option_of value_of value.entry)).value) }
+pub fn pointer_wanted<'a>(notes: &mut Notes, place: Place, value: Option<Value<'a>>) -> Pointer<'a>
+    ensures noted { notes_of notes.new ≡ noted (notes_of notes.old) (C.pointer_wanted place (option_of value_of value.entry)) }
+    ensures value { pointer_of result ≡ (C.pointer_wanted place (option_of value_of value.entry)).value }
 {
     area_mentioned(notes, &value);
-    pointer_converted(alloc, notes, place, value)
+    pointer_converted(notes, place, value)
 }
 
 /// An OFFSET that is declared with this area, where one is wanted.
 #[tactic(auto, using(crate::proofs::Noting::noting), unfolding(pli_typing::specs::TypedView::offset_of))]
 pub fn offset_wanted<'a>(
-    alloc: Global,
     notes: &mut Notes,
     area: Option<Variable>,
     place: Place,
     value: Option<Value<'a>>,
-) -> Result<Offset<'a>, AllocError>
-    ensures noted { OnOk result (notes_of notes.new ≡ noted (notes_of notes.old) (C.offset_wanted (area_of area) place (option_of value_of value.entry))) }
-    ensures value { IfOk result (λ o. offset_of o ≡ (C.offset_wanted (area_of area) place (option_of value_of value.entry)).value) }
+) -> Offset<'a>
+    ensures noted { notes_of notes.new ≡ noted (notes_of notes.old) (C.offset_wanted (area_of area) place (option_of value_of value.entry)) }
+    ensures value { offset_of result ≡ (C.offset_wanted (area_of area) place (option_of value_of value.entry)).value }
 {
     match value {
-        None => Ok(Offset::Null),
-        Some(value) => {
-            let found = offset_of(alloc, area, value)?;
-            Ok(offset_or_mismatch(notes, place, found))
-        }
+        None => Offset::Null,
+        Some(value) => offset_or_mismatch(notes, place, offset_of(area, value)),
     }
 }

@@ -52,9 +52,8 @@ abbrev pub undeclared_referent : Name → Y.Locator → List Named → Judged Re
 undeclared_referent first located names =
     if is_builtin_name names then builtin_referent first.place first.word located names else broken first.place Undeclared NotKnown
 
--- an operator between two expressions
-abbrev pub infix_of : Scope → InfixOp → Expr → Expr → Judged Referent
-infix_of scope op l r = do
-  a ← operand scope l
+-- an operator between an operand and an expression
+abbrev pub infix_of : Scope → InfixOp → Operand → Expr → Judged Referent
+infix_of scope op a r = do
   b ← operand scope r
   infixed op a b

@@ -1,6 +1,9 @@
 // Expressions and references, judged.
+//
+// Operators and locators may stand thousands in a row, so a chain of them is gone down by a loop that keeps what waits, and not by
+// calls; what stands in parentheses is judged by calls, since the parentheses are bounded.
 
-ghost use Rattle.std.specs.Prelude.{◌≡◌, ◌++◌, map, IfOk, OnOk};
+ghost use Rattle.std.specs.Prelude.{◌≡◌, map, IfOk, OnOk};
 ghost use Rattle.pli_typing.specs.Converting as C;
 ghost use Rattle.pli_typing.specs.References as R;
 ghost use Rattle.pli_typing.specs.TypedTree as Y;
@@ -10,11 +13,14 @@ ghost use Rattle.pli_operand.specs.Notes.{noted};
 ghost use Rattle.pli_operand.specs.Shown.{notes_of, operand_of, referent_of};
 ghost use Rattle.pli_reference.specs.Parts.{infix_of};
 ghost use Rattle.pli_reference.specs.Shown.{named_of, scope_of};
+ghost use Rattle.pli_reference.specs.ShownWaiting.{waiting_of};
+ghost use Rattle.pli_reference.specs.Waiting.{followed, resumed};
 
 use crate::found::names_referent;
 use crate::locator::written_locator;
 use crate::names::Named;
 use crate::scope::Scope;
+use crate::waiting::{LocatorChain, OperatorChain, Waiting, locator_chain, operator_chain};
 use pli_builtin::operator::{infixed, prefixed};
 use pli_declaring::constant::{constant, place_of, place_of_reference};
 use pli_language::expr::{Arguments, Expr, Exprs, InfixOp, Qualified, Reference};
@@ -26,27 +32,27 @@ use std::alloc::{AllocError, Global};
 
 /// A constant's value: operators and constants have 31 digits.
 #[tactic(auto, unfolding(pli_typing::specs::TypedView::number_of))]
-fn number_given<'t, 'a>(value: u64) -> Referent<'t, 'a>
-    ensures { referent_of result ≡ C.Gives (Y.NumberValue C.operator_digits (Y.NumberConstant value)) }
+fn number_given<'t, 'a>(alloc: Global, value: u64) -> Result<Referent<'t, 'a>, AllocError>
+    ensures { IfOk result (λ r. referent_of r ≡ C.Gives (Y.NumberValue C.operator_digits (Y.NumberConstant value))) }
 {
-    Referent::Gives(Value::Number {
+    Ok(Referent::Gives(Value::Number {
         precision: 31,
-        value: Number::Constant(value),
-    })
+        value: Box::new(alloc, Number::Constant(value))?,
+    }))
 }
 
 #[tactic(auto, unfolding(pli_typing::specs::TypedView::text_of))]
-fn text_given<'t, 'a>(value: &'a [u8]) -> Referent<'t, 'a>
-    ensures { referent_of result ≡ C.Gives (Y.TextValue (Y.TextConstant value.now)) }
+fn text_given<'t, 'a>(alloc: Global, value: &'a [u8]) -> Result<Referent<'t, 'a>, AllocError>
+    ensures { IfOk result (λ r. referent_of r ≡ C.Gives (Y.TextValue (Y.TextConstant value.now))) }
 {
-    Referent::Gives(Value::Text(Text::Constant(value)))
+    Ok(Referent::Gives(Value::Text(Box::new(alloc, Text::Constant(value))?)))
 }
 
 #[tactic(auto, unfolding(pli_typing::specs::TypedView::bit_of))]
-fn bit_given<'t, 'a>(value: bool) -> Referent<'t, 'a>
-    ensures { referent_of result ≡ C.Gives (Y.BitValue (Y.BitConstant value)) }
+fn bit_given<'t, 'a>(alloc: Global, value: bool) -> Result<Referent<'t, 'a>, AllocError>
+    ensures { IfOk result (λ r. referent_of r ≡ C.Gives (Y.BitValue (Y.BitConstant value))) }
 {
-    Referent::Gives(Value::Bit(Bit::Constant(value)))
+    Ok(Referent::Gives(Value::Bit(Box::new(alloc, Bit::Constant(value))?)))
 }
 
 /// A value that may not be known.
@@ -59,10 +65,10 @@ fn given<'t, 'a>(value: Option<Value<'a>>) -> Referent<'t, 'a>
     }
 }
 
-/// What an expression comes to.
+/// What an expression comes to, by its last operator.
 #[cycle(walk)]
 #[tactic(auto, using(crate::proofs::Walks::walks))]
-pub fn expression<'t, 'a>(
+fn expression<'t, 'a>(
     alloc: Global,
     scope: Scope<'t, '_, 'a>,
     notes: &mut Notes,
@@ -72,9 +78,9 @@ pub fn expression<'t, 'a>(
     ensures value { IfOk result (λ r. referent_of r ≡ (R.expression (scope_of scope.entry) (expr_of expr.now)).value) }
 {
     match expr {
-        Expr::Number { value, .. } => Ok(number_given(*value)),
-        Expr::Text { value, .. } => Ok(text_given(value)),
-        Expr::Bit { value, .. } => Ok(bit_given(*value)),
+        Expr::Number { value, .. } => Ok(number_given(alloc, *value)?),
+        Expr::Text { value, .. } => Ok(text_given(alloc, value)?),
+        Expr::Bit { value, .. } => Ok(bit_given(alloc, *value)?),
         Expr::Parenthesized { inner, .. } => {
             let inner = operand(alloc, scope, notes, inner)?;
             Ok(given(operand_value(alloc, notes, inner)?))
@@ -87,12 +93,15 @@ pub fn expression<'t, 'a>(
             let inner = operand(alloc, scope, notes, inner)?;
             Ok(prefixed(alloc, notes, *op, inner)?)
         }
-        Expr::Infix { op, left, right } => infix(alloc, scope, notes, *op, left, right),
-        Expr::Refers(target) => reference(alloc, scope, notes, target),
+        Expr::Infix { op, left, right } => {
+            let left = operand(alloc, scope, notes, left)?;
+            Ok(infix(alloc, scope, notes, *op, left, right)?)
+        }
+        Expr::Refers(target) => Ok(referred(alloc, scope, notes, target)?.referent),
     }
 }
 
-/// An operator between two expressions.
+/// An operator between an operand and an expression.
 #[cycle(walk)]
 #[tactic(auto, using(crate::proofs::Walks::walks))]
 fn infix<'t, 'a>(
@@ -100,20 +109,19 @@ fn infix<'t, 'a>(
     scope: Scope<'t, '_, 'a>,
     notes: &mut Notes,
     op: InfixOp,
-    left: &'a Expr,
+    left: Operand<'t, 'a>,
     right: &'a Expr,
 ) -> Result<Referent<'t, 'a>, AllocError>
-    ensures noted { OnOk result (notes_of notes.new ≡ noted (notes_of notes.old) (infix_of (scope_of scope.entry) op (expr_of left.now) (expr_of right.now))) }
-    ensures value { IfOk result (λ r. referent_of r ≡ (infix_of (scope_of scope.entry) op (expr_of left.now) (expr_of right.now)).value) }
+    ensures noted { OnOk result (notes_of notes.new ≡ noted (notes_of notes.old) (infix_of (scope_of scope.entry) op (operand_of left.entry) (expr_of right.now))) }
+    ensures value { IfOk result (λ r. referent_of r ≡ (infix_of (scope_of scope.entry) op (operand_of left.entry) (expr_of right.now)).value) }
 {
-    let left = operand(alloc, scope, notes, left)?;
     let right = operand(alloc, scope, notes, right)?;
     infixed(alloc, notes, op, left, right)
 }
 
 /// An expression as an operand.
 #[cycle(walk)]
-#[tactic(auto, using(crate::proofs::Walks::walks))]
+#[tactic(auto, using(crate::proofs::Walks::walks, crate::proofs::ShownWaits::chains))]
 pub fn operand<'t, 'a>(
     alloc: Global,
     scope: Scope<'t, '_, 'a>,
@@ -123,43 +131,51 @@ pub fn operand<'t, 'a>(
     ensures noted { OnOk result (notes_of notes.new ≡ noted (notes_of notes.old) (R.operand (scope_of scope.entry) (expr_of expr.now))) }
     ensures value { IfOk result (λ o. operand_of o ≡ (R.operand (scope_of scope.entry) (expr_of expr.now)).value) }
 {
-    let referent = expression(alloc, scope, notes, expr)?;
-    Ok(Operand {
-        place: place_of(expr),
-        constant: constant(expr),
+    let OperatorChain { waiting, first } = operator_chain(alloc, expr)?;
+    let referent = expression(alloc, scope, notes, first)?;
+    let first = Operand {
+        place: place_of(first),
+        constant: constant(first),
         referent,
-    })
+    };
+    Ok(resumed(alloc, scope, notes, waiting, first)?)
 }
 
-/// What a reference comes to.
+/// What operators, the outermost first, make of the operand that they wait for.
 #[cycle(walk)]
-#[tactic(auto, using(crate::proofs::Walks::walks))]
-pub fn reference<'t, 'a>(
+#[tactic(auto, using(crate::proofs::Walks::walks, crate::proofs::ShownWaits::chains))]
+fn resumed<'t, 'a>(
     alloc: Global,
     scope: Scope<'t, '_, 'a>,
     notes: &mut Notes,
-    target: &'a Reference,
-) -> Result<Referent<'t, 'a>, AllocError>
-    ensures noted { OnOk result (notes_of notes.new ≡ noted (notes_of notes.old) (R.reference (scope_of scope.entry) (reference_of target.now))) }
-    ensures value { IfOk result (λ r. referent_of r ≡ (R.reference (scope_of scope.entry) (reference_of target.now)).value) }
+    waiting: Vec<Waiting<'a>>,
+    first: Operand<'t, 'a>,
+) -> Result<Operand<'t, 'a>, AllocError>
+    ensures noted { OnOk result (notes_of notes.new ≡ noted (notes_of notes.old) (resumed (scope_of scope.entry) (map waiting_of waiting.entry.items) (operand_of first.entry))) }
+    ensures value { IfOk result (λ o. operand_of o ≡ (resumed (scope_of scope.entry) (map waiting_of waiting.entry.items) (operand_of first.entry)).value) }
 {
-    match target {
-        Reference::Plain(qualified) => {
-            let names = names_in(alloc, scope, notes, qualified)?;
-            Ok(names_referent(alloc, scope, notes, None, names)?)
-        }
-        Reference::Located { locator, target } => {
-            let operand = referred(alloc, scope, notes, locator)?;
-            let locator = written_locator(alloc, notes, operand)?;
-            let names = names_in(alloc, scope, notes, target)?;
-            Ok(names_referent(alloc, scope, notes, locator, names)?)
-        }
+    let mut waiting = waiting;
+    let mut taken = first;
+    'operators: while let Some(operator) = waiting.pop() {
+        taken = match operator {
+            Waiting::Prefix { op, whole } => Operand {
+                place: place_of(whole),
+                constant: constant(whole),
+                referent: prefixed(alloc, notes, op, taken)?,
+            },
+            Waiting::Infix { op, right } => Operand {
+                place: taken.place,
+                constant: None,
+                referent: infix(alloc, scope, notes, op, taken, right)?,
+            },
+        };
     }
+    Ok(taken)
 }
 
 /// A reference as an operand.
 #[cycle(walk)]
-#[tactic(auto, using(crate::proofs::Walks::walks))]
+#[tactic(auto, using(crate::proofs::Walks::walks, crate::proofs::ShownWaits::chains))]
 pub fn referred<'t, 'a>(
     alloc: Global,
     scope: Scope<'t, '_, 'a>,
@@ -169,12 +185,42 @@ pub fn referred<'t, 'a>(
     ensures noted { OnOk result (notes_of notes.new ≡ noted (notes_of notes.old) (R.referred (scope_of scope.entry) (reference_of target.now))) }
     ensures value { IfOk result (λ o. operand_of o ≡ (R.referred (scope_of scope.entry) (reference_of target.now)).value) }
 {
-    let referent = reference(alloc, scope, notes, target)?;
-    Ok(Operand {
+    let LocatorChain { located, names } = locator_chain(alloc, target)?;
+    let names = names_in(alloc, scope, notes, names)?;
+    let first = Operand {
         place: place_of_reference(target),
         constant: None,
-        referent,
-    })
+        referent: names_referent(alloc, scope, notes, None, names)?,
+    };
+    Ok(followed(alloc, scope, notes, located, first)?)
+}
+
+/// What names, the last of them first, come to behind the locator that they wait for.
+#[cycle(walk)]
+#[tactic(auto, using(crate::proofs::Walks::walks, crate::proofs::ShownWaits::chains))]
+fn followed<'t, 'a>(
+    alloc: Global,
+    scope: Scope<'t, '_, 'a>,
+    notes: &mut Notes,
+    located: Vec<&'a Qualified>,
+    first: Operand<'t, 'a>,
+) -> Result<Operand<'t, 'a>, AllocError>
+    ensures noted { OnOk result (notes_of notes.new ≡ noted (notes_of notes.old) (followed (scope_of scope.entry) (map (λ q. qualified_of q.now) located.entry.items) (operand_of first.entry))) }
+    ensures value { IfOk result (λ o. operand_of o ≡ (followed (scope_of scope.entry) (map (λ q. qualified_of q.now) located.entry.items) (operand_of first.entry)).value) }
+{
+    let mut located = located;
+    let mut taken = first;
+    'locators: while let Some(target) = located.pop() {
+        let place = taken.place;
+        let locator = written_locator(alloc, notes, taken)?;
+        let names = names_in(alloc, scope, notes, target)?;
+        taken = Operand {
+            place,
+            constant: None,
+            referent: names_referent(alloc, scope, notes, locator, names)?,
+        };
+    }
+    Ok(taken)
 }
 
 /// The names of a reference.
@@ -190,36 +236,23 @@ fn names_in<'t, 'a>(
     ensures value { IfOk result (λ v. map named_of v.items ≡ (R.qualified (scope_of scope.entry) (qualified_of qualified.now)).value) }
 {
     let mut out = Vec::new(alloc);
-    put_names(alloc, scope, notes, &mut out, qualified)?;
-    Ok(out)
-}
-
-/// The names of a reference, behind others.
-#[cycle(walk)]
-#[tactic(auto, using(crate::proofs::Walks::walks))]
-fn put_names<'t, 'a>(
-    alloc: Global,
-    scope: Scope<'t, '_, 'a>,
-    notes: &mut Notes,
-    out: &mut Vec<Named<'t, 'a>>,
-    qualified: &'a Qualified,
-) -> Result<(), AllocError>
-    ensures noted { OnOk result (notes_of notes.new ≡ noted (notes_of notes.old) (R.qualified (scope_of scope.entry) (qualified_of qualified.now))) }
-    ensures value { OnOk result (map named_of out.new.items ≡ map named_of out.old.items ++ (R.qualified (scope_of scope.entry) (qualified_of qualified.now)).value) }
-{
-    match qualified {
-        Qualified::Last { name, arguments } => {
-            let arguments = arguments_in(alloc, scope, notes, arguments)?;
-            Ok(out.push(Named { name, arguments })?)
-        }
-        Qualified::Of {
-            name,
-            arguments,
-            rest,
-        } => {
-            let arguments = arguments_in(alloc, scope, notes, arguments)?;
-            out.push(Named { name, arguments })?;
-            put_names(alloc, scope, notes, out, rest)
+    let mut left = qualified;
+    'names: loop {
+        match left {
+            Qualified::Last { name, arguments } => {
+                let arguments = arguments_in(alloc, scope, notes, arguments)?;
+                out.push(Named { name, arguments })?;
+                return Ok(out);
+            }
+            Qualified::Of {
+                name,
+                arguments,
+                rest,
+            } => {
+                let arguments = arguments_in(alloc, scope, notes, arguments)?;
+                out.push(Named { name, arguments })?;
+                left = rest;
+            }
         }
     }
 }
@@ -255,29 +288,10 @@ pub fn expressions<'t, 'a>(
     ensures value { IfOk result (λ v. map operand_of v.items ≡ (R.expressions (scope_of scope.entry) (exprs_of exprs.now)).value) }
 {
     let mut out = Vec::new(alloc);
-    put_expressions(alloc, scope, notes, &mut out, exprs)?;
-    Ok(out)
-}
-
-/// A list of expressions, behind others.
-#[cycle(walk)]
-#[tactic(auto, using(crate::proofs::Walks::walks))]
-fn put_expressions<'t, 'a>(
-    alloc: Global,
-    scope: Scope<'t, '_, 'a>,
-    notes: &mut Notes,
-    out: &mut Vec<Operand<'t, 'a>>,
-    exprs: &'a Exprs,
-) -> Result<(), AllocError>
-    ensures noted { OnOk result (notes_of notes.new ≡ noted (notes_of notes.old) (R.expressions (scope_of scope.entry) (exprs_of exprs.now))) }
-    ensures value { OnOk result (map operand_of out.new.items ≡ map operand_of out.old.items ++ (R.expressions (scope_of scope.entry) (exprs_of exprs.now)).value) }
-{
-    match exprs {
-        Exprs::End => Ok(()),
-        Exprs::More { first, rest } => {
-            let first = operand(alloc, scope, notes, first)?;
-            out.push(first)?;
-            Ok(put_expressions(alloc, scope, notes, out, rest)?)
-        }
+    let mut left = exprs;
+    'expressions: while let Exprs::More { first, rest } = left {
+        out.push(operand(alloc, scope, notes, first)?)?;
+        left = rest;
     }
+    Ok(out)
 }

@@ -9,3 +9,4 @@ pub mod meant;
 pub mod names;
 pub mod part;
 pub mod scope;
+mod waiting;

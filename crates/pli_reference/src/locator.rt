@@ -101,7 +101,7 @@ fn locator_of_shape<'a>(
     let designated = whole_by(shape);
     let kind = scalar_type(&designated);
     let value = value_with_type(alloc, designated.reference, kind)?;
-    Ok(Some(pointer_wanted(alloc, notes, place, value)?))
+    Ok(Some(pointer_wanted(notes, place, value)))
 }
 
 /// What locates by its declaration. A bad name in BASED(name) is told where it stands.

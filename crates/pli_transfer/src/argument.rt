@@ -50,44 +50,36 @@ fn refused<'a>(notes: &mut Notes, place: Place, kind: SourceKind) -> Argument<'a
 
 /// A copy of the parameter's kind.
 #[tactic(auto, using(pli_operand::proofs::Noting::noting), unfolding(pli_typing::specs::TypedView::argument_of))]
-fn copied<'a>(
-    alloc: Global,
-    notes: &mut Notes,
-    kind: LeafType,
-    place: Place,
-    value: Value<'a>,
-) -> Result<Argument<'a>, AllocError>
-    ensures noted { OnOk result (notes_of notes.new ≡ noted (notes_of notes.old) (K.copied (leaf_type_of kind) place (value_of value.entry))) }
-    ensures value { IfOk result (λ a. argument_of a ≡ (K.copied (leaf_type_of kind) place (value_of value.entry)).value) }
+fn copied<'a>(notes: &mut Notes, kind: LeafType, place: Place, value: Value<'a>) -> Argument<'a>
+    ensures noted { notes_of notes.new ≡ noted (notes_of notes.old) (K.copied (leaf_type_of kind) place (value_of value.entry)) }
+    ensures value { argument_of result ≡ (K.copied (leaf_type_of kind) place (value_of value.entry)).value }
 {
-    Ok(Argument::ByCopy {
+    Argument::ByCopy {
         kind,
-        value: stored_as(alloc, notes, kind, place, Some(value))?,
-    })
+        value: stored_as(notes, kind, place, Some(value)),
+    }
 }
 
 /// A POINTER for an OFFSET whose area the procedure's own block declares.
 #[tactic(auto, using(pli_operand::proofs::Noting::noting), unfolding(pli_typing::specs::TypedView::argument_of))]
 fn offset_argument<'a>(
-    alloc: Global,
     notes: &mut Notes,
     callee: &Callee<'_, '_, 'a>,
     area: Variable,
     place: Place,
-    pointer: Pointer<'a>,
-) -> Result<Argument<'a>, AllocError>
-    ensures noted { OnOk result (notes_of notes.new ≡ noted (notes_of notes.old) (K.offset_argument (callee_of callee.now) (variable_of area) (class_of area.class) place (pointer_of pointer.entry))) }
-    ensures value { IfOk result (λ a. argument_of a ≡ (K.offset_argument (callee_of callee.now) (variable_of area) (class_of area.class) place (pointer_of pointer.entry)).value) }
+    pointer: Box<Pointer<'a>>,
+) -> Argument<'a>
+    ensures noted { notes_of notes.new ≡ noted (notes_of notes.old) (K.offset_argument (callee_of callee.now) (variable_of area) (class_of area.class) place (pointer_of pointer.entry.value)) }
+    ensures value { argument_of result ≡ (K.offset_argument (callee_of callee.now) (variable_of area) (class_of area.class) place (pointer_of pointer.entry.value)).value }
 {
     match area.class {
-        StorageClass::Parameter => Ok(Argument::ByOffsetInParameter {
-            pointer,
+        StorageClass::Parameter => Argument::ByOffsetInParameter {
+            pointer: Box::into_inner(pointer),
             parameter: parameter_place(area, callee.parameters),
-        }),
-        StorageClass::Automatic => Ok(Argument::ByOffsetInAutomatic(pointer)),
+        },
+        StorageClass::Automatic => Argument::ByOffsetInAutomatic(Box::into_inner(pointer)),
         StorageClass::Static | StorageClass::Based | StorageClass::Controlled => {
             copied(
-                alloc,
                 notes,
                 LeafType::Offset(Some(area)),
                 place,
@@ -100,21 +92,19 @@ fn offset_argument<'a>(
 /// A POINTER for an OFFSET that is declared with an area.
 #[tactic(auto, using(pli_operand::proofs::Noting::noting))]
 fn pointer_argument<'a>(
-    alloc: Global,
     notes: &mut Notes,
     callee: &Callee<'_, '_, 'a>,
     area: Variable,
     place: Place,
-    pointer: Pointer<'a>,
-) -> Result<Argument<'a>, AllocError>
-    ensures noted { OnOk result (notes_of notes.new ≡ noted (notes_of notes.old) (K.scalar_argument (callee_of callee.now) (Some (Y.OffsetLeaf (Some (variable_of area)))) place (Y.PointerValue (pointer_of pointer.entry)))) }
-    ensures value { IfOk result (λ a. argument_of a ≡ (K.scalar_argument (callee_of callee.now) (Some (Y.OffsetLeaf (Some (variable_of area)))) place (Y.PointerValue (pointer_of pointer.entry))).value) }
+    pointer: Box<Pointer<'a>>,
+) -> Argument<'a>
+    ensures noted { notes_of notes.new ≡ noted (notes_of notes.old) (K.scalar_argument (callee_of callee.now) (Some (Y.OffsetLeaf (Some (variable_of area)))) place (Y.PointerValue (pointer_of pointer.entry.value))) }
+    ensures value { argument_of result ≡ (K.scalar_argument (callee_of callee.now) (Some (Y.OffsetLeaf (Some (variable_of area)))) place (Y.PointerValue (pointer_of pointer.entry.value))).value }
 {
     if area.block == callee.block {
-        offset_argument(alloc, notes, callee, area, place, pointer)
+        offset_argument(notes, callee, area, place, pointer)
     } else {
         copied(
-            alloc,
             notes,
             LeafType::Offset(Some(area)),
             place,
@@ -126,99 +116,88 @@ fn pointer_argument<'a>(
 /// A value for an OFFSET that is declared with an area.
 #[tactic(auto, using(pli_operand::proofs::Noting::noting))]
 fn area_argument<'a>(
-    alloc: Global,
     notes: &mut Notes,
     callee: &Callee<'_, '_, 'a>,
     area: Variable,
     place: Place,
     value: Value<'a>,
-) -> Result<Argument<'a>, AllocError>
-    ensures noted { OnOk result (notes_of notes.new ≡ noted (notes_of notes.old) (K.scalar_argument (callee_of callee.now) (Some (Y.OffsetLeaf (Some (variable_of area)))) place (value_of value.entry))) }
-    ensures value { IfOk result (λ a. argument_of a ≡ (K.scalar_argument (callee_of callee.now) (Some (Y.OffsetLeaf (Some (variable_of area)))) place (value_of value.entry)).value) }
+) -> Argument<'a>
+    ensures noted { notes_of notes.new ≡ noted (notes_of notes.old) (K.scalar_argument (callee_of callee.now) (Some (Y.OffsetLeaf (Some (variable_of area)))) place (value_of value.entry)) }
+    ensures value { argument_of result ≡ (K.scalar_argument (callee_of callee.now) (Some (Y.OffsetLeaf (Some (variable_of area)))) place (value_of value.entry)).value }
 {
     let kind = LeafType::Offset(Some(area));
     match value {
-        Value::Pointer(pointer) => pointer_argument(alloc, notes, callee, area, place, pointer),
+        Value::Pointer(pointer) => pointer_argument(notes, callee, area, place, pointer),
         Value::Number { precision, value } => copied(
-            alloc,
             notes,
             kind,
             place,
             Value::Number { precision, value },
         ),
-        Value::Text(text) => copied(alloc, notes, kind, place, Value::Text(text)),
-        Value::Bit(bit) => copied(alloc, notes, kind, place, Value::Bit(bit)),
-        Value::Offset { area, value } => copied(
-            alloc,
-            notes,
-            kind,
-            place,
-            Value::Offset { area, value },
-        ),
-        Value::Null => copied(alloc, notes, kind, place, Value::Null),
+        Value::Text(text) => copied(notes, kind, place, Value::Text(text)),
+        Value::Bit(bit) => copied(notes, kind, place, Value::Bit(bit)),
+        Value::Offset { area, value } => copied(notes, kind, place, Value::Offset { area, value }),
+        Value::Null => copied(notes, kind, place, Value::Null),
     }
 }
 
 /// A value for a parameter, by the parameter's kind.
 #[tactic(auto, using(pli_operand::proofs::Noting::noting))]
 fn typed_argument<'a>(
-    alloc: Global,
     notes: &mut Notes,
     callee: &Callee<'_, '_, 'a>,
     kind: LeafType,
     place: Place,
     value: Value<'a>,
-) -> Result<Argument<'a>, AllocError>
-    ensures noted { OnOk result (notes_of notes.new ≡ noted (notes_of notes.old) (K.scalar_argument (callee_of callee.now) (Some (leaf_type_of kind)) place (value_of value.entry))) }
-    ensures value { IfOk result (λ a. argument_of a ≡ (K.scalar_argument (callee_of callee.now) (Some (leaf_type_of kind)) place (value_of value.entry)).value) }
+) -> Argument<'a>
+    ensures noted { notes_of notes.new ≡ noted (notes_of notes.old) (K.scalar_argument (callee_of callee.now) (Some (leaf_type_of kind)) place (value_of value.entry)) }
+    ensures value { argument_of result ≡ (K.scalar_argument (callee_of callee.now) (Some (leaf_type_of kind)) place (value_of value.entry)).value }
 {
     match kind {
-        LeafType::Offset(Some(area)) => area_argument(alloc, notes, callee, area, place, value),
+        LeafType::Offset(Some(area)) => area_argument(notes, callee, area, place, value),
         LeafType::Offset(None)
         | LeafType::Fixed(_)
         | LeafType::Character(_)
         | LeafType::Varying(_)
         | LeafType::Bit
         | LeafType::Pointer
-        | LeafType::Area(_) => copied(alloc, notes, kind, place, value),
+        | LeafType::Area(_) => copied(notes, kind, place, value),
     }
 }
 
 /// A value for a parameter, which must be a scalar.
 #[tactic(auto, using(pli_operand::proofs::Noting::noting))]
 fn scalar_argument<'a>(
-    alloc: Global,
     notes: &mut Notes,
     callee: &Callee<'_, '_, 'a>,
     parameter: &Designated,
     place: Place,
     value: Value<'a>,
-) -> Result<Argument<'a>, AllocError>
-    ensures noted { OnOk result (notes_of notes.new ≡ noted (notes_of notes.old) (K.scalar_argument (callee_of callee.now) (C.scalar_type (designated_of parameter.now)) place (value_of value.entry))) }
-    ensures value { IfOk result (λ a. argument_of a ≡ (K.scalar_argument (callee_of callee.now) (C.scalar_type (designated_of parameter.now)) place (value_of value.entry)).value) }
+) -> Argument<'a>
+    ensures noted { notes_of notes.new ≡ noted (notes_of notes.old) (K.scalar_argument (callee_of callee.now) (C.scalar_type (designated_of parameter.now)) place (value_of value.entry)) }
+    ensures value { argument_of result ≡ (K.scalar_argument (callee_of callee.now) (C.scalar_type (designated_of parameter.now)) place (value_of value.entry)).value }
 {
     match scalar_type(parameter) {
-        None => Ok(refused(notes, place, SourceKind::TypeMismatch)),
-        Some(kind) => typed_argument(alloc, notes, callee, kind, place, value),
+        None => refused(notes, place, SourceKind::TypeMismatch),
+        Some(kind) => typed_argument(notes, callee, kind, place, value),
     }
 }
 
 /// A scalar goes by a copy; an aggregate or an area, which has no value, can't.
 #[tactic(auto, using(pli_operand::proofs::Noting::noting))]
 fn argument_by_copy<'a>(
-    alloc: Global,
     notes: &mut Notes,
     callee: &Callee<'_, '_, 'a>,
     parameter: &Designated,
     place: Place,
     value: Option<Value<'a>>,
-) -> Result<Argument<'a>, AllocError>
-    ensures noted { OnOk result (notes_of notes.new ≡ noted (notes_of notes.old) (K.argument_by_copy (callee_of callee.now) (designated_of parameter.now) place (option_of value_of value.entry))) }
-    ensures value { IfOk result (λ a. argument_of a ≡ (K.argument_by_copy (callee_of callee.now) (designated_of parameter.now) place (option_of value_of value.entry)).value) }
+) -> Argument<'a>
+    ensures noted { notes_of notes.new ≡ noted (notes_of notes.old) (K.argument_by_copy (callee_of callee.now) (designated_of parameter.now) place (option_of value_of value.entry)) }
+    ensures value { argument_of result ≡ (K.argument_by_copy (callee_of callee.now) (designated_of parameter.now) place (option_of value_of value.entry)).value }
 {
     match value {
-        Some(value) => scalar_argument(alloc, notes, callee, parameter, place, value),
-        None => Ok(refused(notes, callee.place, SourceKind::BadArguments)),
+        Some(value) => scalar_argument(notes, callee, parameter, place, value),
+        None => refused(notes, callee.place, SourceKind::BadArguments),
     }
 }
 
@@ -240,7 +219,7 @@ fn designated_argument<'a>(
     }
     let kind = scalar_type(&designated);
     let value = value_with_type(alloc, designated.reference, kind)?;
-    argument_by_copy(alloc, notes, callee, parameter, place, value)
+    Ok(argument_by_copy(notes, callee, parameter, place, value))
 }
 
 /// What is passed for a parameter.
@@ -260,7 +239,7 @@ fn referent_argument<'a>(
         Referent::Designates(designated) => {
             designated_argument(alloc, notes, callee, parameter, place, designated)
         }
-        Referent::Gives(value) => scalar_argument(alloc, notes, callee, parameter, place, value),
+        Referent::Gives(value) => Ok(scalar_argument(notes, callee, parameter, place, value)),
         Referent::EmptyArea | Referent::Nothing => Ok(refused(
             notes,
             place,

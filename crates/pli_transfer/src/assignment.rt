@@ -109,69 +109,56 @@ fn assigned_area<'a>(
 /// One value into each element.
 #[tactic(auto, using(pli_operand::proofs::Noting::noting), unfolding(pli_typing::specs::TypedStatementView::stmt_of))]
 fn elements_stored<'a>(
-    alloc: Global,
     notes: &mut Notes,
     place: Place,
     target: Reference<'a>,
     kind: LeafType,
     source_place: Place,
     value: Value<'a>,
-) -> Result<Stmt<'a>, AllocError>
-    ensures noted { OnOk result (notes_of notes.new ≡ noted (notes_of notes.old) (A.assigned_elements place (reference_of target.entry) (Some (leaf_type_of kind)) source_place (Some (value_of value.entry)))) }
-    ensures value { IfOk result (λ s. stmt_of s ≡ (A.assigned_elements place (reference_of target.entry) (Some (leaf_type_of kind)) source_place (Some (value_of value.entry))).value) }
+) -> Stmt<'a>
+    ensures noted { notes_of notes.new ≡ noted (notes_of notes.old) (A.assigned_elements place (reference_of target.entry) (Some (leaf_type_of kind)) source_place (Some (value_of value.entry))) }
+    ensures value { stmt_of result ≡ (A.assigned_elements place (reference_of target.entry) (Some (leaf_type_of kind)) source_place (Some (value_of value.entry))).value }
 {
-    Ok(Stmt::AssignElements {
+    Stmt::AssignElements {
         target,
-        source: stored_as(alloc, notes, kind, source_place, Some(value))?,
+        source: stored_as(notes, kind, source_place, Some(value)),
         line: place.line,
-    })
+    }
 }
 
 /// Into an array goes a scalar, converted once; into a structure none.
 #[tactic(auto, using(pli_operand::proofs::Noting::noting))]
 fn assigned_value<'a>(
-    alloc: Global,
     notes: &mut Notes,
     place: Place,
     target: Designated<'_, 'a>,
     source_place: Place,
     value: Value<'a>,
-) -> Result<Stmt<'a>, AllocError>
-    ensures noted { OnOk result (notes_of notes.new ≡ noted (notes_of notes.old) (A.assigned_elements place (reference_of target.entry.reference) (C.element_type (designated_of target.entry)) source_place (Some (value_of value.entry)))) }
-    ensures value { IfOk result (λ s. stmt_of s ≡ (A.assigned_elements place (reference_of target.entry.reference) (C.element_type (designated_of target.entry)) source_place (Some (value_of value.entry))).value) }
+) -> Stmt<'a>
+    ensures noted { notes_of notes.new ≡ noted (notes_of notes.old) (A.assigned_elements place (reference_of target.entry.reference) (C.element_type (designated_of target.entry)) source_place (Some (value_of value.entry))) }
+    ensures value { stmt_of result ≡ (A.assigned_elements place (reference_of target.entry.reference) (C.element_type (designated_of target.entry)) source_place (Some (value_of value.entry))).value }
 {
     match element_type(&target) {
-        Some(kind) => {
-            elements_stored(
-                alloc,
-                notes,
-                place,
-                target.reference,
-                kind,
-                source_place,
-                value,
-            )
-        }
-        None => Ok(mismatched(notes, source_place, place)),
+        Some(kind) => { elements_stored(notes, place, target.reference, kind, source_place, value) }
+        None => mismatched(notes, source_place, place),
     }
 }
 
 /// The value into each element, where it is known.
 #[tactic(auto, using(pli_operand::proofs::Noting::noting))]
 fn assigned_elements<'a>(
-    alloc: Global,
     notes: &mut Notes,
     place: Place,
     target: Designated<'_, 'a>,
     source_place: Place,
     value: Option<Value<'a>>,
-) -> Result<Stmt<'a>, AllocError>
-    ensures noted { OnOk result (notes_of notes.new ≡ noted (notes_of notes.old) (A.assigned_elements place (reference_of target.entry.reference) (C.element_type (designated_of target.entry)) source_place (option_of value_of value.entry))) }
-    ensures value { IfOk result (λ s. stmt_of s ≡ (A.assigned_elements place (reference_of target.entry.reference) (C.element_type (designated_of target.entry)) source_place (option_of value_of value.entry)).value) }
+) -> Stmt<'a>
+    ensures noted { notes_of notes.new ≡ noted (notes_of notes.old) (A.assigned_elements place (reference_of target.entry.reference) (C.element_type (designated_of target.entry)) source_place (option_of value_of value.entry)) }
+    ensures value { stmt_of result ≡ (A.assigned_elements place (reference_of target.entry.reference) (C.element_type (designated_of target.entry)) source_place (option_of value_of value.entry)).value }
 {
     match value {
-        None => Ok(nothing_done(place)),
-        Some(value) => assigned_value(alloc, notes, place, target, source_place, value),
+        None => nothing_done(place),
+        Some(value) => assigned_value(notes, place, target, source_place, value),
     }
 }
 
@@ -189,7 +176,7 @@ fn assigned_each<'a>(
     ensures value { IfOk result (λ s. stmt_of s ≡ (A.assigned_each place (designated_of target.entry) (record { place = source_place; constant = None; referent = referent_of source.entry })).value) }
 {
     let value = referent_value(alloc, notes, source_place, source)?;
-    assigned_elements(alloc, notes, place, target, source_place, value)
+    Ok(assigned_elements(notes, place, target, source_place, value))
 }
 
 #[tactic(auto, using(pli_operand::proofs::Noting::noting), unfolding(pli_typing::specs::TypedStatementView::stmt_of))]

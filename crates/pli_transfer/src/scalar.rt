@@ -21,7 +21,7 @@ use pli_operand::shape::scalar_type;
 use pli_typing::typed::{Counter, LeafType, Reference, Value};
 
 /// A scalar that can be assigned to, with its kind.
-#[derive(Debug, Drop)]
+#[derive(Drop)]
 pub struct Scalar<'a> {
     pub reference: Reference<'a>,
     pub kind: LeafType,

@@ -207,9 +207,9 @@ abbrev pub call_of : CallHeld → Y.Call
 call_of c = Y.Calling c.callee.procedure c.callee.level (arguments_of c.arguments)
 
 abbrev pub value_of : ValueHeld → Y.Value
-value_of (V.Number p n) = Y.NumberValue p (number_of n)
-value_of (V.Text t) = Y.TextValue (text_of t)
-value_of (V.Bit b) = Y.BitValue (bit_of b)
-value_of (V.Pointer p) = Y.PointerValue (pointer_of p)
-value_of (V.Offset area o) = Y.OffsetValue (area_of area) (offset_of o)
+value_of (V.Number p n) = Y.NumberValue p (number_of n.value)
+value_of (V.Text t) = Y.TextValue (text_of t.value)
+value_of (V.Bit b) = Y.BitValue (bit_of b.value)
+value_of (V.Pointer p) = Y.PointerValue (pointer_of p.value)
+value_of (V.Offset area o) = Y.OffsetValue (area_of area) (offset_of o.value)
 value_of V.Null = Y.NullValue

@@ -62,7 +62,7 @@ pub enum LeafType {
 }
 
 /// A leaf with all its bounds, inherited ones first.
-#[derive(Debug, Drop)]
+#[derive(Drop)]
 pub struct Leaf<'a> {
     pub kind: LeafType,
     pub bounds: Vec<Bounds>,
@@ -119,7 +119,6 @@ pub struct Callee {
 
 /// An expression that is a number. Dimensions are counted from 1.
 #[cycle(typed)]
-#[derive(Debug, Drop)]
 pub enum Number<'a> {
     Constant(u64),
     In(Box<Reference<'a>>),
@@ -181,7 +180,6 @@ pub enum Number<'a> {
 
 /// A list of numbers.
 #[cycle(typed)]
-#[derive(Debug, Drop)]
 pub enum Numbers<'a> {
     End,
     More {
@@ -192,7 +190,6 @@ pub enum Numbers<'a> {
 
 /// An expression that is a text. A number becomes text by the places of its precision.
 #[cycle(typed)]
-#[derive(Debug, Drop)]
 pub enum Text<'a> {
     Constant(&'a [u8]),
     In(Box<Reference<'a>>),
@@ -222,7 +219,6 @@ pub enum Text<'a> {
 
 /// An expression that is a bit. Locators are compared for being equal, or for not being so.
 #[cycle(typed)]
-#[derive(Debug, Drop)]
 pub enum Bit<'a> {
     Constant(bool),
     In(Box<Reference<'a>>),
@@ -266,7 +262,6 @@ pub enum Bit<'a> {
 
 /// An expression that is a POINTER.
 #[cycle(typed)]
-#[derive(Debug, Drop)]
 pub enum Pointer<'a> {
     Null,
     In(Box<Reference<'a>>),
@@ -283,7 +278,6 @@ pub enum Pointer<'a> {
 
 /// An expression that is an OFFSET.
 #[cycle(typed)]
-#[derive(Debug, Drop)]
 pub enum Offset<'a> {
     Null,
     In(Box<Reference<'a>>),
@@ -300,7 +294,7 @@ pub enum Offset<'a> {
 /// A part of a variable's generation, or an element of it: no subscripts mean the whole part, else there are as many as the
 /// part has dimensions. A BASED variable is located, and no other.
 #[cycle(typed)]
-#[derive(Debug, Drop)]
+#[derive(Drop)]
 pub enum Reference<'a> {
     Plain {
         variable: Variable,
@@ -318,7 +312,7 @@ pub enum Reference<'a> {
 /// An argument by reference, or a copy of the parameter's kind. A POINTER for an OFFSET of the callee's own area is converted
 /// last: by the area that a parameter stands for, or where that area isn't made yet.
 #[cycle(typed)]
-#[derive(Debug, Drop)]
+#[derive(Drop)]
 pub enum Argument<'a> {
     ByReference(Reference<'a>),
     ByCopy {
@@ -334,7 +328,6 @@ pub enum Argument<'a> {
 
 /// The arguments of a call.
 #[cycle(typed)]
-#[derive(Debug, Drop)]
 pub enum Arguments<'a> {
     End,
     More {
@@ -345,7 +338,7 @@ pub enum Arguments<'a> {
 
 /// A value on its way into storage, converted to the kind that is there.
 #[cycle(typed)]
-#[derive(Debug, Drop)]
+#[derive(Drop)]
 pub enum Stored<'a> {
     Number { precision: u64, value: Number<'a> },
     Text(Text<'a>),
@@ -354,26 +347,240 @@ pub enum Stored<'a> {
     Offset(Offset<'a>),
 }
 
+impl Drop for Number<'_> {
+    /// Drops what the expression is made of.
+    #[cycle(dropping_expressions)]
+    fn drop(self) {
+        match self {
+            Number::In(_inner) => (),
+            Number::From {
+                callee: _,
+                arguments: _arguments,
+            } => (),
+            Number::OfText(_inner) => (),
+            Number::OfBit(_inner) => (),
+            Number::Signed {
+                sign: _,
+                operand: _operand,
+            } => (),
+            Number::Calculated {
+                operator: _,
+                left: _left,
+                right: _right,
+            } => (),
+            Number::Absolute(_inner) => (),
+            Number::SignOf(_inner) => (),
+            Number::Extreme {
+                which: _,
+                first: _first,
+                more: _more,
+            } => (),
+            Number::Modulo {
+                dividend: _dividend,
+                divisor: _divisor,
+            } => (),
+            Number::Divided {
+                precision: _,
+                dividend: _dividend,
+                divisor: _divisor,
+            } => (),
+            Number::LengthOf(_inner) => (),
+            Number::IndexOf {
+                searched: _searched,
+                sought: _sought,
+            } => (),
+            Number::VerifyOf {
+                searched: _searched,
+                allowed: _allowed,
+            } => (),
+            Number::LowerBound {
+                array: _array,
+                dimension: _,
+            } => (),
+            Number::UpperBound {
+                array: _array,
+                dimension: _,
+            } => (),
+            Number::ElementsOf {
+                array: _array,
+                dimension: _,
+            } => (),
+            Number::Constant(_) | Number::AllocationsOf(_) | Number::OnCode => (),
+        }
+    }
+}
+
+impl Drop for Text<'_> {
+    /// Drops what the expression is made of.
+    #[cycle(dropping_expressions)]
+    fn drop(self) {
+        match self {
+            Text::In(_inner) => (),
+            Text::From {
+                callee: _,
+                arguments: _arguments,
+            } => (),
+            Text::OfNumber {
+                precision: _,
+                number: _number,
+            } => (),
+            Text::OfBit(_inner) => (),
+            Text::Joined {
+                left: _left,
+                right: _right,
+            } => (),
+            Text::SubstringFrom {
+                text: _text,
+                start: _start,
+            } => (),
+            Text::Substring {
+                text: _text,
+                start: _start,
+                count: _count,
+            } => (),
+            Text::Constant(_) => (),
+        }
+    }
+}
+
+impl Drop for Bit<'_> {
+    /// Drops what the expression is made of.
+    #[cycle(dropping_expressions)]
+    fn drop(self) {
+        match self {
+            Bit::In(_inner) => (),
+            Bit::From {
+                callee: _,
+                arguments: _arguments,
+            } => (),
+            Bit::OfText(_inner) => (),
+            Bit::Negated(_inner) => (),
+            Bit::Combined {
+                operator: _,
+                left: _left,
+                right: _right,
+            } => (),
+            Bit::NumbersCompared {
+                comparison: _,
+                left: _left,
+                right: _right,
+            } => (),
+            Bit::TextsCompared {
+                comparison: _,
+                left: _left,
+                right: _right,
+            } => (),
+            Bit::BitsCompared {
+                comparison: _,
+                left: _left,
+                right: _right,
+            } => (),
+            Bit::PointersCompared {
+                equal: _,
+                left: _left,
+                right: _right,
+            } => (),
+            Bit::OffsetsCompared {
+                equal: _,
+                left: _left,
+                right: _right,
+            } => (),
+            Bit::Constant(_) => (),
+        }
+    }
+}
+
+impl Drop for Pointer<'_> {
+    /// Drops what the expression is made of.
+    #[cycle(dropping_expressions)]
+    fn drop(self) {
+        match self {
+            Pointer::In(_inner) => (),
+            Pointer::From {
+                callee: _,
+                arguments: _arguments,
+            } => (),
+            Pointer::AddressOf(_inner) => (),
+            Pointer::Into {
+                offset: _offset,
+                area: _,
+            } => (),
+            Pointer::Null => (),
+        }
+    }
+}
+
+impl Drop for Offset<'_> {
+    /// Drops what the expression is made of.
+    #[cycle(dropping_expressions)]
+    fn drop(self) {
+        match self {
+            Offset::In(_inner) => (),
+            Offset::From {
+                callee: _,
+                arguments: _arguments,
+            } => (),
+            Offset::Into {
+                pointer: _pointer,
+                area: _,
+            } => (),
+            Offset::Null => (),
+        }
+    }
+}
+
+impl Drop for Numbers<'_> {
+    /// Drops the list from its front, in a loop.
+    #[cycle(dropping_expressions)]
+    fn drop(mut self) {
+        loop {
+            match self {
+                Numbers::End => return,
+                Numbers::More {
+                    first: _first,
+                    rest,
+                } => self = Box::into_inner(rest),
+            }
+        }
+    }
+}
+
+impl Drop for Arguments<'_> {
+    /// Drops the list from its front, in a loop.
+    #[cycle(dropping_expressions)]
+    fn drop(mut self) {
+        loop {
+            match self {
+                Arguments::End => return,
+                Arguments::More {
+                    first: _first,
+                    rest,
+                } => self = Box::into_inner(rest),
+            }
+        }
+    }
+}
+
 /// A call of a procedure.
-#[derive(Debug, Drop)]
+#[derive(Drop)]
 pub struct Call<'a> {
     pub callee: Callee,
     pub arguments: Arguments<'a>,
 }
 
 /// The value of an expression with its kind; NULL is a POINTER or an OFFSET as its place wants it.
-#[derive(Debug, Drop)]
+#[derive(Drop)]
 pub enum Value<'a> {
     Number {
         precision: u64,
-        value: Number<'a>,
+        value: Box<Number<'a>>,
     },
-    Text(Text<'a>),
-    Bit(Bit<'a>),
-    Pointer(Pointer<'a>),
+    Text(Box<Text<'a>>),
+    Bit(Box<Bit<'a>>),
+    Pointer(Box<Pointer<'a>>),
     Offset {
         area: Option<Variable>,
-        value: Offset<'a>,
+        value: Box<Offset<'a>>,
     },
     Null,
 }
@@ -389,7 +596,7 @@ pub enum Check {
 }
 
 /// An extent that is evaluated, with its check.
-#[derive(Debug, Drop)]
+#[derive(Drop)]
 pub struct Evaluation<'a> {
     pub value: Number<'a>,
     pub check: Check,
@@ -411,7 +618,7 @@ pub struct Member {
 
 /// A variable of level 1, with itself and all its members in declared order. Each extent as it is written is evaluated once, in
 /// source order, for all leaves that share it.
-#[derive(Debug, Drop)]
+#[derive(Drop)]
 pub struct DeclaredVariable<'a> {
     pub class: StorageClass,
     pub members: Vec<Member>,
@@ -421,7 +628,7 @@ pub struct DeclaredVariable<'a> {
 }
 
 /// A locator that ALLOCATE sets.
-#[derive(Debug, Drop)]
+#[derive(Drop)]
 pub enum LocatorTarget<'a> {
     Pointer(Reference<'a>),
     Offset {
@@ -431,7 +638,7 @@ pub enum LocatorTarget<'a> {
 }
 
 /// What ALLOCATE makes. Without an area the heap is meant.
-#[derive(Debug, Drop)]
+#[derive(Drop)]
 pub enum Allocation<'a> {
     Based {
         variable: Variable,
@@ -442,7 +649,7 @@ pub enum Allocation<'a> {
 }
 
 /// What FREE ends. With an area the generation must stand there.
-#[derive(Debug, Drop)]
+#[derive(Drop)]
 pub enum Freeing<'a> {
     Based {
         variable: Variable,
@@ -453,7 +660,7 @@ pub enum Freeing<'a> {
 }
 
 /// A variable that counts turns: a number or a text.
-#[derive(Debug, Drop)]
+#[derive(Drop)]
 pub enum Counter<'a> {
     Number {
         precision: u64,
@@ -463,28 +670,28 @@ pub enum Counter<'a> {
 }
 
 /// What GET reads into: a scalar, or an aggregate element by element.
-#[derive(Debug, Drop)]
+#[derive(Drop)]
 pub enum GetItem<'a> {
     Scalar(Reference<'a>),
     Aggregate(Reference<'a>),
 }
 
 /// What PUT writes: a value, or an aggregate element by element.
-#[derive(Debug, Drop)]
+#[derive(Drop)]
 pub enum PutItem<'a> {
     Value(Value<'a>),
     Aggregate(Reference<'a>),
 }
 
 /// A data list of GET with the format list that it goes by.
-#[derive(Debug, Drop)]
+#[derive(Drop)]
 pub struct GetPair<'a> {
     pub items: Vec<GetItem<'a>>,
     pub formats: &'a Formats,
 }
 
 /// A data list of PUT with the format list that it goes by.
-#[derive(Debug, Drop)]
+#[derive(Drop)]
 pub struct PutPair<'a> {
     pub items: Vec<PutItem<'a>>,
     pub formats: &'a Formats,
@@ -510,7 +717,7 @@ pub struct BlockHead {
 }
 
 /// What DO says of its turns: one at most, or as many as are counted.
-#[derive(Debug, Drop)]
+#[derive(Drop)]
 pub enum Turns<'a> {
     Once {
         variable: Reference<'a>,
@@ -528,7 +735,7 @@ pub enum Turns<'a> {
 
 /// A statement, with the line of its first token after labels.
 #[cycle(typed_stmt)]
-#[derive(Debug, Drop)]
+#[derive(Drop)]
 pub enum Stmt<'a> {
     Null {
         line: u32,
@@ -649,7 +856,6 @@ pub enum Stmt<'a> {
 
 /// A list of statements, each behind its labels, and the labels of its END.
 #[cycle(typed_stmt)]
-#[derive(Debug, Drop)]
 pub enum Stmts<'a> {
     End {
         labels: &'a [Name],
@@ -661,15 +867,32 @@ pub enum Stmts<'a> {
     },
 }
 
+impl Drop for Stmts<'_> {
+    /// Drops the list from its front, in a loop: it may be as long as a source.
+    #[cycle(dropping)]
+    fn drop(mut self) {
+        loop {
+            match self {
+                Stmts::End { labels: _ } => return,
+                Stmts::More {
+                    labels: _,
+                    first: _first,
+                    rest,
+                } => self = Box::into_inner(rest),
+            }
+        }
+    }
+}
+
 /// A block.
-#[derive(Debug, Drop)]
+#[derive(Drop)]
 pub struct Block<'a> {
     pub head: BlockHead,
     pub body: Stmts<'a>,
 }
 
 /// A procedure: its block, for each parameter its place among the block's variables, and what RETURNS says.
-#[derive(Debug, Drop)]
+#[derive(Drop)]
 pub struct Procedure<'a> {
     pub block: Block<'a>,
     pub parameters: Vec<usize>,
@@ -678,7 +901,7 @@ pub struct Procedure<'a> {
 
 /// A program: the variables of level 1 of each block, by its number, and the procedures in source order, of which the first
 /// is the main one.
-#[derive(Debug, Drop)]
+#[derive(Drop)]
 pub struct Typed<'a> {
     pub variables: Vec<Vec<DeclaredVariable<'a>>>,
     pub procedures: Vec<Procedure<'a>>,

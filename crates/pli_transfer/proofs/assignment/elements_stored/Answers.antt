@@ -9,8 +9,8 @@ use Rattle.pli_transfer.proofs.Noted.{noted_in}
 use Rattle.pli_transfer.proofs.assignment.elements_stored.Goals as goal
 
 pub returns-clause-noted : goal.returns-clause-noted
-returns-clause-noted c = noted_in _ (notes_of c.args.notes.now) (stored_as (leaf_type_of c.args.kind) c.args.source_place (Some (value_of c.args.value))) c.in_ok-stored_as.ensures.noted
+returns-clause-noted c = noted_in _ (notes_of c.args.notes.now) (stored_as (leaf_type_of c.args.kind) c.args.source_place (Some (value_of c.args.value))) c.stored_as.ensures.noted
 
 pub returns-clause-value : goal.returns-clause-value
 unfolding stmt_of
-returns-clause-value c = ap (λ s. Y.AssignElements (reference_of c.args.target) s c.args.place.line) c.in_ok-stored_as.ensures.value
+returns-clause-value c = ap (λ s. Y.AssignElements (reference_of c.args.target) s c.args.place.line) c.stored_as.ensures.value

@@ -1,0 +1,4 @@
+pub mod Having
+pub mod Parting
+pub mod Recording
+pub mod Stepping

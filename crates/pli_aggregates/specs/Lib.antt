@@ -1,0 +1,5 @@
+pub mod Elements
+pub mod Parts
+pub mod Records
+pub mod Scalars
+pub mod Storing

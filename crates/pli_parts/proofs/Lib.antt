@@ -1,0 +1,12 @@
+pub mod Asked
+pub mod Elements
+pub mod Lists
+pub mod Parts
+pub mod Placed
+pub mod Places
+pub mod Puts
+pub mod Rereading
+pub mod RoundTrips
+pub mod Seeing
+pub mod Serves
+pub mod Takes

@@ -1,0 +1,5 @@
+pub mod Beginning
+pub mod Controls
+pub mod Newest
+pub mod Replying
+pub mod Tops

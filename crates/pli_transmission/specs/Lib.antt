@@ -1,0 +1,4 @@
+pub mod Edits
+pub mod Items
+pub mod Tops
+pub mod Transmitting

@@ -1,0 +1,129 @@
+// Control items, which move in the stream: service 35.
+
+ghost use Rattle.std.specs.Prelude.{◌≡◌, Some, MatchResult, List};
+ghost use Rattle.pli_answering.specs.Answering.{Answers};
+ghost use Rattle.pli_edit.specs.FormatPlaces.{item_of};
+ghost use Rattle.pli_meaning.specs.Streaming.{control_read, ControlFormat};
+ghost use Rattle.pli_services.specs.Shown.{world_of, Acts};
+ghost use Rattle.pli_serving.specs.Edits as edits;
+ghost use Rattle.pli_serving.specs.Edits.{NextItem, next_item};
+ghost use Rattle.pli_serving.specs.Finding.{Call};
+ghost use Rattle.pli_serving.specs.ServiceState.{EditPlace};
+ghost use Rattle.pli_transmission.specs.Edits.{direction_shown};
+ghost use Rattle.pli_transmission.specs.Items.{control_shown, moved_input, moved_world};
+ghost use Rattle.pli_transmission.specs.Transmitting.{on_edit};
+
+use crate::edit::{Direction, Edit};
+use crate::item::{Control, control_of, item_number};
+use crate::writing::write_control;
+use pli_answering::reply::{Refusal, Reply};
+use pli_edit::format::Format;
+use pli_edit::input::Input;
+use pli_services::shown::Shown;
+
+/// A control item of GET.
+fn read_control(input: &mut Input, control: Control)
+    ensures { input.new ≡ control_read (control_shown control) input.old }
+{
+    match control {
+        Control::Space(count) => input.space(count),
+        Control::Skip(count) => input.skip(count),
+        Control::Column(column) => input.column(column),
+    }
+}
+
+/// The act of a control item.
+pub fn move_by(
+    direction: Direction,
+    control: Control,
+    input: &mut Input,
+    shown: &mut Shown,
+) -> Result<(), Refusal>
+    ensures world { Acts (world_of shown.old) (moved_world (direction_shown direction) (control_shown control) (world_of shown.old)) result (world_of shown.new) }
+    ensures input { MatchResult result (λ _. input.new ≡ moved_input (direction_shown direction) (control_shown control) input.old) (λ _. input.new ≡ input.old) }
+{
+    match direction {
+        Direction::Getting => {
+            shown.count()?;
+            read_control(input, control);
+            Ok(())
+        }
+        Direction::Putting => write_control(shown, control),
+    }
+}
+
+/// The next item, which is a control item, is carried out; behind it another one comes.
+fn carry_out_before(
+    edit: &mut Edit,
+    input: &mut Input,
+    shown: &mut Shown,
+    control: Control,
+    behind: Format,
+    second: u32,
+) -> Result<Reply, Refusal>
+    ensures { (c : Call) → (n m : NextItem) → (below : List EditPlace) → edit.old.next ≡ Some n → n.behind.direction ≡ edit.old.place.direction → next_item n.behind ≡ Some m → m.item ≡ item_of behind →
+        Answers (λ c. edits.control_carried_out c second (ControlFormat (control_shown control)) n.behind below) (on_edit shown.old input.old edit.old below c) result (on_edit shown.new input.new edit.new below c) }
+{
+    let direction = edit.direction();
+    move_by(direction, control, input, shown)?;
+    edit.advance();
+    Ok(Reply::Done(item_number(direction, input, behind), second))
+}
+
+/// The next item, which is a control item, is carried out.
+fn carry_out(
+    edit: &mut Edit,
+    input: &mut Input,
+    shown: &mut Shown,
+    control: Control,
+    second: u32,
+) -> Result<Reply, Refusal>
+    ensures { (c : Call) → (n : NextItem) → (below : List EditPlace) → edit.old.next ≡ Some n → n.behind.direction ≡ edit.old.place.direction →
+        Answers (λ c. edits.control_carried_out c second (ControlFormat (control_shown control)) n.behind below) (on_edit shown.old input.old edit.old below c) result (on_edit shown.new input.new edit.new below c) }
+{
+    let Ok(found) = edit.beyond() else {
+        return Err(Refusal::Memory);
+    };
+    match found {
+        Some(behind) => carry_out_before(edit, input, shown, control, behind, second),
+        None => Err(Refusal::Bad),
+    }
+}
+
+/// The next item is carried out if it is a control item, and what is next then is told.
+fn control_next(
+    edit: &mut Edit,
+    input: &mut Input,
+    shown: &mut Shown,
+    format: Format,
+    second: u32,
+) -> Result<Reply, Refusal>
+    ensures { (c : Call) → (n : NextItem) → (below : List EditPlace) → edit.old.next ≡ Some n → next_item edit.old.place ≡ Some n → n.item ≡ item_of format →
+        Answers (λ c. edits.control_carried_out c second n.item n.behind below) (on_edit shown.old input.old edit.old below c) result (on_edit shown.new input.new edit.new below c) }
+{
+    match control_of(format) {
+        Some(control) => carry_out(edit, input, shown, control, second),
+        None => {
+            let number = item_number(edit.direction(), input, format);
+            Ok(Reply::Done(number, second))
+        }
+    }
+}
+
+/// 35: a control item that is next is carried out; then what is next is told.
+pub fn control(
+    edit: &mut Edit,
+    input: &mut Input,
+    shown: &mut Shown,
+    second: u32,
+) -> Result<Reply, Refusal>
+    ensures { (c : Call) → (below : List EditPlace) → Answers (λ c. edits.control_served c second) (on_edit shown.old input.old edit.old below c) result (on_edit shown.new input.new edit.new below c) }
+{
+    let Ok(found) = edit.reach() else {
+        return Err(Refusal::Memory);
+    };
+    match found {
+        Some(format) => control_next(edit, input, shown, format, second),
+        None => Err(Refusal::Bad),
+    }
+}

@@ -1,0 +1,188 @@
+// A, texts in fields: service 37.
+
+ghost use Rattle.std.specs.Prelude.{◌≡◌, ◌∷◌, Some, List};
+ghost use Rattle.pli_edit.specs.FormatPlaces.{item_of};
+ghost use Rattle.pli_serving.specs.Edits as edits;
+ghost use Rattle.pli_serving.specs.Edits.{NextItem};
+ghost use Rattle.pli_serving.specs.Finding.{Call};
+ghost use Rattle.pli_serving.specs.ServiceState.{EditPlace};
+ghost use Rattle.pli_transmission.specs.Transmitting.{on_edit, on_entries, text_of, AnswersTaking, IsTopGot, IsTopWritten};
+
+use crate::edit::{Direction, Edit};
+use crate::item::text_width;
+use crate::top::take_top;
+use pli_answering::reply::{Refusal, Reply};
+use pli_edit::fault::EditFault;
+use pli_edit::format::Format;
+use pli_edit::input::Input;
+use pli_edit::output::Output;
+use pli_entries::entries::Entries;
+use pli_services::shown::Shown;
+use std::alloc::Global;
+
+/// The newest text is written behind the output.
+fn put_top(
+    alloc: Global,
+    entries: &mut Entries,
+    output: &mut Output,
+    width: Option<u32>,
+) -> Result<(), Refusal>
+    ensures { IsTopWritten width entries.old output.old result entries.new output.new }
+{
+    let text = take_top(alloc, entries)?;
+    match output.put_a(&text, width) {
+        Ok(()) => Ok(()),
+        Err(_) => Err(Refusal::Memory),
+    }
+}
+
+/// PUT: the newest text is dropped and written, and the place is behind the item.
+fn put(
+    alloc: Global,
+    edit: &mut Edit,
+    entries: &mut Entries,
+    input: &Input,
+    shown: &mut Shown,
+    width: Option<u32>,
+    first: u32,
+    second: u32,
+) -> Result<Reply, Refusal>
+    ensures { (c : Call) → (n : NextItem) → (below : List EditPlace) → edit.old.next ≡ Some n →
+        AnswersTaking (λ c. edits.text_put c first second width (n.behind ∷ below)) (on_entries entries.old (on_edit shown.old input.now edit.old below c)) result (on_entries entries.new (on_edit shown.new input.now edit.new below c)) }
+{
+    let acts = shown.acts;
+    shown.count()?;
+    match put_top(alloc, entries, &mut shown.output, width) {
+        Ok(()) => {
+            edit.advance();
+            Ok(Reply::Done(first, second))
+        }
+        Err(refusal) => {
+            shown.acts = acts;
+            Err(refusal)
+        }
+    }
+}
+
+/// A field is taken and becomes the newest text.
+fn get_top(entries: &mut Entries, input: &mut Input, width: u32) -> Result<(), Refusal>
+    ensures { IsTopGot width entries.old input.old result entries.new input.new }
+{
+    match input.get_a(width) {
+        Ok(field) => match entries.push_text(&field) {
+            Ok(()) => Ok(()),
+            Err(_) => Err(Refusal::Memory),
+        },
+        Err(EditFault::AtEnd) => Err(Refusal::Bad),
+        Err(_) => Err(Refusal::Memory),
+    }
+}
+
+/// GET: the field is taken and becomes the newest text, and the place is behind the item.
+fn get_field(
+    edit: &mut Edit,
+    entries: &mut Entries,
+    input: &mut Input,
+    shown: &mut Shown,
+    width: u32,
+    first: u32,
+    second: u32,
+) -> Result<Reply, Refusal>
+    ensures { (c : Call) → (n : NextItem) → (below : List EditPlace) → edit.old.next ≡ Some n →
+        AnswersTaking (λ c. edits.text_got c first second (Some width) (n.behind ∷ below)) (on_entries entries.old (on_edit shown.old input.old edit.old below c)) result (on_entries entries.new (on_edit shown.new input.new edit.new below c)) }
+{
+    let acts = shown.acts;
+    shown.count()?;
+    match get_top(entries, input, width) {
+        Ok(()) => {
+            edit.advance();
+            Ok(Reply::Done(first, second))
+        }
+        Err(refusal) => {
+            shown.acts = acts;
+            Err(refusal)
+        }
+    }
+}
+
+/// GET: an item without a width is no right call.
+fn get(
+    edit: &mut Edit,
+    entries: &mut Entries,
+    input: &mut Input,
+    shown: &mut Shown,
+    width: Option<u32>,
+    first: u32,
+    second: u32,
+) -> Result<Reply, Refusal>
+    ensures { (c : Call) → (n : NextItem) → (below : List EditPlace) → edit.old.next ≡ Some n →
+        AnswersTaking (λ c. edits.text_got c first second width (n.behind ∷ below)) (on_entries entries.old (on_edit shown.old input.old edit.old below c)) result (on_entries entries.new (on_edit shown.new input.new edit.new below c)) }
+{
+    match width {
+        Some(width) => get_field(edit, entries, input, shown, width, first, second),
+        None => Err(Refusal::Bad),
+    }
+}
+
+/// A of a width in either direction.
+fn text_field(
+    alloc: Global,
+    edit: &mut Edit,
+    entries: &mut Entries,
+    input: &mut Input,
+    shown: &mut Shown,
+    width: Option<u32>,
+    first: u32,
+    second: u32,
+) -> Result<Reply, Refusal>
+    ensures { (c : Call) → (n : NextItem) → (below : List EditPlace) → edit.old.next ≡ Some n →
+        AnswersTaking (λ c. text_of c first second edit.old.place.direction width (n.behind ∷ below)) (on_entries entries.old (on_edit shown.old input.old edit.old below c)) result (on_entries entries.new (on_edit shown.new input.new edit.new below c)) }
+{
+    match edit.direction() {
+        Direction::Putting => put(alloc, edit, entries, input, shown, width, first, second),
+        Direction::Getting => get(edit, entries, input, shown, width, first, second),
+    }
+}
+
+/// The next item, which is to be A.
+fn text_next(
+    alloc: Global,
+    edit: &mut Edit,
+    entries: &mut Entries,
+    input: &mut Input,
+    shown: &mut Shown,
+    format: Format,
+    first: u32,
+    second: u32,
+) -> Result<Reply, Refusal>
+    ensures { (c : Call) → (n : NextItem) → (below : List EditPlace) → edit.old.next ≡ Some n → n.behind.direction ≡ edit.old.place.direction → n.item ≡ item_of format →
+        AnswersTaking (λ c. edits.text_by c first second n.behind.direction n.item (n.behind ∷ below)) (on_entries entries.old (on_edit shown.old input.old edit.old below c)) result (on_entries entries.new (on_edit shown.new input.new edit.new below c)) }
+{
+    match text_width(format) {
+        Some(width) => text_field(alloc, edit, entries, input, shown, width, first, second),
+        None => Err(Refusal::Bad),
+    }
+}
+
+/// 37: A. PUT drops and writes the newest text; GET takes the field, which becomes the newest text. Without memory nothing is shown,
+/// but the text or the field may be gone.
+pub fn text(
+    alloc: Global,
+    edit: &mut Edit,
+    entries: &mut Entries,
+    input: &mut Input,
+    shown: &mut Shown,
+    first: u32,
+    second: u32,
+) -> Result<Reply, Refusal>
+    ensures { (c : Call) → (below : List EditPlace) →
+        AnswersTaking (λ c. edits.text_served c first second) (on_entries entries.old (on_edit shown.old input.old edit.old below c)) result (on_entries entries.new (on_edit shown.new input.new edit.new below c)) }
+{
+    let Ok(found) = edit.reach() else {
+        return Err(Refusal::Memory);
+    };
+    match found {
+        Some(format) => text_next(alloc, edit, entries, input, shown, format, first, second),
+        None => Err(Refusal::Bad),
+    }
+}

@@ -1,0 +1,128 @@
+-- The code that stores by its pieces.
+use Rattle.std.proofs.Common.{◌≡◌, ◌<◌, ℕ, zero, suc, ◌++◌, refl, sym, ap, append_assoc, append-nil, arith}
+use Rattle.pli_typing.specs.declared.typed.Reference as R
+use Rattle.pli_typing.specs.declared.typed.Stored as S
+use Rattle.pli_typing.specs.TypedTree as Y
+use Rattle.pli_typing.specs.TypedView.{numbers_of, part_of, reference_of, stored_of, variable_of}
+use Rattle.pli_coding.specs.Registers.{a0}
+use Rattle.pli_coding.specs.Assembly.{Code}
+use Rattle.pli_coding.specs.Instructions.{service, tested_service}
+use Rattle.pli_coding.specs.Environments.{Environment, Taken, save, with_number, with_words}
+use Rattle.pli_coding.specs.Locating.{behind_locator, leaf_number}
+use Rattle.pli_coding.specs.Expressions.{given_in, reference_code, stored_code, subscripts_code}
+use Rattle.pli_coding.specs.Storing.{aggregate_given, behind_record, behind_value, first_leaf, leaf_count, record_code, stored_into, subscript_count, subscripts_recorded, value_saved}
+use Rattle.rv_expr.specs.Forms.{locator_of}
+use Rattle.rv_assignment.specs.Pieces.{aggregate_put, counted_recorded, elements_put, elements_stored, name_kept, name_put, part_put, part_recorded, part_taken, record_made, subscripts_made, text_kept, top_put, value_kept, word_put}
+
+-- ---- elements
+
+pub word-is : (e : _) (t : _) (r : _) → word_put e t r ≡ save a0 t ++ (reference_code e (with_number t) r ++ value_kept e t r)
+unfolding word_put value_kept
+word-is e t r = refl
+
+pub top-is : (e : _) (t : _) (r : _) → top_put e t r ≡ reference_code e t r ++ text_kept e r
+unfolding top_put text_kept
+top-is e t r = refl
+
+pub name-is : (e : _) (t : _) (r : _) → name_put e t r ≡ reference_code e (with_words 4 t) r ++ name_kept e t r
+unfolding name_put name_kept
+name-is e t r = refl
+
+pub ruleset scalars = (word-is, top-is, name-is, append_assoc, append-nil)
+
+pub into-Number : (e : _) (t : _) (r : _) (p : _) (n : _) → stored_into e t r (stored_of (S.Number p n)) ≡ word_put e t r
+unfolding stored_of word_put
+into-Number e t r p n = refl
+
+pub into-Text : (e : _) (t : _) (r : _) (x : _) → stored_into e t r (stored_of (S.Text x)) ≡ top_put e t r
+unfolding stored_of top_put
+into-Text e t r x = refl
+
+pub into-Bit : (e : _) (t : _) (r : _) (x : _) → stored_into e t r (stored_of (S.Bit x)) ≡ word_put e t r
+unfolding stored_of word_put
+into-Bit e t r x = refl
+
+pub into-Pointer : (e : _) (t : _) (r : _) (x : _) → stored_into e t r (stored_of (S.Pointer x)) ≡ name_put e t r
+unfolding stored_of name_put
+into-Pointer e t r x = refl
+
+pub into-Offset : (e : _) (t : _) (r : _) (x : _) → stored_into e t r (stored_of (S.Offset x)) ≡ word_put e t r
+unfolding stored_of word_put
+into-Offset e t r x = refl
+
+pub ruleset kinds = (into-Number, into-Text, into-Bit, into-Pointer, into-Offset)
+
+-- ---- parts
+
+pub first-Plain : (v : _) (p : _) (ns : _) → first_leaf (reference_of (R.Plain v p ns)) ≡ (part_of p).first
+unfolding reference_of
+first-Plain v p ns = refl
+
+pub first-Located : (a : _) (l : _) (v : _) (p : _) (ns : _) → first_leaf (reference_of (R.Located' a l v p ns)) ≡ (part_of p).first
+unfolding reference_of
+first-Located a l v p ns = refl
+
+pub count-Plain : (v : _) (p : _) (ns : _) → leaf_count (reference_of (R.Plain v p ns)) ≡ (part_of p).count
+unfolding reference_of
+count-Plain v p ns = refl
+
+pub count-Located : (a : _) (l : _) (v : _) (p : _) (ns : _) → leaf_count (reference_of (R.Located' a l v p ns)) ≡ (part_of p).count
+unfolding reference_of
+count-Located a l v p ns = refl
+
+pub given-Plain : (v : _) (p : _) (ns : _) → subscript_count (reference_of (R.Plain v p ns)) ≡ given_in (numbers_of ns)
+unfolding reference_of
+given-Plain v p ns = refl
+
+pub given-Located : (a : _) (l : _) (v : _) (p : _) (ns : _) → subscript_count (reference_of (R.Located' a l v p ns)) ≡ given_in (numbers_of ns)
+unfolding reference_of
+given-Located a l v p ns = refl
+
+pub behind-Plain : (t : _) (v : _) (p : _) (ns : _) → behind_record (reference_of (R.Plain v p ns)) t ≡ behind_locator (variable_of v) (with_words 4 t)
+unfolding reference_of
+behind-Plain t v p ns = refl
+
+pub behind-Located : (t : _) (a : _) (l : _) (v : _) (p : _) (ns : _) → behind_record (reference_of (R.Located' a l v p ns)) t ≡ behind_locator (variable_of v) (with_words 4 t)
+unfolding reference_of
+behind-Located t a l v p ns = refl
+
+pub recorded-Plain : (e : _) (t : _) (f : _) (v : _) (p : _) (ns : _) → part_recorded e t f (reference_of (R.Plain v p ns)) ≡ subscripts_made e t f (variable_of v) (part_of p) (numbers_of ns)
+unfolding reference_of part_recorded
+recorded-Plain e t f v p ns = refl
+
+pub recorded-Located : (e : _) (t : _) (f : _) (a : _) (l : _) (v : _) (p : _) (ns : _) → part_recorded e t f (reference_of (R.Located' a l v p ns)) ≡ subscripts_made e t f (variable_of v) (part_of p) (numbers_of ns)
+unfolding reference_of part_recorded
+recorded-Located e t f a l v p ns = refl
+
+pub ruleset parts = (first-Plain, first-Located, count-Plain, count-Located, given-Plain, given-Located, behind-Plain, behind-Located, recorded-Plain, recorded-Located)
+
+-- ---- records
+
+pub some_given : (e : Environment) (t waiting : Taken) (v : Y.Variable) (part : Y.Part) (n : ℕ) → 0 < n → subscripts_recorded e t waiting v part n ≡ counted_recorded t waiting (leaf_number e v part.first) n
+some_given e t waiting v part zero h = absurd (omega arith)
+some_given e t waiting v part (suc n) h = refl
+
+pub made-is : (e : _) (t : _) (f : _) (v : _) (p : _) (ns : _) → subscripts_made e t f v p ns ≡ subscripts_code e (behind_locator v f) ns ++ record_made e t f v p ns
+unfolding subscripts_made
+made-is e t f v p ns = refl
+
+pub record-is : (e : Environment) (t : Taken) (r : Y.Reference) → record_code e t r ≡ locator_of e (with_words 4 t) r ++ part_recorded e t (with_words 4 t) r
+unfolding locator_of part_recorded subscripts_made record_made
+record-is e t (Y.Referring v locator part subscripts) = refl
+
+pub ruleset records = (made-is, record-is, append_assoc, append-nil)
+
+-- ---- aggregates
+
+pub elements-are : (e : _) (t : _) (target : _) (source : _) → elements_put e t target source ≡ stored_code e t source ++ (value_saved t source ++ (record_code e (behind_value source t) target ++ elements_stored e t (behind_value source t) target source))
+unfolding elements_put elements_stored
+elements-are e t target source = refl
+
+regroup : (a b c d f g : Code) → a ++ (b ++ (c ++ (d ++ (f ++ g)))) ≡ a ++ ((b ++ c) ++ (d ++ (f ++ g)))
+regroup a b c d f g = ap (λ u. a ++ u) (sym (append_assoc b c (d ++ (f ++ g))))
+
+pub aggregate-is : (e : Environment) (t : Taken) (target source : Y.Reference) → aggregate_put e t target source ≡ record_code e t source ++ (part_taken e t source ++ (record_code e t target ++ part_put e t target))
+unfolding aggregate_put part_taken part_put
+aggregate-is e t target source = regroup (record_code e t source) (aggregate_given e t source 0) (service 40) (record_code e t target) (aggregate_given e t target 1) (tested_service 40)
+
+pub ruleset aggregates = (elements-are, aggregate-is, append_assoc, append-nil)

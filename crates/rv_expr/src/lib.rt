@@ -1,0 +1,4 @@
+// The code of expressions.
+#![tactic(auto)]
+
+pub mod expression;

@@ -1,0 +1,4 @@
+pub mod Bounded
+pub mod Sizes
+pub mod Walks
+pub mod Weights
