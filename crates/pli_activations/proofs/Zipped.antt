@@ -1,7 +1,7 @@
 -- Blocks beside their units, newest first: what is done with both is done with the activations that they are.
-use Rattle.std.proofs.Common.{◌≡◌, ℕ, zero, suc, ◌+◌, ◌-◌, ◌<◌, ◌≤◌, true, false, List, [], ◌∷◌, ◌++◌, length, take, drop, get_or, Some, None, Option, refl, sym, ap, ap₂, subst, ◌∙◌, arith, length-drop, length-take, ◌≢◌}
+use Rattle.std.proofs.Common.{◌≡◌, ℕ, zero, suc, ◌+◌, ◌-◌, ◌<◌, ◌≤◌, Bool, true, false, List, [], ◌∷◌, ◌++◌, length, take, drop, get_or, Some, None, Option, refl, sym, ap, ap₂, subst, ◌∙◌, arith, length-drop, length-take, ◌≢◌}
 use Rattle.std.proofs.lemmas.Bool.Decides.{nat_tests}
-use Rattle.std.specs.Prelude.{reverse, ◌==◌, option_map, if◌then◌else◌}
+use Rattle.std.specs.Prelude.{reverse, ◌==◌, option_map, slice_get, if◌then◌else◌}
 use Rattle.std.proofs.lemmas.List.{drop_at, drop-drop, length-reverse, reverse-append, take-append-drop, take_more, get_or_append_left}
 use Rattle.std.proofs.Math.Seq.{get_or-append_seam}
 use Rattle.pli_language.specs.declared.condition.Condition.{Condition}
@@ -14,7 +14,7 @@ use Rattle.pli_serving.specs.OnUnits.{established, force, reverted}
 use Rattle.pli_serving.specs.ActsAndEnds.{code_of_kind, oncode_of}
 use Rattle.pli_activations.specs.declared.block.Block.{Block}
 use Rattle.pli_activations.specs.declared.block.BlockKind.TheVariants as K
-use Rattle.pli_activations.specs.Entered.{activation_with, activations_of, framed, kind_shown, unit_shown, units_shown}
+use Rattle.pli_activations.specs.Entered.{activation_with, activations_of, block_shown, framed, kind_shown, unit_shown, units_shown, without_units}
 
 -- ---- lists beside each other
 
@@ -178,3 +178,28 @@ not_at_frame items uss h frame b count least within is other =
     ap (λ bs. from_frame frame (activations_of bs (drop (length items - h) uss))) top
     ∙ further b (reverse (take (h - 1) items)) (drop (length items - h) uss) frame as_many (eq_false b.frame frame other)
     ∙ ap (λ us. from_frame frame (activations_of (reverse (take (h - 1) items)) us)) (drop-drop 1 (length items - h) uss ∙ ap (λ k. drop k uss) (omega arith))
+
+-- ---- what is kept of the block of a frame
+
+abbrev pub block_in : (frame : ℕ) → List Block → Option Block
+block_in frame [] = None
+block_in frame (b ∷ bs) = if b.frame == frame then Some b else block_in frame bs
+
+pub block-zipped : (frame : ℕ) (bs : List Block) (uss : List (List (Condition × UnitHeld))) → length uss ≡ length bs → option_map without_units (slice_get (from_frame frame (activations_of bs uss)) 0) ≡ option_map block_shown (block_in frame bs)
+block-zipped frame [] uss e = refl
+block-zipped frame (b ∷ bs) [] e = absurd (omega (arith, e))
+block-zipped frame (b ∷ bs) (us ∷ uss) e = by_test (b.frame == frame) (block-zipped frame bs uss (omega (arith, e)))
+  where
+    by_test : (t : Bool) → option_map without_units (slice_get (from_frame frame (activations_of bs uss)) 0) ≡ option_map block_shown (block_in frame bs) → option_map without_units (slice_get (if t then activations_of (b ∷ bs) (us ∷ uss) else from_frame frame (activations_of bs uss)) 0) ≡ option_map block_shown (if t then Some b else block_in frame bs)
+    by_test true further = refl
+    by_test false further = further
+
+pub block_here : (items : List Block) (h frame : ℕ) (b : Block) → 0 < h → h ≤ length items → b ≡ get_or items (h - 1) b → b.frame ≡ frame → block_in frame (reverse (take h items)) ≡ Some b
+block_here items h frame b least within is same =
+    ap (block_in frame) (newest_of items h b least within is)
+    ∙ ap (λ t. if t then Some b else block_in frame (reverse (take (h - 1) items))) (eq_true b.frame frame same)
+
+pub block_further : (items : List Block) (h frame : ℕ) (b : Block) → 0 < h → h ≤ length items → b ≡ get_or items (h - 1) b → b.frame ≢ frame → block_in frame (reverse (take h items)) ≡ block_in frame (reverse (take (h - 1) items))
+block_further items h frame b least within is other =
+    ap (block_in frame) (newest_of items h b least within is)
+    ∙ ap (λ t. if t then Some b else block_in frame (reverse (take (h - 1) items))) (eq_false b.frame frame other)

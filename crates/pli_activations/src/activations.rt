@@ -131,6 +131,21 @@ impl Activations {
         None
     }
 
+    /// What is kept of the newest block with this frame.
+    pub fn block_of(&self, frame: u32) -> Option<Block>
+        ensures { option_map block_shown result ≡ option_map without_units (slice_get (from_frame frame self.now) 0) }
+    {
+        let mut height = self.blocks.len();
+        'entered: while height > 0 {
+            height -= 1;
+            let block = self.blocks[height];
+            if block.frame == frame {
+                return Some(block);
+            }
+        }
+        None
+    }
+
     /// All blocks above this height end, with their units.
     pub fn unwind(&mut self, height: u32)
         requires { height ≤ length self.old }

@@ -52,6 +52,7 @@ fn blocks_are_entered_or_memory_is_refused(rt: HostRuntime) {
             assert!(rt; found == [Some((8192, Unit::System)), outer, outer]);
             assert!(rt; blocks.newest() == Some(MAIN) && blocks.oncode() == 0);
             assert!(rt; blocks.height_of(4096) == Some(1) && blocks.height_of(8192).is_none());
+            assert!(rt; blocks.block_of(4096) == Some(MAIN) && blocks.block_of(8192).is_none());
         }
         Err(fault) => assert!(rt; fault == OnUnitsFault::Memory && blocks.height() < 3),
     }

@@ -68,7 +68,8 @@ impl Held {
         places: &[ExtentPlace],
         extent: Bounds,
     ) -> Result<Reply, Refusal>
-        ensures { (m : List ℕ) → (c : Call) → Answers (λ c. extent_filled c (pair_of extent) number (map place_of places.now)) (with_held K.keeper self.old m c) result (with_held K.keeper self.new m c) }
+        ensures answers { (m : List ℕ) → (c : Call) → Answers (λ c. extent_filled c (pair_of extent) number (map place_of places.now)) (with_held K.keeper self.old m c) result (with_held K.keeper self.new m c) }
+        ensures kept { self.new ≡ record self.old { signatures = self.new.signatures } }
     {
         match self.signatures.fill(alloc, number, places, extent)? {
             Some(filled) => {
@@ -90,7 +91,8 @@ impl Held {
         upper: u32,
     ) -> Result<Reply, Refusal>
         requires { IsLaid K.keeper self.old.layout memory.now }
-        ensures { (c : Call) → Answers (λ c. service.signature_served c number places lower upper) (with_held K.keeper self.old memory.now c) result (with_held K.keeper self.new memory.now c) }
+        ensures answers { (c : Call) → Answers (λ c. service.signature_served c number places lower upper) (with_held K.keeper self.old memory.now c) result (with_held K.keeper self.new memory.now c) }
+        ensures kept { self.new ≡ record self.old { signatures = self.new.signatures } }
     {
         let extent = bounds_given(lower, upper);
         match places_at(alloc, &Source::new(self.layout, memory), places as usize)? {

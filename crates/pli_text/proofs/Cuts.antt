@@ -14,7 +14,7 @@ length-cut_at (s ∷ ss) bytes = ap suc (length-cut_at ss (take s bytes))
 pub length-pieces : (ss bytes : List ℕ) → length (pieces ss bytes) ≡ length ss
 length-pieces ss bytes = length-cut_at (reverse ss) bytes ∙ length-reverse ss
 
-starts_below : (ss : List ℕ) (d end : ℕ) → IsInOrder ss end → d < length ss → get_or ss d 0 ≤ end
+pub starts_below : (ss : List ℕ) (d end : ℕ) → IsInOrder ss end → d < length ss → get_or ss d 0 ≤ end
 starts_below [] d end o h = absurd (omega arith)
 starts_below (s ∷ ss) zero end o h = o.0
 starts_below (s ∷ ss) (suc d) end o h = let r = starts_below ss d s o.1 (omega arith) in omega (arith, o.0)

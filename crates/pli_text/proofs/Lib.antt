@@ -4,3 +4,4 @@ pub mod Decimals
 pub mod Finding
 pub mod Fitting
 pub mod Padding
+pub mod Sinking

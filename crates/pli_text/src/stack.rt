@@ -88,6 +88,19 @@ impl TextStack {
         }
     }
 
+    /// The newest text stays above the oldest ones, as many as this; those between are dropped.
+    pub fn sink(&mut self, height: usize)
+        requires { height < length self.old }
+        ensures { self.new ≡ top_of self.old ∷ drop (length self.old - height) self.old }
+    {
+        let end = self.bytes.len();
+        let top = self.starts[self.starts.len() - 1];
+        let below = self.starts[height];
+        self.starts.truncate(height + 1);
+        self.bytes.copy_within(top..end, below);
+        self.bytes.truncate(below + (end - top));
+    }
+
     /// A text comes on top. `Memory` where there is none, and then nothing changed.
     pub fn push(&mut self, text: &[u8]) -> Result<(), TextFault>
         ensures { IsOrStays (text.now ∷ self.old) self.old result self.new }

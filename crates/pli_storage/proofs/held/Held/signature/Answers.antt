@@ -12,8 +12,8 @@ use Rattle.pli_storage.specs.Held.{holding, with_held}
 use Rattle.pli_storage.proofs.Replying.{replies_by}
 use Rattle.pli_storage.proofs.held.Held.signature.Goals as goal
 
-pub returns-in-Some : goal.returns-in-Some
-returns-in-Some g c = λ c'.
+pub returns-in-Some-clause-answers : goal.returns-in-Some-clause-answers
+returns-in-Some-clause-answers g c = λ c'.
     let places_are : places_at (layout_of c.args.self.now.layout) c.args.places c.args.memory.now ≡ Some (map place_of c.deref.result.now) =
     ap₂ (λ (l : Layout) (m : List ℕ). places_at (layout_of l) c.args.places m) (sym c.new.ensures.layout) (sym c.new.ensures.memory)
     ∙ sym c.in_ok-list.ensures
@@ -22,4 +22,4 @@ returns-in-Some g c = λ c'.
     replies_by _ (extent_filled (with_held g.K.AreaKeeper.keeper c.args.self.now c.args.memory.now c') (pair_of c.bounds_given-extent.result) c.args.number (map place_of c.deref.result.now)) (holding c.args.self.now c'.services) c.args.memory.now c.fill.result (holding c.fill.new.self c'.services) c.args.memory.now
     (ap (λ (ps : Option (List ExtentPlace)). or_bad ps (λ ps. extent_filled (with_held g.K.AreaKeeper.keeper c.args.self.now c.args.memory.now c') (bounds_given c.args.lower c.args.upper) c.args.number ps)) places_are
     ∙ ap (λ (extent : Bounds). extent_filled (with_held g.K.AreaKeeper.keeper c.args.self.now c.args.memory.now c') extent c.args.number (map place_of c.deref.result.now)) (sym c.bounds_given-extent.ensures))
-    (c.fill.ensures c.args.memory.now c')
+    (c.fill.ensures.answers c.args.memory.now c')
