@@ -1,2 +1,3 @@
 pub mod Served
 pub mod Stacks
+pub mod Tops

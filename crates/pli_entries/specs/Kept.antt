@@ -1,5 +1,5 @@
 -- Entries as they are kept: texts, and in the places of some of them aggregates.
-use Rattle.std.specs.Prelude.{ℕ, ◌*◌, ◌<◌, ◌==◌, nat_lt, List, [], ◌∷◌, length, map, if◌then◌else◌}
+use Rattle.std.specs.Prelude.{ℕ, ◌*◌, ◌<◌, ◌==◌, nat_lt, List, [], ◌∷◌, length, map, Option, Some, None, if◌then◌else◌}
 use Rattle.pli_typing.specs.Signatures.{Bounds, LeafKind}
 use Rattle.pli_types.specs.View.{pair_of}
 use Rattle.pli_meaning.specs.Contents.{element_place}
@@ -40,3 +40,9 @@ ArePlaced (a ∷ held) height = (a.place < height) × ArePlaced held a.place
 abbrev pub placed_below : (height : ℕ) → List Aggregate → List Aggregate
 placed_below height [] = []
 placed_below height (a ∷ held) = if nat_lt a.place height then a ∷ held else placed_below height held
+
+-- ---- the newest entry, where that is an aggregate
+
+abbrev pub leaves_on_top : List Entry → Option (List S.TakenLeaf)
+leaves_on_top (AggregateEntry leaves ∷ below) = Some leaves
+leaves_on_top _ = None

@@ -1,10 +1,10 @@
 // The stack of entries.
 
-ghost use Rattle.std.specs.Prelude.{◌≡◌, ◌≤◌, ◌-◌, [], ◌∷◌, length, drop, map, MatchResult};
-ghost use Rattle.pli_serving.specs.Blocks.{are_texts};
+ghost use Rattle.std.specs.Prelude.{◌≡◌, ◌<◌, ◌≤◌, ◌-◌, [], ◌∷◌, length, drop, map, option_map, true, MatchResult, Some};
+ghost use Rattle.pli_serving.specs.Blocks.{are_texts, top_kept};
 ghost use Rattle.pli_serving.specs.ServiceState.{AggregateEntry, TextEntry};
 ghost use Rattle.pli_entries.specs.declared.fault.EntryFault.TheVariants as F;
-ghost use Rattle.pli_entries.specs.Kept.{leaf_of};
+ghost use Rattle.pli_entries.specs.Kept.{leaf_of, leaves_on_top};
 
 use crate::fault::EntryFault;
 use crate::kept::{Aggregate, keep_below};
@@ -62,12 +62,37 @@ impl Entries {
         }
     }
 
+    /// The leaves of the newest entry, where that is an aggregate.
+    pub fn newest_leaves(&self) -> Option<&[TakenLeaf]>
+        ensures { option_map (λ leaves. map leaf_of leaves.now) result ≡ leaves_on_top self.now }
+    {
+        match self.aggregates.last() {
+            None => None,
+            Some(newest) => {
+                if self.texts.height() - newest.place > 1 {
+                    return None;
+                }
+                Some(newest.leaves.as_slice())
+            }
+        }
+    }
+
     /// Only the oldest entries stay, as many as this.
     pub fn truncate(&mut self, height: usize)
         requires { height ≤ length self.old }
         ensures { self.new ≡ drop (length self.old - height) self.old }
     {
         self.texts.truncate(height);
+        keep_below(&mut self.aggregates, height);
+    }
+
+    /// Only the oldest entries stay, as many as this, below the newest, which is a text.
+    pub fn sink_text(&mut self, height: usize)
+        requires text { are_texts 1 self.old ≡ true }
+        requires inside { height < length self.old }
+        ensures { top_kept height self.old ≡ Some self.new }
+    {
+        self.texts.sink(height);
         keep_below(&mut self.aggregates, height);
     }
 
