@@ -2,6 +2,7 @@
 use Rattle.std.proofs.Common.{◌≡◌, ℕ, List, [], ◌∷◌, length, refl, sym, ap, arith, Option, Some, None}
 use Rattle.std.specs.Prelude.{option_map}
 use Rattle.pli_language.specs.declared.condition.Condition.{Condition}
+use Rattle.pli_meaning.specs.StorageState.{without_unit}
 use Rattle.pli_conditions.specs.declared.units.Unit.{Unit as UnitHeld}
 use Rattle.pli_conditions.specs.declared.units.Unit.TheVariants as U
 use Rattle.pli_serving.specs.ServiceState.{Services, Activation, OnUnit, SystemUnit, CodeUnit}
@@ -17,6 +18,14 @@ established_none k u (a ∷ as') e = absurd (omega (arith, e))
 pub reverted_none : (k : Condition) (as' : List Activation) → length as' ≡ 0 → reverted k as' ≡ None
 reverted_none k [] e = refl
 reverted_none k (a ∷ as') e = absurd (omega (arith, e))
+
+pub established_height : (k : Condition) (u : OnUnit) (as' bs : List Activation) → established k u as' ≡ Some bs → length bs ≡ length as'
+established_height k u [] bs e = absurd (cc)
+established_height k u (a ∷ as') bs e = let same : record a { units = (k, u) ∷ without_unit k a.units } ∷ as' ≡ bs = cc in sym (ap length same)
+
+pub reverted_height : (k : Condition) (as' bs : List Activation) → reverted k as' ≡ Some bs → length bs ≡ length as'
+reverted_height k [] bs e = absurd (cc)
+reverted_height k (a ∷ as') bs e = let same : record a { units = without_unit k a.units } ∷ as' ≡ bs = cc in sym (ap length same)
 
 frame_is : (f g : ℕ × OnUnit) → Some f ≡ Some g → f.0 ≡ g.0
 frame_is f g e = let same : f ≡ g = cc in ap (λ (p : ℕ × OnUnit). p.0) same

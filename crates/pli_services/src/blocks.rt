@@ -1,6 +1,6 @@
 // Blocks are entered: service 4.
 
-ghost use Rattle.std.specs.Prelude.{◌≡◌, ◌<◌, ℕ, length, option_map, MatchOption, ⊤};
+ghost use Rattle.std.specs.Prelude.{◌≡◌, ◌<◌, ◌≤◌, ℕ, length, option_map, MatchOption, ⊤};
 ghost use Rattle.pli_serving.specs.ServiceState.{Services};
 ghost use Rattle.pli_answering.specs.Answering.{Answers};
 ghost use Rattle.pli_serving.specs.Blocks as blocks;
@@ -101,8 +101,9 @@ impl Flow {
         line: u32,
     ) -> Result<Reply, Refusal>
         requires { length self.old.activations < 500 }
-        ensures { (c : Call) → (e : blocks.Entered) → (texts : ℕ) → block_shown block ≡ blocks.activation_of (with_flow self.old c).services e frame texts →
+        ensures answers { (c : Call) → (e : blocks.Entered) → (texts : ℕ) → block_shown block ≡ blocks.activation_of (with_flow self.old c).services e frame texts →
             Answers (λ c. entered_as c kind frame line texts e) (with_flow self.old c) result (with_flow self.new c) }
+        ensures height { length self.old.activations ≤ length self.new.activations }
     {
         if self.activations.enter(block).is_err() {
             return Err(Refusal::Memory);
@@ -123,8 +124,9 @@ impl Flow {
         texts: u32,
         standing: Standing,
     ) -> Result<Reply, Refusal>
-        ensures { (c : Call) → standing.entries ≡ length c.services.entries → standing.edits ≡ length c.services.edits →
+        ensures answers { (c : Call) → standing.entries ≡ length c.services.entries → standing.edits ≡ length c.services.edits →
             Answers (λ c. entered_as c kind frame line texts (entered_shown entered)) (with_flow self.old c) result (with_flow self.new c) }
+        ensures height { length self.old.activations ≤ length self.new.activations }
     {
         if self.activations.height() >= MOST_ACTIVATIONS {
             self.shown.finish(End::Limit(Limit::Depth))?;
@@ -145,8 +147,9 @@ impl Flow {
         texts: u32,
         standing: Standing,
     ) -> Result<Reply, Refusal>
-        ensures { (c : Call) → standing.are_texts ≡ blocks.are_texts texts c.services.entries → standing.entries ≡ length c.services.entries → standing.edits ≡ length c.services.edits →
+        ensures answers { (c : Call) → standing.are_texts ≡ blocks.are_texts texts c.services.entries → standing.entries ≡ length c.services.entries → standing.edits ≡ length c.services.edits →
             Answers (λ c. blocks.enter_served c kind frame line texts) (with_flow self.old c) result (with_flow self.new c) }
+        ensures height { length self.old.activations ≤ length self.new.activations }
     {
         match self.entered(kind) {
             Some(entered) => {

@@ -1,6 +1,6 @@
 // How a run goes on: services 1, 2, 28 to 30, 32 and 33.
 
-ghost use Rattle.std.specs.Prelude.{◌≡◌, Some, None, if◌then◌else◌};
+ghost use Rattle.std.specs.Prelude.{◌≡◌, length, Some, None, if◌then◌else◌};
 ghost use Rattle.pli_serving.specs.Finding.{Call};
 ghost use Rattle.pli_serving.specs.ActsAndEnds as acts;
 ghost use Rattle.pli_serving.specs.OnUnits as units;
@@ -48,7 +48,8 @@ impl Flow {
 
     /// 1: the line becomes current; with mode 0 an act is made, with 1 none.
     pub fn act(&mut self, line: u32, mode: u32) -> Result<Reply, Refusal>
-        ensures { (c : Call) → Answers (λ c. acts.act_served c line mode) (with_flow self.old c) result (with_flow self.new c) }
+        ensures answers { (c : Call) → Answers (λ c. acts.act_served c line mode) (with_flow self.old c) result (with_flow self.new c) }
+        ensures height { length self.new.activations ≡ length self.old.activations }
     {
         match mode {
             0 => self.shown.count()?,
@@ -61,7 +62,8 @@ impl Flow {
 
     /// 2: the run ends: 0 Finished, 1 Stopped, 2 Error with a code at the current line.
     pub fn end(&mut self, kind: u32, code: u32) -> Result<Reply, Refusal>
-        ensures { (c : Call) → Answers (λ c. acts.end_served c kind code) (with_flow self.old c) result (with_flow self.new c) }
+        ensures answers { (c : Call) → Answers (λ c. acts.end_served c kind code) (with_flow self.old c) result (with_flow self.new c) }
+        ensures height { length self.new.activations ≡ length self.old.activations }
     {
         let Some(end) = end_of(kind, code, self.line) else {
             return Err(Refusal::Bad);
@@ -72,7 +74,8 @@ impl Flow {
 
     /// 32: the act of trying an allocation again.
     pub fn retry(&mut self, first: u32, second: u32) -> Result<Reply, Refusal>
-        ensures { (c : Call) → Answers (λ c. acts.retry_served c first second) (with_flow self.old c) result (with_flow self.new c) }
+        ensures answers { (c : Call) → Answers (λ c. acts.retry_served c first second) (with_flow self.old c) result (with_flow self.new c) }
+        ensures height { length self.new.activations ≡ length self.old.activations }
     {
         self.shown.count()?;
         Ok(Reply::Done(first, second))
@@ -86,9 +89,10 @@ impl Flow {
     }
 
     /// 28: the newest block has a unit for the condition: code at an address, or with 0 the system's action.
-    #[tactic(auto, using(crate::proofs::Units::established_none))]
+    #[tactic(auto, using(crate::proofs::Units::established_none, crate::proofs::Units::established_height))]
     pub fn establish(&mut self, condition: u32, at: u32) -> Result<Reply, Refusal>
-        ensures { (c : Call) → Answers (λ c. units.on_served c condition at) (with_flow self.old c) result (with_flow self.new c) }
+        ensures answers { (c : Call) → Answers (λ c. units.on_served c condition at) (with_flow self.old c) result (with_flow self.new c) }
+        ensures height { length self.new.activations ≡ length self.old.activations }
     {
         let Some(found) = condition_of(condition) else {
             return Err(Refusal::Bad);
@@ -103,9 +107,10 @@ impl Flow {
     }
 
     /// 29: the newest block has no unit for the condition.
-    #[tactic(auto, using(crate::proofs::Units::reverted_none))]
+    #[tactic(auto, using(crate::proofs::Units::reverted_none, crate::proofs::Units::reverted_height))]
     pub fn revert(&mut self, condition: u32, second: u32) -> Result<Reply, Refusal>
-        ensures { (c : Call) → Answers (λ c. units.revert_served c condition second) (with_flow self.old c) result (with_flow self.new c) }
+        ensures answers { (c : Call) → Answers (λ c. units.revert_served c condition second) (with_flow self.old c) result (with_flow self.new c) }
+        ensures height { length self.new.activations ≡ length self.old.activations }
     {
         let Some(found) = condition_of(condition) else {
             return Err(Refusal::Bad);
@@ -120,7 +125,8 @@ impl Flow {
     /// 30: the condition is raised with its code; what the unit in force is told waits for its enter.
     #[tactic(auto, using(crate::proofs::Units::raised_without, crate::proofs::Units::raised_to))]
     pub fn raise(&mut self, condition: u32, code: u32, resume: u32) -> Result<Reply, Refusal>
-        ensures { (c : Call) → Answers (λ c. units.raise_served c condition code resume) (with_flow self.old c) result (with_flow self.new c) }
+        ensures answers { (c : Call) → Answers (λ c. units.raise_served c condition code resume) (with_flow self.old c) result (with_flow self.new c) }
+        ensures height { length self.new.activations ≡ length self.old.activations }
     {
         let (Some(raised), Some(short)) = (condition_of(condition), code_of(code)) else {
             return Err(Refusal::Bad);
