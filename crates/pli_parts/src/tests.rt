@@ -121,7 +121,9 @@ fn a_part_has_its_elements(rt: HostRuntime) {
     fill(&mut memory);
     match find_part::<Chain>(rt.alloc(), &held, &memory, ASKED) {
         Ok(Some(leaves)) => {
-            assert!(rt; leaves.len() == 1 && leaves[0].addresses.as_slice() == [64, 68, 72]);
+            assert!(rt;
+                leaves.len() == 1 && leaves[0].addresses.as_slice() == [64, 68, 72].as_slice()
+            );
         }
         Ok(None) => assert!(rt; false),
         Err(refusal) => assert!(rt; refusal == Refusal::Memory),
