@@ -1,0 +1,5 @@
+pub mod Counts
+pub mod Fittings
+pub mod Growing
+pub mod Limits
+pub mod Makings

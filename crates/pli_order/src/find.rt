@@ -1,0 +1,69 @@
+// The elements of a shape: how many there are, and the one of a number.
+
+ghost use Rattle.std.specs.Prelude.{◌≡◌, ℤ, List, IfOk, length, map, option_map, slice_get};
+ghost use Rattle.pli_typing.specs.Signatures.{capped};
+ghost use Rattle.pli_meaning.specs.StreamOrder.{elements_inside};
+ghost use Rattle.pli_shapes.specs.Nests.{nest_in};
+ghost use Rattle.pli_shapes.specs.declared.part.Part.{Part};
+ghost use Rattle.pli_signatures.specs.View.{leaf_in_force};
+ghost use Rattle.pli_order.specs.Orders.{IsOrder, element_shown};
+
+use crate::counts::{count_at, counts};
+use crate::notes::Order;
+use crate::walk::{Element, Step, Walk};
+use pli_signatures::element::LeafInForce;
+use smallvec::SmallVec;
+use std::alloc::{AllocError, Global};
+
+/// How many elements there are; `u64::MAX` where there are more. The leaves are those of the shape.
+pub fn element_total(
+    alloc: Global,
+    order: &Order,
+    leaves: &[LeafInForce],
+) -> Result<u64, AllocError>
+    ensures { (parts : List Part) → (given : List ℤ) → IsOrder parts (length given) order.now →
+        IfOk result (λ total. total ≡ capped (length (elements_inside (nest_in parts) 0 (map leaf_in_force leaves.now) given))) }
+{
+    let counts = counts(alloc, order.notes.as_slice(), leaves)?;
+    Ok(count_at(counts.as_slice(), 0))
+}
+
+/// A walk before all parts.
+fn begun(alloc: Global, given: &[i32], left: usize, number: u32) -> Result<Walk, AllocError>
+    ensures place { IfOk result (λ walk. walk.place ≡ 0) }
+    ensures left { IfOk result (λ walk. walk.left ≡ left) }
+    ensures number { IfOk result (λ walk. walk.number ≡ number) }
+    ensures subscripts { IfOk result (λ walk. walk.subscripts.items ≡ given.now) }
+{
+    let subscripts = SmallVec::from_slice(alloc, given)?;
+    Ok(Walk {
+        place: 0,
+        left,
+        number: u64::from(number),
+        subscripts,
+    })
+}
+
+/// The element of a number, counted from 0, behind the subscripts given; none where there are fewer. The leaves are those of the shape.
+/// No element before it is looked at.
+pub fn element_at(
+    alloc: Global,
+    order: &Order,
+    leaves: &[LeafInForce],
+    given: &[i32],
+    number: u32,
+) -> Result<Option<Element>, AllocError>
+    ensures { (parts : List Part) → IsOrder parts (length given.now) order.now →
+        IfOk result (λ o. option_map element_shown o ≡ slice_get (elements_inside (nest_in parts) 0 (map leaf_in_force leaves.now) given.now) number) }
+{
+    let notes = order.notes.as_slice();
+    let counts = counts(alloc, notes, leaves)?;
+    let mut walk = begun(alloc, given, notes.len(), number)?;
+    'parts: loop {
+        match walk.step(alloc, notes, counts.as_slice(), leaves)? {
+            Step::On => {}
+            Step::Found(element) => return Ok(Some(element)),
+            Step::Nothing => return Ok(None),
+        }
+    }
+}
