@@ -56,7 +56,7 @@ fn elements_are_found_by_their_numbers(rt: HostRuntime) -> Result<(), Fail> {
         assert!(rt; false);
         return Ok(());
     };
-    assert!(rt; found.leaf == 1 && found.subscripts.as_slice() == &[2, 2]);
+    assert!(rt; found.leaf == 1 && found.subscripts.as_slice() == [2, 2].as_slice());
     assert!(rt; element_at(rt.alloc(), &order, &leaves, &[], 8)?.is_none());
     Ok(())
 }

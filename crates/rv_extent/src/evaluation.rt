@@ -81,15 +81,7 @@ fn evaluations_code(
     ensures { OnOk result (code.new ≡ code.old ++ form.evaluations_code (environment_of environment.now) (taken_of taken) (declared_variable_of variable.now) 0 (map evaluation_of evaluations.now)) }
 {
     for (place, evaluation) in evaluations.iter().enumerate() {
-        evaluation_code(
-            alloc,
-            code,
-            environment,
-            taken,
-            variable,
-            place,
-            evaluation,
-        )?;
+        evaluation_code(alloc, code, environment, taken, variable, place, evaluation)?;
     }
     Ok(())
 }

@@ -95,11 +95,7 @@ fn referring<'a>(alloc: Global) -> Result<DeclaredVariable<'a>, AllocError> {
 fn program<'a>(alloc: Global) -> Result<Typed<'a>, AllocError> {
     let evaluated = Extent::Evaluated(0);
     let mut variables = Vec::new(alloc);
-    variables.push(scalar(
-        alloc,
-        LeafType::Character(evaluated),
-        Check::Length,
-    )?)?;
+    variables.push(scalar(alloc, LeafType::Character(evaluated), Check::Length)?)?;
     variables.push(scalar(alloc, LeafType::Area(evaluated), Check::Size)?)?;
     variables.push(array(alloc)?)?;
     variables.push(area(alloc)?)?;

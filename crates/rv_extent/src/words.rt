@@ -50,11 +50,7 @@ fn refer_word(taken: Taken) -> Result<i32, AllocError>
 }
 
 /// The number of the signature so far, in a register.
-pub fn signature_loaded(
-    code: &mut Code,
-    taken: Taken,
-    register: Register,
-) -> Result<(), AllocError>
+pub fn signature_loaded(code: &mut Code, taken: Taken, register: Register) -> Result<(), AllocError>
     ensures { OnOk result (code.new ≡ code.old ++ signature_loaded (taken_of taken) register) }
 {
     let place = number_word(taken)?;
