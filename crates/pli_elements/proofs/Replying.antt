@@ -1,0 +1,136 @@
+-- The service's answers, from the places on where the elements are known.
+use Rattle.std.proofs.Common.{◌≡◌, ℕ, ◌+◌, ◌-◌, ◌^◌, ◌<◌, ◌≤◌, ℤ, Bool, true, false, List, length, map, Option, Some, None, Result, Ok, Err, refl, sym, ap, subst, ◌∙◌, arith}
+use Rattle.std.specs.Prelude.{◌==◌, IfOk, MatchResult, ⊤, is_some, nat_lt, option_map, slice_get, unwrap_or, if◌then◌else◌}
+use Rattle.std.proofs.lemmas.Bool.Decides.{nat_tests}
+use Rattle.std.proofs.lemmas.List.{length-map}
+use Rattle.std.proofs.lemmas.Option.{slice_get-map}
+use Rattle.pli_typing.specs.Signatures.{Leaf, LeafKind, capped}
+use Rattle.pli_meaning.specs.Contents.{Shape}
+use Rattle.pli_meaning.specs.Evaluating.{leaf_at}
+use Rattle.pli_meaning.specs.StreamOrder.{Element, elements_inside}
+use Rattle.pli_meaning.specs.Unreachable.{unreachable_leaf}
+use Rattle.pli_serving.specs.Aggregates.{Aggregate}
+use Rattle.pli_serving.specs.Answers.{Answer, Done, Bad}
+use Rattle.pli_serving.specs.ElementService.{ItemShape, buffer_bytes, counted_elements, element_answered, element_found, elements_by, no_number}
+use Rattle.pli_serving.specs.Bytes.{is_data, with_bytes}
+use Rattle.pli_serving.specs.Finding.{Call, named}
+use Rattle.pli_serving.specs.Outcomes.{answering, bad_unless, or_bad}
+use Rattle.pli_serving.specs.Templates.{shape_at}
+use Rattle.pli_answering.specs.Answering.{Answers, Replies}
+use Rattle.pli_answering.specs.declared.reply.Reply.{Reply}
+use Rattle.rv_meaning.specs.Memory.{bytes_of_words}
+use Rattle.pli_serving.specs.Names.{kind_words}
+use Rattle.pli_answering.specs.declared.reply.Refusal.{Refusal}
+use Rattle.pli_answering.specs.declared.reply.Refusal.TheVariants as F
+use Rattle.pli_signatures.specs.Whole.{leaf_in}
+use Rattle.pli_elements.specs.Outcomes.{IsOutcome}
+use Rattle.pli_elements.specs.declared.standing.Outcome.{Outcome}
+use Rattle.pli_shapes.specs.Nests.{nest_in}
+use Rattle.pli_shapes.specs.declared.part.Part.{Part}
+use Rattle.pli_signatures.specs.View.{kind_of, leaf_in_force}
+use Rattle.pli_signatures.specs.declared.element.ElementKind.{ElementKind}
+use Rattle.pli_signatures.specs.declared.element.LeafInForce.{LeafInForce}
+use Rattle.pli_aggregates.specs.Records.{aggregate_shown, record_shown}
+use Rattle.pli_aggregates.specs.declared.record.Aggregate.{Aggregate as AggregateHeld}
+use Rattle.pli_aggregates.proofs.Parting.{answers_as}
+use Rattle.pli_elements.specs.Items.{IsItem, behind_leaf}
+use Rattle.pli_elements.specs.Served.{in_aggregate, in_item, in_shape}
+use Rattle.pli_elements.specs.declared.item.Item.{Item}
+
+abbrev pub own_elements : List Part → Item → List Element
+own_elements parts i = elements_inside (nest_in parts) 0 (map leaf_in_force i.leaves.items) i.given.items
+
+-- ---- the count
+
+as_many : (elements : List Element) (parts : List Part) (i : Item) → IsItem (Some elements) parts i → length elements ≡ length (own_elements parts i)
+as_many elements parts i h =
+    let same : elements ≡ map (behind_leaf i.first) (own_elements parts i) = some h.are in
+    ap length same ∙ length-map (own_elements parts i) (behind_leaf i.first)
+  where
+    some : {X : Type 0} {x y : X} → Some x ≡ Some y → x ≡ y
+    some e = cc
+
+pub counted_so : (c : Call) (elements : List Element) (parts : List Part) (i : Item) (total : ℕ) → IsItem (Some elements) parts i → total ≡ capped (length (own_elements parts i)) → total < 2 ^ 32 - 1 → counted_elements c elements ≡ Done c.services c.memory total 0
+counted_so c elements parts i total h e low =
+    let many = as_many elements parts i h in
+    let same : length elements ≡ total = omega (arith, many, e, low) in
+    let less : nat_lt (length elements) no_number ≡ true = grind (arith, nat_tests, same, low) in
+    ap (λ b. bad_unless b (answering c (length elements) 0)) less ∙ ap (λ n. Done c.services c.memory n 0) same
+
+pub too_many : (c : Call) (elements : List Element) (parts : List Part) (i : Item) (total : ℕ) → IsItem (Some elements) parts i → total ≡ capped (length (own_elements parts i)) → 2 ^ 32 - 1 ≤ total → counted_elements c elements ≡ Bad
+too_many c elements parts i total h e low =
+    let many = as_many elements parts i h in
+    let more : 2 ^ 32 - 1 ≤ length elements = omega (arith, many, e, low) in
+    let no : nat_lt (length elements) no_number ≡ false = grind (arith, nat_tests, more) in
+    ap (λ b. bad_unless b (answering c (length elements) 0)) no
+
+-- ---- the element of a number
+
+pub got_so : (elements : List Element) (parts : List Part) (i : Item) (number : ℕ) (o : Option Element) → IsItem (Some elements) parts i → o ≡ slice_get (own_elements parts i) number → slice_get elements number ≡ option_map (behind_leaf i.first) o
+got_so elements parts i number o h e =
+    ap (λ l. slice_get l number) (some h.are)
+    ∙ slice_get-map (behind_leaf i.first) (own_elements parts i) number
+    ∙ ap (option_map (behind_leaf i.first)) (sym e)
+  where
+    some : {X : Type 0} {x y : X} → Some x ≡ Some y → x ≡ y
+    some e = cc
+
+-- ---- an element
+
+pub no_buffer : (c : Call) (x buffer : ℕ) (a : Aggregate) (e : Element) → is_data c.layout buffer 8 ≡ false → element_found c x a buffer e ≡ Bad
+no_buffer c x buffer a e h =
+    ap (λ b. bad_unless b (element_answered c x a e (with_bytes (buffer_bytes (leaf_at a.shape a.extent e.0).kind) buffer c.memory) (named c a.name a.signature))) h
+
+pub found_so : (c : Call) (x buffer : ℕ) (a : Aggregate) (e : Element) (r : Answer) → is_data c.layout buffer 8 ≡ true → element_answered c x a e (with_bytes (buffer_bytes (leaf_at a.shape a.extent e.0).kind) buffer c.memory) (named c a.name a.signature) ≡ r
+    → element_found c x a buffer e ≡ r
+found_so c x buffer a e r h f =
+    ap (λ b. bad_unless b (element_answered c x a e (with_bytes (buffer_bytes (leaf_at a.shape a.extent e.0).kind) buffer c.memory) (named c a.name a.signature))) h ∙ f
+
+-- ---- the aggregate
+
+pub whole_so : (f : Call → Aggregate → Answer) (old new : Call) (a : AggregateHeld) (o : Option Shape) (r : Result Reply Refusal) → is_some o ≡ true → ((s : Shape) → o ≡ Some s → Answers (λ c. f c (record_shown a s)) old r new)
+    → Answers (λ c. or_bad (option_map (record_shown a) o) (f c)) old r new
+whole_so f old new a None r e h = absurd (cc)
+whole_so f old new a (Some s) r e h = h s refl
+
+pub open_so : (a : AggregateHeld) (o : Option Shape) (f : Aggregate → Answer) → is_some o ≡ false → or_bad (option_map (record_shown a) o) f ≡ Bad
+open_so a None f e = refl
+open_so a (Some s) f e = absurd (cc)
+
+-- ---- the count, or the one of a number
+
+pub in_count : (c : Call) (x : ℕ) (a : Aggregate) (number buffer : ℕ) (elements : List Element) → number ≡ no_number → in_item c x a number buffer elements ≡ counted_elements c elements
+in_count c x a number buffer elements e =
+    let yes : (number == no_number) ≡ true = grind (arith, nat_tests, e) in
+    ap (λ b. if b then counted_elements c elements else or_bad (slice_get elements number) (element_found c x a buffer)) yes
+
+pub in_number : (c : Call) (x : ℕ) (a : Aggregate) (number buffer : ℕ) (elements : List Element) → (number ≡ no_number → ⊥) → in_item c x a number buffer elements ≡ or_bad (slice_get elements number) (element_found c x a buffer)
+in_number c x a number buffer elements n =
+    let no : (number == no_number) ≡ false = grind (arith, nat_tests, n) in
+    ap (λ b. if b then counted_elements c elements else or_bad (slice_get elements number) (element_found c x a buffer)) no
+
+-- ---- the kind of a leaf
+
+pub kind_so : {E : Type 0} (s : Shape) (z : ℤ) (leaf : ℕ) (shape : Option Shape) (o : Option LeafInForce) (r : Result ElementKind E) → shape ≡ Some s → option_map leaf_in_force o ≡ leaf_in shape leaf z
+    → MatchResult r (λ kind. option_map (λ l. (leaf_in_force l).kind) o ≡ Some (kind_of kind)) (λ _. ⊤) → IfOk r (λ kind. (leaf_at s z leaf).kind ≡ kind_of kind)
+kind_so s z leaf shape None (Ok kind) e h k = absurd (cc)
+kind_so s z leaf shape (Some l) (Ok kind) e h k =
+    let there : Some (leaf_in_force l) ≡ leaf_in (Some s) leaf z = h ∙ ap (λ o. leaf_in o leaf z) e in
+    let same : (leaf_in_force l).kind ≡ kind_of kind = cc in
+    ap (λ o. (unwrap_or o unreachable_leaf).kind) (sym there) ∙ same
+kind_so s z leaf shape o (Err x) e h k = tt
+
+-- ---- what is refused of an element
+
+pub refused : (c : Call) (x buffer leaf : ℕ) (a : Aggregate) (is : List ℤ) (e : Refusal) → is_data c.layout buffer 8 ≡ true → IsOutcome c x a leaf is (named c a.name a.signature) (Err e) → Replies (element_found c x a buffer (leaf, is)) c.services c.memory (Err e) c.services c.memory
+refused c x buffer leaf a is F.Bad h o =
+    (found_so c x buffer a (leaf, is) Bad h (o (with_bytes (buffer_bytes (leaf_at a.shape a.extent leaf).kind) buffer c.memory)), refl, refl)
+refused c x buffer leaf a is F.Memory h o = (refl, refl)
+
+pub written_so : (c : Call) (x buffer leaf : ℕ) (a : Aggregate) (is : List ℤ) (kind : LeafKind) (o : Outcome) (words memory : List ℕ) → is_data c.layout buffer 8 ≡ true → (leaf_at a.shape a.extent leaf).kind ≡ kind → words ≡ kind_words kind → memory ≡ with_bytes (bytes_of_words words) buffer c.memory
+    → IsOutcome c x a leaf is (named c a.name a.signature) (Ok o) → element_found c x a buffer (leaf, is) ≡ Done c.services memory o.register o.status
+written_so c x buffer leaf a is kind o words memory h k w m r =
+    let bytes : with_bytes (buffer_bytes (leaf_at a.shape a.extent leaf).kind) buffer c.memory ≡ memory =
+    ap (λ (n : LeafKind). with_bytes (buffer_bytes n) buffer c.memory) k ∙ ap (λ ws. with_bytes (bytes_of_words ws) buffer c.memory) (sym w) ∙ sym m in
+    found_so c x buffer a (leaf, is) (Done c.services memory o.register o.status) h
+    (r (with_bytes (buffer_bytes (leaf_at a.shape a.extent leaf).kind) buffer c.memory) ∙ ap (λ n. Done c.services n o.register o.status) bytes)
