@@ -4,20 +4,17 @@ use Rattle.std.specs.Prelude.{IfOk, MatchOption, Result, Ok, Err, Vec, nat_le, s
 use Rattle.std.specs.declared.alloc.Global.{Global}
 use Rattle.std.specs.List.{flat_map}
 use Rattle.std.proofs.lemmas.Bool.Decides.{nat_tests}
-use Rattle.std.proofs.lemmas.List.{length-append}
 use Rattle.pli_typing.specs.Signatures.{Bounds, Leaf}
-use Rattle.pli_types.specs.View.{pair_of}
 use Rattle.pli_meaning.specs.Contents.{Shape, leaves_with}
 use Rattle.pli_meaning.specs.StreamOrder.{Element, Nest, NoNest, NestOf, bounds_of_leaf, elements_inside, leaves_inside, nest_of, with_more}
 use Rattle.pli_serving.specs.Aggregates.{Aggregate, subscripts_given}
-use Rattle.pli_serving.specs.ElementService.{ItemShape, elements_by}
+use Rattle.pli_serving.specs.ElementService.{elements_by}
 use Rattle.pli_serving.specs.Finding.{Call}
 use Rattle.pli_serving.specs.Outcomes.{then_found}
 use Rattle.pli_shapes.specs.Members.{members_of}
 use Rattle.pli_shapes.specs.Nests.{nest_in}
 use Rattle.pli_shapes.specs.declared.part.Part.{Part}
 use Rattle.pli_order.specs.Orders.{IsOrder}
-use Rattle.pli_order.specs.declared.notes.Order.{Order}
 use Rattle.pli_order.proofs.Finding.{leaves_of_parts}
 use Rattle.pli_order.proofs.RowLists.{flat_same}
 use Rattle.pli_signatures.specs.View.{leaf_in_force}

@@ -1,20 +1,19 @@
 -- Where an element of a generation stands, and what is answered of it.
-use Rattle.std.proofs.Common.{◌≡◌, ℕ, ◌+◌, ◌*◌, ℤ, Bool, true, false, List, Option, Some, None, Result, Ok, Err, refl, sym, ap, ap₂, subst, ◌∙◌, arith}
+use Rattle.std.proofs.Common.{◌≡◌, ℕ, ℤ, Bool, true, false, List, Option, Some, None, Result, Ok, Err, refl, sym, ap, ap₂, subst, ◌∙◌, arith}
 use Rattle.std.proofs.lemmas.Bool.Decides.{nat_tests}
 use Rattle.std.specs.Prelude.{◌&&◌, ◌==◌, MatchOption, is_some, slice_get, unwrap_or, if◌then◌else◌}
-use Rattle.pli_typing.specs.Signatures.{Bounds, Leaf, LeafKind, capped}
+use Rattle.pli_typing.specs.Signatures.{Bounds, Leaf, capped}
 use Rattle.pli_meaning.specs.BasicValues.{Name}
-use Rattle.pli_meaning.specs.Codes.{extent_code, no_generation_code}
-use Rattle.pli_meaning.specs.Contents.{Shape, element_place, is_within, leaves_with}
+use Rattle.pli_meaning.specs.Codes.{extent_code}
+use Rattle.pli_meaning.specs.Contents.{Shape, element_place, is_within}
 use Rattle.pli_meaning.specs.Evaluating.{leaf_at}
 use Rattle.pli_meaning.specs.Streaming.{kind_holds}
 use Rattle.pli_meaning.specs.Unreachable.{unreachable_leaf}
 use Rattle.pli_serving.specs.Aggregates.{Aggregate, element_at}
-use Rattle.pli_serving.specs.Answers.{Answer, Done, Bad}
+use Rattle.pli_serving.specs.Answers.{Answer, Done}
 use Rattle.pli_serving.specs.Arguments.{asked, own_signature, variable_asked}
 use Rattle.pli_serving.specs.ElementService.{element_answered}
-use Rattle.pli_serving.specs.Finding.{Call, Found, Finding, FoundAt, NotLiving, NoArea, named}
-use Rattle.pli_serving.specs.Values.{leaf_place}
+use Rattle.pli_serving.specs.Finding.{Call, Found, Finding, FoundAt, named}
 use Rattle.pli_signatures.specs.Elements.{place_within}
 use Rattle.pli_signatures.specs.View.{leaf_in_force}
 use Rattle.pli_signatures.specs.Whole.{leaf_in}

@@ -1,21 +1,20 @@
 -- The service's answers, from the places on where the elements are known.
-use Rattle.std.proofs.Common.{◌≡◌, ℕ, ◌+◌, ◌-◌, ◌^◌, ◌<◌, ◌≤◌, ℤ, Bool, true, false, List, length, map, Option, Some, None, Result, Ok, Err, refl, sym, ap, subst, ◌∙◌, arith}
+use Rattle.std.proofs.Common.{◌≡◌, ℕ, ◌-◌, ◌^◌, ◌<◌, ◌≤◌, ℤ, true, false, List, length, map, Option, Some, None, Result, Ok, Err, refl, sym, ap, ◌∙◌, arith}
 use Rattle.std.specs.Prelude.{◌==◌, IfOk, MatchResult, ⊤, is_some, nat_lt, option_map, slice_get, unwrap_or, if◌then◌else◌}
 use Rattle.std.proofs.lemmas.Bool.Decides.{nat_tests}
 use Rattle.std.proofs.lemmas.List.{length-map}
 use Rattle.std.proofs.lemmas.Option.{slice_get-map}
-use Rattle.pli_typing.specs.Signatures.{Leaf, LeafKind, capped}
+use Rattle.pli_typing.specs.Signatures.{LeafKind, capped}
 use Rattle.pli_meaning.specs.Contents.{Shape}
 use Rattle.pli_meaning.specs.Evaluating.{leaf_at}
 use Rattle.pli_meaning.specs.StreamOrder.{Element, elements_inside}
 use Rattle.pli_meaning.specs.Unreachable.{unreachable_leaf}
 use Rattle.pli_serving.specs.Aggregates.{Aggregate}
 use Rattle.pli_serving.specs.Answers.{Answer, Done, Bad}
-use Rattle.pli_serving.specs.ElementService.{ItemShape, buffer_bytes, counted_elements, element_answered, element_found, elements_by, no_number}
+use Rattle.pli_serving.specs.ElementService.{buffer_bytes, counted_elements, element_answered, element_found, no_number}
 use Rattle.pli_serving.specs.Bytes.{is_data, with_bytes}
 use Rattle.pli_serving.specs.Finding.{Call, named}
 use Rattle.pli_serving.specs.Outcomes.{answering, bad_unless, or_bad}
-use Rattle.pli_serving.specs.Templates.{shape_at}
 use Rattle.pli_answering.specs.Answering.{Answers, Replies}
 use Rattle.pli_answering.specs.declared.reply.Reply.{Reply}
 use Rattle.rv_meaning.specs.Memory.{bytes_of_words}
@@ -30,11 +29,10 @@ use Rattle.pli_shapes.specs.declared.part.Part.{Part}
 use Rattle.pli_signatures.specs.View.{kind_of, leaf_in_force}
 use Rattle.pli_signatures.specs.declared.element.ElementKind.{ElementKind}
 use Rattle.pli_signatures.specs.declared.element.LeafInForce.{LeafInForce}
-use Rattle.pli_aggregates.specs.Records.{aggregate_shown, record_shown}
+use Rattle.pli_aggregates.specs.Records.{record_shown}
 use Rattle.pli_aggregates.specs.declared.record.Aggregate.{Aggregate as AggregateHeld}
-use Rattle.pli_aggregates.proofs.Parting.{answers_as}
 use Rattle.pli_elements.specs.Items.{IsItem, behind_leaf}
-use Rattle.pli_elements.specs.Served.{in_aggregate, in_item, in_shape}
+use Rattle.pli_elements.specs.Served.{in_item}
 use Rattle.pli_elements.specs.declared.item.Item.{Item}
 
 abbrev pub own_elements : List Part → Item → List Element

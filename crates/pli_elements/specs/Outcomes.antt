@@ -1,11 +1,10 @@
 -- What comes of an element of a generation.
 use Rattle.std.specs.Prelude.{◌≡◌, ℕ, ℤ, Bool, true, false, ◌&&◌, List, Option, Some, None, Result, Ok, Err}
-use Rattle.pli_typing.specs.Signatures.{Leaf}
 use Rattle.pli_meaning.specs.Codes.{extent_code}
 use Rattle.pli_meaning.specs.Contents.{Shape, is_within}
 use Rattle.pli_meaning.specs.Streaming.{kind_holds}
 use Rattle.pli_serving.specs.Aggregates.{Aggregate}
-use Rattle.pli_serving.specs.Answers.{Answer, Done, Bad}
+use Rattle.pli_serving.specs.Answers.{Done, Bad}
 use Rattle.pli_serving.specs.ElementService.{element_answered}
 use Rattle.pli_serving.specs.Finding.{Call, Found, Finding, FoundAt}
 use Rattle.pli_signatures.specs.View.{leaf_in_force}

@@ -1,11 +1,10 @@
 // The elements that a shape has in an aggregate.
 
-ghost use Rattle.std.specs.Prelude.{◌≡◌, Some, IfOk, length};
+ghost use Rattle.std.specs.Prelude.{◌≡◌, Some, IfOk};
 ghost use Rattle.pli_meaning.specs.Contents.{Shape};
 ghost use Rattle.pli_serving.specs.ElementService.{elements_by};
 ghost use Rattle.pli_serving.specs.Finding.{Call};
 ghost use Rattle.pli_serving.specs.Templates.{shape_at};
-ghost use Rattle.pli_order.specs.Orders.{IsOrder};
 ghost use Rattle.pli_shapes.specs.Members.{shape_of};
 ghost use Rattle.pli_aggregates.specs.Records.{record_shown};
 ghost use Rattle.pli_elements.specs.Items.{IsItemIf, IsLeavesIf};

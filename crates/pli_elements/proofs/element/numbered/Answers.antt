@@ -1,4 +1,4 @@
-use Rattle.std.proofs.Common.{◌≡◌, ◌∙◌, List, Option, None, Some, ap, arith, length, map, option_map, refl, subst, sym, ℤ}
+use Rattle.std.proofs.Common.{◌≡◌, ◌∙◌, List, Option, None, Some, ap, length, map, option_map, refl, subst, sym, ℤ}
 use Rattle.std.specs.Prelude.{slice_get}
 use Rattle.pli_meaning.specs.StreamOrder.{Element, elements_inside}
 use Rattle.pli_serving.specs.ElementService.{element_found}
@@ -10,7 +10,6 @@ use Rattle.pli_order.specs.Orders.{IsOrder, element_shown}
 use Rattle.pli_storage.specs.Held.{with_held}
 use Rattle.pli_aggregates.specs.Records.{record_shown}
 use Rattle.pli_aggregates.proofs.Parting.{answers_as}
-use Rattle.pli_elements.specs.Items.{behind_leaf}
 use Rattle.pli_elements.proofs.Replying.{got_so, own_elements}
 use Rattle.pli_elements.proofs.element.numbered.Goals as goal
 

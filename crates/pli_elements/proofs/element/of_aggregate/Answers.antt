@@ -1,6 +1,5 @@
 use Rattle.std.proofs.Common.{◌≡◌, ◌∙◌, Err, List, None, Option, Some, ap, ap₂, option_map, refl, sym, ℕ}
 use Rattle.pli_serving.specs.ElementService.{ItemShape, item_shape_at}
-use Rattle.pli_serving.specs.Finding.{Call}
 use Rattle.pli_serving.specs.Templates.{shape_at}
 use Rattle.pli_answering.specs.declared.reply.Refusal.TheVariants as F
 use Rattle.pli_shapes.specs.Members.{shape_of}

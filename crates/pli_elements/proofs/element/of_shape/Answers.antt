@@ -1,4 +1,4 @@
-use Rattle.std.proofs.Common.{◌≡◌, List, Ok, Option, ap, length, map, refl, subst, Some}
+use Rattle.std.proofs.Common.{List, Ok, Option, ap, map, refl, subst, Some}
 use Rattle.pli_meaning.specs.StreamOrder.{Element}
 use Rattle.pli_serving.specs.ElementService.{elements_by}
 use Rattle.pli_serving.specs.Outcomes.{or_bad}

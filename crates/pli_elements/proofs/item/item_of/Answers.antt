@@ -4,7 +4,6 @@ use Rattle.std.specs.declared.alloc.Global.{Global}
 use Rattle.pli_serving.specs.Aggregates.{subscripts_given}
 use Rattle.pli_serving.specs.Templates.{shape_at}
 use Rattle.pli_shapes.specs.declared.part.Part.{Part}
-use Rattle.pli_shapes.specs.Nests.{nest_in}
 use Rattle.pli_shapes.proofs.Nests.{nest_of_parts}
 use Rattle.pli_order.specs.Orders.{IsOrder}
 use Rattle.pli_order.proofs.Finding.{leaves_of_parts}

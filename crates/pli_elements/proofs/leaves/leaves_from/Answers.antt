@@ -1,4 +1,4 @@
-use Rattle.std.proofs.Common.{◌≡◌, ◌+◌, ◌≤◌, ◌∙◌, List, Option, None, Some, ap, arith, length, option_map, subst, sym, ℕ}
+use Rattle.std.proofs.Common.{◌≡◌, ◌+◌, ◌∙◌, List, None, Some, ap, arith, length, option_map, subst, sym, ℕ}
 use Rattle.std.proofs.lemmas.List.{length_push}
 use Rattle.pli_serving.specs.Templates.{shape_at}
 use Rattle.pli_signatures.specs.View.{leaf_in_force}

@@ -1,4 +1,4 @@
-use Rattle.std.proofs.Common.{◌≡◌, ◌^◌, ◌-◌, ◌∙◌, Some, ap, option_map, subst, sym, arith}
+use Rattle.std.proofs.Common.{◌≡◌, ◌^◌, ◌-◌, subst, sym, arith}
 use Rattle.pli_serving.specs.Finding.{Finding, named}
 use Rattle.pli_storage.specs.Findings.{finding_of}
 use Rattle.pli_storage.specs.Held.{with_held}

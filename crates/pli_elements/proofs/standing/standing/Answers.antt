@@ -1,4 +1,4 @@
-use Rattle.std.proofs.Common.{◌≡◌, ◌∙◌, ap, map, sym, List}
+use Rattle.std.proofs.Common.{◌∙◌, ap, map, sym, List}
 use Rattle.pli_types.specs.View.{pair_of}
 use Rattle.pli_types.specs.declared.signature.Bounds.{Bounds}
 use Rattle.pli_meaning.specs.Contents.{element_place}
