@@ -1,9 +1,9 @@
 -- The bounds of a part's own dimensions, and its rows by them.
-use Rattle.std.proofs.Common.{zero, suc, ◌≡◌, ◌≤◌, ◌<◌, ℕ, ℤ, pos, ◌+ℤ◌, ◌+◌, ◌-◌, ◌*◌, slice_get, option_map, length, map, drop, take, Option, Some, None, List, [], ◌∷◌, ◌++◌, refl, sym, ap, ◌∙◌, arith, append-nil}
+use Rattle.std.proofs.Common.{zero, suc, ◌≡◌, ◌≤◌, ◌<◌, ℕ, ℤ, pos, ◌+ℤ◌, ◌+◌, ◌-◌, ◌*◌, slice_get, option_map, length, map, drop, take, Some, None, List, [], ◌∷◌, ◌++◌, refl, sym, ap, ◌∙◌, arith, append-nil}
 use Rattle.std.proofs.lemmas.List.{drop_all, length-map, length-take-le}
 use Rattle.std.proofs.lemmas.Option.{slice_get_past, slice_get-map}
 use Rattle.pli_typing.specs.Signatures as S
-use Rattle.pli_typing.specs.Signatures.{Leaf, capped, element_count, span}
+use Rattle.pli_typing.specs.Signatures.{capped, element_count, span}
 use Rattle.pli_types.specs.View.{pair_of}
 use Rattle.pli_types.specs.declared.signature.Bounds.{Bounds}
 use Rattle.pli_meaning.specs.StreamOrder.{bounds_of_leaf, numbers_from, subscripts_of, with_more}

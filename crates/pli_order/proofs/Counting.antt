@@ -1,11 +1,11 @@
 -- The counts of elements are right, as far as they are capped.
-use Rattle.std.proofs.Common.{zero, suc, ◌≡◌, ◌≤◌, ◌<◌, ◌⊎◌, inl, inr, ℕ, ◌+◌, ◌-◌, ◌*◌, ◌/◌, ◌%◌, ◌^◌, get_or, length, map, drop, take, List, [], ◌∷◌, ◌++◌, Bool, true, false, if◌then◌else◌, refl, sym, ap, ◌∙◌, arith}
+use Rattle.std.proofs.Common.{zero, suc, ◌≡◌, ◌≤◌, ◌<◌, inl, inr, ℕ, ◌+◌, ◌-◌, ◌*◌, ◌/◌, ◌%◌, ◌^◌, get_or, length, drop, take, List, [], ◌∷◌, ◌++◌, Bool, true, false, if◌then◌else◌, refl, sym, ap, ◌∙◌, arith}
 use Rattle.std.specs.Prelude.{nat_lt}
 use Rattle.std.proofs.lemmas.Bool.Decides.{nat_tests}
 use Rattle.std.proofs.lemmas.List.{get_or_past, take_at}
 use Rattle.std.proofs.Math.Nat.{div-eq_of_lt, mod-eq_of_lt}
 use Rattle.pli_typing.specs.Signatures.{Leaf, capped}
-use Rattle.pli_meaning.specs.StreamOrder.{Nest, NoNest, NestOf, bounds_of_leaf}
+use Rattle.pli_meaning.specs.StreamOrder.{bounds_of_leaf}
 use Rattle.pli_signatures.proofs.Capping.{capped_few, capped_times, few_or_many}
 use Rattle.pli_order.specs.Counts.{count_each, count_in, leaves_each, row_count}
 use Rattle.pli_order.specs.Counted.{beside_by, count_of, counted, each_by, rows_of}

@@ -1,8 +1,8 @@
 -- The elements of nests: how many there are, and which one stands at a place.
-use Rattle.std.proofs.Common.{zero, suc, ◌≡◌, ◌≤◌, ◌<◌, ℕ, ℤ, ◌+◌, ◌-◌, ◌*◌, ◌/◌, ◌%◌, slice_get, length, map, Option, Some, None, List, [], ◌∷◌, ◌++◌, refl, sym, ap, ◌∙◌, arith}
+use Rattle.std.proofs.Common.{zero, suc, ◌≡◌, ◌≤◌, ◌<◌, ℕ, ℤ, ◌+◌, ◌-◌, ◌*◌, ◌/◌, ◌%◌, slice_get, length, map, Some, List, ◌++◌, refl, sym, ap, ◌∙◌, arith}
 use Rattle.std.specs.List.{flat_map}
 use Rattle.std.proofs.lemmas.List.{length-append, length-map}
-use Rattle.pli_typing.specs.Signatures.{Bounds, Leaf}
+use Rattle.pli_typing.specs.Signatures.{Leaf}
 use Rattle.pli_meaning.specs.StreamOrder.{Nest, NoNest, NestOf, Element, bounds_of_leaf, elements_inside, leaves_inside, with_more}
 use Rattle.pli_order.specs.Counts.{count_each, count_in, leaves_each, row_count}
 use Rattle.pli_order.proofs.RowLists.{even_length, even_more, get_behind, get_even, get_front, get_mapped, got, length_more}

@@ -1,5 +1,5 @@
 -- The elements of a shape, by the notes of its parts.
-use Rattle.std.proofs.Common.{zero, suc, ◌≡◌, ◌≤◌, ◌<◌, ℕ, ℤ, ◌+◌, ◌-◌, ◌^◌, get_or, slice_get, option_map, length, map, Option, Some, None, List, [], ◌∷◌, ◌++◌, refl, sym, ap, subst, ◌∙◌, arith}
+use Rattle.std.proofs.Common.{zero, suc, ◌≡◌, ◌<◌, ℕ, ℤ, ◌+◌, ◌-◌, ◌^◌, get_or, slice_get, length, map, Option, List, [], ◌∷◌, ◌++◌, refl, sym, ap, subst, ◌∙◌}
 use Rattle.std.specs.List.{flat_map}
 use Rattle.std.proofs.lemmas.List.{length-map}
 use Rattle.pli_typing.specs.Signatures.{Leaf, capped}
@@ -9,11 +9,10 @@ use Rattle.pli_shapes.specs.Nests.{nest_from, nest_in}
 use Rattle.pli_order.specs.Counted.{counted}
 use Rattle.pli_order.specs.Counts.{count_in}
 use Rattle.pli_order.specs.Notes.{AreNoted, noted, parts_of}
-use Rattle.pli_order.specs.Orders.{IsOrder, element_shown}
+use Rattle.pli_order.specs.Orders.{IsOrder}
 use Rattle.pli_order.specs.Walks.{IsAt, IsWalkAt}
 use Rattle.pli_order.specs.declared.note.Note.{Note}
 use Rattle.pli_order.specs.declared.notes.Order.{Order}
-use Rattle.pli_order.specs.declared.walk.Element.{Element as ElementHeld}
 use Rattle.pli_order.specs.declared.walk.Walk.{Walk}
 use Rattle.pli_order.proofs.Counting.{total_right}
 use Rattle.pli_order.proofs.Elements.{length_elements}

@@ -1,7 +1,7 @@
 -- Parts that are noted one after the other, with the ranges that are still to come.
-use Rattle.std.proofs.Common.{zero, suc, ◌≡◌, ◌≤◌, ◌<◌, ℕ, ◌+◌, ◌-◌, length, map, drop, take, get_or, reverse, List, [], ◌∷◌, ◌++◌, refl, sym, ap, subst, ◌∙◌, arith, append_assoc, append-nil}
+use Rattle.std.proofs.Common.{zero, suc, ◌≡◌, ◌≤◌, ◌<◌, ℕ, ◌+◌, ◌-◌, length, drop, take, get_or, reverse, List, [], ◌∷◌, ◌++◌, refl, sym, ap, subst, ◌∙◌, arith, append_assoc, append-nil}
 use Rattle.std.proofs.lemmas.List.{drop-drop, map-append, reverse-append, take_more}
-use Rattle.pli_meaning.specs.StreamOrder.{Nest, NoNest, NestOf, leaves_inside}
+use Rattle.pli_meaning.specs.StreamOrder.{NoNest, NestOf, leaves_inside}
 use Rattle.pli_shapes.specs.declared.part.Part.{Part}
 use Rattle.pli_order.specs.Counts.{leaves_each}
 use Rattle.pli_order.specs.Notes.{AllNoted, AreNoted, IsNext, leaf_behind, noted, opened, parts_of}

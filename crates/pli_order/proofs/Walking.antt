@@ -1,5 +1,5 @@
 -- Steps of the walk to the element of a number.
-use Rattle.std.proofs.Common.{zero, suc, ◌≡◌, ◌≤◌, ◌<◌, ◌⊎◌, inl, inr, ℕ, ℤ, ◌+◌, ◌-◌, ◌*◌, ◌/◌, ◌%◌, ◌^◌, get_or, slice_get, length, map, drop, take, Option, Some, None, List, [], ◌∷◌, ◌++◌, refl, sym, ap, subst, ◌∙◌, arith}
+use Rattle.std.proofs.Common.{zero, suc, ◌≡◌, ◌≤◌, ◌<◌, ℕ, ℤ, ◌+◌, ◌-◌, ◌*◌, ◌/◌, ◌%◌, ◌^◌, get_or, slice_get, length, drop, take, Option, Some, None, List, [], ◌∷◌, refl, sym, ap, subst, ◌∙◌, arith}
 use Rattle.std.specs.Prelude.{IfOk, Result, Ok, Err}
 use Rattle.std.proofs.lemmas.List.{drop-drop, drop_all, drop_more, length-drop, take_all}
 use Rattle.std.proofs.Math.Nat.{mod-le}
@@ -8,12 +8,9 @@ use Rattle.pli_meaning.specs.StreamOrder.{Nest, NoNest, NestOf, Element, bounds_
 use Rattle.pli_order.specs.Counts.{count_each, count_in, leaves_each, row_count}
 use Rattle.pli_order.specs.Counted.{counted, each_by, rows_of}
 use Rattle.pli_order.specs.Notes.{AreNoted, noted}
-use Rattle.pli_order.specs.Orders.{element_shown}
 use Rattle.pli_order.specs.Walks.{IsAt, IsEntered, IsStep, IsTurn, IsWalkAt, row_in}
 use Rattle.pli_order.specs.declared.note.Note.{Note}
-use Rattle.pli_order.specs.declared.turn.Turn.{Turn}
 use Rattle.pli_order.specs.declared.turn.Turn.TheVariants as T
-use Rattle.pli_order.specs.declared.walk.Element.{Element as ElementHeld}
 use Rattle.pli_order.specs.declared.walk.Step.{Step}
 use Rattle.pli_order.specs.declared.walk.Step.TheVariants as S
 use Rattle.pli_order.specs.declared.walk.Walk.{Walk}

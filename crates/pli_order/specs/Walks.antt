@@ -1,5 +1,5 @@
 -- The walk to the element of a number.
-use Rattle.std.specs.Prelude.{◌≡◌, ℕ, ◌+◌, ◌*◌, ◌/◌, ◌%◌, ◌^◌, ◌≤◌, ◌<◌, ℤ, List, length, drop, map, Option, Some, None, slice_get}
+use Rattle.std.specs.Prelude.{◌≡◌, ℕ, ◌+◌, ◌*◌, ◌/◌, ◌%◌, ◌^◌, ◌≤◌, ◌<◌, ℤ, List, length, drop, Option, Some, None, slice_get}
 use Rattle.pli_typing.specs.Signatures.{Leaf, capped}
 use Rattle.pli_meaning.specs.StreamOrder.{Element, bounds_of_leaf, elements_inside, with_more}
 use Rattle.pli_order.specs.Notes.{AreNoted, noted}
