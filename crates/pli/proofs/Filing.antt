@@ -1,4 +1,4 @@
--- Each image that a machine can load has a picture in instructions.
+-- Each image that a machine can load has a picture in instructions, and its table lists signatures.
 use Rattle.std.proofs.Common.{◌≡◌, ℕ, zero, suc, ◌<◌, List, [], ◌∷◌, length, map, refl, ap, subst, ◌∙◌, arith}
 use Rattle.std.specs.Prelude.{slice_index}
 use Rattle.rv_meaning.specs.declared.instr.Instr.{Instr}
@@ -6,7 +6,8 @@ use Rattle.rv_meaning.specs.Encoding.{word_of, Fits}
 use Rattle.rv_meaning.specs.Images.{Image, IsInstruction, IsLoadable}
 use Rattle.pli_meaning.specs.Headline.{Picture}
 use Rattle.rv_machine.specs.Fitting.{AllFit}
-use Rattle.pli_run.specs.Running.{IsPicture}
+use Rattle.rv_meaning.specs.Tables.{TableSignature}
+use Rattle.pli_run.specs.Running.{IsPicture, IsTabled}
 
 record AreWords (words : List ℕ) : Type 0 where
   code : List Instr
@@ -38,3 +39,7 @@ pictured i h =
       record { code = c.code; statics = i.statics; entry = i.entry },
       record { words_are = c.words_are; fit = c.fit; statics_are = refl; entry_is = refl },
     )
+
+pub tabled : (i : Image) → IsLoadable i → (gs : List TableSignature) × IsTabled gs i
+tabled i h =
+    let table = h.table_lists in (table.signatures, record { fit = table.fit; spelled = table.spelled })

@@ -25,8 +25,9 @@ fn uncompiled(alloc: Global, fault: SourceFault) -> RunFault
     }
 }
 
-/// Compiles a source and runs it at a base, on an input, for at most `bound` instructions. What it answers shows the
-/// program's own output, raised conditions and end after just the acts that it reports.
+/// Compiles a source and runs it at a base, on an input, for at most `bound` instructions. For a program of the first path what
+/// it answers shows the program's own output, raised conditions and end after just the acts that it reports; for any other one,
+/// what the code that the definitions have for it comes to.
 ///
 /// # Errors
 ///
@@ -41,7 +42,7 @@ pub fn compile_and_run(
     bound: u64,
 ) -> Result<Outcome, RunFault>
     ensures bad_base { IsErrOf result RunFault.BadBase ↔ ¬ IsValidBase base }
-    ensures meant { IsValidBase base → Answers source.now input.now bound result }
+    ensures meant { IsValidBase base → Answers source.now input.now base bound result }
 {
     if !valid_base(base) {
         return Err(RunFault::BadBase);

@@ -1,17 +1,17 @@
 -- ALLOCATE and FREE.
-use Rattle.std.specs.Prelude.{ℕ, suc, ◌+◌, max, ℤ, List, [], ◌∷◌, ◌++◌, Option, Some, None}
+use Rattle.std.specs.Prelude.{ℕ, suc, ◌+◌, max, ℤ, List, [], ◌∷◌, ◌++◌, Option, Some, None, if◌then◌else◌}
 use Rattle.rv_meaning.specs.declared.instr.Register.{Register}
 use Rattle.rv_meaning.specs.declared.instr.BranchTest.TheVariants as Test
 use Rattle.pli_language.specs.declared.condition.Condition.TheVariants as C
 use Rattle.pli_typing.specs.TypedTree as Y
 use Rattle.pli_meaning.specs.Codes.{area_code}
 use Rattle.pli_coding.specs.Registers.{zero_register, frame_register, a0, a1, a2, a3, a4}
-use Rattle.pli_coding.specs.Assembly.{ExtentRoutine, CallTo, JumpTo, JumpBack, RaiseError, Code, size_of}
+use Rattle.pli_coding.specs.Assembly.{NumberWord, ExtentRoutine, CallTo, JumpTo, JumpBack, RaiseError, Code, size_of}
 use Rattle.pli_coding.specs.Instructions.{small, number, load_word, store_word, skip_where, service, tested_service}
 use Rattle.pli_coding.specs.Frames.{words_place}
 use Rattle.pli_coding.specs.Environments.{Environment, declaration_of, Taken, with_words}
 use Rattle.pli_coding.specs.Arithmetic.{raised}
-use Rattle.pli_coding.specs.Locating.{own_place, number_loaded, based_number, controlled_number, waiting_name}
+use Rattle.pli_coding.specs.Locating.{DataNumber, own_place, needs_number_word, number_loaded, based_number, controlled_number, waiting_name}
 use Rattle.pli_coding.specs.Expressions.{frame_given, pointer_code}
 use Rattle.pli_coding.specs.Temporaries.{pointer_words, reference_words}
 use Rattle.pli_coding.specs.Storing.{area_name, word_stored, name_stored}
@@ -40,9 +40,14 @@ routine_called e line v = act_code line ++ (frame_given e v.level ++ CallTo (Ext
 abbrev pub constant_amounts : Environment → Taken → Y.Variable → Y.DeclaredVariable → Code
 constant_amounts e t v d = refer_amount t d.leaves d.refer ++ number_loaded e a0 (based_number e v d)
 
+-- a lower bound beside REFER stands in no number that the routine gives
+abbrev pub number_beside_refer : Environment → Y.Variable → Y.DeclaredVariable → Code
+number_beside_refer e v d =
+    if needs_number_word d then number_loaded e a0 (DataNumber (NumberWord v.block v.index)) else []
+
 abbrev pub amounts_found : Environment → Taken → (line : ℕ) → Y.Variable → Y.DeclaredVariable → List Y.Evaluation → Code
 amounts_found e t line v d [] = constant_amounts e t v d
-amounts_found e t line v d (x ∷ xs) = routine_called e line v
+amounts_found e t line v d (x ∷ xs) = routine_called e line v ++ number_beside_refer e v d
 
 abbrev pub amounts_code : Environment → Taken → (line : ℕ) → Y.Variable → Code
 amounts_code e t line v =

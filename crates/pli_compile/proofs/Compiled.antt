@@ -13,7 +13,12 @@ use Rattle.pli_language.specs.Declaring.{block_faults, declaring_faults, main_fa
 use Rattle.std.specs.Prelude.{Contains}
 use Rattle.pli_language.proofs.Least.{none_among}
 use Rattle.pli_language.specs.Refusals.{IsLeast, want_of_memory}
-use Rattle.pli_typing.specs.Resolving.{typing_faults, IsMistyped}
+use Rattle.pli_typing.specs.Resolving.{typing_faults, IsMistyped, Resolves, resolves}
+use Rattle.pli_typing.specs.TypedTree as Y
+use Rattle.pli_coding.specs.Images.{image_of}
+use Rattle.pli_frames.specs.Parts.{parts}
+use Rattle.pli_language.specs.declared.expr.Place.{Place}
+use Rattle.pli_compile.specs.Uncompiled.{uncompiled}
 use Rattle.pli_language.proofs.UniqueSource.{never_both, spelled_once}
 use Rattle.pli_lex.proofs.Unique.{one_list, not_both}
 use Rattle.pli_language.specs.declared.fault.SourceKind.{SourceKind}
@@ -26,7 +31,7 @@ use Rattle.rv_machine.specs.Fitting as Fitting
 use Rattle.rv_codegen.specs.Code.{program_code}
 use Rattle.rv_codegen.specs.Promise.{AllFit, IsCodeOf, picture_of}
 use Rattle.rv_codegen.specs.Weights.{weight}
-use Rattle.pli_compile.specs.Compiling.{IsCompiled, IsUncompiled, IsRefused, out_of_memory, no_tokens, no_tree, bad_declarations, bad_types, not_compiled, RefusedNever}
+use Rattle.pli_compile.specs.Compiling.{IsAccepted, IsCompiled, IsBeyond, IsCoded, IsImageFor, IsRefused, whole_language, out_of_memory, no_tokens, no_tree, bad_declarations, bad_types, RefusedNever}
 use Rattle.pli_compile.proofs.Measures.{tree_weighs, tokens_small}
 use Rattle.pli_compile.proofs.Typed.{typed_whole}
 
@@ -46,7 +51,7 @@ compiled {ts = ts} {tree = tree} p read spelled declares kept is made =
       tokens = ts;
       program = p;
       picture = picture_of (program_code p);
-      accepted = record { tree = tree; read = read; spelled = spelled; declares = declares; keeps_types = kept; typed_is = is };
+      accepted = record { tree = tree; accepted = record { read = read; spelled = spelled; declares = declares; keeps_types = kept }; typed_is = is };
       pictured = record {
         words_are = sym made.words;
         fit = all_fit (program_code p) made.fits;
@@ -89,13 +94,26 @@ pub declarations_refused : {s : List ℕ} {ts : List Token} {tree : T.Tree} {f :
 declarations_refused read spelled (inl e) = out_of_memory e
 declarations_refused {ts = ts} {tree = tree} read spelled (inr least) = bad_declarations ts tree read spelled least
 
+pub typed_faultless : {tree : T.Tree} {program : Y.Program} → Resolves tree program → typing_faults tree ≡ []
+typed_faultless (resolves kept) = kept
+
 pub types_refused : {s : List ℕ} {ts : List Token} {tree : T.Tree} {f : SourceFault} → Tokens s ts → Spells s ts tree → declaring_faults tree ≡ [] → (f ≡ want_of_memory) ⊎ IsMistyped tree f → IsRefused s f
 types_refused read spelled declares (inl e) = out_of_memory e
 types_refused {ts = ts} {tree = tree} read spelled declares (inr least) = bad_types ts tree read spelled declares least
 
-pub judged_refused : {s : List ℕ} {ts : List Token} {tree : T.Tree} {f : SourceFault} → Tokens s ts → Spells s ts tree → declaring_faults tree ≡ [] → typing_faults tree ≡ [] → (f ≡ want_of_memory) ⊎ IsUncompiled tree f → IsRefused s f
-judged_refused read spelled declares kept (inl e) = out_of_memory e
-judged_refused {ts = ts} {tree = tree} read spelled declares kept (inr why) = not_compiled ts tree read spelled declares kept why
+-- the image of the code of a source's typed tree
+pub coded : {s : List ℕ} {ts : List Token} {tree : T.Tree} {program : Y.Program} {image : Images.Image} → Tokens s ts → Spells s ts tree → declaring_faults tree ≡ [] → Resolves tree program → IsBeyond tree → image ≡ image_of parts program → IsImageFor s image
+coded {ts = ts} {tree = tree} {program = program} read spelled declares resolved beyond is =
+    whole_language
+    (record {
+      tokens = ts;
+      tree = tree;
+      program = program;
+      accepted = record { read = read; spelled = spelled; declares = declares; keeps_types = typed_faultless resolved };
+      beyond = beyond;
+      resolved = resolved;
+      image_is = is;
+    })
 
 -- a program without a procedure lacks its main one
 no_procedure_faults : (is : T.Items) → is ≡ T.NoItem → main_faults (outer_procedures is) ≢ []
@@ -112,29 +130,25 @@ has_procedure tree e none =
     let statics = static_faults (flat_map (λ b. statics_in b.declarations) (blocks_of tree)) in
     no_procedure_faults tree.procedures none (first_of_append main blocks (first_of_append (main ++ blocks) statics e))
 
--- what isn't compiled has no type
-untyped : {tree : T.Tree} {f : SourceFault} → IsUncompiled tree f → (p : Program) → typed tree ≡ Some p → ⊥
-untyped {tree = tree} why p h = absurd (cc (typed_whole tree p h, why.uncompiled_at))
+-- what isn't of the first path has no type in it
+pub untyped : (tree : T.Tree) {place : Place} → uncompiled tree ≡ Some place → IsBeyond tree
+untyped tree at p h = absurd (cc (typed_whole tree p h, at))
 
 -- what breaks nothing has no least breach
 none_least : {fs : List SourceFault} {f : SourceFault} → IsLeast fs f → fs ≡ [] → ⊥
 none_least {f = f} least e = none_among f (subst (λ gs. Contains gs f) e least.among)
 
 pub refused_never : RefusedNever
-refused_never s f (out_of_memory e) h tokens program a = h e
-refused_never s f (no_tokens refuses) h tokens program a = not_both s tokens f.line f.column f.kind a.read refuses
-refused_never s f (no_tree ts read refused) h tokens program a =
+refused_never s f (out_of_memory e) h tokens tree a = h e
+refused_never s f (no_tokens refuses) h tokens tree a = not_both s tokens f.line f.column f.kind a.read refuses
+refused_never s f (no_tree ts read refused) h tokens tree a =
     let e : ts ≡ tokens = one_list s ts tokens read a.read in
     never_both a.spelled (subst (λ u. RefusesTokens s u f) e refused)
-refused_never s f (bad_declarations ts tree read spelled least) h tokens program a =
+refused_never s f (bad_declarations ts other read spelled least) h tokens tree a =
     let e : ts ≡ tokens = one_list s ts tokens read a.read in
-    let t : a.tree ≡ tree = spelled_once a.spelled (subst (λ u. Spells s u tree) e spelled) in
+    let t : tree ≡ other = spelled_once a.spelled (subst (λ u. Spells s u other) e spelled) in
     none_least least (subst (λ u. declaring_faults u ≡ []) t a.declares)
-refused_never s f (bad_types ts tree read spelled declares least) h tokens program a =
+refused_never s f (bad_types ts other read spelled declares least) h tokens tree a =
     let e : ts ≡ tokens = one_list s ts tokens read a.read in
-    let t : a.tree ≡ tree = spelled_once a.spelled (subst (λ u. Spells s u tree) e spelled) in
+    let t : tree ≡ other = spelled_once a.spelled (subst (λ u. Spells s u other) e spelled) in
     none_least least (subst (λ u. typing_faults u ≡ []) t a.keeps_types)
-refused_never s f (not_compiled ts tree read spelled declares kept why) h tokens program a =
-    let e : ts ≡ tokens = one_list s ts tokens read a.read in
-    let t : a.tree ≡ tree = spelled_once a.spelled (subst (λ u. Spells s u tree) e spelled) in
-    untyped why program (subst (λ u. typed u ≡ Some program) t a.typed_is)

@@ -3,11 +3,11 @@ use Rattle.std.proofs.Common.{◌≡◌, ℕ, zero, suc, ◌+◌, ◌<◌, List,
 use Rattle.std.specs.Prelude.{max, slice_set}
 use Rattle.std.proofs.lemmas.List.{length-map, map_push}
 use Rattle.std.proofs.Math.Seq.{set-append_seam}
-use Rattle.pli_typing.specs.declared.typed.Stmt as S
-use Rattle.pli_typing.specs.declared.typed.Stmts as L
-use Rattle.pli_typing.specs.declared.typed.Procedure.{Procedure}
-use Rattle.pli_typing.specs.declared.typed.Turns.{Turns as TurnsHeld}
-use Rattle.pli_typing.specs.declared.typed.Turns.TheVariants as D
+use Rattle.pli_typing.specs.declared.statement.Stmt as S
+use Rattle.pli_typing.specs.declared.statement.Stmts as L
+use Rattle.pli_typing.specs.declared.statement.Procedure.{Procedure}
+use Rattle.pli_typing.specs.declared.statement.Turns.{Turns as TurnsHeld}
+use Rattle.pli_typing.specs.declared.statement.Turns.TheVariants as D
 use Rattle.pli_typing.specs.TypedTree as Y
 use Rattle.pli_typing.specs.SingleStatements.{Turns, OneTurn, CountedTurns, do_statement}
 use Rattle.pli_typing.specs.TypedView.{arguments_of, bit_of, reference_of, stored_of}

@@ -20,10 +20,10 @@ use Rattle.pli_typing.specs.declared.typed.Arguments.{Arguments}
 use Rattle.pli_typing.specs.declared.typed.Arguments as J
 use Rattle.pli_typing.specs.declared.typed.Stored.{Stored}
 use Rattle.pli_typing.specs.declared.typed.Stored as S
-use Rattle.pli_typing.specs.declared.typed.Stmt.{Stmt}
-use Rattle.pli_typing.specs.declared.typed.Stmt as C
-use Rattle.pli_typing.specs.declared.typed.Stmts.{Stmts}
-use Rattle.pli_typing.specs.declared.typed.Stmts as L
+use Rattle.pli_typing.specs.declared.statement.Stmt.{Stmt}
+use Rattle.pli_typing.specs.declared.statement.Stmt as C
+use Rattle.pli_typing.specs.declared.statement.Stmts.{Stmts}
+use Rattle.pli_typing.specs.declared.statement.Stmts as L
 
 abbrev mutual
   pub number_weight : Number → ℕ

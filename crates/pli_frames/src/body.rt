@@ -12,7 +12,7 @@ use crate::forms::{
 };
 use crate::turns::turns_words;
 use crate::words::{bit_words, call_words, most, stored_words};
-use pli_typing::typed::{BlockHead, Procedure, Stmt, Stmts};
+use pli_typing::statement::{BlockHead, Procedure, Stmt, Stmts};
 use std::alloc::{AllocError, Global};
 
 /// A block and the words that its statements take at most, without those of blocks among them.

@@ -10,7 +10,8 @@ ghost use Rattle.pli_frames.specs.Plans.{frame_shown, frame_with, places_from};
 
 use crate::size::{LAST_PLACE, frame_bytes, has_constant_size, is_automatic};
 use crate::words::{more, number_words};
-use pli_typing::typed::{BlockHead, DeclaredVariable, Evaluation};
+use pli_typing::statement::BlockHead;
+use pli_typing::typed::{DeclaredVariable, Evaluation};
 use std::alloc::{AllocError, Global};
 
 /// The frame of a block. Places are bytes from its address.

@@ -10,7 +10,7 @@ ghost use Rattle.pli_frames.specs.Plans.{declaring_frame, frame_of, frame_shown,
 use crate::body::{BlockWords, blocks_of};
 use crate::frame::{BlockFrame, frame_with};
 use indexmap::IndexMap;
-use pli_typing::typed::{BlockKind, Procedure, Typed};
+use pli_typing::statement::{BlockKind, Procedure, Typed};
 use std::alloc::{AllocError, Global};
 
 /// How many parameters procedures have, by the numbers of their blocks; where two have a number, the first one counts.

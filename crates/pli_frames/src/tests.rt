@@ -3,9 +3,10 @@
 use crate::frame::{extents_words, fixed_size};
 use crate::plan::plan;
 use crate::size::{constant_size, frame_bytes, has_constant_size};
+use pli_typing::statement::{Block, BlockHead, BlockKind, Procedure, Stmt, Stmts, Typed};
 use pli_typing::typed::{
-    Block, BlockHead, BlockKind, Bounds, DeclaredVariable, Extent, Leaf, LeafType, Number, Numbers,
-    Part, Procedure, Reference, Stmt, Stmts, StorageClass, Stored, Typed, Variable,
+    Bounds, DeclaredVariable, Extent, Leaf, LeafType, Number, Numbers, Part, Reference,
+    StorageClass, Stored, Variable,
 };
 use std::alloc::{AllocError, Global};
 use std::test::Fail;

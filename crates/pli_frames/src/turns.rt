@@ -11,7 +11,8 @@ ghost use Rattle.pli_frames.specs.Turns.{words_of_turns};
 
 use crate::forms::{assigned_words, value_words};
 use crate::words::{bit_words, more, number_words, reference_words};
-use pli_typing::typed::{Bit, Counter, Number, Turns, Value};
+use pli_typing::statement::Turns;
+use pli_typing::typed::{Bit, Counter, Number, Value};
 use std::alloc::AllocError;
 
 fn bit_if(condition: &Option<Bit>) -> Result<u32, AllocError>

@@ -191,10 +191,26 @@ pub enum Item {
 
 /// A list of items.
 #[cycle(stmt)]
-#[derive(Debug, Drop)]
+#[derive(Debug)]
 pub enum Items {
     End,
     More { first: Box<Item>, rest: Box<Items> },
+}
+
+impl Drop for Items {
+    /// Drops the list from its front, in a loop: it may be as long as a source.
+    #[cycle(dropping)]
+    fn drop(mut self) {
+        loop {
+            match self {
+                Items::End => return,
+                Items::More {
+                    first: _first,
+                    rest,
+                } => self = Box::into_inner(rest),
+            }
+        }
+    }
 }
 
 /// A program: its outer procedures, in order.

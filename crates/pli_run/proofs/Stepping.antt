@@ -2,76 +2,92 @@
 use Rattle.std.proofs.Common.{◌≡◌, ℕ, zero, suc, ◌+◌, ◌-◌, ◌*◌, List, length, Some, refl, ap, subst, sym, ◌∙◌, arith, zero-add, add-zero, ◌⊎◌, inl, inr}
 use Rattle.rv_meaning.specs.declared.instr.Fault.{Fault}
 use Rattle.rv_meaning.specs.Machine.{Loaded, State, Effect, Goes, Faults, Calls, effect}
-use Rattle.pli_meaning.specs.Services.{Service, Answer, serves}
-use Rattle.pli_meaning.specs.Headline.{Whole, Run, Runs, Ended as HasEnded, Stopped, answered, of_effect, next, run_on, shown_by}
 use Rattle.rv_machine.specs.declared.services.Served.{Served}
 use Rattle.rv_machine.specs.declared.machine.Step.{Step}
 use Rattle.rv_machine.specs.declared.machine.Step.TheVariants.{Ran, Ended, Fault as Faulted, Refused}
 use Rattle.rv_machine.specs.Steps.{Moment, Makes, RanFor, RunsFor, Answers, start, then}
-use Rattle.pli_run.specs.declared.runtime.Runtime.{Runtime}
+use Rattle.area_keeper.specs.Chain.{chain}
 use Rattle.pli_meaning.specs.World.{World}
 use Rattle.pli_meaning.specs.declared.outcome.Outcome.{Outcome}
+use Rattle.pli_serving.specs.Answers.{Answer}
+use Rattle.pli_serving.specs.ServiceState.{Services}
+use Rattle.pli_serving.specs.Serving.{serves}
+use Rattle.pli_values.specs.declared.layout.Layout.{Layout}
+use Rattle.pli_values.specs.View as View
+use Rattle.pli_runtime.specs.declared.runtime.Runtime.{Runtime}
+use Rattle.pli_runtime.specs.Running.{running, call_of}
+use Rattle.pli_environment.specs.Calling.{Serves, IsAnswered}
+use Rattle.pli_environment.specs.Places.{image_layout}
+use Rattle.image_runs.specs.Runs.{Whole, Run, Runs, Ended as HasEnded, Stopped, answered, called, of_effect, next, run_on, shown_by}
 use Rattle.pli_run.specs.Running.{world_of, Meets, ShowsWithin}
-use Rattle.pli_run.specs.Serving.{service_of, Serves, IsServed}
 
 -- a machine and its services, as the definitions see them
 abbrev pub whole : Moment Runtime → Whole
-whole m = record { machine = m.state; service = service_of m.services }
+whole m = record { machine = m.state; services = running m.services }
 
 -- what a step, or a run that it finishes, comes to
 abbrev pub Comes : Run → Step → Moment Runtime → Type 0
 Comes r Ran to = r ≡ Runs (whole to)
-Comes r Ended to = shown_by r ≡ Some (service_of to.services).world
+Comes r Ended to = shown_by r ≡ Some (running to.services).world
 Comes r (Faulted f) to = r ≡ Stopped f
 Comes r Refused to = Unit {0}
 
 -- a state by its parts
-of_parts : (s t : State) (x : ℕ → ℕ) (m : List ℕ) (pc : ℕ) → t.registers ≡ x → t.memory ≡ m → t.pc ≡ pc → t ≡ record { registers = x; memory = m; pc = pc }
-of_parts s t x m pc a b e = λ i. record { registers = a i; memory = b i; pc = e i }
+of_parts : (t : State) (x : ℕ → ℕ) (pc : ℕ) → t.registers ≡ x → t.pc ≡ pc → t ≡ record { registers = x; memory = t.memory; pc = pc }
+of_parts t x pc a e = λ i. record { registers = a i; memory = t.memory; pc = e i }
+
+-- a call is answered between two moments so
+abbrev pub AnsweredSo : Answer → Moment Runtime → Served → Moment Runtime → Type 0
+AnsweredSo a from answer to =
+    IsAnswered a (running from.services) from.state.registers from.state.memory answer (running to.services) to.state.registers to.state.memory
 
 -- the answer to a call, by how it came out
-called_ran : (p : Loaded) (from to : Moment Runtime) (answer : Served) (a : Answer) → IsServed a (service_of from.services) from.state.registers answer (service_of to.services) to.state.registers → to.state.memory ≡ from.state.memory → Answers answer from.state Ran to.state → answered from.state a ≡ Runs (whole to)
-called_ran p from to Served.Done a (x, y, e, r) m (ran, pc) = rw e (ap (λ (s : State). Runs (record { machine = s; service = service_of to.services })) (sym (of_parts from.state to.state _ _ _ r m pc)))
-called_ran p from to Served.Ended a h m (ran, pc) = absurd (cc)
-called_ran p from to Served.Bad a h m (ran, pc) = absurd (cc)
-called_ran p from to Served.Memory a h m (ran, pc) = absurd (cc)
+called_ran : (from to : Moment Runtime) (answer : Served) (a : Answer) → AnsweredSo a from answer to → Answers answer from.state Ran to.state → answered from.state a ≡ Runs (whole to)
+called_ran from to Served.Done a (x, y, e, r) (ran, pc) =
+    rw e (ap (λ (s : State). Runs (record { machine = s; services = running to.services })) (sym (of_parts to.state _ _ r pc)))
+called_ran from to Served.Ended a h (ran, pc) = absurd (cc)
+called_ran from to Served.Bad a h (ran, pc) = absurd (cc)
+called_ran from to Served.Memory a h (ran, pc) = absurd (cc)
 
-called_ended : (p : Loaded) (from to : Moment Runtime) (answer : Served) (a : Answer) → IsServed a (service_of from.services) from.state.registers answer (service_of to.services) to.state.registers → Answers answer from.state Ended to.state → answered from.state a ≡ HasEnded (record { machine = from.state; service = service_of to.services })
-called_ended p from to Served.Done a h (ran, pc) = absurd (cc)
-called_ended p from to Served.Ended a (e, r) (ran, pc) = rw e refl
-called_ended p from to Served.Bad a h (ran, pc) = absurd (cc)
-called_ended p from to Served.Memory a h (ran, pc) = absurd (cc)
+called_ended : (from to : Moment Runtime) (answer : Served) (a : Answer) → AnsweredSo a from answer to → Answers answer from.state Ended to.state → answered from.state a ≡ HasEnded (record { machine = from.state; services = running to.services })
+called_ended from to Served.Done a h (ran, pc) = absurd (cc)
+called_ended from to Served.Ended a (e, r, m) (ran, pc) = rw e refl
+called_ended from to Served.Bad a h (ran, pc) = absurd (cc)
+called_ended from to Served.Memory a h (ran, pc) = absurd (cc)
 
-called_faulted : (p : Loaded) (from to : Moment Runtime) (f : Fault) (answer : Served) (a : Answer) → IsServed a (service_of from.services) from.state.registers answer (service_of to.services) to.state.registers → Answers answer from.state (Faulted f) to.state → answered from.state a ≡ Stopped f
-called_faulted p from to f Served.Done a h (ran, pc) = absurd (cc)
-called_faulted p from to f Served.Ended a h (ran, pc) = absurd (cc)
-called_faulted p from to f Served.Bad a (e, v, r) (faulted, pc) = rw e (cc)
-called_faulted p from to f Served.Memory a h (ran, pc) = absurd (cc)
+called_faulted : (from to : Moment Runtime) (f : Fault) (answer : Served) (a : Answer) → AnsweredSo a from answer to → Answers answer from.state (Faulted f) to.state → answered from.state a ≡ Stopped f
+called_faulted from to f Served.Done a h (ran, pc) = absurd (cc)
+called_faulted from to f Served.Ended a h (ran, pc) = absurd (cc)
+called_faulted from to f Served.Bad a (e, v, r, m) (faulted, pc) = rw e (cc)
+called_faulted from to f Served.Memory a h (ran, pc) = absurd (cc)
 
 -- services of the program's code
 abbrev pub OfCode : Loaded → Moment Runtime → Type 0
-OfCode p m = m.services.code_bytes ≡ 4 * length p.code
+OfCode p m = m.services.held.layout ≡ image_layout (4 * length p.code)
 
-serves_here : (p : Loaded) (from : Moment Runtime) → OfCode p from → serves (4 * length p.code) from.state.memory (service_of from.services) from.state.registers ≡ serves from.services.code_bytes from.state.memory (service_of from.services) from.state.registers
-serves_here p from h = rw h refl
+serves_here : (p : Loaded) (from : Moment Runtime) → OfCode p from → called p (whole from) ≡ serves (call_of chain from.services from.state.memory) from.state.registers
+serves_here p from h =
+    ap
+    (λ (l : Layout). serves (record { keeper = chain; layout = View.layout_of l; services = running from.services; memory = from.state.memory }) from.state.registers)
+    (sym h)
 
 makes_ran : (p : Loaded) (from to : Moment Runtime) (e : Effect) → OfCode p from → Makes Serves e from Ran to → (of_effect p (whole from) e ≡ Runs (whole to)) × OfCode p to
 makes_ran p from to (Goes s) o (ran, state, services) = (rw (state, services) refl, rw services o)
 makes_ran p from to (Faults f) o (ran, state, services) = absurd (cc)
 makes_ran p from to Calls o (answer, serve, zero_kept, sized, answers) =
-    (ap (answered from.state) (serves_here p from o) ∙ called_ran p from to answer _ serve.answered serve.bytes_kept answers, serve.code_kept ∙ o)
+    (ap (answered from.state) (serves_here p from o) ∙ called_ran from to answer _ serve.answered answers, serve.layout_kept ∙ o)
 
-makes_ended : (p : Loaded) (from to : Moment Runtime) (e : Effect) → OfCode p from → Makes Serves e from Ended to → of_effect p (whole from) e ≡ HasEnded (record { machine = from.state; service = service_of to.services })
+makes_ended : (p : Loaded) (from to : Moment Runtime) (e : Effect) → OfCode p from → Makes Serves e from Ended to → of_effect p (whole from) e ≡ HasEnded (record { machine = from.state; services = running to.services })
 makes_ended p from to (Goes s) o (ran, state, services) = absurd (cc)
 makes_ended p from to (Faults f) o (ran, state, services) = absurd (cc)
 makes_ended p from to Calls o (answer, serve, zero_kept, sized, answers) =
-    ap (answered from.state) (serves_here p from o) ∙ called_ended p from to answer _ serve.answered answers
+    ap (answered from.state) (serves_here p from o) ∙ called_ended from to answer _ serve.answered answers
 
 makes_faulted : (p : Loaded) (from to : Moment Runtime) (f : Fault) (e : Effect) → OfCode p from → Makes Serves e from (Faulted f) to → of_effect p (whole from) e ≡ Stopped f
 makes_faulted p from to f (Goes s) o (ran, state, services) = absurd (cc)
 makes_faulted p from to f (Faults g) o (faulted, state, services) = cc
 makes_faulted p from to f Calls o (answer, serve, zero_kept, sized, answers) =
-    ap (answered from.state) (serves_here p from o) ∙ called_faulted p from to f answer _ serve.answered answers
+    ap (answered from.state) (serves_here p from o) ∙ called_faulted from to f answer _ serve.answered answers
 
 -- steps that ran are taken off a run, and keep the services those of the code
 ran_on : (p : Loaded) (n k : ℕ) (from at : Moment Runtime) → OfCode p from → RanFor Serves p n from at → (run_on (n + k) p (Runs (whole from)) ≡ run_on k p (Runs (whole at))) × OfCode p at
@@ -123,16 +139,16 @@ runs_are p bound ran from (Faulted f) to o run =
     subst P whole_bound all.0 ∙ one_on p k (whole run.at) _ (makes_faulted p run.at to f (effect p run.at.state) all.1 run.finishes.1) ∙ stopped_stays p k f
 runs_are p bound ran from Refused to o run = tt
 
--- a step that is none leaves the services as they were
-faulted_kept : (from to : Moment Runtime) (f : Fault) (e : Effect) → Makes Serves e from (Faulted f) to → service_of to.services ≡ service_of from.services
+-- a step that is none leaves what is shown as it was
+faulted_kept : (from to : Moment Runtime) (f : Fault) (e : Effect) → Makes Serves e from (Faulted f) to → (running to.services).world ≡ (running from.services).world
 faulted_kept from to f (Goes s) (ran, state, services) = absurd (cc)
-faulted_kept from to f (Faults g) (faulted, state, services) = ap service_of services
+faulted_kept from to f (Faults g) (faulted, state, services) = ap (λ (r : Runtime). (running r).world) services
 faulted_kept from to f Calls (Served.Done, serve, zero_kept, sized, (ran, pc)) = absurd (cc)
 faulted_kept from to f Calls (Served.Ended, serve, zero_kept, sized, (ended, pc)) = absurd (cc)
-faulted_kept from to f Calls (Served.Bad, serve, zero_kept, sized, answers) = serve.answered.1
+faulted_kept from to f Calls (Served.Bad, serve, zero_kept, sized, answers) = ap (λ (v : Services). v.world) serve.answered.1
 faulted_kept from to f Calls (Served.Memory, serve, zero_kept, sized, (refused, pc)) = absurd (cc)
 
-refused_kept : (from to : Moment Runtime) (e : Effect) → Makes Serves e from Refused to → service_of to.services ≡ service_of from.services
+refused_kept : (from to : Moment Runtime) (e : Effect) → Makes Serves e from Refused to → (running to.services).world ≡ (running from.services).world
 refused_kept from to (Goes s) (ran, state, services) = absurd (cc)
 refused_kept from to (Faults g) (faulted, state, services) = absurd (cc)
 refused_kept from to Calls (Served.Done, serve, zero_kept, sized, (ran, pc)) = absurd (cc)
@@ -141,19 +157,19 @@ refused_kept from to Calls (Served.Bad, serve, zero_kept, sized, (faulted, pc)) 
 refused_kept from to Calls (Served.Memory, serve, zero_kept, sized, answers) = serve.answered.0
 
 -- what the steps that ran show
-ran_shows : (p : Loaded) (ran : ℕ) (from at : Moment Runtime) (v : Service) → OfCode p from → RanFor Serves p ran from at → v ≡ service_of at.services → shown_by (run_on ran p (Runs (whole from))) ≡ Some v.world
-ran_shows p ran from at v o h e =
+ran_shows : (p : Loaded) (ran : ℕ) (from at : Moment Runtime) (w : World) → OfCode p from → RanFor Serves p ran from at → w ≡ (running at.services).world → shown_by (run_on ran p (Runs (whole from))) ≡ Some w
+ran_shows p ran from at w o h e =
     let all = ran_on p ran 0 from at o h in
     let P : ℕ → Type 0 = λ j. run_on j p (Runs (whole from)) ≡ run_on 0 p (Runs (whole at)) in
-    ap shown_by (subst P (add-zero ran) all.0 ∙ none_on p _) ∙ ap (λ (s : Service). Some s.world) (sym e)
+    ap shown_by (subst P (add-zero ran) all.0 ∙ none_on p _) ∙ ap (λ (s : World). Some s) (sym e)
 
-pub run_meets : (p : Loaded) (bound ran : ℕ) (from to : Moment Runtime) (f : Fault) (o : Outcome) → OfCode p from → RunsFor Serves p bound ran from (Faulted f) to → world_of o ≡ (service_of to.services).world → Meets (λ n. run_on n p (Runs (whole from))) bound f o.acts o.output.items
+pub run_meets : (p : Loaded) (bound ran : ℕ) (from to : Moment Runtime) (f : Fault) (o : Outcome) → OfCode p from → RunsFor Serves p bound ran from (Faulted f) to → world_of o ≡ (running to.services).world → Meets (λ n. run_on n p (Runs (whole from))) bound f o.acts o.output.items
 run_meets p bound ran from to f o code run e = record {
   done = ran;
   within = run.finishes.0;
   shows = record {
-    world = (service_of to.services).world;
-    shown = ran_shows p ran from run.at (service_of to.services) code run.all_ran (faulted_kept run.at to f (effect p run.at.state) run.finishes.1);
+    world = (running to.services).world;
+    shown = ran_shows p ran from run.at (running to.services).world code run.all_ran (faulted_kept run.at to f (effect p run.at.state) run.finishes.1);
     acts_are = ap (λ (w : World). w.acts) e;
     output_is = ap (λ (w : World). w.output) e;
   };
@@ -161,19 +177,19 @@ run_meets p bound ran from to f o code run e = record {
   stopped = runs_are p bound ran from (Faulted f) to code run;
 }
 
-pub run_refused : (p : Loaded) (bound ran : ℕ) (from to : Moment Runtime) (o : Outcome) → OfCode p from → RunsFor Serves p bound ran from Refused to → world_of o ≡ (service_of to.services).world → ShowsWithin (λ n. run_on n p (Runs (whole from))) bound o.acts o.output.items
+pub run_refused : (p : Loaded) (bound ran : ℕ) (from to : Moment Runtime) (o : Outcome) → OfCode p from → RunsFor Serves p bound ran from Refused to → world_of o ≡ (running to.services).world → ShowsWithin (λ n. run_on n p (Runs (whole from))) bound o.acts o.output.items
 run_refused p bound ran from to o code run e = record {
   done = ran;
   within = let h = run.finishes.0 in omega arith;
   shows = record {
-    world = (service_of to.services).world;
-    shown = ran_shows p ran from run.at (service_of to.services) code run.all_ran (refused_kept run.at to (effect p run.at.state) run.finishes.1);
+    world = (running to.services).world;
+    shown = ran_shows p ran from run.at (running to.services).world code run.all_ran (refused_kept run.at to (effect p run.at.state) run.finishes.1);
     acts_are = ap (λ (w : World). w.acts) e;
     output_is = ap (λ (w : World). w.output) e;
   };
 }
 
 -- a run that ran on or ended shows its services' world
-pub shown_where : (r : Run) (last : Step) (to : Moment Runtime) → (last ≡ Ran) ⊎ (last ≡ Ended) → Comes r last to → shown_by r ≡ Some (service_of to.services).world
+pub shown_where : (r : Run) (last : Step) (to : Moment Runtime) → (last ≡ Ran) ⊎ (last ≡ Ended) → Comes r last to → shown_by r ≡ Some (running to.services).world
 shown_where r last to (inl e) comes = ap shown_by (rw e at comes)
 shown_where r last to (inr e) comes = rw e at comes

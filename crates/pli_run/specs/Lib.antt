@@ -1,4 +1,2 @@
-pub mod Serving
-pub mod Reading
 pub mod Running
 pub mod Reporting

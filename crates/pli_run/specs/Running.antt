@@ -4,7 +4,9 @@ use Rattle.pli_meaning.specs.declared.outcome.Outcome.{Outcome}
 use Rattle.rv_meaning.specs.declared.instr.Fault.{Fault}
 use Rattle.rv_meaning.specs.Encoding.{word_of}
 use Rattle.pli_meaning.specs.World.{World}
-use Rattle.pli_meaning.specs.Headline.{Picture, Run, Stopped, shown_by}
+use Rattle.pli_meaning.specs.Headline.{Picture}
+use Rattle.image_runs.specs.Runs.{Run, Stopped, shown_by}
+use Rattle.rv_meaning.specs.Tables.{TableSignature, AreSignatures, table_words}
 use Rattle.rv_meaning.specs.Images.{Image}
 use Rattle.rv_machine.specs.Fitting.{AllFit}
 use Rattle.pli_run.specs.declared.run.RunFault.{RunFault}
@@ -20,6 +22,11 @@ pub record IsPicture (p : Picture) (image : Image) : Type 0 where
   pub fit : AllFit p.code
   pub statics_are : p.statics ≡ image.statics
   pub entry_is : p.entry ≡ image.entry
+
+-- the signatures that its table lists
+pub record IsTabled (signatures : List TableSignature) (image : Image) : Type 0 where
+  pub fit : AreSignatures signatures
+  pub spelled : image.table ≡ table_words signatures
 
 -- a run by the number of instructions allowed shows these acts and this output where so many are done
 pub record ShowsAfter (run : ℕ → Run) (done acts : ℕ) (output : List ℕ) : Type 0 where

@@ -1,11 +1,13 @@
 // Runs of images.
 
-ghost use Rattle.std.specs.Prelude.{◌≡◌, ◌↔◌, ◌*◌, length, IsErrOf};
+ghost use Rattle.std.specs.Prelude.{◌≡◌, ◌↔◌, ◌*◌, List, length, IsErrOf};
 ghost use Rattle.rv_meaning.specs.Machine.{IsValidBase};
-ghost use Rattle.pli_meaning.specs.Headline.{Picture, run_of};
-ghost use Rattle.pli_run.specs.Running.{number_of, IsUnstarted, IsPicture, Tells};
+ghost use Rattle.rv_meaning.specs.Tables.{TableSignature};
+ghost use Rattle.pli_meaning.specs.Headline.{Picture};
+ghost use Rattle.image_runs.specs.Runs.{run_of};
+ghost use Rattle.pli_run.specs.Running.{number_of, IsUnstarted, IsPicture, IsTabled, Tells};
 
-use crate::runtime::Runtime;
+use pli_environment::environment::Environment;
 use pli_language::fault::SourceFault;
 use pli_meaning::outcome::Outcome;
 use rv_image::image::Image;
@@ -61,20 +63,22 @@ pub fn run(
     bound: u64,
 ) -> Result<Outcome, RunFault>
     ensures bad_base { IsErrOf result RunFault.BadBase ↔ ¬ IsValidBase base }
-    ensures told { IsValidBase base → (p : Picture) → IsPicture p image.now → Tells (run_of p base input.now) bound result }
+    ensures told { IsValidBase base → (p : Picture) (gs : List TableSignature) → IsPicture p image.now → IsTabled gs image.now → Tells (run_of p gs base input.now) bound result }
 {
     if !valid_base(base) {
         return Err(RunFault::BadBase);
     }
     let code_bytes = 4 * image.code().len() as u32;
-    let Ok(mut runtime) = Runtime::new(alloc, code_bytes, input) else {
+    let Ok(mut environment) = Environment::new(alloc, code_bytes, image.table(), input) else {
         return Err(unstarted(alloc));
     };
     let Ok(mut machine) = Machine::new(alloc, image, base) else {
         return Err(unstarted(alloc));
     };
-    let last = machine.run_for(&mut runtime, bound).last;
-    let outcome = runtime.into_outcome();
+    let last = machine.run_for(&mut environment, bound).last;
+    let Ok(outcome) = environment.into_outcome() else {
+        return Err(unstarted(alloc));
+    };
     match last {
         Step::Ran | Step::Ended => Ok(outcome),
         Step::Fault(fault) => Err(RunFault::Machine {

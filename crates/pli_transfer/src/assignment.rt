@@ -19,7 +19,8 @@ use pli_operand::operand::{Designated, Operand, Referent};
 use pli_operand::shape::{element_type, is_aggregate, is_area, scalar_type, variable_of};
 use pli_operand::stored::{operand_stored, stored_as};
 use pli_operand::value::referent_value;
-use pli_typing::typed::{LeafType, Reference, Stmt, Value, Variable};
+use pli_typing::statement::Stmt;
+use pli_typing::typed::{LeafType, Reference, Value, Variable};
 use std::alloc::{AllocError, Global};
 
 /// A statement that assigns nothing.

@@ -25,7 +25,8 @@ use pli_language::expr::Expr;
 use pli_language::stmt;
 use pli_language::stmt::Counting;
 use pli_operand::notes::Notes;
-use pli_typing::typed::{Bit, Stmt, Turns};
+use pli_typing::statement::{Stmt, Turns};
+use pli_typing::typed::Bit;
 use std::alloc::{AllocError, Global};
 
 /// The expression of IF or WHILE.

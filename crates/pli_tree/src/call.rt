@@ -24,7 +24,7 @@ use pli_operand::operand::Operand;
 use pli_reference::call::procedure_called;
 use pli_reference::expression::arguments_in;
 use pli_reference::scope::Scope;
-use pli_typing::typed::Stmt;
+use pli_typing::statement::Stmt;
 use pli_variables::Tables;
 use std::alloc::{AllocError, Global};
 

@@ -12,7 +12,7 @@ use crate::context::Context;
 use crate::walked::after;
 use pli_language::expr::Place;
 use pli_language::stmt::ProcedureHead;
-use pli_typing::typed::{Block, BlockHead, BlockKind, Procedure, Stmt, Stmts};
+use pli_typing::statement::{Block, BlockHead, BlockKind, Procedure, Stmt, Stmts};
 use std::alloc::{AllocError, Global};
 
 /// The head of the block with a number.

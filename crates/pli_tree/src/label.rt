@@ -16,7 +16,7 @@ use pli_language::expr::{Name, Place};
 use pli_language::fault::SourceKind;
 use pli_language::scope::{DeclarationAt, Found};
 use pli_operand::notes::Notes;
-use pli_typing::typed::Stmt;
+use pli_typing::statement::Stmt;
 use pli_variables::Tables;
 
 /// The place of the label that is declared there, if one is.

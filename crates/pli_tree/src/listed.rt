@@ -9,7 +9,7 @@ ghost use Rattle.pli_tree.specs.Shown.{ended, part_of, parts_onto};
 
 use pli_language::expr::Name;
 use pli_language::stmt::Item;
-use pli_typing::typed::{Stmt, Stmts};
+use pli_typing::statement::{Stmt, Stmts};
 use std::alloc::{AllocError, Global};
 
 /// A statement with its labels.

@@ -18,7 +18,7 @@ use pli_declare::Scopes;
 use pli_language::fault::{SourceFault, SourceKind};
 use pli_language::stmt::Tree;
 use pli_reference::scope::Scope;
-use pli_typing::typed::Typed;
+use pli_typing::statement::Typed;
 use pli_variables::Tables;
 use std::alloc::{AllocError, Global};
 

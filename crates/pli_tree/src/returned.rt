@@ -22,7 +22,8 @@ use pli_operand::notes::Notes;
 use pli_operand::operand::Operand;
 use pli_operand::stored::operand_stored;
 use pli_reference::expression::operand;
-use pli_typing::typed::{LeafType, Stmt};
+use pli_typing::statement::Stmt;
+use pli_typing::typed::LeafType;
 use pli_variables::Tables;
 use std::alloc::{AllocError, Global};
 

@@ -20,8 +20,9 @@ use pli_reference::expression::{expressions, operand, referred};
 use pli_reference::scope::Scope;
 use pli_transfer::assignment::assignment;
 use pli_transfer::item::{get_pair, put_pair};
+use pli_typing::statement::Stmt;
 use pli_typing::typed;
-use pli_typing::typed::{GetPair, PutPair, Stmt};
+use pli_typing::typed::{GetPair, PutPair};
 use std::alloc::{AllocError, Global};
 
 /// An assignment.

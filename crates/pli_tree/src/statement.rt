@@ -19,7 +19,7 @@ use pli_language::condition::Condition;
 use pli_language::expr::{Expr, Name, Place};
 use pli_language::stmt;
 use pli_language::stmt::{Counting, Item, Items, ProcedureHead};
-use pli_typing::typed::{Block, BlockKind, Stmt, Stmts};
+use pli_typing::statement::{Block, BlockKind, Stmt, Stmts};
 use std::alloc::{AllocError, Global};
 
 /// A statement in a box.

@@ -24,7 +24,8 @@ use pli_reference::expression::{operand, referred};
 use pli_reference::scope::Scope;
 use pli_transfer::computational::computational_operand;
 use pli_transfer::scalar::{Scalar, counter_of, scalar_operand};
-use pli_typing::typed::{Bit, Number, Stored, Turns};
+use pli_typing::statement::Turns;
+use pli_typing::typed::{Bit, Number, Stored};
 use std::alloc::{AllocError, Global};
 
 /// The expression of IF and WHILE.

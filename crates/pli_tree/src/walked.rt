@@ -6,7 +6,7 @@ ghost use Rattle.pli_operand.specs.Shown.{notes_of};
 
 use pli_language::fault::SourceFault;
 use pli_operand::notes::Notes;
-use pli_typing::typed::Procedure;
+use pli_typing::statement::Procedure;
 use std::alloc::{AllocError, Global};
 
 /// The least rule that is broken so far, the procedures so far, and the number of the next block.

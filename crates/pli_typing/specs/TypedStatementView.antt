@@ -20,18 +20,18 @@ use Rattle.pli_typing.specs.declared.typed.PutItem.{PutItem as PutItemHeld}
 use Rattle.pli_typing.specs.declared.typed.PutItem.TheVariants as P
 use Rattle.pli_typing.specs.declared.typed.GetPair.{GetPair as GetPairHeld}
 use Rattle.pli_typing.specs.declared.typed.PutPair.{PutPair as PutPairHeld}
-use Rattle.pli_typing.specs.declared.typed.BlockKind.{BlockKind as BlockKindHeld}
-use Rattle.pli_typing.specs.declared.typed.BlockKind.TheVariants as B
-use Rattle.pli_typing.specs.declared.typed.BlockHead.{BlockHead as BlockHeadHeld}
-use Rattle.pli_typing.specs.declared.typed.Turns.{Turns as TurnsHeld}
-use Rattle.pli_typing.specs.declared.typed.Turns.TheVariants as D
-use Rattle.pli_typing.specs.declared.typed.Stmt.{Stmt as StmtHeld}
-use Rattle.pli_typing.specs.declared.typed.Stmt as S
-use Rattle.pli_typing.specs.declared.typed.Stmts.{Stmts as StmtsHeld}
-use Rattle.pli_typing.specs.declared.typed.Stmts as L
-use Rattle.pli_typing.specs.declared.typed.Block.{Block as BlockHeld}
-use Rattle.pli_typing.specs.declared.typed.Procedure.{Procedure as ProcedureHeld}
-use Rattle.pli_typing.specs.declared.typed.Typed.{Typed as TypedHeld}
+use Rattle.pli_typing.specs.declared.statement.BlockKind.{BlockKind as BlockKindHeld}
+use Rattle.pli_typing.specs.declared.statement.BlockKind.TheVariants as B
+use Rattle.pli_typing.specs.declared.statement.BlockHead.{BlockHead as BlockHeadHeld}
+use Rattle.pli_typing.specs.declared.statement.Turns.{Turns as TurnsHeld}
+use Rattle.pli_typing.specs.declared.statement.Turns.TheVariants as D
+use Rattle.pli_typing.specs.declared.statement.Stmt.{Stmt as StmtHeld}
+use Rattle.pli_typing.specs.declared.statement.Stmt as S
+use Rattle.pli_typing.specs.declared.statement.Stmts.{Stmts as StmtsHeld}
+use Rattle.pli_typing.specs.declared.statement.Stmts as L
+use Rattle.pli_typing.specs.declared.statement.Block.{Block as BlockHeld}
+use Rattle.pli_typing.specs.declared.statement.Procedure.{Procedure as ProcedureHeld}
+use Rattle.pli_typing.specs.declared.statement.Typed.{Typed as TypedHeld}
 use Rattle.pli_language.specs.View.{name_of, option_of, formats_of}
 use Rattle.pli_typing.specs.TypedView.{class_of, variable_of, area_of, extent_of, bounds_of, leaf_type_of, leaf_of, number_of, bit_of, pointer_of, reference_of, stored_of, call_of, value_of}
 use Rattle.pli_typing.specs.SingleStatements.{Turns, OneTurn, CountedTurns, do_statement}

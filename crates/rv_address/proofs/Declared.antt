@@ -7,7 +7,7 @@ use Rattle.std.specs.Prelude.{slice_get, unwrap_or, Vec}
 use Rattle.std.specs.declared.alloc.Global.{Global}
 use Rattle.pli_typing.specs.declared.typed.DeclaredVariable.{DeclaredVariable}
 use Rattle.pli_typing.specs.declared.typed.Leaf.{Leaf}
-use Rattle.pli_typing.specs.declared.typed.Typed.{Typed}
+use Rattle.pli_typing.specs.declared.statement.Typed.{Typed}
 use Rattle.pli_typing.specs.TypedTree as Y
 use Rattle.pli_typing.specs.declared.typed.Bounds.{Bounds}
 use Rattle.pli_typing.specs.TypedView.{bounds_of, leaf_of}

@@ -4,7 +4,7 @@ use Rattle.std.specs.Prelude.{◌==◌, min, if◌then◌else◌}
 use Rattle.std.proofs.lemmas.Bool.Decides.{nat_tests}
 use Rattle.std.proofs.lemmas.List.{drop_more}
 use Rattle.pli_typing.specs.declared.typed.DeclaredVariable.{DeclaredVariable}
-use Rattle.pli_typing.specs.declared.typed.Procedure.{Procedure}
+use Rattle.pli_typing.specs.declared.statement.Procedure.{Procedure}
 use Rattle.pli_typing.specs.TypedTree as Y
 use Rattle.pli_typing.specs.TypedStatementView.{declared_variable_of, procedure_of}
 use Rattle.pli_meaning.specs.DeclaredShapes.{procedure_numbered}

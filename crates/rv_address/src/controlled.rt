@@ -6,7 +6,8 @@ ghost use Rattle.pli_typing.specs.TypedStatementView.{declared_variable_of, prog
 ghost use Rattle.pli_coding.specs.Locating as form;
 ghost use Rattle.rv_address.specs.Rows.{all_controlled, one_controlled, rows_of};
 
-use pli_typing::typed::{DeclaredVariable, StorageClass, Typed, Variable};
+use pli_typing::statement::Typed;
+use pli_typing::typed::{DeclaredVariable, StorageClass, Variable};
 use std::alloc::AllocError;
 
 pub(crate) fn is_controlled(class: StorageClass) -> bool

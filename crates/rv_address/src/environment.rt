@@ -10,7 +10,8 @@ ghost use Rattle.rv_address.specs.Around.{block_place_of, environment_of, owner_
 ghost use Rattle.rv_address.specs.Whole.{around_program};
 
 use crate::known::Known;
-use pli_typing::typed::{DeclaredVariable, Leaf, Typed, Variable};
+use pli_typing::statement::Typed;
+use pli_typing::typed::{DeclaredVariable, Leaf, Variable};
 use std::alloc::AllocError;
 
 /// A block of a program, by its number and its level.

@@ -12,7 +12,8 @@ use crate::environment::{Environment, variables_of_block};
 use pli_frames::fixed::parameter_place;
 use pli_frames::frame::fixed_size;
 use pli_frames::size::{LAST_PLACE, frame_bytes};
-use pli_typing::typed::{DeclaredVariable, Typed, Variable};
+use pli_typing::statement::Typed;
+use pli_typing::typed::{DeclaredVariable, Variable};
 use std::alloc::AllocError;
 
 /// The parameters of a block, by their places among its variables; none where it is no procedure.

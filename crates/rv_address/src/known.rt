@@ -9,7 +9,8 @@ ghost use Rattle.pli_coding.specs.SignatureTable.{number_in_table, signature_of,
 ghost use Rattle.rv_address.specs.Rows.{items_of, number_at, numbers_in_words, numbers_of, place_in, rows_of, with_row, with_rows, with_words, words_of, number_rows};
 
 use crate::signature::signature_words;
-use pli_typing::typed::{DeclaredVariable, Typed, Variable};
+use pli_typing::statement::Typed;
+use pli_typing::typed::{DeclaredVariable, Variable};
 use std::alloc::{AllocError, Global};
 
 /// A typed program with its table, each signature as its words, and for each variable its signature's number.

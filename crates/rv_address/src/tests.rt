@@ -7,9 +7,9 @@ use crate::known::Known;
 use crate::located::behind_locator;
 use crate::taken::{none_taken, save};
 use crate::transfer::{in_own_frame, loaded, name_copied, stored, text_pushed, text_stored};
+use pli_typing::statement::{Block, BlockHead, BlockKind, Procedure, Stmts, Typed};
 use pli_typing::typed::{
-    Block, BlockHead, BlockKind, Bounds, DeclaredVariable, Extent, Leaf, LeafType, Part, Procedure,
-    Stmts, StorageClass, Typed, Variable,
+    Bounds, DeclaredVariable, Extent, Leaf, LeafType, Part, StorageClass, Variable,
 };
 use rv_assembly::code::Code;
 use rv_assembly::registers;

@@ -4,9 +4,10 @@ use crate::aggregate::{aggregate_code, elements_code};
 use crate::area::{area_code, emptied_code};
 use crate::record::{behind_record, record_code, record_given};
 use crate::scalar::{assigned_code, name_stored, stored_into, top_stored, word_stored};
+use pli_typing::statement::Typed;
 use pli_typing::typed::{
     Bit, Bounds, DeclaredVariable, Extent, Leaf, LeafType, Number, Numbers, Offset, Part, Pointer,
-    Reference, StorageClass, Stored, Text, Typed, Variable,
+    Reference, StorageClass, Stored, Text, Variable,
 };
 use rv_address::environment::Environment;
 use rv_address::known::Known;

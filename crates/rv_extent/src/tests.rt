@@ -5,9 +5,10 @@ use crate::amount::refer_amount;
 use crate::evaluation::extents_code;
 use crate::initial::initial_code;
 use pli_language::declaration::{InitialItem, InitialValue};
+use pli_typing::statement::Typed;
 use pli_typing::typed::{
     Bounds, Check, DeclaredVariable, Evaluation, Extent, Leaf, LeafType, Number, ReferMember,
-    StorageClass, Typed, Variable,
+    StorageClass, Variable,
 };
 use rv_address::environment::Environment;
 use rv_address::known::Known;

@@ -1,17 +1,18 @@
 // Programs as a machine takes them, and their bytes.
 
-ghost use Rattle.std.specs.Prelude.{◌≡◌, ℕ, ◌+◌, ◌*◌, ◌↔◌, IsTrue, length, vec_len, MatchResult};
+ghost use Rattle.std.specs.Prelude.{◌≡◌, ℕ, ◌+◌, ◌*◌, ◌^◌, ◌%◌, ◌<◌, ◌≤◌, ◌↔◌, IsTrue, length, vec_len, IfOk, MatchOption, MatchResult};
 ghost use Rattle.rv_meaning.specs.declared.image.ImageFault.TheVariants.{Memory};
 ghost use Rattle.rv_meaning.specs.Images.{Image, image, IsLoadable, AllInstructions, HasBytes};
 ghost use Rattle.rv_image.specs.Headers.{IsFaultOf};
 
 use crate::header::{CODE_START, checked};
+use crate::table::lists_signatures;
 use crate::word::words_at;
 use crate::writing::written;
 use rv_isa::code::Code;
 use rv_isa::decode::decode;
 use rv_meaning::image::ImageFault;
-use std::alloc::Global;
+use std::alloc::{AllocError, Global};
 use std::marker::Model;
 
 /// A program that a machine can run: its code words, the bytes of its statics, where it begins, and its table.
@@ -51,6 +52,33 @@ impl Image {
             entry,
             table,
         }
+    }
+
+    /// The image of these parts, none where no machine can load them.
+    pub fn loadable(
+        code: Vec<u32>,
+        statics: Vec<u8>,
+        entry: u32,
+        table: Vec<u32>,
+    ) -> Result<Option<Image>, AllocError>
+        ensures { IfOk result (λ found. MatchOption found (¬ IsLoadable (image code.items statics.items entry table.items)) (λ i. i ≡ image code.items statics.items entry table.items)) }
+    {
+        if !lengths_fit(&code, &statics, &table) || !enters_code(&code, entry) {
+            return Ok(None);
+        }
+        let alloc = *table.allocator();
+        if !are_instructions(&code) {
+            return Ok(None);
+        }
+        if !lists_signatures(alloc, &table)? {
+            return Ok(None);
+        }
+        Ok(Some(Image {
+            code,
+            statics,
+            entry,
+            table,
+        }))
     }
 
     /// Where the run begins, in bytes from the first code word.
@@ -140,6 +168,21 @@ pub fn is_loadable(code: &Code) -> bool
         return false;
     }
     are_instructions(&code.words)
+}
+
+fn lengths_fit(code: &[u32], statics: &[u8], table: &[u32]) -> bool
+    ensures { IsTrue result ↔ (1 ≤ length code.now) × (length code.now ≤ 2 ^ 20) × (length statics.now ≤ 3 * 2 ^ 20) × (length table.now ≤ 2 ^ 20) }
+{
+    1 <= code.len()
+        && code.len() <= 0x10_0000
+        && statics.len() <= 0x30_0000
+        && table.len() <= 0x10_0000
+}
+
+fn enters_code(code: &[u32], entry: u32) -> bool
+    ensures { IsTrue result ↔ ((entry % 4 ≡ 0) × (entry < 4 * length code.now)) }
+{
+    entry % 4 == 0 && (entry as usize) < 4 * code.len()
 }
 
 fn are_instructions(words: &[u32]) -> bool

@@ -1,10 +1,14 @@
 // Whether words are a list of signatures.
 
-ghost use Rattle.std.specs.Prelude.{◌≡◌, ◌↔◌, ◌%◌, length, IsTrue};
+ghost use Rattle.std.specs.Prelude.{◌≡◌, ◌↔◌, ◌%◌, ◌^◌, length, IsTrue, IfOk};
+ghost use Rattle.rv_meaning.specs.Memory.{bytes_of_words};
+ghost use Rattle.rv_meaning.specs.Images.{AreBelow};
 ghost use Rattle.rv_meaning.specs.Tables.{IsTable, head_fits};
 ghost use Rattle.rv_image.specs.Reading.{Gives, words_of, leaves_from, signature_from};
 
 use crate::leaf::{leaf_of, word_of};
+use crate::word::push_words;
+use std::alloc::{AllocError, Global};
 
 fn head_fits(class: u32, count: u32, refer: u32) -> bool
     ensures { result ≡ head_fits class count refer }
@@ -53,4 +57,21 @@ pub fn is_table(words: &[u8]) -> bool
         }
     }
     true
+}
+
+fn bytes_of(alloc: Global, words: &[u32]) -> Result<Vec<u8>, AllocError>
+    ensures bytes { IfOk result (λ bytes. bytes.items ≡ bytes_of_words words.now) }
+    ensures below { AreBelow (2 ^ 32) words.now }
+{
+    let mut bytes = Vec::new(alloc);
+    push_words(&mut bytes, words)?;
+    Ok(bytes)
+}
+
+/// Whether words are a list of signatures.
+pub fn lists_signatures(alloc: Global, words: &[u32]) -> Result<bool, AllocError>
+    ensures { IfOk result (λ holds. IsTrue holds ↔ IsTable words.now) }
+{
+    let bytes = bytes_of(alloc, words)?;
+    Ok(is_table(&bytes))
 }

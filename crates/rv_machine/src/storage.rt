@@ -1,6 +1,7 @@
 // The memory of a machine as a list of bytes.
 
 ghost use Rattle.std.specs.Prelude.{◌≡◌, ℕ, ◌+◌, ◌<◌, ◌≤◌, ◌++◌, List, length, take, drop, replicate, IfOk};
+ghost use Rattle.std.specs.Borrow.{sem};
 ghost use Rattle.rv_meaning.specs.Memory as memory;
 
 use crate::bytes;
@@ -27,12 +28,16 @@ pub struct Storage {
 }
 
 impl Model for Storage {
+    ghost use Rattle.std.specs.Prelude.{ℕ, List};
+
     ghost Value = { List ℕ };
 
     ghost view = { λ a. a.bytes.items };
 }
 
 impl Storage {
+    ghost use Rattle.rv_machine.specs.Lending.{LendsBytes};
+
     /// A static, a stack and a heap part one behind the other, these many bytes long and all 0.
     pub fn new(
         alloc: Global,
@@ -53,6 +58,14 @@ impl Storage {
         ensures { result ≡ length self.now }
     {
         self.bytes.len()
+    }
+
+    /// The bytes, to be read and written in place.
+    pub fn as_mut_slice(&mut self) -> &mut [u8]
+        ensures* lends { sem 𝓛 (LendsBytes self.entry result) }
+        ensures value { result.now ≡ self.old }
+    {
+        self.bytes.as_mut_slice()
     }
 
     pub fn load8(&self, at: u32) -> u8

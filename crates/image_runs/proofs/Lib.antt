@@ -1,0 +1,4 @@
+mod Carried
+mod FormatsCarried
+mod ServicesCarried
+pub mod RunsCarried

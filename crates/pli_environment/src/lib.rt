@@ -1,0 +1,4 @@
+// The services of images, as the machine calls them.
+#![tactic(auto)]
+
+pub mod environment;

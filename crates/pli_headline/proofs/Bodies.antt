@@ -1,0 +1,208 @@
+-- What holds of a machine between two pieces of code, and single pieces: constants, loads, stores and sums with a displacement
+-- of any size. What stands in memory is a parameter, so that pieces of expressions know nothing of it but their temporaries.
+use Rattle.std.proofs.Common.{◌≡◌, ℕ, zero, suc, ◌+◌, ◌*◌, ◌%◌, ◌^◌, ◌<◌, ◌≤◌, List, [], ◌∷◌, length, Bool, true, false, refl, sym, ap, ◌∙◌, subst, arith}
+use Rattle.std.specs.Prelude.{ℤ, cond}
+use Rattle.rv_meaning.specs.declared.instr.Instr.{Instr}
+use Rattle.rv_meaning.specs.declared.instr.Instr.TheVariants as I
+use Rattle.rv_meaning.specs.declared.instr.ImmediateOp.TheVariants as Imm
+use Rattle.rv_meaning.specs.declared.instr.LoadKind.TheVariants as Load
+use Rattle.rv_meaning.specs.declared.instr.StoreKind.TheVariants as Store
+use Rattle.rv_meaning.specs.declared.instr.Register.{Register}
+use Rattle.rv_meaning.specs.Words.{word, sum}
+use Rattle.rv_meaning.specs.Memory.{load, store}
+use Rattle.rv_meaning.specs.Machine.{memory_size, written}
+use Rattle.rv_meaning.proofs.MemoryLaws.{length-store}
+use Rattle.pli_serving.specs.ServiceState.{Services}
+use Rattle.pli_coding.specs.Registers.{zero_register, frame_register, far_register}
+use Rattle.pli_coding.specs.Assembly.{Code, Plain, size_of}
+use Rattle.pli_coding.specs.Instructions.{add, constant, plus, load_word, store_word, is_immediate}
+use Rattle.pli_coding.specs.Linking.{Links, upper_part, lower_part}
+use Rattle.image_runs.specs.Runs.{Whole}
+use Rattle.pli_headline.proofs.Engine.{Base, address, WordAt}
+use Rattle.pli_headline.proofs.Items.{Linked, At, Items, straight, parts_sum}
+use Rattle.pli_headline.proofs.Numbers.{far_sum}
+use Rattle.pli_headline.proofs.Reach.{Family, Reach}
+
+-- ---- the ground on which code of a block stands
+
+-- the running frame, the first free byte of the upper stack, the words for temporaries below the frame, and what stands in
+-- memory where these words hold something
+pub record Ground : Type 1 where
+  pub frame : ℕ
+  pub free : ℕ
+  pub words : ℕ
+  pub memory : (temporaries : ℕ → ℕ) → Base → List ℕ → Type 0
+  pub whole : frame % 4 ≡ 0
+  pub above_code : 2 ^ 22 + 4 * words ≤ frame
+  pub inside : frame + 4 ≤ memory_size
+
+-- the registers that no scratch use changes: zero, the stack, the frame, and those that hold temporaries
+abbrev pub reserved : (ℕ → ℕ) → List ℕ
+reserved x = x 0 ∷ x 2 ∷ x 8 ∷ x 9 ∷ x 18 ∷ x 19 ∷ x 20 ∷ x 21 ∷ x 22 ∷ x 23 ∷ []
+
+abbrev pub reserved_are : Base → Ground → (held : ℕ → ℕ) → List ℕ
+reserved_are b g h =
+    0 ∷ (b.at + g.free) ∷ (b.at + g.frame) ∷ h 0 ∷ h 1 ∷ h 2 ∷ h 3 ∷ h 4 ∷ h 5 ∷ h 6 ∷ []
+
+pub record Body (g : Ground) (b : Base) (v : Services) (h t : ℕ → ℕ) (w : Whole) : Type 0 where
+  pub services : w.services ≡ v
+  pub registers : reserved w.machine.registers ≡ reserved_are b g h
+  pub bytes : length w.machine.memory ≡ memory_size
+  pub memory : g.memory t b w.machine.memory
+
+abbrev pub nth : ℕ → List ℕ → ℕ
+nth n [] = 0
+nth zero (x ∷ xs) = x
+nth (suc n) (x ∷ xs) = nth n xs
+
+pub zero_is : {g : Ground} {b : Base} {v : Services} {h t : ℕ → ℕ} {w : Whole} → Body g b v h t w → w.machine.registers 0 ≡ 0
+zero_is o = ap (nth 0) o.registers
+
+pub frame_is : {g : Ground} {b : Base} {v : Services} {h t : ℕ → ℕ} {w : Whole} → Body g b v h t w → w.machine.registers 8 ≡ b.at + g.frame
+frame_is o = ap (nth 2) o.registers
+
+-- ---- registers that are known beside these
+
+abbrev pub Regs : List (ℕ × ℕ) → (ℕ → ℕ) → Type 0
+Regs [] x = Unit {0}
+Regs (r ∷ rs) x = (x r.0 ≡ r.1) × Regs rs x
+
+pub record Known (g : Ground) (v : Services) (h t : ℕ → ℕ) (rs : Base → List (ℕ × ℕ)) (b : Base) (w : Whole) : Type 0 where
+  pub body : Body g b v h t w
+  pub regs : Regs (rs b) w.machine.registers
+
+-- a register may be written without harm to what is reserved and known
+pub record Free (rs : Base → List (ℕ × ℕ)) (r : ℕ) : Type 0 where
+  pub reserved_stay : (x : ℕ → ℕ) (u : ℕ) → reserved (written x r u) ≡ reserved x
+  pub known_stay : (b : Base) (x : ℕ → ℕ) (u : ℕ) → Regs (rs b) x → Regs (rs b) (written x r u)
+  pub set : (x : ℕ → ℕ) (u : ℕ) → written x r u r ≡ u
+
+abbrev pub with' : ℕ → (Base → ℕ) → (Base → List (ℕ × ℕ)) → Base → List (ℕ × ℕ)
+with' r u rs b = (r, u b) ∷ rs b
+
+set_body : {g : Ground} {b : Base} {v : Services} {h t : ℕ → ℕ} {rs : Base → List (ℕ × ℕ)} (w : Whole) (r u i : ℕ) → Free rs r → Body g b v h t w → Body g b v h t (record { machine = record { registers = written w.machine.registers r u; memory = w.machine.memory; pc = i }; services = w.services })
+set_body w r u i free o =
+    record { services = o.services; registers = free.reserved_stay w.machine.registers u ∙ o.registers; bytes = o.bytes; memory = o.memory }
+
+pub set_known : {g : Ground} {v : Services} {h t : ℕ → ℕ} {rs : Base → List (ℕ × ℕ)} {b : Base} (w : Whole) (r u i : ℕ) (x : Base → ℕ) → Free rs r → u ≡ x b → Known g v h t rs b w → Known g v h t (with' r x rs) b (record { machine = record { registers = written w.machine.registers r u; memory = w.machine.memory; pc = i }; services = w.services })
+set_known {b = b} w r u i x free e k =
+    record { body = set_body w r u i free k.body; regs = (free.set w.machine.registers u ∙ e, free.known_stay b w.machine.registers u k.regs) }
+
+-- the same with a lost value in the register for far places
+pub lose_known : {g : Ground} {v : Services} {h t : ℕ → ℕ} {rs : Base → List (ℕ × ℕ)} {b : Base} (w : Whole) (r u i : ℕ) → Free rs r → Known g v h t rs b w → Known g v h t rs b (record { machine = record { registers = written w.machine.registers r u; memory = w.machine.memory; pc = i }; services = w.services })
+lose_known {b = b} w r u i free k =
+    record { body = set_body w r u i free k.body; regs = free.known_stay b w.machine.registers u k.regs }
+
+-- ---- constants
+
+added_zero : (z n : ℕ) → z ≡ 0 → n < 2 ^ 32 → sum z n ≡ n
+added_zero z n e h = omega (arith, e, h)
+
+constant_by : (q : Bool) {links : Links} {code : List Instr} {i : ℕ} {g : Ground} {v : Services} {h t : ℕ → ℕ} {rs : Base → List (ℕ × ℕ)} (c : ℕ) (f : Family) (r : Register) (z : ℤ) → word z < 2 ^ 32 → Free rs r.index → Linked links code i (cond q (Plain (I.Immediate Imm.Add r zero_register z) ∷ []) (Plain (I.LoadUpper r (upper_part (word z))) ∷ Plain (I.Immediate Imm.Add r r (lower_part (word z))) ∷ [])) → ((b : Base) → At b i (Known g v h t rs b) (f b)) → Reach code c f v (c + size_of (cond q (Plain (I.Immediate Imm.Add r zero_register z) ∷ []) (Plain (I.LoadUpper r (upper_part (word z))) ∷ Plain (I.Immediate Imm.Add r r (lower_part (word z))) ∷ []))) v (λ b w. At b (i + size_of (cond q (Plain (I.Immediate Imm.Add r zero_register z) ∷ []) (Plain (I.LoadUpper r (upper_part (word z))) ∷ Plain (I.Immediate Imm.Add r r (lower_part (word z))) ∷ []))) (Known g v h t (with' r.index (λ b'. word z) rs) b) w)
+constant_by true {g = g} {v = v} {h = h} {t = t} {rs = rs} c f r z small' free l at =
+    straight c f v v (λ b. Known g v h t (with' r.index (λ b'. word z) rs) b) l (omega arith) (λ b. (at b).pc)
+    (λ b. set_known (f b) r.index (sum ((f b).machine.registers 0) (word z)) _ (λ b'. word z) free (added_zero _ (word z) (zero_is (at b).holds.body) small') (at b).holds)
+constant_by false {i = i} {g = g} {v = v} {h = h} {t = t} {rs = rs} c f r z small' free l at =
+    straight c f v v (λ b. Known g v h t (with' r.index (λ b'. word z) rs) b) l (omega arith) (λ b. (at b).pc)
+    (λ b.
+    let x = (f b).machine.registers in
+    let up = upper_part (word z) * 2 ^ 12 in
+    set_known _ r.index (sum (written x r.index up r.index) (word (lower_part (word z)))) _ (λ b'. word z) free (ap (λ u. sum u (word (lower_part (word z)))) (free.set x up) ∙ parts_sum (word z) small') (lose_known (f b) r.index up (address b (suc i)) free (at b).holds))
+
+pub constant_piece : {links : Links} {code : List Instr} {i : ℕ} {g : Ground} {v : Services} {h t : ℕ → ℕ} {rs : Base → List (ℕ × ℕ)} (c : ℕ) (f : Family) (r : Register) (z : ℤ) → word z < 2 ^ 32 → Free rs r.index → Linked links code i (constant r z) → ((b : Base) → At b i (Known g v h t rs b) (f b)) → Reach code c f v (c + size_of (constant r z)) v (λ b w. At b (i + size_of (constant r z)) (Known g v h t (with' r.index (λ b'. word z) rs) b) w)
+constant_piece c f r z = constant_by (is_immediate z) c f r z
+
+-- ---- a register and a displacement
+
+-- a register that keeps its value while the one for far places is written
+abbrev pub IsNear : ℕ → Type 0
+IsNear r = (x : ℕ → ℕ) (u : ℕ) → written x 31 u r ≡ x r
+
+-- what one instruction with a displacement does, at its address
+abbrev pub far_code : (Register → ℤ → Instr) → Register → ℤ → Bool → Code
+far_code instruction r z q =
+    cond q (Plain (instruction r z) ∷ [])
+    (Plain (I.LoadUpper far_register (upper_part (word z))) ∷ add far_register far_register r ∷ Plain (instruction far_register (lower_part (word z))) ∷ [])
+
+-- a displaced instruction does what it does at any register and displacement with the same sum
+pub record Displaced (links : Links) (code : List Instr) (instruction : Register → ℤ → Instr) (P : Base → Whole → Type 0) (Q : Base → Whole → Type 0) (y : Base → ℕ) (z : ℤ) : Type 0 where
+  pub does : (b : Base) (j : ℕ) (w : Whole) (r : Register) (d : ℤ) → P b w → sum (w.machine.registers r.index) (word d) ≡ sum (y b) (word z) → Items links code b j (Plain (instruction r d) ∷ []) w (Q b)
+  pub lost : (b : Base) (w : Whole) (u i : ℕ) → P b w → P b (record { machine = record { registers = written w.machine.registers 31 u; memory = w.machine.memory; pc = i }; services = w.services })
+
+pub displaced_by : (q : Bool) {links : Links} {code : List Instr} {i : ℕ} {v v' : Services} (c : ℕ) (f : Family) (instruction : Register → ℤ → Instr) (r : Register) (z : ℤ) (y : Base → ℕ) (P Q : Base → Whole → Type 0) → word z < 2 ^ 32 → ((b : Base) → y b < 2 ^ 32) → IsNear r.index → ((b : Base) → (f b).machine.registers r.index ≡ y b) → v.world.acts ≤ v'.world.acts → Displaced links code instruction P Q y z → Linked links code i (far_code instruction r z q) → ((b : Base) → At b i (P b) (f b)) → Reach code c f v (c + size_of (far_code instruction r z q)) v' (λ b w. At b (i + size_of (far_code instruction r z q)) (Q b) w)
+displaced_by true c f instruction r z y P Q small' fits near base more d l at =
+    straight c f _ _ Q l more (λ b. (at b).pc) (λ b. d.does b _ (f b) r z (at b).holds (ap (λ u. sum u (word z)) (base b)))
+displaced_by false {i = i} c f instruction r z y P Q small' fits near base more d l at =
+    straight c f _ _ Q l more (λ b. (at b).pc)
+    (λ b.
+    let x = (f b).machine.registers in
+    let up = upper_part (word z) * 2 ^ 12 in
+    let p = d.lost b (f b) up (address b (suc i)) (at b).holds in
+    let s = sum up (written x 31 up r.index) in
+    let p' = d.lost b _ s (address b (suc (i + 1))) p in
+    let e : s ≡ sum up (y b) = ap (sum up) (near x up ∙ base b) in
+    d.does b _ _ far_register (lower_part (word z)) p' (ap (λ u. sum u (word (lower_part (word z)))) e ∙ far_sum (word z) (y b) small' (fits b)))
+
+-- ---- loads
+
+inside_memory : (b : Base) (n : ℕ) → n < memory_size → b.at + n < 2 ^ 32
+inside_memory b n h = let v = b.valid.1 in omega (arith, v, h)
+
+frame_fits : (g : Ground) (b : Base) → b.at + g.frame < 2 ^ 32
+frame_fits g b = let i = g.inside in inside_memory b g.frame (omega (arith, i))
+
+-- a place of memory at a displacement from the frame
+pub record PlaceOf (g : Ground) (z : ℤ) (o : ℕ) : Type 0 where
+  pub small' : word z < 2 ^ 32
+  pub sums : (b : Base) → sum (b.at + g.frame) (word z) ≡ b.at + o
+  pub aligned : o % 4 ≡ 0
+  pub inside : o + 4 ≤ memory_size
+  pub above_code : 2 ^ 22 ≤ o
+
+abbrev pub at_place : (b : Base) {g : Ground} {z : ℤ} {o : ℕ} → PlaceOf g z o → (addressed : ℕ) → addressed ≡ sum (b.at + g.frame) (word z) → WordAt b addressed
+at_place b {o = o} p addressed e = record { offset = o; is = e ∙ p.sums b; aligned = p.aligned; inside = p.inside }
+
+-- a word of memory comes into a register
+pub load_piece : {links : Links} {code : List Instr} {i : ℕ} {g : Ground} {v : Services} {h t : ℕ → ℕ} {rs : Base → List (ℕ × ℕ)} (c : ℕ) (f : Family) (r : Register) (z : ℤ) (o : ℕ) (x : Base → ℕ) → PlaceOf g z o → ((b : Base) (m : List ℕ) → g.memory t b m → load 4 m o ≡ x b) → Free rs r.index → Free rs 31 → Linked links code i (load_word r frame_register z) → ((b : Base) → At b i (Known g v h t rs b) (f b)) → Reach code c f v (c + size_of (load_word r frame_register z)) v (λ b w. At b (i + size_of (load_word r frame_register z)) (Known g v h t (with' r.index x rs) b) w)
+load_piece {links = links} {code = code} {g = g} {v = v} {h = h} {t = t} {rs = rs} c f r z o x place reads free far l at =
+    displaced_by (is_immediate z) c f (λ s d. I.Load Load.Word r s d) frame_register z (λ b. b.at + g.frame) (Known g v h t rs) (Known g v h t (with' r.index x rs)) place.small' (frame_fits g) (λ y u. refl) (λ b. frame_is (at b).holds.body) (omega arith)
+    (record {
+      does = λ b j w s d k e. (at_place b place _ e, set_known w r.index (load 4 w.machine.memory o) _ x free (reads b w.machine.memory k.body.memory) k);
+      lost = λ b w u i k. lose_known w 31 u i far k;
+    })
+    l at
+
+-- ---- stores
+
+stored_body : {g : Ground} (g' : Ground) {b : Base} {v : Services} {h t : ℕ → ℕ} (t' : ℕ → ℕ) (w : Whole) (o u i : ℕ) → reserved_are b g h ≡ reserved_are b g' h → g'.memory t' b (store 4 w.machine.memory o u) → Body g b v h t w → Body g' b v h t' (record { machine = record { registers = w.machine.registers; memory = store 4 w.machine.memory o u; pc = i }; services = w.services })
+stored_body g' t' w o u i same m k =
+    record { services = k.services; registers = k.registers ∙ same; bytes = length-store 4 w.machine.memory o u ∙ k.bytes; memory = m }
+
+-- a register goes into a word of memory
+pub store_piece : {links : Links} {code : List Instr} {i : ℕ} {g : Ground} (g' : Ground) {v : Services} {h t : ℕ → ℕ} (t' : ℕ → ℕ) {rs : Base → List (ℕ × ℕ)} (c : ℕ) (f : Family) (r : Register) (z : ℤ) (o : ℕ) (x : Base → ℕ) → PlaceOf g z o → IsNear r.index → ((b : Base) (w : Whole) → Known g v h t rs b w → w.machine.registers r.index ≡ x b) → ((b : Base) → reserved_are b g h ≡ reserved_are b g' h) → ((b : Base) (m : List ℕ) → length m ≡ memory_size → g.memory t b m → g'.memory t' b (store 4 m o (x b))) → Free rs 31 → Linked links code i (store_word frame_register r z) → ((b : Base) → At b i (Known g v h t rs b) (f b)) → Reach code c f v (c + size_of (store_word frame_register r z)) v (λ b w. At b (i + size_of (store_word frame_register r z)) (Known g' v h t' rs b) w)
+store_piece {links = links} {code = code} {g = g} g' {v = v} {h = h} {t = t} t' {rs = rs} c f r z o x place near value same writes far l at =
+    displaced_by (is_immediate z) c f (λ s d. I.Store Store.Word s r d) frame_register z (λ b. b.at + g.frame) (Known g v h t rs) (Known g' v h t' rs) place.small' (frame_fits g) (λ y u. refl) (λ b. frame_is (at b).holds.body) (omega arith)
+    (record {
+      does = λ b j w s d k e. (
+        at_place b place _ e,
+        let small' = l.small' in let above = place.above_code in omega (arith, small', above),
+        record {
+          body = stored_body g' t' w o (w.machine.registers r.index) _ (same b) (subst (λ u. g'.memory t' b (store 4 w.machine.memory o u)) (sym (value b w k)) (writes b w.machine.memory k.body.bytes k.body.memory)) k.body;
+          regs = k.regs;
+        },
+      );
+      lost = λ b w u i k. lose_known w 31 u i far k;
+    })
+    l at
+
+-- ---- sums
+
+-- a register's value and a constant
+pub plus_piece : {links : Links} {code : List Instr} {i : ℕ} {g : Ground} {v : Services} {h t : ℕ → ℕ} {rs : Base → List (ℕ × ℕ)} (c : ℕ) (f : Family) (r s : Register) (z : ℤ) (y x : Base → ℕ) → word z < 2 ^ 32 → ((b : Base) → y b < 2 ^ 32) → IsNear s.index → ((b : Base) (w : Whole) → Known g v h t rs b w → w.machine.registers s.index ≡ y b) → ((b : Base) → sum (y b) (word z) ≡ x b) → Free rs r.index → Free rs 31 → Linked links code i (plus r s z) → ((b : Base) → At b i (Known g v h t rs b) (f b)) → Reach code c f v (c + size_of (plus r s z)) v (λ b w. At b (i + size_of (plus r s z)) (Known g v h t (with' r.index x rs) b) w)
+plus_piece {links = links} {code = code} {g = g} {v = v} {h = h} {t = t} {rs = rs} c f r s z y x small' fits near value sums free far l at =
+    displaced_by (is_immediate z) c f (λ q d. I.Immediate Imm.Add r q d) s z y (Known g v h t rs) (Known g v h t (with' r.index x rs)) small' fits near (λ b. value b (f b) (at b).holds) (omega arith)
+    (record {
+      does = λ b j w q d k e. set_known w r.index (sum (w.machine.registers q.index) (word d)) _ x free (e ∙ sums b) k;
+      lost = λ b w u i k. lose_known w 31 u i far k;
+    })
+    l at

@@ -1,0 +1,29 @@
+-- The data that code names, and bytes that stand in the first memory.
+use Rattle.std.proofs.Common.{◌≡◌, ℕ, ◌+◌, ◌*◌, ◌^◌, ◌<◌, ◌≤◌, ◌⊎◌, inl, inr, List, [], ◌∷◌, ◌++◌, length}
+use Rattle.std.specs.Prelude.{slice_index}
+use Rattle.rv_meaning.specs.declared.instr.Instr.{Instr}
+use Rattle.pli_coding.specs.Assembly.{Datum, DataPlace, Item, OffsetOf, Code}
+
+abbrev pub Names : Datum → Item → Type 0
+Names d (OffsetOf r s) = s ≡ DataPlace d
+Names d _ = ⊥
+
+-- a datum that code names
+abbrev pub IsNamed : Datum → Code → Type 0
+IsNamed d [] = ⊥
+IsNamed d (i ∷ is) = Names d i ⊎ IsNamed d is
+
+pub is_named_front : (d : Datum) (xs ys : Code) → IsNamed d xs → IsNamed d (xs ++ ys)
+is_named_front d [] ys h = absurd h
+is_named_front d (x ∷ xs) ys (inl e) = inl e
+is_named_front d (x ∷ xs) ys (inr h) = inr (is_named_front d xs ys h)
+
+pub is_named_back : (d : Datum) (xs ys : Code) → IsNamed d ys → IsNamed d (xs ++ ys)
+is_named_back d [] ys h = h
+is_named_back d (x ∷ xs) ys h = inr (is_named_back d xs ys h)
+
+-- bytes that stand in the first memory, behind the code and below the stacks
+pub record BytesStand (code : List Instr) (first : List ℕ) (at : ℕ) (bytes : List ℕ) : Type 0 where
+  pub behind_code : 4 * length code ≤ at
+  pub inside : at + length bytes ≤ 7 * 2 ^ 20
+  pub bytes_are : (k : ℕ) → k < length bytes → slice_index first (at + k) ≡ slice_index bytes k

@@ -1,0 +1,193 @@
+-- Expressions of numbers and bits: the code leaves the word of the meaning's value in a0, or the run ends with it.
+use Rattle.std.proofs.Common.{◌≡◌, ℕ, ◌+◌, ◌^◌, ◌<◌, ◌≤◌, List, [], ◌∷◌, Some, Bool, true, false, refl, sym, ◌∙◌, subst, arith, lit<}
+use Rattle.std.specs.Prelude.{ℤ, pos, max, slice_get}
+use Rattle.std.proofs.lemmas.Bool.Decides.{nat_tests}
+use Rattle.std.proofs.Math.Nat.{le-max_left, le-max_right}
+use Rattle.rv_meaning.specs.declared.instr.Instr.{Instr}
+use Rattle.rv_meaning.specs.Words.{word, flag}
+use Rattle.rv_meaning.specs.Memory.{load}
+use Rattle.pli_typing.specs.TypedTree as Y
+use Rattle.pli_meaning.specs.DeclaredShapes.{variables_of_block}
+use Rattle.pli_meaning.specs.Texts.{bit_number}
+use Rattle.pli_meaning.specs.StorageState.{State}
+use Rattle.pli_meaning.specs.Control.{give, ◌>>=◌}
+use Rattle.pli_meaning.specs.Raising.{Around}
+use Rattle.pli_meaning.specs.Evaluating as V
+use Rattle.pli_serving.specs.ServiceState.{Services}
+use Rattle.pli_coding.specs.Registers.{frame_register, a0}
+use Rattle.pli_coding.specs.Assembly.{Code, size_of}
+use Rattle.pli_coding.specs.Instructions.{small, load_word}
+use Rattle.pli_coding.specs.Environments.{Environment, Taken}
+use Rattle.pli_coding.specs.Expressions.{number_code, extremes_code, bit_code}
+use Rattle.pli_coding.specs.Temporaries.{number_words, numbers_words, bit_words}
+use Rattle.pli_coding.specs.Linking.{Links}
+use Rattle.pli_headline.specs.ProvedSoFar.{plain_number, IsOwnNumber, IsProvedNumber, AreProvedNumbers, IsProvedBit}
+use Rattle.pli_headline.proofs.Engine.{Base}
+use Rattle.pli_headline.proofs.Items.{Linked, At, straight}
+use Rattle.pli_headline.proofs.Numbers.{IsWide, word_small}
+use Rattle.pli_headline.proofs.Bodies.{Ground, Known, Free, PlaceOf, zero_is, constant_piece, load_piece}
+use Rattle.pli_headline.proofs.Temporaries.{Temporaries, stays_same, nothing}
+use Rattle.pli_headline.proofs.Calls.{Serving}
+use Rattle.pli_headline.proofs.Raising.{Routines, small_is}
+use Rattle.pli_headline.proofs.Operators.{valued}
+use Rattle.pli_headline.proofs.Calculations.{calculated_operates}
+use Rattle.pli_headline.proofs.Signs.{signed_operates, absolute_operates, sign_operates}
+use Rattle.pli_headline.proofs.Remainders.{modulo_operates}
+use Rattle.pli_headline.proofs.Precisions.{divided_operates}
+use Rattle.pli_headline.proofs.Extremes.{Follows, follows_none, follows_next, extreme_evaluates}
+use Rattle.pli_headline.proofs.Comparisons.{numbers_operate, bits_operate, negated_operates, and_operates, or_operates}
+use Rattle.pli_headline.proofs.Evaluations.{number_kind, bit_kind, Valued, Evaluates, read_evaluates, operated_evaluates, both_evaluate}
+use Rattle.pli_headline.proofs.Variables.{HoldsNumber, whole, own, number_gives, outermost, data_place, number_loaded}
+use Rattle.pli_headline.proofs.Reach.{Family, Aims, Comes, Closed, onward}
+
+-- the variables of a block that hold numbers, in the meaning and in memory
+pub record Scope (g : Ground) (e : Environment) (block count : ℕ) (s : State) (numbers : ℕ → ℤ) : Type 0 where
+  pub declared : (j : ℕ) → j < count → slice_get (variables_of_block e.program block) j ≡ Some plain_number
+  pub holds : (j : ℕ) → j < count → HoldsNumber s (own block j) (numbers j)
+  pub places : (j : ℕ) → j < count → PlaceOf g (pos (data_place e block j)) (g.frame + data_place e block j)
+  pub reads : (j : ℕ) → j < count → (t : ℕ → ℕ) (b : Base) (m : List ℕ) → g.memory t b m → load 4 m (g.frame + data_place e block j) ≡ word (numbers j)
+
+-- what stands around an expression
+pub record Setting (links : Links) (code : List Instr) (g : Ground) (v : Services) (s : State) (k : ℕ) (e : Environment) (block count : ℕ) (numbers : ℕ → ℤ) (around : Around) : Type 0 where
+  pub routines : Routines links code
+  pub temps : Temporaries g
+  pub scope : Scope g e block count s numbers
+  pub serving : Serving k s v around.line
+
+-- ---- constants and variables
+
+constant_wide : (n : ℕ) → n < 2 ^ 31 → IsWide (pos n)
+constant_wide n h = grind (arith, nat_tests)
+
+-- scratch registers may be written while nothing else is known
+abbrev free_a0 : Free nothing 10
+free_a0 = record { reserved_stay = λ y u. refl; known_stay = λ b y u q. q; set = λ y u. refl }
+
+abbrev free_far : Free nothing 31
+free_far = record { reserved_stay = λ y u. refl; known_stay = λ b y u q. q; set = λ y u. refl }
+
+constant_does : {links : Links} {code : List Instr} {g : Ground} {v : Services} {s : State} {k : ℕ} (e : Environment) (around : Around) (n : ℕ) → n < 2 ^ 31 → Evaluates number_kind links code g v s k 0 (λ taken. number_code e taken (Y.NumberConstant n)) (V.number around (Y.NumberConstant n))
+unfolding V.number give
+constant_does e around n is =
+    record {
+      does = λ {i} {h} {t} {aims} closed f taken room l at goal.
+          let wide = constant_wide n is in
+          onward closed (constant_piece i f a0 (pos n) (word_small (pos n) wide) free_a0 l at)
+          (λ f' at'. record { to = goal (pos n) f' h t wide (stays_same taken h t) at' });
+    }
+
+own_piece : {links : Links} {code : List Instr} {i : ℕ} {g : Ground} {v : Services} {h t : ℕ → ℕ} {s : State} {aims : Aims ℤ} (closed : Closed code aims) (e : Environment) (block count : ℕ) (numbers : ℕ → ℤ) (f : Family) (around : Around) (taken : Taken) (j k : ℕ) → j < count → Scope g e block count s numbers → Linked links code i (load_word a0 frame_register (pos (data_place e block j))) → ((b : Base) → At b i (Known g v h t nothing b) (f b)) → Valued number_kind g taken h t v s (i + size_of (load_word a0 frame_register (pos (data_place e block j)))) aims → Comes code i f v aims (V.number around (Y.NumberIn (whole (own block j))) k s)
+unfolding give
+own_piece {code = code} {i = i} {v = v} {h = h} {t = t} {s = s} {aims = aims} closed e block count numbers f around taken j k below scope l at goal =
+    let holds = scope.holds j below in
+    let z = numbers j in
+    let place = data_place e block j in
+    let r = load_piece i f a0 (pos place) _ (λ b. word z) (scope.places j below) (λ b m o. scope.reads j below t b m o) free_a0 free_far l at in
+    subst (Comes code i f v aims) (sym (number_gives around s (own block j) z k holds))
+    (onward closed r (λ f' at'. record { to = goal z f' h t holds.wide (stays_same taken h t) at' }))
+
+own_does : {links : Links} {code : List Instr} {g : Ground} {v : Services} {s : State} {k : ℕ} {e : Environment} {block count : ℕ} {numbers : ℕ → ℤ} (around : Around) (r : Y.Reference) (words : ℕ) → IsOwnNumber block count r → Scope g e block count s numbers → Evaluates number_kind links code g v s k words (λ taken. number_code (outermost e) taken (Y.NumberIn r)) (V.number around (Y.NumberIn r))
+own_does {links} {code} {g} {v} {s} {k} {e} {block} {count} {numbers} around r words is scope =
+    record {
+      does = λ {i} {h} {t} {aims} closed f taken room l at goal.
+          let j = is.index in
+          let eq = number_loaded e taken block j (scope.declared j is.declared) in
+          let loaded = load_word a0 frame_register (pos (data_place e block j)) in
+          let P : Code → Type 0 = λ c. Linked links code i c → Valued number_kind g taken h t v s (i + size_of c) aims → Comes code i f v aims (V.number around (Y.NumberIn (whole (own block j))) k s) in
+          let p : P loaded = λ l' goal'. own_piece closed e block count numbers f around taken j k is.declared scope l' at goal' in
+          let T : Y.Reference → Type 0 = λ q. Linked links code i (number_code (outermost e) taken (Y.NumberIn q)) → Valued number_kind g taken h t v s (i + size_of (number_code (outermost e) taken (Y.NumberIn q))) aims → Comes code i f v aims (V.number around (Y.NumberIn q) k s) in
+          let q : T (whole (own block j)) = subst P (sym eq) p in
+          subst T (sym is.is) q l goal;
+    }
+
+-- a bit as a number
+bit_wide : (b : Bool) → IsWide (bit_number b)
+bit_wide true = refl
+bit_wide false = refl
+
+bit_word : (b : Bool) → flag b ≡ word (bit_number b)
+bit_word true = refl
+bit_word false = refl
+
+bit_does' : {links : Links} {code : List Instr} {g : Ground} {v : Services} {s : State} {k : ℕ} (n : ℕ) (b : Bool) → n < 2 ^ 16 → n ≡ flag b → Evaluates bit_kind links code g v s k 0 (λ taken. small a0 n ∷ []) (give b)
+unfolding give
+bit_does' {g = g} {v = v} n b few e =
+    record {
+      does = λ {i} {h} {t} {aims} closed f taken room l at goal.
+          onward closed (straight i f v v (λ base. Known g v h t (valued (flag b)) base) l (omega arith) (λ base. (at base).pc)
+          (λ base. let o = (at base).holds in record {
+            body = record { services = o.body.services; registers = o.body.registers; bytes = o.body.bytes; memory = o.body.memory };
+            regs = (small_is _ n (zero_is o.body) (omega (arith, few)) ∙ e, tt);
+          }))
+          (λ f' at'. record { to = goal b f' h t tt (stays_same taken h t) at' });
+    }
+
+-- ---- expressions
+
+mutual
+  unfolding V.number V.numbers V.bit ◌>>=◌ give
+
+  pub number_does : (x : Y.Number) {links : Links} {code : List Instr} {g : Ground} {v : Services} {s : State} {k : ℕ} {e : Environment} {block count : ℕ} {numbers : ℕ → ℤ} {around : Around} → Setting links code g v s k e block count numbers around → IsProvedNumber block count x → Evaluates number_kind links code g v s k (number_words x) (λ taken. number_code (outermost e) taken x) (V.number around x)
+  number_does (Y.NumberConstant n) {e = e} {around = around} st is = constant_does (outermost e) around n is
+  number_does (Y.NumberIn r) {around = around} st is = own_does around r (number_words (Y.NumberIn r)) is st.scope
+  number_does (Y.NumberOfBit x) st is = read_evaluates bit_number (λ b fits. bit_wide b) bit_word (bit_does x st is)
+  number_does (Y.Signed sign x) {around = around} st is =
+      operated_evaluates (max 1 (number_words x)) (le-max_right 1 (number_words x)) (le-max_left 1 (number_words x)) (number_does x st is)
+      (λ z wz. signed_operates st.routines st.temps around st.serving sign z wz)
+  number_does (Y.Calculated operator left right) {around = around} st is =
+      both_evaluate st.temps (number_words left) (number_words right) (number_does left st is.0) (number_does right st is.1)
+      (λ x y wx wy. calculated_operates st.routines st.temps around st.serving operator x y wx wy)
+  number_does (Y.Absolute x) {around = around} st is =
+      operated_evaluates (max 1 (number_words x)) (le-max_right 1 (number_words x)) (le-max_left 1 (number_words x)) (number_does x st is)
+      (λ z wz. absolute_operates st.routines st.temps around st.serving z wz)
+  number_does (Y.SignOf x) st is =
+      operated_evaluates (number_words x) (omega arith) (omega arith) (number_does x st is) (λ z wz. sign_operates z wz)
+  number_does (Y.Extreme extremum first more) st is =
+      extreme_evaluates (number_words first) (numbers_words more) extremum (number_does first st is.0) (numbers_do more extremum st is.1)
+  number_does (Y.Modulo dividend divisor) {around = around} st is =
+      both_evaluate st.temps (number_words dividend) (number_words divisor) (number_does dividend st is.0) (number_does divisor st is.1)
+      (λ x y wx wy. modulo_operates st.routines around st.serving x y wx wy)
+  number_does (Y.Divided precision dividend divisor) {around = around} st is =
+      both_evaluate st.temps (number_words dividend) (number_words divisor) (number_does dividend st is.1.0) (number_does divisor st is.1.1)
+      (λ x y wx wy. divided_operates st.routines st.temps around st.serving precision is.0 x y wx wy)
+  number_does (Y.NumberFrom c) st is = absurd is
+  number_does (Y.NumberOfText x) st is = absurd is
+  number_does (Y.LengthOf x) st is = absurd is
+  number_does (Y.IndexOf searched sought) st is = absurd is
+  number_does (Y.VerifyOf searched allowed) st is = absurd is
+  number_does (Y.LowerBound r dimension) st is = absurd is
+  number_does (Y.UpperBound r dimension) st is = absurd is
+  number_does (Y.ElementsOf r dimension) st is = absurd is
+  number_does (Y.AllocationsOf x) st is = absurd is
+  number_does Y.OnCode st is = absurd is
+
+  pub numbers_do : (xs : Y.Numbers) (extremum : Y.Extremum) {links : Links} {code : List Instr} {g : Ground} {v : Services} {s : State} {k : ℕ} {e : Environment} {block count : ℕ} {numbers : ℕ → ℤ} {around : Around} → Setting links code g v s k e block count numbers around → AreProvedNumbers block count xs → Follows links code g v s k (numbers_words xs) extremum (λ taken. extremes_code (outermost e) taken extremum xs) (V.numbers around xs)
+  numbers_do Y.NoNumber extremum st are = follows_none extremum
+  numbers_do (Y.NumberThen first rest) extremum st are =
+      follows_next st.temps (number_words first) (numbers_words rest) extremum (number_does first st are.0) (numbers_do rest extremum st are.1)
+
+  pub bit_does : (x : Y.Bit) {links : Links} {code : List Instr} {g : Ground} {v : Services} {s : State} {k : ℕ} {e : Environment} {block count : ℕ} {numbers : ℕ → ℤ} {around : Around} → Setting links code g v s k e block count numbers around → IsProvedBit block count x → Evaluates bit_kind links code g v s k (bit_words x) (λ taken. bit_code (outermost e) taken x) (V.bit around x)
+  bit_does (Y.BitConstant true) st is = bit_does' 1 true (lit< tt) refl
+  bit_does (Y.BitConstant false) st is = bit_does' 0 false (lit< tt) refl
+  bit_does (Y.Negated x) st is =
+      operated_evaluates (bit_words x) (omega arith) (omega arith) (bit_does x st is) (λ b fits. negated_operates b)
+  bit_does (Y.Combined Y.Conjunction left right) st is =
+      both_evaluate st.temps (bit_words left) (bit_words right) (bit_does left st is.0) (bit_does right st is.1) (λ a b fa fb. and_operates a b)
+  bit_does (Y.Combined Y.Disjunction left right) st is =
+      both_evaluate st.temps (bit_words left) (bit_words right) (bit_does left st is.0) (bit_does right st is.1) (λ a b fa fb. or_operates a b)
+  bit_does (Y.NumbersCompared comparison left right) st is =
+      both_evaluate st.temps (number_words left) (number_words right) (number_does left st is.0) (number_does right st is.1)
+      (λ x y wx wy. numbers_operate comparison x y wx wy)
+  bit_does (Y.BitsCompared comparison left right) st is =
+      both_evaluate st.temps (bit_words left) (bit_words right) (bit_does left st is.0) (bit_does right st is.1) (λ a b fa fb. bits_operate comparison a b)
+  bit_does (Y.BitIn r) st is = absurd is
+  bit_does (Y.BitFrom c) st is = absurd is
+  bit_does (Y.BitOfText x) st is = absurd is
+  bit_does (Y.TextsCompared comparison left right) st is = absurd is
+  bit_does (Y.PointersCompared equal left right) st is = absurd is
+  bit_does (Y.OffsetsCompared equal left right) st is = absurd is
+
+-- a number, wherever its code stands
+pub number_piece : {links : Links} {code : List Instr} {i : ℕ} {g : Ground} {v : Services} {h t : ℕ → ℕ} {s : State} {aims : Aims ℤ} (x : Y.Number) (closed : Closed code aims) (routines : Routines links code) (temps : Temporaries g) (e : Environment) (block count : ℕ) (numbers : ℕ → ℤ) (f : Family) (around : Around) (taken : Taken) (k : ℕ) → IsProvedNumber block count x → taken.words + number_words x ≤ g.words → Scope g e block count s numbers → Linked links code i (number_code (outermost e) taken x) → Serving k s v around.line → ((b : Base) → At b i (Known g v h t nothing b) (f b)) → Valued number_kind g taken h t v s (i + size_of (number_code (outermost e) taken x)) aims → Comes code i f v aims (V.number around x k s)
+number_piece x closed routines temps e block count numbers f around taken k is room scope l serving at goal =
+    (number_does x (record { routines = routines; temps = temps; scope = scope; serving = serving }) is).does closed f taken room l at goal

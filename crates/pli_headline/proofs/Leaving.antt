@@ -1,0 +1,187 @@
+-- The main procedure is left: its activation ends, the registers are restored, and the start finishes the run.
+use Rattle.std.proofs.Common.{◌≡◌, ℕ, ◌+◌, ◌^◌, ◌<◌, ◌≤◌, List, [], ◌∷◌, ◌++◌, None, refl, sym, ap, ◌∙◌, arith, lit<}
+use Rattle.std.specs.Prelude.{ℤ, pos, neg_ℤ, filter, nat_le}
+use Rattle.rv_meaning.specs.declared.instr.Instr.{Instr}
+use Rattle.rv_meaning.specs.declared.instr.Instr.TheVariants as I
+use Rattle.rv_meaning.specs.declared.instr.ImmediateOp.TheVariants as Imm
+use Rattle.rv_meaning.specs.Words.{word, sum}
+use Rattle.rv_meaning.specs.Memory.{load}
+use Rattle.pli_meaning.specs.declared.outcome.End.TheVariants as E
+use Rattle.pli_meaning.specs.StorageState.{State}
+use Rattle.pli_meaning.specs.Control.{finish}
+use Rattle.pli_serving.specs.ServiceState as S
+use Rattle.pli_serving.specs.ServiceState.{Services}
+use Rattle.pli_serving.specs.Answers.{Done}
+use Rattle.pli_serving.specs.Blocks as K
+use Rattle.pli_coding.specs.Registers.{zero_register, return_register, stack_register, frame_register, a0, a7}
+use Rattle.pli_coding.specs.Assembly.{ReturnPlace, Mark, Plain, Code, size_of}
+use Rattle.pli_coding.specs.Instructions.{small, plus, load_word, is_immediate}
+use Rattle.pli_coding.specs.Frames.{frame_below, temporary_bytes}
+use Rattle.pli_coding.specs.Environments.{Environment}
+use Rattle.pli_coding.specs.Entries.{all_restored, frame_ended}
+use Rattle.pli_coding.specs.Procedures.{finish_code, procedure_ended}
+use Rattle.pli_coding.specs.Linking.{Links}
+use Rattle.image_runs.specs.Runs.{Whole}
+use Rattle.pli_headline.proofs.Engine.{Base, address, most_code, call_at}
+use Rattle.pli_headline.proofs.Linking.{size_append}
+use Rattle.pli_headline.proofs.Items.{Linked, At, straight}
+use Rattle.pli_headline.proofs.Numbers.{below_small}
+use Rattle.pli_headline.proofs.Bodies.{Known, Regs, zero_is, frame_is, displaced_by}
+use Rattle.pli_headline.proofs.Jumps.{front_of, back_of, first_of, hop, jump_register}
+use Rattle.pli_headline.proofs.Temporaries.{nothing}
+use Rattle.pli_headline.proofs.Calls.{Serving, called, Calling, call_done}
+use Rattle.pli_headline.proofs.Raising.{small_is}
+use Rattle.pli_headline.proofs.Finishing.{Bare, finish_piece}
+use Rattle.pli_headline.proofs.Reach.{Family, Reach, Aims, Comes, Closed, onward}
+use Rattle.pli_headline.proofs.MainGround.{Frame, ground_of}
+use Rattle.pli_headline.proofs.MainProcedure.{main_head}
+use Rattle.pli_headline.proofs.Prologue.{over_word}
+
+-- ---- service 5
+
+-- the services when the only activation has ended
+abbrev pub left_services : Services → S.Activation → Services
+left_services v a =
+    record v {
+      line = a.line;
+      activations = [];
+      living = filter (λ l. nat_le l.owner 0) v.living;
+      entries = K.oldest a.texts v.entries;
+      edits = K.oldest a.edits v.edits;
+    }
+
+leave_answer : (code : List Instr) (v : Services) (m : List ℕ) (a : S.Activation) (y : ℕ) → v.activations ≡ a ∷ [] → K.leave_served (call_at code v m) 0 y ≡ Done (left_services v a) m 0 y
+leave_answer code v m a y e = ap (λ u. K.left_by (call_at code v m) 0 y u) e
+
+-- ---- on the way back
+
+-- a machine in the frame, of which some registers and the place of the return are known
+pub record Returning (f : Frame) (v : Services) (rs : Base → List (ℕ × ℕ)) (b : Base) (w : Whole) : Type 0 where
+  pub services : w.services ≡ v
+  pub regs : Regs (rs b) w.machine.registers
+  pub resumes : load 4 w.machine.memory f.at ≡ address b f.resume
+
+abbrev in_frame : Frame → Base → List (ℕ × ℕ)
+in_frame f b = (8, b.at + f.at) ∷ (0, 0) ∷ []
+
+abbrev restored_in : Frame → Base → List (ℕ × ℕ)
+restored_in f b = (1, address b f.resume) ∷ (8, b.at + f.at) ∷ (0, 0) ∷ []
+
+abbrev leave_asked : (block : ℕ) → Code
+leave_asked block = Mark (ReturnPlace block) ∷ small a0 0 ∷ small a7 5 ∷ []
+
+abbrev jump_back : Code
+jump_back = Plain (I.JumpRegister zero_register return_register (pos 0)) ∷ []
+
+abbrev last_part : (words : ℕ) → Code
+last_part words = load_word frame_register frame_register frame_below ++ jump_back
+
+left_piece : {links : Links} {code : List Instr} {i : ℕ} {v : Services} {h t : ℕ → ℕ} (c : ℕ) (f : Frame) (first : List ℕ) (numbers : ℕ → ℤ) (a : S.Activation) (g : Family) → v.activations ≡ a ∷ [] → Linked links code i (Plain I.Ecall ∷ []) → ((b : Base) → At b i (Known (ground_of f first numbers) v h t (λ b'. (17, 5) ∷ (10, 0) ∷ []) b) (g b)) → Reach code c g v (c + 1) (left_services v a) (λ b w. At b (i + 1) (Returning f (left_services v a) (in_frame f) b) w)
+left_piece {code = code} {i = i} {v = v} c f first numbers a g e l at =
+    let v' = left_services v a in
+    let calling : Calling _ code i g (λ b. Done v' (g b).machine.memory 0 ((g b).machine.registers 11)) = record {
+      linked = l;
+      pc = λ b. (at b).pc;
+      answers = λ b.
+          let o = (at b).holds in
+          called code (g b) v 5 0 ((g b).machine.registers 11) _ _ _ (λ call x0 x1 x2 x3 x4. K.leave_served call x0 x1) o.body.services o.regs.0 o.regs.1.0 refl refl refl refl (λ call x. refl)
+          ∙ leave_answer code v (g b).machine.memory a ((g b).machine.registers 11) e;
+    } in
+    call_done c g v v' (λ b. (g b).machine.memory) (λ b. 0) (λ b. (g b).machine.registers 11) (λ b. Returning f v' (in_frame f) b) (omega arith) calling
+    (λ b. let o = (at b).holds.body in record { services = refl; regs = (frame_is o, (zero_is o, tt)); resumes = o.memory.resumes })
+
+restored_piece : {links : Links} {code : List Instr} {i : ℕ} {v : Services} (c : ℕ) (f : Frame) (g : Family) → Linked links code i all_restored → ((b : Base) → At b i (Returning f v (in_frame f) b) (g b)) → Reach code c g v (c + 8) v (λ b w. At b (i + 8) (Returning f v (restored_in f) b) w)
+restored_piece {v = v} c f g l at =
+    straight c g v v (λ b w. Returning f v (restored_in f) b w) l (omega arith) (λ b. (at b).pc)
+    (λ b.
+    let o = (at b).holds in
+    let e = o.regs.0 in
+    let m = (g b).machine.memory in
+    let x = (g b).machine.registers 8 in
+    let same : f.at + 0 ≡ f.at = omega arith in (
+      over_word f b x 0 refl (omega arith) e,
+      (
+        over_word f b x 8 refl (omega arith) e,
+        (
+          over_word f b x 12 refl (omega arith) e,
+          (
+            over_word f b x 16 refl (omega arith) e,
+            (
+              over_word f b x 20 refl (omega arith) e,
+              (
+                over_word f b x 24 refl (omega arith) e,
+                (
+                  over_word f b x 28 refl (omega arith) e,
+                  (
+                    over_word f b x 32 refl (omega arith) e,
+                    record { services = o.services; regs = (ap (load 4 m) same ∙ o.resumes, o.regs); resumes = o.resumes },
+                  ),
+                ),
+              ),
+            ),
+          ),
+        ),
+      ),
+    ))
+
+-- the stack's register takes what it will, and is not asked any more
+lowered_piece : {links : Links} {code : List Instr} {i : ℕ} {v : Services} (c : ℕ) (f : Frame) (n : ℕ) (g : Family) → n < 2 ^ 24 → Linked links code i (plus stack_register frame_register (neg_ℤ (pos n))) → ((b : Base) → At b i (Returning f v (restored_in f) b) (g b)) → Reach code c g v (c + size_of (plus stack_register frame_register (neg_ℤ (pos n)))) v (λ b w. At b (i + size_of (plus stack_register frame_register (neg_ℤ (pos n)))) (Returning f v (restored_in f) b) w)
+lowered_piece {v = v} c f n g few l at =
+    let z = neg_ℤ (pos n) in
+    displaced_by (is_immediate z) c g (λ q d. I.Immediate Imm.Add stack_register q d) frame_register z (λ b. b.at + f.at) (Returning f v (restored_in f)) (Returning f v (restored_in f)) (below_small n few) (λ b. let v' = b.valid.1 in let inside = f.inside in omega (arith, v', inside)) (λ y u. refl) (λ b. (at b).holds.regs.1.0) (omega arith)
+    (record {
+      does = λ b j w q d k s. record { services = k.services; regs = k.regs; resumes = k.resumes };
+      lost = λ b w u i k. record { services = k.services; regs = k.regs; resumes = k.resumes };
+    })
+    l at
+
+return_sum : (b : Base) (x j : ℕ) → j ≤ most_code → x ≡ address b j → sum x (word (pos 0)) ≡ address b j
+return_sum b x j near e = let v = b.valid.1 in omega (arith, e, near, v)
+
+returned_piece : {links : Links} {code : List Instr} {i : ℕ} {v : Services} (c : ℕ) (f : Frame) (g : Family) → f.resume ≤ most_code → Linked links code i jump_back → ((b : Base) → At b i (Bare v ((1, address b f.resume) ∷ (0, 0) ∷ [])) (g b)) → Reach code c g v (c + 1) v (λ b w. At b f.resume (Bare v ((0, 0) ∷ [])) w)
+returned_piece {code = code} {i = i} {v = v} c f g near l at =
+    hop code c (c + 1) g v (λ b w. At b f.resume (Bare v ((0, 0) ∷ [])) w) (omega arith)
+    (λ b.
+    let o = (at b).holds in
+    let s = l.small' in
+    let n = l.inside in (
+      _,
+      jump_register code b i f.resume zero_register return_register (pos 0) (g b) (omega (arith, s, n)) (at b).pc l.has.0.0 (return_sum b _ f.resume near o.regs.0),
+      record { pc = refl; holds = record { services = o.services; regs = o.regs.1 } },
+    ))
+
+-- ---- from the end of the statements to the end of the run
+
+pub leaving_piece : {X : Type 0} {links : Links} {code : List Instr} {i : ℕ} {v : Services} {h t : ℕ → ℕ} {aims : Aims X} (closed : Closed code aims) (e : Environment) (block line words : ℕ) (f : Frame) (first : List ℕ) (numbers : ℕ → ℤ) (g : Family) (s s' : State) (current k : ℕ) → temporary_bytes words < 2 ^ 24 → f.resume ≤ most_code → Linked links code i (procedure_ended e (main_head block line) words None) → Linked links code f.resume finish_code → Serving k s v current → s'.world ≡ s.world → ((b : Base) → At b i (Known (ground_of f first numbers) v h t nothing b) (g b)) → Comes code i g v aims (finish {R = X} E.Finished k s')
+leaving_piece {code = code} {i = i} {v = v} {h = h} {t = t} closed e block line words f first numbers g s s' current k few near l finish' serving same at =
+    let a = serving.entered.0 in
+    let v' = left_services v a in
+    let ps = plus stack_register frame_register (neg_ℤ (pos (temporary_bytes words))) in
+    let ended = frame_ended words ++ jump_back in
+    let asked = leave_asked block in
+    let l1 = back_of asked (Plain I.Ecall ∷ (all_restored ++ ended)) l in
+    let l2 = back_of (Plain I.Ecall ∷ []) (all_restored ++ ended) l1 in
+    let l3 = back_of all_restored ended l2 in
+    let l4 = front_of (frame_ended words) jump_back l3 in
+    let l5 = back_of ps (load_word frame_register frame_register frame_below) l4 in
+    let l6 = back_of (frame_ended words) jump_back l3 in
+    let size = size_append ps (load_word frame_register frame_register frame_below) in
+    let here : i + 2 + 1 + 8 + size_of ps + 1 ≡ i + 2 + 1 + 8 + size_of (frame_ended words) = omega (arith, size) in
+    let room = l6.inside in
+    let r1 = straight i g v v (λ b w. Known (ground_of f first numbers) v h t (λ b'. (17, 5) ∷ (10, 0) ∷ []) b w) (front_of asked (Plain I.Ecall ∷ (all_restored ++ ended)) l) (omega arith) (λ b. (at b).pc)
+    (λ b. let o = (at b).holds in let z = zero_is o.body in record {
+      body = record { services = o.body.services; registers = o.body.registers; bytes = o.body.bytes; memory = o.body.memory };
+      regs = (small_is _ 5 z (lit< tt), (small_is _ 0 z (lit< tt), tt));
+    }) in
+    onward closed r1 (λ g1 at1.
+    onward closed (left_piece (i + 2) f first numbers a g1 serving.entered.1 (first_of (Plain I.Ecall) (all_restored ++ ended) l1) at1) (λ g2 at2.
+    onward closed (restored_piece (i + 2 + 1) f g2 (front_of all_restored ended l2) at2) (λ g3 at3.
+    onward closed (lowered_piece (i + 2 + 1 + 8) f (temporary_bytes words) g3 few (front_of ps (load_word frame_register frame_register frame_below) l4) at3) (λ g4 at4.
+    let r5 = straight (i + 2 + 1 + 8 + size_of ps) g4 v' v' (λ b w. Bare v' ((1, address b f.resume) ∷ (0, 0) ∷ []) w) l5 (omega arith) (λ b. (at4 b).pc)
+    (λ b. let o = (at4 b).holds in (
+      over_word f b ((g4 b).machine.registers 8) 4 refl (omega arith) o.regs.1.0,
+      record { services = o.services; regs = (o.regs.0, (o.regs.1.1.0, tt)) },
+    )) in
+    onward closed r5 (λ g5 at5.
+    onward closed (returned_piece (i + 2 + 1 + 8 + size_of ps + 1) f g5 near l6 (λ b. record { pc = (at5 b).pc ∙ ap (address b) here; holds = (at5 b).holds })) (λ g6 at6.
+    finish_piece closed (i + 2 + 1 + 8 + size_of ps + 1 + 1) g6 s' k (omega (arith, room, size)) finish' (serving.world ∙ sym same) serving.running serving.allowed serving.fits at6))))))

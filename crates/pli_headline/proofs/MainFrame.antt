@@ -1,0 +1,158 @@
+-- The frame of the main procedure is filled: what stands in memory then.
+use Rattle.std.proofs.Common.{◌≡◌, ℕ, suc, ◌+◌, ◌-◌, ◌*◌, ◌%◌, ◌^◌, ◌<◌, ◌≤◌, inl, inr, List, length, refl, ap, ◌∙◌, arith}
+use Rattle.std.specs.Prelude.{pos, slice_index}
+use Rattle.rv_meaning.specs.Memory.{load, store}
+use Rattle.rv_meaning.specs.Machine.{memory_size}
+use Rattle.rv_meaning.proofs.MemoryLaws.{length-store, byte-store_below, load-same, load-store_same, load-store_other}
+use Rattle.pli_coding.specs.Frames.{temporary_bytes}
+use Rattle.pli_headline.proofs.Engine.{Base, address, most_code}
+use Rattle.pli_headline.proofs.MainGround.{Frame, Stands, statics_end}
+use Rattle.pli_headline.proofs.FirstFrame.{start_memory, start_length, start_resume}
+
+-- ---- the frame
+
+-- where it lies behind so many words for temporaries
+abbrev pub frame_place : (words : ℕ) → ℕ
+frame_place words = statics_end + 48 + temporary_bytes words
+
+pub frame_whole : (words : ℕ) → frame_place words % 4 ≡ 0
+frame_whole words = omega arith
+
+pub frame_above : (words : ℕ) → 7 * 2 ^ 20 + 48 + 4 * words ≤ frame_place words
+frame_above words = omega arith
+
+pub frame_inside : (words count : ℕ) → words ≤ most_code → 32 * count ≤ 2 ^ 20 → frame_place words + 160 + 32 * count ≤ 14 * 2 ^ 20
+frame_inside words count small' few = omega (arith, small', few)
+
+-- the frame with so many variables
+abbrev pub main_frame : (words count : ℕ) → words ≤ most_code → 32 * count ≤ 2 ^ 20 → Frame
+main_frame words count small' few =
+    record {
+      at = frame_place words;
+      words = words;
+      count = count;
+      resume = start_resume;
+      whole = frame_whole words;
+      above_statics = frame_above words;
+      inside = frame_inside words count small' few;
+    }
+
+-- ---- stores from a place on
+
+-- what lies below a place is kept
+pub record Kept (at : ℕ) (m m' : List ℕ) : Type 0 where
+  pub bytes : length m' ≡ length m
+  pub under : (k : ℕ) → k < at → slice_index m' k ≡ slice_index m k
+
+pub kept_same : (at : ℕ) (m : List ℕ) → Kept at m m
+kept_same at m = record { bytes = refl; under = λ k h. refl }
+
+pub kept_store : {at : ℕ} {m m' : List ℕ} (p x : ℕ) → at ≤ p → Kept at m m' → Kept at m (store 4 m' p x)
+kept_store {at} {m} {m'} p x h o =
+    record {
+      bytes = length-store 4 m' p x ∙ o.bytes;
+      under = λ k below. byte-store_below 4 m' p x k (omega (arith, h, below)) ∙ o.under k below;
+    }
+
+-- what a word is
+pub record WordIs (m : List ℕ) (q v : ℕ) : Type 0 where
+  pub is : load 4 m q ≡ v
+
+-- a word below a store
+pub word_under : {m : List ℕ} {q v : ℕ} (p x : ℕ) → q + 4 ≤ p → WordIs m q v → WordIs (store 4 m p x) q v
+word_under {m} {q} p x h o = record { is = load-store_other 4 4 m p x q (inl h) ∙ o.is }
+
+-- ---- the frame's words: registers, the frame below, the top of the lower stack and the frame's own offset
+
+abbrev pub saved_in : List ℕ → (at : ℕ) → (ℕ → ℕ) → List ℕ
+saved_in m at x =
+    store 4 (store 4 (store 4 (store 4 (store 4 (store 4 (store 4 (store 4 m (at + 0) (x 1)) (at + 8) (x 9)) (at + 12) (x 18)) (at + 16) (x 19)) (at + 20) (x 20)) (at + 24) (x 21)) (at + 28) (x 22)) (at + 32) (x 23)
+
+abbrev pub filled_in : List ℕ → (at : ℕ) → (ℕ → ℕ) → (top own : ℕ) → List ℕ
+filled_in m at x top own =
+    store 4 (store 4 (store 4 (saved_in m at x) (at + 4) (x 8)) (at + 40) top) (at + 36) own
+
+pub filled_keeps : (m : List ℕ) (at : ℕ) (x : ℕ → ℕ) (top own : ℕ) → Kept at m (filled_in m at x top own)
+filled_keeps m at x top own =
+    kept_store (at + 36) own (omega arith)
+    (kept_store (at + 40) top (omega arith)
+    (kept_store (at + 4) (x 8) (omega arith)
+    (kept_store (at + 32) (x 23) (omega arith)
+    (kept_store (at + 28) (x 22) (omega arith)
+    (kept_store (at + 24) (x 21) (omega arith)
+    (kept_store (at + 20) (x 20) (omega arith)
+    (kept_store (at + 16) (x 19) (omega arith)
+    (kept_store (at + 12) (x 18) (omega arith)
+    (kept_store (at + 8) (x 9) (omega arith)
+    (kept_store (at + 0) (x 1) (omega arith) (kept_same at m)))))))))))
+
+filled_return : (m : List ℕ) (at : ℕ) (x : ℕ → ℕ) (top own : ℕ) → x 1 < 2 ^ 32 → at + 4 ≤ length m → WordIs (filled_in m at x top own) at (x 1)
+filled_return m at x top own small' inside =
+    let same : at ≡ at + 0 = omega arith in
+    word_under (at + 36) own (omega arith)
+    (word_under (at + 40) top (omega arith)
+    (word_under (at + 4) (x 8) (omega arith)
+    (word_under (at + 32) (x 23) (omega arith)
+    (word_under (at + 28) (x 22) (omega arith)
+    (word_under (at + 24) (x 21) (omega arith)
+    (word_under (at + 20) (x 20) (omega arith)
+    (word_under (at + 16) (x 19) (omega arith)
+    (word_under (at + 12) (x 18) (omega arith)
+    (word_under (at + 8) (x 9) (omega arith)
+    (record { is = ap (load 4 (store 4 m (at + 0) (x 1))) same ∙ load-store_same 4 m (at + 0) (x 1) small' (omega (arith, inside)) }))))))))))
+
+filled_below : (m : List ℕ) (at : ℕ) (x : ℕ → ℕ) (top own : ℕ) → x 8 < 2 ^ 32 → at + 8 ≤ length (saved_in m at x) → WordIs (filled_in m at x top own) (at + 4) (x 8)
+filled_below m at x top own small' inside =
+    word_under (at + 36) own (omega arith)
+    (word_under (at + 40) top (omega arith) (record { is = load-store_same 4 (saved_in m at x) (at + 4) (x 8) small' (omega (arith, inside)) }))
+
+filled_own : (m : List ℕ) (at : ℕ) (x : ℕ → ℕ) (top own : ℕ) → own < 2 ^ 32 → at + 40 ≤ length (store 4 (store 4 (saved_in m at x) (at + 4) (x 8)) (at + 40) top) → load 4 (filled_in m at x top own) (at + 36) ≡ own
+filled_own m at x top own small' inside =
+    load-store_same 4 (store 4 (store 4 (saved_in m at x) (at + 4) (x 8)) (at + 40) top) (at + 36) own small' (omega (arith, inside))
+
+saved_length : (m : List ℕ) (at : ℕ) (x : ℕ → ℕ) → length (saved_in m at x) ≡ length m
+saved_length m at x =
+    (kept_store {at = at} {m = m} (at + 32) (x 23) (omega arith)
+    (kept_store (at + 28) (x 22) (omega arith)
+    (kept_store (at + 24) (x 21) (omega arith)
+    (kept_store (at + 20) (x 20) (omega arith)
+    (kept_store (at + 16) (x 19) (omega arith)
+    (kept_store (at + 12) (x 18) (omega arith)
+    (kept_store (at + 8) (x 9) (omega arith)
+    (kept_store (at + 0) (x 1) (omega arith) (kept_same at m))))))))).bytes
+
+-- ---- what stands then
+
+-- the words for temporaries hold what is there at first
+abbrev pub first_words : List ℕ → (at : ℕ) → ℕ → ℕ
+first_words first at j = load 4 first (at - 4 * suc j)
+
+start_keeps : (first : List ℕ) (k : ℕ) → k < statics_end → slice_index (start_memory first) k ≡ slice_index first k
+start_keeps first k below =
+    byte-store_below 4 (store 4 first (statics_end + 36) statics_end) (statics_end + 40) (14 * 2 ^ 20) k (omega (arith, below))
+    ∙ byte-store_below 4 first (statics_end + 36) statics_end k (omega (arith, below))
+
+start_words : (first : List ℕ) (q : ℕ) → statics_end + 48 ≤ q → load 4 (start_memory first) q ≡ load 4 first q
+start_words first q above =
+    load-store_other 4 4 (store 4 first (statics_end + 36) statics_end) (statics_end + 40) (14 * 2 ^ 20) q (inr (omega (arith, above)))
+    ∙ load-store_other 4 4 first (statics_end + 36) statics_end q (inr (omega (arith, above)))
+
+-- a frame without variables, where the registers hold what they do at the entry
+pub frame_stands : (f : Frame) (first : List ℕ) (b : Base) (x : ℕ → ℕ) (top own : ℕ) → f.count ≡ 0 → f.resume ≤ most_code → length first ≡ memory_size → x 1 ≡ address b f.resume → x 8 ≡ b.at + statics_end → own ≡ f.at → Stands f first (λ j. pos 0) (first_words first f.at) b (filled_in (start_memory first) f.at x top own)
+frame_stands f first b x top own none near len ra below mine =
+    let m = start_memory first in
+    let above = f.above_statics in
+    let inside = f.inside in
+    let v = b.valid.1 in
+    let long : length m ≡ memory_size = start_length first ∙ len in
+    let saved : length (saved_in m f.at x) ≡ memory_size = saved_length m f.at x ∙ long in
+    let last : length (store 4 (store 4 (saved_in m f.at x) (f.at + 4) (x 8)) (f.at + 40) top) ≡ memory_size = length-store 4 (store 4 (saved_in m f.at x) (f.at + 4) (x 8)) (f.at + 40) top ∙ length-store 4 (saved_in m f.at x) (f.at + 4) (x 8) ∙ saved in
+    let keeps = filled_keeps m f.at x top own in
+    record {
+      statics = λ k h. keeps.under k (omega (arith, above, h)) ∙ start_keeps first k h;
+      resumes = (filled_return m f.at x top own (omega (arith, ra, near, v)) (omega (arith, long, inside))).is ∙ ra;
+      below = (filled_below m f.at x top own (omega (arith, below, v)) (omega (arith, saved, inside))).is ∙ below;
+      own = filled_own m f.at x top own (omega (arith, mine, inside)) (omega (arith, last, inside)) ∙ mine;
+      variables = λ j h. absurd (omega (arith, none, h));
+      temporaries = λ j h. load-same 4 (filled_in m f.at x top own) m (f.at - 4 * suc j) (λ k a c. keeps.under k (omega (arith, above, h, c))) ∙ start_words first (f.at - 4 * suc j) (omega (arith, above, h));
+    }

@@ -1,0 +1,205 @@
+-- The run of a program that is one procedure of plain numbers, given that its statements do what they mean: from the start of the
+-- image through the entry of the procedure to its statements, and from their end to the end of the run.
+use Rattle.std.proofs.Common.{◌≡◌, ℕ, suc, ◌+◌, ◌*◌, ◌^◌, ◌<◌, ◌≤◌, List, [], ◌++◌, length, Option, None, true, false, refl, sym, ap, ◌∙◌, subst, arith}
+use Rattle.std.specs.Prelude.{pos}
+use Rattle.rv_meaning.specs.declared.instr.Instr.{Instr}
+use Rattle.rv_meaning.specs.Machine.{memory_size}
+use Rattle.rv_meaning.specs.Tables.{TableSignature}
+use Rattle.pli_typing.specs.TypedTree as Y
+use Rattle.pli_meaning.specs.declared.outcome.End.TheVariants as E
+use Rattle.pli_meaning.specs.World.{counted}
+use Rattle.pli_meaning.specs.BasicValues.{BasicValue}
+use Rattle.pli_meaning.specs.DeclaredShapes.{variables_of_block}
+use Rattle.pli_meaning.specs.StorageState.{State, first_state, with_world, newest_ended}
+use Rattle.pli_meaning.specs.Control.{Meaning, flow_on, left, give, stuck, looked, stored, given, choose, leaving, act, finish, list_from, ◌>>=◌, ◌>>◌}
+use Rattle.pli_meaning.specs.Raising.{Around}
+use Rattle.pli_meaning.specs.Making as K
+use Rattle.pli_meaning.specs.Executing as M
+use Rattle.pli_serving.specs.ServiceState.{Services, first_services}
+use Rattle.pli_coding.specs.Assembly.{ProcedureEntry, Mark, size_of}
+use Rattle.pli_coding.specs.SignatureTable.{table_of}
+use Rattle.pli_coding.specs.Environments.{none_taken}
+use Rattle.pli_coding.specs.Allocating.{act_code}
+use Rattle.pli_coding.specs.Entries.{frame_begun, variables_code}
+use Rattle.pli_coding.specs.Statements.{stmts_code}
+use Rattle.pli_coding.specs.Procedures.{finish_code, procedure_ended, procedure_in}
+use Rattle.pli_coding.specs.Linking.{Links}
+use Rattle.pli_headline.specs.ProvedSoFar.{AllPlain}
+use Rattle.pli_headline.proofs.Engine.{Base, address, most_code}
+use Rattle.pli_headline.proofs.Linking.{size_append}
+use Rattle.pli_headline.proofs.Items.{Linked, At}
+use Rattle.pli_headline.proofs.Bodies.{Known, with'}
+use Rattle.pli_headline.proofs.Jumps.{front_of, back_of, rest_of, linked_at}
+use Rattle.pli_headline.proofs.Temporaries.{nothing}
+use Rattle.pli_headline.proofs.Calls.{Serving}
+use Rattle.pli_headline.proofs.Acts.{act_piece}
+use Rattle.pli_headline.proofs.Statements.{Block, AllHold, Does, counted_holds}
+use Rattle.pli_headline.proofs.Variables.{data_place}
+use Rattle.pli_headline.proofs.Reach.{Family, Aims, Comes, Closed, before, before_closed, comes_on, onward, never, never_closed}
+use Rattle.pli_headline.proofs.MainGround.{ground_of, number_place, main_block}
+use Rattle.pli_headline.proofs.MainProcedure.{main_head, main_procedure, IsAlone, main_environment, main_words, main_table, main_plain, plain_at, main_place, statics_meant}
+use Rattle.pli_headline.proofs.Marks.{Placed}
+use Rattle.pli_headline.proofs.FirstFrame.{start_resume, start_family, start_ground, no_texts, finish_linked, zeros, started}
+use Rattle.pli_headline.proofs.MainFrame.{main_frame, first_words}
+use Rattle.pli_headline.proofs.Prologue.{begun}
+use Rattle.pli_headline.proofs.MainStates.{main_state, numbers_hold, no_units, main_activation, main_services, no_units_served}
+use Rattle.pli_headline.proofs.VariablesMade.{variables_piece}
+use Rattle.pli_headline.proofs.Leaving.{leaving_piece}
+use Rattle.pli_headline.proofs.MainFlow.{calm_closed, comes_caught, inside, inside_closed, comes_left}
+use Rattle.pli_headline.proofs.Entering.{entry_code, entered_piece}
+
+-- ---- in the meaning
+
+-- what stands around the main procedure's statements
+abbrev pub main_around : Y.Program → (k line : ℕ) → Around
+main_around program k line =
+    record { program = program; enter = M.entered program k; turns = suc k; line = line }
+
+-- what the main procedure does once its variables are made
+abbrev main_body : Y.Program → (k line : ℕ) → Y.Stmts → Meaning (Unit {0})
+main_body program k line body =
+    M.entry_act Y.ProcedureBlock >> (M.list (main_around program k line) body >> M.end_reached (main_around program k line) false)
+
+run_meant : (program : Y.Program) (block line : ℕ) (body : Y.Stmts) (input : List ℕ) (k : ℕ) → AllPlain program.variables → IsAlone program block line body → M.run program (suc k) k (first_state input) ≡ flow_on k (left true newest_ended (flow_on k (K.variables_made (main_around program k line) 0 (variables_of_block program block) k (main_state input 0)) (λ u. main_body program k line body))) (λ u. finish E.Finished)
+unfolding M.run given M.entered M.block_run M.block_body M.block_variables_made K.parameters_bound leaving stored looked choose give ◌>>=◌ ◌>>◌
+run_meant program block line body input k all alone =
+    ap (λ ps. given (M.main_of ps) (λ main. stored (K.statics_from 0 program.variables) >> (M.entered program (suc k) (M.begun main.block 0) >> finish {R = Unit {0}} E.Finished)) stuck k (first_state input)) alone
+    ∙ ap (λ s. flow_on k (M.entered program (suc k) (M.begun (main_procedure block line body).block 0) k (with_world (first_state input).world s)) (λ u. finish {R = Unit {0}} E.Finished)) (statics_meant 0 program.variables (first_state input) all)
+
+-- ---- the block of the main procedure
+
+abbrev pub main_count : Y.Program → (block : ℕ) → ℕ
+main_count program block = length (variables_of_block program block)
+
+pub main_data : (program : Y.Program) (block line : ℕ) (body : Y.Stmts) (j : ℕ) → AllPlain program.variables → IsAlone program block line body → j < main_count program block → 32 * main_count program block ≤ 2 ^ 20 → data_place (main_environment program block) block j ≡ number_place j
+main_data program block line body j all alone below few =
+    let e = main_place program block line body j all alone (omega (arith, below)) (omega (arith, below, few)) in
+    omega (arith, e)
+
+abbrev pub block_of : (program : Y.Program) (block line : ℕ) (body : Y.Stmts) (first : List ℕ) (all : AllPlain program.variables) (alone : IsAlone program block line body) (small' : main_words program block body ≤ most_code) (few : 32 * main_count program block ≤ 2 ^ 20) → Block (main_environment program block) block (main_count program block)
+block_of program block line body first all alone small' few =
+    main_block (main_frame (main_words program block body) (main_count program block) small' few) first (main_environment program block) block
+    (λ j below. plain_at (variables_of_block program block) j (main_plain program block all) below)
+    (λ j below. main_data program block line body j all alone below few)
+
+-- what its statements have to do
+abbrev pub BodyDoes : (program : Y.Program) (block line : ℕ) (body : Y.Stmts) (first : List ℕ) (all : AllPlain program.variables) (alone : IsAlone program block line body) (small' : main_words program block body ≤ most_code) → Links → List Instr → (k : ℕ) → Type 1
+BodyDoes program block line body first all alone small' links code k =
+    (few : 32 * main_count program block ≤ 2 ^ 20) → Does (block_of program block line body first all alone small' few) links code (suc k) (stmts_code (main_environment program block) none_taken body) (M.statements (main_around program k line) body None)
+
+-- ---- from the statements to the end of the run
+
+-- where the procedure goes on: to the end of the run
+abbrev to_finish : List Instr → (k : ℕ) → Aims (Option BasicValue)
+to_finish code k = before code never k (λ (u : Option BasicValue). finish {R = Unit {0}} E.Finished)
+
+to_finish_closed : (code : List Instr) (k : ℕ) → Closed code (to_finish code k)
+to_finish_closed code k =
+    before_closed k (λ (u : Option BasicValue). finish {R = Unit {0}} E.Finished) (never_closed code)
+
+statements_piece : {links : Links} {code : List Instr} {i : ℕ} {h t : ℕ → ℕ} (program : Y.Program) (block line : ℕ) (body : Y.Stmts) (first : List ℕ) (all : AllPlain program.variables) (alone : IsAlone program block line body) (small' : main_words program block body ≤ most_code) (few : 32 * main_count program block ≤ 2 ^ 20) (k : ℕ) → BodyDoes program block line body first all alone small' links code k → Linked links code i (stmts_code (main_environment program block) none_taken body ++ procedure_ended (main_environment program block) (main_head block line) (main_words program block body) None) → Linked links code start_resume finish_code → (s : State) → {v : Services} → (g : Family) → Serving k s v line → AllHold s block (main_count program block) (λ j. pos 0) → ((b : Base) → At b i (Known (ground_of (main_frame (main_words program block body) (main_count program block) small' few) first (λ j. pos 0)) v h t nothing b) (g b)) → Comes code i g v (inside (to_finish code k) newest_ended) ((M.list (main_around program k line) body >> M.end_reached (main_around program k line) false) k s)
+unfolding main_block M.list M.list_with list_from looked M.end_reached give ◌>>=◌ ◌>>◌
+statements_piece {code = code} {i = i} program block line body first all alone small' few k does' l finish' s g serving holds at =
+    let e = main_environment program block in
+    let st = stmts_code e none_taken body in
+    let en = procedure_ended e (main_head block line) (main_words program block body) None in
+    let around = main_around program k line in
+    let f = main_frame (main_words program block body) (main_count program block) small' few in
+    let aims = inside (to_finish code k) newest_ended in
+    let next' : Unit {0} → Meaning (Unit {0}) = λ u. M.end_reached around false in
+    let closed = calm_closed (before_closed k next' (inside_closed newest_ended (to_finish_closed code k))) in
+    comes_on k _ next'
+    (comes_caught k _ _ _ (M.statements around body None k s)
+    ((does' few).does closed line (λ j. pos 0) g k (front_of st en l) serving holds at
+    (λ s' v' line' n' h' t' g' serving' all' stays' at'.
+    record {
+      to =
+          leaving_piece (never_closed code) e block line (main_words program block body) f first n' g' s' (with_world s'.world (newest_ended s')) line' k (omega (arith, small')) (omega arith) (back_of st en l) finish' serving' refl at';
+    }) (omega arith)))
+
+-- ---- from the start to the statements
+
+serving_first : (table : List TableSignature) (input : List ℕ) (at line count k : ℕ) → k + 1 < 2 ^ 64 → Serving k (main_state input count) (main_services table input at line count) line
+serving_first table input at line count k fits =
+    record {
+      world = refl;
+      running = refl;
+      line_is = refl;
+      allowed = omega arith;
+      fits = fits;
+      entered = (main_activation at, refl);
+      alone = no_units input count;
+      alone_served = no_units_served table input at line count;
+    }
+
+-- behind the variables: the act of the entry, and the statements
+body_piece : {links : Links} {code : List Instr} {i : ℕ} {h t : ℕ → ℕ} (program : Y.Program) (block line : ℕ) (body : Y.Stmts) (first input : List ℕ) (all : AllPlain program.variables) (alone : IsAlone program block line body) (small' : main_words program block body ≤ most_code) (few : 32 * main_count program block ≤ 2 ^ 20) (k : ℕ) → line < 2 ^ 31 → k + 1 < 2 ^ 64 → BodyDoes program block line body first all alone small' links code k → Linked links code i (act_code line) → Linked links code (i + size_of (act_code line)) (stmts_code (main_environment program block) none_taken body ++ procedure_ended (main_environment program block) (main_head block line) (main_words program block body) None) → Linked links code start_resume finish_code → (at : ℕ) (g : Family) → ((b : Base) → At b i (Known (ground_of (main_frame (main_words program block body) (main_count program block) small' few) first (λ j. pos 0)) (main_services (table_of program) input at line (main_count program block)) h t nothing b) (g b)) → Comes code i g (main_services (table_of program) input at line (main_count program block)) (inside (to_finish code k) newest_ended) (main_body program k line body k (main_state input (main_count program block)))
+unfolding M.entry_act ◌>>◌
+body_piece {code = code} program block line body first input all alone small' few k low fits does' l behind finish' at g there =
+    let n = main_count program block in
+    let s = main_state input n in
+    let next' : Unit {0} → Meaning (Unit {0}) = λ u. M.list (main_around program k line) body >> M.end_reached (main_around program k line) false in
+    let closed = inside_closed newest_ended (to_finish_closed code k) in
+    comes_on k (act counted k s) next'
+    (act_piece (before_closed k next' closed) g line line k low l (serving_first (table_of program) input at line n k fits) there (λ g' serving' there'.
+    statements_piece program block line body first all alone small' few k does' behind finish' (with_world (counted s.world) s) g' serving'
+    (λ j below. counted_holds (counted s.world) (numbers_hold input block n j below)) there'))
+
+-- from the entry of the procedure
+procedure_piece : {links : Links} {code : List Instr} (program : Y.Program) (block line : ℕ) (body : Y.Stmts) (first input : List ℕ) (all : AllPlain program.variables) (alone : IsAlone program block line body) (small' : main_words program block body ≤ most_code) (k entry : ℕ) → line < 2 ^ 31 → k + 1 < 2 ^ 64 → length first ≡ memory_size → 0 < entry → BodyDoes program block line body first all alone small' links code k → Linked links code entry (procedure_in (main_environment program block) (main_head block line) body [] None) → Linked links code start_resume finish_code → (g : Family) → ((b : Base) → At b entry (Known (start_ground first) (first_services (table_of program) input) zeros zeros (with' 1 (λ b'. address b' start_resume) no_texts) b) (g b)) → Comes code entry g (first_services (table_of program) input) (inside (to_finish code k) newest_ended) (flow_on k (K.variables_made (main_around program k line) 0 (variables_of_block program block) k (main_state input 0)) (λ u. main_body program k line body))
+procedure_piece {links} {code} program block line body first input all alone small' k entry low fits len later does' l finish' g at =
+    let e = main_environment program block in
+    let words = main_words program block body in
+    let n = main_count program block in
+    let table = table_of program in
+    let v = first_services table input in
+    let few : 32 * 0 ≤ 2 ^ 20 = omega arith in
+    let f = main_frame words 0 small' few in
+    let t = first_words first f.at in
+    let fb = frame_begun words 0 0 true in
+    let ec = entry_code line in
+    let vars = variables_code e line in
+    let ac = act_code line in
+    let pb = fb ++ (ec ++ (vars ++ ac)) in
+    let behind = stmts_code e none_taken body ++ procedure_ended e (main_head block line) words None in
+    let mark : entry + 0 ≡ entry = omega arith in
+    let l1 = linked_at entry (pb ++ behind) mark (rest_of (Mark (ProcedureEntry block)) (pb ++ behind) l) in
+    let lp = front_of pb behind l1 in
+    let lf = front_of fb (ec ++ (vars ++ ac)) lp in
+    let l2 = back_of fb (ec ++ (vars ++ ac)) lp in
+    let le = front_of ec (vars ++ ac) l2 in
+    let l3 = back_of ec (vars ++ ac) l2 in
+    let lv = front_of vars ac l3 in
+    let la = back_of vars ac l3 in
+    let lr = back_of pb behind l1 in
+    let e1 = size_append fb (ec ++ (vars ++ ac)) in
+    let e2 = size_append ec (vars ++ ac) in
+    let e3 = size_append vars ac in
+    let there : entry + size_of fb + size_of ec + size_of vars + size_of ac ≡ entry + size_of pb = omega (arith, e1, e2, e3) in
+    let lb = linked_at (entry + size_of fb + size_of ec + size_of vars + size_of ac) behind (sym there) lr in
+    let next' : Unit {0} → Meaning (Unit {0}) = λ u. main_body program k line body in
+    let closed = inside_closed newest_ended (to_finish_closed code k) in
+    comes_on k (K.variables_made (main_around program k line) 0 (variables_of_block program block) k (main_state input 0)) next'
+    (onward (before_closed k next' closed) (begun entry first v f g later refl (omega arith) refl len lf at) (λ g1 at1.
+    onward (before_closed k next' closed) (entered_piece (entry + size_of fb) f first (λ j. pos 0) table input line g1 low le at1) (λ g2 at2.
+    variables_piece (before_closed k next' closed) (main_around program k line) program block line words small' first input k n zeros t fits
+    (λ j below room. main_place program block line body j all alone below room)
+    (λ some. main_table program block all some)
+    (variables_of_block program block) 0 (entry + size_of fb + size_of ec) (main_plain program block all) (omega arith) few g2 lv at2
+    (λ enough g3 at3. body_piece program block line body first input all alone small' enough k low fits does' la lb finish' f.at g3 at3))))
+
+-- the whole run
+pub main_runs : {links : Links} {code : List Instr} (program : Y.Program) (block line : ℕ) (body : Y.Stmts) (first input : List ℕ) (all : AllPlain program.variables) (alone : IsAlone program block line body) (small' : main_words program block body ≤ most_code) (k : ℕ) → line < 2 ^ 31 → k + 1 < 2 ^ 64 → length first ≡ memory_size → Placed program block line body links code → BodyDoes program block line body first all alone small' links code k → Comes code 0 (start_family first (first_services (table_of program) input)) (first_services (table_of program) input) never (M.run program (suc k) k (first_state input))
+main_runs {links} {code} program block line body first input all alone small' k low fits len placed does' =
+    let v = first_services (table_of program) input in
+    let behind = placed.behind in
+    let room = placed.procedure.inside in
+    let long = placed.procedure.small' in
+    let finish' = finish_linked block placed.start in
+    let flow = flow_on k (K.variables_made (main_around program k line) 0 (variables_of_block program block) k (main_state input 0)) (λ u. main_body program k line body) in
+    let next' : Option BasicValue → Meaning (Unit {0}) = λ u. finish E.Finished in
+    subst (Comes code 0 (start_family first v) v never) (sym (run_meant program block line body input k all alone))
+    (onward (never_closed code) (started first v block placed.entry len placed.start placed.entry_is behind (omega (arith, room, long))) (λ g at.
+    comes_on k (left true newest_ended flow) next'
+    (comes_left true newest_ended flow
+    (procedure_piece program block line body first input all alone small' k placed.entry low fits len (omega (arith, behind)) does' placed.procedure finish' g at))))

@@ -1,0 +1,188 @@
+-- The main procedure's frame is begun: registers are saved, and the frame's words are filled.
+use Rattle.std.proofs.Common.{◌≡◌, ℕ, ◌+◌, ◌*◌, ◌%◌, ◌<◌, ◌≤◌, List, [], ◌∷◌, ◌++◌, length, true, refl, sym, ap, ◌∙◌, subst, arith}
+use Rattle.std.specs.Prelude.{pos}
+use Rattle.rv_meaning.specs.declared.instr.Instr.{Instr}
+use Rattle.rv_meaning.specs.declared.instr.RegisterOp.TheVariants as Op
+use Rattle.rv_meaning.specs.Words.{word, sum, operated}
+use Rattle.rv_meaning.specs.Memory.{load, store}
+use Rattle.rv_meaning.specs.Machine.{memory_size}
+use Rattle.pli_serving.specs.ServiceState.{Services}
+use Rattle.pli_coding.specs.Registers.{stack_register, frame_register, u0, u1}
+use Rattle.pli_coding.specs.Assembly.{BaseIn, Code, size_of}
+use Rattle.pli_coding.specs.Instructions.{subtract, move, plus, load_word, store_word}
+use Rattle.pli_coding.specs.Frames.{frame_below, own_offset, lower_top, fixed_size, temporary_bytes}
+use Rattle.pli_coding.specs.Entries.{all_saved, display_made, frame_begun}
+use Rattle.pli_coding.specs.Linking.{Links}
+use Rattle.image_runs.specs.Runs.{Whole}
+use Rattle.pli_headline.proofs.Engine.{Base, address, most_code, WordAt}
+use Rattle.pli_headline.proofs.Linking.{size_append}
+use Rattle.pli_headline.proofs.Items.{Linked, At, Items, straight}
+use Rattle.pli_headline.proofs.Numbers.{above_sum, above_small}
+use Rattle.pli_headline.proofs.Bodies.{Known, with', nth, frame_is, plus_piece}
+use Rattle.pli_headline.proofs.Jumps.{front_of, back_of}
+use Rattle.pli_headline.proofs.Reach.{Family, Reach, reach_then, reach_map, reached, reached_holds}
+use Rattle.pli_headline.proofs.MainGround.{Frame, Stands, ground_of, statics_end}
+use Rattle.pli_headline.proofs.FirstFrame.{start_ground, zeros, no_texts}
+use Rattle.pli_headline.proofs.MainFrame.{saved_in, filled_in, filled_keeps, first_words, frame_stands}
+
+-- what is done once the frame's address is in a register
+abbrev pub frame_filled : Code
+frame_filled =
+    all_saved u0
+    ++ (store_word u0 frame_register frame_below
+    ++ (load_word u1 frame_register lower_top
+    ++ (move frame_register u0
+    ∷ (store_word frame_register u1 lower_top
+    ++ (display_made 0
+    ++ (BaseIn u1
+    ∷ subtract u1 frame_register u1
+    ∷ (store_word frame_register u1 own_offset ++ plus stack_register frame_register (pos (fixed_size 0 0)))))))))
+
+-- ---- places in the frame
+
+pub over_sum : (f : Frame) (b : Base) (x n : ℕ) → n < 160 → x ≡ b.at + f.at → sum x (word (pos n)) ≡ b.at + (f.at + n)
+over_sum f b x n few e =
+    let inside = f.inside in
+    ap (λ u. sum u (word (pos n))) e ∙ above_sum b.at f.at n b.valid.1 (omega (arith, inside, few))
+
+abbrev pub over_word : (f : Frame) (b : Base) (x n : ℕ) → n % 4 ≡ 0 → n < 150 → x ≡ b.at + f.at → WordAt b (sum x (word (pos n)))
+over_word f b x n whole few e =
+    record {
+      offset = f.at + n;
+      is = over_sum f b x n (omega (arith, few)) e;
+      aligned = let w = f.whole in omega (arith, w, whole);
+      inside = let i = f.inside in omega (arith, i, few);
+    }
+
+start_word_sum : (b : Base) (x : ℕ) → x ≡ b.at + statics_end → sum x (word (pos 40)) ≡ b.at + (statics_end + 40)
+start_word_sum b x e = ap (λ u. sum u (word (pos 40))) e ∙ above_sum b.at statics_end 40 b.valid.1 (omega arith)
+
+abbrev start_top : (b : Base) (x : ℕ) → x ≡ b.at + statics_end → WordAt b (sum x (word (pos 40)))
+start_top b x e =
+    record { offset = statics_end + 40; is = start_word_sum b x e; aligned = omega arith; inside = omega arith }
+
+same_sum : (f : Frame) (b : Base) (x : ℕ) → x ≡ b.at + f.at → sum x (word (pos 0)) ≡ b.at + f.at
+same_sum f b x e = let v = b.valid.1 in let i = f.inside in omega (arith, e, v, i)
+
+own_is : (f : Frame) (b : Base) (x : ℕ) → x ≡ b.at + f.at → operated Op.Subtract x b.at ≡ f.at
+own_is f b x e = let v = b.valid.1 in let i = f.inside in omega (arith, e, v, i)
+
+-- the reserved registers, where two of them are new and the others still 0
+begun_reserved : (z x x' y y' : ℕ) (h : List ℕ) → (z ∷ h) ≡ (0 ∷ 0 ∷ 0 ∷ 0 ∷ 0 ∷ 0 ∷ 0 ∷ 0 ∷ []) → x ≡ x' → y ≡ y' → (z ∷ x ∷ y ∷ h) ≡ (0 ∷ x' ∷ y' ∷ 0 ∷ 0 ∷ 0 ∷ 0 ∷ 0 ∷ 0 ∷ 0 ∷ [])
+begun_reserved z x x' y y' h s e f =
+    let z0 : z ≡ 0 = ap (nth 0) s in
+    let h0 : h ≡ 0 ∷ 0 ∷ 0 ∷ 0 ∷ 0 ∷ 0 ∷ 0 ∷ [] = ap behind s in
+    ap (λ u. u ∷ x ∷ y ∷ h) z0 ∙ ap (λ u. 0 ∷ u ∷ y ∷ h) e ∙ ap (λ u. 0 ∷ x' ∷ u ∷ h) f ∙ ap (λ u. 0 ∷ x' ∷ y' ∷ u) h0
+  where
+    behind : List ℕ → List ℕ
+    behind [] = []
+    behind (u ∷ us) = us
+
+-- a list without its second and third entries
+abbrev without_two : List ℕ → List ℕ
+without_two (z ∷ x ∷ y ∷ h) = z ∷ h
+without_two _ = []
+
+-- ---- the frame is filled
+
+-- with the frame's address in a register
+abbrev with_frame : Frame → (ra : Base → ℕ) → Base → List (ℕ × ℕ)
+with_frame f ra b = (5, b.at + f.at) ∷ (1, ra b) ∷ (12, 0) ∷ []
+
+filled_path : (links : Links) (code : List Instr) (i : ℕ) (first : List ℕ) (v : Services) (f : Frame) (b : Base) (w : Whole) → 0 < i → f.count ≡ 0 → f.resume ≤ most_code → length first ≡ memory_size → length code ≤ most_code → Known (start_ground first) v zeros zeros (with_frame f (λ b'. address b' f.resume)) b w → Items links code b i frame_filled w (Known (ground_of f first (λ j. pos 0)) v zeros (first_words first f.at) no_texts b)
+filled_path links code i first v f b w later none near len small' k =
+    let x = w.machine.registers in
+    let m = w.machine.memory in
+    let e = k.regs.0 in
+    let above = f.above_statics in
+    let inside = f.inside in
+    let fp : x 8 ≡ b.at + statics_end = frame_is k.body in
+    let e' = same_sum f b (x 5) e in
+    let low : 4 * length code ≤ f.at = omega (arith, small', above) in
+    let top = load 4 (store 4 (saved_in m f.at x) (f.at + 4) (x 8)) (statics_end + 40) in
+    let own = operated Op.Subtract (sum (x 5) (word (pos 0))) b.at in
+    let stands = frame_stands f first b x top own none near len k.regs.1.0 fp (own_is f b (sum (x 5) (word (pos 0))) e') in (
+      over_word f b (x 5) 0 refl (omega arith) e,
+      omega (arith, low),
+      (
+        over_word f b (x 5) 8 refl (omega arith) e,
+        omega (arith, low),
+        (
+          over_word f b (x 5) 12 refl (omega arith) e,
+          omega (arith, low),
+          (
+            over_word f b (x 5) 16 refl (omega arith) e,
+            omega (arith, low),
+            (
+              over_word f b (x 5) 20 refl (omega arith) e,
+              omega (arith, low),
+              (
+                over_word f b (x 5) 24 refl (omega arith) e,
+                omega (arith, low),
+                (
+                  over_word f b (x 5) 28 refl (omega arith) e,
+                  omega (arith, low),
+                  (
+                    over_word f b (x 5) 32 refl (omega arith) e,
+                    omega (arith, low),
+                    (
+                      over_word f b (x 5) 4 refl (omega arith) e,
+                      omega (arith, low),
+                      (
+                        start_top b (x 8) fp,
+                        (
+                          over_word f b (sum (x 5) (word (pos 0))) 40 refl (omega arith) e',
+                          omega (arith, low),
+                          (
+                            omega (arith, later),
+                            refl,
+                            (
+                              over_word f b (sum (x 5) (word (pos 0))) 36 refl (omega arith) e',
+                              omega (arith, low),
+                              record {
+                                body = record {
+                                  services = k.body.services;
+                                  registers = begun_reserved (x 0) _ _ _ _ _ (ap without_two k.body.registers) (over_sum f b (sum (x 5) (word (pos 0))) 144 (omega arith) e' ∙ omega (arith, none)) e';
+                                  bytes = (filled_keeps m f.at x top own).bytes ∙ k.body.bytes;
+                                  memory = subst (λ u. Stands f first (λ j. pos 0) (first_words first f.at) b (filled_in u f.at x top own)) (sym k.body.memory) stands;
+                                };
+                                regs = (k.regs.1.1.0, tt);
+                              },
+                            ),
+                          ),
+                        ),
+                      ),
+                    ),
+                  ),
+                ),
+              ),
+            ),
+          ),
+        ),
+      ),
+    )
+
+-- ---- the frame is begun
+
+pub begun : {links : Links} {code : List Instr} {i : ℕ} (c : ℕ) (first : List ℕ) (v : Services) (f : Frame) (g : Family) → 0 < i → f.count ≡ 0 → f.resume ≤ most_code → f.at ≡ statics_end + 48 + temporary_bytes f.words → length first ≡ memory_size → Linked links code i (frame_begun f.words 0 0 true) → ((b : Base) → At b i (Known (start_ground first) v zeros zeros (with' 1 (λ b'. address b' f.resume) no_texts) b) (g b)) → Reach code c g v (c + size_of (frame_begun f.words 0 0 true)) v (λ b w. At b (i + size_of (frame_begun f.words 0 0 true)) (Known (ground_of f first (λ j. pos 0)) v zeros (first_words first f.at) no_texts b) w)
+begun {links} {code} {i} c first v f g later none near place len l at =
+    let n = temporary_bytes f.words in
+    let inside = f.inside in
+    let up = plus u0 stack_register (pos n) in
+    let total = size_append up frame_filled in
+    let r = plus_piece c g u0 stack_register (pos n) (λ b. b.at + (statics_end + 48)) (λ b. b.at + f.at)
+    (above_small n (omega (arith, place, inside)))
+    (λ b. let v' = b.valid.1 in omega (arith, v'))
+    (λ y u. refl)
+    (λ b w o. ap (nth 1) o.body.registers)
+    (λ b. above_sum b.at (statics_end + 48) n b.valid.1 (omega (arith, place, inside)) ∙ ap (λ u. b.at + u) (sym place))
+    (record { reserved_stay = λ y u. refl; known_stay = λ b y u o. o; set = λ y u. refl })
+    (record { reserved_stay = λ y u. refl; known_stay = λ b y u o. o; set = λ y u. refl })
+    (front_of up frame_filled l) at in
+    let q = straight (c + size_of up) (reached r) v v (λ b w. Known (ground_of f first (λ j. pos 0)) v zeros (first_words first f.at) no_texts b w) (back_of up frame_filled l) (omega arith) (λ b. (reached_holds r b).pc)
+    (λ b. filled_path links code (i + size_of up) first v f b (reached r b) (omega (arith, later)) none near len l.small' (reached_holds r b).holds) in
+    let e : c + size_of up + size_of frame_filled ≡ c + size_of (up ++ frame_filled) = omega (arith, total) in
+    let e' : i + size_of up + size_of frame_filled ≡ i + size_of (up ++ frame_filled) = omega (arith, total) in
+    let whole' = reach_then r q in
+    let moved = reach_map (λ b w. At b (i + size_of (up ++ frame_filled)) (Known (ground_of f first (λ j. pos 0)) v zeros (first_words first f.at) no_texts b) w) whole' (λ b w o. record { pc = o.pc ∙ ap (address b) e'; holds = o.holds }) in
+    subst (λ n'. Reach code c g v n' v (λ b w. At b (i + size_of (up ++ frame_filled)) (Known (ground_of f first (λ j. pos 0)) v zeros (first_words first f.at) no_texts b) w)) e moved

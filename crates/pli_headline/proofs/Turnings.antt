@@ -1,0 +1,150 @@
+-- The tests of a turn of DO with a variable that counts: the limit, and then WHILE.
+use Rattle.std.proofs.Common.{◌≡◌, ℕ, ◌+◌, ◌<◌, ◌≤◌, List, [], ◌∷◌, ◌++◌, length, Option, None, Some, Bool, true, false, refl, sym, ap, ◌∙◌, subst, arith}
+use Rattle.std.specs.Prelude.{ℤ, ◌==◌, if◌then◌else◌}
+use Rattle.rv_meaning.specs.declared.instr.Instr.{Instr}
+use Rattle.rv_meaning.specs.declared.instr.RegisterOp.TheVariants as Op
+use Rattle.rv_meaning.specs.declared.instr.BranchTest.TheVariants as Test
+use Rattle.rv_meaning.specs.Words.{word, flag}
+use Rattle.pli_typing.specs.TypedTree as Y
+use Rattle.pli_meaning.specs.StorageState.{State}
+use Rattle.pli_meaning.specs.Control.{give, choose, ◌>>=◌, ◌>>◌}
+use Rattle.pli_meaning.specs.Raising.{Around}
+use Rattle.pli_meaning.specs.Evaluating as V
+use Rattle.pli_meaning.specs.Executing as M
+use Rattle.pli_meaning.specs.Executing.{has_not_passed}
+use Rattle.pli_serving.specs.ServiceState.{Services}
+use Rattle.pli_coding.specs.Registers.{zero_register, frame_register, a0, u1, u2, u3}
+use Rattle.pli_coding.specs.Assembly.{JumpAhead, Code, size_of}
+use Rattle.pli_coding.specs.Instructions.{registers, load_word, skip_where}
+use Rattle.pli_coding.specs.Environments.{Environment, Taken}
+use Rattle.pli_coding.specs.Expressions.{number_code, bit_code}
+use Rattle.pli_coding.specs.Statements.{limit_place, step_place, in_turns, counter_read, limit_tested, limit_kept, while_kept, bit_if}
+use Rattle.pli_coding.specs.Linking.{Links}
+use Rattle.pli_headline.specs.ProvedSoFar.{IsOwnNumber, IsProvedBitIf}
+use Rattle.pli_headline.proofs.Engine.{Base, address}
+use Rattle.pli_headline.proofs.Linking.{size_append}
+use Rattle.pli_headline.proofs.Items.{Linked, At}
+use Rattle.pli_headline.proofs.Numbers.{IsWide}
+use Rattle.pli_headline.proofs.Bodies.{Ground, Known, zero_is}
+use Rattle.pli_headline.proofs.Jumps.{front_of, back_of, rest_of, skip_taken, skip_passed, ahead_piece}
+use Rattle.pli_headline.proofs.Temporaries.{Stays, stays_same, nothing}
+use Rattle.pli_headline.proofs.Calls.{Serving}
+use Rattle.pli_headline.proofs.Raising.{Routines}
+use Rattle.pli_headline.proofs.Variables.{whole, own, outermost}
+use Rattle.pli_headline.proofs.Operators.{valued}
+use Rattle.pli_headline.proofs.Expressions.{number_does, bit_does}
+use Rattle.pli_headline.proofs.Statements.{Block, AllHold}
+use Rattle.pli_headline.proofs.Ifs.{free_far, setting}
+use Rattle.pli_headline.proofs.Limits.{limit_piece}
+use Rattle.pli_headline.proofs.Reach.{Family, Aims, Comes, Closed, before_closed, comes_on, reached, reached_holds}
+
+-- a variable of the block that counts
+abbrev pub counting : (block j : ℕ) → Y.Counter
+counting block j = Y.NumberCounter 31 (whole (own block j))
+
+-- what a test comes to: it is met behind its code, or the turns are over at a place
+abbrev pub Met : {e : Environment} {block count : ℕ} → Block e block count → (ℕ → ℤ) → Services → State → (h t : ℕ → ℕ) → (met over : ℕ) → Aims Bool → Type 0
+Met bl n v s h t met over aims =
+    ((f : Family) (h' t' : ℕ → ℕ) → Stays (in_turns bl.taken) h t h' t' → ((b : Base) → At b met (Known (bl.ground n) v h' t' nothing b) (f b)) → aims.done met f v true s)
+    × ((f : Family) (h' t' : ℕ → ℕ) → Stays (in_turns bl.taken) h t h' t' → ((b : Base) → At b over (Known (bl.ground n) v h' t' nothing b) (f b)) → aims.done over f v false s)
+
+-- ---- the limit
+
+-- the limit, and the step, in the words that wait
+abbrev pub LimitWaits : Option Y.Number → Option ℤ → (t : ℕ → ℕ) → (j : ℕ) → Type 0
+LimitWaits None None t j = Unit {0}
+LimitWaits (Some x) (Some limit) t j = IsWide limit × (t j ≡ word limit)
+LimitWaits _ _ t j = ⊥
+
+given_as_chosen : (b : Bool) (k : ℕ) (s : State) → choose b (give true) (give false) k s ≡ give b k s
+unfolding choose give
+given_as_chosen true k s = refl
+given_as_chosen false k s = refl
+
+abbrev limit_sign : (behind : ℕ) → Code
+limit_sign behind =
+    registers Op.SetLess u3 u1 a0
+    ∷ (skip_where Test.GreaterOrEqual u2 zero_register (registers Op.SetLess u3 a0 u1 ∷ [])
+    ++ skip_where Test.Equal u3 zero_register (JumpAhead behind ∷ []))
+
+tested_size : (taken : Taken) (c d : ℕ) → size_of (limit_tested taken c) ≡ size_of (limit_tested taken d)
+tested_size taken c d =
+    let a = load_word u1 frame_register (limit_place taken) in
+    let b = load_word u2 frame_register (step_place taken) in
+    let e1 = size_append a (b ++ limit_sign c) in
+    let e2 = size_append b (limit_sign c) in
+    let e3 = size_append a (b ++ limit_sign d) in
+    let e4 = size_append b (limit_sign d) in
+    omega (arith, e1, e2, e3, e4)
+
+-- the code of a test is as long whatever stands behind it
+pub limit_size : (e : Environment) (taken : Taken) (counter : Y.Counter) (limit : Option Y.Number) (c d : ℕ) → size_of (limit_kept e taken counter limit c) ≡ size_of (limit_kept e taken counter limit d)
+limit_size e taken counter None c d = refl
+limit_size e taken counter (Some x) c d =
+    size_append (counter_read e taken counter) (limit_tested taken c)
+    ∙ ap (λ u. size_of (counter_read e taken counter) + u) (tested_size taken c d)
+    ∙ sym (size_append (counter_read e taken counter) (limit_tested taken d))
+
+pub condition_size : (e : Environment) (taken : Taken) (condition : Option Y.Bit) (c d : ℕ) → size_of (while_kept e taken condition c) ≡ size_of (while_kept e taken condition d)
+condition_size e taken None c d = refl
+condition_size e taken (Some x) c d =
+    size_append (bit_code e (in_turns taken) x) (skip_where Test.NotEqual a0 zero_register (JumpAhead c ∷ []))
+    ∙ sym (size_append (bit_code e (in_turns taken) x) (skip_where Test.NotEqual a0 zero_register (JumpAhead d ∷ [])))
+
+pub within_piece : {links : Links} {code : List Instr} {i : ℕ} {v : Services} {h t : ℕ → ℕ} {s : State} {aims : Aims Bool} {e : Environment} {block count : ℕ} (bl : Block e block count) (routines : Routines links code) (around : Around) (j : ℕ) (limit : Option Y.Number) (most : Option ℤ) (step : ℤ) (behind : ℕ) (closed : Closed code aims) (n : ℕ → ℤ) (f : Family) (k : ℕ) → j < count → LimitWaits limit most t bl.taken.words → IsWide step → t (bl.taken.words + 1) ≡ word step → bl.taken.words + 2 ≤ bl.words → i + size_of (limit_kept (outermost e) bl.taken (counting block j) limit behind) + behind ≤ length code → Linked links code i (limit_kept (outermost e) bl.taken (counting block j) limit behind) → Serving k s v around.line → AllHold s block count n → ((b : Base) → At b i (Known (bl.ground n) v h t nothing b) (f b)) → Met bl n v s h t (i + size_of (limit_kept (outermost e) bl.taken (counting block j) limit behind)) (i + size_of (limit_kept (outermost e) bl.taken (counting block j) limit behind) + behind) aims → Comes code i f v aims (M.within_limit around (counting block j) most step k s)
+unfolding M.within_limit M.counter_number V.number ◌>>=◌ give
+within_piece {i = i} {v = v} {h = h} {t = t} {s = s} {aims = aims} bl routines around j None None step behind closed n f k below waits ws at_step room inside l serving all at met =
+    let same : i ≡ i + 0 = omega arith in
+    record { to = subst (λ u. aims.done u f v true s) (sym same) (met.0 f h t (stays_same (in_turns bl.taken) h t) (λ b. record { pc = (at b).pc ∙ ap (address b) same; holds = (at b).holds })) }
+within_piece {code = code} {i = i} {v = v} {h = h} {t = t} {s = s} {aims = aims} {e = e} {block = block} {count = count} bl routines around j (Some x) (Some limit) step behind closed n f k below waits ws at_step room inside l serving all at met =
+    let target = whole (own block j) in
+    let a = number_code (outermost e) (in_turns bl.taken) (Y.NumberIn target) in
+    let c = limit_tested bl.taken behind in
+    let mine : IsOwnNumber block count target = record { index = j; declared = below; is = refl } in
+    let size = size_append a c in
+    let place : i + size_of a + size_of c ≡ i + size_of (a ++ c) = omega (arith, size) in
+    let place' : i + size_of a + size_of c + behind ≡ i + size_of (a ++ c) + behind = omega (arith, size) in
+    let w = bl.words_are n in
+    comes_on k (V.number around (Y.NumberIn target) k s) (λ z. give (has_not_passed limit step z))
+    ((number_does (Y.NumberIn target) {e = e} {around = around} (setting bl routines n all serving) mine).does (before_closed k (λ z. give (has_not_passed limit step z)) closed) f (in_turns bl.taken) (omega (arith, room, w)) (front_of a c l) at
+    (λ z f1 h1 t1 wz stays at1.
+    subst (Comes code (i + size_of a) f1 v aims) (given_as_chosen (has_not_passed limit step z) k s)
+    (limit_piece s k (give true) (give false) closed (bl.temps n) f1 bl.taken limit step z behind waits.0 ws wz (omega (arith, room, w)) (stays.words bl.taken.words (omega arith) ∙ waits.1) (stays.words (bl.taken.words + 1) (omega arith) ∙ at_step) (omega (arith, inside, place')) (back_of a c l) at1
+    (λ f2 at2. record { to = subst (λ u. aims.done u f2 v true s) (sym place) (met.0 f2 h1 t1 stays (λ b. record { pc = (at2 b).pc ∙ ap (address b) place; holds = (at2 b).holds })) })
+    (λ f2 at2. record { to = subst (λ u. aims.done u f2 v false s) (sym place') (met.1 f2 h1 t1 stays (λ b. record { pc = (at2 b).pc ∙ ap (address b) place'; holds = (at2 b).holds })) }))))
+within_piece bl routines around j None (Some limit) step behind closed n f k below waits ws at_step room inside l serving all at met = absurd waits
+within_piece bl routines around j (Some x) None step behind closed n f k below waits ws at_step room inside l serving all at met = absurd waits
+
+-- ---- WHILE
+
+is_kept : (q : Bool) (x z : ℕ) → x ≡ flag q → z ≡ 0 → (if x == z then false else true) ≡ q
+is_kept true x z e f = ap (λ u. if u == z then false else true) e ∙ ap (λ u. if 1 == u then false else true) f
+is_kept false x z e f = ap (λ u. if u == z then false else true) e ∙ ap (λ u. if 0 == u then false else true) f
+
+kept_by : {links : Links} {code : List Instr} {i : ℕ} {g : Ground} {v : Services} {h t : ℕ → ℕ} {aims : Aims Bool} (s : State) (q : Bool) (closed : Closed code aims) (f : Family) (behind : ℕ) → i + 3 + behind ≤ length code → Linked links code i (skip_where Test.NotEqual a0 zero_register (JumpAhead behind ∷ [])) → ((b : Base) → At b i (Known g v h t (valued (flag q)) b) (f b)) → ((f' : Family) → ((b : Base) → At b (i + 3) (Known g v h t nothing b) (f' b)) → aims.done (i + 3) f' v true s) → ((f' : Family) → ((b : Base) → At b (i + 3 + behind) (Known g v h t nothing b) (f' b)) → aims.done (i + 3 + behind) f' v false s) → aims.done i f v q s
+kept_by {i = i} s true closed f behind inside l at met over =
+    let r = skip_taken i f Test.NotEqual a0 zero_register (JumpAhead behind ∷ []) l at (λ b. is_kept true _ _ (at b).holds.regs.0 (zero_is (at b).holds.body)) in
+    closed.done r true s (met (reached r) (λ b. let o = reached_holds r b in record { pc = o.pc; holds = record { body = o.holds.body; regs = tt } }))
+kept_by {i = i} {v = v} {aims = aims} s false closed f behind inside l at met over =
+    let r = skip_passed i f Test.NotEqual a0 zero_register (JumpAhead behind ∷ []) l at (λ b. is_kept false _ _ (at b).holds.regs.0 (zero_is (at b).holds.body)) in
+    let q = ahead_piece (i + 1) (reached r) behind (omega (arith, inside)) free_far (rest_of _ (JumpAhead behind ∷ []) l) (λ b. let o = reached_holds r b in record { pc = o.pc; holds = record { body = o.holds.body; regs = tt } }) in
+    let there : i + 1 + (2 + behind) ≡ i + 3 + behind = omega arith in
+    closed.done r false s (closed.done q false s (subst (λ u. aims.done u (reached q) v false s) (sym there) (over (reached q) (λ b. let o = reached_holds q b in record { pc = o.pc ∙ ap (address b) there; holds = o.holds }))))
+
+pub condition_piece : {links : Links} {code : List Instr} {i : ℕ} {v : Services} {h t : ℕ → ℕ} {s : State} {aims : Aims Bool} {e : Environment} {block count : ℕ} (bl : Block e block count) (routines : Routines links code) (around : Around) (condition : Option Y.Bit) (behind : ℕ) (closed : Closed code aims) (n : ℕ → ℤ) (f : Family) (k : ℕ) → IsProvedBitIf block count condition → bl.taken.words + 2 + bit_if condition ≤ bl.words → i + size_of (while_kept (outermost e) bl.taken condition behind) + behind ≤ length code → Linked links code i (while_kept (outermost e) bl.taken condition behind) → Serving k s v around.line → AllHold s block count n → ((b : Base) → At b i (Known (bl.ground n) v h t nothing b) (f b)) → Met bl n v s h t (i + size_of (while_kept (outermost e) bl.taken condition behind)) (i + size_of (while_kept (outermost e) bl.taken condition behind) + behind) aims → Comes code i f v aims (M.condition_met around condition k s)
+unfolding M.condition_met give
+condition_piece {i = i} {v = v} {h = h} {t = t} {s = s} {aims = aims} bl routines around None behind closed n f k is room inside l serving all at met =
+    let same : i ≡ i + 0 = omega arith in
+    record { to = subst (λ u. aims.done u f v true s) (sym same) (met.0 f h t (stays_same (in_turns bl.taken) h t) (λ b. record { pc = (at b).pc ∙ ap (address b) same; holds = (at b).holds })) }
+condition_piece {i = i} {v = v} {s = s} {aims = aims} {e = e} bl routines around (Some x) behind closed n f k is room inside l serving all at met =
+    let a = bit_code (outermost e) (in_turns bl.taken) x in
+    let c = skip_where Test.NotEqual a0 zero_register (JumpAhead behind ∷ []) in
+    let size = size_append a c in
+    let place : i + size_of a + 3 ≡ i + size_of (a ++ c) = omega (arith, size) in
+    let place' : i + size_of a + 3 + behind ≡ i + size_of (a ++ c) + behind = omega (arith, size) in
+    let w = bl.words_are n in
+    (bit_does x {e = e} {around = around} (setting bl routines n all serving) is).does closed f (in_turns bl.taken) (omega (arith, room, w)) (front_of a c l) at
+    (λ q f1 h1 t1 u stays at1.
+    kept_by s q closed f1 behind (omega (arith, inside, place')) (back_of a c l) at1
+    (λ f2 at2. subst (λ m. aims.done m f2 v true s) (sym place) (met.0 f2 h1 t1 stays (λ b. record { pc = (at2 b).pc ∙ ap (address b) place; holds = (at2 b).holds })))
+    (λ f2 at2. subst (λ m. aims.done m f2 v false s) (sym place') (met.1 f2 h1 t1 stays (λ b. record { pc = (at2 b).pc ∙ ap (address b) place'; holds = (at2 b).holds }))))

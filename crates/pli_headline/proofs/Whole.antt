@@ -1,0 +1,90 @@
+-- The headline of every program that is proved so far: its code does what it means at each number of acts.
+use Rattle.std.proofs.Common.{ℕ, suc, ◌+◌, ◌^◌, ◌<◌, ◌≤◌, List, refl, arith}
+use Rattle.std.proofs.Math.Nat.{le-max_right}
+use Rattle.rv_meaning.specs.declared.instr.Instr.{Instr}
+use Rattle.pli_typing.specs.TypedTree as Y
+use Rattle.pli_meaning.specs.DeclaredShapes.{variables_of_block}
+use Rattle.pli_meaning.specs.StorageState.{first_state}
+use Rattle.pli_meaning.specs.Executing.{meaning, run}
+use Rattle.pli_meaning.specs.Headline.{first_bytes}
+use Rattle.pli_serving.specs.ServiceState.{first_services}
+use Rattle.pli_coding.specs.SignatureTable.{table_of}
+use Rattle.pli_coding.specs.Entries.{variables_words}
+use Rattle.pli_coding.specs.Statements.{stmts_words}
+use Rattle.pli_coding.specs.Linking.{links_of}
+use Rattle.pli_coding.specs.Images.{code_of, linked_code, picture_of}
+use Rattle.pli_headline.specs.ProvedSoFar.{IsProvedSoFar}
+use Rattle.pli_headline.specs.Headline.{parts, FitsMemory, HeadlineSoFar}
+use Rattle.pli_headline.proofs.Engine.{most_code}
+use Rattle.pli_headline.proofs.Promises.{Laws, Comes_at, from_flow, Works, promised}
+use Rattle.pli_headline.proofs.Statics.{constant_stands}
+use Rattle.pli_headline.proofs.Marks.{Placed, placed}
+use Rattle.pli_headline.proofs.Sizes.{procedure_size, first_length}
+use Rattle.pli_headline.proofs.MainProcedure.{main_head, alone_of, main_environment, main_words, main_plain, plain_at}
+use Rattle.pli_headline.proofs.FirstFrame.{first_step_of}
+use Rattle.pli_headline.proofs.MainFrame.{main_frame}
+use Rattle.pli_headline.proofs.MainBody.{main_body_does}
+use Rattle.pli_headline.proofs.MainRuns.{main_around, main_count, main_data, BodyDoes, main_runs}
+
+-- ---- the procedure of a program
+
+abbrev block_in : {program : Y.Program} → IsProvedSoFar program → ℕ
+block_in is = is.head.number
+
+abbrev line_in : {program : Y.Program} → IsProvedSoFar program → ℕ
+line_in is = is.head.line
+
+abbrev code_for : Y.Program → List Instr
+code_for program = linked_code (code_of parts program)
+
+abbrev memory_for : Y.Program → List ℕ
+memory_for program = first_bytes (picture_of parts program)
+
+placed_for : (program : Y.Program) (is : IsProvedSoFar program) → FitsMemory (picture_of parts program) → Placed program (block_in is) (line_in is) is.body (links_of (code_of parts program)) (code_for program)
+placed_for program is fits =
+    placed program (block_in is) (line_in is) is.body is.plain (alone_of program is) fits.code_fits
+
+few_words : (program : Y.Program) (is : IsProvedSoFar program) → FitsMemory (picture_of parts program) → main_words program (block_in is) is.body ≤ most_code
+few_words program is fits =
+    let p = (placed_for program is fits).procedure in
+    let inside = p.inside in
+    let small' = p.small' in
+    let n = procedure_size (main_environment program (block_in is)) (main_head (block_in is) (line_in is)) (main_count program (block_in is)) is.body (main_plain program (block_in is) is.plain) is.block.statements in
+    omega (arith, inside, small', n)
+
+-- ---- its statements
+
+body_done : (program : Y.Program) (is : IsProvedSoFar program) (fits : FitsMemory (picture_of parts program)) (k : ℕ) → BodyDoes program (block_in is) (line_in is) is.body (memory_for program) is.plain (alone_of program is) (few_words program is fits) (links_of (code_of parts program)) (code_for program) k
+body_done program is fits k few =
+    let block = block_in is in
+    let line = line_in is in
+    let alone = alone_of program is in
+    let small' = few_words program is fits in
+    main_body_does program block line is.body alone
+    (main_frame (main_words program block is.body) (main_count program block) small' few)
+    (memory_for program)
+    (λ j below. plain_at (variables_of_block program block) j (main_plain program block is.plain) below)
+    (λ j below. main_data program block line is.body j is.plain alone below few)
+    (links_of (code_of parts program)) (code_for program)
+    (placed_for program is fits).routines (main_around program k line) is.block.statements
+    (le-max_right (variables_words (variables_of_block program block)) (stmts_words is.body))
+    (constant_stands (code_of parts program) fits)
+
+-- ---- its runs
+
+comes : (laws : Laws) (program : Y.Program) (is : IsProvedSoFar program) → FitsMemory (picture_of parts program) → (input : List ℕ) (k : ℕ) → k + 1 < 2 ^ 64 → Comes_at (picture_of parts program) (table_of program) program input k
+unfolding meaning
+comes laws program is fits input k room =
+    from_flow laws (picture_of parts program) (table_of program) program input k (run program (suc k) k (first_state input)) refl
+    (main_runs program (block_in is) (line_in is) is.body (memory_for program) input is.plain (alone_of program is) (few_words program is fits) k is.block.line room (first_length (picture_of parts program) fits) (placed_for program is fits) (body_done program is fits k))
+
+works : (laws : Laws) (program : Y.Program) (is : IsProvedSoFar program) → FitsMemory (picture_of parts program) → Works (picture_of parts program) (table_of program) program
+works laws program is fits =
+    record {
+      comes = comes laws program is fits;
+      first = λ input b. first_step_of (memory_for program) (first_services (table_of program) input) (block_in is) (placed_for program is fits).start b;
+    }
+
+pub headline : Laws → HeadlineSoFar
+headline laws program is fits =
+    promised laws (picture_of parts program) (table_of program) program (works laws program is fits)

@@ -1,0 +1,4 @@
+pub mod ProvedSoFar
+pub mod Headline
+pub mod FirstForms
+pub mod FirstPath

@@ -1,0 +1,6 @@
+use Rattle.std.proofs.Common.{◌≤◌}
+use Rattle.pli_language.specs.declared.stmt.Items.{size-Items}
+use Rattle.pli_language.proofs.+dropping.Given as goal
+
+abbrev pub invariant-stmt::Items::drop-loop-self : goal.invariant-stmt::Items::drop-loop-self
+invariant-stmt::Items::drop-loop-self l = size-Items l.self ≤ size-Items l.fn.self

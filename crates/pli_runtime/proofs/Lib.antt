@@ -1,0 +1,5 @@
+pub mod Beginnings
+pub mod Carried
+pub mod Ends
+pub mod Passing
+pub mod Stacked

@@ -1,0 +1,12 @@
+// The services that images call, all 41 of them, over one run's state.
+#![tactic(auto)]
+
+mod aggregates;
+mod areas;
+mod blocks;
+mod conditions;
+mod edits;
+mod ending;
+mod run;
+pub mod runtime;
+mod texts;

@@ -1,0 +1,6 @@
+use Rattle.std.proofs.Common.{◌≡◌, ◌-◌, ◌++◌}
+use Rattle.pli_coding.specs.Entries.{registers_saved}
+use Rattle.rv_entry.proofs.frame.registers_saved.Given as goal
+
+abbrev pub invariant-loop-n : goal.invariant-loop-n
+invariant-loop-n l = l.code ++ registers_saved l.frame l.n (7 - l.n) ≡ l.fn.code ++ registers_saved l.frame 0 7

@@ -1,0 +1,4 @@
+pub mod Leaves
+pub mod Looping
+pub mod Moving
+pub mod Parts

@@ -1,0 +1,6 @@
+pub mod Elements
+pub mod Ends
+pub mod Lists
+pub mod Moved
+pub mod Pieces
+pub mod Turns

@@ -1,0 +1,12 @@
+// Fields of GET and PUT by the data items of format lists, and elements of aggregates by their numbers.
+#![tactic(auto)]
+
+pub mod branch;
+mod element;
+pub mod elements;
+pub mod field;
+pub mod fields;
+pub mod kinds;
+pub mod moved;
+pub mod text;
+pub mod turns;

@@ -1,0 +1,4 @@
+mod Sorting
+pub mod Steps
+mod Walks
+mod Weights

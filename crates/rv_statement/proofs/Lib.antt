@@ -1,0 +1,7 @@
+pub mod Around
+pub mod Counted
+pub mod Placing
+pub mod Walks
+pub mod Weights
+pub mod Wholes
+pub mod WordsTaken

@@ -1,0 +1,14 @@
+// The code of statements, with the blocks that stand among them.
+#![tactic(auto)]
+
+mod ahead;
+mod condition;
+mod counter;
+mod enclosing;
+mod goto;
+mod returning;
+mod single;
+pub mod statement;
+mod tested;
+mod turn;
+pub mod words;

@@ -1,0 +1,5 @@
+pub mod Awaiting
+pub mod Getting
+pub mod Leading
+pub mod Putting
+pub mod Shapes
