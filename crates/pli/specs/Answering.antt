@@ -1,75 +1,70 @@
 -- What a run of a source is promised to show.
-use Rattle.std.specs.Prelude.{◌≡◌, ◌≢◌, ◌⊎◌, ℕ, ◌≤◌, List, [], length, Some, Result, Ok, Err}
+use Rattle.std.specs.Prelude.{◌≡◌, ◌≢◌, ◌⊎◌, ℕ, List, [], Some, Result, Ok, Err}
 use Rattle.pli_meaning.specs.declared.outcome.Outcome.{Outcome}
 use Rattle.pli_language.specs.declared.fault.SourceFault.{SourceFault}
 use Rattle.pli_language.specs.declared.fault.SourceKind.TheVariants as SourceKind
-use Rattle.pli_language.specs.declared.token.Token.{Token}
-use Rattle.pli_meaning.specs.Typed.{Program}
+use Rattle.pli_typing.specs.TypedTree as Y
 use Rattle.pli_meaning.specs.World.{World}
+use Rattle.pli_meaning.specs.Executing.{meaning}
 use Rattle.rv_meaning.specs.Machine.{IsValidBase}
 use Rattle.rv_meaning.specs.Images.{Image}
 use Rattle.rv_meaning.specs.Tables.{TableSignature}
-use Rattle.pli_meaning.specs.Meaning.{meaning}
-use Rattle.pli_meaning.specs.Headline.{Picture, Keeps, step_cost}
+use Rattle.pli_meaning.specs.Headline.{Picture}
+use Rattle.pli_coding.specs.Images.{picture_of}
+use Rattle.pli_coding.specs.SignatureTable.{table_of}
 use Rattle.image_runs.specs.Runs.{run_of, shown_by}
 use Rattle.pli_run.specs.Running.{world_of, IsPicture, IsTabled, Tells}
 use Rattle.pli_run.specs.declared.run.RunFault.{RunFault}
 use Rattle.pli_run.specs.declared.run.RunFault.TheVariants.{Memory, BadBase, Source, Machine}
-use Rattle.pli_compile.specs.Compiling.{Accepts, IsCoded, IsRefused, most_step_cost}
+use Rattle.pli_headline.specs.ProvedSoFar.{IsProvedSoFar}
+use Rattle.pli_headline.specs.Headline.{parts, Keeps}
+use Rattle.pli_compile.specs.Compiling.{IsImageFor, IsRefused}
 
--- ---- sources of the first path: what is shown is what the program means
+-- ---- what is shown is what the program means
 
--- The world w is what a run of a source's image shows at a base, and at every other valid base. It is the program's at
+-- The world w is what a run of a program's image shows at a base, and at every other valid base. It is the storage machine's at
 -- just its acts; an image still running has done at least the bound divided by the step cost acts; and a program that ends
 -- is seen to end where the bound allows for its acts.
-pub record Means (s input : List ℕ) (bound : ℕ) (w : World) : Type 0 where
-  pub tokens : List Token
-  pub program : Program
-  pub picture : Picture
-  pub accepted : Accepts s tokens program
-  pub cheap : step_cost picture ≤ most_step_cost (length tokens)
-  pub keeps : Keeps program picture input bound w
-  pub anywhere : (base : ℕ) → IsValidBase base → shown_by (run_of picture [] base input bound) ≡ Some w
+pub record Means (program : Y.Program) (input : List ℕ) (bound : ℕ) (w : World) : Type 0 where
+  pub keeps : Keeps program (picture_of parts program) input bound w
+  pub anywhere : (base : ℕ) → IsValidBase base → shown_by (run_of (picture_of parts program) (table_of program) base input bound) ≡ Some w
 
--- these are the acts and the output of a source's program up to some act
-pub record ShowsPart (s input : List ℕ) (acts : ℕ) (output : List ℕ) : Type 0 where
-  pub tokens : List Token
-  pub program : Program
-  pub accepted : Accepts s tokens program
+-- these are the acts and the output of a program up to some act
+pub record ShowsPart (program : Y.Program) (input : List ℕ) (acts : ℕ) (output : List ℕ) : Type 0 where
   pub world : World
   pub meant : meaning program input world.acts ≡ Some world
   pub acts_are : acts ≡ world.acts
   pub output_is : output ≡ world.output
 
--- what stands where memory was refused: nothing, where it was refused to the compiler or before the run; else what the
--- program shows up to there
-abbrev pub ShowsSoFar : (s input : List ℕ) → (acts : ℕ) → (output : List ℕ) → Type 0
-ShowsSoFar s input acts output = ((acts ≡ 0) × (output ≡ [])) ⊎ ShowsPart s input acts output
-
 -- no instruction is one that can't be carried out
-abbrev pub AnswersMeant : (s input : List ℕ) → (bound : ℕ) → Result Outcome RunFault → Type 0
-AnswersMeant s input bound (Ok o) = Means s input bound (world_of o)
-AnswersMeant s input bound (Err (Memory acts output)) = ShowsSoFar s input acts output.items
-AnswersMeant s input bound (Err _) = ⊥
+abbrev pub AnswersMeant : (program : Y.Program) (input : List ℕ) → (bound : ℕ) → Result Outcome RunFault → Type 0
+AnswersMeant program input bound (Ok o) = Means program input bound (world_of o)
+AnswersMeant program input bound (Err (Memory acts output)) = ShowsPart program input acts output.items
+AnswersMeant program input bound (Err _) = ⊥
 
--- ---- sources beyond the first path: what is shown is what the code of their typed trees comes to
+-- ---- what is shown is what the code comes to
 
--- what a run of the code at a base tells
-pub record TellsCode (s input : List ℕ) (base bound : ℕ) (ran : Result Outcome RunFault) : Type 0 where
+-- What a run of a source's image at a base tells: what the code of its program comes to, on the machine with all services of the
+-- definitions; and where the headline is proved for the program, what the program means.
+pub record TellsRun (s input : List ℕ) (base bound : ℕ) (ran : Result Outcome RunFault) : Type 0 where
   pub image : Image
-  pub coded : IsCoded s image
+  pub compiled : IsImageFor s image
   pub picture : Picture
   pub pictured : IsPicture picture image
   pub signatures : List TableSignature
   pub tabled : IsTabled signatures image
   pub told : Tells (run_of picture signatures base input) bound ran
+  pub meant : IsProvedSoFar compiled.program → AnswersMeant compiled.program input bound ran
 
--- ---- all sources
+-- want of memory of the compiler: nothing was done, and nothing shown
+abbrev pub IsUnstarted : Result Outcome RunFault → Type 0
+IsUnstarted (Err (Memory acts output)) = (acts ≡ 0) × (output.items ≡ [])
+IsUnstarted _ = ⊥
 
 -- what is answered at a valid base. Want of memory is no refusal of the source
 abbrev pub Answers : (s input : List ℕ) → (base bound : ℕ) → Result Outcome RunFault → Type 0
 Answers s input base bound (Err (Source fault)) = IsRefused s fault × (fault.kind ≢ SourceKind.Memory)
-Answers s input base bound ran = AnswersMeant s input bound ran ⊎ TellsCode s input base bound ran
+Answers s input base bound ran = IsUnstarted ran ⊎ TellsRun s input base bound ran
 
 -- what is answered for a source without an image, by why it has none
 abbrev pub IsUncompiledFor : SourceFault → RunFault → Type 0

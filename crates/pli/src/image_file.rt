@@ -11,7 +11,7 @@ use pli_meaning::outcome::Outcome;
 use pli_run::run::{RunFault, run};
 use rv_image::image::Image;
 use rv_meaning::image::ImageFault;
-use std::alloc::{AllocError, Global};
+use std::alloc::Global;
 
 /// The bytes of a source's image.
 ///
@@ -51,14 +51,4 @@ pub fn run_bytes(
 {
     let image = Image::from_bytes(alloc, bytes)?;
     Ok(run(alloc, &image, base, input, bound))
-}
-
-/// A line for each code word: its offset in bytes and the word, each in eight hexadecimal digits.
-pub fn listing(alloc: Global, image: &Image) -> Result<String, AllocError> {
-    let mut text = String::new(alloc);
-    for (index, word) in image.code().iter().enumerate() {
-        let offset = 4 * index;
-        writeln!(text, "{offset:08x} {word:08x}")?;
-    }
-    Ok(text)
 }

@@ -3,14 +3,18 @@
 
 mod command;
 pub mod image_file;
+mod listing;
 pub mod source_run;
 #[cfg(test)]
 mod tests;
 
 use clap::ArgMatches;
 use clap::error::ErrorKind;
-use image_file::{compiled_bytes, listing, run_bytes};
+use image_file::{compiled_bytes, run_bytes};
+use listing::listing;
 use pli_compile::compile::compile;
+use pli_compile::named::named_code;
+use pli_language::fault::SourceFault;
 use pli_meaning::outcome::Outcome;
 use pli_run::report::{Line, Notice, refused_image, refused_source, report, unread, unwritten};
 use pli_run::run::RunFault;
@@ -145,6 +149,18 @@ fn exec(rt: &HostRuntime, matches: &ArgMatches<'_>) -> u8 {
     }
 }
 
+// The listing of a source.
+fn listing_of(rt: &HostRuntime, source: &[u8]) -> io::Result<Result<String, SourceFault>> {
+    let named = match named_code(rt.alloc(), source) {
+        Ok(named) => named,
+        Err(fault) => return Ok(Err(fault)),
+    };
+    match compile(rt.alloc(), source) {
+        Ok(image) => Ok(Ok(listing(rt.alloc(), &named, &image)?)),
+        Err(fault) => Ok(Err(fault)),
+    }
+}
+
 // `pli list`.
 fn list(rt: &HostRuntime, matches: &ArgMatches<'_>) -> io::Result<u8> {
     let name = matches.get_str(command::SOURCE).unwrap_or("");
@@ -152,11 +168,10 @@ fn list(rt: &HostRuntime, matches: &ArgMatches<'_>) -> io::Result<u8> {
         Ok(source) => source,
         Err(error) => return Ok(tell(rt, unread_for(name, &error))),
     };
-    let image = match compile(rt.alloc(), &source) {
-        Ok(image) => image,
+    let text = match listing_of(rt, &source)? {
+        Ok(text) => text,
         Err(fault) => return Ok(tell(rt, refused_source(fault))),
     };
-    let text = listing(rt.alloc(), &image)?;
     match rt.write_all(text.as_bytes()) {
         Ok(()) => Ok(0),
         Err(_) => Ok(tell(rt, unwritten("stdout"))),

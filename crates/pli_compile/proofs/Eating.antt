@@ -5,7 +5,7 @@ use Rattle.pli_language.specs.declared.token.Token.{Token}
 use Rattle.pli_language.specs.Tree as T
 use Rattle.pli_language.specs.Spells as G
 use Rattle.pli_language.specs.Spells.{Takes}
-use Rattle.rv_codegen.specs.Weights.{expr_weight, exprs_weight}
+use Rattle.pli_headline.specs.FirstPath.{expr_weight, exprs_weight}
 
 -- the tokens' lines have 31 bits
 abbrev pub Small : List Token → Type 0

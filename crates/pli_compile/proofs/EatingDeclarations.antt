@@ -3,7 +3,7 @@ use Rattle.std.proofs.Common.{ℕ, List, length, arith}
 use Rattle.pli_language.specs.declared.token.Token.{Token}
 use Rattle.pli_language.specs.Tree as T
 use Rattle.pli_language.specs.Attributes as A
-use Rattle.rv_codegen.specs.Weights.{declared_weight}
+use Rattle.pli_headline.specs.FirstPath.{declared_weight}
 use Rattle.pli_compile.proofs.Eating.{Eats, take, none, both, least, some, level_eats, count_eats}
 
 -- ---- extents and dimensions

@@ -7,7 +7,7 @@ use Rattle.pli_language.specs.Formats as F
 use Rattle.pli_language.specs.Heads as H
 use Rattle.pli_language.specs.Parsing as P
 use Rattle.pli_language.specs.Spells as G
-use Rattle.rv_codegen.specs.Weights.{exprs_weight, pairs_weight, stmt_weight, stmt_line, declared_weight}
+use Rattle.pli_headline.specs.FirstPath.{exprs_weight, pairs_weight, stmt_weight, stmt_line, declared_weight}
 use Rattle.pli_compile.proofs.Eating.{Small, Eats, small_first, one, take, none, both, least, some, level_eats, reference_eats, arguments_eat, exprs_eat, count_eats}
 use Rattle.pli_compile.proofs.EatingDeclarations.{attributes_eat, declare_items_eat}
 

@@ -3,8 +3,6 @@ pub mod EatingDeclarations
 pub mod EatingHeads
 pub mod Weighing
 pub mod WeighingNests
-pub mod Types
-pub mod Typed
 pub mod Based
 pub mod Measures
 pub mod Compiled

@@ -8,7 +8,7 @@ use Rattle.pli_language.specs.Tokens.{Tokens, Reads, no_more, one_more, line_aft
 use Rattle.pli_language.specs.Tree as T
 use Rattle.pli_language.specs.Nesting as N
 use Rattle.pli_language.specs.Parsing as P
-use Rattle.rv_codegen.specs.Weights.{weight, SmallLines}
+use Rattle.pli_headline.specs.FirstPath.{weight, SmallLines}
 use Rattle.pli_compile.proofs.Eating.{Small, Eats, both, least}
 use Rattle.pli_compile.proofs.EatingHeads.{head_weight, head_begins, labels_eat}
 use Rattle.pli_compile.proofs.Weighing.{nest_weight, NestLines, weight_of_list, lines_of_list}

@@ -5,7 +5,7 @@ use Rattle.pli_language.specs.Tree as T
 use Rattle.pli_language.specs.Heads as H
 use Rattle.pli_language.specs.Nesting as N
 use Rattle.pli_language.specs.Nesting.{completed, closed}
-use Rattle.rv_codegen.specs.Weights.{stmt_weight, stmt_line, item_weight, items_weight, ItemLines, SmallLines}
+use Rattle.pli_headline.specs.FirstPath.{stmt_weight, stmt_line, item_weight, items_weight, ItemLines, SmallLines}
 use Rattle.pli_compile.proofs.EatingHeads.{head_weight, HeadLines}
 
 -- ---- lists of items

@@ -6,7 +6,7 @@ use Rattle.pli_language.specs.Tree as T
 use Rattle.pli_language.specs.Heads as H
 use Rattle.pli_language.specs.Nesting as N
 use Rattle.pli_language.specs.Nesting.{completed}
-use Rattle.rv_codegen.specs.Weights.{stmt_weight, stmt_line, items_weight, SmallLines}
+use Rattle.pli_headline.specs.FirstPath.{stmt_weight, stmt_line, items_weight, SmallLines}
 use Rattle.pli_compile.proofs.EatingHeads.{head_weight, HeadLines}
 use Rattle.pli_compile.proofs.Weighing.{list_weight, ListLines, weight_snoc, lines_snoc, weight_of_list, lines_of_list, opener_weight, nest_weight, NestLines, Leads, completed_keeps, settled_keeps, statement_leads, declaration_leads, else_leads, system_leads}
 

@@ -1,5 +1,5 @@
--- What image a source has, and why one without an image is refused.
-use Rattle.std.specs.Prelude.{◌≡◌, ◌≢◌, ℕ, ◌+◌, ◌*◌, ◌≤◌, List, [], length, Bool, true, false, Option, Some, None}
+-- What image a source has, what that image keeps, and why a source without one is refused.
+use Rattle.std.specs.Prelude.{◌≡◌, ◌≢◌, ℕ, ◌+◌, ◌*◌, ◌≤◌, List, [], length, Some}
 use Rattle.pli_language.specs.declared.fault.SourceFault.{SourceFault}
 use Rattle.pli_language.specs.declared.token.Token.{Token}
 use Rattle.pli_language.specs.Tokens.{Tokens, Refuses}
@@ -11,11 +11,13 @@ use Rattle.pli_typing.specs.Resolving.{typing_faults, IsMistyped, Resolves}
 use Rattle.pli_typing.specs.TypedTree as Y
 use Rattle.pli_meaning.specs.Typed.{Program}
 use Rattle.pli_meaning.specs.Typing.{typed}
-use Rattle.pli_meaning.specs.Headline.{Picture, Headline, step_cost}
-use Rattle.pli_coding.specs.Images.{image_of}
-use Rattle.pli_frames.specs.Parts.{parts}
+use Rattle.pli_meaning.specs.Headline.{step_cost}
+use Rattle.pli_coding.specs.Images.{picture_of}
+use Rattle.pli_coding.specs.SignatureTable.{table_of}
 use Rattle.rv_meaning.specs.Images as Images
-use Rattle.pli_run.specs.Running.{IsPicture}
+use Rattle.rv_program.specs.Generated.{IsCodeOf}
+use Rattle.pli_headline.specs.ProvedSoFar.{IsProvedSoFar}
+use Rattle.pli_headline.specs.Headline.{parts, Headline}
 
 -- a source has these tokens, which spell a tree that breaks no rule of declarations and none of typing
 pub record IsAccepted (s : List ℕ) (tokens : List Token) (tree : T.Tree) : Type 0 where
@@ -24,61 +26,40 @@ pub record IsAccepted (s : List ℕ) (tokens : List Token) (tree : T.Tree) : Typ
   pub declares : declaring_faults tree ≡ []
   pub keeps_types : typing_faults tree ≡ []
 
--- ---- the first path of the language, whose programs have a typed form of their own
-
--- an accepted source whose program is one of the first path
-pub record Accepts (s : List ℕ) (tokens : List Token) (program : Program) : Type 0 where
+-- this is the program of a source
+pub record IsProgramOf (s : List ℕ) (program : Y.Program) : Type 0 where
+  pub tokens : List Token
   pub tree : T.Tree
   pub accepted : IsAccepted s tokens tree
-  pub typed_is : typed tree ≡ Some program
+  pub resolved : Resolves tree program
 
--- the step cost of an image that is compiled from so many tokens
+-- ---- images
+
+-- the image of a tree's program: just its code, which a machine loads
+abbrev pub IsTreeCoded : T.Tree → Images.Image → Type 0
+IsTreeCoded tree image = (program : Y.Program) × Resolves tree program × IsCodeOf program image × Images.IsLoadable image
+
+-- a program of the first path of the language: one procedure with declarations of FIXED BINARY(31), assignments and PUT EDIT
+abbrev pub IsFirstPath : T.Tree → Type 0
+IsFirstPath tree = (p : Program) × (typed tree ≡ Some p)
+
+-- the step cost of the image of a program of the first path in so many tokens
 abbrev pub most_step_cost : ℕ → ℕ
 most_step_cost tokens = 8002 + 208 * tokens
 
--- an image that keeps the promise for a source
-pub record IsCompiled (s : List ℕ) (image : Images.Image) : Type 0 where
-  pub tokens : List Token
-  pub program : Program
-  pub picture : Picture
-  pub accepted : Accepts s tokens program
-  pub pictured : IsPicture picture image
-  -- no signature is named by code of the first path
-  pub no_table : image.table ≡ []
-  pub keeps : Headline program picture
-  pub cheap : step_cost picture ≤ most_step_cost (length tokens)
+-- of programs of the first path the headline is proved, and their code is short
+pub record IsShort (program : Y.Program) (tokens : ℕ) : Type 0 where
+  pub proved : IsProvedSoFar program
+  pub cheap : step_cost (picture_of parts program) ≤ most_step_cost tokens
 
--- ---- the whole language
-
--- no program of the first path
-abbrev pub IsBeyond : T.Tree → Type 0
-IsBeyond tree = (p : Program) → typed tree ≢ Some p
-
--- an image of just the code that the definitions have for the typed tree of an accepted source
-pub record IsCoded (s : List ℕ) (image : Images.Image) : Type 0 where
-  pub tokens : List Token
-  pub tree : T.Tree
+-- the image of a source: just the code that the definitions have for its program. Where the headline is proved for the program, the
+-- image keeps it
+pub record IsImageFor (s : List ℕ) (image : Images.Image) : Type 0 where
   pub program : Y.Program
-  pub accepted : IsAccepted s tokens tree
-  pub beyond : IsBeyond tree
-  pub resolved : Resolves tree program
-  pub image_is : image ≡ image_of parts program
-
--- the image of a source: it keeps the promise where the program is one of the first path, and else is the code of its typed tree
-pub data IsImageFor (s : List ℕ) (image : Images.Image) : Type 0 where
-  first_path : IsCompiled s image → IsImageFor s image
-  whole_language : IsCoded s image → IsImageFor s image
-
--- whether a tree's program is one of the first path
-abbrev pub IsJudged : T.Tree → Bool → Type 0
-IsJudged tree true = (p : Program) × (typed tree ≡ Some p)
-IsJudged tree false = IsBeyond tree
-
--- the image of a tree beyond the first path, or none of one of the first path; either keeps the rules of typing
-abbrev pub IsImageBeyond : T.Tree → Option Images.Image → Type 0
-IsImageBeyond tree None = (typing_faults tree ≡ []) × IsJudged tree true
-IsImageBeyond tree (Some image) =
-    (program : Y.Program) × Resolves tree program × IsBeyond tree × (image ≡ image_of parts program)
+  pub source : IsProgramOf s program
+  pub coded : IsCodeOf program image
+  pub keeps : IsProvedSoFar program → Headline program (picture_of parts program) (table_of program)
+  pub first_path : IsFirstPath source.tree → IsShort program (length source.tokens)
 
 -- ---- refusals
 

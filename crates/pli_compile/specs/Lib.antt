@@ -1,3 +1,1 @@
 pub mod Compiling
-pub mod Typable
-pub mod Uncompiled

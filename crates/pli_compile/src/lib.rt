@@ -2,7 +2,5 @@
 #![tactic(auto)]
 
 pub mod compile;
-mod declared;
 pub mod laws;
-mod typable;
-pub mod uncompiled;
+pub mod named;

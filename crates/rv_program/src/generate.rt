@@ -6,7 +6,8 @@ ghost use Rattle.rv_meaning.specs.Images.{image};
 ghost use Rattle.pli_typing.specs.TypedStatementView.{program_of};
 ghost use Rattle.pli_coding.specs.Linking.{data_bytes};
 ghost use Rattle.pli_coding.specs.Images as form;
-ghost use Rattle.pli_frames.specs.Parts.{parts};
+ghost use Rattle.rv_assembly.specs.Fitting.{AllFit};
+ghost use Rattle.rv_program.specs.Generated.{IsCodeOf};
 
 use crate::table::table_words;
 use crate::whole::code_of;
@@ -32,12 +33,28 @@ fn image_with(alloc: Global, code: &Code, table: Vec<u32>) -> Result<Image, Allo
     }
 }
 
+/// The code of a program, before it stands at its places.
+pub fn unlinked(alloc: Global, typed: &Typed) -> Result<Code, AllocError>
+    ensures { IfOk result (λ code. code ≡ form.code_of parts (program_of typed.now)) }
+{
+    let known = Known::new(alloc, typed)?;
+    Ok(code_of(alloc, &known)?)
+}
+
+/// That each item of code holds its numbers, which is so of all code: calling it does nothing.
+fn holds_numbers(code: &Code)
+    ensures { AllFit code.now }
+{
+    let _ = code.items();
+}
+
 /// The image of a program. Where it has more code, static data or signatures than a machine loads, that is want of memory.
 pub fn generate(alloc: Global, typed: &Typed) -> Result<Image, AllocError>
-    ensures { IfOk result (λ image. image ≡ form.image_of parts (program_of typed.now)) }
+    ensures { IfOk result (λ image. IsCodeOf (program_of typed.now) image) }
 {
     let known = Known::new(alloc, typed)?;
     let code = code_of(alloc, &known)?;
     let table = table_words(alloc, &known)?;
+    holds_numbers(&code);
     Ok(image_with(alloc, &code, table)?)
 }
