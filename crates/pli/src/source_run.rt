@@ -25,9 +25,9 @@ fn uncompiled(alloc: Global, fault: SourceFault) -> RunFault
     }
 }
 
-/// Compiles a source and runs it at a base, on an input, for at most `bound` instructions. For a program of the first path what
-/// it answers shows the program's own output, raised conditions and end after just the acts that it reports; for any other one,
-/// what the code that the definitions have for it comes to.
+/// Compiles a source and runs it at a base, on an input, for at most `bound` instructions. What it answers is what the code that the
+/// definitions have for the program comes to. Where the headline is proved for the program, that shows the program's own output,
+/// raised conditions and end after just the acts that it reports.
 ///
 /// # Errors
 ///
