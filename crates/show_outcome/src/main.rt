@@ -1,0 +1,45 @@
+// What a run of a source comes to beyond what `pli run` shows of it: how many acts it made, how it ended, and the conditions that it
+// raised; behind them its output. The words are the source's file and that of the input; without the second one there is no input.
+#![tactic(auto)]
+
+use pli_compile::compile::compile;
+use pli_meaning::outcome::Outcome;
+use pli_run::run::run;
+use std::{env, fs, io};
+
+const BASE: u32 = 65536;
+
+const BOUND: u64 = 1_000_000_000;
+
+fn show(rt: &HostRuntime, outcome: &Outcome) -> io::Result<()> {
+    println!(rt; "acts {}", outcome.acts)?;
+    println!(rt; "end {:?}", outcome.end)?;
+    for (condition, code) in &outcome.raised {
+        println!(rt; "raised {condition:?} {code}")?;
+    }
+    rt.write_all(&outcome.output)
+}
+
+fn show_run(rt: &HostRuntime, source: &[u8], input: &[u8]) -> io::Result<()> {
+    let image = match compile(rt.alloc(), source) {
+        Ok(image) => image,
+        Err(fault) => return println!(rt; "{fault}"),
+    };
+    match run(rt.alloc(), &image, BASE, input, BOUND) {
+        Ok(outcome) => show(rt, &outcome),
+        Err(fault) => println!(rt; "{fault:?}"),
+    }
+}
+
+fn main(rt: HostRuntime) -> io::Result<()> {
+    let words: Vec<String> = env::args(&rt)?.collect(rt.alloc())?;
+    let source = match words.get(1) {
+        Some(name) => fs::read(&rt, name)?,
+        None => Vec::new(rt.alloc()),
+    };
+    let input = match words.get(2) {
+        Some(name) => fs::read(&rt, name)?,
+        None => Vec::new(rt.alloc()),
+    };
+    show_run(&rt, &source, &input)
+}
