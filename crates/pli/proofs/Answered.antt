@@ -93,9 +93,9 @@ answered {image = image} c loadable base input bound r valid fits told =
       tabled = gs.1;
       told = tells;
       meant =
-        λ h.
-        means c.program (c.keeps h) base input bound r valid fits
-        (told (picture_of parts c.program) (table_of c.program) (own_picture c.program image c.coded) (own_table c.program image c.coded h));
+          λ h.
+          means c.program (c.keeps h) base input bound r valid fits
+          (told (picture_of parts c.program) (table_of c.program) (own_picture c.program image c.coded) (own_table c.program image c.coded h));
     })
 
 pub refused : {s : List ℕ} (input : List ℕ) (base bound : ℕ) (fault : SourceFault) (r : RunFault) → IsRefused s fault → IsUncompiledFor fault r → Answers s input base bound (Err r)

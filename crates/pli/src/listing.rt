@@ -201,7 +201,12 @@ fn push_call(text: &mut String, known: Constants) -> Result<(), AllocError> {
 }
 
 // The notes of a place, from one of them on; how many notes are behind then.
-fn push_notes(text: &mut String, notes: &[Note], first: usize, place: usize) -> Result<usize, AllocError> {
+fn push_notes(
+    text: &mut String,
+    notes: &[Note],
+    first: usize,
+    place: usize,
+) -> Result<usize, AllocError> {
     let mut behind = first;
     for note in notes.iter().skip(first) {
         if note.place != place {

@@ -56,12 +56,12 @@ compiled {ts = ts} {tree = tree} {image = image} headline proved small read spel
     record {
       program = made.0;
       source =
-        record {
-          tokens = ts;
-          tree = tree;
-          accepted = record { read = read; spelled = spelled; declares = declares; keeps_types = typed_faultless made.1 };
-          resolved = made.1;
-        };
+          record {
+            tokens = ts;
+            tree = tree;
+            accepted = record { read = read; spelled = spelled; declares = declares; keeps_types = typed_faultless made.1 };
+            resolved = made.1;
+          };
       coded = made.2;
       keeps = λ h. headline made.0 h (fits made.0 image made.2 made.3);
       first_path = λ first. short_of read spelled made.1 proved small first;

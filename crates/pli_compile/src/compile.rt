@@ -49,11 +49,7 @@ fn coded(alloc: Global, typed: &Typed) -> Result<Image, SourceFault>
 }
 
 /// The image of a tree whose declarations break no rule.
-fn tree_coded<'a>(
-    alloc: Global,
-    tree: &'a Tree,
-    scopes: &Scopes<'a>,
-) -> Result<Image, SourceFault>
+fn tree_coded<'a>(alloc: Global, tree: &'a Tree, scopes: &Scopes<'a>) -> Result<Image, SourceFault>
     requires { map block_of scopes.now.blocks.items ≡ blocks_of (tree_of tree.now) }
     ensures { MatchResult result (λ image. IsTreeCoded (tree_of tree.now) image) (λ f. (f ≡ want_of_memory) ⊎ IsMistyped (tree_of tree.now) f) }
 {

@@ -1,22 +1,27 @@
-// What a run of a source comes to beyond what `pli run` shows of it: how many acts it made, how it ended, and the conditions that it
-// raised; behind them its output. The words are the source's file and that of the input; without the second one there is no input.
+// What a run of a source comes to beyond what `pli run` shows of it: how many acts it made, how it ended, the conditions that it
+// raised, and the services that it called; behind them its output. The words are the source's file and that of the input; without the second one there is no input.
 #![tactic(auto)]
+
+mod services;
 
 use pli_compile::compile::compile;
 use pli_meaning::outcome::Outcome;
 use pli_run::run::run;
+use rv_image::image::Image;
+use services::show_services;
 use std::{env, fs, io};
 
 const BASE: u32 = 65536;
 
 const BOUND: u64 = 1_000_000_000;
 
-fn show(rt: &HostRuntime, outcome: &Outcome) -> io::Result<()> {
+fn show(rt: &HostRuntime, image: &Image, input: &[u8], outcome: &Outcome) -> io::Result<()> {
     println!(rt; "acts {}", outcome.acts)?;
     println!(rt; "end {:?}", outcome.end)?;
     for (condition, code) in &outcome.raised {
         println!(rt; "raised {condition:?} {code}")?;
     }
+    show_services(rt, image, input, BOUND)?;
     rt.write_all(&outcome.output)
 }
 
@@ -26,7 +31,7 @@ fn show_run(rt: &HostRuntime, source: &[u8], input: &[u8]) -> io::Result<()> {
         Err(fault) => return println!(rt; "{fault}"),
     };
     match run(rt.alloc(), &image, BASE, input, BOUND) {
-        Ok(outcome) => show(rt, &outcome),
+        Ok(outcome) => show(rt, &image, input, &outcome),
         Err(fault) => println!(rt; "{fault:?}"),
     }
 }
