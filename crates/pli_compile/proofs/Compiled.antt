@@ -1,5 +1,5 @@
 -- What is generated for a source keeps the promise, and what is refused is no program.
-use Rattle.std.proofs.Common.{◌≡◌, ◌≢◌, ◌⊎◌, ℕ, zero, suc, ◌+◌, ◌*◌, ◌^◌, ◌<◌, ◌≤◌, List, [], length, map, Some, inl, inr, refl, sym, ap, ◌∙◌, subst, arith}
+use Rattle.std.proofs.Common.{◌≡◌, ◌≢◌, ◌⊎◌, ℕ, zero, suc, List, [], length, inl, inr, refl, ap, subst, arith}
 use Rattle.std.proofs.lemmas.List.{length-map}
 use Rattle.std.specs.Prelude.{Contains}
 use Rattle.pli_language.specs.declared.fault.SourceFault.{SourceFault}
@@ -16,15 +16,13 @@ use Rattle.pli_language.proofs.UniqueSource.{never_both, spelled_once}
 use Rattle.pli_lex.proofs.Unique.{one_list, not_both}
 use Rattle.pli_typing.specs.Resolving.{typing_faults, typed_tree, IsMistyped, Resolves, resolves}
 use Rattle.pli_typing.specs.TypedTree as Y
-use Rattle.pli_meaning.specs.Headline.{step_cost}
 use Rattle.pli_coding.specs.Images.{image_of, picture_of}
 use Rattle.rv_meaning.specs.Encoding.{word_of}
 use Rattle.rv_meaning.specs.Images as Images
 use Rattle.rv_program.specs.Generated.{IsCodeOf}
-use Rattle.pli_headline.specs.ProvedSoFar.{IsProvedSoFar}
 use Rattle.pli_headline.specs.Headline.{parts, FitsMemory, HeadlineSoFar}
-use Rattle.pli_headline.specs.FirstPath.{weight, FirstPathProved, FirstPathSmall}
-use Rattle.pli_compile.specs.Compiling.{IsAccepted, IsFirstPath, IsImageFor, IsRefused, IsShort, IsTreeCoded, most_step_cost, out_of_memory, no_tokens, no_tree, bad_declarations, bad_types, RefusedNever}
+use Rattle.pli_headline.specs.FirstPath.{FirstPathProved, FirstPathSmall}
+use Rattle.pli_compile.specs.Compiling.{IsFirstPath, IsImageFor, IsRefused, IsShort, IsTreeCoded, out_of_memory, no_tokens, no_tree, bad_declarations, bad_types, RefusedNever}
 use Rattle.pli_compile.proofs.Measures.{tree_weighs, lines_small, tokens_small}
 
 -- ---- images
@@ -34,7 +32,7 @@ fits : (program : Y.Program) (image : Images.Image) → IsCodeOf program image �
 fits program image made loadable =
     let loaded : Images.IsLoadable (image_of parts program) = subst (λ i. Images.IsLoadable i) made.image_is loadable in
     let n = loaded.code_fits in
-    let same = length-map word_of (picture_of parts program).code in
+    let same = length-map (picture_of parts program).code word_of in
     record { code_fits = omega (arith, n, same); statics_fit = loaded.statics_fit }
 
 short : {s : List ℕ} {ts : List Token} {tree : T.Tree} → Tokens s ts → Spells s ts tree → FirstPathProved → FirstPathSmall → IsFirstPath tree → IsShort (typed_tree tree) (length ts)
