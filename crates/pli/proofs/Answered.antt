@@ -1,12 +1,11 @@
 -- What a run of a source's image tells.
-use Rattle.std.proofs.Common.{◌≡◌, ◌≢◌, ◌⊎◌, ℕ, ◌^◌, ◌<◌, List, [], map, Some, Result, Ok, Err, inl, inr, refl, sym, ap, ◌∙◌, subst, arith}
+use Rattle.std.proofs.Common.{◌≡◌, ◌≢◌, ℕ, ◌^◌, ◌<◌, List, Some, Result, Ok, Err, inl, inr, sym, ap, ◌∙◌, subst, arith}
 use Rattle.rv_meaning.specs.Machine.{IsValidBase}
-use Rattle.rv_meaning.specs.Encoding.{word_of}
 use Rattle.rv_meaning.specs.Images as Images
-use Rattle.rv_meaning.specs.Tables.{TableSignature, table_words}
+use Rattle.rv_meaning.specs.Tables.{TableSignature}
 use Rattle.pli_typing.specs.TypedTree as Y
 use Rattle.pli_meaning.specs.Headline.{Picture}
-use Rattle.pli_coding.specs.Images.{image_of, picture_of}
+use Rattle.pli_coding.specs.Images.{picture_of}
 use Rattle.pli_coding.specs.SignatureTable.{table_of}
 use Rattle.image_runs.specs.Runs.{Run, run_of, shown_by}
 use Rattle.pli_meaning.specs.declared.outcome.Outcome.{Outcome}
@@ -20,7 +19,7 @@ use Rattle.pli_headline.specs.ProvedSoFar.{IsProvedSoFar}
 use Rattle.pli_headline.specs.Headline.{parts, Headline, Keeps}
 use Rattle.pli_headline.proofs.PlainTables.{plain_table_fits}
 use Rattle.pli_compile.specs.Compiling.{IsImageFor, IsRefused}
-use Rattle.pli.specs.Answering.{Answers, AnswersMeant, IsUncompiledFor, IsUnstarted, TellsRun}
+use Rattle.pli.specs.Answering.{Answers, AnswersMeant, IsUncompiledFor, TellsRun}
 use Rattle.pli.proofs.Filing.{pictured, tabled}
 
 -- ---- what a program means

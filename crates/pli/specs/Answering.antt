@@ -15,7 +15,7 @@ use Rattle.pli_coding.specs.SignatureTable.{table_of}
 use Rattle.image_runs.specs.Runs.{run_of, shown_by}
 use Rattle.pli_run.specs.Running.{world_of, IsPicture, IsTabled, Tells}
 use Rattle.pli_run.specs.declared.run.RunFault.{RunFault}
-use Rattle.pli_run.specs.declared.run.RunFault.TheVariants.{Memory, BadBase, Source, Machine}
+use Rattle.pli_run.specs.declared.run.RunFault.TheVariants.{Memory, Source}
 use Rattle.pli_headline.specs.ProvedSoFar.{IsProvedSoFar}
 use Rattle.pli_headline.specs.Headline.{parts, Keeps}
 use Rattle.pli_compile.specs.Compiling.{IsImageFor, IsRefused}
