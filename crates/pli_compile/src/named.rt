@@ -7,7 +7,9 @@ ghost use Rattle.pli_declare.specs.ShownBlocks.{block_of};
 
 use crate::compile::OUT_OF_MEMORY;
 use pli_declare::Scopes;
+use pli_declare::scope::Block;
 use pli_declaring::declare;
+use pli_language::expr::Name;
 use pli_language::fault::SourceFault;
 use pli_language::stmt::Tree;
 use pli_lex::tokens;
@@ -31,13 +33,20 @@ pub struct NamedCode {
     pub procedures: Vec<ProcedureName>,
 }
 
+fn first_label<'a>(block: &Block<'a>) -> Option<&'a Name> {
+    match block.head {
+        Some(head) => head.labels.first(),
+        None => None,
+    }
+}
+
 fn procedure_names<'a>(
     alloc: Global,
     scopes: &Scopes<'a>,
 ) -> Result<Vec<ProcedureName>, AllocError> {
     let mut names = Vec::new(alloc);
     for (number, block) in scopes.blocks.iter().enumerate() {
-        if let Some(name) = block.head.and_then(|head| head.labels.first()) {
+        if let Some(name) = first_label(block) {
             names.push(ProcedureName {
                 block: number,
                 letters: Vec::from_slice(alloc, &name.letters)?,
