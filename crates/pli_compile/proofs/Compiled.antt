@@ -1,5 +1,5 @@
 -- What is generated for a source keeps the promise, and what is refused is no program.
-use Rattle.std.proofs.Common.{◌≡◌, ◌≢◌, ◌⊎◌, ℕ, zero, suc, List, [], length, inl, inr, refl, ap, subst, arith}
+use Rattle.std.proofs.Common.{◌≡◌, ◌≢◌, ◌⊎◌, ℕ, zero, suc, ◌≤◌, List, [], length, inl, inr, refl, sym, ap, subst, arith}
 use Rattle.std.proofs.lemmas.List.{length-map}
 use Rattle.std.specs.Prelude.{Contains}
 use Rattle.pli_language.specs.declared.fault.SourceFault.{SourceFault}
@@ -16,13 +16,15 @@ use Rattle.pli_language.proofs.UniqueSource.{never_both, spelled_once}
 use Rattle.pli_lex.proofs.Unique.{one_list, not_both}
 use Rattle.pli_typing.specs.Resolving.{typing_faults, typed_tree, IsMistyped, Resolves, resolves}
 use Rattle.pli_typing.specs.TypedTree as Y
+use Rattle.pli_meaning.specs.Headline.{step_cost}
 use Rattle.pli_coding.specs.Images.{image_of, picture_of}
 use Rattle.rv_meaning.specs.Encoding.{word_of}
 use Rattle.rv_meaning.specs.Images as Images
 use Rattle.rv_program.specs.Generated.{IsCodeOf}
+use Rattle.pli_headline.specs.ProvedSoFar.{IsProvedSoFar}
 use Rattle.pli_headline.specs.Headline.{parts, FitsMemory, HeadlineSoFar}
 use Rattle.pli_headline.specs.FirstPath.{FirstPathProved, FirstPathSmall}
-use Rattle.pli_compile.specs.Compiling.{IsFirstPath, IsImageFor, IsRefused, IsShort, IsTreeCoded, out_of_memory, no_tokens, no_tree, bad_declarations, bad_types, RefusedNever}
+use Rattle.pli_compile.specs.Compiling.{most_words, most_step_cost, FirstPathShort, IsFirstPath, IsImageFor, IsRefused, IsTreeCoded, out_of_memory, no_tokens, no_tree, bad_declarations, bad_types, RefusedNever}
 use Rattle.pli_compile.proofs.Measures.{tree_weighs, lines_small, tokens_small}
 
 -- ---- images
@@ -35,34 +37,45 @@ fits program image made loadable =
     let same = length-map (picture_of parts program).code word_of in
     record { code_fits = omega (arith, n, same); statics_fit = loaded.statics_fit }
 
-short : {s : List ℕ} {ts : List Token} {tree : T.Tree} → Tokens s ts → Spells s ts tree → FirstPathProved → FirstPathSmall → IsFirstPath tree → IsShort (typed_tree tree) (length ts)
-short {tree = tree} read spelled proved small first =
-    let lines = lines_small spelled (tokens_small read) in
-    let words = small tree first.0 first.1 lines in
-    let weighs = tree_weighs spelled (tokens_small read) in
-    record { proved = proved tree first.0 first.1 lines; cheap = omega (arith, words, weighs) }
+-- a step of an image costs as its words do
+costs : (program : Y.Program) (image : Images.Image) (tokens : ℕ) → IsCodeOf program image → length image.code ≤ most_words tokens → step_cost (picture_of parts program) ≤ most_step_cost tokens
+costs program image tokens made short =
+    let words : length (image_of parts program).code ≤ most_words tokens = subst (λ (i : Images.Image). length i.code ≤ most_words tokens) made.image_is short in
+    let same = length-map (picture_of parts program).code word_of in
+    omega (arith, words, same)
 
-short_of : {s : List ℕ} {ts : List Token} {tree : T.Tree} {program : Y.Program} → Tokens s ts → Spells s ts tree → Resolves tree program → FirstPathProved → FirstPathSmall → IsFirstPath tree → IsShort program (length ts)
-short_of read spelled (resolves kept) proved small first = short read spelled proved small first
+proved_of : {s : List ℕ} {ts : List Token} {tree : T.Tree} {program : Y.Program} → Tokens s ts → Spells s ts tree → Resolves tree program → FirstPathProved → IsFirstPath tree → IsProvedSoFar program
+proved_of {tree = tree} read spelled (resolves kept) proved first = proved tree first.0 first.1 (lines_small spelled (tokens_small read))
+
+pub first_path_short : FirstPathSmall → FirstPathShort
+first_path_short small s tokens tree program accepted (resolves kept) first =
+    let lines = lines_small accepted.spelled (tokens_small accepted.read) in
+    let words = small tree first.0 first.1 lines in
+    let weighs = tree_weighs accepted.spelled (tokens_small accepted.read) in
+    omega (arith, words, weighs)
 
 pub typed_faultless : {tree : T.Tree} {program : Y.Program} → Resolves tree program → typing_faults tree ≡ []
 typed_faultless (resolves kept) = kept
 
--- the image of a source's tree
-pub compiled : {s : List ℕ} {ts : List Token} {tree : T.Tree} {image : Images.Image} → HeadlineSoFar → FirstPathProved → FirstPathSmall → Tokens s ts → Spells s ts tree → declaring_faults tree ≡ [] → IsTreeCoded tree image → IsImageFor s image
-compiled {ts = ts} {tree = tree} {image = image} headline proved small read spelled declares made =
+-- the image of a source's tree, where it is short
+pub compiled : {s : List ℕ} {ts : List Token} {tree : T.Tree} {coded image : Images.Image} → HeadlineSoFar → FirstPathProved → Tokens s ts → Spells s ts tree → declaring_faults tree ≡ [] → IsTreeCoded tree coded
+    → (image ≡ coded) × (length image.code ≤ most_words (length ts)) → IsImageFor s image
+compiled {s = s} {ts = ts} {tree = tree} {coded = coded} {image = image} headline proved read spelled declares made short =
+    let code : IsCodeOf made.0 image = subst (λ (i : Images.Image). IsCodeOf made.0 i) (sym short.0) made.2 in
     record {
       program = made.0;
       source =
-          record {
-            tokens = ts;
-            tree = tree;
-            accepted = record { read = read; spelled = spelled; declares = declares; keeps_types = typed_faultless made.1 };
-            resolved = made.1;
-          };
-      coded = made.2;
-      keeps = λ h. headline made.0 h (fits made.0 image made.2 made.3);
-      first_path = λ first. short_of read spelled made.1 proved small first;
+        record {
+          tokens = ts;
+          tree = tree;
+          accepted = record { read = read; spelled = spelled; declares = declares; keeps_types = typed_faultless made.1 };
+          resolved = made.1;
+        };
+      coded = code;
+      short = short.1;
+      cheap = costs made.0 image (length ts) code short.1;
+      keeps = λ h. headline made.0 h (fits made.0 coded made.2 made.3);
+      first_path = λ first. proved_of read spelled made.1 proved first;
     }
 
 -- ---- refusals

@@ -43,23 +43,23 @@ IsTreeCoded tree image = (program : Y.Program) × Resolves tree program × IsCod
 abbrev pub IsFirstPath : T.Tree → Type 0
 IsFirstPath tree = (p : Program) × (typed tree ≡ Some p)
 
--- the step cost of the image of a program of the first path in so many tokens
+-- the most words of code that so many tokens are compiled to, and so the most that an act costs
+abbrev pub most_words : ℕ → ℕ
+most_words tokens = 4000 + 104 * tokens
+
 abbrev pub most_step_cost : ℕ → ℕ
 most_step_cost tokens = 8002 + 208 * tokens
 
--- of programs of the first path the headline is proved, and their code is short
-pub record IsShort (program : Y.Program) (tokens : ℕ) : Type 0 where
-  pub proved : IsProvedSoFar program
-  pub cheap : step_cost (picture_of parts program) ≤ most_step_cost tokens
-
--- the image of a source: just the code that the definitions have for its program. Where the headline is proved for the program, the
--- image keeps it
+-- the image of a source: just the code that the definitions have for its program, which is short. Where the headline is proved for the
+-- program, the image keeps it; and so it is for each program of the first path
 pub record IsImageFor (s : List ℕ) (image : Images.Image) : Type 0 where
   pub program : Y.Program
   pub source : IsProgramOf s program
   pub coded : IsCodeOf program image
+  pub short : length image.code ≤ most_words (length source.tokens)
+  pub cheap : step_cost (picture_of parts program) ≤ most_step_cost (length source.tokens)
   pub keeps : IsProvedSoFar program → Headline program (picture_of parts program) (table_of program)
-  pub first_path : IsFirstPath source.tree → IsShort program (length source.tokens)
+  pub first_path : IsFirstPath source.tree → IsProvedSoFar program
 
 -- ---- refusals
 
@@ -80,3 +80,9 @@ ProcedureFound = (s : List ℕ) (tokens : List Token) (tree : T.Tree) → Spells
 abbrev pub RefusedNever : Type 0
 RefusedNever =
     (s : List ℕ) (f : SourceFault) → IsRefused s f → f ≢ want_of_memory → (tokens : List Token) (tree : T.Tree) → ¬ IsAccepted s tokens tree
+
+-- the law: the code of a program of the first path is as short as its tokens allow, so none is refused for its length
+abbrev pub FirstPathShort : Type 0
+FirstPathShort =
+    (s : List ℕ) (tokens : List Token) (tree : T.Tree) (program : Y.Program) → IsAccepted s tokens tree → Resolves tree program → IsFirstPath tree
+    → length (picture_of parts program).code ≤ most_words (length tokens)

@@ -1,6 +1,6 @@
 // From a source to its image.
 
-ghost use Rattle.std.specs.Prelude.{◌≡◌, ◌⊎◌, map, MatchResult};
+ghost use Rattle.std.specs.Prelude.{◌≡◌, ◌⊎◌, ◌≤◌, ◌↔◌, IsTrue, length, map, MatchResult};
 ghost use Rattle.rv_meaning.specs.Images.{IsLoadable};
 ghost use Rattle.pli_language.specs.Declarations.{blocks_of};
 ghost use Rattle.pli_language.specs.Refusals.{want_of_memory};
@@ -9,11 +9,11 @@ ghost use Rattle.pli_typing.specs.Resolving.{IsMistyped};
 ghost use Rattle.pli_typing.specs.TypedStatementView.{program_of};
 ghost use Rattle.pli_declare.specs.ShownBlocks.{block_of};
 ghost use Rattle.rv_program.specs.Generated.{IsCodeOf};
-ghost use Rattle.pli_compile.specs.Compiling.{IsImageFor, IsRefused, IsTreeCoded};
+ghost use Rattle.pli_compile.specs.Compiling.{most_words, IsImageFor, IsRefused, IsTreeCoded};
 
 use pli_declare::Scopes;
 use pli_declaring::declare;
-use pli_headline::first_path::{first_path_proved, first_path_small};
+use pli_headline::first_path::first_path_proved;
 use pli_headline::laws::headline_so_far;
 use pli_language::fault::{SourceFault, SourceKind};
 use pli_language::stmt::Tree;
@@ -32,10 +32,29 @@ pub(crate) const OUT_OF_MEMORY: SourceFault = SourceFault {
 };
 
 /// That a machine loads each image: calling it does nothing.
-fn is_loadable(image: &Image)
+fn loads(image: &Image)
     ensures { IsLoadable image.now }
 {
     let _ = image.code();
+}
+
+/// Whether an image has no more words of code than so many tokens allow.
+fn is_short(image: &Image, tokens: usize) -> bool
+    ensures { IsTrue result ↔ (length image.now.code ≤ most_words tokens) }
+{
+    let most = tokens.saturating_mul(104).saturating_add(4000);
+    image.code().len() <= most
+}
+
+/// An image that is short for so many tokens. No program is known whose image isn't: that is want of memory.
+fn short(image: Image, tokens: usize) -> Result<Image, SourceFault>
+    ensures { MatchResult result (λ i. (i ≡ image) × (length i.code ≤ most_words tokens)) (λ f. f ≡ want_of_memory) }
+{
+    if is_short(&image, tokens) {
+        Ok(image)
+    } else {
+        Err(OUT_OF_MEMORY)
+    }
 }
 
 /// The image of the code of a typed program.
@@ -55,7 +74,7 @@ fn tree_coded<'a>(alloc: Global, tree: &'a Tree, scopes: &Scopes<'a>) -> Result<
 {
     let typed = resolve(alloc, tree, scopes)?;
     let image = coded(alloc, &typed)?;
-    is_loadable(&image);
+    loads(&image);
     Ok(image)
 }
 
@@ -70,10 +89,10 @@ pub fn compile(alloc: Global, source: &[u8]) -> Result<Image, SourceFault>
 {
     headline_so_far();
     first_path_proved();
-    first_path_small();
     let tokens = tokens(alloc, source)?;
     let tree = parse(alloc, source, &tokens)?;
     let scopes = declare(alloc, &tree)?;
-    let image = tree_coded(alloc, &tree, &scopes)?;
+    let coded = tree_coded(alloc, &tree, &scopes)?;
+    let image = short(coded, tokens.len())?;
     Ok(image)
 }

@@ -1,6 +1,8 @@
 // Laws of refusals and of trees: each function's contract is one law, and calling it does nothing.
 
-ghost use Rattle.pli_compile.specs.Compiling.{ProcedureFound, RefusedNever};
+ghost use Rattle.pli_compile.specs.Compiling.{FirstPathShort, ProcedureFound, RefusedNever};
+
+use pli_headline::first_path::first_path_small;
 
 /// A source that is refused, for anything but want of memory, is none that is accepted.
 pub fn refused_never()
@@ -11,3 +13,10 @@ pub fn refused_never()
 pub fn procedure_found()
     ensures { ProcedureFound }
 {}
+
+/// No program of the first path is refused for the length of its code.
+pub fn first_path_short()
+    ensures { FirstPathShort }
+{
+    first_path_small();
+}

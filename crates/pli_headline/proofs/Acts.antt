@@ -36,9 +36,9 @@ word_is n h = omega (arith, ints)
 pub word_fits : (n : ℕ) → n < 2 ^ 31 → word (pos n) < 2 ^ 32
 word_fits n h = omega (arith, ints)
 
--- an act is made, with its line from then on; it needs credits for its own code alone
-pub act_from : {links : Links} {code : List Instr} {i : ℕ} {g : Ground} {v : Services} {h t : ℕ → ℕ} {s : State} {aims : Aims (Unit {0})} (closed : Closed code aims) (credits : ℕ) (f : Family) (line old k : ℕ) → line < 2 ^ 31 → credits + size_of (act_code line) ≤ cost code → Linked links code i (act_code line) → Serving k s v old → ((b : Base) → At b i (Known g v h t nothing b) (f b)) → ((f' : Family) → Serving k (with_world (counted s.world) s) (acted line v) line → ((b : Base) → At b (i + size_of (act_code line)) (Known g (acted line v) h t nothing b) (f' b)) → aims.done (i + size_of (act_code line)) f' (acted line v) tt (with_world (counted s.world) s)) → Comes code credits f v aims (act counted k s)
-act_from {code = code} {i = i} {g = g} {v = v} {h = h} {t = t} {s = s} closed credits f line old k fits paid l serving at goal =
+-- an act is made, with its line from then on; it needs credits for its own code alone, and leaves any number of them
+pub act_to : {links : Links} {code : List Instr} {i : ℕ} {g : Ground} {v : Services} {h t : ℕ → ℕ} {s : State} {aims : Aims (Unit {0})} (closed : Closed code aims) (credits after : ℕ) (f : Family) (line old k : ℕ) → line < 2 ^ 31 → credits + size_of (act_code line) ≤ cost code → Linked links code i (act_code line) → Serving k s v old → ((b : Base) → At b i (Known g v h t nothing b) (f b)) → ((f' : Family) → Serving k (with_world (counted s.world) s) (acted line v) line → ((b : Base) → At b (i + size_of (act_code line)) (Known g (acted line v) h t nothing b) (f' b)) → aims.done after f' (acted line v) tt (with_world (counted s.world) s)) → Comes code credits f v aims (act counted k s)
+act_to {code = code} {i = i} {g = g} {v = v} {h = h} {t = t} {s = s} closed credits after f line old k fits paid l serving at goal =
     let first = number a0 line in
     let second = small a1 0 ∷ small a7 1 ∷ [] in
     let last = Plain I.Ecall ∷ [] in
@@ -65,7 +65,7 @@ act_from {code = code} {i = i} {g = g} {v = v} {h = h} {t = t} {s = s} closed cr
     let few : credits + size_of first + 2 < cost code = omega (arith, paid, e) in
     let more : v'.world.acts ≡ suc v.world.acts = add-one v.world.acts in
     let pauses = call_pauses (credits + size_of first + 2) f2 v v' (λ b. (f2 b).machine.memory) (λ b. line) (λ b. 0) few serving.running (λ b. (at2 b).holds.body.services) more calling in
-    let r3 = call_acts (credits + size_of first + 2) (i + size_of (act_code line)) f2 v v' (λ b. (f2 b).machine.memory) (λ b. line) (λ b. 0) (λ b. Known g v' h t nothing b) few more calling
+    let r3 = call_acts (credits + size_of first + 2) after f2 v v' (λ b. (f2 b).machine.memory) (λ b. line) (λ b. 0) (λ b. Known g v' h t nothing b) few more calling
     (λ b. let o = (at2 b).holds.body in record { body = record { services = refl; registers = o.registers; bytes = o.bytes; memory = o.memory }; regs = tt }) in
     let n : i + size_of first + 2 + 1 ≡ i + size_of (act_code line) = omega (arith, e) in
     comes_act counted k s serving.world pauses
@@ -84,6 +84,11 @@ act_from {code = code} {i = i} {g = g} {v = v} {h = h} {t = t} {s = s} closed cr
       alone_served = serving.alone_served;
     })
     (λ b. record { pc = (reached_holds r3 b).pc ∙ ap (address b) n; holds = (reached_holds r3 b).holds })))))
+
+-- the same with the credits of the place behind it
+pub act_from : {links : Links} {code : List Instr} {i : ℕ} {g : Ground} {v : Services} {h t : ℕ → ℕ} {s : State} {aims : Aims (Unit {0})} (closed : Closed code aims) (credits : ℕ) (f : Family) (line old k : ℕ) → line < 2 ^ 31 → credits + size_of (act_code line) ≤ cost code → Linked links code i (act_code line) → Serving k s v old → ((b : Base) → At b i (Known g v h t nothing b) (f b)) → ((f' : Family) → Serving k (with_world (counted s.world) s) (acted line v) line → ((b : Base) → At b (i + size_of (act_code line)) (Known g (acted line v) h t nothing b) (f' b)) → aims.done (i + size_of (act_code line)) f' (acted line v) tt (with_world (counted s.world) s)) → Comes code credits f v aims (act counted k s)
+act_from {i = i} closed credits f line old k fits paid l serving at goal =
+    act_to closed credits (i + size_of (act_code line)) f line old k fits paid l serving at goal
 
 -- the same with the place's credits
 pub act_piece : {links : Links} {code : List Instr} {i : ℕ} {g : Ground} {v : Services} {h t : ℕ → ℕ} {s : State} {aims : Aims (Unit {0})} (closed : Closed code aims) (f : Family) (line old k : ℕ) → line < 2 ^ 31 → Linked links code i (act_code line) → Serving k s v old → ((b : Base) → At b i (Known g v h t nothing b) (f b)) → ((f' : Family) → Serving k (with_world (counted s.world) s) (acted line v) line → ((b : Base) → At b (i + size_of (act_code line)) (Known g (acted line v) h t nothing b) (f' b)) → aims.done (i + size_of (act_code line)) f' (acted line v) tt (with_world (counted s.world) s)) → Comes code i f v aims (act counted k s)

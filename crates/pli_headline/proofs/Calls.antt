@@ -10,7 +10,7 @@ use Rattle.pli_meaning.specs.declared.outcome.End.{End}
 use Rattle.pli_meaning.specs.declared.outcome.End.TheVariants as E
 use Rattle.rv_meaning.specs.Machine as M
 use Rattle.pli_meaning.specs.World.{World, ending}
-use Rattle.pli_meaning.specs.StorageState.{State, with_world, force}
+use Rattle.pli_meaning.specs.StorageState.{State, Activation, with_world, force, newest_height, ancestor, height_of}
 use Rattle.pli_meaning.specs.Control as F
 use Rattle.pli_meaning.specs.Control.{Flow, Normal, Paused, act, finish}
 use Rattle.pli_serving.specs.ServiceState as S
@@ -28,6 +28,16 @@ use Rattle.pli_headline.proofs.Reach.{Family, cost, acts_of, ActNext, Pausing, E
 
 -- ---- what stands between the meaning and the services
 
+-- the height of the main procedure's activation
+abbrev pub main_height : ℕ
+main_height = 1
+
+-- the main procedure runs, and no unit is in force
+pub record IsOnlyMain (as' : List Activation) : Type 0 where
+  pub units : (c : Condition) → force as' c ≡ None
+  pub height : newest_height as' ≡ main_height
+  pub outermost : height_of (ancestor as' (newest_height as') 0) ≡ main_height
+
 -- the services show what the meaning shows, the run goes on in one block, and no unit is in force
 pub record Serving (k : ℕ) (s : State) (v : Services) (line : ℕ) : Type 0 where
   pub world : v.world ≡ s.world
@@ -36,7 +46,7 @@ pub record Serving (k : ℕ) (s : State) (v : Services) (line : ℕ) : Type 0 wh
   pub allowed : v.world.acts ≤ k
   pub fits : k + 1 < 2 ^ 64
   pub entered : (a : S.Activation) × (v.activations ≡ a ∷ [])
-  pub alone : (c : Condition) → force s.activations c ≡ None
+  pub alone : IsOnlyMain s.activations
   pub alone_served : (c : Condition) → U.force v.activations c ≡ None
 
 -- ---- the acts of the meaning

@@ -10,7 +10,7 @@ use Rattle.pli_meaning.specs.World.{counted}
 use Rattle.pli_meaning.specs.BasicValues.{BasicValue, BasicNumber}
 use Rattle.pli_meaning.specs.Numbers.{checked}
 use Rattle.pli_meaning.specs.StorageState.{State, with_world}
-use Rattle.pli_meaning.specs.Control.{Meaning, act, give, stuck, choose, flow_on, repeated_while, ◌>>=◌, ◌>>◌}
+use Rattle.pli_meaning.specs.Control.{Label, Meaning, act, give, stuck, choose, flow_on, repeated_while, ◌>>=◌, ◌>>◌}
 use Rattle.pli_meaning.specs.Raising as R
 use Rattle.pli_meaning.specs.Raising.{Around, at_line}
 use Rattle.pli_meaning.specs.Evaluating as V
@@ -44,12 +44,11 @@ use Rattle.pli_headline.proofs.Operators.{valued, sum_piece, sum_zero}
 use Rattle.pli_headline.proofs.Expressions.{number_does}
 use Rattle.pli_headline.proofs.Assignments.{fits_gives}
 use Rattle.pli_headline.proofs.States.{with_number_at, holds_assigned}
-use Rattle.pli_headline.proofs.Statements.{Block, AllHold, counted_holds, Behind, Does}
+use Rattle.pli_headline.proofs.Statements.{Block, AllHold, counted_holds, Behind, Enough, further, Does}
 use Rattle.pli_headline.proofs.Ifs.{setting}
 use Rattle.pli_headline.proofs.Waiting.{kept_piece, read_piece, stays_fewer, stays_kept}
 use Rattle.pli_headline.proofs.Counters.{line_code, on_line, line_piece, stored_piece}
 use Rattle.pli_headline.proofs.Turnings.{counting, LimitWaits, limit_size, condition_size, within_piece, condition_piece}
-use Rattle.pli_headline.proofs.Groups.{listed}
 use Rattle.pli_headline.proofs.Loops.{back_piece}
 use Rattle.pli_headline.proofs.Since.{since_closed, comes_since}
 use Rattle.pli_headline.proofs.Reach.{Family, cost, Aims, Comes, Closed, before_closed, comes_on, onward, reached, reached_holds}
@@ -61,6 +60,7 @@ turning bl =
       ground = bl.ground;
       words = bl.words;
       taken = in_turns bl.taken;
+      labels = bl.labels;
       words_are = bl.words_are;
       same = bl.same;
       temps = bl.temps;
@@ -68,6 +68,23 @@ turning bl =
       places = bl.places;
       reads = bl.reads;
       writes = bl.writes;
+    }
+
+-- a jump out of it leaves fewer words that wait
+turning_enough : {e : Environment} {block count : ℕ} (bl : Block e block count) {links : Links} {k turns i : ℕ} {h t : ℕ → ℕ} {acts : ℕ} {jumped : ℕ → Family → Services → ℕ → Label → State → Type 0} → Enough bl links k turns i h t acts jumped → Enough (turning bl) links k turns i h t acts jumped
+turning_enough bl more =
+    record {
+      enough = more.enough;
+      later = more.later;
+      jumps = λ label among once.
+          let o = more.jumps label among once in
+          record {
+            at = o.at;
+            place = o.place;
+            near = o.near;
+            later = o.later;
+            lands = λ s v line n h' t' f serving all stays acted' at'. o.lands s v line n h' t' f serving all (stays_fewer 2 stays) acted' at';
+          };
     }
 
 -- ---- the next value
@@ -148,7 +165,7 @@ limit_stays (Some x) None t t' j e waits = absurd waits
 limit_stays (Some x) (Some m) t t' j e waits = (waits.0, e ∙ waits.1)
 
 -- from the act of a turn on, with credits enough for it
-head_piece : {e : Environment} {block count : ℕ} (bl : Block e block count) {links : Links} {code : List Instr} (routines : Routines links code) (around : Around) (j : ℕ) (limit : Option Y.Number) (most : Option ℤ) (step : ℤ) (condition : Option Y.Bit) (line : ℕ) (c : Code) (part : Meaning (Unit {0})) → j < count → IsWide step → IsProvedBitIf block count condition → bl.taken.words + 3 ≤ bl.words → bl.taken.words + 2 + bit_if condition ≤ bl.words → line < 2 ^ 31 → Does (turning bl) links code around.turns c part → (turns : ℕ) {i : ℕ} {s : State} {v : Services} {h t : ℕ → ℕ} {aims : Aims (Unit {0})} (closed : Closed code aims) (credits old : ℕ) (n : ℕ → ℤ) (f : Family) (k : ℕ) → k < turns + v.world.acts → credits + size_of (act_code line) ≤ cost code → Linked links code i (turns_of bl j limit condition line c) → LimitWaits limit most t bl.taken.words → t (bl.taken.words + 1) ≡ word step → Serving k s v old → AllHold s block count n → ((b : Base) → At b (i + size_of (word_stored (outermost e) (in_turns bl.taken) (whole (own block j)))) (Known (bl.ground n) v h t nothing b) (f b)) → Behind bl k h t (i + size_of (turns_of bl j limit condition line c)) aims → k < around.turns → Comes code credits f v aims (repeated_while turns (M.turn_due (at_line around line) (counting block j) most step condition) (part >> (M.stepped (at_line around line) (counting block j) step)) k s)
+head_piece : {e : Environment} {block count : ℕ} (bl : Block e block count) {links : Links} {code : List Instr} (routines : Routines links code) (around : Around) (j : ℕ) (limit : Option Y.Number) (most : Option ℤ) (step : ℤ) (condition : Option Y.Bit) (line : ℕ) (c : Code) (part : Meaning (Unit {0})) → j < count → IsWide step → IsProvedBitIf block count condition → bl.taken.words + 3 ≤ bl.words → bl.taken.words + 2 + bit_if condition ≤ bl.words → line < 2 ^ 31 → Does (turning bl) links code around.turns c part → (turns : ℕ) {i : ℕ} {s : State} {v : Services} {h t : ℕ → ℕ} {aims : Aims (Unit {0})} (closed : Closed code aims) (credits old : ℕ) (n : ℕ → ℤ) (f : Family) (k : ℕ) → k < turns + v.world.acts → credits + size_of (act_code line) ≤ cost code → Linked links code i (turns_of bl j limit condition line c) → LimitWaits limit most t bl.taken.words → t (bl.taken.words + 1) ≡ word step → Serving k s v old → AllHold s block count n → ((b : Base) → At b (i + size_of (word_stored (outermost e) (in_turns bl.taken) (whole (own block j)))) (Known (bl.ground n) v h t nothing b) (f b)) → Behind bl k h t (i + size_of (turns_of bl j limit condition line c)) aims → Enough bl links k around.turns i h t v.world.acts aims.jumped → Comes code credits f v aims (repeated_while turns (M.turn_due (at_line around line) (counting block j) most step condition) (part >> (M.stepped (at_line around line) (counting block j) step)) k s)
 unfolding repeated_while M.turn_due ◌>>=◌ ◌>>◌ give stuck choose
 head_piece bl routines around j limit most step condition line c part below ws is room room' fits inner zero closed credits old n f k enough paid l waits at_step serving all at goal more =
     absurd (let a = serving.allowed in omega (arith, a, enough))
@@ -225,7 +242,9 @@ head_piece {e} {block} {count} bl {links} {code} routines around j limit most st
                 (limit_stays limit most t t7 w (stays07.words w (omega arith)) waits) (stays07.words (w + 1) (omega arith) ∙ at_step)
                 (record { world = serving5.world; running = serving5.running; line_is = serving5.line_is; allowed = serving5.allowed; fits = serving5.fits; entered = serving5.entered; alone = serving5.alone; alone_served = serving5.alone_served })
                 (λ j' b'. holds_assigned count n4 z wz (all4 j below) all4 j' b') at7
-                (λ s8 v8 line8 n8 h8 t8 f8 serving8 all8 stays8 at8. goal s8 v8 line8 n8 h8 t8 f8 serving8 all8 (stays_then (stays_fewer 2 stays07) stays8) at8) more)))) more)))),
+                (λ s8 v8 line8 n8 h8 t8 f8 serving8 all8 stays8 at8. goal s8 v8 line8 n8 h8 t8 f8 serving8 all8 (stays_then (stays_fewer 2 stays07) stays8) at8)
+                (further more (omega arith) (omega (arith, grown)) (stays_fewer 2 stays07))))))
+                (turning_enough bl (further more (omega arith) (omega arith) (stays_fewer 2 (stays_then stays2 stays3)))))))),
             (λ f3 h3 t3 stays3 at3.
                 record {
                   to =
@@ -290,8 +309,8 @@ abbrev count_rest : Around → (line : ℕ) → Y.Counter → Option Y.Number �
 count_rest around line counter limit step condition part value =
     (M.limit_of (at_line around line) limit) >>= (λ most. (V.number (at_line around line) step) >>= (λ by. (M.counter_started (at_line around line) counter value) >>= (λ first. (M.assigned (at_line around line) (M.reference_of counter) first) >> (repeated_while around.turns (M.turn_due (at_line around line) counter most by condition) (part >> (M.stepped (at_line around line) counter by))))))
 
-pub count_does : {e : Environment} {block count : ℕ} (bl : Block e block count) (links : Links) (code : List Instr) (routines : Routines links code) (around : Around) (j p : ℕ) (x : Y.Number) (limit : Option Y.Number) (step : Y.Number) (condition : Option Y.Bit) (body : Y.Stmts) (line : ℕ) → j < count → IsProvedNumber block count x → IsProvedNumberIf block count limit → IsProvedNumber block count step → IsProvedBitIf block count condition → bl.taken.words + 3 + number_words x ≤ bl.words → bl.taken.words + 3 + number_if limit ≤ bl.words → bl.taken.words + 3 + number_words step ≤ bl.words → bl.taken.words + 2 + bit_if condition ≤ bl.words → line < 2 ^ 31 → Does (turning bl) links code around.turns (stmts_code (outermost e) (in_turns bl.taken) body) (M.statements around body None) → Does bl links code around.turns (stmt_code (outermost e) bl.taken (Y.DoCount (counting block j) (Y.NumberValue p x) limit step condition body line)) (M.statement around (Y.DoCount (counting block j) (Y.NumberValue p x) limit step condition body line))
-unfolding M.statement V.computational M.counter_started M.counter_value R.or_error ◌>>=◌ ◌>>◌ give
+pub count_does : {e : Environment} {block count : ℕ} (bl : Block e block count) (links : Links) (code : List Instr) (routines : Routines links code) (around : Around) (j p : ℕ) (x : Y.Number) (limit : Option Y.Number) (step : Y.Number) (condition : Option Y.Bit) (body : Y.Stmts) (line : ℕ) → j < count → IsProvedNumber block count x → IsProvedNumberIf block count limit → IsProvedNumber block count step → IsProvedBitIf block count condition → bl.taken.words + 3 + number_words x ≤ bl.words → bl.taken.words + 3 + number_if limit ≤ bl.words → bl.taken.words + 3 + number_words step ≤ bl.words → bl.taken.words + 2 + bit_if condition ≤ bl.words → line < 2 ^ 31 → Does (turning bl) links code around.turns (stmts_code (outermost e) (in_turns bl.taken) body) (M.list around body) → Does bl links code around.turns (stmt_code (outermost e) bl.taken (Y.DoCount (counting block j) (Y.NumberValue p x) limit step condition body line)) (M.statement around (Y.DoCount (counting block j) (Y.NumberValue p x) limit step condition body line))
+unfolding M.statement M.list V.computational M.counter_started M.counter_value R.or_error ◌>>=◌ ◌>>◌ give
 count_does {e} {block} {count} bl links code routines around j p x limit step condition body line below isx isl iss isc roomx rooml rooms roomc fits inner =
     record {
       does = λ {i} {s} {v} {h} {t} {aims} closed old n f k l serving all at goal more.
@@ -369,16 +388,17 @@ count_does {e} {block} {count} bl links code routines around j p x limit step co
                 (comes_on k (M.assigned here target (BasicNumber z0) k s') goes
                 (stored_piece bl n (before_closed k goes closed) i4 f5 here (in_turns bl.taken) j z0 k below wz0 (λ none. omega (arith, roomx)) all1 lst at5
                 (λ f6 h6 t6 stays6 at6.
-                head_piece bl routines around j limit most by condition line c part below wby isc (omega (arith, roomx)) roomc fits (listed {bl = turning bl} around (M.labels_in body) (M.statements around body) inner) around.turns closed (i4 + size_of st) line (with_number_at n j z0) f6 k (omega (arith, more)) (omega (arith, inside, s6, s7)) lt
+                let before2 = stays_then (stays_fewer 3 stays2) (stays_kept bl.taken h2 t2 (w + 2) (word z0) (omega arith)) in
+                let before4 = stays_then (stays_fewer 3 stays4) (stays_kept bl.taken h4 t4 (w + 1) (word by) (omega arith)) in
+                let before6 = stays_then before2 (stays_then stays3 (stays_then before4 (stays_fewer 2 stays6))) in
+                head_piece bl routines around j limit most by condition line c part below wby isc (omega (arith, roomx)) roomc fits inner around.turns closed (i4 + size_of st) line (with_number_at n j z0) f6 k (let q = more.enough in omega (arith, q)) (omega (arith, inside, s6, s7)) lt
                 (limit_stays limit most t3 t6 w (stays6.words w (omega arith) ∙ put_other t4 (w + 1) (word by) w (omega arith) ∙ stays4.words w (omega arith)) waits)
                 (stays6.words (w + 1) (omega arith) ∙ put_same t4 (w + 1) (word by))
                 (record { world = serving1.world; running = serving1.running; line_is = serving1.line_is; allowed = serving1.allowed; fits = serving1.fits; entered = serving1.entered; alone = serving1.alone; alone_served = serving1.alone_served })
                 (λ j' b'. holds_assigned count n z0 wz0 (all1 j below) all1 j' b') at6
                 (λ s7' v7 line7 n7 h7 t7 f7 serving7 all7 stays7 at7.
-                let before2 = stays_then (stays_fewer 3 stays2) (stays_kept bl.taken h2 t2 (w + 2) (word z0) (omega arith)) in
-                let before4 = stays_then (stays_fewer 3 stays4) (stays_kept bl.taken h4 t4 (w + 1) (word by) (omega arith)) in
-                let before6 = stays_then before2 (stays_then stays3 (stays_then before4 (stays_fewer 2 stays6))) in
                 subst (λ q. aims.done q f7 v7 tt s7') (sym place)
-                (goal s7' v7 line7 n7 h7 t7 f7 serving7 all7 (stays_then before6 stays7) (λ b. record { pc = (at7 b).pc ∙ ap (address b) place; holds = (at7 b).holds }))) more))))))));
+                (goal s7' v7 line7 n7 h7 t7 f7 serving7 all7 (stays_then before6 stays7) (λ b. record { pc = (at7 b).pc ∙ ap (address b) place; holds = (at7 b).holds })))
+                (further more (omega arith) (omega arith) before6)))))))));
           })))));
     }

@@ -11,7 +11,7 @@ use Rattle.pli_headline.proofs.DataNamed.{IsNamed}
 
 -- ---- equal data
 
-same_bytes-equal : (a b : List ℕ) → same_bytes a b ≡ true → a ≡ b
+pub same_bytes-equal : (a b : List ℕ) → same_bytes a b ≡ true → a ≡ b
 same_bytes-equal [] [] h = refl
 same_bytes-equal [] (y ∷ ys) h = absurd (cc h)
 same_bytes-equal (x ∷ xs) [] h = absurd (cc h)
@@ -19,7 +19,7 @@ same_bytes-equal (x ∷ xs) (y ∷ ys) h =
     let parts = and_parts (x == y) (same_bytes xs ys) h in
     λ k. eqb-true x y parts.0 k ∷ same_bytes-equal xs ys parts.1 k
 
-same_bytes-same : (a : List ℕ) → same_bytes a a ≡ true
+pub same_bytes-same : (a : List ℕ) → same_bytes a a ≡ true
 same_bytes-same [] = refl
 same_bytes-same (x ∷ xs) = and_from _ _ (eq-eqb x x refl) (same_bytes-same xs)
 

@@ -1,7 +1,8 @@
 -- The forms of the first path's programs are among those for which the headline is proved.
 use Rattle.std.proofs.Common.{ℕ, List, [], ◌∷◌, None}
 use Rattle.pli_typing.specs.TypedTree as Y
-use Rattle.pli_headline.specs.ProvedSoFar.{IsProvedNumber, IsProvedItem, AreProvedItems, AreProvedPairs, IsProvedStatement, AreProvedStatements, IsProvedSoFar}
+use Rattle.pli_meaning.specs.Control.{Label}
+use Rattle.pli_headline.specs.ProvedSoFar.{IsProvedNumber, IsProvedItem, AreProvedItems, AreProvedPairs, IsProvedStatement, AreProvedStatements, JumpsAround, AllJumpAround, IsProvedSoFar}
 use Rattle.pli_headline.specs.FirstForms.{IsFirstNumber, IsFirstItem, AreFirstItems, AreFirstPairs, IsFirstStatement, AreFirstStatements, IsFirstProgram}
 
 number_wider : (block count : ℕ) (x : Y.Number) → IsFirstNumber block count x → IsProvedNumber block count x
@@ -33,6 +34,18 @@ pub statements_wider : (block count : ℕ) (body : Y.Stmts) → AreFirstStatemen
 statements_wider block count (Y.EndOfList labels) h = tt
 statements_wider block count (Y.StmtThen labels first rest) h = (statement_wider block count first h.0, statements_wider block count rest h.1)
 
+-- none of them jumps
+statement_stays : (block count : ℕ) (all around : List Label) (x : Y.Stmt) → IsFirstStatement block count x → JumpsAround all around x
+statement_stays block count all around (Y.Null line) h = tt
+statement_stays block count all around (Y.Assign target (Y.StoredNumber precision x) line) h = tt
+statement_stays block count all around (Y.Put None pairs line) h = tt
+statement_stays block count all around _ h = absurd h
+
+pub statements_stay : (block count : ℕ) (all around : List Label) (body : Y.Stmts) → AreFirstStatements block count body → AllJumpAround all around body
+statements_stay block count all around (Y.EndOfList labels) h = tt
+statements_stay block count all around (Y.StmtThen labels first rest) h =
+    (statement_stays block count all around first h.0, statements_stay block count all around rest h.1)
+
 abbrev pub program_wider : (program : Y.Program) → IsFirstProgram program → IsProvedSoFar program
 program_wider program is =
     record {
@@ -40,5 +53,11 @@ program_wider program is =
       body = is.body;
       alone = is.alone;
       plain = is.plain;
-      block = record { kind = is.block.kind; level = is.block.level; line = is.block.line; statements = statements_wider _ _ is.body is.block.statements };
+      block = record {
+        kind = is.block.kind;
+        level = is.block.level;
+        line = is.block.line;
+        statements = statements_wider _ _ is.body is.block.statements;
+        jumps = statements_stay _ _ _ _ is.body is.block.statements;
+      };
     }

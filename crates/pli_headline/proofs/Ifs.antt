@@ -34,7 +34,7 @@ use Rattle.pli_headline.proofs.Acts.{acted, act_piece}
 use Rattle.pli_headline.proofs.Variables.{outermost}
 use Rattle.pli_headline.proofs.Operators.{valued}
 use Rattle.pli_headline.proofs.Expressions.{Setting, bit_does}
-use Rattle.pli_headline.proofs.Statements.{Block, AllHold, scope_of, counted_holds, Does}
+use Rattle.pli_headline.proofs.Statements.{Block, AllHold, further, scope_of, counted_holds, Does}
 use Rattle.pli_headline.proofs.Reach.{Family, Aims, Comes, Closed, before_closed, comes_on, onward, reached, reached_holds}
 
 -- ---- what a test chooses
@@ -110,7 +110,7 @@ tested_does {e} {block} {count} bl links code turns routines around condition li
           inner.does closed line n f3 k l3 serving1 all1 at3
           (λ s4 v4 line4 n4 h4 t4 f4 serving4 all4 stays4 at4.
           subst (λ u. aims.done u f4 v4 tt s4) (sym place')
-          (goal s4 v4 line4 n4 h4 t4 f4 serving4 all4 (stays_then stays stays4) (λ b. record { pc = (at4 b).pc ∙ ap (address b) place'; holds = (at4 b).holds }))) more)
+          (goal s4 v4 line4 n4 h4 t4 f4 serving4 all4 (stays_then stays stays4) (λ b. record { pc = (at4 b).pc ∙ ap (address b) place'; holds = (at4 b).holds }))) (further more (omega arith) (omega arith) stays))
           (λ f3 at3.
           record {
             to =
@@ -168,10 +168,10 @@ if_else_does {e} {block} {count} bl links code routines around condition unit ot
           let r = ahead_piece (j + 3 + size_of c) f4 (size_of d) (omega (arith, inside, place')) free_far (back_of c over l3) at4 in
           closed.done r tt s4
           (subst (λ u. aims.done u (reached r) v4 tt s4) (sym place')
-          (goal s4 v4 line4 n4 h4 t4 (reached r) serving4 all4 (stays_then stays stays4) (λ b. record { pc = (reached_holds r b).pc ∙ ap (address b) place'; holds = (reached_holds r b).holds })))) more)
+          (goal s4 v4 line4 n4 h4 t4 (reached r) serving4 all4 (stays_then stays stays4) (λ b. record { pc = (reached_holds r b).pc ∙ ap (address b) place'; holds = (reached_holds r b).holds })))) (further more (omega arith) (omega arith) stays))
           (λ f3 at3.
           second.does closed line n f3 k ld serving1 all1 at3
           (λ s4 v4 line4 n4 h4 t4 f4 serving4 all4 stays4 at4.
           subst (λ u. aims.done u f4 v4 tt s4) (sym place)
-          (goal s4 v4 line4 n4 h4 t4 f4 serving4 all4 (stays_then stays stays4) (λ b. record { pc = (at4 b).pc ∙ ap (address b) place; holds = (at4 b).holds }))) more)))));
+          (goal s4 v4 line4 n4 h4 t4 f4 serving4 all4 (stays_then stays stays4) (λ b. record { pc = (at4 b).pc ∙ ap (address b) place; holds = (at4 b).holds }))) (further more (omega arith) (omega arith) stays))))));
     }

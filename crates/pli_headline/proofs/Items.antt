@@ -12,7 +12,7 @@ use Rattle.pli_coding.specs.Assembly.{Item, Plain, BaseIn, OffsetOf, OffsetAhead
 use Rattle.pli_coding.specs.Linking.{Links, upper_part, lower_part, distance, place_of, item_code}
 use Rattle.image_runs.specs.Runs.{Whole, Runs, run_on}
 use Rattle.pli_headline.proofs.Engine.{Base, at_base, HasAt, address, most_code, Steps, Passed, passes, run_on-add}
-use Rattle.pli_headline.proofs.Linking.{HasItems}
+use Rattle.pli_headline.proofs.Linking.{HasItems, item_has}
 use Rattle.pli_headline.proofs.Reach.{Family, Reach, cost}
 
 -- ---- numbers in two parts
@@ -108,7 +108,7 @@ unfolding run_on
 items_walked links code b i [] w Q h here has s =
     record { after = w; ran = refl; here = here ∙ ap (address b) (omega arith); holds = s }
 items_walked links code b i (x ∷ xs) w Q h here has s =
-    let one = item_walked links code b i x w (λ w'. Items links code b (i + item_size x) xs w' Q) (omega (arith, h)) here has.0 s in
+    let one = item_walked links code b i x w (λ w'. Items links code b (i + item_size x) xs w' Q) (omega (arith, h)) here (item_has links code i x has.0) s in
     let rest = items_walked links code b (i + item_size x) xs one.after Q (omega (arith, h)) one.here has.1 one.holds in
     record {
       after = rest.after;

@@ -33,6 +33,8 @@ pub mod Expressions
 pub mod Acts
 pub mod Assignments
 pub mod States
+pub mod Since
+pub mod MainFlow
 pub mod Statements
 pub mod MainGround
 pub mod DataNamed
@@ -41,14 +43,15 @@ pub mod EditItems
 pub mod EditPieces
 pub mod Putting
 pub mod StandingFormats
-pub mod MainFlow
-pub mod Since
 pub mod Waiting
 pub mod Ifs
 pub mod Limits
 pub mod Counters
 pub mod Turnings
 pub mod Counts
+pub mod DataOnce
+pub mod Catching
+pub mod Gotos
 pub mod Groups
 pub mod Loops
 pub mod Stops
@@ -57,7 +60,6 @@ pub mod Signals
 pub mod Onces
 pub mod ProvedStatements
 pub mod Finishing
-pub mod DataOnce
 pub mod Statics
 pub mod Sizes
 pub mod WrittenBytes
@@ -74,6 +76,9 @@ pub mod VariablesMade
 pub mod Leaving
 pub mod Entering
 pub mod MainRuns
+pub mod SymbolsMarked
+pub mod StatementMarks
+pub mod LabelMarks
 pub mod Whole
 mod Rows
 pub mod FirstPathTrees

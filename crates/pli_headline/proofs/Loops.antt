@@ -1,5 +1,5 @@
 -- DO WHILE. Each turn begins with an act, which gives credits anew; so the turns that the meaning allows are enough for the acts.
-use Rattle.std.proofs.Common.{◌≡◌, ℕ, zero, suc, ◌+◌, ◌*◌, ◌^◌, ◌<◌, ◌≤◌, List, [], ◌∷◌, ◌++◌, Bool, None, refl, sym, ap, ◌∙◌, subst, arith}
+use Rattle.std.proofs.Common.{◌≡◌, ℕ, zero, suc, ◌+◌, ◌*◌, ◌^◌, ◌<◌, ◌≤◌, List, [], ◌∷◌, ◌++◌, Bool, refl, sym, ap, ◌∙◌, subst, arith}
 use Rattle.std.specs.Prelude.{ℤ, pos, ◌-ℤ◌}
 use Rattle.std.proofs.lemmas.Int.{ints}
 use Rattle.rv_meaning.specs.declared.instr.Instr.{Instr}
@@ -26,15 +26,14 @@ use Rattle.pli_headline.proofs.Linking.{size_append}
 use Rattle.pli_headline.proofs.Items.{Linked, At}
 use Rattle.pli_headline.proofs.Bodies.{Ground, Known, Free, lose_known}
 use Rattle.pli_headline.proofs.Jumps.{front_of, back_of, linked_at, jumped}
-use Rattle.pli_headline.proofs.Temporaries.{nothing, stays_then}
+use Rattle.pli_headline.proofs.Temporaries.{nothing, stays_same, stays_then}
 use Rattle.pli_headline.proofs.Calls.{Serving}
 use Rattle.pli_headline.proofs.Raising.{Routines}
 use Rattle.pli_headline.proofs.Acts.{acted, act_piece, act_from}
 use Rattle.pli_headline.proofs.Variables.{outermost}
 use Rattle.pli_headline.proofs.Expressions.{bit_does}
-use Rattle.pli_headline.proofs.Statements.{Block, AllHold, counted_holds, Behind, Does}
+use Rattle.pli_headline.proofs.Statements.{Block, AllHold, counted_holds, Behind, Enough, further, Does}
 use Rattle.pli_headline.proofs.Ifs.{met_size, free_far, chosen_piece, setting}
-use Rattle.pli_headline.proofs.Groups.{listed}
 use Rattle.pli_headline.proofs.Since.{since_closed, comes_since}
 use Rattle.pli_headline.proofs.Reach.{Family, Reach, cost, Aims, Comes, Closed, before_closed, comes_on, onward}
 
@@ -66,7 +65,7 @@ abbrev pub test_code : Environment → Taken → (line : ℕ) → Y.Bit → Code
 test_code e taken line condition = act_code line ++ bit_code e taken condition
 
 -- from the beginning of a turn, with credits enough for its act
-turns_piece : {e : Environment} {block count : ℕ} (bl : Block e block count) {links : Links} {code : List Instr} (routines : Routines links code) (around : Around) (condition : Y.Bit) (body : Code) (line : ℕ) (part : Meaning (Unit {0})) → IsProvedBit block count condition → bl.taken.words + bit_words condition ≤ bl.words → line < 2 ^ 31 → Does bl links code around.turns body part → (turns : ℕ) {i : ℕ} {s : State} {v : Services} {h t : ℕ → ℕ} {aims : Aims (Unit {0})} (closed : Closed code aims) (credits old : ℕ) (n : ℕ → ℤ) (f : Family) (k : ℕ) → k < turns + v.world.acts → credits + size_of (act_code line) ≤ cost code → Linked links code i (while_met (test_code (outermost e) bl.taken line condition) body) → Serving k s v old → AllHold s block count n → ((b : Base) → At b i (Known (bl.ground n) v h t nothing b) (f b)) → Behind bl k h t (i + size_of (while_met (test_code (outermost e) bl.taken line condition) body)) aims → k < around.turns → Comes code credits f v aims (repeated_while turns (M.met_after_act (at_line around line) condition) part k s)
+turns_piece : {e : Environment} {block count : ℕ} (bl : Block e block count) {links : Links} {code : List Instr} (routines : Routines links code) (around : Around) (condition : Y.Bit) (body : Code) (line : ℕ) (part : Meaning (Unit {0})) → IsProvedBit block count condition → bl.taken.words + bit_words condition ≤ bl.words → line < 2 ^ 31 → Does bl links code around.turns body part → (turns : ℕ) {i : ℕ} {s : State} {v : Services} {h t : ℕ → ℕ} {aims : Aims (Unit {0})} (closed : Closed code aims) (credits old : ℕ) (n : ℕ → ℤ) (f : Family) (k : ℕ) → k < turns + v.world.acts → credits + size_of (act_code line) ≤ cost code → Linked links code i (while_met (test_code (outermost e) bl.taken line condition) body) → Serving k s v old → AllHold s block count n → ((b : Base) → At b i (Known (bl.ground n) v h t nothing b) (f b)) → Behind bl k h t (i + size_of (while_met (test_code (outermost e) bl.taken line condition) body)) aims → Enough bl links k around.turns i h t v.world.acts aims.jumped → Comes code credits f v aims (repeated_while turns (M.met_after_act (at_line around line) condition) part k s)
 unfolding repeated_while M.met_after_act ◌>>=◌ ◌>>◌ give stuck
 turns_piece bl routines around condition body line part is room fits inner zero closed credits old n f k enough paid l serving all at goal more =
     absurd (let a = serving.allowed in omega (arith, a, enough))
@@ -112,7 +111,8 @@ turns_piece {e} {block} {count} bl {links} {code} routines around condition body
     let p = j + 3 + size_of body in
     onward closed (back_piece p f4 (size_of test + (3 + size_of body)) i (omega (arith, e4)) free_far (back_of body jump l3) at4)
     (λ f5 at5.
-    turns_piece bl routines around condition body line part is room fits inner turns closed (p + 2) line4 n4 f5 k (omega (arith, enough, grown)) (omega (arith, inside, e1, e2, e3, e4)) l serving4 all4 at5 (λ s5 v5 line5 n5 h5 t5 f6 serving5 all5 stays5 at6. goal s5 v5 line5 n5 h5 t5 f6 serving5 all5 (stays_then stays (stays_then stays4 stays5)) at6) more)) more)))
+    turns_piece bl routines around condition body line part is room fits inner turns closed (p + 2) line4 n4 f5 k (omega (arith, enough, grown)) (omega (arith, inside, e1, e2, e3, e4)) l serving4 all4 at5 (λ s5 v5 line5 n5 h5 t5 f6 serving5 all5 stays5 at6. goal s5 v5 line5 n5 h5 t5 f6 serving5 all5 (stays_then stays (stays_then stays4 stays5)) at6)
+    (further more (omega arith) (omega (arith, grown)) (stays_then stays stays4)))) (further more (omega arith) (omega arith) stays))))
     (λ f3 at3.
     record {
       to =
@@ -120,8 +120,8 @@ turns_piece {e} {block} {count} bl {links} {code} routines around condition body
           (goal s1 (acted line v) line n h2 t2 f3 serving1 all1 stays (λ b. record { pc = (at3 b).pc ∙ ap (address b) place; holds = (at3 b).holds }));
     })))))
 
-pub while_does : {e : Environment} {block count : ℕ} (bl : Block e block count) (links : Links) (code : List Instr) (routines : Routines links code) (around : Around) (condition : Y.Bit) (body : Y.Stmts) (line : ℕ) → IsProvedBit block count condition → bl.taken.words + bit_words condition ≤ bl.words → line < 2 ^ 31 → Does bl links code around.turns (stmts_code (outermost e) bl.taken body) (M.statements around body None) → Does bl links code around.turns (stmt_code (outermost e) bl.taken (Y.DoWhile condition body line)) (M.statement around (Y.DoWhile condition body line))
-unfolding M.statement ◌>>◌
+pub while_does : {e : Environment} {block count : ℕ} (bl : Block e block count) (links : Links) (code : List Instr) (routines : Routines links code) (around : Around) (condition : Y.Bit) (body : Y.Stmts) (line : ℕ) → IsProvedBit block count condition → bl.taken.words + bit_words condition ≤ bl.words → line < 2 ^ 31 → Does bl links code around.turns (stmts_code (outermost e) bl.taken body) (M.list around body) → Does bl links code around.turns (stmt_code (outermost e) bl.taken (Y.DoWhile condition body line)) (M.statement around (Y.DoWhile condition body line))
+unfolding M.statement M.list ◌>>◌
 while_does {e} {block} {count} bl links code routines around condition body line is room fits inner =
     record {
       does = λ {i} {s} {v} {h} {t} {aims} closed old n f k l serving all at goal more.
@@ -136,8 +136,8 @@ while_does {e} {block} {count} bl links code routines around condition body line
           comes_on k (act counted k s) next'
           (act_piece (before_closed k next' closed) f line old k fits (front_of a loop l) serving at
           (λ f1 serving1 at1.
-          turns_piece bl routines around condition c line part is room fits (listed around (M.labels_in body) (M.statements around body) inner) around.turns closed (i + size_of a) line n f1 k (omega (arith, more)) (omega (arith, inside, size)) (back_of a loop l) serving1 (λ j below. counted_holds _ (all j below)) at1
+          turns_piece bl routines around condition c line part is room fits inner around.turns closed (i + size_of a) line n f1 k (let u = more.enough in omega (arith, u)) (omega (arith, inside, size)) (back_of a loop l) serving1 (λ j below. counted_holds _ (all j below)) at1
           (λ s4 v4 line4 n4 h4 t4 f4 serving4 all4 stays4 at4.
           subst (λ u. aims.done u f4 v4 tt s4) (sym place)
-          (goal s4 v4 line4 n4 h4 t4 f4 serving4 all4 stays4 (λ b. record { pc = (at4 b).pc ∙ ap (address b) place; holds = (at4 b).holds }))) more));
+          (goal s4 v4 line4 n4 h4 t4 f4 serving4 all4 stays4 (λ b. record { pc = (at4 b).pc ∙ ap (address b) place; holds = (at4 b).holds }))) (further more (omega arith) (omega arith) (stays_same bl.taken h t))));
     }

@@ -1,28 +1,33 @@
--- Flows of a block that neither jumps nor returns: its list of statements, and its end.
+-- Flows of a list that catches jumps to its labels, and of a block that neither jumps nor returns.
 use Rattle.std.proofs.Common.{ℕ, List, None, Option, Bool}
+use Rattle.std.specs.Prelude.{◌==◌, ◌&&◌, if◌then◌else◌}
 use Rattle.rv_meaning.specs.declared.instr.Instr.{Instr}
 use Rattle.pli_serving.specs.ServiceState.{Services}
 use Rattle.pli_meaning.specs.BasicValues.{BasicValue}
 use Rattle.pli_meaning.specs.StorageState.{State, with_world}
 use Rattle.pli_meaning.specs.Control as F
-use Rattle.pli_meaning.specs.Control.{Flow, Normal, Jump, Return, Paused, Stuck, Label, Meaning, caught, left}
-use Rattle.pli_headline.proofs.Reach.{Family, Aims, Comes, Closed}
+use Rattle.pli_meaning.specs.Control.{Flow, Normal, Jump, Return, Paused, Stuck, Label, Meaning, is_among, caught, left}
+use Rattle.pli_headline.proofs.Reach.{Family, Aims, Comes, Closed, comes_from}
 
 -- ---- a list of statements
 
--- a part that neither jumps nor returns
-abbrev pub calm : {R : Type 0} → Aims R → Aims R
-calm aims =
-    record { done = aims.done; jumped = λ i f v height label s. ⊥; returned = λ i f v x s. ⊥ }
+-- a jump to one of its own labels goes on there
+abbrev pub catching : List Instr → (k height : ℕ) → List Label → (Label → Meaning (Unit {0})) → Aims (Unit {0}) → Aims (Unit {0})
+catching code k height labels next aims =
+    record {
+      done = aims.done;
+      jumped = λ i f v h label s. Comes code i f v aims (if (h == height) && is_among label labels then next label k s else Jump h label s);
+      returned = aims.returned;
+    }
 
-pub calm_closed : {R : Type 0} {code : List Instr} {aims : Aims R} → Closed code aims → Closed code (calm aims)
-calm_closed closed =
-    record { done = closed.done; jumped = λ r height label s a. absurd a; returned = λ r x s a. absurd a }
+pub catching_closed : {code : List Instr} {aims : Aims (Unit {0})} (k height : ℕ) (labels : List Label) (next : Label → Meaning (Unit {0})) → Closed code aims → Closed code (catching code k height labels next aims)
+catching_closed k height labels next closed =
+    record { done = closed.done; jumped = λ r h label s c. comes_from closed r c; returned = closed.returned }
 
-pub comes_caught : {code : List Instr} {i : ℕ} {f : Family} {v : Services} {aims : Aims (Unit {0})} (k height : ℕ) (labels : List Label) (next : Label → Meaning (Unit {0})) (flow : Flow (Unit {0})) → Comes code i f v (calm aims) flow → Comes code i f v aims (caught k height labels flow next)
+pub comes_caught : {code : List Instr} {i : ℕ} {f : Family} {v : Services} {aims : Aims (Unit {0})} (k height : ℕ) (labels : List Label) (next : Label → Meaning (Unit {0})) (flow : Flow (Unit {0})) → Comes code i f v (catching code k height labels next aims) flow → Comes code i f v aims (caught k height labels flow next)
 comes_caught k height labels next (Normal x s) c = record { to = c.to }
-comes_caught k height labels next (Jump h label s) c = absurd c.to
-comes_caught k height labels next (Return x s) c = absurd c.to
+comes_caught k height labels next (Jump h label s) c = c.to
+comes_caught k height labels next (Return x s) c = record { to = c.to }
 comes_caught k height labels next (F.Ended s) c = record { to = c.to }
 comes_caught k height labels next (Paused s) c = record { to = c.to }
 comes_caught k height labels next Stuck c = absurd c.to

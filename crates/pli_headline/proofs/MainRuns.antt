@@ -11,7 +11,7 @@ use Rattle.pli_meaning.specs.World.{counted}
 use Rattle.pli_meaning.specs.BasicValues.{BasicValue}
 use Rattle.pli_meaning.specs.DeclaredShapes.{variables_of_block}
 use Rattle.pli_meaning.specs.StorageState.{State, first_state, with_world, newest_ended}
-use Rattle.pli_meaning.specs.Control.{Meaning, flow_on, left, give, stuck, looked, stored, given, choose, leaving, act, finish, list_from, ◌>>=◌, ◌>>◌}
+use Rattle.pli_meaning.specs.Control.{Meaning, flow_on, left, give, stuck, looked, stored, given, choose, leaving, act, finish, ◌>>=◌, ◌>>◌}
 use Rattle.pli_meaning.specs.Raising.{Around}
 use Rattle.pli_meaning.specs.Making as K
 use Rattle.pli_meaning.specs.Executing as M
@@ -45,7 +45,7 @@ use Rattle.pli_headline.proofs.Prologue.{begun}
 use Rattle.pli_headline.proofs.MainStates.{main_state, numbers_hold, no_units, main_activation, main_services, no_units_served}
 use Rattle.pli_headline.proofs.VariablesMade.{variables_piece}
 use Rattle.pli_headline.proofs.Leaving.{leaving_piece}
-use Rattle.pli_headline.proofs.MainFlow.{calm_closed, comes_caught, inside, inside_closed, comes_left}
+use Rattle.pli_headline.proofs.MainFlow.{inside, inside_closed, comes_left}
 use Rattle.pli_headline.proofs.Entering.{entry_code, entered_piece}
 
 -- ---- in the meaning
@@ -85,7 +85,7 @@ block_of program block line body first all alone small' few =
 -- what its statements have to do
 abbrev pub BodyDoes : (program : Y.Program) (block line : ℕ) (body : Y.Stmts) (first : List ℕ) (all : AllPlain program.variables) (alone : IsAlone program block line body) (small' : main_words program block body ≤ most_code) → Links → List Instr → (k : ℕ) → Type 1
 BodyDoes program block line body first all alone small' links code k =
-    (few : 32 * main_count program block ≤ 2 ^ 20) → Does (block_of program block line body first all alone small' few) links code (suc k) (stmts_code (main_environment program block) none_taken body) (M.statements (main_around program k line) body None)
+    (few : 32 * main_count program block ≤ 2 ^ 20) → Does (block_of program block line body first all alone small' few) links code (suc k) (stmts_code (main_environment program block) none_taken body) (M.list (main_around program k line) body)
 
 -- ---- from the statements to the end of the run
 
@@ -97,9 +97,9 @@ to_finish_closed : (code : List Instr) (k : ℕ) → Closed code (to_finish code
 to_finish_closed code k =
     before_closed k (λ (u : Option BasicValue). finish {R = Unit {0}} E.Finished) (never_closed code)
 
-statements_piece : {links : Links} {code : List Instr} {i : ℕ} {h t : ℕ → ℕ} (program : Y.Program) (block line : ℕ) (body : Y.Stmts) (first : List ℕ) (all : AllPlain program.variables) (alone : IsAlone program block line body) (small' : main_words program block body ≤ most_code) (few : 32 * main_count program block ≤ 2 ^ 20) (k : ℕ) → BodyDoes program block line body first all alone small' links code k → Linked links code i (stmts_code (main_environment program block) none_taken body ++ procedure_ended (main_environment program block) (main_head block line) (main_words program block body) None) → Linked links code start_resume finish_code → (s : State) → {v : Services} → (g : Family) → Serving k s v line → AllHold s block (main_count program block) (λ j. pos 0) → ((b : Base) → At b i (Known (ground_of (main_frame (main_words program block body) (main_count program block) small' few) first (λ j. pos 0)) v h t nothing b) (g b)) → Comes code i g v (inside (to_finish code k) newest_ended) ((M.list (main_around program k line) body >> M.end_reached (main_around program k line) false) k s)
-unfolding main_block M.list M.list_with list_from looked M.end_reached give ◌>>=◌ ◌>>◌
-statements_piece {code = code} {i = i} program block line body first all alone small' few k does' l finish' s g serving holds at =
+statements_piece : {links : Links} {code : List Instr} {i : ℕ} {h t : ℕ → ℕ} (program : Y.Program) (block line : ℕ) (body : Y.Stmts) (first : List ℕ) (all : AllPlain program.variables) (alone : IsAlone program block line body) (small' : main_words program block body ≤ most_code) (few : 32 * main_count program block ≤ 2 ^ 20) (k : ℕ) → BodyDoes program block line body first all alone small' links code k → 2 ≤ i → Linked links code i (stmts_code (main_environment program block) none_taken body ++ procedure_ended (main_environment program block) (main_head block line) (main_words program block body) None) → Linked links code start_resume finish_code → (s : State) → {v : Services} → (g : Family) → Serving k s v line → AllHold s block (main_count program block) (λ j. pos 0) → ((b : Base) → At b i (Known (ground_of (main_frame (main_words program block body) (main_count program block) small' few) first (λ j. pos 0)) v h t nothing b) (g b)) → Comes code i g v (inside (to_finish code k) newest_ended) ((M.list (main_around program k line) body >> M.end_reached (main_around program k line) false) k s)
+unfolding main_block M.end_reached give ◌>>◌
+statements_piece {code = code} {i = i} program block line body first all alone small' few k does' later l finish' s g serving holds at =
     let e = main_environment program block in
     let st = stmts_code e none_taken body in
     let en = procedure_ended e (main_head block line) (main_words program block body) None in
@@ -107,15 +107,15 @@ statements_piece {code = code} {i = i} program block line body first all alone s
     let f = main_frame (main_words program block body) (main_count program block) small' few in
     let aims = inside (to_finish code k) newest_ended in
     let next' : Unit {0} → Meaning (Unit {0}) = λ u. M.end_reached around false in
-    let closed = calm_closed (before_closed k next' (inside_closed newest_ended (to_finish_closed code k))) in
-    comes_on k _ next'
-    (comes_caught k _ _ _ (M.statements around body None k s)
+    let closed = before_closed k next' (inside_closed newest_ended (to_finish_closed code k)) in
+    comes_on k (M.list around body k s) next'
     ((does' few).does closed line (λ j. pos 0) g k (front_of st en l) serving holds at
     (λ s' v' line' n' h' t' g' serving' all' stays' at'.
     record {
       to =
           leaving_piece (never_closed code) e block line (main_words program block body) f first n' g' s' (with_world s'.world (newest_ended s')) line' k (omega (arith, small')) (omega arith) (back_of st en l) finish' serving' refl at';
-    }) (omega arith)))
+    })
+    (record { enough = omega arith; later = later; jumps = λ label among once. let none : false ≡ true = among in absurd (cc none) }))
 
 -- ---- from the start to the statements
 
@@ -128,25 +128,25 @@ serving_first table input at line count k fits =
       allowed = omega arith;
       fits = fits;
       entered = (main_activation at, refl);
-      alone = no_units input count;
+      alone = record { units = no_units input count; height = refl; outermost = refl };
       alone_served = no_units_served table input at line count;
     }
 
 -- behind the variables: the act of the entry, and the statements
-body_piece : {links : Links} {code : List Instr} {i : ℕ} {h t : ℕ → ℕ} (program : Y.Program) (block line : ℕ) (body : Y.Stmts) (first input : List ℕ) (all : AllPlain program.variables) (alone : IsAlone program block line body) (small' : main_words program block body ≤ most_code) (few : 32 * main_count program block ≤ 2 ^ 20) (k : ℕ) → line < 2 ^ 31 → k + 1 < 2 ^ 64 → BodyDoes program block line body first all alone small' links code k → Linked links code i (act_code line) → Linked links code (i + size_of (act_code line)) (stmts_code (main_environment program block) none_taken body ++ procedure_ended (main_environment program block) (main_head block line) (main_words program block body) None) → Linked links code start_resume finish_code → (at : ℕ) (g : Family) → ((b : Base) → At b i (Known (ground_of (main_frame (main_words program block body) (main_count program block) small' few) first (λ j. pos 0)) (main_services (table_of program) input at line (main_count program block)) h t nothing b) (g b)) → Comes code i g (main_services (table_of program) input at line (main_count program block)) (inside (to_finish code k) newest_ended) (main_body program k line body k (main_state input (main_count program block)))
+body_piece : {links : Links} {code : List Instr} {i : ℕ} {h t : ℕ → ℕ} (program : Y.Program) (block line : ℕ) (body : Y.Stmts) (first input : List ℕ) (all : AllPlain program.variables) (alone : IsAlone program block line body) (small' : main_words program block body ≤ most_code) (few : 32 * main_count program block ≤ 2 ^ 20) (k : ℕ) → line < 2 ^ 31 → k + 1 < 2 ^ 64 → BodyDoes program block line body first all alone small' links code k → 2 ≤ i → Linked links code i (act_code line) → Linked links code (i + size_of (act_code line)) (stmts_code (main_environment program block) none_taken body ++ procedure_ended (main_environment program block) (main_head block line) (main_words program block body) None) → Linked links code start_resume finish_code → (at : ℕ) (g : Family) → ((b : Base) → At b i (Known (ground_of (main_frame (main_words program block body) (main_count program block) small' few) first (λ j. pos 0)) (main_services (table_of program) input at line (main_count program block)) h t nothing b) (g b)) → Comes code i g (main_services (table_of program) input at line (main_count program block)) (inside (to_finish code k) newest_ended) (main_body program k line body k (main_state input (main_count program block)))
 unfolding M.entry_act ◌>>◌
-body_piece {code = code} program block line body first input all alone small' few k low fits does' l behind finish' at g there =
+body_piece {code = code} program block line body first input all alone small' few k low fits does' later l behind finish' at g there =
     let n = main_count program block in
     let s = main_state input n in
     let next' : Unit {0} → Meaning (Unit {0}) = λ u. M.list (main_around program k line) body >> M.end_reached (main_around program k line) false in
     let closed = inside_closed newest_ended (to_finish_closed code k) in
     comes_on k (act counted k s) next'
     (act_piece (before_closed k next' closed) g line line k low l (serving_first (table_of program) input at line n k fits) there (λ g' serving' there'.
-    statements_piece program block line body first all alone small' few k does' behind finish' (with_world (counted s.world) s) g' serving'
+    statements_piece program block line body first all alone small' few k does' (omega (arith, later)) behind finish' (with_world (counted s.world) s) g' serving'
     (λ j below. counted_holds (counted s.world) (numbers_hold input block n j below)) there'))
 
 -- from the entry of the procedure
-procedure_piece : {links : Links} {code : List Instr} (program : Y.Program) (block line : ℕ) (body : Y.Stmts) (first input : List ℕ) (all : AllPlain program.variables) (alone : IsAlone program block line body) (small' : main_words program block body ≤ most_code) (k entry : ℕ) → line < 2 ^ 31 → k + 1 < 2 ^ 64 → length first ≡ memory_size → 0 < entry → BodyDoes program block line body first all alone small' links code k → Linked links code entry (procedure_in (main_environment program block) (main_head block line) body [] None) → Linked links code start_resume finish_code → (g : Family) → ((b : Base) → At b entry (Known (start_ground first) (first_services (table_of program) input) zeros zeros (with' 1 (λ b'. address b' start_resume) no_texts) b) (g b)) → Comes code entry g (first_services (table_of program) input) (inside (to_finish code k) newest_ended) (flow_on k (K.variables_made (main_around program k line) 0 (variables_of_block program block) k (main_state input 0)) (λ u. main_body program k line body))
+procedure_piece : {links : Links} {code : List Instr} (program : Y.Program) (block line : ℕ) (body : Y.Stmts) (first input : List ℕ) (all : AllPlain program.variables) (alone : IsAlone program block line body) (small' : main_words program block body ≤ most_code) (k entry : ℕ) → line < 2 ^ 31 → k + 1 < 2 ^ 64 → length first ≡ memory_size → 2 ≤ entry → BodyDoes program block line body first all alone small' links code k → Linked links code entry (procedure_in (main_environment program block) (main_head block line) body [] None) → Linked links code start_resume finish_code → (g : Family) → ((b : Base) → At b entry (Known (start_ground first) (first_services (table_of program) input) zeros zeros (with' 1 (λ b'. address b' start_resume) no_texts) b) (g b)) → Comes code entry g (first_services (table_of program) input) (inside (to_finish code k) newest_ended) (flow_on k (K.variables_made (main_around program k line) 0 (variables_of_block program block) k (main_state input 0)) (λ u. main_body program k line body))
 procedure_piece {links} {code} program block line body first input all alone small' k entry low fits len later does' l finish' g at =
     let e = main_environment program block in
     let words = main_words program block body in
@@ -180,13 +180,13 @@ procedure_piece {links} {code} program block line body first input all alone sma
     let next' : Unit {0} → Meaning (Unit {0}) = λ u. main_body program k line body in
     let closed = inside_closed newest_ended (to_finish_closed code k) in
     comes_on k (K.variables_made (main_around program k line) 0 (variables_of_block program block) k (main_state input 0)) next'
-    (onward (before_closed k next' closed) (begun entry first v f g later refl (omega arith) refl len lf at) (λ g1 at1.
+    (onward (before_closed k next' closed) (begun entry first v f g (omega (arith, later)) refl (omega arith) refl len lf at) (λ g1 at1.
     onward (before_closed k next' closed) (entered_piece (entry + size_of fb) f first (λ j. pos 0) table input line g1 low le at1) (λ g2 at2.
     variables_piece (before_closed k next' closed) (main_around program k line) program block line words small' first input k n zeros t fits
     (λ j below room. main_place program block line body j all alone below room)
     (λ some. main_table program block all some)
     (variables_of_block program block) 0 (entry + size_of fb + size_of ec) (main_plain program block all) (omega arith) few g2 lv at2
-    (λ enough g3 at3. body_piece program block line body first input all alone small' enough k low fits does' la lb finish' f.at g3 at3))))
+    (λ enough g3 at3. body_piece program block line body first input all alone small' enough k low fits does' (omega (arith, later)) la lb finish' f.at g3 at3))))
 
 -- the whole run
 pub main_runs : {links : Links} {code : List Instr} (program : Y.Program) (block line : ℕ) (body : Y.Stmts) (first input : List ℕ) (all : AllPlain program.variables) (alone : IsAlone program block line body) (small' : main_words program block body ≤ most_code) (k : ℕ) → line < 2 ^ 31 → k + 1 < 2 ^ 64 → length first ≡ memory_size → Placed program block line body links code → BodyDoes program block line body first all alone small' links code k → Comes code 0 (start_family first (first_services (table_of program) input)) (first_services (table_of program) input) never (M.run program (suc k) k (first_state input))

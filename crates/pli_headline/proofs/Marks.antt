@@ -85,7 +85,7 @@ pub record Placed (program : Y.Program) (block line : ℕ) (body : Y.Stmts) (lin
 whole_linked : (c : Code) → length (linked_code c) ≤ most_code → Linked (links_of c) (linked_code c) 0 c
 whole_linked c h =
     let n = linked_length (links_of c) 0 c in
-    record { small' = h; inside = omega (arith, n); has = has_items (links_of c) c }
+    record { small' = h; inside = omega (arith, n); has = has_items (links_of c) c refl }
 
 pub placed : (program : Y.Program) (block line : ℕ) (body : Y.Stmts) → AllPlain program.variables → IsAlone program block line body → length (linked_code (code_of parts program)) ≤ most_code → Placed program block line body (links_of (code_of parts program)) (linked_code (code_of parts program))
 placed program block line body all alone small' =

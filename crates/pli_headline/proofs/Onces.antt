@@ -23,9 +23,9 @@ use Rattle.pli_headline.proofs.Linking.{size_append}
 use Rattle.pli_headline.proofs.Jumps.{front_of, back_of}
 use Rattle.pli_headline.proofs.Raising.{Routines}
 use Rattle.pli_headline.proofs.Variables.{outermost}
-use Rattle.pli_headline.proofs.Statements.{Block, Does}
+use Rattle.pli_headline.proofs.Statements.{Block, further, Does}
 use Rattle.pli_headline.proofs.Ifs.{tested_does}
-use Rattle.pli_headline.proofs.Groups.{listed}
+use Rattle.pli_headline.proofs.Since.{since_closed, comes_since}
 use Rattle.pli_headline.proofs.Temporaries.{stays_then}
 use Rattle.pli_headline.proofs.Reach.{Comes, before_closed, comes_on}
 
@@ -40,12 +40,14 @@ sequence_does p q first second one two =
           let place : i + size_of p + size_of q ≡ i + size_of (p ++ q) = omega (arith, size) in
           let next' : Unit {0} → Meaning (Unit {0}) = λ u. second in
           comes_on k (first k s) next'
-          (one.does (before_closed k next' closed) line n f k (front_of p q l) serving all at
-          (λ s2 v2 line2 n2 h2 t2 f2 serving2 all2 stays2 at2.
+          (comes_since (first k s)
+          (one.does (since_closed v.world.acts (before_closed k next' closed)) line n f k (front_of p q l) serving all at
+          (λ s2 v2 line2 n2 h2 t2 f2 serving2 all2 stays2 at2 grown.
           two.does closed line2 n2 f2 k (back_of p q l) serving2 all2 at2
           (λ s3 v3 line3 n3 h3 t3 f3 serving3 all3 stays3 at3.
           subst (λ u. aims.done u f3 v3 tt s3) (sym place)
-          (goal s3 v3 line3 n3 h3 t3 f3 serving3 all3 (stays_then stays2 stays3) (λ b. record { pc = (at3 b).pc ∙ ap (address b) place; holds = (at3 b).holds }))) more) more);
+          (goal s3 v3 line3 n3 h3 t3 f3 serving3 all3 (stays_then stays2 stays3) (λ b. record { pc = (at3 b).pc ∙ ap (address b) place; holds = (at3 b).holds })))
+          (further more (omega arith) grown stays2)) more));
     }
 
 -- the same meaning
@@ -82,7 +84,8 @@ by_condition bl links code turns routines around None line c body is room fits i
 by_condition bl links code turns routines around (Some x) line c body is room fits inner =
     tested_does bl links code turns routines around x line c body is room fits inner
 
-pub once_does : {e : Environment} {block count : ℕ} (bl : Block e block count) (links : Links) (code : List Instr) (routines : Routines links code) (around : Around) (target : Y.Reference) (start : Y.Stored) (condition : Option Y.Bit) (body : Y.Stmts) (line : ℕ) → IsProvedBitIf block count condition → bl.taken.words + bit_if condition ≤ bl.words → line < 2 ^ 31 → Does bl links code around.turns (stmt_code (outermost e) bl.taken (Y.Assign target start line)) (M.statement around (Y.Assign target start line)) → Does bl links code around.turns (stmts_code (outermost e) bl.taken body) (M.statements around body None) → Does bl links code around.turns (stmt_code (outermost e) bl.taken (Y.DoOnce target start condition body line)) (M.statement around (Y.DoOnce target start condition body line))
+pub once_does : {e : Environment} {block count : ℕ} (bl : Block e block count) (links : Links) (code : List Instr) (routines : Routines links code) (around : Around) (target : Y.Reference) (start : Y.Stored) (condition : Option Y.Bit) (body : Y.Stmts) (line : ℕ) → IsProvedBitIf block count condition → bl.taken.words + bit_if condition ≤ bl.words → line < 2 ^ 31 → Does bl links code around.turns (stmt_code (outermost e) bl.taken (Y.Assign target start line)) (M.statement around (Y.Assign target start line)) → Does bl links code around.turns (stmts_code (outermost e) bl.taken body) (M.list around body) → Does bl links code around.turns (stmt_code (outermost e) bl.taken (Y.DoOnce target start condition body line)) (M.statement around (Y.DoOnce target start condition body line))
+unfolding M.list
 once_does {e} bl links code routines around target start condition body line is room fits first inner =
     let a = act_code line in
     let stored' = assigned_code (outermost e) bl.taken target start in
@@ -93,6 +96,6 @@ once_does {e} bl links code routines around target start condition body line is 
     let two = M.once (at_line around line) condition part in
     let both : Does bl links code around.turns ((a ++ stored') ++ rest) (one >> two) =
     sequence_does (a ++ stored') rest one two first
-    (by_condition bl links code around.turns routines around condition line c part is room fits (listed around (M.labels_in body) (M.statements around body) inner)) in
+    (by_condition bl links code around.turns routines around condition line c part is room fits inner) in
     means_same (one >> two) (M.statement around (Y.DoOnce target start condition body line)) (λ k s. once_meant around target start condition body line k s)
     (subst (λ p. Does bl links code around.turns p (one >> two)) (append_assoc a stored' rest) both)

@@ -178,7 +178,7 @@ error_piece {X = X} {links = links} {code = code} {g = g} {v = v} {h = h} {t = t
     (λ f2 serving2 at2.
     let s2 = with_world (raising C.Error n s.world) s in
     let q = skip_taken 0 f2 Test.Equal a0 zero_register (JumpAhead (size_of error_end) ∷ []) (front_of (to_unit (size_of error_end)) error_end at_test) at2 (λ b. zero_equal _ _ (at2 b).holds.regs.0 (zero_is (at2 b).holds.body)) in
-    subst (Comes code 0 f2 (raised_by C.Error n v) _) (sym (unit_of_error X around n k s2 (serving2.alone C.Error)))
+    subst (Comes code 0 f2 (raised_by C.Error n v) _) (sym (unit_of_error X around n k s2 (serving2.alone.units C.Error)))
     (onward closed q (λ f3 at3. error_ends closed 3 f3 n k around.line small' (let i = mine.inside in omega (arith, i)) (back_of (to_unit (size_of error_end)) error_end at_test) serving2 at3)))))
 
 -- ---- other conditions
@@ -213,6 +213,6 @@ raise_piece {links = links} {code = code} {g = g} {v = v} {h = h} {t = t} {s = s
     (λ f2 serving2 at2.
     let s2 = with_world (raising c n s.world) s in
     let q = skip_taken 0 f2 Test.Equal a0 zero_register (JumpAhead (size_of error_code) ∷ []) (front_of (to_unit (size_of error_code)) (error_code ++ unit_begun) at_test) at2 (λ b. zero_equal _ _ (at2 b).holds.regs.0 (zero_is (at2 b).holds.body)) in
-    subst (Comes code 0 f2 (raised_by c n v) _) (sym (unit_of_raise around c n k s2 (serving2.alone c)))
+    subst (Comes code 0 f2 (raised_by c n v) _) (sym (unit_of_raise around c n k s2 (serving2.alone.units c)))
     (onward closed q (λ f3 at3. error_piece closed routines 3 f3 around n k small' (let i = mine.inside in omega (arith, i)) serving2
     (λ b. let o = at3 b in record { pc = o.pc ∙ ap (address b) (omega arith); holds = record { body = o.holds.body; regs = (o.holds.regs.1.0, tt) } }))))))

@@ -1,5 +1,5 @@
 -- The statement's definitions, computed.
-use Rattle.std.proofs.Common.{◌≡◌, ◌+◌, ◌≤◌, [], ◌∷◌, None, Some, false, refl, arith, lit<}
+use Rattle.std.proofs.Common.{◌≡◌, ◌+◌, ◌≤◌, [], ◌∷◌, None, Some, true, false, refl, arith, lit<}
 use Rattle.rv_meaning.specs.declared.instr.Fault.TheVariants.{BadService}
 use Rattle.rv_meaning.specs.declared.instr.Instr.TheVariants as I
 use Rattle.area_keeper.specs.Chain.{chain}
@@ -8,7 +8,8 @@ use Rattle.pli_typing.specs.TypedTree as Y
 use Rattle.image_runs.specs.Runs.{Stopped, layout_of, shown_by}
 use Rattle.pli_meaning.specs.Headline.{step_cost}
 use Rattle.pli_headline.specs.Headline.{parts}
-use Rattle.pli_headline.specs.ProvedSoFar.{IsProvedSoFar, AreProvedStatements, IsOwnNumber, plain_number}
+use Rattle.pli_meaning.specs.Executing.{labels_in}
+use Rattle.pli_headline.specs.ProvedSoFar.{IsProvedSoFar, AreProvedStatements, AllJumpAround, all_labels, IsOwnNumber, plain_number}
 
 -- a fault is no world
 fault_shown : shown_by (Stopped BadService) ≡ None
@@ -67,6 +68,21 @@ count_proved =
     let i : IsOwnNumber 1 1 whole_i = record { index = 0; declared = lit< tt; is = refl } in
     (((refl, (i, lit< tt)), ((lit< tt, lit< tt), (tt, (tt, lit< tt)))), tt)
 
+-- L: DO WHILE ('1'B); IF '0'B THEN GOTO L; M: GOTO M; END;
+abbrev jumping : Y.Stmts
+jumping =
+    Y.StmtThen ((76 ∷ []) ∷ [])
+    (Y.DoWhile (Y.BitConstant true)
+    (Y.StmtThen [] (Y.If (Y.BitConstant false) (Y.Goto 0 (76 ∷ []) 3) 3) (Y.StmtThen ((77 ∷ []) ∷ []) (Y.Goto 0 (77 ∷ []) 4) (Y.EndOfList [])))
+    2)
+    (Y.EndOfList [])
+
+jumping_proved : AreProvedStatements 1 1 jumping
+jumping_proved = ((tt, (((tt, ((refl, lit< tt), lit< tt)), ((refl, lit< tt), tt)), lit< tt)), tt)
+
+jumps_around : AllJumpAround (all_labels jumping) (labels_in jumping) jumping
+jumps_around = (((refl, refl), ((refl, refl), tt)), tt)
+
 abbrev head : Y.BlockHead
 head = record { kind = Y.ProcedureBlock; number = 1; level = 0; line = 1 }
 
@@ -93,5 +109,6 @@ small_program =
           (refl, (i, ((lit< tt, i), lit< tt))),
           (((((i, tt), ((((omega arith, omega arith), ((omega arith, omega arith), tt)), tt), tt))), lit< tt), tt),
         );
+        jumps = (tt, (tt, tt));
       };
     }

@@ -296,6 +296,7 @@ mutual
       let small2 : max (suc (reference_words target)) (max (bit_if condition) (stmts_words body)) ≤ total - 2 + 1 =
       most _ _ _ (omega (arith, z, four, s1)) (most _ _ _ (omega (arith, n3, four, s1, s2, s8, s9, s10)) (omega (arith, n4, four, s1, s2, s8, s9, s10, s11))) in
       most _ _ _ (omega (arith, small1, four, s1)) (omega (arith, small2, four, s1))
+  statement_size e t block count (Y.Goto level label line) is = omega arith
   statement_size e t block count (Y.Stop line) is = omega arith
   statement_size e t block count (Y.Signal condition line) is = omega arith
   statement_size e t block count (Y.Put None pairs line) is =

@@ -1,5 +1,5 @@
 -- Statements of a block whose variables hold numbers, one behind the other.
-use Rattle.std.proofs.Common.{◌≡◌, ℕ, suc, ◌+◌, ◌^◌, ◌<◌, ◌≤◌, List, [], ◌∷◌, ◌++◌, length, Some, None, sym, ap, ◌∙◌, subst, arith}
+use Rattle.std.proofs.Common.{◌≡◌, ℕ, suc, ◌+◌, ◌*◌, ◌^◌, ◌<◌, ◌≤◌, List, [], ◌∷◌, ◌++◌, length, Some, None, true, sym, ap, ◌∙◌, subst, arith}
 use Rattle.std.specs.Prelude.{ℤ, pos, max, slice_get}
 use Rattle.rv_meaning.specs.declared.instr.Instr.{Instr}
 use Rattle.rv_meaning.specs.Words.{word}
@@ -9,43 +9,46 @@ use Rattle.pli_typing.specs.TypedTree as Y
 use Rattle.pli_meaning.specs.World.{World, counted}
 use Rattle.pli_meaning.specs.DeclaredShapes.{variables_of_block}
 use Rattle.pli_meaning.specs.StorageState.{State, with_world}
-use Rattle.pli_meaning.specs.Control.{Flow, Meaning, act, give, choose, ◌>>=◌, ◌>>◌}
+use Rattle.pli_meaning.specs.Control.{Label, Flow, Meaning, act, give, choose, is_among, ◌>>=◌, ◌>>◌}
 use Rattle.pli_meaning.specs.Raising.{Around, at_line}
 use Rattle.pli_meaning.specs.Evaluating as V
 use Rattle.pli_meaning.specs.Executing as M
 use Rattle.pli_serving.specs.ServiceState.{Services}
-use Rattle.pli_coding.specs.Assembly.{Code, size_of}
+use Rattle.pli_coding.specs.Assembly.{LabelPlace, Code, size_of}
 use Rattle.pli_coding.specs.Allocating.{act_code}
 use Rattle.pli_coding.specs.Environments.{Environment, Taken}
 use Rattle.pli_coding.specs.Storing.{assigned_code}
 use Rattle.pli_coding.specs.Statements.{stmt_code, stmts_code, marked}
 use Rattle.pli_coding.specs.Temporaries.{number_words}
-use Rattle.pli_coding.specs.Linking.{Links}
+use Rattle.pli_coding.specs.Linking.{Links, place_of}
 use Rattle.pli_headline.specs.ProvedSoFar.{plain_number, IsProvedNumber}
 use Rattle.image_runs.specs.Runs.{Whole}
-use Rattle.pli_headline.proofs.Engine.{Base, address}
-use Rattle.pli_headline.proofs.Linking.{size_append}
+use Rattle.pli_headline.proofs.Engine.{Base, address, most_code}
+use Rattle.pli_headline.proofs.Linking.{times_marked, size_append}
 use Rattle.pli_headline.proofs.Items.{Linked, At, straight, Items}
 use Rattle.pli_headline.proofs.Numbers.{IsWide}
 use Rattle.pli_headline.proofs.Bodies.{Ground, Known, PlaceOf, reserved_are}
 use Rattle.pli_headline.proofs.Jumps.{front_of, back_of}
 use Rattle.pli_headline.proofs.Temporaries.{Temporaries, Stays, stays_same, stays_then, nothing}
-use Rattle.pli_headline.proofs.Calls.{Serving}
+use Rattle.pli_headline.proofs.Calls.{Serving, main_height}
 use Rattle.pli_headline.proofs.Raising.{Routines}
 use Rattle.pli_headline.proofs.Acts.{acted, act_piece}
 use Rattle.pli_headline.proofs.Variables.{whole, own, outermost, data_place}
 use Rattle.pli_headline.proofs.Expressions.{Scope}
 use Rattle.pli_headline.proofs.Assignments.{assigned_state, assign_piece}
 use Rattle.pli_headline.proofs.States.{Holds, holds_number, holds_assigned, with_number_at}
+use Rattle.pli_headline.proofs.Since.{since_closed, comes_since}
 use Rattle.pli_headline.proofs.Reach.{Family, Aims, Comes, Closed, before_closed, comes_on, onward}
 
 -- ---- a block
 
--- the ground of a block by the numbers that its variables hold, and the temporaries that are taken while its statements run
+-- the ground of a block by the numbers that its variables hold, the temporaries that are taken while its statements run, and the
+-- labels that a GOTO there may name: those of the lists that are carried out around
 pub record Block (e : Environment) (block count : ℕ) : Type 1 where
   pub ground : (ℕ → ℤ) → Ground
   pub words : ℕ
   pub taken : Taken
+  pub labels : List Label
   pub words_are : (n : ℕ → ℤ) → (ground n).words ≡ words
   pub same : (n n' : ℕ → ℤ) (b : Base) (h : ℕ → ℕ) → reserved_are b (ground n) h ≡ reserved_are b (ground n') h
   pub temps : (n : ℕ → ℤ) → Temporaries (ground n)
@@ -73,10 +76,45 @@ abbrev pub Behind : {e : Environment} {block count : ℕ} → Block e block coun
 Behind {block = block} {count = count} bl k h0 t0 i aims =
     (s : State) (v : Services) (line : ℕ) (n : ℕ → ℤ) (h t : ℕ → ℕ) (f : Family) → Serving k s v line → AllHold s block count n → Stays bl.taken h0 t0 h t → ((b : Base) → At b i (Known (bl.ground n) v h t nothing b) (f b)) → aims.done i f v tt s
 
--- from wherever a block's variables stand, a part's code does what the part means, where loops may make more turns than acts are
--- allowed
+-- a label is marked once
+abbrev pub IsMarkedOnce : Links → (block : ℕ) → Label → Type 0
+IsMarkedOnce links block label = times_marked (LabelPlace block label) links.marks ≡ 1
+
+-- where a jump goes on: at the mark of the label, with what waited before, and with more acts than before
+pub record Landing {e : Environment} {block count : ℕ} (bl : Block e block count) (links : Links) (k : ℕ) (h0 t0 : ℕ → ℕ) (acts : ℕ) (jumped : ℕ → Family → Services → ℕ → Label → State → Type 0) (label : Label) : Type 0 where
+  pub at : ℕ
+  pub place : place_of links (LabelPlace e.block label) ≡ 4 * at
+  pub near : at ≤ most_code
+  pub later : 2 ≤ at
+  pub lands : (s : State) (v : Services) (line : ℕ) (n : ℕ → ℤ) (h t : ℕ → ℕ) (f : Family) → Serving k s v line → AllHold s block count n → Stays bl.taken h0 t0 h t → acts < v.world.acts → ((b : Base) → At b at (Known (bl.ground n) v h t nothing b) (f b)) → jumped at f v main_height label s
+
+-- what a part may count on where it begins: loops and jumps may make more turns than acts are allowed, the code stands behind the
+-- start, and jumps to the block's labels go on
+pub record Enough {e : Environment} {block count : ℕ} (bl : Block e block count) (links : Links) (k turns i : ℕ) (h t : ℕ → ℕ) (acts : ℕ) (jumped : ℕ → Family → Services → ℕ → Label → State → Type 0) : Type 0 where
+  pub enough : k < turns
+  pub later : 2 ≤ i
+  pub jumps : (label : Label) → is_among label bl.labels ≡ true → IsMarkedOnce links e.block label → Landing bl links k h t acts jumped label
+
+-- the same further on
+pub further : {e : Environment} {block count : ℕ} {bl : Block e block count} {links : Links} {k turns i : ℕ} {h t : ℕ → ℕ} {acts : ℕ} {jumped : ℕ → Family → Services → ℕ → Label → State → Type 0} {i' : ℕ} {h' t' : ℕ → ℕ} {acts' : ℕ} → Enough bl links k turns i h t acts jumped → i ≤ i' → acts ≤ acts' → Stays bl.taken h t h' t' → Enough bl links k turns i' h' t' acts' jumped
+further more behind grown stays =
+    record {
+      enough = more.enough;
+      later = let l = more.later in omega (arith, l, behind);
+      jumps = λ label among once.
+          let o = more.jumps label among once in
+          record {
+            at = o.at;
+            place = o.place;
+            near = o.near;
+            later = o.later;
+            lands = λ s v line n h'' t'' f serving all stays' acted' at'. o.lands s v line n h'' t'' f serving all (stays_then stays stays') (omega (arith, grown, acted')) at';
+          };
+    }
+
+-- from wherever a block's variables stand, a part's code does what the part means
 pub record Does {e : Environment} {block count : ℕ} (bl : Block e block count) (links : Links) (code : List Instr) (turns : ℕ) (part : Code) (meaning : Meaning (Unit {0})) : Type 1 where
-  pub does : {i : ℕ} {s : State} {v : Services} {h t : ℕ → ℕ} {aims : Aims (Unit {0})} (closed : Closed code aims) (line : ℕ) (n : ℕ → ℤ) (f : Family) (k : ℕ) → Linked links code i part → Serving k s v line → AllHold s block count n → ((b : Base) → At b i (Known (bl.ground n) v h t nothing b) (f b)) → Behind bl k h t (i + size_of part) aims → k < turns → Comes code i f v aims (meaning k s)
+  pub does : {i : ℕ} {s : State} {v : Services} {h t : ℕ → ℕ} {aims : Aims (Unit {0})} (closed : Closed code aims) (line : ℕ) (n : ℕ → ℤ) (f : Family) (k : ℕ) → Linked links code i part → Serving k s v line → AllHold s block count n → ((b : Base) → At b i (Known (bl.ground n) v h t nothing b) (f b)) → Behind bl k h t (i + size_of part) aims → Enough bl links k turns i h t v.world.acts aims.jumped → Comes code i f v aims (meaning k s)
 
 pub counted_holds : {s : State} {block j : ℕ} {z : ℤ} (w : World) → Holds s block j z → Holds (with_world w s) block j z
 counted_holds w h = record { values = h.values; stands = h.stands; lives = h.lives; value = h.value; wide = h.wide }
@@ -156,10 +194,12 @@ list_does {e} bl links code around (Y.StmtThen labels first rest) each =
           let next' : Unit {0} → Meaning (Unit {0}) = λ u. M.statements around rest None in
           marked_piece closed e.block labels f (front_of a (c ++ d) l) at (λ f1 at1.
           comes_on k (M.statement around first k s) next'
-          (each.0.does (before_closed k next' closed) line n f1 k (front_of c d l2) serving all at1
-          (λ s2 v2 line2 n2 h2 t2 f2 serving2 all2 stays2 at2.
+          (comes_since (M.statement around first k s)
+          (each.0.does (since_closed v.world.acts (before_closed k next' closed)) line n f1 k (front_of c d l2) serving all at1
+          (λ s2 v2 line2 n2 h2 t2 f2 serving2 all2 stays2 at2 grown.
           (list_does bl links code around rest each.1).does closed line2 n2 f2 k (back_of c d l2) serving2 all2 at2
           (λ s3 v3 line3 n3 h3 t3 f3 serving3 all3 stays3 at3.
           subst (λ u. aims.done u f3 v3 tt s3) (sym place)
-          (goal s3 v3 line3 n3 h3 t3 f3 serving3 all3 (stays_then stays2 stays3) (λ b. record { pc = (at3 b).pc ∙ ap (address b) place; holds = (at3 b).holds }))) more) more));
+          (goal s3 v3 line3 n3 h3 t3 f3 serving3 all3 (stays_then stays2 stays3) (λ b. record { pc = (at3 b).pc ∙ ap (address b) place; holds = (at3 b).holds })))
+          (further more (omega arith) grown stays2)) (further more (omega arith) (omega arith) (stays_same bl.taken h t)))));
     }

@@ -7,7 +7,7 @@ use Rattle.rv_meaning.specs.declared.instr.BranchTest.TheVariants as Test
 use Rattle.rv_meaning.specs.Words.{word, flag}
 use Rattle.pli_typing.specs.TypedTree as Y
 use Rattle.pli_meaning.specs.StorageState.{State}
-use Rattle.pli_meaning.specs.Control.{give, choose, ◌>>=◌, ◌>>◌}
+use Rattle.pli_meaning.specs.Control.{give, choose, ◌>>=◌}
 use Rattle.pli_meaning.specs.Raising.{Around}
 use Rattle.pli_meaning.specs.Evaluating as V
 use Rattle.pli_meaning.specs.Executing as M

@@ -23,6 +23,7 @@ use Rattle.pli_headline.proofs.Sizes.{procedure_size, first_length}
 use Rattle.pli_headline.proofs.MainProcedure.{main_head, alone_of, main_environment, main_words, main_plain, plain_at}
 use Rattle.pli_headline.proofs.FirstFrame.{first_step_of}
 use Rattle.pli_headline.proofs.MainFrame.{main_frame}
+use Rattle.pli_headline.proofs.LabelMarks.{labels_stand}
 use Rattle.pli_headline.proofs.MainBody.{main_body_does}
 use Rattle.pli_headline.proofs.MainRuns.{main_around, main_count, main_data, BodyDoes, main_runs}
 
@@ -66,7 +67,8 @@ body_done program is fits k few =
     (λ j below. plain_at (variables_of_block program block) j (main_plain program block is.plain) below)
     (λ j below. main_data program block line is.body j is.plain alone below few)
     (links_of (code_of parts program)) (code_for program)
-    (placed_for program is fits).routines (main_around program k line) is.block.statements
+    (placed_for program is fits).routines (main_around program k line)
+    (labels_stand program block line is.body is.plain alone is.block.statements) is.block.statements is.block.jumps
     (le-max_right (variables_words (variables_of_block program block)) (stmts_words is.body))
     (constant_stands (code_of parts program) fits)
 

@@ -1,9 +1,12 @@
--- The programs for which the headline is proved so far: one procedure, whose variables are FIXED BINARY(31), with assignments
--- of expressions of numbers and PUT EDIT of numbers by F. Each form that is proved takes a line off.
-use Rattle.std.specs.Prelude.{◌≡◌, ℕ, ◌<◌, ◌≤◌, ◌^◌, List, [], ◌∷◌, length, Option, None, Some, ⊤}
+-- The programs for which the headline is proved so far: one procedure, whose variables are FIXED BINARY(31), with assignments, IF, DO,
+-- GOTO, STOP, SIGNAL and PUT EDIT of numbers by F. Each form that is proved takes a line off.
+use Rattle.std.specs.Prelude.{◌≡◌, ℕ, suc, ◌<◌, ◌≤◌, ◌^◌, List, [], ◌∷◌, ◌++◌, length, Option, None, Some, true, if◌then◌else◌, ⊤}
+use Rattle.pli_language.specs.Keywords.{same_bytes}
 use Rattle.pli_language.specs.Tree as T
 use Rattle.pli_typing.specs.TypedTree as Y
+use Rattle.pli_meaning.specs.Control.{Label, is_among}
 use Rattle.pli_meaning.specs.DeclaredShapes.{variables_of_block}
+use Rattle.pli_meaning.specs.Executing.{labels_in}
 
 -- ---- declarations
 
@@ -115,6 +118,7 @@ abbrev mutual
   IsProvedStatement block count (Y.DoCount (Y.NumberCounter precision target) (Y.NumberValue p x) limit step condition body line) =
       ((precision ≡ 31) × (IsOwnNumber block count target × IsProvedNumber block count x))
       × ((IsProvedNumberIf block count limit × IsProvedNumber block count step) × (IsProvedBitIf block count condition × (AreProvedStatements block count body × IsLine line)))
+  IsProvedStatement block count (Y.Goto level label line) = (level ≡ 0) × IsLine line
   IsProvedStatement block count (Y.Stop line) = IsLine line
   IsProvedStatement block count (Y.Signal condition line) = IsLine line
   IsProvedStatement block count (Y.Put None pairs line) = AreProvedPairs block count pairs × IsLine line
@@ -125,6 +129,44 @@ abbrev mutual
   AreProvedStatements block count (Y.EndOfList labels) = ⊤
   AreProvedStatements block count (Y.StmtThen labels first rest) =
       IsProvedStatement block count first × AreProvedStatements block count rest
+
+-- ---- jumps
+
+-- how often a label stands among some
+abbrev pub times : Label → List Label → ℕ
+times label [] = 0
+times label (l ∷ ls) = if same_bytes label l then suc (times label ls) else times label ls
+
+-- the labels of a list, and of the lists of groups in it
+abbrev mutual
+  pub inner_labels : Y.Stmt → List Label
+  inner_labels (Y.If condition unit line) = inner_labels unit
+  inner_labels (Y.IfElse condition unit otherwise line) = inner_labels unit ++ inner_labels otherwise
+  inner_labels (Y.Do body line) = all_labels body
+  inner_labels (Y.DoWhile condition body line) = all_labels body
+  inner_labels (Y.DoOnce target start condition body line) = all_labels body
+  inner_labels (Y.DoCount counter start limit step condition body line) = all_labels body
+  inner_labels _ = []
+
+  pub all_labels : Y.Stmts → List Label
+  all_labels (Y.EndOfList labels) = labels
+  all_labels (Y.StmtThen labels first rest) = labels ++ (inner_labels first ++ all_labels rest)
+
+-- a GOTO names a label of a list around it, which stands once in its block
+abbrev mutual
+  pub JumpsAround : (all around : List Label) → Y.Stmt → Type 0
+  JumpsAround all around (Y.If condition unit line) = JumpsAround all around unit
+  JumpsAround all around (Y.IfElse condition unit otherwise line) = JumpsAround all around unit × JumpsAround all around otherwise
+  JumpsAround all around (Y.Do body line) = AllJumpAround all (labels_in body ++ around) body
+  JumpsAround all around (Y.DoWhile condition body line) = AllJumpAround all (labels_in body ++ around) body
+  JumpsAround all around (Y.DoOnce target start condition body line) = AllJumpAround all (labels_in body ++ around) body
+  JumpsAround all around (Y.DoCount counter start limit step condition body line) = AllJumpAround all (labels_in body ++ around) body
+  JumpsAround all around (Y.Goto level label line) = (is_among label around ≡ true) × (times label all ≡ 1)
+  JumpsAround all around _ = ⊤
+
+  pub AllJumpAround : (all around : List Label) → Y.Stmts → Type 0
+  AllJumpAround all around (Y.EndOfList labels) = ⊤
+  AllJumpAround all around (Y.StmtThen labels first rest) = JumpsAround all around first × AllJumpAround all around rest
 
 -- ---- programs
 
@@ -137,6 +179,7 @@ pub record IsProvedBlock (program : Y.Program) (head : Y.BlockHead) (body : Y.St
   pub level : head.level ≡ 0
   pub line : IsLine head.line
   pub statements : AreProvedStatements head.number (length (variables_of_block program head.number)) body
+  pub jumps : AllJumpAround (all_labels body) (labels_in body) body
 
 -- one procedure, without parameters and without a result
 pub record IsProvedSoFar (program : Y.Program) : Type 0 where

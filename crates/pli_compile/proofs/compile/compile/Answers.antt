@@ -1,6 +1,7 @@
 use Rattle.std.proofs.Common.{sym, subst}
 use Rattle.std.proofs.lemmas.Result.{err_from_is_err_and}
 use Rattle.pli_language.specs.Tokens.{Tokens}
+use Rattle.pli_language.specs.Parsing.{Spells}
 use Rattle.pli_compile.proofs.Compiled.{compiled, tree_refused, declarations_refused, types_refused}
 use Rattle.pli_compile.proofs.compile.compile.Goals as goal
 
@@ -16,13 +17,12 @@ returns-in_err-scopes c =
     let tokens : Tokens c.args.source.now c.deref.result.now = subst (λ u. Tokens c.args.source.now u) (sym c.deref.ensures.value) c.in_ok-tokens.ensures.read in
     rw (p.1, p.2) (declarations_refused tokens c.in_ok-tree.ensures.spelled c.in_err-scopes.ensures.refused)
 
-pub returns-in_err-image : goal.returns-in_err-image
-returns-in_err-image c =
-    let p = err_from_is_err_and c.from_residual-in_err-image.result c.from_residual-in_err-image.ensures.1 in
+pub returns-in_err-coded : goal.returns-in_err-coded
+returns-in_err-coded c =
+    let p = err_from_is_err_and c.from_residual-in_err-coded.result c.from_residual-in_err-coded.ensures.1 in
     let tokens : Tokens c.args.source.now c.deref.result.now = subst (λ u. Tokens c.args.source.now u) (sym c.deref.ensures.value) c.in_ok-tokens.ensures.read in
-    rw (p.1, p.2) (types_refused tokens c.in_ok-tree.ensures.spelled c.in_ok-scopes.ensures.accepted c.in_err-image.ensures)
+    rw (p.1, p.2) (types_refused tokens c.in_ok-tree.ensures.spelled c.in_ok-scopes.ensures.accepted c.in_err-coded.ensures)
 
 pub returns : goal.returns
 returns c =
-    let tokens : Tokens c.args.source.now c.deref.result.now = subst (λ u. Tokens c.args.source.now u) (sym c.deref.ensures.value) c.in_ok-tokens.ensures.read in
-    compiled c.headline_so_far.ensures c.first_path_proved.ensures c.first_path_small.ensures tokens c.in_ok-tree.ensures.spelled c.in_ok-scopes.ensures.accepted c.in_ok-image.ensures
+    compiled c.headline_so_far.ensures c.first_path_proved.ensures c.in_ok-tokens.ensures.read (subst (λ u. Spells c.args.source.now u _) c.deref.ensures.value c.in_ok-tree.ensures.spelled) c.in_ok-scopes.ensures.accepted c.in_ok-coded.ensures c.in_ok-image.ensures

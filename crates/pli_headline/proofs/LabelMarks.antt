@@ -1,0 +1,172 @@
+-- The labels of the main procedure: each that stands once among them is marked once in the program's code.
+use Rattle.std.proofs.Common.{◌≡◌, ℕ, suc, ◌+◌, ◌*◌, List, [], ◌∷◌, ◌++◌, length, None, Some, true, refl, sym, ap, ◌∙◌, subst, arith}
+use Rattle.std.specs.Prelude.{ℤ, pos, neg_ℤ, cond, nat_le, ◌==◌, ◌&&◌, if◌then◌else◌}
+use Rattle.std.proofs.lemmas.Bool.{eq-eqb}
+use Rattle.std.proofs.lemmas.Bool.Decides.{nat_tests}
+use Rattle.rv_meaning.specs.declared.instr.Register.{Register}
+use Rattle.rv_meaning.specs.declared.instr.Instr.TheVariants as I
+use Rattle.pli_language.specs.Keywords.{same_bytes}
+use Rattle.pli_typing.specs.TypedTree as Y
+use Rattle.pli_meaning.specs.Control.{Label}
+use Rattle.pli_meaning.specs.DeclaredShapes.{variables_of_block}
+use Rattle.pli_coding.specs.Registers.{zero_register, return_register, frame_register, stack_register, a0, a1, a2, a3, a4, u0, u5}
+use Rattle.pli_coding.specs.Assembly.{Symbol, ProcedureEntry, ReturnPlace, LabelPlace, RaiseCondition, RaiseError, ErrorEnd, same_symbol, Plain, BaseIn, OffsetOf, OffsetAhead, JumpTo, CallTo, JumpAhead, JumpBack, Mark, Code, item_size}
+use Rattle.pli_coding.specs.Instructions.{move, small, number, plus, load_word, service}
+use Rattle.pli_coding.specs.Frames.{frame_below, own_offset, temporary_bytes, name_bytes, frame_bytes, automatic_place}
+use Rattle.pli_coding.specs.Environments.{Environment, none_taken, last_of_level}
+use Rattle.pli_coding.specs.Locating.{own_place, table_number}
+use Rattle.pli_coding.specs.Extents.{initial_code}
+use Rattle.pli_coding.specs.Allocating.{act_code}
+use Rattle.pli_coding.specs.Entries.{frame_begun, block_entered, constant_made, variables_made, variables_code}
+use Rattle.pli_coding.specs.Statements.{stmts_code, stmts_words, block_words}
+use Rattle.pli_coding.specs.Procedures.{procedure_begun, procedure_ended, procedure_in}
+use Rattle.pli_coding.specs.Images.{place_of_head, blocks_in, blocks_among, with_blocks, blocks_of, raise_code, code_of}
+use Rattle.pli_coding.specs.Linking.{marks_from, links_of}
+use Rattle.pli_headline.specs.Headline.{parts}
+use Rattle.pli_headline.specs.ProvedSoFar.{plain_number, ArePlain, AllPlain, IsProvedStatement, AreProvedStatements, times, all_labels}
+use Rattle.pli_headline.proofs.Linking.{times_marked}
+use Rattle.pli_headline.proofs.FirstFrame.{start_of}
+use Rattle.pli_headline.proofs.Marks.{code_is}
+use Rattle.pli_headline.proofs.MainProcedure.{IsAlone, main_head, main_environment, main_plain}
+use Rattle.pli_headline.proofs.Variables.{outermost}
+use Rattle.pli_headline.proofs.Gotos.{LabelsStand}
+use Rattle.pli_headline.proofs.ProgramSizes.{frame_filled}
+use Rattle.pli_headline.proofs.SymbolsMarked.{symbols_marked, Marks, both_mark, behind, constant_none, load_none, plus_none, act_none}
+use Rattle.pli_headline.proofs.StatementMarks.{places_of, statements_mark}
+
+-- ---- the procedure
+
+place_none : (e : Environment) (r : Register) (z : ℤ) → Marks (own_place (outermost e) r z) []
+place_none e r z =
+    behind (load_word r frame_register own_offset) (plus r r z) [] (load_none r frame_register own_offset) (plus_none r r z)
+
+made_none : (e : Environment) (place : ℕ) → Marks (constant_made (outermost e) place plain_number) []
+made_none e place =
+    let name = own_place (outermost e) a0 (pos place) in
+    let n = number a1 (table_number e plain_number) in
+    let data_at = own_place (outermost e) a3 (pos (place + name_bytes)) in
+    let z : ℤ = pos (place + frame_bytes e.parts plain_number) in
+    let last = small a4 0 ∷ (service 7 ++ plus stack_register frame_register z) in
+    let initial = initial_code a2 plain_number in
+    behind name (n ++ (initial ++ (data_at ++ last))) [] (place_none e a0 (pos place))
+    (behind n (initial ++ (data_at ++ last)) [] (constant_none a1 (pos (table_number e plain_number)))
+    (behind data_at last [] (place_none e a3 (pos (place + name_bytes))) (plus_none stack_register frame_register z)))
+
+variables_none : (e : Environment) (line index : ℕ) (ds : List Y.DeclaredVariable) → ArePlain ds → Marks (variables_made (outermost e) line index ds) []
+variables_none e line index [] are = refl
+variables_none e line index (d ∷ ds) are =
+    let place = automatic_place e.parts e.program e.block 0 index in
+    subst (λ u. Marks (variables_made (outermost e) line index (u ∷ ds)) []) (sym are.0)
+    (behind (constant_made (outermost e) place plain_number) (variables_made (outermost e) line (suc index) ds) [] (made_none e place) (variables_none e line (suc index) ds are.1))
+
+begun_none : (words : ℕ) → Marks (frame_begun words 0 0 true) []
+begun_none words =
+    behind (plus u0 stack_register (pos (temporary_bytes words))) frame_filled [] (plus_none u0 stack_register (pos (temporary_bytes words))) refl
+
+prologue_none : (e : Environment) (block line words : ℕ) → ArePlain (variables_of_block e.program e.block) → Marks (procedure_begun (outermost e) (main_head block line) words []) []
+prologue_none e block line words plain =
+    let made = variables_code (outermost e) line in
+    let act = act_code line in
+    let entered = block_entered 0 line in
+    behind (frame_begun words 0 0 true) (move u5 a1 ∷ move a3 a2 ∷ (entered ++ (made ++ act))) [] (begun_none words)
+    (behind entered (made ++ act) [] (behind (number a2 line) (service 4) [] (constant_none a2 (pos line)) refl)
+    (behind made act [] (variables_none e line 0 (variables_of_block e.program e.block) plain) (act_none line)))
+
+ended_marks : (e : Environment) (head : Y.BlockHead) (words : ℕ) → Marks (procedure_ended e head words None) (ReturnPlace head.number ∷ [])
+ended_marks e head words =
+    let z : ℤ = neg_ℤ (pos (temporary_bytes words)) in
+    let up = plus stack_register frame_register z in
+    let below = load_word frame_register frame_register frame_below in
+    let last = Plain (I.JumpRegister zero_register return_register (pos 0)) ∷ [] in
+    ap (λ ss. ReturnPlace head.number ∷ ss) (behind (up ++ below) last [] (behind up below [] (plus_none stack_register frame_register z) refl) refl)
+
+-- the symbols of the whole program
+abbrev program_symbols : (block : ℕ) → List Label → List Symbol
+program_symbols block labels =
+    RaiseCondition ∷ RaiseError ∷ ErrorEnd ∷ ProcedureEntry block ∷ (places_of block labels ++ ReturnPlace block ∷ [])
+
+program_marks : (program : Y.Program) (block line : ℕ) (body : Y.Stmts) → AllPlain program.variables → IsAlone program block line body → AreProvedStatements block (length (variables_of_block program block)) body → Marks (code_of parts program) (program_symbols block (all_labels body))
+program_marks program block line body plain alone are =
+    let e = main_environment program block in
+    let words = block_words e block (stmts_words body) in
+    let begun = procedure_begun e (main_head block line) words [] in
+    let code = stmts_code e none_taken body in
+    let ended = procedure_ended e (main_head block line) words None in
+    let inner = procedure_in e (main_head block line) body [] None in
+    let ss = places_of block (all_labels body) ++ ReturnPlace block ∷ [] in
+    let inside : Marks (begun ++ (code ++ ended)) ss =
+    behind begun (code ++ ended) ss (prologue_none e block line words (main_plain program block plain))
+    (both_mark code ended (places_of block (all_labels body)) (ReturnPlace block ∷ []) (statements_mark e none_taken block (length (variables_of_block program block)) body (main_plain program block plain, refl) are) (ended_marks e (main_head block line) words)) in
+    ap symbols_marked (code_is program block line body plain alone)
+    ∙ behind (start_of block) (raise_code ++ inner) (program_symbols block (all_labels body)) refl
+    (both_mark raise_code inner (RaiseCondition ∷ RaiseError ∷ ErrorEnd ∷ []) (ProcedureEntry block ∷ ss) refl (ap (λ us. ProcedureEntry block ∷ us) inside))
+
+-- ---- how often a label is marked
+
+abbrev symbol_times : Symbol → List Symbol → ℕ
+symbol_times s [] = 0
+symbol_times s (m ∷ ms) = if same_symbol s m then suc (symbol_times s ms) else symbol_times s ms
+
+times_are : (s : Symbol) (at : ℕ) (c : Code) → times_marked s (marks_from at c) ≡ symbol_times s (symbols_marked c)
+times_are s at [] = refl
+times_are s at (Plain i ∷ xs) = times_are s (at + 4 * item_size (Plain i)) xs
+times_are s at (BaseIn r ∷ xs) = times_are s (at + 4 * item_size (BaseIn r)) xs
+times_are s at (OffsetOf r y ∷ xs) = times_are s (at + 4 * item_size (OffsetOf r y)) xs
+times_are s at (OffsetAhead r words ∷ xs) = times_are s (at + 4 * item_size (OffsetAhead r words)) xs
+times_are s at (JumpTo y ∷ xs) = times_are s (at + 4 * item_size (JumpTo y)) xs
+times_are s at (CallTo y ∷ xs) = times_are s (at + 4 * item_size (CallTo y)) xs
+times_are s at (JumpAhead words ∷ xs) = times_are s (at + 4 * item_size (JumpAhead words)) xs
+times_are s at (JumpBack words ∷ xs) = times_are s (at + 4 * item_size (JumpBack words)) xs
+times_are s at (Mark y ∷ xs) = ap (λ n. cond (same_symbol s y) (suc n) n) (times_are s at xs)
+
+label_times : (block : ℕ) (label : Label) (labels : List Label) → (block == block) ≡ true → symbol_times (LabelPlace block label) (places_of block labels ++ ReturnPlace block ∷ []) ≡ times label labels
+label_times block label [] same = refl
+label_times block label (l ∷ ls) same =
+    let n = symbol_times (LabelPlace block label) (places_of block ls ++ ReturnPlace block ∷ []) in
+    ap (λ q. cond (q && same_bytes label l) (suc n) n) same
+    ∙ ap (λ m. cond (same_bytes label l) (suc m) m) (label_times block label ls same)
+
+-- ---- no block stands in the procedure
+
+mutual
+  no_block : (block count : ℕ) (x : Y.Stmt) → IsProvedStatement block count x → blocks_in x ≡ []
+  no_block block count (Y.Null line) is = refl
+  no_block block count (Y.Assign target (Y.StoredNumber precision x) line) is = refl
+  no_block block count (Y.If condition unit line) is = no_block block count unit is.1.0
+  no_block block count (Y.IfElse condition unit otherwise line) is =
+      ap (λ u. u ++ blocks_in otherwise) (no_block block count unit is.1.0) ∙ no_block block count otherwise is.1.1.0
+  no_block block count (Y.Do body line) is = no_blocks block count body is.0
+  no_block block count (Y.DoWhile condition body line) is = no_blocks block count body is.1.0
+  no_block block count (Y.DoOnce target (Y.StoredNumber precision x) condition body line) is = no_blocks block count body is.1.1.0
+  no_block block count (Y.DoCount (Y.NumberCounter precision target) (Y.NumberValue p x) limit step condition body line) is = no_blocks block count body is.1.1.1.0
+  no_block block count (Y.Goto level label line) is = refl
+  no_block block count (Y.Stop line) is = refl
+  no_block block count (Y.Signal condition line) is = refl
+  no_block block count (Y.Put None pairs line) is = refl
+  no_block block count (Y.Put (Some n) pairs line) is = refl
+  no_block block count _ is = absurd is
+
+  no_blocks : (block count : ℕ) (body : Y.Stmts) → AreProvedStatements block count body → blocks_among body ≡ []
+  no_blocks block count (Y.EndOfList labels) are = refl
+  no_blocks block count (Y.StmtThen labels first rest) are =
+      ap (λ u. u ++ blocks_among rest) (no_block block count first are.0) ∙ no_blocks block count rest are.1
+
+own_block : (program : Y.Program) (block line count : ℕ) (body : Y.Stmts) → IsAlone program block line body → AreProvedStatements block count body → last_of_level block 0 0 (blocks_of program.procedures) ≡ block
+own_block program block line count body alone are =
+    let here : nat_le block block ≡ true = grind (arith, nat_tests) in
+    ap (λ ps. last_of_level block 0 0 (blocks_of ps)) alone
+    ∙ ap (λ bs. last_of_level block 0 0 (with_blocks (place_of_head (main_head block line) ∷ bs) [])) (no_blocks block count body are)
+    ∙ ap (λ q. cond (q && true) block 0) here
+
+-- ---- the labels
+
+pub labels_stand : (program : Y.Program) (block line : ℕ) (body : Y.Stmts) → AllPlain program.variables → IsAlone program block line body → AreProvedStatements block (length (variables_of_block program block)) body → LabelsStand (main_environment program block) (links_of (code_of parts program)) (all_labels body)
+labels_stand program block line body plain alone are =
+    record {
+      own = own_block program block line (length (variables_of_block program block)) body alone are;
+      once = λ label h.
+          times_are (LabelPlace block label) 0 (code_of parts program)
+          ∙ ap (symbol_times (LabelPlace block label)) (program_marks program block line body plain alone are)
+          ∙ label_times block label (all_labels body) (eq-eqb block block refl)
+          ∙ h;
+    }
