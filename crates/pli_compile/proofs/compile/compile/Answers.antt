@@ -1,7 +1,8 @@
-use Rattle.std.proofs.Common.{sym, subst}
+use Rattle.std.proofs.Common.{sym, subst, arith}
 use Rattle.std.proofs.lemmas.Result.{err_from_is_err_and}
 use Rattle.pli_language.specs.Tokens.{Tokens}
 use Rattle.pli_language.specs.Parsing.{Spells}
+use Rattle.pli_language.specs.View.{tree_of}
 use Rattle.pli_compile.proofs.Compiled.{compiled, tree_refused, declarations_refused, types_refused}
 use Rattle.pli_compile.proofs.compile.compile.Goals as goal
 
@@ -25,4 +26,7 @@ returns-in_err-coded c =
 
 pub returns : goal.returns
 returns c =
-    compiled c.headline_so_far.ensures c.first_path_proved.ensures c.in_ok-tokens.ensures.read (subst (λ u. Spells c.args.source.now u _) c.deref.ensures.value c.in_ok-tree.ensures.spelled) c.in_ok-scopes.ensures.accepted c.in_ok-coded.ensures c.in_ok-image.ensures
+    let spelled = subst (λ u. Spells c.args.source.now u (tree_of c.in_ok-tree.tree)) c.deref.ensures.value c.in_ok-tree.ensures.spelled in
+    let few = c.in_ok-image.ensures.1 in
+    let count = c.len.ensures in
+    compiled c.headline_so_far.ensures c.first_path_proved.ensures c.in_ok-tokens.ensures.read spelled c.in_ok-scopes.ensures.accepted c.in_ok-coded.ensures (c.in_ok-image.ensures.0, omega (arith, few, count))
