@@ -5,17 +5,19 @@ use Rattle.std.specs.Prelude.{ℤ, cond}
 use Rattle.rv_meaning.specs.declared.instr.Instr.{Instr}
 use Rattle.rv_meaning.specs.declared.instr.Instr.TheVariants as I
 use Rattle.rv_meaning.specs.declared.instr.ImmediateOp.TheVariants as Imm
+use Rattle.rv_meaning.specs.declared.instr.LoadKind.{LoadKind}
 use Rattle.rv_meaning.specs.declared.instr.LoadKind.TheVariants as Load
+use Rattle.rv_meaning.specs.declared.instr.StoreKind.{StoreKind}
 use Rattle.rv_meaning.specs.declared.instr.StoreKind.TheVariants as Store
 use Rattle.rv_meaning.specs.declared.instr.Register.{Register}
 use Rattle.rv_meaning.specs.Words.{word, sum}
 use Rattle.rv_meaning.specs.Memory.{load, store}
-use Rattle.rv_meaning.specs.Machine.{memory_size, written}
+use Rattle.rv_meaning.specs.Machine.{memory_size, load_width, extended, store_width, written}
 use Rattle.rv_meaning.proofs.MemoryLaws.{length-store}
 use Rattle.pli_serving.specs.ServiceState.{Services}
 use Rattle.pli_coding.specs.Registers.{zero_register, frame_register, far_register}
 use Rattle.pli_coding.specs.Assembly.{Code, Plain, size_of}
-use Rattle.pli_coding.specs.Instructions.{add, constant, plus, load_word, store_word, is_immediate}
+use Rattle.pli_coding.specs.Instructions.{add, constant, displaced, plus, load_word, store_word, is_immediate}
 use Rattle.pli_coding.specs.Linking.{Links, upper_part, lower_part}
 use Rattle.image_runs.specs.Runs.{Whole}
 use Rattle.pli_headline.proofs.Engine.{Base, address, WordAt}
@@ -162,38 +164,46 @@ pub record PlaceOf (g : Ground) (z : ℤ) (o : ℕ) : Type 0 where
 abbrev pub at_place : (b : Base) {g : Ground} {z : ℤ} {o : ℕ} → PlaceOf g z o → (addressed : ℕ) → addressed ≡ sum (b.at + g.frame) (word z) → WordAt b addressed
 at_place b {o = o} p addressed e = record { offset = o; is = e ∙ p.sums b; aligned = p.aligned; inside = p.inside }
 
--- a word of memory comes into a register
-pub load_piece : {links : Links} {code : List Instr} {i : ℕ} {g : Ground} {v : Services} {h t : ℕ → ℕ} {rs : Base → List (ℕ × ℕ)} (c : ℕ) (f : Family) (r : Register) (z : ℤ) (o : ℕ) (x : Base → ℕ) → PlaceOf g z o → ((b : Base) (m : List ℕ) → g.memory t b m → load 4 m o ≡ x b) → Free rs r.index → Free rs 31 → Linked links code i (load_word r frame_register z) → ((b : Base) → At b i (Known g v h t rs b) (f b)) → Reach code c f v (c + size_of (load_word r frame_register z)) v (λ b w. At b (i + size_of (load_word r frame_register z)) (Known g v h t (with' r.index x rs) b) w)
-load_piece {links = links} {code = code} {g = g} {v = v} {h = h} {t = t} {rs = rs} c f r z o x place reads free far l at =
-    displaced_by (is_immediate z) c f (λ s d. I.Load Load.Word r s d) frame_register z (λ b. b.at + g.frame) (Known g v h t rs) (Known g v h t (with' r.index x rs)) place.small' (frame_fits g) (λ y u. refl) (λ b. frame_is (at b).holds.body) (omega arith)
+-- what stands at a place comes into a register
+pub narrow_load_piece : {links : Links} {code : List Instr} {i : ℕ} {g : Ground} {v : Services} {h t : ℕ → ℕ} {rs : Base → List (ℕ × ℕ)} (c : ℕ) (f : Family) (r : Register) (kind : LoadKind) (z : ℤ) (o : ℕ) (x : Base → ℕ) → PlaceOf g z o → ((b : Base) (m : List ℕ) → g.memory t b m → extended kind (load (load_width kind) m o) ≡ x b) → Free rs r.index → Free rs 31 → Linked links code i (displaced (λ s d. I.Load kind r s d) frame_register z) → ((b : Base) → At b i (Known g v h t rs b) (f b)) → Reach code c f v (c + size_of (displaced (λ s d. I.Load kind r s d) frame_register z)) v (λ b w. At b (i + size_of (displaced (λ s d. I.Load kind r s d) frame_register z)) (Known g v h t (with' r.index x rs) b) w)
+narrow_load_piece {g = g} {v = v} {h = h} {t = t} {rs = rs} c f r kind z o x place reads free far l at =
+    displaced_by (is_immediate z) c f (λ s d. I.Load kind r s d) frame_register z (λ b. b.at + g.frame) (Known g v h t rs) (Known g v h t (with' r.index x rs)) place.small' (frame_fits g) (λ y u. refl) (λ b. frame_is (at b).holds.body) (omega arith)
     (record {
-      does = λ b j w s d k e. (at_place b place _ e, set_known w r.index (load 4 w.machine.memory o) _ x free (reads b w.machine.memory k.body.memory) k);
+      does = λ b j w s d k e. (at_place b place _ e, set_known w r.index (extended kind (load (load_width kind) w.machine.memory o)) _ x free (reads b w.machine.memory k.body.memory) k);
       lost = λ b w u i k. lose_known w 31 u i far k;
     })
     l at
 
+-- a word of memory comes into a register
+pub load_piece : {links : Links} {code : List Instr} {i : ℕ} {g : Ground} {v : Services} {h t : ℕ → ℕ} {rs : Base → List (ℕ × ℕ)} (c : ℕ) (f : Family) (r : Register) (z : ℤ) (o : ℕ) (x : Base → ℕ) → PlaceOf g z o → ((b : Base) (m : List ℕ) → g.memory t b m → load 4 m o ≡ x b) → Free rs r.index → Free rs 31 → Linked links code i (load_word r frame_register z) → ((b : Base) → At b i (Known g v h t rs b) (f b)) → Reach code c f v (c + size_of (load_word r frame_register z)) v (λ b w. At b (i + size_of (load_word r frame_register z)) (Known g v h t (with' r.index x rs) b) w)
+load_piece c f r z o x place reads free far l at = narrow_load_piece c f r Load.Word z o x place reads free far l at
+
 -- ---- stores
 
-stored_body : {g : Ground} (g' : Ground) {b : Base} {v : Services} {h t : ℕ → ℕ} (t' : ℕ → ℕ) (w : Whole) (o u i : ℕ) → reserved_are b g h ≡ reserved_are b g' h → g'.memory t' b (store 4 w.machine.memory o u) → Body g b v h t w → Body g' b v h t' (record { machine = record { registers = w.machine.registers; memory = store 4 w.machine.memory o u; pc = i }; services = w.services })
-stored_body g' t' w o u i same m k =
-    record { services = k.services; registers = k.registers ∙ same; bytes = length-store 4 w.machine.memory o u ∙ k.bytes; memory = m }
+stored_body : {g : Ground} (g' : Ground) {b : Base} {v : Services} {h t : ℕ → ℕ} (t' : ℕ → ℕ) (kind : StoreKind) (w : Whole) (o u i : ℕ) → reserved_are b g h ≡ reserved_are b g' h → g'.memory t' b (store (store_width kind) w.machine.memory o u) → Body g b v h t w → Body g' b v h t' (record { machine = record { registers = w.machine.registers; memory = store (store_width kind) w.machine.memory o u; pc = i }; services = w.services })
+stored_body g' t' kind w o u i same m k =
+    record { services = k.services; registers = k.registers ∙ same; bytes = length-store (store_width kind) w.machine.memory o u ∙ k.bytes; memory = m }
 
--- a register goes into a word of memory
-pub store_piece : {links : Links} {code : List Instr} {i : ℕ} {g : Ground} (g' : Ground) {v : Services} {h t : ℕ → ℕ} (t' : ℕ → ℕ) {rs : Base → List (ℕ × ℕ)} (c : ℕ) (f : Family) (r : Register) (z : ℤ) (o : ℕ) (x : Base → ℕ) → PlaceOf g z o → IsNear r.index → ((b : Base) (w : Whole) → Known g v h t rs b w → w.machine.registers r.index ≡ x b) → ((b : Base) → reserved_are b g h ≡ reserved_are b g' h) → ((b : Base) (m : List ℕ) → length m ≡ memory_size → g.memory t b m → g'.memory t' b (store 4 m o (x b))) → Free rs 31 → Linked links code i (store_word frame_register r z) → ((b : Base) → At b i (Known g v h t rs b) (f b)) → Reach code c f v (c + size_of (store_word frame_register r z)) v (λ b w. At b (i + size_of (store_word frame_register r z)) (Known g' v h t' rs b) w)
-store_piece {links = links} {code = code} {g = g} g' {v = v} {h = h} {t = t} t' {rs = rs} c f r z o x place near value same writes far l at =
-    displaced_by (is_immediate z) c f (λ s d. I.Store Store.Word s r d) frame_register z (λ b. b.at + g.frame) (Known g v h t rs) (Known g' v h t' rs) place.small' (frame_fits g) (λ y u. refl) (λ b. frame_is (at b).holds.body) (omega arith)
+-- a register goes to a place
+pub narrow_store_piece : {links : Links} {code : List Instr} {i : ℕ} {g : Ground} (g' : Ground) {v : Services} {h t : ℕ → ℕ} (t' : ℕ → ℕ) {rs : Base → List (ℕ × ℕ)} (c : ℕ) (f : Family) (r : Register) (kind : StoreKind) (z : ℤ) (o : ℕ) (x : Base → ℕ) → PlaceOf g z o → IsNear r.index → ((b : Base) (w : Whole) → Known g v h t rs b w → w.machine.registers r.index ≡ x b) → ((b : Base) → reserved_are b g h ≡ reserved_are b g' h) → ((b : Base) (m : List ℕ) → length m ≡ memory_size → g.memory t b m → g'.memory t' b (store (store_width kind) m o (x b))) → Free rs 31 → Linked links code i (displaced (λ s d. I.Store kind s r d) frame_register z) → ((b : Base) → At b i (Known g v h t rs b) (f b)) → Reach code c f v (c + size_of (displaced (λ s d. I.Store kind s r d) frame_register z)) v (λ b w. At b (i + size_of (displaced (λ s d. I.Store kind s r d) frame_register z)) (Known g' v h t' rs b) w)
+narrow_store_piece {g = g} g' {v = v} {h = h} {t = t} t' {rs = rs} c f r kind z o x place near value same writes far l at =
+    displaced_by (is_immediate z) c f (λ s d. I.Store kind s r d) frame_register z (λ b. b.at + g.frame) (Known g v h t rs) (Known g' v h t' rs) place.small' (frame_fits g) (λ y u. refl) (λ b. frame_is (at b).holds.body) (omega arith)
     (record {
       does = λ b j w s d k e. (
         at_place b place _ e,
         let small' = l.small' in let above = place.above_code in omega (arith, small', above),
         record {
-          body = stored_body g' t' w o (w.machine.registers r.index) _ (same b) (subst (λ u. g'.memory t' b (store 4 w.machine.memory o u)) (sym (value b w k)) (writes b w.machine.memory k.body.bytes k.body.memory)) k.body;
+          body = stored_body g' t' kind w o (w.machine.registers r.index) _ (same b) (subst (λ u. g'.memory t' b (store (store_width kind) w.machine.memory o u)) (sym (value b w k)) (writes b w.machine.memory k.body.bytes k.body.memory)) k.body;
           regs = k.regs;
         },
       );
       lost = λ b w u i k. lose_known w 31 u i far k;
     })
     l at
+
+-- a register goes into a word of memory
+pub store_piece : {links : Links} {code : List Instr} {i : ℕ} {g : Ground} (g' : Ground) {v : Services} {h t : ℕ → ℕ} (t' : ℕ → ℕ) {rs : Base → List (ℕ × ℕ)} (c : ℕ) (f : Family) (r : Register) (z : ℤ) (o : ℕ) (x : Base → ℕ) → PlaceOf g z o → IsNear r.index → ((b : Base) (w : Whole) → Known g v h t rs b w → w.machine.registers r.index ≡ x b) → ((b : Base) → reserved_are b g h ≡ reserved_are b g' h) → ((b : Base) (m : List ℕ) → length m ≡ memory_size → g.memory t b m → g'.memory t' b (store 4 m o (x b))) → Free rs 31 → Linked links code i (store_word frame_register r z) → ((b : Base) → At b i (Known g v h t rs b) (f b)) → Reach code c f v (c + size_of (store_word frame_register r z)) v (λ b w. At b (i + size_of (store_word frame_register r z)) (Known g' v h t' rs b) w)
+store_piece g' t' c f r z o x place near value same writes far l at = narrow_store_piece g' t' c f r Store.Word z o x place near value same writes far l at
 
 -- ---- sums
 

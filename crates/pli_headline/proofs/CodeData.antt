@@ -28,12 +28,12 @@ use Rattle.pli_coding.specs.Statements.{stmt_code, stmts_code, stmts_words, bloc
 use Rattle.pli_coding.specs.Procedures.{procedure_begun, procedure_ended, procedure_in}
 use Rattle.pli_coding.specs.Images.{raise_code, code_of}
 use Rattle.pli_headline.specs.Headline.{parts}
-use Rattle.pli_headline.specs.ProvedSoFar.{plain_number, ArePlain, AllPlain, IsOwnNumber}
-use Rattle.pli_headline.specs.FirstForms.{IsFirstOperator, IsFirstNumber, IsFirstItem, AreFirstItems, AreFirstPairs, IsFirstStatement, AreFirstStatements}
+use Rattle.pli_headline.specs.FirstForms.{plain_number, AreNumbers, AllNumbers, IsFirstReference, IsFirstOperator, IsFirstNumber, IsFirstItem, AreFirstItems, AreFirstPairs, IsFirstStatement, AreFirstStatements}
 use Rattle.pli_headline.proofs.FirstFrame.{start_of}
 use Rattle.pli_headline.proofs.Marks.{code_is}
-use Rattle.pli_headline.proofs.MainProcedure.{IsAlone, main_head, main_environment, main_plain}
-use Rattle.pli_headline.proofs.Variables.{outermost, own, whole, data_place, number_loaded, number_reached, number_stored}
+use Rattle.pli_headline.proofs.MainProcedure.{IsAlone, main_head, main_environment}
+use Rattle.pli_headline.proofs.FirstForms.{all_numbers_plain, block_numbers}
+use Rattle.pli_headline.proofs.Variables.{outermost, own, whole, data_place, number_loaded, scalar_reached, scalar_kept}
 use Rattle.pli_headline.proofs.CodeSizes.{HasPlain, declared_plain}
 use Rattle.pli_headline.proofs.ProgramSizes.{frame_filled}
 
@@ -115,11 +115,11 @@ sign_none : (t : Taken) (sign : Y.Sign) → Names (signed_code t sign) []
 sign_none t Y.Positive = refl
 sign_none t Y.Negative = overflow_none t
 
-reference_none : (e : Environment) (t : Taken) (block count : ℕ) (r : Y.Reference) → HasPlain e block count → IsOwnNumber block count r → Names (number_code (outermost e) t (Y.NumberIn r)) []
+reference_none : (e : Environment) (t : Taken) (block count : ℕ) (r : Y.Reference) → HasPlain e block count → IsFirstReference block count r → Names (number_code (outermost e) t (Y.NumberIn r)) []
 reference_none e t block count r has is =
     let d = declared_plain e block count is.index has is.declared in
     let same : number_code (outermost e) t (Y.NumberIn r) ≡ load_word a0 frame_register (pos (data_place e block is.index)) =
-    ap (λ q. number_code (outermost e) t (Y.NumberIn q)) is.is ∙ number_loaded e t block is.index d in
+    ap (λ q. number_code (outermost e) t (Y.NumberIn q)) is.is ∙ number_loaded e t block is.index 31 ([], d) in
     ap data_named same ∙ load_none a0 frame_register (pos (data_place e block is.index))
 
 number_none : (e : Environment) (t : Taken) (block count : ℕ) (x : Y.Number) → HasPlain e block count → IsFirstNumber block count x → Names (number_code (outermost e) t x) []
@@ -177,15 +177,15 @@ pairs_name e t block count (p ∷ ps) has are =
 fitted_none : (t : Taken) (precision : ℕ) → precision ≡ 31 → Names (fitted_code t precision) []
 fitted_none t precision e = subst (λ p. Names (fitted_code t p) []) (sym e) refl
 
-target_none : (e : Environment) (t : Taken) (block count : ℕ) (r : Y.Reference) → HasPlain e block count → IsOwnNumber block count r → Names (word_stored (outermost e) t r) []
+target_none : (e : Environment) (t : Taken) (block count : ℕ) (r : Y.Reference) → HasPlain e block count → IsFirstReference block count r → Names (word_stored (outermost e) t r) []
 target_none e t block count r has is =
     let d = declared_plain e block count is.index has is.declared in
     let place : ℤ = pos (data_place e block is.index) in
     let into = store_word frame_register a0 place in
     let same : word_stored (outermost e) t r ≡ save a0 t ++ ([] ++ (fetch a0 t ++ into)) =
     ap (λ q. word_stored (outermost e) t q) is.is
-    ∙ ap (λ c. save a0 t ++ (c ++ (fetch a0 t ++ stored (type_in (outermost e) (whole (own block is.index))) a0 (address_in (outermost e) (whole (own block is.index)))))) (number_reached e (with_number t) block is.index d)
-    ∙ ap (λ c. save a0 t ++ ([] ++ (fetch a0 t ++ c))) (number_stored e block is.index d) in
+    ∙ ap (λ c. save a0 t ++ (c ++ (fetch a0 t ++ stored (type_in (outermost e) (whole (own block is.index))) a0 (address_in (outermost e) (whole (own block is.index)))))) (scalar_reached e (with_number t) block is.index (Y.FixedLeaf 31) tt ([], d))
+    ∙ ap (λ c. save a0 t ++ ([] ++ (fetch a0 t ++ c))) (scalar_kept e block is.index (Y.FixedLeaf 31) tt ([], d)) in
     ap data_named same
     ∙ behind (save a0 t) (fetch a0 t ++ into) [] (saved_none a0 t)
     (behind (fetch a0 t) into [] (fetched_none a0 t) (store_none frame_register a0 place))
@@ -230,7 +230,7 @@ made_none e place =
     (behind n (initial ++ (data_at ++ last)) [] (constant_none a1 (pos (table_number e plain_number)))
     (behind data_at last [] (place_none e a3 (pos (place + name_bytes))) (plus_none stack_register frame_register z)))
 
-variables_none : (e : Environment) (line index : ℕ) (ds : List Y.DeclaredVariable) → ArePlain ds → Names (variables_made (outermost e) line index ds) []
+variables_none : (e : Environment) (line index : ℕ) (ds : List Y.DeclaredVariable) → AreNumbers ds → Names (variables_made (outermost e) line index ds) []
 variables_none e line index [] are = refl
 variables_none e line index (d ∷ ds) are =
     let place = automatic_place e.parts e.program e.block 0 index in
@@ -252,7 +252,7 @@ begun_none : (words : ℕ) → Names (frame_begun words 0 0 true) []
 begun_none words =
     behind (plus u0 stack_register (pos (temporary_bytes words))) frame_filled [] (plus_none u0 stack_register (pos (temporary_bytes words))) refl
 
-prologue_none : (e : Environment) (block line words : ℕ) → ArePlain (variables_of_block e.program e.block) → Names (procedure_begun (outermost e) (main_head block line) words []) []
+prologue_none : (e : Environment) (block line words : ℕ) → AreNumbers (variables_of_block e.program e.block) → Names (procedure_begun (outermost e) (main_head block line) words []) []
 prologue_none e block line words plain =
     let made = variables_code (outermost e) line in
     let act = act_code line in
@@ -263,7 +263,7 @@ prologue_none e block line words plain =
 
 -- ---- the whole
 
-pub program_names : (program : Y.Program) (block line : ℕ) (body : Y.Stmts) → AllPlain program.variables → IsAlone program block line body → AreFirstStatements block (length (variables_of_block program block)) body → data_named (code_of parts program) ≡ stmts_data body
+pub program_names : (program : Y.Program) (block line : ℕ) (body : Y.Stmts) → AllNumbers program.variables → IsAlone program block line body → AreFirstStatements block (length (variables_of_block program block)) body → data_named (code_of parts program) ≡ stmts_data body
 program_names program block line body plain alone are =
     let e = main_environment program block in
     let words = block_words e block (stmts_words body) in
@@ -271,9 +271,9 @@ program_names program block line body plain alone are =
     let code = stmts_code e none_taken body in
     let ended = procedure_ended e (main_head block line) words None in
     let inside : Names (begun ++ (code ++ ended)) (stmts_data body) =
-    behind begun (code ++ ended) (stmts_data body) (prologue_none e block line words (main_plain program block plain))
-    (then_names code ended (stmts_data body) [] (statements_name e none_taken block (length (variables_of_block program block)) body (main_plain program block plain, refl) are) (ended_none e (main_head block line) words)
+    behind begun (code ++ ended) (stmts_data body) (prologue_none e block line words (block_numbers program.variables block plain))
+    (then_names code ended (stmts_data body) [] (statements_name e none_taken block (length (variables_of_block program block)) body (block_numbers program.variables block plain, refl) are) (ended_none e (main_head block line) words)
     ∙ append-nil (stmts_data body)) in
-    ap data_named (code_is program block line body plain alone)
+    ap data_named (code_is program block line body (all_numbers_plain program.variables plain) alone)
     ∙ behind (start_of block) (raise_code ++ procedure_in e (main_head block line) body [] None) (stmts_data body) refl
     (behind raise_code (procedure_in e (main_head block line) body [] None) (stmts_data body) refl inside)

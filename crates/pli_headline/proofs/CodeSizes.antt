@@ -20,11 +20,10 @@ use Rattle.pli_coding.specs.Locating.{stored}
 use Rattle.pli_coding.specs.Streams.{has_fixed, has_text, controls_carried_out, by_item, number_written, text_written, number_put, as_text, item_put, items_put, edit_begun, edit_ended, put_pair, put_pairs}
 use Rattle.pli_coding.specs.Allocating.{act_code}
 use Rattle.pli_coding.specs.Statements.{stmt_code, stmts_code, marked}
-use Rattle.pli_headline.specs.ProvedSoFar.{plain_number, ArePlain, IsOwnNumber}
-use Rattle.pli_headline.specs.FirstForms.{IsFirstOperator, IsFirstNumber, IsFirstItem, AreFirstItems, AreFirstPairs, IsFirstStatement, AreFirstStatements}
+use Rattle.pli_headline.specs.FirstForms.{plain_number, AreNumbers, IsFirstReference, IsFirstOperator, IsFirstNumber, IsFirstItem, AreFirstItems, AreFirstPairs, IsFirstStatement, AreFirstStatements}
 use Rattle.pli_headline.proofs.Linking.{size_append}
-use Rattle.pli_headline.proofs.MainProcedure.{plain_at}
-use Rattle.pli_headline.proofs.Variables.{outermost, own, whole, data_place, number_loaded, number_reached, number_stored}
+use Rattle.pli_headline.proofs.FirstForms.{number_at}
+use Rattle.pli_headline.proofs.Variables.{outermost, own, whole, data_place, number_loaded, scalar_reached, scalar_kept}
 
 -- ---- nodes
 
@@ -106,18 +105,18 @@ sign_most t Y.Negative = let o = overflow_most t in omega (arith, o)
 
 -- a program whose block has plain numbers
 abbrev pub HasPlain : Environment → (block count : ℕ) → Type 0
-HasPlain e block count = ArePlain (variables_of_block e.program block) × (count ≡ length (variables_of_block e.program block))
+HasPlain e block count = AreNumbers (variables_of_block e.program block) × (count ≡ length (variables_of_block e.program block))
 
 pub declared_plain : (e : Environment) (block count index : ℕ) → HasPlain e block count → index < count → slice_get (variables_of_block e.program block) index ≡ Some plain_number
 declared_plain e block count index has h =
-    plain_at (variables_of_block e.program block) index has.0 (subst (λ n. index < n) has.1 h)
+    number_at (variables_of_block e.program block) index has.0 (subst (λ n. index < n) has.1 h)
 
-reference_most : (e : Environment) (t : Taken) (block count : ℕ) (r : Y.Reference) → HasPlain e block count → IsOwnNumber block count r → size_of (number_code (outermost e) t (Y.NumberIn r)) ≤ 3
+reference_most : (e : Environment) (t : Taken) (block count : ℕ) (r : Y.Reference) → HasPlain e block count → IsFirstReference block count r → size_of (number_code (outermost e) t (Y.NumberIn r)) ≤ 3
 reference_most e t block count r has is =
     let d = declared_plain e block count is.index has is.declared in
     let n = load_most a0 frame_register (pos (data_place e block is.index)) in
     let same : number_code (outermost e) t (Y.NumberIn r) ≡ load_word a0 frame_register (pos (data_place e block is.index)) =
-    ap (λ q. number_code (outermost e) t (Y.NumberIn q)) is.is ∙ number_loaded e t block is.index d in
+    ap (λ q. number_code (outermost e) t (Y.NumberIn q)) is.is ∙ number_loaded e t block is.index 31 ([], d) in
     subst (λ c. size_of c ≤ 3) (sym same) n
 
 pub number_most : (e : Environment) (t : Taken) (block count : ℕ) (x : Y.Number) → HasPlain e block count → IsFirstNumber block count x → size_of (number_code (outermost e) t x) ≤ 30 * number_nodes x
@@ -203,7 +202,7 @@ pairs_most e t block count (p ∷ ps) has are =
 fitted_most : (t : Taken) (precision : ℕ) → precision ≡ 31 → size_of (fitted_code t precision) ≤ 0
 fitted_most t precision e = subst (λ p. size_of (fitted_code t p) ≤ 0) (sym e) (omega arith)
 
-target_most : (e : Environment) (t : Taken) (block count : ℕ) (r : Y.Reference) → HasPlain e block count → IsOwnNumber block count r → size_of (word_stored (outermost e) t r) ≤ 9
+target_most : (e : Environment) (t : Taken) (block count : ℕ) (r : Y.Reference) → HasPlain e block count → IsFirstReference block count r → size_of (word_stored (outermost e) t r) ≤ 9
 target_most e t block count r has is =
     let d = declared_plain e block count is.index has is.declared in
     let saved = saved_most a0 t in
@@ -214,8 +213,8 @@ target_most e t block count r has is =
     let s2 = size_append (fetch a0 t) (store_word frame_register a0 place) in
     let same : word_stored (outermost e) t r ≡ save a0 t ++ ([] ++ (fetch a0 t ++ store_word frame_register a0 place)) =
     ap (λ q. word_stored (outermost e) t q) is.is
-    ∙ ap (λ c. save a0 t ++ (c ++ (fetch a0 t ++ stored (type_in (outermost e) (whole (own block is.index))) a0 (address_in (outermost e) (whole (own block is.index)))))) (number_reached e (with_number t) block is.index d)
-    ∙ ap (λ c. save a0 t ++ ([] ++ (fetch a0 t ++ c))) (number_stored e block is.index d) in
+    ∙ ap (λ c. save a0 t ++ (c ++ (fetch a0 t ++ stored (type_in (outermost e) (whole (own block is.index))) a0 (address_in (outermost e) (whole (own block is.index)))))) (scalar_reached e (with_number t) block is.index (Y.FixedLeaf 31) tt ([], d))
+    ∙ ap (λ c. save a0 t ++ ([] ++ (fetch a0 t ++ c))) (scalar_kept e block is.index (Y.FixedLeaf 31) tt ([], d)) in
     subst (λ c. size_of c ≤ 9) (sym same) (omega (arith, saved, fetched, n, s1, s2))
 
 pub statement_most : (e : Environment) (t : Taken) (block count : ℕ) (x : Y.Stmt) → HasPlain e block count → IsFirstStatement block count x → size_of (stmt_code (outermost e) t x) ≤ 40 * stmt_nodes x

@@ -162,3 +162,46 @@ named_has d (Mark s ∷ is) h = passed (named_has d is) h
 -- what is named is there
 pub static_has : (code : Code) (d : Datum) → IsNamed d code → Has (static_data code) d
 static_has code d h = has_ordered (once [] (data_named code)) d (has_once (data_named code) d (named_has d code h))
+
+-- ---- INITIAL values
+
+-- lists of INITIAL values alone
+abbrev pub AreInitial : List Datum → Type 0
+AreInitial [] = Unit {0}
+AreInitial (d ∷ ds) = (is_initial d ≡ true) × AreInitial ds
+
+pub filtered_initial : (ds : List Datum) → AreInitial (filter is_initial ds)
+filtered_initial [] = tt
+filtered_initial (d ∷ ds) = by_test (is_initial d) refl (filtered_initial ds)
+  where
+    by_test : (q : Bool) → is_initial d ≡ q → AreInitial (filter is_initial ds) → AreInitial (cond q (d ∷ filter is_initial ds) (filter is_initial ds))
+    by_test true e more = (e, more)
+    by_test false e more = more
+
+-- each of them once
+abbrev pub named_once : Code → List Datum
+named_once code = once [] (data_named code)
+
+pub initial_has : (code : Code) (leaves : List InitialLeaf) → IsNamed (InitialValues leaves) code → Has (filter is_initial (named_once code)) (InitialValues leaves)
+initial_has code leaves h =
+    has_filtered is_initial (named_once code) (InitialValues leaves) refl (has_once (data_named code) (InitialValues leaves) (named_has (InitialValues leaves) code h))
+
+has_flat : (ds : List Datum) (d v : Datum) → Has ds d → Has (values_of d) v → Has (flat_map values_of ds) v
+has_flat [] d v h k = absurd (cc h)
+has_flat (x ∷ ds) d v h k = by_case (or_cases (same_datum d x) (list_any (same_datum d) ds) h) (λ i. has_flat ds d v i k)
+  where
+    by_case : (same_datum d x ≡ true) ⊎ Has ds d → (Has ds d → Has (flat_map values_of ds) v) → Has (values_of x ++ flat_map values_of ds) v
+    by_case (inl s) later =
+        has_front (values_of x) (flat_map values_of ds) v (subst (λ u. Has (values_of u) v) (same_datum-equal d x s) k)
+    by_case (inr i) later = has_back (values_of x) (flat_map values_of ds) v (later i)
+
+-- the values of a list that is named stand among the data
+pub values_has : (code : Code) (leaves : List InitialLeaf) (v : Datum) → IsNamed (InitialValues leaves) code → Has (values_of (InitialValues leaves)) v → Has (static_data code) v
+values_has code leaves v h k =
+    let named = named_once code in
+    let constants = filter is_constant named in
+    let all = has_once (data_named code) (InitialValues leaves) (named_has (InitialValues leaves) code h) in
+    has_back (filter is_initial named) _ v
+    (has_front (once [] (constants ++ flat_map values_of named)) _ v
+    (has_once (constants ++ flat_map values_of named) v
+    (has_back constants (flat_map values_of named) v (has_flat named (InitialValues leaves) v all k))))

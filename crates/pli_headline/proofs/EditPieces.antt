@@ -1,6 +1,6 @@
--- The code of PUT around a value: a place in a format list is begun and ended, and an F item is asked for, tested and written.
+-- The code of PUT around a value: a place in a format list is begun and ended, and a number's field is tested and written.
 use Rattle.std.proofs.Common.{◌≡◌, ℕ, suc, ◌+◌, ◌^◌, ◌<◌, ◌≤◌, List, [], ◌∷◌, ◌++◌, Option, Some, None, true, false, refl, sym, ap, ◌∙◌, subst, arith, lit<, add-one}
-use Rattle.std.specs.Prelude.{ℤ, ◌==◌, if◌then◌else◌}
+use Rattle.std.specs.Prelude.{ℤ, ◌==◌}
 use Rattle.rv_meaning.specs.declared.instr.Instr.{Instr}
 use Rattle.rv_meaning.specs.declared.instr.Instr.TheVariants as I
 use Rattle.rv_meaning.specs.declared.instr.BranchTest.TheVariants as Test
@@ -15,7 +15,7 @@ use Rattle.pli_meaning.specs.Raising as R
 use Rattle.pli_meaning.specs.Raising.{Around}
 use Rattle.pli_meaning.specs.Evaluating.{ComputationalNumber}
 use Rattle.pli_meaning.specs.Streaming as P
-use Rattle.pli_meaning.specs.Streaming.{FixedItem}
+use Rattle.pli_meaning.specs.Streaming.{FormatItem, DataFormat, FixedItem}
 use Rattle.pli_serving.specs.ServiceState.{Services, EditPlace}
 use Rattle.pli_serving.specs.Answers.{Answer, Done}
 use Rattle.pli_serving.specs.Finding.{Call}
@@ -23,10 +23,10 @@ use Rattle.pli_serving.specs.FormatLists.{formats_at}
 use Rattle.pli_serving.specs.Edits as E
 use Rattle.pli_serving.specs.Serving as V
 use Rattle.pli_coding.specs.Registers.{zero_register, a0, a1, a7}
-use Rattle.pli_coding.specs.Assembly.{DataPlace, RaiseError, Plain, OffsetOf, JumpTo, JumpBack}
-use Rattle.pli_coding.specs.Instructions.{small, service, status_tested, skip_where}
+use Rattle.pli_coding.specs.Assembly.{DataPlace, RaiseError, Plain, OffsetOf, JumpTo}
+use Rattle.pli_coding.specs.Instructions.{small, service, status_tested}
 use Rattle.pli_coding.specs.StaticForms.{formats_datum}
-use Rattle.pli_coding.specs.Streams.{controls_carried_out, number_written, edit_begun, edit_ended}
+use Rattle.pli_coding.specs.Streams.{number_written, edit_begun, edit_ended}
 use Rattle.pli_coding.specs.Linking.{Links, place_of}
 use Rattle.pli_headline.proofs.Engine.{Base, address, call_at}
 use Rattle.pli_headline.proofs.Items.{Linked, At, straight}
@@ -39,7 +39,7 @@ use Rattle.pli_headline.proofs.Raising.{Routines, small_is, with_act, error_piec
 use Rattle.pli_headline.proofs.Operators.{valued}
 use Rattle.pli_headline.proofs.Acts.{word_is}
 use Rattle.pli_headline.proofs.Reach.{Family, Aims, Comes, Closed, cost, before_closed, comes_on, onward, reached, reached_holds}
-use Rattle.pli_headline.proofs.EditItems.{putting, next_width, widths_behind, fixed_items, at_places, field_status, fielded, begin_answer, asked_answer, width_answer, field_answer, end_answer, signed-word}
+use Rattle.pli_headline.proofs.EditItems.{putting, at_places, Finds, field_status, fielded, begin_answer, width_answer, field_answer, end_answer, signed-word}
 
 -- ---- a service that makes no act
 
@@ -47,7 +47,7 @@ use Rattle.pli_headline.proofs.EditItems.{putting, next_width, widths_behind, fi
 abbrev pub argued : (x y : Base → ℕ) → Base → List (ℕ × ℕ)
 argued x y b = (10, x b) ∷ (11, y b) ∷ []
 
-quiet_piece : {X : Type 0} {links : Links} {code : List Instr} {i : ℕ} {g : Ground} {v : Services} {h t : ℕ → ℕ} {aims : Aims X} {flow : Flow X} (closed : Closed code aims) (f : Family) (v' : Services) (n : ℕ) (x y x' y' : Base → ℕ) (G : Call → ℕ → ℕ → ℕ → ℕ → ℕ → Answer) → n < 2 ^ 31 → ((c : Call) (r : ℕ → ℕ) → V.served n c r ≡ G c (r 10) (r 11) (r 12) (r 13) (r 14)) → v.world.acts ≤ v'.world.acts → ((b : Base) (m : List ℕ) (x2 x3 x4 : ℕ) → g.memory t b m → G (call_at code v m) (x b) (y b) x2 x3 x4 ≡ Done v' m (x' b) (y' b)) → Linked links code i (service n) → ((b : Base) → At b i (Known g v h t (argued x y) b) (f b)) → ((f' : Family) → ((b : Base) → At b (i + 2) (Known g v' h t (argued x' y') b) (f' b)) → Comes code (i + 2) f' v' aims flow) → Comes code i f v aims flow
+pub quiet_piece : {X : Type 0} {links : Links} {code : List Instr} {i : ℕ} {g : Ground} {v : Services} {h t : ℕ → ℕ} {aims : Aims X} {flow : Flow X} (closed : Closed code aims) (f : Family) (v' : Services) (n : ℕ) (x y x' y' : Base → ℕ) (G : Call → ℕ → ℕ → ℕ → ℕ → ℕ → Answer) → n < 2 ^ 31 → ((c : Call) (r : ℕ → ℕ) → V.served n c r ≡ G c (r 10) (r 11) (r 12) (r 13) (r 14)) → v.world.acts ≤ v'.world.acts → ((b : Base) (m : List ℕ) (x2 x3 x4 : ℕ) → g.memory t b m → G (call_at code v m) (x b) (y b) x2 x3 x4 ≡ Done v' m (x' b) (y' b)) → Linked links code i (service n) → ((b : Base) → At b i (Known g v h t (argued x y) b) (f b)) → ((f' : Family) → ((b : Base) → At b (i + 2) (Known g v' h t (argued x' y') b) (f' b)) → Comes code (i + 2) f' v' aims flow) → Comes code i f v aims flow
 quiet_piece {code = code} {i = i} {g = g} {v = v} {h = h} {t = t} {aims = aims} {flow = flow} closed f v' n x y x' y' G fits is more answers l at next' =
     let front = small a7 n ∷ [] in
     let last = Plain I.Ecall ∷ [] in
@@ -75,14 +75,14 @@ quiet_piece {code = code} {i = i} {g = g} {v = v} {h = h} {t = t} {aims = aims} 
 -- ---- the place in the list
 
 -- 34
-pub begin_piece : {X : Type 0} {links : Links} {code : List Instr} {i : ℕ} {g : Ground} {v : Services} {h t : ℕ → ℕ} {aims : Aims X} {flow : Flow X} (closed : Closed code aims) (f : Family) (fs : T.Formats) (widths : List ℕ) → place_of links (DataPlace (formats_datum fs)) < 2 ^ 32 → ((b : Base) (m : List ℕ) → g.memory t b m → formats_at (call_at code v m) (place_of links (DataPlace (formats_datum fs))) ≡ Some (fixed_items widths)) → Linked links code i (edit_begun fs 1) → ((b : Base) → At b i (Known g v h t nothing b) (f b)) → ((f' : Family) → ((b : Base) → At b (i + 5) (Known g (at_places (putting widths widths ∷ v.edits) v) h t nothing b) (f' b)) → Comes code (i + 5) f' (at_places (putting widths widths ∷ v.edits) v) aims flow) → Comes code i f v aims flow
-begin_piece {links = links} {code = code} {i = i} {g = g} {v = v} {h = h} {t = t} {aims = aims} {flow = flow} closed f fs widths fits found l at next' =
+pub begin_piece : {X : Type 0} {links : Links} {code : List Instr} {i : ℕ} {g : Ground} {v : Services} {h t : ℕ → ℕ} {aims : Aims X} {flow : Flow X} (closed : Closed code aims) (f : Family) (fs : T.Formats) (items : List FormatItem) → ((b : Base) (m : List ℕ) → g.memory t b m → (place_of links (DataPlace (formats_datum fs)) < 2 ^ 32) × (formats_at (call_at code v m) (place_of links (DataPlace (formats_datum fs))) ≡ Some items)) → Linked links code i (edit_begun fs 1) → ((b : Base) → At b i (Known g v h t nothing b) (f b)) → ((f' : Family) → ((b : Base) → At b (i + 5) (Known g (at_places (putting items items ∷ v.edits) v) h t nothing b) (f' b)) → Comes code (i + 5) f' (at_places (putting items items ∷ v.edits) v) aims flow) → Comes code i f v aims flow
+begin_piece {links = links} {code = code} {i = i} {g = g} {v = v} {h = h} {t = t} {aims = aims} {flow = flow} closed f fs items found l at next' =
     let place = place_of links (DataPlace (formats_datum fs)) in
-    let v' = at_places (putting widths widths ∷ v.edits) v in
+    let v' = at_places (putting items items ∷ v.edits) v in
     let front = OffsetOf a0 (DataPlace (formats_datum fs)) ∷ small a1 1 ∷ [] in
     let r = straight i f v v (λ b. Known g v h t (argued (λ b'. place) (λ b'. 1)) b) (front_of front (service 34) l) (omega arith) (λ b. (at b).pc)
     (λ b. let o = (at b).holds in let z = zero_is o.body in (
-      fits,
+      (found b (f b).machine.memory o.body.memory).0,
       refl,
       record {
         body = record { services = o.body.services; registers = o.body.registers; bytes = o.body.bytes; memory = o.body.memory };
@@ -91,7 +91,7 @@ begin_piece {links = links} {code = code} {i = i} {g = g} {v = v} {h = h} {t = t
     )) in
     onward closed r (λ f1 at1.
     quiet_piece closed f1 v' 34 (λ b. place) (λ b. 1) (λ b. place) (λ b. 1) (λ c x0 x1 x2 x3 x4. E.edit_begin_served c x0 x1) (lit< tt) (λ c u. refl) (omega arith)
-    (λ b m x2 x3 x4 o. begin_answer (call_at code v m) place (fixed_items widths) (found b m o)) (back_of front (service 34) l) at1
+    (λ b m x2 x3 x4 o. begin_answer (call_at code v m) place items (found b m o).1) (back_of front (service 34) l) at1
     (λ f2 at2.
     let e : i + 3 + 2 ≡ i + 5 = omega arith in
     subst (λ u. Comes code u f2 v' aims flow) (sym e)
@@ -105,24 +105,6 @@ end_piece {code = code} {v = v} closed f place below edits l at next' =
     quiet_piece closed f (at_places below v) 38 x y x y (λ c x0 x1 x2 x3 x4. E.edit_end_served c x0 x1) (lit< tt) (λ c u. refl) (omega arith)
     (λ b m x2 x3 x4 o. end_answer code v m place below (x b) (y b) edits) l (λ b. record { pc = (at b).pc; holds = record { body = (at b).holds.body; regs = (refl, (refl, tt)) } })
     (λ f1 at1. next' f1 (λ b. record { pc = (at1 b).pc; holds = record { body = (at1 b).holds.body; regs = tt } }))
-
--- 35, which finds an F item, so that nothing is repeated
-not_zero : (x z : ℕ) → x ≡ 1 → z ≡ 0 → (if x == z then false else true) ≡ true
-not_zero x z e e' = ap (λ u. if u == z then false else true) e ∙ ap (λ u. if 1 == u then false else true) e'
-
-pub asked_piece : {X : Type 0} {links : Links} {code : List Instr} {i : ℕ} {g : Ground} {v : Services} {h t : ℕ → ℕ} {aims : Aims X} {flow : Flow X} (closed : Closed code aims) (f : Family) (first : ℕ) (more rest : List ℕ) (below : List EditPlace) → v.edits ≡ putting (first ∷ more) rest ∷ below → Linked links code i controls_carried_out → ((b : Base) → At b i (Known g v h t nothing b) (f b)) → ((f' : Family) → ((b : Base) → At b (i + 5) (Known g v h t nothing b) (f' b)) → Comes code (i + 5) f' v aims flow) → Comes code i f v aims flow
-asked_piece {code = code} {i = i} {v = v} {aims = aims} {flow = flow} closed f first more rest below edits l at next' =
-    let x : Base → ℕ = λ b. (f b).machine.registers 10 in
-    let y : Base → ℕ = λ b. (f b).machine.registers 11 in
-    let last = skip_where Test.NotEqual a0 zero_register (JumpBack 3 ∷ []) in
-    quiet_piece closed f v 35 x y (λ b. 1) y (λ c x0 x1 x2 x3 x4. E.control_served c x1) (lit< tt) (λ c u. refl) (omega arith)
-    (λ b m x2 x3 x4 o. asked_answer code v m first more rest below (y b) edits) (front_of (service 35) last l) (λ b. record { pc = (at b).pc; holds = record { body = (at b).holds.body; regs = (refl, (refl, tt)) } })
-    (λ f1 at1.
-    let r = skip_taken (i + 2) f1 Test.NotEqual a0 zero_register (JumpBack 3 ∷ []) (back_of (service 35) last l) at1 (λ b. not_zero _ _ (at1 b).holds.regs.0 (zero_is (at1 b).holds.body)) in
-    onward closed r (λ f2 at2.
-    let e : i + 2 + 3 ≡ i + 5 = omega arith in
-    subst (λ u. Comes code u f2 v aims flow) (sym e)
-    (next' f2 (λ b. record { pc = (at2 b).pc ∙ ap (address b) e; holds = record { body = (at2 b).holds.body; regs = tt } }))))
 
 -- ---- a field
 
@@ -148,11 +130,11 @@ Shown g h t k s v line i places aims =
     (field : List ℕ) (f' : Family) → Serving k (shown_state field s) (fielded field places v) line → ((b : Base) → At b i (Known g (fielded field places v) h t nothing b) (f' b)) → aims.done i f' (fielded field places v) tt (shown_state field s)
 
 -- 36 with 1
-written_piece : {links : Links} {code : List Instr} {i : ℕ} {g : Ground} {v : Services} {h t : ℕ → ℕ} {s : State} {line : ℕ} {aims : Aims (Unit {0})} (closed : Closed code aims) (f : Family) (first : ℕ) (more rest : List ℕ) (below : List EditPlace) (x k : ℕ) (field : List ℕ) → v.edits ≡ putting (first ∷ more) rest ∷ below → fixed_field (next_width first rest) (signed x) ≡ Some field → Linked links code i (small a1 1 ∷ service 36) → Serving k s v line → ((b : Base) → At b i (Known g v h t (valued x) b) (f b)) → Shown g h t k s v line (i + 3) (putting (first ∷ more) (widths_behind more rest) ∷ below) aims → Comes code i f v aims (act (written (with_field field)) k s)
-written_piece {code = code} {i = i} {g = g} {v = v} {h = h} {t = t} {s = s} {line = line} {aims = aims} closed f first more rest below x k field edits wide l serving at goal =
+written_piece : {links : Links} {code : List Instr} {i : ℕ} {g : Ground} {v : Services} {h t : ℕ → ℕ} {s : State} {line : ℕ} {aims : Aims (Unit {0})} (closed : Closed code aims) (f : Family) (width : ℕ) (whole left : List FormatItem) (below : List EditPlace) (x k : ℕ) (field : List ℕ) → Finds v.edits (DataFormat (FixedItem width)) whole left below → fixed_field width (signed x) ≡ Some field → Linked links code i (small a1 1 ∷ service 36) → Serving k s v line → ((b : Base) → At b i (Known g v h t (valued x) b) (f b)) → Shown g h t k s v line (i + 3) (putting whole left ∷ below) aims → Comes code i f v aims (act (written (with_field field)) k s)
+written_piece {code = code} {i = i} {g = g} {v = v} {h = h} {t = t} {s = s} {line = line} {aims = aims} closed f width whole left below x k field found wide l serving at goal =
     let front = small a1 1 ∷ small a7 36 ∷ [] in
     let last = Plain I.Ecall ∷ [] in
-    let places = putting (first ∷ more) (widths_behind more rest) ∷ below in
+    let places = putting whole left ∷ below in
     let v' = fielded field places v in
     let r = straight i f v v (λ b. Known g v h t (λ b'. (10, x) ∷ (11, 1) ∷ (17, 36) ∷ []) b) (front_of front last l) (omega arith) (λ b. (at b).pc)
     (λ b. let o = (at b).holds in let z = zero_is o.body in record {
@@ -167,7 +149,7 @@ written_piece {code = code} {i = i} {g = g} {v = v} {h = h} {t = t} {s = s} {lin
       answers = λ b.
           let o = (at1 b).holds in
           called code (f1 b) v 36 x 1 _ _ _ (λ c x0 x1 x2 x3 x4. E.fixed_served c x0 x1) o.body.services o.regs.1.1.0 o.regs.0 o.regs.1.0 refl refl refl (λ c u. refl)
-          ∙ field_answer code v (f1 b).machine.memory first more rest below x k field edits wide serving.allowed serving.fits;
+          ∙ field_answer code v (f1 b).machine.memory width whole left below x k field found wide serving.allowed serving.fits;
     } in
     let few : i + 2 < cost code = let n = l2.inside in omega (arith, n) in
     let counts : v'.world.acts ≡ suc v.world.acts = add-one v.world.acts in
@@ -192,28 +174,28 @@ other_zero : (y z : ℕ) → y ≡ too_wide_code → z ≡ 0 → (y == z) ≡ fa
 other_zero y z e e' = ap (λ u. u == z) e ∙ ap (λ u. too_wide_code == u) e'
 
 -- behind the question: a field that is too narrow ends the run, another is written
-tested_piece : (o : Option (List ℕ)) {links : Links} {code : List Instr} {i : ℕ} {g : Ground} {v : Services} {h t : ℕ → ℕ} {s : State} {aims : Aims (Unit {0})} (closed : Closed code aims) (routines : Routines links code) (f : Family) (around : Around) (first : ℕ) (more rest : List ℕ) (below : List EditPlace) (x k : ℕ) → fixed_field (next_width first rest) (signed x) ≡ o → v.edits ≡ putting (first ∷ more) rest ∷ below → Linked links code i (status_tested ++ (small a1 1 ∷ service 36)) → Serving k s v around.line → ((b : Base) → At b i (Known g v h t (stated x (field_status o)) b) (f b)) → Shown g h t k s v around.line (i + 6) (putting (first ∷ more) (widths_behind more rest) ∷ below) aims → Comes code i f v aims (((R.or_error around too_wide_code o) >>= (λ field. act (written (with_field field)))) k s)
+tested_piece : (o : Option (List ℕ)) {links : Links} {code : List Instr} {i : ℕ} {g : Ground} {v : Services} {h t : ℕ → ℕ} {s : State} {aims : Aims (Unit {0})} (closed : Closed code aims) (routines : Routines links code) (f : Family) (around : Around) (width : ℕ) (whole left : List FormatItem) (below : List EditPlace) (x k : ℕ) → fixed_field width (signed x) ≡ o → Finds v.edits (DataFormat (FixedItem width)) whole left below → Linked links code i (status_tested ++ (small a1 1 ∷ service 36)) → Serving k s v around.line → ((b : Base) → At b i (Known g v h t (stated x (field_status o)) b) (f b)) → Shown g h t k s v around.line (i + 6) (putting whole left ∷ below) aims → Comes code i f v aims (((R.or_error around too_wide_code o) >>= (λ field. act (written (with_field field)))) k s)
 unfolding R.or_error ◌>>=◌ give
-tested_piece None {code = code} {i = i} {s = s} {aims = aims} closed routines f around first more rest below x k found edits l serving at goal =
+tested_piece None {code = code} {i = i} {s = s} {aims = aims} closed routines f around width whole left below x k wide found l serving at goal =
     let next' : List ℕ → Meaning (Unit {0}) = λ field. act (written (with_field field)) in
     let last = small a1 1 ∷ service 36 in
     let l1 = front_of status_tested last l in
     let inside = l1.inside in
-    let whole = routines.linked.inside in
+    let far = routines.linked.inside in
     let r = skip_passed i f Test.Equal a1 zero_register (JumpTo RaiseError ∷ []) l1 at (λ b. other_zero _ _ (at b).holds.regs.1.0 (zero_is (at b).holds.body)) in
     onward closed r (λ f1 at1.
-    let q = jump_piece (i + 1) (i + 1 + 2) f1 RaiseError (routines.at + 8) (omega arith) routines.error (let m = routines.linked.small' in omega (arith, whole, m)) (record { reserved_stay = λ y u. refl; known_stay = λ b y u p. p; set = λ y u. refl }) (rest_of _ (JumpTo RaiseError ∷ []) l1) at1 in
+    let q = jump_piece (i + 1) (i + 1 + 2) f1 RaiseError (routines.at + 8) (omega arith) routines.error (let m = routines.linked.small' in omega (arith, far, m)) (record { reserved_stay = λ y u. refl; known_stay = λ b y u p. p; set = λ y u. refl }) (rest_of _ (JumpTo RaiseError ∷ []) l1) at1 in
     onward closed q (λ f2 at2.
     comes_on k (R.error {R = List ℕ} around too_wide_code k s) next'
-    (error_piece (before_closed k next' closed) routines (i + 1 + 2) f2 around too_wide_code k (lit< tt) (omega (arith, inside, whole)) serving
+    (error_piece (before_closed k next' closed) routines (i + 1 + 2) f2 around too_wide_code k (lit< tt) (omega (arith, inside, far)) serving
     (λ b. record { pc = (at2 b).pc; holds = record { body = (at2 b).holds.body; regs = ((at2 b).holds.regs.1.0, tt) } }))))
-tested_piece (Some field) {code = code} {i = i} {g = g} {v = v} {h = h} {t = t} {s = s} {aims = aims} closed routines f around first more rest below x k found edits l serving at goal =
+tested_piece (Some field) {code = code} {i = i} {g = g} {v = v} {h = h} {t = t} {s = s} {aims = aims} closed routines f around width whole left below x k wide found l serving at goal =
     let last = small a1 1 ∷ service 36 in
-    let places = putting (first ∷ more) (widths_behind more rest) ∷ below in
+    let places = putting whole left ∷ below in
     let r = skip_taken i f Test.Equal a1 zero_register (JumpTo RaiseError ∷ []) (front_of status_tested last l) at (λ b. same_zero _ _ (at b).holds.regs.1.0 (zero_is (at b).holds.body)) in
     onward closed r (λ f1 at1.
     let e : i + 3 + 3 ≡ i + 6 = omega arith in
-    written_piece closed f1 first more rest below x k field edits found (back_of status_tested last l) serving (λ b. record { pc = (at1 b).pc; holds = record { body = (at1 b).holds.body; regs = ((at1 b).holds.regs.0, tt) } })
+    written_piece closed f1 width whole left below x k field found wide (back_of status_tested last l) serving (λ b. record { pc = (at1 b).pc; holds = record { body = (at1 b).holds.body; regs = ((at1 b).holds.regs.0, tt) } })
     (λ field' f2 serving2 at2.
     subst (λ u. aims.done u f2 (fielded field' places v) tt (shown_state field' s)) (sym e)
     (goal field' f2 serving2 (λ b. record { pc = (at2 b).pc ∙ ap (address b) e; holds = (at2 b).holds }))))
@@ -223,12 +205,11 @@ unfolding P.shown_by R.or_error ◌>>=◌ give
 shown_number around p width z k s = refl
 
 -- a number in a0 is shown by the next item
-pub field_piece : {links : Links} {code : List Instr} {i : ℕ} {g : Ground} {v : Services} {h t : ℕ → ℕ} {s : State} {aims : Aims (Unit {0})} (closed : Closed code aims) (routines : Routines links code) (f : Family) (around : Around) (first : ℕ) (more rest : List ℕ) (below : List EditPlace) (p : ℕ) (z : ℤ) (k : ℕ) → IsWide z → v.edits ≡ putting (first ∷ more) rest ∷ below → Linked links code i number_written → Serving k s v around.line → ((b : Base) → At b i (Known g v h t (valued (word z)) b) (f b)) → Shown g h t k s v around.line (i + 9) (putting (first ∷ more) (widths_behind more rest) ∷ below) aims → Comes code i f v aims (P.shown_by around (ComputationalNumber p z) (FixedItem (next_width first rest)) k s)
-field_piece {links = links} {code = code} {i = i} {g = g} {v = v} {h = h} {t = t} {s = s} {aims = aims} closed routines f around first more rest below p z k wide edits l serving at goal =
+pub field_piece : {links : Links} {code : List Instr} {i : ℕ} {g : Ground} {v : Services} {h t : ℕ → ℕ} {s : State} {aims : Aims (Unit {0})} (closed : Closed code aims) (routines : Routines links code) (f : Family) (around : Around) (width : ℕ) (whole left : List FormatItem) (below : List EditPlace) (p : ℕ) (z : ℤ) (k : ℕ) → IsWide z → Finds v.edits (DataFormat (FixedItem width)) whole left below → Linked links code i number_written → Serving k s v around.line → ((b : Base) → At b i (Known g v h t (valued (word z)) b) (f b)) → Shown g h t k s v around.line (i + 9) (putting whole left ∷ below) aims → Comes code i f v aims (P.shown_by around (ComputationalNumber p z) (FixedItem width) k s)
+field_piece {links = links} {code = code} {i = i} {g = g} {v = v} {h = h} {t = t} {s = s} {aims = aims} closed routines f around width whole left below p z k wide found l serving at goal =
     let x = word z in
-    let width = next_width first rest in
     let o = fixed_field width (signed x) in
-    let places = putting (first ∷ more) (widths_behind more rest) ∷ below in
+    let places = putting whole left ∷ below in
     let front = small a1 0 ∷ [] in
     let last = status_tested ++ (small a1 1 ∷ service 36) in
     let l1 = back_of front (service 36 ++ last) l in
@@ -241,10 +222,10 @@ field_piece {links = links} {code = code} {i = i} {g = g} {v = v} {h = h} {t = t
     subst (Comes code i f v aims) (sym meant)
     (onward closed r (λ f1 at1.
     quiet_piece closed f1 v 36 (λ b. x) (λ b. 0) (λ b. x) (λ b. field_status o) (λ c x0 x1 x2 x3 x4. E.fixed_served c x0 x1) (lit< tt) (λ c u. refl) (omega arith)
-    (λ b m x2 x3 x4 q. width_answer code v m first more rest below x edits) (front_of (service 36) last l1) at1
+    (λ b m x2 x3 x4 q. width_answer code v m width whole left below x found) (front_of (service 36) last l1) at1
     (λ f2 at2.
     let e : i + 1 + 2 + 6 ≡ i + 9 = omega arith in
-    tested_piece o closed routines f2 around first more rest below x k refl edits (back_of (service 36) last l1) serving at2
+    tested_piece o closed routines f2 around width whole left below x k refl found (back_of (service 36) last l1) serving at2
     (λ field f3 serving3 at3.
     subst (λ u. aims.done u f3 (fielded field places v) tt (shown_state field s)) (sym e)
     (goal field f3 serving3 (λ b. record { pc = (at3 b).pc ∙ ap (address b) e; holds = (at3 b).holds })))))

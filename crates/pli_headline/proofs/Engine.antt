@@ -7,14 +7,16 @@ use Rattle.std.proofs.Math.Nat.{mod-eq_of_lt}
 use Rattle.rv_meaning.specs.declared.instr.Fault.TheVariants.{Misaligned, Range}
 use Rattle.rv_meaning.specs.declared.instr.Register.{Register}
 use Rattle.rv_meaning.specs.declared.instr.BranchTest.{BranchTest}
+use Rattle.rv_meaning.specs.declared.instr.LoadKind.{LoadKind}
 use Rattle.rv_meaning.specs.declared.instr.LoadKind.TheVariants as L
+use Rattle.rv_meaning.specs.declared.instr.StoreKind.{StoreKind}
 use Rattle.rv_meaning.specs.declared.instr.StoreKind.TheVariants as S
 use Rattle.rv_meaning.specs.declared.instr.Fault.{Fault}
 use Rattle.rv_meaning.specs.declared.instr.Instr.{Instr}
 use Rattle.rv_meaning.specs.declared.instr.Instr.TheVariants as I
 use Rattle.rv_meaning.specs.Words.{word, sum, operated, immediate_operated, shift_operated, holds_of}
 use Rattle.rv_meaning.specs.Memory.{load, store}
-use Rattle.rv_meaning.specs.Machine.{Loaded, State, Effect, Goes, Faults, memory_size, IsValidBase, effect, of_fetched, fetched, executed, written, place_of, with_value, stored, loaded, branched}
+use Rattle.rv_meaning.specs.Machine.{Loaded, State, Effect, Goes, Faults, memory_size, IsValidBase, effect, of_fetched, fetched, executed, written, place_of, load_width, extended, store_width, with_value, stored, loaded, branched}
 use Rattle.pli_serving.specs.ServiceState.{Services}
 use Rattle.pli_serving.specs.Answers.{Answer, Done}
 use Rattle.pli_serving.specs.Finding.{Call}
@@ -158,10 +160,10 @@ Steps code b i (I.AddUpperToPc rd upper) w Q = Q (with_register b i w rd.index (
 Steps code b i (I.Immediate op rd rs1 z) w Q = Q (with_register b i w rd.index (immediate_operated op (w.machine.registers rs1.index) (word z)))
 Steps code b i (I.Shift op rd rs1 amount) w Q = Q (with_register b i w rd.index (shift_operated op (w.machine.registers rs1.index) amount))
 Steps code b i (I.Registers op rd rs1 rs2) w Q = Q (with_register b i w rd.index (operated op (w.machine.registers rs1.index) (w.machine.registers rs2.index)))
-Steps code b i (I.Load L.Word rd rs1 offset) w Q =
-    (a : WordAt b (sum (w.machine.registers rs1.index) (word offset))) × Q (with_register b i w rd.index (load 4 w.machine.memory a.offset))
-Steps code b i (I.Store S.Word rs1 rs2 offset) w Q =
-    (a : WordAt b (sum (w.machine.registers rs1.index) (word offset))) × (4 * length code ≤ a.offset) × Q (with_memory b i w (store 4 w.machine.memory a.offset (w.machine.registers rs2.index)))
+Steps code b i (I.Load kind rd rs1 offset) w Q =
+    (a : WordAt b (sum (w.machine.registers rs1.index) (word offset))) × Q (with_register b i w rd.index (extended kind (load (load_width kind) w.machine.memory a.offset)))
+Steps code b i (I.Store kind rs1 rs2 offset) w Q =
+    (a : WordAt b (sum (w.machine.registers rs1.index) (word offset))) × (4 * length code ≤ a.offset) × Q (with_memory b i w (store (store_width kind) w.machine.memory a.offset (w.machine.registers rs2.index)))
 Steps code b i I.Ecall w Q =
     (v : Services) × (m : List ℕ) × (x : ℕ) × (y : ℕ) × (served code w ≡ Done v m x y) × Q (with_answer b i w v m x y)
 Steps code b i _ w Q = ⊥
@@ -178,15 +180,36 @@ pub record Ran (code : List Instr) (b : Base) (i : ℕ) (w : Whole) (Q : Whole �
   pub here : after.machine.pc ≡ address b (suc i)
   pub holds : Q after
 
-place_at : (code : List Instr) (b : Base) (addressed : ℕ) (a : WordAt b addressed) → place_of (at_base code b) 4 addressed ≡ Ok a.offset
-place_at code b addressed a =
+place_at : (code : List Instr) (b : Base) (n addressed : ℕ) (a : WordAt b addressed) → addressed % n ≡ 0 → n ≤ 4 → place_of (at_base code b) n addressed ≡ Ok a.offset
+place_at code b n addressed a whole few =
     let is = a.is in
-    let whole : addressed % 4 ≡ 0 = omega (arith, is, a.aligned, b.valid.0) in
-    let t : (addressed % 4 == 0) ≡ true = eq-eqb (addressed % 4) 0 whole in
+    let t : (addressed % n == 0) ≡ true = eq-eqb (addressed % n) 0 whole in
     let t' : nat_le b.at addressed ≡ true = grind (arith, nat_tests) in
-    let t'' : nat_le (addressed + 4) (b.at + memory_size) ≡ true = le-leb (addressed + 4) (b.at + memory_size) (omega (arith, is, a.inside)) in
+    let t'' : nat_le (addressed + n) (b.at + memory_size) ≡ true = le-leb (addressed + n) (b.at + memory_size) (omega (arith, is, few, a.inside)) in
     let o : addressed - b.at ≡ a.offset = omega (arith, is) in
     rw (t, t', t'') (ap Ok o)
+
+whole_at : (b : Base) (addressed : ℕ) → WordAt b addressed → addressed % 4 ≡ 0
+whole_at b addressed a = let is = a.is in omega (arith, is, a.aligned, b.valid.0)
+
+-- what is narrower than a word is read and written where a word could stand
+load_at : (kind : LoadKind) (code : List Instr) (b : Base) (addressed : ℕ) (a : WordAt b addressed) → place_of (at_base code b) (load_width kind) addressed ≡ Ok a.offset
+load_at L.Byte code b addressed a = place_at code b 1 addressed a (omega arith) (omega arith)
+load_at L.Half code b addressed a =
+    let whole = whole_at b addressed a in
+    place_at code b 2 addressed a (omega (arith, whole)) (omega arith)
+load_at L.Word code b addressed a = place_at code b 4 addressed a (whole_at b addressed a) (omega arith)
+load_at L.ByteUnsigned code b addressed a = place_at code b 1 addressed a (omega arith) (omega arith)
+load_at L.HalfUnsigned code b addressed a =
+    let whole = whole_at b addressed a in
+    place_at code b 2 addressed a (omega (arith, whole)) (omega arith)
+
+store_at : (kind : StoreKind) (code : List Instr) (b : Base) (addressed : ℕ) (a : WordAt b addressed) → place_of (at_base code b) (store_width kind) addressed ≡ Ok a.offset
+store_at S.Byte code b addressed a = place_at code b 1 addressed a (omega arith) (omega arith)
+store_at S.Half code b addressed a =
+    let whole = whole_at b addressed a in
+    place_at code b 2 addressed a (omega (arith, whole)) (omega arith)
+store_at S.Word code b addressed a = place_at code b 4 addressed a (whole_at b addressed a) (omega arith)
 
 ran_register : (b : Base) (i : ℕ) (w : Whole) (r : Register) (v : ℕ) (p : Loaded) → i < most_code → w.machine.pc ≡ address b i → of_effect p w (with_value w.machine r v) ≡ Runs (with_register b i w r.index v)
 ran_register b i w r v p h here =
@@ -238,29 +261,29 @@ step_ran code b i (I.Registers op rd rs1 rs2) w Q h here has s =
       here = refl;
       holds = s;
     }
-step_ran code b i (I.Load L.Word rd rs1 offset) w Q h here has s =
+step_ran code b i (I.Load kind rd rs1 offset) w Q h here has s =
     let p = at_base code b in
     let a = s.0 in
-    let v = load 4 w.machine.memory a.offset in
-    let e = ap (λ r. of_effect p w (loaded w.machine L.Word rd r)) (place_at code b (sum (w.machine.registers rs1.index) (word offset)) a) in
+    let v = extended kind (load (load_width kind) w.machine.memory a.offset) in
+    let e = ap (λ r. of_effect p w (loaded w.machine kind rd r)) (load_at kind code b (sum (w.machine.registers rs1.index) (word offset)) a) in
     record {
       after = with_register b i w rd.index v;
-      ran = ap (of_effect p w) (effect_at code b i (I.Load L.Word rd rs1 offset) w.machine here has) ∙ e ∙ ran_register b i w rd v p h here;
+      ran = ap (of_effect p w) (effect_at code b i (I.Load kind rd rs1 offset) w.machine here has) ∙ e ∙ ran_register b i w rd v p h here;
       here = refl;
       holds = s.1;
     }
-step_ran code b i (I.Store S.Word rs1 rs2 offset) w Q h here has s =
+step_ran code b i (I.Store kind rs1 rs2 offset) w Q h here has s =
     let p = at_base code b in
     let a = s.0 in
     let v = w.machine.registers rs2.index in
-    let e = ap (λ r. of_effect p w (stored p w.machine S.Word v r)) (place_at code b (sum (w.machine.registers rs1.index) (word offset)) a) in
+    let e = ap (λ r. of_effect p w (stored p w.machine kind v r)) (store_at kind code b (sum (w.machine.registers rs1.index) (word offset)) a) in
     let t : nat_lt a.offset (4 * length code) ≡ false = le-ltb a.offset (4 * length code) s.1 in
-    let m = store 4 w.machine.memory a.offset v in
+    let m = store (store_width kind) w.machine.memory a.offset v in
     let f = ap (λ u. of_effect p w (cond u (Faults Range) (Goes (record { registers = w.machine.registers; memory = m; pc = sum w.machine.pc 4 })))) t in
     let g = ap (λ n. Runs (record { machine = record { registers = w.machine.registers; memory = m; pc = n }; services = w.services })) (next_address b i w.machine.pc h here) in
     record {
       after = with_memory b i w m;
-      ran = ap (of_effect p w) (effect_at code b i (I.Store S.Word rs1 rs2 offset) w.machine here has) ∙ e ∙ f ∙ g;
+      ran = ap (of_effect p w) (effect_at code b i (I.Store kind rs1 rs2 offset) w.machine here has) ∙ e ∙ f ∙ g;
       here = refl;
       holds = s.2;
     }

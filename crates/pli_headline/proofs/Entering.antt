@@ -15,6 +15,7 @@ use Rattle.pli_coding.specs.Frames.{own_offset}
 use Rattle.pli_coding.specs.Entries.{block_entered}
 use Rattle.pli_coding.specs.Linking.{Links}
 use Rattle.image_runs.specs.Runs.{Whole}
+use Rattle.pli_headline.proofs.Scalars.{Scalar}
 use Rattle.pli_headline.proofs.Engine.{Base, address, call_at}
 use Rattle.pli_headline.proofs.Linking.{size_append}
 use Rattle.pli_headline.proofs.Items.{Linked, At, straight}
@@ -42,8 +43,8 @@ entry_code line = move u5 a1 ∷ move a3 a2 ∷ block_entered 0 line
 
 -- ---- what service 4 answers at the start of the run
 
-enter_answer : (code : List Instr) (table : List TableSignature) (input m : List ℕ) (at line : ℕ) → K.enter_served (call_at code (first_services table input) m) 0 at line 0 ≡ Done (main_services table input at line 0) m 0 at
-enter_answer code table input m at line = refl
+enter_answer : (code : List Instr) (table : List TableSignature) (kind : ℕ → Scalar) (input m : List ℕ) (at line : ℕ) → K.enter_served (call_at code (first_services table input) m) 0 at line 0 ≡ Done (main_services table kind input at line 0) m 0 at
+enter_answer code table kind input m at line = refl
 
 moved_zero : (x : ℕ) → x ≡ 0 → sum x (word (pos 0)) ≡ 0
 moved_zero x e = omega (arith, e)
@@ -53,11 +54,11 @@ moved_zero x e = omega (arith, e)
 abbrev entry_regs : (at : ℕ) → Base → List (ℕ × ℕ)
 entry_regs at b = (10, 0) ∷ (11, at) ∷ (13, 0) ∷ []
 
-pub entered_piece : {links : Links} {code : List Instr} {i : ℕ} {h t : ℕ → ℕ} (c : ℕ) (f : Frame) (first : List ℕ) (numbers : ℕ → ℤ) (table : List TableSignature) (input : List ℕ) (line : ℕ) (g : Family) → line < 2 ^ 31 → Linked links code i (entry_code line) → ((b : Base) → At b i (Known (ground_of f first numbers) (first_services table input) h t no_texts b) (g b)) → Reach code c g (first_services table input) (c + size_of (entry_code line)) (main_services table input f.at line 0) (λ b w. At b (i + size_of (entry_code line)) (Known (ground_of f first numbers) (main_services table input f.at line 0) h t nothing b) w)
-entered_piece {code = code} {i = i} {h = h} {t = t} c f first numbers table input line g fits l at =
+pub entered_piece : {links : Links} {code : List Instr} {i : ℕ} {h t : ℕ → ℕ} (c : ℕ) (f : Frame) (first : List ℕ) (numbers : ℕ → ℤ) (table : List TableSignature) (kind : ℕ → Scalar) (input : List ℕ) (line : ℕ) (g : Family) → line < 2 ^ 31 → Linked links code i (entry_code line) → ((b : Base) → At b i (Known (ground_of f first numbers) (first_services table input) h t no_texts b) (g b)) → Reach code c g (first_services table input) (c + size_of (entry_code line)) (main_services table kind input f.at line 0) (λ b w. At b (i + size_of (entry_code line)) (Known (ground_of f first numbers) (main_services table kind input f.at line 0) h t nothing b) w)
+entered_piece {code = code} {i = i} {h = h} {t = t} c f first numbers table kind input line g fits l at =
     let ground = ground_of f first numbers in
     let v = first_services table input in
-    let v' = main_services table input f.at line 0 in
+    let v' = main_services table kind input f.at line 0 in
     let n = number a2 line in
     let last = small a7 4 ∷ Plain I.Ecall ∷ [] in
     let l1 = back_of entry_front (n ++ last) l in
@@ -83,7 +84,7 @@ entered_piece {code = code} {i = i} {h = h} {t = t} c f first numbers table inpu
       answers = λ b.
           let o = (reached_holds r3 b).holds in
           called code (reached r3 b) v 4 0 f.at line 0 _ (λ call x0 x1 x2 x3 x4. K.enter_served call x0 x1 x2 x3) o.body.services o.regs.0 o.regs.1.1.0 o.regs.1.1.1.0 o.regs.1.0 o.regs.1.1.1.1.0 refl (λ call x. refl)
-          ∙ enter_answer code table input (reached r3 b).machine.memory f.at line;
+          ∙ enter_answer code table kind input (reached r3 b).machine.memory f.at line;
     } in
     let r4 = call_done (c + 4 + size_of n + 1) (reached r3) v v' (λ b. (reached r3 b).machine.memory) (λ b. 0) (λ b. f.at) (λ b. Known ground v' h t nothing b) (omega arith) calling
     (λ b. let o = (reached_holds r3 b).holds.body in record { body = record { services = refl; registers = o.registers; bytes = o.bytes; memory = o.memory }; regs = tt }) in

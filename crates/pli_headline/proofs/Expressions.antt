@@ -1,31 +1,31 @@
 -- Expressions of numbers and bits: the code leaves the word of the meaning's value in a0, or the run ends with it.
-use Rattle.std.proofs.Common.{◌≡◌, ℕ, ◌+◌, ◌^◌, ◌<◌, ◌≤◌, List, [], ◌∷◌, Some, Bool, true, false, refl, sym, ◌∙◌, subst, arith, lit<}
+use Rattle.std.proofs.Common.{◌≡◌, ℕ, ◌+◌, ◌^◌, ◌<◌, ◌≤◌, List, [], ◌∷◌, Some, Bool, true, false, refl, sym, ap, ◌∙◌, subst, arith, lit<}
 use Rattle.std.specs.Prelude.{ℤ, pos, max, slice_get}
 use Rattle.std.proofs.lemmas.Bool.Decides.{nat_tests}
 use Rattle.std.proofs.Math.Nat.{le-max_left, le-max_right}
 use Rattle.rv_meaning.specs.declared.instr.Instr.{Instr}
 use Rattle.rv_meaning.specs.Words.{word, flag}
 use Rattle.rv_meaning.specs.Memory.{load}
+use Rattle.rv_meaning.specs.Machine.{load_width, extended}
 use Rattle.pli_typing.specs.TypedTree as Y
-use Rattle.pli_meaning.specs.DeclaredShapes.{variables_of_block}
 use Rattle.pli_meaning.specs.Texts.{bit_number}
 use Rattle.pli_meaning.specs.StorageState.{State}
 use Rattle.pli_meaning.specs.Control.{give, ◌>>=◌}
 use Rattle.pli_meaning.specs.Raising.{Around}
 use Rattle.pli_meaning.specs.Evaluating as V
 use Rattle.pli_serving.specs.ServiceState.{Services}
-use Rattle.pli_coding.specs.Registers.{frame_register, a0}
+use Rattle.pli_coding.specs.Registers.{a0}
 use Rattle.pli_coding.specs.Assembly.{Code, size_of}
-use Rattle.pli_coding.specs.Instructions.{small, load_word}
+use Rattle.pli_coding.specs.Instructions.{small}
 use Rattle.pli_coding.specs.Environments.{Environment, Taken}
 use Rattle.pli_coding.specs.Expressions.{number_code, extremes_code, bit_code}
 use Rattle.pli_coding.specs.Temporaries.{number_words, numbers_words, bit_words}
 use Rattle.pli_coding.specs.Linking.{Links}
-use Rattle.pli_headline.specs.ProvedSoFar.{plain_number, IsOwnNumber, IsProvedNumber, AreProvedNumbers, IsProvedBit}
+use Rattle.pli_headline.specs.ProvedSoFar.{Types, IsOwn, IsOwnNumber, IsProvedNumber, AreProvedNumbers, IsProvedBit}
 use Rattle.pli_headline.proofs.Engine.{Base}
 use Rattle.pli_headline.proofs.Items.{Linked, At, straight}
 use Rattle.pli_headline.proofs.Numbers.{IsWide, word_small}
-use Rattle.pli_headline.proofs.Bodies.{Ground, Known, Free, PlaceOf, zero_is, constant_piece, load_piece}
+use Rattle.pli_headline.proofs.Bodies.{Ground, Known, Free, PlaceOf, zero_is, constant_piece, narrow_load_piece}
 use Rattle.pli_headline.proofs.Temporaries.{Temporaries, stays_same, nothing}
 use Rattle.pli_headline.proofs.Calls.{Serving}
 use Rattle.pli_headline.proofs.Raising.{Routines, small_is}
@@ -36,22 +36,23 @@ use Rattle.pli_headline.proofs.Remainders.{modulo_operates}
 use Rattle.pli_headline.proofs.Precisions.{divided_operates}
 use Rattle.pli_headline.proofs.Extremes.{Follows, follows_none, follows_next, extreme_evaluates}
 use Rattle.pli_headline.proofs.Comparisons.{numbers_operate, bits_operate, negated_operates, and_operates, or_operates}
-use Rattle.pli_headline.proofs.Evaluations.{number_kind, bit_kind, Valued, Evaluates, read_evaluates, operated_evaluates, both_evaluate}
-use Rattle.pli_headline.proofs.Variables.{HoldsNumber, whole, own, number_gives, outermost, data_place, number_loaded}
+use Rattle.pli_headline.proofs.Evaluations.{Kind, number_kind, bit_kind, Valued, Evaluates, read_evaluates, operated_evaluates, both_evaluate}
+use Rattle.pli_headline.proofs.Scalars.{bit_of, bit_wide, bit_word, fits_wide, load_kind}
+use Rattle.pli_headline.proofs.Variables.{HoldsScalar, IsDeclared, whole, own, number_gives, bit_gives, outermost, data_place, scalar_loaded, number_loaded, bit_loaded}
 use Rattle.pli_headline.proofs.Reach.{Family, Aims, Comes, Closed, onward}
 
--- the variables of a block that hold numbers, in the meaning and in memory
-pub record Scope (g : Ground) (e : Environment) (block count : ℕ) (s : State) (numbers : ℕ → ℤ) : Type 0 where
-  pub declared : (j : ℕ) → j < count → slice_get (variables_of_block e.program block) j ≡ Some plain_number
-  pub holds : (j : ℕ) → j < count → HoldsNumber s (own block j) (numbers j)
-  pub places : (j : ℕ) → j < count → PlaceOf g (pos (data_place e block j)) (g.frame + data_place e block j)
-  pub reads : (j : ℕ) → j < count → (t : ℕ → ℕ) (b : Base) (m : List ℕ) → g.memory t b m → load 4 m (g.frame + data_place e block j) ≡ word (numbers j)
+-- the variables of a block, in the meaning and in memory
+pub record Scope (g : Ground) (e : Environment) (block : ℕ) (types : Types) (s : State) (numbers : ℕ → ℤ) : Type 0 where
+  pub declared : (j : ℕ) {type : Y.LeafType} → slice_get types j ≡ Some type → IsDeclared e block j type
+  pub holds : (j : ℕ) {type : Y.LeafType} → slice_get types j ≡ Some type → HoldsScalar s (own block j) type (numbers j)
+  pub places : (j : ℕ) {type : Y.LeafType} → slice_get types j ≡ Some type → PlaceOf g (pos (data_place e block j)) (g.frame + data_place e block j)
+  pub reads : (j : ℕ) {type : Y.LeafType} → slice_get types j ≡ Some type → (t : ℕ → ℕ) (b : Base) (m : List ℕ) → g.memory t b m → extended (load_kind type) (load (load_width (load_kind type)) m (g.frame + data_place e block j)) ≡ word (numbers j)
 
 -- what stands around an expression
-pub record Setting (links : Links) (code : List Instr) (g : Ground) (v : Services) (s : State) (k : ℕ) (e : Environment) (block count : ℕ) (numbers : ℕ → ℤ) (around : Around) : Type 0 where
+pub record Setting (links : Links) (code : List Instr) (g : Ground) (v : Services) (s : State) (k : ℕ) (e : Environment) (block : ℕ) (types : Types) (numbers : ℕ → ℤ) (around : Around) : Type 0 where
   pub routines : Routines links code
   pub temps : Temporaries g
-  pub scope : Scope g e block count s numbers
+  pub scope : Scope g e block types s numbers
   pub serving : Serving k s v around.line
 
 -- ---- constants and variables
@@ -76,38 +77,49 @@ constant_does e around n is =
           (λ f' at'. record { to = goal (pos n) f' h t wide (stays_same taken h t) at' });
     }
 
-own_piece : {links : Links} {code : List Instr} {i : ℕ} {g : Ground} {v : Services} {h t : ℕ → ℕ} {s : State} {aims : Aims ℤ} (closed : Closed code aims) (e : Environment) (block count : ℕ) (numbers : ℕ → ℤ) (f : Family) (around : Around) (taken : Taken) (j k : ℕ) → j < count → Scope g e block count s numbers → Linked links code i (load_word a0 frame_register (pos (data_place e block j))) → ((b : Base) → At b i (Known g v h t nothing b) (f b)) → Valued number_kind g taken h t v s (i + size_of (load_word a0 frame_register (pos (data_place e block j)))) aims → Comes code i f v aims (V.number around (Y.NumberIn (whole (own block j))) k s)
+-- a variable of a type, read as a value of some kind
+own_piece : {X : Type 0} (kind : Kind X) {links : Links} {code : List Instr} {i : ℕ} {g : Ground} {v : Services} {h t : ℕ → ℕ} {s : State} {aims : Aims X} (closed : Closed code aims) (e : Environment) (block : ℕ) (types : Types) (numbers : ℕ → ℤ) (f : Family) (taken : Taken) (j k : ℕ) {type : Y.LeafType} (below : slice_get types j ≡ Some type) (x : X) → kind.Fits x → word (numbers j) ≡ kind.word_of x → (scope : Scope g e block types s numbers) → Linked links code i (scalar_loaded type (data_place e block j)) → ((b : Base) → At b i (Known g v h t nothing b) (f b)) → Valued kind g taken h t v s (i + size_of (scalar_loaded type (data_place e block j))) aims → Comes code i f v aims (give x k s)
 unfolding give
-own_piece {code = code} {i = i} {v = v} {h = h} {t = t} {s = s} {aims = aims} closed e block count numbers f around taken j k below scope l at goal =
-    let holds = scope.holds j below in
-    let z = numbers j in
+own_piece kind {i = i} {h = h} {t = t} closed e block types numbers f taken j k {type} below x fits same scope l at goal =
     let place = data_place e block j in
-    let r = load_piece i f a0 (pos place) _ (λ b. word z) (scope.places j below) (λ b m o. scope.reads j below t b m o) free_a0 free_far l at in
-    subst (Comes code i f v aims) (sym (number_gives around s (own block j) z k holds))
-    (onward closed r (λ f' at'. record { to = goal z f' h t holds.wide (stays_same taken h t) at' }))
+    let r = narrow_load_piece i f a0 (load_kind type) (pos place) _ (λ b. word (numbers j)) (scope.places j below) (λ b m o. scope.reads j below t b m o) free_a0 free_far l at in
+    onward closed r (λ f' at'. record { to = goal x f' h t fits (stays_same taken h t) (λ b. record { pc = (at' b).pc; holds = record { body = (at' b).holds.body; regs = ((at' b).holds.regs.0 ∙ same, tt) } }) })
 
-own_does : {links : Links} {code : List Instr} {g : Ground} {v : Services} {s : State} {k : ℕ} {e : Environment} {block count : ℕ} {numbers : ℕ → ℤ} (around : Around) (r : Y.Reference) (words : ℕ) → IsOwnNumber block count r → Scope g e block count s numbers → Evaluates number_kind links code g v s k words (λ taken. number_code (outermost e) taken (Y.NumberIn r)) (V.number around (Y.NumberIn r))
-own_does {links} {code} {g} {v} {s} {k} {e} {block} {count} {numbers} around r words is scope =
+own_does : {links : Links} {code : List Instr} {g : Ground} {v : Services} {s : State} {k : ℕ} {e : Environment} {block : ℕ} {types : Types} {numbers : ℕ → ℤ} (around : Around) (r : Y.Reference) (words : ℕ) → IsOwnNumber block types r → Scope g e block types s numbers → Evaluates number_kind links code g v s k words (λ taken. number_code (outermost e) taken (Y.NumberIn r)) (V.number around (Y.NumberIn r))
+own_does {links} {code} {g} {v} {s} {k} {e} {block} {types} {numbers} around r words is scope =
+    record {
+      does = λ {i} {h} {t} {aims} closed f taken room l at goal.
+          let p = is.precision in
+          let j = is.own.index in
+          let holds = scope.holds j is.own.declared in
+          let eq = number_loaded e taken block j p (scope.declared j is.own.declared) in
+          let loaded = scalar_loaded (Y.FixedLeaf p) (data_place e block j) in
+          let P : Code → Type 0 = λ c. Linked links code i c → Valued number_kind g taken h t v s (i + size_of c) aims → Comes code i f v aims (V.number around (Y.NumberIn (whole (own block j))) k s) in
+          let q : P loaded = λ l' goal'.
+          subst (Comes code i f v aims) (sym (number_gives around s (own block j) p (numbers j) k holds))
+          (own_piece number_kind closed e block types numbers f taken j k is.own.declared (numbers j) (fits_wide (Y.FixedLeaf p) (numbers j) holds.fits) refl scope l' at goal') in
+          let T : Y.Reference → Type 0 = λ u. Linked links code i (number_code (outermost e) taken (Y.NumberIn u)) → Valued number_kind g taken h t v s (i + size_of (number_code (outermost e) taken (Y.NumberIn u))) aims → Comes code i f v aims (V.number around (Y.NumberIn u) k s) in
+          let w : T (whole (own block j)) = subst P (sym eq) q in
+          subst T (sym is.own.is) w l goal;
+    }
+
+own_bit_does : {links : Links} {code : List Instr} {g : Ground} {v : Services} {s : State} {k : ℕ} {e : Environment} {block : ℕ} {types : Types} {numbers : ℕ → ℤ} (around : Around) (r : Y.Reference) (words : ℕ) → IsOwn block types Y.BitLeaf r → Scope g e block types s numbers → Evaluates bit_kind links code g v s k words (λ taken. bit_code (outermost e) taken (Y.BitIn r)) (V.bit around (Y.BitIn r))
+own_bit_does {links} {code} {g} {v} {s} {k} {e} {block} {types} {numbers} around r words is scope =
     record {
       does = λ {i} {h} {t} {aims} closed f taken room l at goal.
           let j = is.index in
-          let eq = number_loaded e taken block j (scope.declared j is.declared) in
-          let loaded = load_word a0 frame_register (pos (data_place e block j)) in
-          let P : Code → Type 0 = λ c. Linked links code i c → Valued number_kind g taken h t v s (i + size_of c) aims → Comes code i f v aims (V.number around (Y.NumberIn (whole (own block j))) k s) in
-          let p : P loaded = λ l' goal'. own_piece closed e block count numbers f around taken j k is.declared scope l' at goal' in
-          let T : Y.Reference → Type 0 = λ q. Linked links code i (number_code (outermost e) taken (Y.NumberIn q)) → Valued number_kind g taken h t v s (i + size_of (number_code (outermost e) taken (Y.NumberIn q))) aims → Comes code i f v aims (V.number around (Y.NumberIn q) k s) in
-          let q : T (whole (own block j)) = subst P (sym eq) p in
-          subst T (sym is.is) q l goal;
+          let holds = scope.holds j is.declared in
+          let eq = bit_loaded e taken block j (scope.declared j is.declared) in
+          let loaded = scalar_loaded Y.BitLeaf (data_place e block j) in
+          let same : word (numbers j) ≡ flag (bit_of (numbers j)) = ap word holds.fits ∙ sym (bit_word (bit_of (numbers j))) in
+          let P : Code → Type 0 = λ c. Linked links code i c → Valued bit_kind g taken h t v s (i + size_of c) aims → Comes code i f v aims (V.bit around (Y.BitIn (whole (own block j))) k s) in
+          let q : P loaded = λ l' goal'.
+          subst (Comes code i f v aims) (sym (bit_gives around s (own block j) (numbers j) k holds))
+          (own_piece bit_kind closed e block types numbers f taken j k is.declared (bit_of (numbers j)) tt same scope l' at goal') in
+          let T : Y.Reference → Type 0 = λ u. Linked links code i (bit_code (outermost e) taken (Y.BitIn u)) → Valued bit_kind g taken h t v s (i + size_of (bit_code (outermost e) taken (Y.BitIn u))) aims → Comes code i f v aims (V.bit around (Y.BitIn u) k s) in
+          let w : T (whole (own block j)) = subst P (sym eq) q in
+          subst T (sym is.is) w l goal;
     }
-
--- a bit as a number
-bit_wide : (b : Bool) → IsWide (bit_number b)
-bit_wide true = refl
-bit_wide false = refl
-
-bit_word : (b : Bool) → flag b ≡ word (bit_number b)
-bit_word true = refl
-bit_word false = refl
 
 bit_does' : {links : Links} {code : List Instr} {g : Ground} {v : Services} {s : State} {k : ℕ} (n : ℕ) (b : Bool) → n < 2 ^ 16 → n ≡ flag b → Evaluates bit_kind links code g v s k 0 (λ taken. small a0 n ∷ []) (give b)
 unfolding give
@@ -127,7 +139,7 @@ bit_does' {g = g} {v = v} n b few e =
 mutual
   unfolding V.number V.numbers V.bit ◌>>=◌ give
 
-  pub number_does : (x : Y.Number) {links : Links} {code : List Instr} {g : Ground} {v : Services} {s : State} {k : ℕ} {e : Environment} {block count : ℕ} {numbers : ℕ → ℤ} {around : Around} → Setting links code g v s k e block count numbers around → IsProvedNumber block count x → Evaluates number_kind links code g v s k (number_words x) (λ taken. number_code (outermost e) taken x) (V.number around x)
+  pub number_does : (x : Y.Number) {links : Links} {code : List Instr} {g : Ground} {v : Services} {s : State} {k : ℕ} {e : Environment} {block : ℕ} {types : Types} {numbers : ℕ → ℤ} {around : Around} → Setting links code g v s k e block types numbers around → IsProvedNumber block types x → Evaluates number_kind links code g v s k (number_words x) (λ taken. number_code (outermost e) taken x) (V.number around x)
   number_does (Y.NumberConstant n) {e = e} {around = around} st is = constant_does (outermost e) around n is
   number_does (Y.NumberIn r) {around = around} st is = own_does around r (number_words (Y.NumberIn r)) is st.scope
   number_does (Y.NumberOfBit x) st is = read_evaluates bit_number (λ b fits. bit_wide b) bit_word (bit_does x st is)
@@ -161,14 +173,15 @@ mutual
   number_does (Y.AllocationsOf x) st is = absurd is
   number_does Y.OnCode st is = absurd is
 
-  pub numbers_do : (xs : Y.Numbers) (extremum : Y.Extremum) {links : Links} {code : List Instr} {g : Ground} {v : Services} {s : State} {k : ℕ} {e : Environment} {block count : ℕ} {numbers : ℕ → ℤ} {around : Around} → Setting links code g v s k e block count numbers around → AreProvedNumbers block count xs → Follows links code g v s k (numbers_words xs) extremum (λ taken. extremes_code (outermost e) taken extremum xs) (V.numbers around xs)
+  pub numbers_do : (xs : Y.Numbers) (extremum : Y.Extremum) {links : Links} {code : List Instr} {g : Ground} {v : Services} {s : State} {k : ℕ} {e : Environment} {block : ℕ} {types : Types} {numbers : ℕ → ℤ} {around : Around} → Setting links code g v s k e block types numbers around → AreProvedNumbers block types xs → Follows links code g v s k (numbers_words xs) extremum (λ taken. extremes_code (outermost e) taken extremum xs) (V.numbers around xs)
   numbers_do Y.NoNumber extremum st are = follows_none extremum
   numbers_do (Y.NumberThen first rest) extremum st are =
       follows_next st.temps (number_words first) (numbers_words rest) extremum (number_does first st are.0) (numbers_do rest extremum st are.1)
 
-  pub bit_does : (x : Y.Bit) {links : Links} {code : List Instr} {g : Ground} {v : Services} {s : State} {k : ℕ} {e : Environment} {block count : ℕ} {numbers : ℕ → ℤ} {around : Around} → Setting links code g v s k e block count numbers around → IsProvedBit block count x → Evaluates bit_kind links code g v s k (bit_words x) (λ taken. bit_code (outermost e) taken x) (V.bit around x)
+  pub bit_does : (x : Y.Bit) {links : Links} {code : List Instr} {g : Ground} {v : Services} {s : State} {k : ℕ} {e : Environment} {block : ℕ} {types : Types} {numbers : ℕ → ℤ} {around : Around} → Setting links code g v s k e block types numbers around → IsProvedBit block types x → Evaluates bit_kind links code g v s k (bit_words x) (λ taken. bit_code (outermost e) taken x) (V.bit around x)
   bit_does (Y.BitConstant true) st is = bit_does' 1 true (lit< tt) refl
   bit_does (Y.BitConstant false) st is = bit_does' 0 false (lit< tt) refl
+  bit_does (Y.BitIn r) {around = around} st is = own_bit_does around r (bit_words (Y.BitIn r)) is st.scope
   bit_does (Y.Negated x) st is =
       operated_evaluates (bit_words x) (omega arith) (omega arith) (bit_does x st is) (λ b fits. negated_operates b)
   bit_does (Y.Combined Y.Conjunction left right) st is =
@@ -180,7 +193,6 @@ mutual
       (λ x y wx wy. numbers_operate comparison x y wx wy)
   bit_does (Y.BitsCompared comparison left right) st is =
       both_evaluate st.temps (bit_words left) (bit_words right) (bit_does left st is.0) (bit_does right st is.1) (λ a b fa fb. bits_operate comparison a b)
-  bit_does (Y.BitIn r) st is = absurd is
   bit_does (Y.BitFrom c) st is = absurd is
   bit_does (Y.BitOfText x) st is = absurd is
   bit_does (Y.TextsCompared comparison left right) st is = absurd is
@@ -188,6 +200,6 @@ mutual
   bit_does (Y.OffsetsCompared equal left right) st is = absurd is
 
 -- a number, wherever its code stands
-pub number_piece : {links : Links} {code : List Instr} {i : ℕ} {g : Ground} {v : Services} {h t : ℕ → ℕ} {s : State} {aims : Aims ℤ} (x : Y.Number) (closed : Closed code aims) (routines : Routines links code) (temps : Temporaries g) (e : Environment) (block count : ℕ) (numbers : ℕ → ℤ) (f : Family) (around : Around) (taken : Taken) (k : ℕ) → IsProvedNumber block count x → taken.words + number_words x ≤ g.words → Scope g e block count s numbers → Linked links code i (number_code (outermost e) taken x) → Serving k s v around.line → ((b : Base) → At b i (Known g v h t nothing b) (f b)) → Valued number_kind g taken h t v s (i + size_of (number_code (outermost e) taken x)) aims → Comes code i f v aims (V.number around x k s)
-number_piece x closed routines temps e block count numbers f around taken k is room scope l serving at goal =
+pub number_piece : {links : Links} {code : List Instr} {i : ℕ} {g : Ground} {v : Services} {h t : ℕ → ℕ} {s : State} {aims : Aims ℤ} (x : Y.Number) (closed : Closed code aims) (routines : Routines links code) (temps : Temporaries g) (e : Environment) (block : ℕ) (types : Types) (numbers : ℕ → ℤ) (f : Family) (around : Around) (taken : Taken) (k : ℕ) → IsProvedNumber block types x → taken.words + number_words x ≤ g.words → Scope g e block types s numbers → Linked links code i (number_code (outermost e) taken x) → Serving k s v around.line → ((b : Base) → At b i (Known g v h t nothing b) (f b)) → Valued number_kind g taken h t v s (i + size_of (number_code (outermost e) taken x)) aims → Comes code i f v aims (V.number around x k s)
+number_piece x closed routines temps e block types numbers f around taken k is room scope l serving at goal =
     (number_does x (record { routines = routines; temps = temps; scope = scope; serving = serving }) is).does closed f taken room l at goal

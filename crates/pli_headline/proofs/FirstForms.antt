@@ -1,38 +1,82 @@
 -- The forms of the first path's programs are among those for which the headline is proved.
-use Rattle.std.proofs.Common.{ℕ, List, [], ◌∷◌, None}
+use Rattle.std.proofs.Common.{◌≡◌, ℕ, zero, suc, ◌<◌, List, [], ◌∷◌, length, Some, None, true, sym, ap, subst, arith, unwrap_or}
+use Rattle.std.specs.Prelude.{slice_get}
 use Rattle.pli_typing.specs.TypedTree as Y
 use Rattle.pli_meaning.specs.Control.{Label}
-use Rattle.pli_headline.specs.ProvedSoFar.{IsProvedNumber, IsProvedItem, AreProvedItems, AreProvedPairs, IsProvedStatement, AreProvedStatements, JumpsAround, AllJumpAround, IsProvedSoFar}
-use Rattle.pli_headline.specs.FirstForms.{IsFirstNumber, IsFirstItem, AreFirstItems, AreFirstPairs, IsFirstStatement, AreFirstStatements, IsFirstProgram}
+use Rattle.pli_meaning.specs.DeclaredShapes.{variables_of_block}
+use Rattle.pli_coding.specs.Streams.{has_text}
+use Rattle.pli_headline.specs.ProvedSoFar.{IsPlain, ArePlain, AllPlain, Types, type_of, types_of, IsOwn, HavePrecisions, IsProvedNumber, IsProvedItem, AreProvedItems, AreProvedPairs, IsProvedStatement, AreProvedStatements, JumpsAround, AllJumpAround, IsProvedSoFar}
+use Rattle.pli_headline.proofs.FormatData.{true_false}
+use Rattle.pli_headline.specs.FirstForms.{plain_number, AreNumbers, AllNumbers, IsFirstReference, IsFirstNumber, IsFirstItem, AreFirstItems, AreFirstPairs, IsFirstStatement, AreFirstStatements, IsFirstProgram}
 
-number_wider : (block count : ℕ) (x : Y.Number) → IsFirstNumber block count x → IsProvedNumber block count x
-number_wider block count (Y.NumberConstant n) h = h
-number_wider block count (Y.NumberIn r) h = h
-number_wider block count (Y.Signed sign x) h = number_wider block count x h
-number_wider block count (Y.Calculated operator left right) h = (number_wider block count left h.1.0, number_wider block count right h.1.1)
-number_wider block count _ h = absurd h
+-- ---- declarations
 
-item_wider : (block count : ℕ) (i : Y.PutItem) → IsFirstItem block count i → IsProvedItem block count i
-item_wider block count (Y.PutValue (Y.NumberValue precision x)) h = number_wider block count x h
-item_wider block count _ h = absurd h
+number_plain : (d : Y.DeclaredVariable) → d ≡ plain_number → IsPlain d
+number_plain d e = record { type = Y.FixedLeaf 31; initial = []; scalar = (omega arith, omega arith); begins = tt; is = e }
 
-items_wider : (block count : ℕ) (items : List Y.PutItem) → AreFirstItems block count items → AreProvedItems block count items
-items_wider block count [] h = tt
-items_wider block count (i ∷ is) h = (item_wider block count i h.0, items_wider block count is h.1)
+pub numbers_plain : (ds : List Y.DeclaredVariable) → AreNumbers ds → ArePlain ds
+numbers_plain [] are = tt
+numbers_plain (d ∷ ds) are = (number_plain d are.0, numbers_plain ds are.1)
 
-pairs_wider : (block count : ℕ) (pairs : List Y.PutPair) → AreFirstPairs block count pairs → AreProvedPairs block count pairs
-pairs_wider block count [] h = tt
-pairs_wider block count (p ∷ ps) h = (items_wider block count p.items h.0, (h.1.0, pairs_wider block count ps h.1.1))
+pub all_numbers_plain : (rows : List (List Y.DeclaredVariable)) → AllNumbers rows → AllPlain rows
+all_numbers_plain [] all = tt
+all_numbers_plain (ds ∷ rest) all = (numbers_plain ds all.0, all_numbers_plain rest all.1)
 
-statement_wider : (block count : ℕ) (x : Y.Stmt) → IsFirstStatement block count x → IsProvedStatement block count x
-statement_wider block count (Y.Null line) h = h
-statement_wider block count (Y.Assign target (Y.StoredNumber precision x) line) h = (h.0, (h.1.0, (number_wider block count x h.1.1.0, h.1.1.1)))
-statement_wider block count (Y.Put None pairs line) h = (pairs_wider block count pairs h.0, h.1)
-statement_wider block count _ h = absurd h
+pub number_at : (ds : List Y.DeclaredVariable) (j : ℕ) → AreNumbers ds → j < length ds → slice_get ds j ≡ Some plain_number
+number_at [] j are below = absurd (omega (arith, below))
+number_at (d ∷ ds) zero are below = ap Some are.0
+number_at (d ∷ ds) (suc j) are below = number_at ds j are.1 (omega (arith, below))
 
-pub statements_wider : (block count : ℕ) (body : Y.Stmts) → AreFirstStatements block count body → AreProvedStatements block count body
-statements_wider block count (Y.EndOfList labels) h = tt
-statements_wider block count (Y.StmtThen labels first rest) h = (statement_wider block count first h.0, statements_wider block count rest h.1)
+pub block_numbers : (rows : List (List Y.DeclaredVariable)) (block : ℕ) → AllNumbers rows → AreNumbers (unwrap_or (slice_get rows block) [])
+block_numbers [] block all = tt
+block_numbers (ds ∷ rest) zero all = all.0
+block_numbers (ds ∷ rest) (suc block) all = block_numbers rest block all.1
+
+-- so many variables of FIXED BINARY(31)
+abbrev pub Hold : (count : ℕ) → Types → Type 0
+Hold count types = (j : ℕ) → j < count → slice_get types j ≡ Some (Y.FixedLeaf 31)
+
+pub numbers_typed : (ds : List Y.DeclaredVariable) → AreNumbers ds → Hold (length ds) (types_of ds)
+numbers_typed [] are j below = absurd (omega (arith, below))
+numbers_typed (d ∷ ds) are zero below = ap (λ u. Some (type_of u)) are.0
+numbers_typed (d ∷ ds) are (suc j) below = numbers_typed ds are.1 j (omega (arith, below))
+
+-- ---- forms
+
+own_wider : (block count : ℕ) (types : Types) (r : Y.Reference) → Hold count types → IsFirstReference block count r → IsOwn block types (Y.FixedLeaf 31) r
+own_wider block count types r all h = record { index = h.index; declared = all h.index h.declared; is = h.is }
+
+number_wider : (block count : ℕ) (types : Types) (x : Y.Number) → Hold count types → IsFirstNumber block count x → IsProvedNumber block types x
+number_wider block count types (Y.NumberConstant n) all h = h
+number_wider block count types (Y.NumberIn r) all h = record { precision = 31; own = own_wider block count types r all h }
+number_wider block count types (Y.Signed sign x) all h = number_wider block count types x all h
+number_wider block count types (Y.Calculated operator left right) all h = (number_wider block count types left all h.1.0, number_wider block count types right all h.1.1)
+number_wider block count types _ all h = absurd h
+
+item_wider : (block count : ℕ) (types : Types) (i : Y.PutItem) → Hold count types → IsFirstItem block count i → IsProvedItem block types i
+item_wider block count types (Y.PutValue (Y.NumberValue precision x)) all h = number_wider block count types x all h
+item_wider block count types _ all h = absurd h
+
+items_wider : (block count : ℕ) (types : Types) (items : List Y.PutItem) → Hold count types → AreFirstItems block count items → AreProvedItems block types items
+items_wider block count types [] all h = tt
+items_wider block count types (i ∷ is) all h = (item_wider block count types i all h.0, items_wider block count types is all h.1)
+
+pairs_wider : (block count : ℕ) (types : Types) (pairs : List Y.PutPair) → Hold count types → AreFirstPairs block count pairs → AreProvedPairs block types pairs
+pairs_wider block count types [] all h = tt
+pairs_wider block count types (p ∷ ps) all h =
+    let formats = h.1.0 in
+    let none : has_text p.formats ≡ true → HavePrecisions p.items = λ some. true_false (has_text p.formats) some formats.1.1 in
+    (items_wider block count types p.items all h.0, ((formats.0, (formats.1.0, none)), pairs_wider block count types ps all h.1.1))
+
+statement_wider : (block count : ℕ) (types : Types) (x : Y.Stmt) → Hold count types → IsFirstStatement block count x → IsProvedStatement block types x
+statement_wider block count types (Y.Null line) all h = h
+statement_wider block count types (Y.Assign target (Y.StoredNumber precision x) line) all h = (subst (λ p. IsOwn block types (Y.FixedLeaf p) target) (sym h.0) (own_wider block count types target all h.1.0), (number_wider block count types x all h.1.1.0, h.1.1.1))
+statement_wider block count types (Y.Put None pairs line) all h = (pairs_wider block count types pairs all h.0, h.1)
+statement_wider block count types _ all h = absurd h
+
+pub statements_wider : (block count : ℕ) (types : Types) (body : Y.Stmts) → Hold count types → AreFirstStatements block count body → AreProvedStatements block types body
+statements_wider block count types (Y.EndOfList labels) all h = tt
+statements_wider block count types (Y.StmtThen labels first rest) all h = (statement_wider block count types first all h.0, statements_wider block count types rest all h.1)
 
 -- none of them jumps
 statement_stays : (block count : ℕ) (all around : List Label) (x : Y.Stmt) → IsFirstStatement block count x → JumpsAround all around x
@@ -52,12 +96,12 @@ program_wider program is =
       head = is.head;
       body = is.body;
       alone = is.alone;
-      plain = is.plain;
+      plain = all_numbers_plain program.variables is.plain;
       block = record {
         kind = is.block.kind;
         level = is.block.level;
         line = is.block.line;
-        statements = statements_wider _ _ is.body is.block.statements;
+        statements = statements_wider is.head.number (length (variables_of_block program is.head.number)) (types_of (variables_of_block program is.head.number)) is.body (numbers_typed (variables_of_block program is.head.number) (block_numbers program.variables is.head.number is.plain)) is.block.statements;
         jumps = statements_stay _ _ _ _ is.body is.block.statements;
       };
     }

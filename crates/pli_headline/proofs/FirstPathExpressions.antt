@@ -16,8 +16,7 @@ use Rattle.pli_typing.specs.TypedTree as Y
 use Rattle.pli_typing.specs.Converting.{Referent, Designates, Gives, Operand, referent_value, operand_value, number_wanted, number_operand}
 use Rattle.pli_typing.specs.Variables.{what_of}
 use Rattle.pli_typing.specs.References.{Named, given, found_referent, what_referent, expression, reference, qualified, arguments, expressions}
-use Rattle.pli_headline.specs.ProvedSoFar.{IsOwnNumber}
-use Rattle.pli_headline.specs.FirstForms.{IsFirstNumber}
+use Rattle.pli_headline.specs.FirstForms.{IsFirstReference, IsFirstNumber}
 use Rattle.pli_headline.proofs.FirstPathTrees.{IsVariable, IsExpression, IsSign, IsSum}
 use Rattle.pli_headline.proofs.FirstPathDeclared.{plain_held, letters_of, declarations_among}
 use Rattle.pli_headline.proofs.FirstPathDeclared as D
@@ -73,7 +72,7 @@ abbrev pub IsValue : (count : ℕ) → Option Y.Value → Type 0
 IsValue count (Some (Y.NumberValue p x)) = IsFirstNumber 1 count x
 IsValue count _ = ⊥
 
-own_number : (count j : ℕ) → j < count → IsOwnNumber 1 count (number_at j)
+own_number : (count j : ℕ) → j < count → IsFirstReference 1 count (number_at j)
 own_number count j h = record { index = j; declared = h; is = refl }
 
 pub value_proved : (count : ℕ) (place : Place) (r : Referent) → IsNumber count r → IsValue count (referent_value place r).value

@@ -11,8 +11,7 @@ use Rattle.pli_typing.specs.Variables.{variables_in}
 use Rattle.pli_typing.specs.Generations.{declared_variable}
 use Rattle.pli_typing.specs.SingleStatements.{labels_in}
 use Rattle.pli_typing.specs.Resolving.{statements, program_resolved, resolved, typed_tree}
-use Rattle.pli_headline.specs.ProvedSoFar.{plain_number, ArePlain}
-use Rattle.pli_headline.specs.FirstForms.{IsFirstProgram, AreFirstStatements}
+use Rattle.pli_headline.specs.FirstForms.{plain_number, AreNumbers, IsFirstProgram, AreFirstStatements}
 use Rattle.pli_headline.proofs.FirstForms.{program_wider}
 use Rattle.pli_headline.specs.FirstPath.{SmallLines, FirstPathProved}
 use Rattle.pli_headline.proofs.FirstPathDeclared.{Named, letters_of, declarations_among, IsBody, Body, main_head, main_items, first_path}
@@ -87,7 +86,7 @@ typed_is label place body b l =
 
 -- ---- the law
 
-pub all_plain : (ns : List Named) → ArePlain (plain_numbers ns)
+pub all_plain : (ns : List Named) → AreNumbers (plain_numbers ns)
 all_plain [] = tt
 all_plain (n ∷ ns) = (refl, all_plain ns)
 

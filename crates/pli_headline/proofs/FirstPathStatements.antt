@@ -1,7 +1,8 @@
 -- Statements of the first path come to statements that are proved.
-use Rattle.std.proofs.Common.{◌≡◌, ℕ, zero, suc, ◌+◌, ◌<◌, ◌^◌, List, [], ◌∷◌, ◌++◌, length, Option, Some, None, refl, sym, ap, ◌∙◌, subst, arith}
+use Rattle.std.proofs.Common.{◌≡◌, ℕ, zero, suc, ◌+◌, ◌<◌, ◌^◌, List, [], ◌∷◌, ◌++◌, length, Option, Some, None, false, refl, sym, ap, ◌∙◌, subst, arith}
 use Rattle.pli_language.specs.declared.expr.Place.{Place}
 use Rattle.pli_language.specs.Tree as T
+use Rattle.pli_language.specs.Formats.{format_moves_data, formats_move_data}
 use Rattle.pli_language.specs.Declaring.{place_of_expr, constant, place_of_reference}
 use Rattle.pli_language.specs.Declarations.{blocks_in, blocks_in_item, blocks_in_stmt}
 use Rattle.pli_typing.specs.TypedTree as Y
@@ -11,7 +12,8 @@ use Rattle.pli_typing.specs.References.{expression, reference, expressions}
 use Rattle.pli_typing.specs.Assigning.{assignment, computational, put_scalar, put_referent, put_item}
 use Rattle.pli_typing.specs.SingleStatements.{Context, in_block}
 use Rattle.pli_typing.specs.Resolving.{statement, statements, outermost_context}
-use Rattle.pli_headline.specs.ProvedSoFar.{AreProvedFormats, HasFormat}
+use Rattle.pli_coding.specs.Streams.{has_text}
+use Rattle.pli_headline.specs.ProvedSoFar.{AreProvedFormats, HasData}
 use Rattle.pli_headline.specs.FirstForms.{IsFirstItem, AreFirstItems, IsFirstStatement, AreFirstStatements}
 use Rattle.pli_headline.specs.FirstPath.{stmt_line, SmallLines}
 use Rattle.pli_headline.proofs.FirstPathTrees.{IsField, IsSingle, IsStatement, AreStatements}
@@ -55,8 +57,9 @@ items_proved label place ns (T.ExprThen e T.NoExpr) h =
     (item_proved (length ns) o (expression_number label place ns e h), tt)
 items_proved label place ns _ h = absurd h
 
-formats_proved : (fs : T.Formats) → IsField fs → AreProvedFormats fs × HasFormat fs
-formats_proved (T.FormatThen place (suc zero) (T.FixedFormat width) T.NoFormat) h = (((omega arith, omega arith), (h, tt)), tt)
+formats_proved : (fs : T.Formats) → IsField fs → AreProvedFormats fs × (HasData fs × (has_text fs ≡ false))
+unfolding formats_move_data format_moves_data
+formats_proved (T.FormatThen place (suc zero) (T.FixedFormat width) T.NoFormat) h = (((omega arith, omega arith), (h, tt)), (refl, refl))
 formats_proved _ h = absurd h
 
 -- ---- statements

@@ -12,7 +12,7 @@ use Rattle.pli_coding.specs.Allocating.{act_code}
 use Rattle.pli_coding.specs.Environments.{Environment, block_around}
 use Rattle.pli_coding.specs.Statements.{stmt_code}
 use Rattle.pli_coding.specs.Linking.{Links, place_of}
-use Rattle.pli_headline.specs.ProvedSoFar.{times}
+use Rattle.pli_headline.specs.ProvedSoFar.{Types, times}
 use Rattle.pli_headline.proofs.Linking.{size_append}
 use Rattle.pli_headline.proofs.Jumps.{front_of, back_of, jump_piece}
 use Rattle.pli_headline.proofs.Temporaries.{stays_same}
@@ -28,9 +28,9 @@ pub record LabelsStand (e : Environment) (links : Links) (all : List Label) : Ty
   pub once : (label : Label) → times label all ≡ 1 → IsMarkedOnce links e.block label
 
 -- the act leaves no credits to count, so the label may stand anywhere
-own_goto_does : {e : Environment} {block count : ℕ} (bl : Block e block count) (links : Links) (code : List Instr) (around : Around) (label : Label) (line : ℕ) → line < 2 ^ 31 → is_among label bl.labels ≡ true → IsMarkedOnce links e.block label → block_around (outermost e) 0 ≡ e.block → Does bl links code around.turns (stmt_code (outermost e) bl.taken (Y.Goto 0 label line)) (M.statement around (Y.Goto 0 label line))
+own_goto_does : {e : Environment} {block : ℕ} {types : Types} (bl : Block e block types) (links : Links) (code : List Instr) (around : Around) (label : Label) (line : ℕ) → line < 2 ^ 31 → is_among label bl.labels ≡ true → IsMarkedOnce links e.block label → block_around (outermost e) 0 ≡ e.block → Does bl links code around.turns (stmt_code (outermost e) bl.taken (Y.Goto 0 label line)) (M.statement around (Y.Goto 0 label line))
 unfolding M.statement looked jumps ◌>>=◌ ◌>>◌
-own_goto_does {e} {block} {count} bl links code around label line fits among once own =
+own_goto_does {e} {block} {types} bl links code around label line fits among once own =
     record {
       does = λ {i} {s} {v} {h} {t} {aims} closed old n f k l serving all at goal more.
           let a = act_code line in
@@ -55,7 +55,7 @@ own_goto_does {e} {block} {count} bl links code around label line fits among onc
           }))));
     }
 
-pub goto_does : {e : Environment} {block count : ℕ} (bl : Block e block count) (links : Links) (code : List Instr) (around : Around) (level : ℕ) (label : Label) (line : ℕ) → level ≡ 0 → line < 2 ^ 31 → is_among label bl.labels ≡ true → IsMarkedOnce links e.block label → block_around (outermost e) 0 ≡ e.block → Does bl links code around.turns (stmt_code (outermost e) bl.taken (Y.Goto level label line)) (M.statement around (Y.Goto level label line))
+pub goto_does : {e : Environment} {block : ℕ} {types : Types} (bl : Block e block types) (links : Links) (code : List Instr) (around : Around) (level : ℕ) (label : Label) (line : ℕ) → level ≡ 0 → line < 2 ^ 31 → is_among label bl.labels ≡ true → IsMarkedOnce links e.block label → block_around (outermost e) 0 ≡ e.block → Does bl links code around.turns (stmt_code (outermost e) bl.taken (Y.Goto level label line)) (M.statement around (Y.Goto level label line))
 goto_does {e} bl links code around level label line zero' fits among once own =
     subst (λ n. Does bl links code around.turns (stmt_code (outermost e) bl.taken (Y.Goto n label line)) (M.statement around (Y.Goto n label line))) (sym zero')
     (own_goto_does bl links code around label line fits among once own)

@@ -21,7 +21,7 @@ use Rattle.pli_coding.specs.Expressions.{bit_code}
 use Rattle.pli_coding.specs.Statements.{if_met, stmt_code}
 use Rattle.pli_coding.specs.Temporaries.{bit_words}
 use Rattle.pli_coding.specs.Linking.{Links}
-use Rattle.pli_headline.specs.ProvedSoFar.{IsProvedBit}
+use Rattle.pli_headline.specs.ProvedSoFar.{Types, IsProvedBit}
 use Rattle.pli_headline.proofs.Engine.{Base, address}
 use Rattle.pli_headline.proofs.Linking.{size_append}
 use Rattle.pli_headline.proofs.Items.{Linked, At}
@@ -71,16 +71,16 @@ chosen_piece {links = links} {code = code} {i = i} {g = g} {v = v} {h = h} {t = 
     (λ f2 at2. subst (λ n. Comes code n f2 v aims (other k s)) (sym there) (otherwise f2 (λ b. record { pc = (at2 b).pc ∙ ap (address b) there; holds = (at2 b).holds }))))
 
 -- what stands around an expression of a block
-abbrev pub setting : {e : Environment} {block count : ℕ} (bl : Block e block count) {links : Links} {code : List Instr} {v : Services} {s : State} {k : ℕ} {around : Around} → Routines links code → (n : ℕ → ℤ) → AllHold s block count n → Serving k s v around.line → Setting links code (bl.ground n) v s k e block count n around
+abbrev pub setting : {e : Environment} {block : ℕ} {types : Types} (bl : Block e block types) {links : Links} {code : List Instr} {v : Services} {s : State} {k : ℕ} {around : Around} → Routines links code → (n : ℕ → ℤ) → AllHold s block types n → Serving k s v around.line → Setting links code (bl.ground n) v s k e block types n around
 setting bl routines n all serving =
     record { routines = routines; temps = bl.temps n; scope = scope_of bl n all; serving = serving }
 
 -- ---- the statements
 
 -- code that runs where a test behind an act is met
-pub tested_does : {e : Environment} {block count : ℕ} (bl : Block e block count) (links : Links) (code : List Instr) (turns : ℕ) (routines : Routines links code) (around : Around) (condition : Y.Bit) (line : ℕ) (c : Code) (meaning : Meaning (Unit {0})) → IsProvedBit block count condition → bl.taken.words + bit_words condition ≤ bl.words → line < 2 ^ 31 → Does bl links code turns c meaning → Does bl links code turns (act_code line ++ (bit_code (outermost e) bl.taken condition ++ if_met c)) ((act counted) >> ((V.bit (at_line around line) condition) >>= (λ met. choose met meaning (give tt))))
+pub tested_does : {e : Environment} {block : ℕ} {types : Types} (bl : Block e block types) (links : Links) (code : List Instr) (turns : ℕ) (routines : Routines links code) (around : Around) (condition : Y.Bit) (line : ℕ) (c : Code) (meaning : Meaning (Unit {0})) → IsProvedBit block types condition → bl.taken.words + bit_words condition ≤ bl.words → line < 2 ^ 31 → Does bl links code turns c meaning → Does bl links code turns (act_code line ++ (bit_code (outermost e) bl.taken condition ++ if_met c)) ((act counted) >> ((V.bit (at_line around line) condition) >>= (λ met. choose met meaning (give tt))))
 unfolding ◌>>=◌ ◌>>◌ give
-tested_does {e} {block} {count} bl links code turns routines around condition line c meaning is room fits inner =
+tested_does {e} {block} {types} bl links code turns routines around condition line c meaning is room fits inner =
     record {
       does = λ {i} {s} {v} {h} {t} {aims} closed old n f k l serving all at goal more.
           let a = act_code line in
@@ -101,7 +101,7 @@ tested_does {e} {block} {count} bl links code turns routines around condition li
           (act_piece (before_closed k next' closed) f line old k fits (front_of a (test ++ if_met c) l) serving at
           (λ f1 serving1 at1.
           let s1 = with_world (counted s.world) s in
-          let all1 : AllHold s1 block count n = λ j' below. counted_holds _ (all j' below) in
+          let all1 : AllHold s1 block types n = λ j' below. counted_holds _ (all j' below) in
           comes_on k (V.bit here condition k s1) branch
           ((bit_does condition {e = e} {around = here} (setting bl routines n all1 serving1) is).does (before_closed k branch closed) f1 bl.taken (omega (arith, room, w)) (front_of test (if_met c) l1) at1
           (λ met f2 h2 t2 one stays at2.
@@ -119,14 +119,14 @@ tested_does {e} {block} {count} bl links code turns routines around condition li
           })))));
     }
 
-pub if_does : {e : Environment} {block count : ℕ} (bl : Block e block count) (links : Links) (code : List Instr) (routines : Routines links code) (around : Around) (condition : Y.Bit) (unit : Y.Stmt) (line : ℕ) → IsProvedBit block count condition → bl.taken.words + bit_words condition ≤ bl.words → line < 2 ^ 31 → Does bl links code around.turns (stmt_code (outermost e) bl.taken unit) (M.statement around unit) → Does bl links code around.turns (stmt_code (outermost e) bl.taken (Y.If condition unit line)) (M.statement around (Y.If condition unit line))
+pub if_does : {e : Environment} {block : ℕ} {types : Types} (bl : Block e block types) (links : Links) (code : List Instr) (routines : Routines links code) (around : Around) (condition : Y.Bit) (unit : Y.Stmt) (line : ℕ) → IsProvedBit block types condition → bl.taken.words + bit_words condition ≤ bl.words → line < 2 ^ 31 → Does bl links code around.turns (stmt_code (outermost e) bl.taken unit) (M.statement around unit) → Does bl links code around.turns (stmt_code (outermost e) bl.taken (Y.If condition unit line)) (M.statement around (Y.If condition unit line))
 unfolding M.statement
 if_does {e} bl links code routines around condition unit line is room fits inner =
     tested_does bl links code around.turns routines around condition line (stmt_code (outermost e) bl.taken unit) (M.statement around unit) is room fits inner
 
-pub if_else_does : {e : Environment} {block count : ℕ} (bl : Block e block count) (links : Links) (code : List Instr) (routines : Routines links code) (around : Around) (condition : Y.Bit) (unit otherwise : Y.Stmt) (line : ℕ) → IsProvedBit block count condition → bl.taken.words + bit_words condition ≤ bl.words → line < 2 ^ 31 → Does bl links code around.turns (stmt_code (outermost e) bl.taken unit) (M.statement around unit) → Does bl links code around.turns (stmt_code (outermost e) bl.taken otherwise) (M.statement around otherwise) → Does bl links code around.turns (stmt_code (outermost e) bl.taken (Y.IfElse condition unit otherwise line)) (M.statement around (Y.IfElse condition unit otherwise line))
+pub if_else_does : {e : Environment} {block : ℕ} {types : Types} (bl : Block e block types) (links : Links) (code : List Instr) (routines : Routines links code) (around : Around) (condition : Y.Bit) (unit otherwise : Y.Stmt) (line : ℕ) → IsProvedBit block types condition → bl.taken.words + bit_words condition ≤ bl.words → line < 2 ^ 31 → Does bl links code around.turns (stmt_code (outermost e) bl.taken unit) (M.statement around unit) → Does bl links code around.turns (stmt_code (outermost e) bl.taken otherwise) (M.statement around otherwise) → Does bl links code around.turns (stmt_code (outermost e) bl.taken (Y.IfElse condition unit otherwise line)) (M.statement around (Y.IfElse condition unit otherwise line))
 unfolding M.statement ◌>>=◌ ◌>>◌
-if_else_does {e} {block} {count} bl links code routines around condition unit otherwise line is room fits first second =
+if_else_does {e} {block} {types} bl links code routines around condition unit otherwise line is room fits first second =
     record {
       does = λ {i} {s} {v} {h} {t} {aims} closed old n f k l serving all at goal more.
           let a = act_code line in
@@ -157,7 +157,7 @@ if_else_does {e} {block} {count} bl links code routines around condition unit ot
           (act_piece (before_closed k next' closed) f line old k fits (front_of a (test ++ (both ++ d)) l) serving at
           (λ f1 serving1 at1.
           let s1 = with_world (counted s.world) s in
-          let all1 : AllHold s1 block count n = λ j' below. counted_holds _ (all j' below) in
+          let all1 : AllHold s1 block types n = λ j' below. counted_holds _ (all j' below) in
           comes_on k (V.bit here condition k s1) branch
           ((bit_does condition {e = e} {around = here} (setting bl routines n all1 serving1) is).does (before_closed k branch closed) f1 bl.taken (omega (arith, room, w)) (front_of test (both ++ d) l1) at1
           (λ met f2 h2 t2 one stays at2.

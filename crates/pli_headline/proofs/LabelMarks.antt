@@ -1,5 +1,5 @@
 -- The labels of the main procedure: each that stands once among them is marked once in the program's code.
-use Rattle.std.proofs.Common.{◌≡◌, ℕ, suc, ◌+◌, ◌*◌, List, [], ◌∷◌, ◌++◌, length, None, Some, true, refl, sym, ap, ◌∙◌, subst, arith}
+use Rattle.std.proofs.Common.{◌≡◌, ℕ, suc, ◌+◌, ◌*◌, List, [], ◌∷◌, ◌++◌, Option, None, Some, true, refl, ap, ◌∙◌, arith}
 use Rattle.std.specs.Prelude.{ℤ, pos, neg_ℤ, cond, nat_le, ◌==◌, ◌&&◌, if◌then◌else◌}
 use Rattle.std.proofs.lemmas.Bool.{eq-eqb}
 use Rattle.std.proofs.lemmas.Bool.Decides.{nat_tests}
@@ -10,12 +10,13 @@ use Rattle.pli_typing.specs.TypedTree as Y
 use Rattle.pli_meaning.specs.Control.{Label}
 use Rattle.pli_meaning.specs.DeclaredShapes.{variables_of_block}
 use Rattle.pli_coding.specs.Registers.{zero_register, return_register, frame_register, stack_register, a0, a1, a2, a3, a4, u0, u5}
-use Rattle.pli_coding.specs.Assembly.{Symbol, ProcedureEntry, ReturnPlace, LabelPlace, RaiseCondition, RaiseError, ErrorEnd, same_symbol, Plain, BaseIn, OffsetOf, OffsetAhead, JumpTo, CallTo, JumpAhead, JumpBack, Mark, Code, item_size}
+use Rattle.pli_coding.specs.Assembly.{Datum, Symbol, ProcedureEntry, ReturnPlace, LabelPlace, RaiseCondition, RaiseError, ErrorEnd, same_symbol, Plain, BaseIn, OffsetOf, OffsetAhead, JumpTo, CallTo, JumpAhead, JumpBack, Mark, Code, item_size}
 use Rattle.pli_coding.specs.Instructions.{move, small, number, plus, load_word, service}
 use Rattle.pli_coding.specs.Frames.{frame_below, own_offset, temporary_bytes, name_bytes, frame_bytes, automatic_place}
 use Rattle.pli_coding.specs.Environments.{Environment, none_taken, last_of_level}
 use Rattle.pli_coding.specs.Locating.{own_place, table_number}
-use Rattle.pli_coding.specs.Extents.{initial_code}
+use Rattle.pli_coding.specs.StaticForms.{initial_datum}
+use Rattle.pli_coding.specs.Extents.{initial_given, initial_code}
 use Rattle.pli_coding.specs.Allocating.{act_code}
 use Rattle.pli_coding.specs.Entries.{frame_begun, block_entered, constant_made, variables_made, variables_code}
 use Rattle.pli_coding.specs.Statements.{stmts_code, stmts_words, block_words}
@@ -23,11 +24,12 @@ use Rattle.pli_coding.specs.Procedures.{procedure_begun, procedure_ended, proced
 use Rattle.pli_coding.specs.Images.{place_of_head, blocks_in, blocks_among, with_blocks, blocks_of, raise_code, code_of}
 use Rattle.pli_coding.specs.Linking.{marks_from, links_of}
 use Rattle.pli_headline.specs.Headline.{parts}
-use Rattle.pli_headline.specs.ProvedSoFar.{plain_number, ArePlain, AllPlain, IsProvedStatement, AreProvedStatements, times, all_labels}
+use Rattle.pli_headline.specs.ProvedSoFar.{plain_variable, ArePlain, AllPlain, Types, types_of, IsProvedStatement, AreProvedStatements, times, all_labels}
 use Rattle.pli_headline.proofs.Linking.{times_marked}
 use Rattle.pli_headline.proofs.FirstFrame.{start_of}
 use Rattle.pli_headline.proofs.Marks.{code_is}
-use Rattle.pli_headline.proofs.MainProcedure.{IsAlone, main_head, main_environment, main_plain}
+use Rattle.pli_headline.proofs.MainProcedure.{IsAlone, main_head, main_environment, main_plain, declared_at}
+use Rattle.pli_headline.proofs.Scalars.{by_plain}
 use Rattle.pli_headline.proofs.Variables.{outermost}
 use Rattle.pli_headline.proofs.Gotos.{LabelsStand}
 use Rattle.pli_headline.proofs.ProgramSizes.{frame_filled}
@@ -40,24 +42,31 @@ place_none : (e : Environment) (r : Register) (z : ℤ) → Marks (own_place (ou
 place_none e r z =
     behind (load_word r frame_register own_offset) (plus r r z) [] (load_none r frame_register own_offset) (plus_none r r z)
 
-made_none : (e : Environment) (place : ℕ) → Marks (constant_made (outermost e) place plain_number) []
-made_none e place =
+initial_none : (r : Register) (initial : Option Datum) → Marks (initial_given r initial) []
+initial_none r None = refl
+initial_none r (Some d) = refl
+
+made_none : (e : Environment) (place : ℕ) (d : Y.DeclaredVariable) → Marks (constant_made (outermost e) place d) []
+made_none e place d =
     let name = own_place (outermost e) a0 (pos place) in
-    let n = number a1 (table_number e plain_number) in
+    let n = number a1 (table_number e d) in
     let data_at = own_place (outermost e) a3 (pos (place + name_bytes)) in
-    let z : ℤ = pos (place + frame_bytes e.parts plain_number) in
+    let z : ℤ = pos (place + frame_bytes e.parts d) in
     let last = small a4 0 ∷ (service 7 ++ plus stack_register frame_register z) in
-    let initial = initial_code a2 plain_number in
+    let initial = initial_code a2 d in
     behind name (n ++ (initial ++ (data_at ++ last))) [] (place_none e a0 (pos place))
-    (behind n (initial ++ (data_at ++ last)) [] (constant_none a1 (pos (table_number e plain_number)))
-    (behind data_at last [] (place_none e a3 (pos (place + name_bytes))) (plus_none stack_register frame_register z)))
+    (behind n (initial ++ (data_at ++ last)) [] (constant_none a1 (pos (table_number e d)))
+    (behind initial (data_at ++ last) [] (initial_none a2 (initial_datum d))
+    (behind data_at last [] (place_none e a3 (pos (place + name_bytes))) (plus_none stack_register frame_register z))))
 
 variables_none : (e : Environment) (line index : ℕ) (ds : List Y.DeclaredVariable) → ArePlain ds → Marks (variables_made (outermost e) line index ds) []
 variables_none e line index [] are = refl
 variables_none e line index (d ∷ ds) are =
     let place = automatic_place e.parts e.program e.block 0 index in
-    subst (λ u. Marks (variables_made (outermost e) line index (u ∷ ds)) []) (sym are.0)
-    (behind (constant_made (outermost e) place plain_number) (variables_made (outermost e) line (suc index) ds) [] (made_none e place) (variables_none e line (suc index) ds are.1))
+    let rest = variables_made (outermost e) line (suc index) ds in
+    let here : (u : Y.DeclaredVariable) → Marks (constant_made (outermost e) place u ++ rest) [] = λ u.
+    behind (constant_made (outermost e) place u) rest [] (made_none e place u) (variables_none e line (suc index) ds are.1) in
+    by_plain (λ u. Marks (variables_made (outermost e) line index (u ∷ ds)) []) (λ p i. here (plain_variable (Y.FixedLeaf p) i)) (λ i. here (plain_variable Y.BitLeaf i)) d are.0
 
 begun_none : (words : ℕ) → Marks (frame_begun words 0 0 true) []
 begun_none words =
@@ -85,7 +94,7 @@ abbrev program_symbols : (block : ℕ) → List Label → List Symbol
 program_symbols block labels =
     RaiseCondition ∷ RaiseError ∷ ErrorEnd ∷ ProcedureEntry block ∷ (places_of block labels ++ ReturnPlace block ∷ [])
 
-program_marks : (program : Y.Program) (block line : ℕ) (body : Y.Stmts) → AllPlain program.variables → IsAlone program block line body → AreProvedStatements block (length (variables_of_block program block)) body → Marks (code_of parts program) (program_symbols block (all_labels body))
+program_marks : (program : Y.Program) (block line : ℕ) (body : Y.Stmts) → AllPlain program.variables → IsAlone program block line body → AreProvedStatements block (types_of (variables_of_block program block)) body → Marks (code_of parts program) (program_symbols block (all_labels body))
 program_marks program block line body plain alone are =
     let e = main_environment program block in
     let words = block_words e block (stmts_words body) in
@@ -96,7 +105,7 @@ program_marks program block line body plain alone are =
     let ss = places_of block (all_labels body) ++ ReturnPlace block ∷ [] in
     let inside : Marks (begun ++ (code ++ ended)) ss =
     behind begun (code ++ ended) ss (prologue_none e block line words (main_plain program block plain))
-    (both_mark code ended (places_of block (all_labels body)) (ReturnPlace block ∷ []) (statements_mark e none_taken block (length (variables_of_block program block)) body (main_plain program block plain, refl) are) (ended_marks e (main_head block line) words)) in
+    (both_mark code ended (places_of block (all_labels body)) (ReturnPlace block ∷ []) (statements_mark e none_taken block (types_of (variables_of_block program block)) body (λ j b. declared_at (variables_of_block program block) j (main_plain program block plain) b.1) are) (ended_marks e (main_head block line) words)) in
     ap symbols_marked (code_is program block line body plain alone)
     ∙ behind (start_of block) (raise_code ++ inner) (program_symbols block (all_labels body)) refl
     (both_mark raise_code inner (RaiseCondition ∷ RaiseError ∷ ErrorEnd ∷ []) (ProcedureEntry block ∷ ss) refl (ap (λ us. ProcedureEntry block ∷ us) inside))
@@ -129,41 +138,43 @@ label_times block label (l ∷ ls) same =
 -- ---- no block stands in the procedure
 
 mutual
-  no_block : (block count : ℕ) (x : Y.Stmt) → IsProvedStatement block count x → blocks_in x ≡ []
-  no_block block count (Y.Null line) is = refl
-  no_block block count (Y.Assign target (Y.StoredNumber precision x) line) is = refl
-  no_block block count (Y.If condition unit line) is = no_block block count unit is.1.0
-  no_block block count (Y.IfElse condition unit otherwise line) is =
-      ap (λ u. u ++ blocks_in otherwise) (no_block block count unit is.1.0) ∙ no_block block count otherwise is.1.1.0
-  no_block block count (Y.Do body line) is = no_blocks block count body is.0
-  no_block block count (Y.DoWhile condition body line) is = no_blocks block count body is.1.0
-  no_block block count (Y.DoOnce target (Y.StoredNumber precision x) condition body line) is = no_blocks block count body is.1.1.0
-  no_block block count (Y.DoCount (Y.NumberCounter precision target) (Y.NumberValue p x) limit step condition body line) is = no_blocks block count body is.1.1.1.0
-  no_block block count (Y.Goto level label line) is = refl
-  no_block block count (Y.Stop line) is = refl
-  no_block block count (Y.Signal condition line) is = refl
-  no_block block count (Y.Put None pairs line) is = refl
-  no_block block count (Y.Put (Some n) pairs line) is = refl
-  no_block block count _ is = absurd is
+  no_block : (block : ℕ) (types : Types) (x : Y.Stmt) → IsProvedStatement block types x → blocks_in x ≡ []
+  no_block block types (Y.Null line) is = refl
+  no_block block types (Y.Assign target (Y.StoredNumber precision x) line) is = refl
+  no_block block types (Y.Assign target (Y.StoredBit x) line) is = refl
+  no_block block types (Y.If condition unit line) is = no_block block types unit is.1.0
+  no_block block types (Y.IfElse condition unit otherwise line) is =
+      ap (λ u. u ++ blocks_in otherwise) (no_block block types unit is.1.0) ∙ no_block block types otherwise is.1.1.0
+  no_block block types (Y.Do body line) is = no_blocks block types body is.0
+  no_block block types (Y.DoWhile condition body line) is = no_blocks block types body is.1.0
+  no_block block types (Y.DoOnce target (Y.StoredNumber precision x) condition body line) is = no_blocks block types body is.1.1.0
+  no_block block types (Y.DoOnce target (Y.StoredBit x) condition body line) is = no_blocks block types body is.1.1.0
+  no_block block types (Y.DoCount (Y.NumberCounter precision target) (Y.NumberValue p x) limit step condition body line) is = no_blocks block types body is.1.1.1.0
+  no_block block types (Y.Goto level label line) is = refl
+  no_block block types (Y.Stop line) is = refl
+  no_block block types (Y.Signal condition line) is = refl
+  no_block block types (Y.Put None pairs line) is = refl
+  no_block block types (Y.Put (Some n) pairs line) is = refl
+  no_block block types _ is = absurd is
 
-  no_blocks : (block count : ℕ) (body : Y.Stmts) → AreProvedStatements block count body → blocks_among body ≡ []
-  no_blocks block count (Y.EndOfList labels) are = refl
-  no_blocks block count (Y.StmtThen labels first rest) are =
-      ap (λ u. u ++ blocks_among rest) (no_block block count first are.0) ∙ no_blocks block count rest are.1
+  no_blocks : (block : ℕ) (types : Types) (body : Y.Stmts) → AreProvedStatements block types body → blocks_among body ≡ []
+  no_blocks block types (Y.EndOfList labels) are = refl
+  no_blocks block types (Y.StmtThen labels first rest) are =
+      ap (λ u. u ++ blocks_among rest) (no_block block types first are.0) ∙ no_blocks block types rest are.1
 
-own_block : (program : Y.Program) (block line count : ℕ) (body : Y.Stmts) → IsAlone program block line body → AreProvedStatements block count body → last_of_level block 0 0 (blocks_of program.procedures) ≡ block
-own_block program block line count body alone are =
+own_block : (program : Y.Program) (block line : ℕ) (types : Types) (body : Y.Stmts) → IsAlone program block line body → AreProvedStatements block types body → last_of_level block 0 0 (blocks_of program.procedures) ≡ block
+own_block program block line types body alone are =
     let here : nat_le block block ≡ true = grind (arith, nat_tests) in
     ap (λ ps. last_of_level block 0 0 (blocks_of ps)) alone
-    ∙ ap (λ bs. last_of_level block 0 0 (with_blocks (place_of_head (main_head block line) ∷ bs) [])) (no_blocks block count body are)
+    ∙ ap (λ bs. last_of_level block 0 0 (with_blocks (place_of_head (main_head block line) ∷ bs) [])) (no_blocks block types body are)
     ∙ ap (λ q. cond (q && true) block 0) here
 
 -- ---- the labels
 
-pub labels_stand : (program : Y.Program) (block line : ℕ) (body : Y.Stmts) → AllPlain program.variables → IsAlone program block line body → AreProvedStatements block (length (variables_of_block program block)) body → LabelsStand (main_environment program block) (links_of (code_of parts program)) (all_labels body)
+pub labels_stand : (program : Y.Program) (block line : ℕ) (body : Y.Stmts) → AllPlain program.variables → IsAlone program block line body → AreProvedStatements block (types_of (variables_of_block program block)) body → LabelsStand (main_environment program block) (links_of (code_of parts program)) (all_labels body)
 labels_stand program block line body plain alone are =
     record {
-      own = own_block program block line (length (variables_of_block program block)) body alone are;
+      own = own_block program block line (types_of (variables_of_block program block)) body alone are;
       once = λ label h.
           times_are (LabelPlace block label) 0 (code_of parts program)
           ∙ ap (symbol_times (LabelPlace block label)) (program_marks program block line body plain alone are)

@@ -1,9 +1,7 @@
 -- The statements of the main procedure do what they mean, where the constant bytes that its code names stand in the first memory.
-use Rattle.std.proofs.Common.{◌≡◌, ℕ, ◌<◌, ◌≤◌, inr, List, [], ◌∷◌, ◌++◌, Some, None, sym, subst, arith, append-nil}
-use Rattle.std.specs.Prelude.{slice_get}
+use Rattle.std.proofs.Common.{◌≡◌, ℕ, ◌<◌, ◌≤◌, inr, List, [], ◌∷◌, ◌++◌, length, None, sym, subst, arith, append-nil}
 use Rattle.rv_meaning.specs.declared.instr.Instr.{Instr}
 use Rattle.pli_typing.specs.TypedTree as Y
-use Rattle.pli_meaning.specs.DeclaredShapes.{variables_of_block}
 use Rattle.pli_meaning.specs.Control.{Label}
 use Rattle.pli_meaning.specs.Raising.{Around}
 use Rattle.pli_meaning.specs.Executing as M
@@ -15,13 +13,14 @@ use Rattle.pli_coding.specs.Procedures.{procedure_begun, procedure_ended, proced
 use Rattle.pli_coding.specs.Images.{environment_of, start_code, raise_code, code_of}
 use Rattle.pli_coding.specs.Linking.{Links, place_of}
 use Rattle.pli_headline.specs.Headline.{parts}
-use Rattle.pli_headline.specs.ProvedSoFar.{plain_number, AreProvedStatements, AllJumpAround}
+use Rattle.pli_headline.specs.ProvedSoFar.{Types, AreProvedStatements, AllJumpAround}
 use Rattle.pli_headline.proofs.Raising.{Routines}
-use Rattle.pli_headline.proofs.Variables.{outermost, data_place}
+use Rattle.pli_headline.proofs.Scalars.{Typed}
+use Rattle.pli_headline.proofs.Variables.{IsDeclared, outermost, data_place}
 use Rattle.pli_headline.proofs.Statements.{Does}
 use Rattle.pli_headline.proofs.MainGround.{Frame, number_place, main_block}
 use Rattle.pli_headline.proofs.DataNamed.{IsNamed, is_named_front, is_named_back, BytesStand}
-use Rattle.pli_headline.proofs.StandingFormats.{named_stand}
+use Rattle.pli_headline.proofs.StandingBytes.{named_stand}
 use Rattle.pli_headline.proofs.Gotos.{LabelsStand}
 use Rattle.pli_headline.proofs.ProvedStatements.{body_does}
 use Rattle.pli_headline.proofs.MainProcedure.{main_head, main_procedure, main_environment, IsAlone}
@@ -46,15 +45,15 @@ body_named program block line body d alone named =
     (is_named_back d routines procedures (subst (λ ps. IsNamed d (procedures_code e ps)) (sym alone) only)))
 
 -- the main procedure's statements, in its frame
-pub main_does : (f : Frame) (first : List ℕ) (e : Environment) (block : ℕ) (declared : (j : ℕ) → j < f.count → slice_get (variables_of_block e.program block) j ≡ Some plain_number) (placed : (j : ℕ) → j < f.count → data_place e block j ≡ number_place j) (links : Links) (code : List Instr) (routines : Routines links code) (around : Around) (body : Y.Stmts) → {all : List Label} → LabelsStand e links all → AreProvedStatements block f.count body → AllJumpAround all (labels_in body) body → stmts_words body ≤ f.words → ((bytes : List ℕ) → IsNamed (ConstantBytes bytes) (stmts_code (outermost e) none_taken body) → BytesStand code first (place_of links (DataPlace (ConstantBytes bytes))) bytes) → Does (main_block f first e block declared placed) links code around.turns (stmts_code (outermost e) none_taken body) (M.list around body)
+pub main_does : (f : Frame) (first : List ℕ) (e : Environment) (block : ℕ) (types : Types) (count : f.count ≡ length types) (declared : (j : ℕ) (b : Typed types j) → IsDeclared e block j b.0) (placed : (j : ℕ) → j < f.count → data_place e block j ≡ number_place j) (links : Links) (code : List Instr) (routines : Routines links code) (around : Around) (body : Y.Stmts) → {all : List Label} → LabelsStand e links all → AreProvedStatements block types body → AllJumpAround all (labels_in body) body → stmts_words body ≤ f.words → ((bytes : List ℕ) → IsNamed (ConstantBytes bytes) (stmts_code (outermost e) none_taken body) → BytesStand code first (place_of links (DataPlace (ConstantBytes bytes))) bytes) → Does (main_block f first e block types count declared placed) links code around.turns (stmts_code (outermost e) none_taken body) (M.list around body)
 unfolding main_block
-main_does f first e block declared placed links code routines around body {all} named are jumps room stands =
-    let bl = main_block f first e block declared placed in
+main_does f first e block types count declared placed links code routines around body {all} named are jumps room stands =
+    let bl = main_block f first e block types count declared placed in
     body_does bl links code routines around named body are (subst (λ ls. AllJumpAround all ls body) (sym (append-nil (labels_in body))) jumps) (omega (arith, room))
     (named_stand bl links code first (stmts_code (outermost e) none_taken body) (λ n t b m o k below. o.statics k below) stands)
 
 -- a frame of level 0 is the outermost
-pub main_body_does : (program : Y.Program) (block line : ℕ) (body : Y.Stmts) → IsAlone program block line body → (f : Frame) (first : List ℕ) (declared : (j : ℕ) → j < f.count → slice_get (variables_of_block program block) j ≡ Some plain_number) (placed : (j : ℕ) → j < f.count → data_place (main_environment program block) block j ≡ number_place j) (links : Links) (code : List Instr) (routines : Routines links code) (around : Around) → {all : List Label} → LabelsStand (main_environment program block) links all → AreProvedStatements block f.count body → AllJumpAround all (labels_in body) body → stmts_words body ≤ f.words → ((bytes : List ℕ) → IsNamed (ConstantBytes bytes) (code_of parts program) → BytesStand code first (place_of links (DataPlace (ConstantBytes bytes))) bytes) → Does (main_block f first (main_environment program block) block declared placed) links code around.turns (stmts_code (main_environment program block) none_taken body) (M.list around body)
-main_body_does program block line body alone f first declared placed links code routines around named are jumps room stands =
-    main_does f first (main_environment program block) block declared placed links code routines around body named are jumps room
+pub main_body_does : (program : Y.Program) (block line : ℕ) (body : Y.Stmts) → IsAlone program block line body → (f : Frame) (first : List ℕ) (types : Types) (count : f.count ≡ length types) (declared : (j : ℕ) (b : Typed types j) → IsDeclared (main_environment program block) block j b.0) (placed : (j : ℕ) → j < f.count → data_place (main_environment program block) block j ≡ number_place j) (links : Links) (code : List Instr) (routines : Routines links code) (around : Around) → {all : List Label} → LabelsStand (main_environment program block) links all → AreProvedStatements block types body → AllJumpAround all (labels_in body) body → stmts_words body ≤ f.words → ((bytes : List ℕ) → IsNamed (ConstantBytes bytes) (code_of parts program) → BytesStand code first (place_of links (DataPlace (ConstantBytes bytes))) bytes) → Does (main_block f first (main_environment program block) block types count declared placed) links code around.turns (stmts_code (main_environment program block) none_taken body) (M.list around body)
+main_body_does program block line body alone f first types count declared placed links code routines around named are jumps room stands =
+    main_does f first (main_environment program block) block types count declared placed links code routines around body named are jumps room
     (λ bytes named. stands bytes (body_named program block line body (ConstantBytes bytes) alone named))

@@ -3,18 +3,22 @@ use Rattle.std.proofs.Common.{◌≡◌, ℕ, suc, ◌+◌, ◌-◌, ◌*◌, �
 use Rattle.std.specs.Prelude.{ℤ, pos, cond, ◌==◌, slice_get, slice_index}
 use Rattle.std.proofs.lemmas.Bool.{eqb-true}
 use Rattle.std.proofs.lemmas.Bool.Decides.{nat_tests}
+use Rattle.rv_meaning.specs.declared.instr.StoreKind.{StoreKind}
+use Rattle.rv_meaning.specs.declared.instr.StoreKind.TheVariants as Store
 use Rattle.rv_meaning.specs.Words.{word}
 use Rattle.rv_meaning.specs.Memory.{load, store}
-use Rattle.rv_meaning.specs.Machine.{memory_size}
+use Rattle.rv_meaning.specs.Machine.{memory_size, load_width, extended, store_width}
 use Rattle.rv_meaning.proofs.MemoryLaws.{byte-store_below, load-store_same, load-store_other}
-use Rattle.pli_meaning.specs.DeclaredShapes.{variables_of_block}
+use Rattle.pli_typing.specs.TypedTree as Y
 use Rattle.pli_coding.specs.Environments.{Environment, none_taken}
-use Rattle.pli_headline.specs.ProvedSoFar.{plain_number}
+use Rattle.pli_headline.specs.ProvedSoFar.{Types}
 use Rattle.pli_headline.proofs.Engine.{Base, address}
-use Rattle.pli_headline.proofs.Numbers.{IsWide, above_sum, above_small, word_small}
+use Rattle.pli_headline.proofs.Numbers.{above_sum, above_small, word_small}
+use Rattle.pli_headline.proofs.Scalars.{Fits, fits_wide, load_kind, store_kind, Typed, kind_at, kind_is, place_below}
+use Rattle.pli_headline.proofs.Cells.{Cell, kept_by, content, content_word, cell_other, cell_stored, cell_found}
 use Rattle.pli_headline.proofs.Bodies.{Ground, PlaceOf}
 use Rattle.pli_headline.proofs.Temporaries.{Temporaries}
-use Rattle.pli_headline.proofs.Variables.{data_place}
+use Rattle.pli_headline.proofs.Variables.{IsDeclared, data_place}
 use Rattle.pli_headline.proofs.States.{with_number_at}
 use Rattle.pli_headline.proofs.Statements.{Block}
 
@@ -40,7 +44,7 @@ pub record Stands (f : Frame) (first : List ℕ) (numbers : ℕ → ℤ) (t : �
   pub resumes : load 4 m f.at ≡ address b f.resume
   pub below : load 4 m (f.at + 4) ≡ b.at + statics_end
   pub own : load 4 m (f.at + 36) ≡ f.at
-  pub variables : (j : ℕ) → j < f.count → load 4 m (f.at + number_place j) ≡ word (numbers j)
+  pub variables : (j : ℕ) → j < f.count → Cell m (f.at + number_place j) (word (numbers j))
   pub temporaries : (j : ℕ) → j < f.words → load 4 m (f.at - 4 * suc j) ≡ t j
 
 abbrev pub ground_of : Frame → List ℕ → (ℕ → ℤ) → Ground
@@ -79,7 +83,7 @@ main_temporaries f first numbers =
             resumes = load-store_other 4 4 m p x f.at (inr (omega (arith, above, below))) ∙ o.resumes;
             below = load-store_other 4 4 m p x (f.at + 4) (inr (omega (arith, above, below))) ∙ o.below;
             own = load-store_other 4 4 m p x (f.at + 36) (inr (omega (arith, above, below))) ∙ o.own;
-            variables = λ i h. load-store_other 4 4 m p x (f.at + number_place i) (inr (omega (arith, above, below))) ∙ o.variables i h;
+            variables = λ i h. cell_other 4 m p x (f.at + number_place i) (word (numbers i)) (inr (omega (arith, above, below))) (o.variables i h);
             temporaries = λ i h. word_put (i == j) m t f.at i j x f.words refl len fits h below (omega (arith, above)) (omega (arith, inside)) (o.temporaries i h);
           };
       found = λ t b m j below o. o.temporaries j below;
@@ -87,28 +91,56 @@ main_temporaries f first numbers =
 
 -- ---- variables
 
-apart_numbers : (at i j : ℕ) → (i == j) ≡ false → (at + number_place i + 4 ≤ at + number_place j) ⊎ (at + number_place j + 4 ≤ at + number_place i)
-apart_numbers at i j e = grind (arith, nat_tests)
+apart_numbers : (n at i j : ℕ) → n ≤ 4 → (i == j) ≡ false → (at + number_place i + 4 ≤ at + number_place j) ⊎ (at + number_place j + n ≤ at + number_place i)
+apart_numbers n at i j few e = grind (arith, nat_tests)
 
-number_put : (q : Bool) (m : List ℕ) (numbers : ℕ → ℤ) (at i j : ℕ) (z : ℤ) → (i == j) ≡ q → length m ≡ memory_size → IsWide z → at + number_place j + 4 ≤ memory_size → load 4 m (at + number_place i) ≡ word (numbers i) → load 4 (store 4 m (at + number_place j) (word z)) (at + number_place i) ≡ word (cond q z (numbers i))
-number_put true m numbers at i j z e len wide h o =
+width_few : (kind : StoreKind) → store_width kind ≤ 4
+width_few Store.Byte = omega arith
+width_few Store.Half = omega arith
+width_few Store.Word = omega arith
+
+-- what stands where the variables hold these numbers
+abbrev pub contents : (ℕ → Y.LeafType) → (ℕ → ℤ) → ℕ → ℤ
+contents kind numbers j = content (kind j) (numbers j)
+
+number_put : (q : Bool) (kind : ℕ → Y.LeafType) (m : List ℕ) (numbers : ℕ → ℤ) (at i j : ℕ) (z : ℤ) → (i == j) ≡ q → length m ≡ memory_size → Fits (kind j) (numbers j) → Fits (kind j) z → at + number_place j + 4 ≤ memory_size → Cell m (at + number_place i) (word (contents kind numbers i)) → Cell (store (store_width (store_kind (kind j))) m (at + number_place j) (word z)) (at + number_place i) (word (content (kind i) (cond q z (numbers i))))
+number_put true kind m numbers at i j z e len old fits h o =
     let same : i ≡ j = eqb-true i j e in
-    ap (λ u. load 4 (store 4 m (at + number_place j) (word z)) (at + number_place u)) same ∙ load-store_same 4 m (at + number_place j) (word z) (word_small z wide) (omega (arith, len, h))
-number_put false m numbers at i j z e len wide h o =
-    load-store_other 4 4 m (at + number_place j) (word z) (at + number_place i) (apart_numbers at i j e) ∙ o
+    let type = kind j in
+    let wide = fits_wide type z fits in
+    let here : Cell m (at + number_place j) (kept_by (store_kind type) (word (numbers j))) =
+    subst (Cell m (at + number_place j)) (content_word type (numbers j) (fits_wide type (numbers j) old)) (subst (λ u. Cell m (at + number_place u) (word (contents kind numbers u))) same o) in
+    subst (λ u. Cell (store (store_width (store_kind type)) m (at + number_place j) (word z)) (at + number_place u) (word (content (kind u) z))) (sym same)
+    (subst (Cell (store (store_width (store_kind type)) m (at + number_place j) (word z)) (at + number_place j)) (sym (content_word type z wide))
+    (cell_stored (store_kind type) m (at + number_place j) (word (numbers j)) (word z) (word_small z wide) (omega (arith, len, h)) here))
+number_put false kind m numbers at i j z e len old fits h o =
+    cell_other (store_width (store_kind (kind j))) m (at + number_place j) (word z) (at + number_place i) (word (contents kind numbers i)) (apart_numbers (store_width (store_kind (kind j))) at i j (width_few (store_kind (kind j))) e) o
 
-pub main_writes : (f : Frame) (first : List ℕ) (numbers : ℕ → ℤ) (j : ℕ) (z : ℤ) → j < f.count → IsWide z → (t : ℕ → ℕ) (b : Base) (m : List ℕ) → length m ≡ memory_size → Stands f first numbers t b m → Stands f first (with_number_at numbers j z) t b (store 4 m (f.at + number_place j) (word z))
-main_writes f first numbers j z below wide t b m len o =
+pub main_writes : (f : Frame) (first : List ℕ) (kind : ℕ → Y.LeafType) (numbers : ℕ → ℤ) (j : ℕ) (z : ℤ) → j < f.count → Fits (kind j) (numbers j) → Fits (kind j) z → (t : ℕ → ℕ) (b : Base) (m : List ℕ) → length m ≡ memory_size → Stands f first (contents kind numbers) t b m → Stands f first (contents kind (with_number_at numbers j z)) t b (store (store_width (store_kind (kind j))) m (f.at + number_place j) (word z))
+main_writes f first kind numbers j z below old fits t b m len o =
     let above = f.above_statics in
     let inside = f.inside in
     let p = f.at + number_place j in
+    let n = store_width (store_kind (kind j)) in
     record {
-      statics = λ k h. byte-store_below 4 m p (word z) k (omega (arith, above, h)) ∙ o.statics k h;
-      resumes = load-store_other 4 4 m p (word z) f.at (inl (omega arith)) ∙ o.resumes;
-      below = load-store_other 4 4 m p (word z) (f.at + 4) (inl (omega arith)) ∙ o.below;
-      own = load-store_other 4 4 m p (word z) (f.at + 36) (inl (omega arith)) ∙ o.own;
-      variables = λ i h. number_put (i == j) m numbers f.at i j z refl len wide (omega (arith, inside, below)) (o.variables i h);
-      temporaries = λ i h. load-store_other 4 4 m p (word z) (f.at - 4 * suc i) (inl (omega (arith, above, h))) ∙ o.temporaries i h;
+      statics = λ k h. byte-store_below n m p (word z) k (omega (arith, above, h)) ∙ o.statics k h;
+      resumes = load-store_other n 4 m p (word z) f.at (inl (omega arith)) ∙ o.resumes;
+      below = load-store_other n 4 m p (word z) (f.at + 4) (inl (omega arith)) ∙ o.below;
+      own = load-store_other n 4 m p (word z) (f.at + 36) (inl (omega arith)) ∙ o.own;
+      variables = λ i h. number_put (i == j) kind m numbers f.at i j z refl len old fits (omega (arith, inside, below)) (o.variables i h);
+      temporaries = λ i h. load-store_other n 4 m p (word z) (f.at - 4 * suc i) (inl (omega (arith, above, h))) ∙ o.temporaries i h;
+    }
+
+-- without variables there is nothing to hold
+pub no_contents : (f : Frame) (first : List ℕ) (numbers others : ℕ → ℤ) (t : ℕ → ℕ) (b : Base) (m : List ℕ) → f.count ≡ 0 → Stands f first numbers t b m → Stands f first others t b m
+no_contents f first numbers others t b m none o =
+    record {
+      statics = o.statics;
+      resumes = o.resumes;
+      below = o.below;
+      own = o.own;
+      variables = λ j h. absurd (omega (arith, none, h));
+      temporaries = o.temporaries;
     }
 
 pub place_at : (f : Frame) (first : List ℕ) (numbers : ℕ → ℤ) (j n : ℕ) → j < f.count → n ≡ number_place j → PlaceOf (ground_of f first numbers) (pos n) (f.at + n)
@@ -124,19 +156,29 @@ place_at f first numbers j n below e =
       above_code = omega (arith, above);
     }
 
--- the main procedure's block, where its variables are plain numbers and stand one behind the other
-unfoldable pub main_block : (f : Frame) (first : List ℕ) (e : Environment) (block : ℕ) → ((j : ℕ) → j < f.count → slice_get (variables_of_block e.program block) j ≡ Some plain_number) → ((j : ℕ) → j < f.count → data_place e block j ≡ number_place j) → Block e block f.count
-main_block f first e block declared placed =
+pub reads_by : (f : Frame) (first : List ℕ) (kind : ℕ → Y.LeafType) (numbers : ℕ → ℤ) (j : ℕ) (type : Y.LeafType) → j < f.count → kind j ≡ type → Fits type (numbers j) → (t : ℕ → ℕ) (b : Base) (m : List ℕ) → Stands f first (contents kind numbers) t b m → extended (load_kind type) (load (load_width (load_kind type)) m (f.at + number_place j)) ≡ word (numbers j)
+reads_by f first kind numbers j type below e fits t b m o =
+    let found : Cell m (f.at + number_place j) (word (content type (numbers j))) = subst (λ u. Cell m (f.at + number_place j) (word (content u (numbers j)))) e (o.variables j below) in
+    cell_found type (numbers j) m (f.at + number_place j) fits (subst (Cell m (f.at + number_place j)) (content_word type (numbers j) (fits_wide type (numbers j) fits)) found)
+
+-- the main procedure's block, where its variables are scalars and stand one behind the other
+unfoldable pub main_block : (f : Frame) (first : List ℕ) (e : Environment) (block : ℕ) (types : Types) → f.count ≡ length types → ((j : ℕ) (b : Typed types j) → IsDeclared e block j b.0) → ((j : ℕ) → j < f.count → data_place e block j ≡ number_place j) → Block e block types
+main_block f first e block types count declared placed =
+    let inside : (j : ℕ) (type : Y.LeafType) → slice_get types j ≡ Some type → j < f.count = λ j type h. let n = place_below types j type h in omega (arith, n, count) in
     record {
-      ground = ground_of f first;
+      ground = λ n. ground_of f first (contents (kind_at types) n);
       words = f.words;
       taken = none_taken;
       labels = [];
       words_are = λ n. refl;
       same = λ n n' b h. refl;
-      temps = main_temporaries f first;
-      declared = declared;
-      places = λ n j below. place_at f first n j (data_place e block j) below (placed j below);
-      reads = λ n j below t b m o. ap (λ u. load 4 m (f.at + u)) (placed j below) ∙ o.variables j below;
-      writes = λ n j z below wide t b m len o. subst (λ u. Stands f first (with_number_at n j z) t b (store 4 m (f.at + u) (word z))) (sym (placed j below)) (main_writes f first n j z below wide t b m len o);
+      temps = λ n. main_temporaries f first (contents (kind_at types) n);
+      declared = λ j {type} below. declared j (type, below);
+      places = λ n j {type} below. place_at f first (contents (kind_at types) n) j (data_place e block j) (inside j type below) (placed j (inside j type below));
+      reads = λ n j {type} below fits t b m o. ap (λ u. extended (load_kind type) (load (load_width (load_kind type)) m (f.at + u))) (placed j (inside j type below)) ∙ reads_by f first (kind_at types) n j type (inside j type below) (kind_is types j below) fits t b m o;
+      writes = λ n j z {type} below old fits t b m len o.
+          let k = kind_is types j below in
+          let T : Y.LeafType → ℕ → Type 0 = λ w u. Stands f first (contents (kind_at types) (with_number_at n j z)) t b (store (store_width (store_kind w)) m (f.at + u) (word z)) in
+          let d = main_writes f first (kind_at types) n j z (inside j type below) (subst (λ w. Fits w (n j)) (sym k) old) (subst (λ w. Fits w z) (sym k) fits) t b m len o in
+          subst (λ w. T w (data_place e block j)) k (subst (T (kind_at types j)) (sym (placed j (inside j type below))) d);
     }

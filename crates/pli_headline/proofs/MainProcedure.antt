@@ -1,20 +1,21 @@
--- The main procedure where all variables are plain numbers: what its declarations come to in the code and in the table.
-use Rattle.std.proofs.Common.{◌≡◌, ℕ, zero, suc, ◌+◌, ◌*◌, ◌^◌, ◌<◌, ◌≤◌, List, [], ◌∷◌, ◌++◌, length, Some, None, true, refl, ap, ◌∙◌, arith, min}
-use Rattle.std.specs.Prelude.{slice_get, unwrap_or, flat_map, cond, ◌==◌}
+-- The main procedure where all variables are scalars: what its declarations come to in the code.
+use Rattle.std.proofs.Common.{◌≡◌, ℕ, zero, suc, ◌+◌, ◌*◌, ◌^◌, ◌≤◌, List, [], ◌∷◌, ◌++◌, length, Some, None, Bool, true, false, refl, sym, ap, ◌∙◌, arith, min}
+use Rattle.std.specs.Prelude.{slice_get, unwrap_or, flat_map, cond, ◌==◌, nat_le}
 use Rattle.std.proofs.lemmas.Bool.{eq-eqb}
-use Rattle.rv_meaning.specs.Tables.{TableSignature}
+use Rattle.pli_typing.specs.Signatures.{rounded_up}
+use Rattle.pli_language.specs.Tree as T
 use Rattle.pli_typing.specs.TypedTree as Y
 use Rattle.pli_meaning.specs.DeclaredShapes.{variables_of_block}
 use Rattle.pli_meaning.specs.StorageState.{State}
 use Rattle.pli_meaning.specs.Making as K
 use Rattle.pli_coding.specs.Frames.{parameters_in, fixed_size, first_variable, variable_place, automatic_place, last_place, frame_bytes}
-use Rattle.pli_coding.specs.SignatureTable.{signature_of, with_signature, with_signatures, table_of}
 use Rattle.pli_coding.specs.Environments.{Environment}
 use Rattle.pli_coding.specs.Statements.{block_words, stmts_words}
 use Rattle.pli_coding.specs.Procedures.{procedure_environment}
 use Rattle.pli_coding.specs.Images.{environment_of, static_if, number_if, statics_of_block, statics_code}
 use Rattle.pli_headline.specs.Headline.{parts}
-use Rattle.pli_headline.specs.ProvedSoFar.{plain_number, ArePlain, AllPlain, IsProvedSoFar}
+use Rattle.pli_headline.specs.ProvedSoFar.{plain_variable, IsPlain, ArePlain, AllPlain, type_of, types_of, IsProvedSoFar}
+use Rattle.pli_headline.proofs.Scalars.{by_plain}
 
 -- ---- the procedure
 
@@ -44,48 +45,15 @@ main_environment program block = procedure_environment (main_head block 0) (envi
 abbrev pub main_words : Y.Program → (block : ℕ) → Y.Stmts → ℕ
 main_words program block body = block_words (main_environment program block) block (stmts_words body)
 
--- ---- the table has one signature where there is a variable
-
-abbrev pub plain_signature : TableSignature
-plain_signature = signature_of plain_number
-
-more_plain : (ds : List Y.DeclaredVariable) → ArePlain ds → with_signatures ds (plain_signature ∷ []) ≡ plain_signature ∷ []
-more_plain [] are = refl
-more_plain (d ∷ ds) are =
-    ap (λ u. with_signatures ds (with_signature (signature_of u) (plain_signature ∷ []))) are.0 ∙ more_plain ds are.1
-
-some_plain : (ds : List Y.DeclaredVariable) → ArePlain ds → 0 < length ds → with_signatures ds [] ≡ plain_signature ∷ []
-some_plain [] are some = absurd (omega (arith, some))
-some_plain (d ∷ ds) are some =
-    ap (λ u. with_signatures ds (with_signature (signature_of u) [])) are.0 ∙ more_plain ds are.1
+-- ---- its variables, and where they stand
 
 plain_append : (ds es : List Y.DeclaredVariable) → ArePlain ds → ArePlain es → ArePlain (ds ++ es)
 plain_append [] es are more = more
 plain_append (d ∷ ds) es are more = (are.0, plain_append ds es are.1 more)
 
-all_plain : (dss : List (List Y.DeclaredVariable)) → AllPlain dss → ArePlain (flat_map (λ ds. ds) dss)
+pub all_plain : (dss : List (List Y.DeclaredVariable)) → AllPlain dss → ArePlain (flat_map (λ ds. ds) dss)
 all_plain [] all = tt
 all_plain (ds ∷ rest) all = plain_append ds (flat_map (λ es. es) rest) all.0 (all_plain rest all.1)
-
-some_append : (ds es : List Y.DeclaredVariable) → 0 < length es → 0 < length (ds ++ es)
-some_append [] es some = some
-some_append (d ∷ ds) es some = omega arith
-
-some_front : (ds es : List Y.DeclaredVariable) → 0 < length ds → 0 < length (ds ++ es)
-some_front [] es some = absurd (omega (arith, some))
-some_front (d ∷ ds) es some = omega arith
-
-some_declared : (dss : List (List Y.DeclaredVariable)) (block : ℕ) → 0 < length (unwrap_or (slice_get dss block) []) → 0 < length (flat_map (λ ds. ds) dss)
-some_declared [] block some = absurd (omega (arith, some))
-some_declared (ds ∷ rest) zero some = some_front ds (flat_map (λ es. es) rest) some
-some_declared (ds ∷ rest) (suc block) some =
-    some_append ds (flat_map (λ es. es) rest) (some_declared rest block some)
-
-pub main_table : (program : Y.Program) (block : ℕ) → AllPlain program.variables → 0 < length (variables_of_block program block) → table_of program ≡ plain_signature ∷ []
-main_table program block all some =
-    some_plain (flat_map (λ ds. ds) program.variables) (all_plain program.variables all) (some_declared program.variables block some)
-
--- ---- its variables, and where they stand
 
 block_plain : (dss : List (List Y.DeclaredVariable)) (block : ℕ) → AllPlain dss → ArePlain (unwrap_or (slice_get dss block) [])
 block_plain [] block all = tt
@@ -95,19 +63,34 @@ block_plain (ds ∷ rest) (suc block) all = block_plain rest block all.1
 pub main_plain : (program : Y.Program) (block : ℕ) → AllPlain program.variables → ArePlain (variables_of_block program block)
 main_plain program block all = block_plain program.variables block all
 
-pub plain_at : (ds : List Y.DeclaredVariable) (j : ℕ) → ArePlain ds → j < length ds → slice_get ds j ≡ Some plain_number
-plain_at [] j are below = absurd (omega (arith, below))
-plain_at (d ∷ ds) zero are below = ap Some are.0
-plain_at (d ∷ ds) (suc j) are below = plain_at ds j are.1 (omega (arith, below))
+-- a plain variable of a type
+pub typed_plain : (d : Y.DeclaredVariable) (type : Y.LeafType) (is : IsPlain d) → type_of d ≡ type → d ≡ plain_variable type is.initial
+typed_plain d type is e = is.is ∙ ap (λ t. plain_variable t is.initial) (sym (ap type_of is.is) ∙ e)
+
+pub declared_at : (ds : List Y.DeclaredVariable) (j : ℕ) {type : Y.LeafType} → ArePlain ds → slice_get (types_of ds) j ≡ Some type → (initial : List T.InitialItem) × (slice_get ds j ≡ Some (plain_variable type initial))
+declared_at [] j are h = absurd (cc h)
+declared_at (d ∷ ds) zero {type} are h = let e : type_of d ≡ type = cc h in (are.0.initial, ap Some (typed_plain d type are.0 e))
+declared_at (d ∷ ds) (suc j) are h = declared_at ds j are.1 h
+
+-- each takes as much
+frame_by : (q : Bool) → 16 + rounded_up 16 (rounded_up 4 (cond q 2 4) * 1 + 0) ≡ 32
+frame_by true = refl
+frame_by false = refl
+
+pub frame_fixed : (p : ℕ) (i : List T.InitialItem) → frame_bytes parts (plain_variable (Y.FixedLeaf p) i) ≡ 32
+frame_fixed p i = frame_by (nat_le p 15)
+
+frame_plain : (d : Y.DeclaredVariable) → IsPlain d → frame_bytes parts d ≡ 32
+frame_plain d is = by_plain (λ u. frame_bytes parts u ≡ 32) frame_fixed (λ i. refl) d is
 
 pub variable_place_plain : (at : ℕ) (ds : List Y.DeclaredVariable) (j : ℕ) → ArePlain ds → j ≤ length ds → at + 32 * j ≤ last_place → variable_place parts at ds j ≡ at + 32 * j
 variable_place_plain at [] zero are h fits = omega arith
 variable_place_plain at [] (suc j) are h fits = absurd (omega (arith, h))
 variable_place_plain at (d ∷ ds) zero are h fits = omega arith
 variable_place_plain at (d ∷ ds) (suc j) are h fits =
-    let next : min last_place (at + 32) ≡ at + 32 = omega (arith, fits) in
-    ap (λ u. variable_place parts (min last_place (at + frame_bytes parts u)) ds j) are.0
-    ∙ ap (λ n. variable_place parts n ds j) next
+    let bytes = frame_plain d are.0 in
+    let next : min last_place (at + frame_bytes parts d) ≡ at + 32 = omega (arith, fits, bytes) in
+    ap (λ n. variable_place parts n ds j) next
     ∙ variable_place_plain (at + 32) ds j are.1 (omega (arith, h)) (omega (arith, fits))
     ∙ omega arith
 
@@ -131,7 +114,7 @@ main_place program block line body j all alone h few =
 static_of_plain : (e : Environment) (block index : ℕ) (ds : List Y.DeclaredVariable) → ArePlain ds → statics_of_block e block index ds ≡ []
 static_of_plain e block index [] are = refl
 static_of_plain e block index (d ∷ ds) are =
-    ap (λ u. static_if e block index u u.class ++ (number_if e block index u ++ statics_of_block e block (suc index) ds)) are.0
+    ap (λ u. static_if e block index u u.class ++ (number_if e block index u ++ statics_of_block e block (suc index) ds)) are.0.is
     ∙ static_of_plain e block (suc index) ds are.1
 
 pub no_statics : (e : Environment) (block : ℕ) (dss : List (List Y.DeclaredVariable)) → AllPlain dss → statics_code e block dss ≡ []
@@ -142,7 +125,7 @@ no_statics e block (ds ∷ rest) all =
 statics_of_plain : (block variable : ℕ) (ds : List Y.DeclaredVariable) (s : State) → ArePlain ds → K.statics_of_block block variable ds s ≡ s
 statics_of_plain block variable [] s are = refl
 statics_of_plain block variable (d ∷ ds) s are =
-    ap (λ u. K.statics_of_block block (variable + 1) ds (K.static_made block variable u u.class s)) are.0
+    ap (λ u. K.statics_of_block block (variable + 1) ds (K.static_made block variable u u.class s)) are.0.is
     ∙ statics_of_plain block (variable + 1) ds s are.1
 
 pub statics_meant : (block : ℕ) (dss : List (List Y.DeclaredVariable)) (s : State) → AllPlain dss → K.statics_from block dss s ≡ s

@@ -1,4 +1,4 @@
--- The run of a program that is one procedure of plain numbers, given that its statements do what they mean: from the start of the
+-- The run of a program that is one procedure of scalars, given that its statements do what they mean: from the start of the
 -- image through the entry of the procedure to its statements, and from their end to the end of the run.
 use Rattle.std.proofs.Common.{◌≡◌, ℕ, suc, ◌+◌, ◌*◌, ◌^◌, ◌<◌, ◌≤◌, List, [], ◌++◌, length, Option, None, true, false, refl, sym, ap, ◌∙◌, subst, arith}
 use Rattle.std.specs.Prelude.{pos}
@@ -24,7 +24,7 @@ use Rattle.pli_coding.specs.Entries.{frame_begun, variables_code}
 use Rattle.pli_coding.specs.Statements.{stmts_code}
 use Rattle.pli_coding.specs.Procedures.{finish_code, procedure_ended, procedure_in}
 use Rattle.pli_coding.specs.Linking.{Links}
-use Rattle.pli_headline.specs.ProvedSoFar.{AllPlain}
+use Rattle.pli_headline.specs.ProvedSoFar.{AllPlain, Types, types_of}
 use Rattle.pli_headline.proofs.Engine.{Base, address, most_code}
 use Rattle.pli_headline.proofs.Linking.{size_append}
 use Rattle.pli_headline.proofs.Items.{Linked, At}
@@ -36,13 +36,17 @@ use Rattle.pli_headline.proofs.Acts.{act_piece}
 use Rattle.pli_headline.proofs.Statements.{Block, AllHold, Does, counted_holds}
 use Rattle.pli_headline.proofs.Variables.{data_place}
 use Rattle.pli_headline.proofs.Reach.{Family, Aims, Comes, Closed, before, before_closed, comes_on, onward, never, never_closed}
-use Rattle.pli_headline.proofs.MainGround.{ground_of, number_place, main_block}
-use Rattle.pli_headline.proofs.MainProcedure.{main_head, main_procedure, IsAlone, main_environment, main_words, main_table, main_plain, plain_at, main_place, statics_meant}
+use Rattle.pli_headline.proofs.MainGround.{ground_of, number_place, contents, no_contents, main_block}
+use Rattle.pli_headline.proofs.MainProcedure.{main_head, main_procedure, IsAlone, main_environment, main_words, main_plain, declared_at, main_place, statics_meant}
+use Rattle.pli_headline.proofs.Scalars.{Scalar, kind_at, kind_is, place_below}
+use Rattle.pli_headline.proofs.PlainNumbers.{scalars_of, are_of, length_types}
+use Rattle.pli_headline.proofs.VariableServed.{Ready}
+use Rattle.pli_headline.proofs.States.{Holds}
 use Rattle.pli_headline.proofs.Marks.{Placed}
 use Rattle.pli_headline.proofs.FirstFrame.{start_resume, start_family, start_ground, no_texts, finish_linked, zeros, started}
 use Rattle.pli_headline.proofs.MainFrame.{main_frame, first_words}
 use Rattle.pli_headline.proofs.Prologue.{begun}
-use Rattle.pli_headline.proofs.MainStates.{main_state, numbers_hold, no_units, main_activation, main_services, no_units_served}
+use Rattle.pli_headline.proofs.MainStates.{begin_numbers, begin_contents, main_state, scalars_hold, no_units, main_activation, main_services, no_units_served}
 use Rattle.pli_headline.proofs.VariablesMade.{variables_piece}
 use Rattle.pli_headline.proofs.Leaving.{leaving_piece}
 use Rattle.pli_headline.proofs.MainFlow.{inside, inside_closed, comes_left}
@@ -60,7 +64,19 @@ abbrev main_body : Y.Program → (k line : ℕ) → Y.Stmts → Meaning (Unit {0
 main_body program k line body =
     M.entry_act Y.ProcedureBlock >> (M.list (main_around program k line) body >> M.end_reached (main_around program k line) false)
 
-run_meant : (program : Y.Program) (block line : ℕ) (body : Y.Stmts) (input : List ℕ) (k : ℕ) → AllPlain program.variables → IsAlone program block line body → M.run program (suc k) k (first_state input) ≡ flow_on k (left true newest_ended (flow_on k (K.variables_made (main_around program k line) 0 (variables_of_block program block) k (main_state input 0)) (λ u. main_body program k line body))) (λ u. finish E.Finished)
+-- the types of its variables
+abbrev pub main_types : Y.Program → (block : ℕ) → Types
+main_types program block = types_of (variables_of_block program block)
+
+abbrev pub main_kind : Y.Program → (block : ℕ) → ℕ → Scalar
+main_kind program block = scalars_of (variables_of_block program block)
+
+-- all of which is known
+abbrev pub AllReady : Links → List Instr → (first : List ℕ) → Y.Program → (block : ℕ) → Type 0
+AllReady links code first program block =
+    (j : ℕ) → j < length (variables_of_block program block) → Ready links code first (table_of program) (main_kind program block j)
+
+run_meant : (program : Y.Program) (block line : ℕ) (body : Y.Stmts) (input : List ℕ) (k : ℕ) → AllPlain program.variables → IsAlone program block line body → M.run program (suc k) k (first_state input) ≡ flow_on k (left true newest_ended (flow_on k (K.variables_made (main_around program k line) 0 (variables_of_block program block) k (main_state (main_kind program block) input 0)) (λ u. main_body program k line body))) (λ u. finish E.Finished)
 unfolding M.run given M.entered M.block_run M.block_body M.block_variables_made K.parameters_bound leaving stored looked choose give ◌>>=◌ ◌>>◌
 run_meant program block line body input k all alone =
     ap (λ ps. given (M.main_of ps) (λ main. stored (K.statics_from 0 program.variables) >> (M.entered program (suc k) (M.begun main.block 0) >> finish {R = Unit {0}} E.Finished)) stuck k (first_state input)) alone
@@ -76,10 +92,10 @@ main_data program block line body j all alone below few =
     let e = main_place program block line body j all alone (omega (arith, below)) (omega (arith, below, few)) in
     omega (arith, e)
 
-abbrev pub block_of : (program : Y.Program) (block line : ℕ) (body : Y.Stmts) (first : List ℕ) (all : AllPlain program.variables) (alone : IsAlone program block line body) (small' : main_words program block body ≤ most_code) (few : 32 * main_count program block ≤ 2 ^ 20) → Block (main_environment program block) block (main_count program block)
+abbrev pub block_of : (program : Y.Program) (block line : ℕ) (body : Y.Stmts) (first : List ℕ) (all : AllPlain program.variables) (alone : IsAlone program block line body) (small' : main_words program block body ≤ most_code) (few : 32 * main_count program block ≤ 2 ^ 20) → Block (main_environment program block) block (main_types program block)
 block_of program block line body first all alone small' few =
-    main_block (main_frame (main_words program block body) (main_count program block) small' few) first (main_environment program block) block
-    (λ j below. plain_at (variables_of_block program block) j (main_plain program block all) below)
+    main_block (main_frame (main_words program block body) (main_count program block) small' few) first (main_environment program block) block (main_types program block) (sym (length_types (variables_of_block program block)))
+    (λ j b. declared_at (variables_of_block program block) j (main_plain program block all) b.1)
     (λ j below. main_data program block line body j all alone below few)
 
 -- what its statements have to do
@@ -97,9 +113,9 @@ to_finish_closed : (code : List Instr) (k : ℕ) → Closed code (to_finish code
 to_finish_closed code k =
     before_closed k (λ (u : Option BasicValue). finish {R = Unit {0}} E.Finished) (never_closed code)
 
-statements_piece : {links : Links} {code : List Instr} {i : ℕ} {h t : ℕ → ℕ} (program : Y.Program) (block line : ℕ) (body : Y.Stmts) (first : List ℕ) (all : AllPlain program.variables) (alone : IsAlone program block line body) (small' : main_words program block body ≤ most_code) (few : 32 * main_count program block ≤ 2 ^ 20) (k : ℕ) → BodyDoes program block line body first all alone small' links code k → 2 ≤ i → Linked links code i (stmts_code (main_environment program block) none_taken body ++ procedure_ended (main_environment program block) (main_head block line) (main_words program block body) None) → Linked links code start_resume finish_code → (s : State) → {v : Services} → (g : Family) → Serving k s v line → AllHold s block (main_count program block) (λ j. pos 0) → ((b : Base) → At b i (Known (ground_of (main_frame (main_words program block body) (main_count program block) small' few) first (λ j. pos 0)) v h t nothing b) (g b)) → Comes code i g v (inside (to_finish code k) newest_ended) ((M.list (main_around program k line) body >> M.end_reached (main_around program k line) false) k s)
+statements_piece : {links : Links} {code : List Instr} {i : ℕ} {h t : ℕ → ℕ} (program : Y.Program) (block line : ℕ) (body : Y.Stmts) (first : List ℕ) (all : AllPlain program.variables) (alone : IsAlone program block line body) (small' : main_words program block body ≤ most_code) (few : 32 * main_count program block ≤ 2 ^ 20) (k : ℕ) → BodyDoes program block line body first all alone small' links code k → 2 ≤ i → Linked links code i (stmts_code (main_environment program block) none_taken body ++ procedure_ended (main_environment program block) (main_head block line) (main_words program block body) None) → Linked links code start_resume finish_code → (s : State) → {v : Services} → (g : Family) → Serving k s v line → AllHold s block (main_types program block) (begin_numbers (main_kind program block)) → ((b : Base) → At b i (Known (ground_of (main_frame (main_words program block body) (main_count program block) small' few) first (begin_contents (main_kind program block))) v h t nothing b) (g b)) → Comes code i g v (inside (to_finish code k) newest_ended) ((M.list (main_around program k line) body >> M.end_reached (main_around program k line) false) k s)
 unfolding main_block M.end_reached give ◌>>◌
-statements_piece {code = code} {i = i} program block line body first all alone small' few k does' later l finish' s g serving holds at =
+statements_piece {code = code} {i = i} {h = h} {t = t} program block line body first all alone small' few k does' later l finish' s g serving holds at =
     let e = main_environment program block in
     let st = stmts_code e none_taken body in
     let en = procedure_ended e (main_head block line) (main_words program block body) None in
@@ -109,18 +125,18 @@ statements_piece {code = code} {i = i} program block line body first all alone s
     let next' : Unit {0} → Meaning (Unit {0}) = λ u. M.end_reached around false in
     let closed = before_closed k next' (inside_closed newest_ended (to_finish_closed code k)) in
     comes_on k (M.list around body k s) next'
-    ((does' few).does closed line (λ j. pos 0) g k (front_of st en l) serving holds at
+    ((does' few).does {h = h} {t = t} closed line (begin_numbers (main_kind program block)) g k (front_of st en l) serving holds at
     (λ s' v' line' n' h' t' g' serving' all' stays' at'.
     record {
       to =
-          leaving_piece (never_closed code) e block line (main_words program block body) f first n' g' s' (with_world s'.world (newest_ended s')) line' k (omega (arith, small')) (omega arith) (back_of st en l) finish' serving' refl at';
+          leaving_piece (never_closed code) e block line (main_words program block body) f first (contents (kind_at (main_types program block)) n') g' s' (with_world s'.world (newest_ended s')) line' k (omega (arith, small')) (omega arith) (back_of st en l) finish' serving' refl at';
     })
     (record { enough = omega arith; later = later; jumps = λ label among once. let none : false ≡ true = among in absurd (cc none) }))
 
 -- ---- from the start to the statements
 
-serving_first : (table : List TableSignature) (input : List ℕ) (at line count k : ℕ) → k + 1 < 2 ^ 64 → Serving k (main_state input count) (main_services table input at line count) line
-serving_first table input at line count k fits =
+serving_first : (table : List TableSignature) (kind : ℕ → Scalar) (input : List ℕ) (at line count k : ℕ) → k + 1 < 2 ^ 64 → Serving k (main_state kind input count) (main_services table kind input at line count) line
+serving_first table kind input at line count k fits =
     record {
       world = refl;
       running = refl;
@@ -128,26 +144,39 @@ serving_first table input at line count k fits =
       allowed = omega arith;
       fits = fits;
       entered = (main_activation at, refl);
-      alone = record { units = no_units input count; height = refl; outermost = refl };
-      alone_served = no_units_served table input at line count;
+      alone = record { units = no_units kind input count; height = refl; outermost = refl };
+      alone_served = no_units_served table kind input at line count;
     }
 
--- behind the variables: the act of the entry, and the statements
-body_piece : {links : Links} {code : List Instr} {i : ℕ} {h t : ℕ → ℕ} (program : Y.Program) (block line : ℕ) (body : Y.Stmts) (first input : List ℕ) (all : AllPlain program.variables) (alone : IsAlone program block line body) (small' : main_words program block body ≤ most_code) (few : 32 * main_count program block ≤ 2 ^ 20) (k : ℕ) → line < 2 ^ 31 → k + 1 < 2 ^ 64 → BodyDoes program block line body first all alone small' links code k → 2 ≤ i → Linked links code i (act_code line) → Linked links code (i + size_of (act_code line)) (stmts_code (main_environment program block) none_taken body ++ procedure_ended (main_environment program block) (main_head block line) (main_words program block body) None) → Linked links code start_resume finish_code → (at : ℕ) (g : Family) → ((b : Base) → At b i (Known (ground_of (main_frame (main_words program block body) (main_count program block) small' few) first (λ j. pos 0)) (main_services (table_of program) input at line (main_count program block)) h t nothing b) (g b)) → Comes code i g (main_services (table_of program) input at line (main_count program block)) (inside (to_finish code k) newest_ended) (main_body program k line body k (main_state input (main_count program block)))
-unfolding M.entry_act ◌>>◌
-body_piece {code = code} program block line body first input all alone small' few k low fits does' later l behind finish' at g there =
+-- all variables hold what they begin with
+main_hold : (links : Links) (code : List Instr) (first : List ℕ) (program : Y.Program) (block : ℕ) (input : List ℕ) → AllReady links code first program block → AllHold (main_state (main_kind program block) input (main_count program block)) block (main_types program block) (begin_numbers (main_kind program block))
+main_hold links code first program block input ready j b =
     let n = main_count program block in
-    let s = main_state input n in
+    let kind = main_kind program block in
+    let same : (kind j).type ≡ b.0 = kind_is (main_types program block) j b.1 in
+    let few = place_below (main_types program block) j b.0 b.1 in
+    let long = length_types (variables_of_block program block) in
+    let inside : j < n = omega (arith, few, long) in
+    let mine = ready j inside in
+    subst (λ u. Holds (main_state kind input n) block j u (begin_numbers kind j)) same
+    (scalars_hold kind input block n j inside mine.numbered.scalar mine.begins)
+
+-- behind the variables: the act of the entry, and the statements
+body_piece : {links : Links} {code : List Instr} {i : ℕ} {h t : ℕ → ℕ} (program : Y.Program) (block line : ℕ) (body : Y.Stmts) (first input : List ℕ) (all : AllPlain program.variables) (alone : IsAlone program block line body) (small' : main_words program block body ≤ most_code) (few : 32 * main_count program block ≤ 2 ^ 20) (k : ℕ) → AllReady links code first program block → line < 2 ^ 31 → k + 1 < 2 ^ 64 → BodyDoes program block line body first all alone small' links code k → 2 ≤ i → Linked links code i (act_code line) → Linked links code (i + size_of (act_code line)) (stmts_code (main_environment program block) none_taken body ++ procedure_ended (main_environment program block) (main_head block line) (main_words program block body) None) → Linked links code start_resume finish_code → (at : ℕ) (g : Family) → ((b : Base) → At b i (Known (ground_of (main_frame (main_words program block body) (main_count program block) small' few) first (begin_contents (main_kind program block))) (main_services (table_of program) (main_kind program block) input at line (main_count program block)) h t nothing b) (g b)) → Comes code i g (main_services (table_of program) (main_kind program block) input at line (main_count program block)) (inside (to_finish code k) newest_ended) (main_body program k line body k (main_state (main_kind program block) input (main_count program block)))
+unfolding M.entry_act ◌>>◌
+body_piece {links = links} {code = code} program block line body first input all alone small' few k ready low fits does' later l behind finish' at g there =
+    let n = main_count program block in
+    let s = main_state (main_kind program block) input n in
     let next' : Unit {0} → Meaning (Unit {0}) = λ u. M.list (main_around program k line) body >> M.end_reached (main_around program k line) false in
     let closed = inside_closed newest_ended (to_finish_closed code k) in
     comes_on k (act counted k s) next'
-    (act_piece (before_closed k next' closed) g line line k low l (serving_first (table_of program) input at line n k fits) there (λ g' serving' there'.
+    (act_piece (before_closed k next' closed) g line line k low l (serving_first (table_of program) (main_kind program block) input at line n k fits) there (λ g' serving' there'.
     statements_piece program block line body first all alone small' few k does' (omega (arith, later)) behind finish' (with_world (counted s.world) s) g' serving'
-    (λ j below. counted_holds (counted s.world) (numbers_hold input block n j below)) there'))
+    (λ j below. counted_holds (counted s.world) (main_hold links code first program block input ready j below)) there'))
 
 -- from the entry of the procedure
-procedure_piece : {links : Links} {code : List Instr} (program : Y.Program) (block line : ℕ) (body : Y.Stmts) (first input : List ℕ) (all : AllPlain program.variables) (alone : IsAlone program block line body) (small' : main_words program block body ≤ most_code) (k entry : ℕ) → line < 2 ^ 31 → k + 1 < 2 ^ 64 → length first ≡ memory_size → 2 ≤ entry → BodyDoes program block line body first all alone small' links code k → Linked links code entry (procedure_in (main_environment program block) (main_head block line) body [] None) → Linked links code start_resume finish_code → (g : Family) → ((b : Base) → At b entry (Known (start_ground first) (first_services (table_of program) input) zeros zeros (with' 1 (λ b'. address b' start_resume) no_texts) b) (g b)) → Comes code entry g (first_services (table_of program) input) (inside (to_finish code k) newest_ended) (flow_on k (K.variables_made (main_around program k line) 0 (variables_of_block program block) k (main_state input 0)) (λ u. main_body program k line body))
-procedure_piece {links} {code} program block line body first input all alone small' k entry low fits len later does' l finish' g at =
+procedure_piece : {links : Links} {code : List Instr} (program : Y.Program) (block line : ℕ) (body : Y.Stmts) (first input : List ℕ) (all : AllPlain program.variables) (alone : IsAlone program block line body) (small' : main_words program block body ≤ most_code) (k entry : ℕ) → AllReady links code first program block → line < 2 ^ 31 → k + 1 < 2 ^ 64 → length first ≡ memory_size → 2 ≤ entry → BodyDoes program block line body first all alone small' links code k → Linked links code entry (procedure_in (main_environment program block) (main_head block line) body [] None) → Linked links code start_resume finish_code → (g : Family) → ((b : Base) → At b entry (Known (start_ground first) (first_services (table_of program) input) zeros zeros (with' 1 (λ b'. address b' start_resume) no_texts) b) (g b)) → Comes code entry g (first_services (table_of program) input) (inside (to_finish code k) newest_ended) (flow_on k (K.variables_made (main_around program k line) 0 (variables_of_block program block) k (main_state (main_kind program block) input 0)) (λ u. main_body program k line body))
+procedure_piece {links} {code} program block line body first input all alone small' k entry ready low fits len later does' l finish' g at =
     let e = main_environment program block in
     let words = main_words program block body in
     let n = main_count program block in
@@ -179,27 +208,31 @@ procedure_piece {links} {code} program block line body first input all alone sma
     let lb = linked_at (entry + size_of fb + size_of ec + size_of vars + size_of ac) behind (sym there) lr in
     let next' : Unit {0} → Meaning (Unit {0}) = λ u. main_body program k line body in
     let closed = inside_closed newest_ended (to_finish_closed code k) in
-    comes_on k (K.variables_made (main_around program k line) 0 (variables_of_block program block) k (main_state input 0)) next'
+    comes_on k (K.variables_made (main_around program k line) 0 (variables_of_block program block) k (main_state (main_kind program block) input 0)) next'
     (onward (before_closed k next' closed) (begun entry first v f g (omega (arith, later)) refl (omega arith) refl len lf at) (λ g1 at1.
-    onward (before_closed k next' closed) (entered_piece (entry + size_of fb) f first (λ j. pos 0) table input line g1 low le at1) (λ g2 at2.
-    variables_piece (before_closed k next' closed) (main_around program k line) program block line words small' first input k n zeros t fits
+    onward (before_closed k next' closed) (entered_piece (entry + size_of fb) f first (λ j. pos 0) table (main_kind program block) input line g1 low le at1) (λ g2 at2.
+    variables_piece (before_closed k next' closed) (main_around program k line) program block line words small' first input (main_kind program block) k n zeros t fits
     (λ j below room. main_place program block line body j all alone below room)
-    (λ some. main_table program block all some)
-    (variables_of_block program block) 0 (entry + size_of fb + size_of ec) (main_plain program block all) (omega arith) few g2 lv at2
-    (λ enough g3 at3. body_piece program block line body first input all alone small' enough k low fits does' (omega (arith, later)) la lb finish' f.at g3 at3))))
+    ready
+    (variables_of_block program block) 0 (entry + size_of fb + size_of ec) (are_of (variables_of_block program block) (main_plain program block all)) (omega arith) few g2 lv
+    (λ b. let o = (at2 b).holds in record {
+      pc = (at2 b).pc;
+      holds = record { body = record { services = o.body.services; registers = o.body.registers; bytes = o.body.bytes; memory = no_contents f first (λ j. pos 0) (begin_contents (main_kind program block)) t b _ refl o.body.memory }; regs = o.regs };
+    })
+    (λ enough g3 at3. body_piece program block line body first input all alone small' enough k ready low fits does' (omega (arith, later)) la lb finish' f.at g3 at3))))
 
 -- the whole run
-pub main_runs : {links : Links} {code : List Instr} (program : Y.Program) (block line : ℕ) (body : Y.Stmts) (first input : List ℕ) (all : AllPlain program.variables) (alone : IsAlone program block line body) (small' : main_words program block body ≤ most_code) (k : ℕ) → line < 2 ^ 31 → k + 1 < 2 ^ 64 → length first ≡ memory_size → Placed program block line body links code → BodyDoes program block line body first all alone small' links code k → Comes code 0 (start_family first (first_services (table_of program) input)) (first_services (table_of program) input) never (M.run program (suc k) k (first_state input))
-main_runs {links} {code} program block line body first input all alone small' k low fits len placed does' =
+pub main_runs : {links : Links} {code : List Instr} (program : Y.Program) (block line : ℕ) (body : Y.Stmts) (first input : List ℕ) (all : AllPlain program.variables) (alone : IsAlone program block line body) (small' : main_words program block body ≤ most_code) (k : ℕ) → AllReady links code first program block → line < 2 ^ 31 → k + 1 < 2 ^ 64 → length first ≡ memory_size → Placed program block line body links code → BodyDoes program block line body first all alone small' links code k → Comes code 0 (start_family first (first_services (table_of program) input)) (first_services (table_of program) input) never (M.run program (suc k) k (first_state input))
+main_runs {links} {code} program block line body first input all alone small' k ready low fits len placed does' =
     let v = first_services (table_of program) input in
     let behind = placed.behind in
     let room = placed.procedure.inside in
     let long = placed.procedure.small' in
     let finish' = finish_linked block placed.start in
-    let flow = flow_on k (K.variables_made (main_around program k line) 0 (variables_of_block program block) k (main_state input 0)) (λ u. main_body program k line body) in
+    let flow = flow_on k (K.variables_made (main_around program k line) 0 (variables_of_block program block) k (main_state (main_kind program block) input 0)) (λ u. main_body program k line body) in
     let next' : Option BasicValue → Meaning (Unit {0}) = λ u. finish E.Finished in
     subst (Comes code 0 (start_family first v) v never) (sym (run_meant program block line body input k all alone))
     (onward (never_closed code) (started first v block placed.entry len placed.start placed.entry_is behind (omega (arith, room, long))) (λ g at.
     comes_on k (left true newest_ended flow) next'
     (comes_left true newest_ended flow
-    (procedure_piece program block line body first input all alone small' k placed.entry low fits len (omega (arith, behind)) does' placed.procedure finish' g at))))
+    (procedure_piece program block line body first input all alone small' k placed.entry ready low fits len (omega (arith, behind)) does' placed.procedure finish' g at))))

@@ -12,6 +12,7 @@ use Rattle.pli_coding.specs.Procedures.{finish_code, procedure_begun, procedure_
 use Rattle.pli_coding.specs.Images.{environment_of, raise_code, code_of, linked_code}
 use Rattle.pli_headline.specs.ProvedSoFar.{ArePlain, AllPlain}
 use Rattle.pli_headline.specs.Headline.{parts}
+use Rattle.pli_headline.proofs.Scalars.{by_plain}
 use Rattle.pli_headline.proofs.Engine.{most_code}
 use Rattle.pli_headline.proofs.Linking.{linked_length, has_items}
 use Rattle.pli_headline.proofs.Items.{Linked}
@@ -25,7 +26,8 @@ use Rattle.pli_headline.proofs.FirstFrame.{start_of, start_is, start_resume}
 no_routines_of_block : (e : Environment) (index : ℕ) (ds : List Y.DeclaredVariable) → ArePlain ds → routines_of_block e index ds ≡ []
 no_routines_of_block e index [] are = refl
 no_routines_of_block e index (d ∷ ds) are =
-    ap (λ u. routines_of_block e index (u ∷ ds)) are.0 ∙ no_routines_of_block e (suc index) ds are.1
+    by_plain (λ u. routines_of_block e index (u ∷ ds) ≡ routines_of_block e (suc index) ds) (λ p i. refl) (λ i. refl) d are.0
+    ∙ no_routines_of_block e (suc index) ds are.1
 
 no_routines : (e : Environment) (bs : List BlockPlace) → AllPlain e.program.variables → routines_code e bs ≡ []
 no_routines e [] are = refl

@@ -20,14 +20,14 @@ use Rattle.pli_coding.specs.Registers.{zero_register, a0, u1, u2}
 use Rattle.pli_coding.specs.Assembly.{JumpAhead, Code, size_of}
 use Rattle.pli_coding.specs.Instructions.{move, shift, registers, skip_where}
 use Rattle.pli_coding.specs.Environments.{Taken, is_register_left}
-use Rattle.pli_coding.specs.Arithmetic.{overflow_raised, zero_divide_raised, quotient_checked, narrowed_code, divided_code}
+use Rattle.pli_coding.specs.Arithmetic.{overflow_raised, zero_divide_raised, quotient_checked, narrowed_code, fitted_code, divided_code}
 use Rattle.pli_coding.specs.Linking.{Links}
 use Rattle.pli_headline.proofs.Engine.{Base, address}
 use Rattle.pli_headline.proofs.Linking.{size_append}
 use Rattle.pli_headline.proofs.Items.{Linked, At, straight}
 use Rattle.pli_headline.proofs.Numbers.{IsWide}
 use Rattle.pli_headline.proofs.WordQuotients.{quotient-word}
-use Rattle.pli_headline.proofs.WordPrecisions.{narrowed, IsWord, narrowed_tested, narrow_wide, quotient_is_word}
+use Rattle.pli_headline.proofs.WordPrecisions.{narrowed, IsWord, wide_word, narrowed_tested, narrow_wide, quotient_is_word}
 use Rattle.pli_headline.proofs.Bodies.{Ground, Known}
 use Rattle.pli_headline.proofs.Jumps.{front_of, back_of, rest_of, skip_taken, skip_passed}
 use Rattle.pli_headline.proofs.Temporaries.{Temporaries}
@@ -47,12 +47,17 @@ lowered x w b = (6, x) ∷ (10, w) ∷ []
 abbrev checked_so : (q : Bool) (p : ℕ) → ℤ → Around → Meaning ℤ
 checked_so q p z around = R.value_of around (cond q (Gives z) (Raises C.FixedOverflow 20 (wrapped p z)))
 
-narrowed_by : {links : Links} {code : List Instr} {i : ℕ} {g : Ground} {v : Services} {h t : ℕ → ℕ} {s : State} {aims : Aims ℤ} (q : Bool) (closed : Closed code aims) (routines : Routines links code) (temps : Temporaries g) (f : Family) (around : Around) (taken : Taken) (p : ℕ) (z : ℤ) (x k : ℕ) → is_of_precision p z ≡ q → nat_lt p 31 ≡ true → (x == word z) ≡ q → (is_register_left taken ≡ false → taken.words < g.words) → Linked links code i (skip_where Test.Equal u1 a0 (move a0 u1 ∷ overflow_raised taken)) → Serving k s v around.line → ((b : Base) → At b i (Known g v h t (lowered x (word z)) b) (f b)) → Gone code g h t v s (i + (1 + (1 + size_of (overflow_raised taken)))) aims → Comes code i f v aims (checked_so q p z around k s)
+-- behind the test the number is as before, and has so few bits
+abbrev pub Fitted : List Instr → Ground → (h t : ℕ → ℕ) → Services → State → (p : ℕ) → ℤ → ℕ → Aims ℤ → Type 0
+Fitted code g h t v s p z i aims =
+    (f' : Family) → is_of_precision p z ≡ true → ((b : Base) → At b i (Known g v h t (valued (word z)) b) (f' b)) → aims.done i f' v z s
+
+narrowed_by : {links : Links} {code : List Instr} {i : ℕ} {g : Ground} {v : Services} {h t : ℕ → ℕ} {s : State} {aims : Aims ℤ} (q : Bool) (closed : Closed code aims) (routines : Routines links code) (temps : Temporaries g) (f : Family) (around : Around) (taken : Taken) (p : ℕ) (z : ℤ) (x k : ℕ) → is_of_precision p z ≡ q → nat_lt p 31 ≡ true → (x == word z) ≡ q → (is_register_left taken ≡ false → taken.words < g.words) → Linked links code i (skip_where Test.Equal u1 a0 (move a0 u1 ∷ overflow_raised taken)) → Serving k s v around.line → ((b : Base) → At b i (Known g v h t (lowered x (word z)) b) (f b)) → Fitted code g h t v s p z (i + (1 + (1 + size_of (overflow_raised taken)))) aims → Comes code i f v aims (checked_so q p z around k s)
 unfolding R.value_of give ◌>>◌
 narrowed_by {s = s} true closed routines temps f around taken p z x k e less test room l serving at gone =
     let over = move a0 u1 ∷ overflow_raised taken in
     onward closed (skip_taken _ f Test.Equal u1 a0 over l at (λ b. let o = (at b).holds.regs in ap (λ u. u == (f b).machine.registers 10) o.0 ∙ ap (λ u. x == u) o.1.0 ∙ test))
-    (λ f' at'. record { to = gone z f' (narrow_wide p z less e) (λ b. record { pc = (at' b).pc; holds = record { body = (at' b).holds.body; regs = ((at' b).holds.regs.1.0, tt) } }) })
+    (λ f' at'. record { to = gone f' e (λ b. record { pc = (at' b).pc; holds = record { body = (at' b).holds.body; regs = ((at' b).holds.regs.1.0, tt) } }) })
 narrowed_by {i = i} {g = g} {v = v} {h = h} {t = t} {s = s} false closed routines temps f around taken p z x k e less test room l serving at gone =
     let front = move a0 u1 ∷ [] in
     let behind = overflow_raised taken in
@@ -70,7 +75,7 @@ narrowed_by {i = i} {g = g} {v = v} {h = h} {t = t} {s = s} false closed routine
     comes_on k (R.raised around C.FixedOverflow 20 k s) next'
     (overflow_piece (before_closed k next' closed) routines temps f2 around taken x' k room (sum_small x) (back_of front behind l1) serving at2)))
 
-pub narrowed_piece : {links : Links} {code : List Instr} {i : ℕ} {g : Ground} {v : Services} {h t : ℕ → ℕ} {s : State} {aims : Aims ℤ} (closed : Closed code aims) (routines : Routines links code) (temps : Temporaries g) (f : Family) (around : Around) (taken : Taken) (p : ℕ) (z : ℤ) (k : ℕ) → nat_lt p 31 ≡ true → IsWord z → (is_register_left taken ≡ false → taken.words < g.words) → Linked links code i (narrowed_code taken p) → Serving k s v around.line → ((b : Base) → At b i (Known g v h t (valued (word z)) b) (f b)) → Gone code g h t v s (i + size_of (narrowed_code taken p)) aims → Comes code i f v aims (R.value_of around (checked p z) k s)
+pub narrowed_piece : {links : Links} {code : List Instr} {i : ℕ} {g : Ground} {v : Services} {h t : ℕ → ℕ} {s : State} {aims : Aims ℤ} (closed : Closed code aims) (routines : Routines links code) (temps : Temporaries g) (f : Family) (around : Around) (taken : Taken) (p : ℕ) (z : ℤ) (k : ℕ) → nat_lt p 31 ≡ true → IsWord z → (is_register_left taken ≡ false → taken.words < g.words) → Linked links code i (narrowed_code taken p) → Serving k s v around.line → ((b : Base) → At b i (Known g v h t (valued (word z)) b) (f b)) → Fitted code g h t v s p z (i + size_of (narrowed_code taken p)) aims → Comes code i f v aims (R.value_of around (checked p z) k s)
 narrowed_piece {i = i} {g = g} {v = v} {h = h} {t = t} {s = s} {aims = aims} closed routines temps f around taken p z k less w room l serving at gone =
     let front = shift Shift.Left u1 a0 (31 - p) ∷ shift Shift.RightArithmetic u1 u1 (31 - p) ∷ [] in
     let behind = skip_where Test.Equal u1 a0 (move a0 u1 ∷ overflow_raised taken) in
@@ -83,7 +88,23 @@ narrowed_piece {i = i} {g = g} {v = v} {h = h} {t = t} {s = s} {aims = aims} clo
     }))
     (λ f' at'.
     narrowed_by q closed routines temps f' around taken p z x k refl less (narrowed_tested q p z less w refl) room (back_of front behind l) serving at'
-    (λ z' f'' wz at''. subst (λ n. aims.done n f'' v z' s) (omega arith) (gone z' f'' wz (λ b. record { pc = (at'' b).pc ∙ ap (address b) (omega arith); holds = (at'' b).holds }))))
+    (λ f'' few at''. subst (λ n. aims.done n f'' v z s) (omega arith) (gone f'' few (λ b. record { pc = (at'' b).pc ∙ ap (address b) (omega arith); holds = (at'' b).holds }))))
+
+fitted_by : {links : Links} {code : List Instr} {i : ℕ} {g : Ground} {v : Services} {h t : ℕ → ℕ} {s : State} {aims : Aims ℤ} (q : Bool) (closed : Closed code aims) (routines : Routines links code) (temps : Temporaries g) (f : Family) (around : Around) (taken : Taken) (p : ℕ) (z : ℤ) (k : ℕ) → nat_lt p 31 ≡ q → p ≤ 31 → IsWide z → (is_register_left taken ≡ false → taken.words < g.words) → Linked links code i (cond q (narrowed_code taken p) []) → Serving k s v around.line → ((b : Base) → At b i (Known g v h t (valued (word z)) b) (f b)) → Fitted code g h t v s p z (i + size_of (cond q (narrowed_code taken p) [])) aims → Comes code i f v aims (R.value_of around (checked p z) k s)
+unfolding R.value_of give
+fitted_by true closed routines temps f around taken p z k less most wide room l serving at gone =
+    narrowed_piece closed routines temps f around taken p z k less (wide_word z wide) room l serving at gone
+fitted_by {i = i} {v = v} {s = s} {aims = aims} false closed routines temps f around taken p z k less most wide room l serving at gone =
+    let e : p ≡ 31 = grind (arith, nat_tests) in
+    let few : is_of_precision p z ≡ true = subst (λ n. is_of_precision n z ≡ true) (sym e) wide in
+    let here : i + 0 ≡ i = omega arith in
+    subst (Comes _ i f v aims) (sym (ap (λ (t : Bool). checked_so t p z around k s) few))
+    (record { to = subst (λ n. aims.done n f v z s) here (gone f few (λ b. record { pc = (at b).pc ∙ ap (address b) (sym here); holds = (at b).holds })) })
+
+-- a number where so many bits are due
+pub fitted_piece : {links : Links} {code : List Instr} {i : ℕ} {g : Ground} {v : Services} {h t : ℕ → ℕ} {s : State} {aims : Aims ℤ} (closed : Closed code aims) (routines : Routines links code) (temps : Temporaries g) (f : Family) (around : Around) (taken : Taken) (p : ℕ) (z : ℤ) (k : ℕ) → p ≤ 31 → IsWide z → (is_register_left taken ≡ false → taken.words < g.words) → Linked links code i (fitted_code taken p) → Serving k s v around.line → ((b : Base) → At b i (Known g v h t (valued (word z)) b) (f b)) → Fitted code g h t v s p z (i + size_of (fitted_code taken p)) aims → Comes code i f v aims (R.value_of around (checked p z) k s)
+fitted_piece closed routines temps f around taken p z k most wide room l serving at gone =
+    fitted_by (nat_lt p 31) closed routines temps f around taken p z k refl most wide room l serving at gone
 
 -- ---- DIVIDE
 
@@ -106,7 +127,7 @@ precise_quotient {i = i} {g = g} {v = v} {h = h} {t = t} {s = s} {aims = aims} t
     }))
     (λ f' at'.
     narrowed_piece closed routines temps f' around taken p z k less (quotient_is_word x y wx) room (back_of front behind l) serving at'
-    (λ z' f'' wz at''. subst (λ n. aims.done n f'' v z' s) (omega arith) (gone z' f'' wz (λ b. record { pc = (at'' b).pc ∙ ap (address b) (omega arith); holds = (at'' b).holds }))))
+    (λ f'' few at''. subst (λ n. aims.done n f'' v z s) (omega arith) (gone z f'' (narrow_wide p z less few) (λ b. record { pc = (at'' b).pc ∙ ap (address b) (omega arith); holds = (at'' b).holds }))))
 precise_quotient {code = code} {i = i} {v = v} {s = s} {aims = aims} false closed routines temps f around taken p x y k most less wx wy other room l serving at gone =
     let e : p ≡ 31 = grind (arith, nat_tests) in
     subst (λ n. Comes code i f v aims (R.value_of around (checked n (int_div x y)) k s)) (sym e)

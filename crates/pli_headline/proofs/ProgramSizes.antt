@@ -18,14 +18,13 @@ use Rattle.pli_coding.specs.Statements.{block_words, stmts_words, stmts_code}
 use Rattle.pli_coding.specs.Procedures.{procedure_begun, procedure_ended, procedure_in}
 use Rattle.pli_coding.specs.Images.{raise_code, code_of, linked_code}
 use Rattle.pli_coding.specs.Linking.{links_of}
-use Rattle.pli_headline.specs.ProvedSoFar.{plain_number, ArePlain, AllPlain}
-use Rattle.pli_headline.specs.FirstForms.{AreFirstStatements, IsFirstProgram}
+use Rattle.pli_headline.specs.FirstForms.{plain_number, AreNumbers, AllNumbers, AreFirstStatements, IsFirstProgram}
 use Rattle.pli_headline.specs.Headline.{parts}
 use Rattle.pli_headline.proofs.Linking.{linked_length, size_append}
 use Rattle.pli_headline.proofs.Marks.{code_is}
 use Rattle.pli_headline.proofs.FirstFrame.{start_of}
-use Rattle.pli_headline.proofs.FirstForms.{program_wider}
-use Rattle.pli_headline.proofs.MainProcedure.{IsAlone, main_head, main_environment, alone_of, main_plain}
+use Rattle.pli_headline.proofs.FirstForms.{all_numbers_plain, block_numbers, program_wider}
+use Rattle.pli_headline.proofs.MainProcedure.{IsAlone, main_head, main_environment, alone_of}
 use Rattle.pli_headline.proofs.Variables.{outermost}
 use Rattle.pli_headline.proofs.CodeSizes.{HasPlain, stmts_nodes, constant_most, load_most, plus_most, act_most, statements_most}
 
@@ -55,7 +54,7 @@ made_most e place =
     let s3 = size_append data_at last in
     omega (arith, a, b, c, d, s1, s2, s3)
 
-variables_most : (e : Environment) (line index : ℕ) (ds : List Y.DeclaredVariable) → ArePlain ds → size_of (variables_made (outermost e) line index ds) ≤ 40 * length ds
+variables_most : (e : Environment) (line index : ℕ) (ds : List Y.DeclaredVariable) → AreNumbers ds → size_of (variables_made (outermost e) line index ds) ≤ 40 * length ds
 variables_most e line index [] are = omega arith
 variables_most e line index (d ∷ ds) are =
     let place = automatic_place e.parts e.program e.block 0 index in
@@ -116,7 +115,7 @@ prologue_most e block line count words at has =
     let b = entered_most line in
     let c : size_of made ≤ 40 * count =
     let same : count ≡ length (variables_of_block e.program e.block) = has.1 ∙ ap (λ n. length (variables_of_block e.program n)) (sym at) in
-    let m = variables_most e line 0 (variables_of_block e.program e.block) (subst (λ n. ArePlain (variables_of_block e.program n)) (sym at) has.0) in
+    let m = variables_most e line 0 (variables_of_block e.program e.block) (subst (λ n. AreNumbers (variables_of_block e.program n)) (sym at) has.0) in
     omega (arith, m, same) in
     let d = act_most line in
     let s1 = size_append begun (move u5 a1 ∷ move a3 a2 ∷ (entered ++ (made ++ act))) in
@@ -140,15 +139,15 @@ procedure_most e block line count body at has are =
 -- ---- the whole
 
 -- with one procedure of plain numbers
-pub alone_most : (program : Y.Program) (block line : ℕ) (body : Y.Stmts) → AllPlain program.variables → IsAlone program block line body → AreFirstStatements block (length (variables_of_block program block)) body → size_of (code_of parts program) ≤ 100 + (40 * length (variables_of_block program block) + 40 * stmts_nodes body)
+pub alone_most : (program : Y.Program) (block line : ℕ) (body : Y.Stmts) → AllNumbers program.variables → IsAlone program block line body → AreFirstStatements block (length (variables_of_block program block)) body → size_of (code_of parts program) ≤ 100 + (40 * length (variables_of_block program block) + 40 * stmts_nodes body)
 alone_most program block line body plain alone are =
     let e = main_environment program block in
     let start = start_of block in
     let procedure = procedure_in e (main_head block line) body [] None in
-    let a = procedure_most e block line (length (variables_of_block program block)) body refl (main_plain program block plain, refl) are in
+    let a = procedure_most e block line (length (variables_of_block program block)) body refl (block_numbers program.variables block plain, refl) are in
     let s1 = size_append start (raise_code ++ procedure) in
     let s2 = size_append raise_code procedure in
-    let s3 : size_of (code_of parts program) ≡ size_of (start ++ (raise_code ++ procedure)) = ap size_of (code_is program block line body plain alone) in
+    let s3 : size_of (code_of parts program) ≡ size_of (start ++ (raise_code ++ procedure)) = ap size_of (code_is program block line body (all_numbers_plain program.variables plain) alone) in
     omega (arith, a, s1, s2, s3)
 
 pub program_most : (program : Y.Program) (is : IsFirstProgram program) → length (linked_code (code_of parts program)) ≤ 100 + (40 * length (variables_of_block program is.head.number) + 40 * stmts_nodes is.body)

@@ -1,15 +1,17 @@
 -- The statement's definitions, computed.
-use Rattle.std.proofs.Common.{◌≡◌, ◌+◌, ◌≤◌, [], ◌∷◌, None, Some, true, false, refl, arith, lit<}
+use Rattle.std.proofs.Common.{◌≡◌, ℕ, ◌+◌, ◌≤◌, List, [], ◌∷◌, None, Some, true, false, refl, arith, lit<}
+use Rattle.std.specs.Prelude.{negsuc}
 use Rattle.rv_meaning.specs.declared.instr.Fault.TheVariants.{BadService}
 use Rattle.rv_meaning.specs.declared.instr.Instr.TheVariants as I
 use Rattle.area_keeper.specs.Chain.{chain}
 use Rattle.pli_language.specs.Tree as T
+use Rattle.pli_language.specs.Formats.{format_moves_data, formats_move_data}
 use Rattle.pli_typing.specs.TypedTree as Y
 use Rattle.image_runs.specs.Runs.{Stopped, layout_of, shown_by}
 use Rattle.pli_meaning.specs.Headline.{step_cost}
 use Rattle.pli_headline.specs.Headline.{parts}
 use Rattle.pli_meaning.specs.Executing.{labels_in}
-use Rattle.pli_headline.specs.ProvedSoFar.{IsProvedSoFar, AreProvedStatements, AllJumpAround, all_labels, IsOwnNumber, plain_number}
+use Rattle.pli_headline.specs.ProvedSoFar.{IsProvedSoFar, ArePlain, Types, AreProvedStatements, AllJumpAround, all_labels, AreProvedFormats, AreProvedPairs, IsTimes, HasData, IsOwn, IsOwnNumber, plain_variable}
 
 -- a fault is no world
 fault_shown : shown_by (Stopped BadService) ≡ None
@@ -49,10 +51,11 @@ loop =
     2)
     (Y.StmtThen [] (Y.Stop 4) (Y.EndOfList []))
 
-loop_proved : AreProvedStatements 1 1 loop
+loop_proved : AreProvedStatements 1 (Y.FixedLeaf 31 ∷ []) loop
 loop_proved =
-    let i : IsOwnNumber 1 1 whole_i = record { index = 0; declared = lit< tt; is = refl } in (
-      ((i, lit< tt), (((tt, ((refl, (i, ((i, lit< tt), lit< tt))), lit< tt)), tt), lit< tt)),
+    let o : IsOwn 1 (Y.FixedLeaf 31 ∷ []) (Y.FixedLeaf 31) whole_i = record { index = 0; declared = refl; is = refl } in
+    let i : IsOwnNumber 1 (Y.FixedLeaf 31 ∷ []) whole_i = record { precision = 31; own = o } in (
+      ((i, lit< tt), (((tt, ((o, ((i, lit< tt), lit< tt)), lit< tt)), tt), lit< tt)),
       (lit< tt, tt),
     )
 
@@ -63,10 +66,40 @@ count =
     (Y.DoCount (Y.NumberCounter 31 whole_i) (Y.NumberValue 31 (Y.NumberConstant 1)) (Some (Y.NumberConstant 5)) (Y.NumberConstant 1) None (Y.EndOfList []) 2)
     (Y.EndOfList [])
 
-count_proved : AreProvedStatements 1 1 count
+count_proved : AreProvedStatements 1 (Y.FixedLeaf 31 ∷ []) count
 count_proved =
-    let i : IsOwnNumber 1 1 whole_i = record { index = 0; declared = lit< tt; is = refl } in
-    (((refl, (i, lit< tt)), ((lit< tt, lit< tt), (tt, (tt, lit< tt)))), tt)
+    let o : IsOwn 1 (Y.FixedLeaf 31 ∷ []) (Y.FixedLeaf 31) whole_i = record { index = 0; declared = refl; is = refl } in
+    let i : IsOwnNumber 1 (Y.FixedLeaf 31 ∷ []) whole_i = record { precision = 31; own = o } in
+    (((o, lit< tt), ((lit< tt, lit< tt), (tt, (tt, lit< tt)))), tt)
+
+-- DCL S FIXED BIN(15) INIT(-7), B BIT(1) INIT('1'B);
+abbrev given_once : T.InitialValue → List T.InitialItem
+given_once v = record { repetition = 1; value = v } ∷ []
+
+begun_plain : ArePlain (plain_variable (Y.FixedLeaf 15) (given_once (T.InitialNumber (negsuc 6))) ∷ plain_variable Y.BitLeaf (given_once (T.InitialBit true)) ∷ [])
+begun_plain = (
+  record { type = Y.FixedLeaf 15; initial = given_once (T.InitialNumber (negsuc 6)); scalar = (omega arith, omega arith); begins = (refl, refl); is = refl },
+  (record { type = Y.BitLeaf; initial = given_once (T.InitialBit true); scalar = tt; begins = (refl, tt); is = refl }, tt),
+)
+
+-- B = S > 100; IF B THEN S = S * 2;
+abbrev whole_of : ℕ → Y.Reference
+whole_of index =
+    Y.Referring (record { class = Y.AutomaticClass; block = 1; level = 0; index = index }) Y.NotLocated (record { first = 0; count = 1 }) Y.NoNumber
+
+abbrev kinds : Y.Stmts
+kinds =
+    Y.StmtThen [] (Y.Assign (whole_of 1) (Y.StoredBit (Y.NumbersCompared Y.IsGreater (Y.NumberIn (whole_of 0)) (Y.NumberConstant 100))) 2)
+    (Y.StmtThen [] (Y.If (Y.BitIn (whole_of 1)) (Y.Assign (whole_of 0) (Y.StoredNumber 15 (Y.Calculated Y.Product (Y.NumberIn (whole_of 0)) (Y.NumberConstant 2))) 3) 3)
+    (Y.EndOfList []))
+
+kinds_proved : AreProvedStatements 1 (Y.FixedLeaf 15 ∷ Y.BitLeaf ∷ []) kinds
+kinds_proved =
+    let types : Types = Y.FixedLeaf 15 ∷ Y.BitLeaf ∷ [] in
+    let s : IsOwn 1 types (Y.FixedLeaf 15) (whole_of 0) = record { index = 0; declared = refl; is = refl } in
+    let b : IsOwn 1 types Y.BitLeaf (whole_of 1) = record { index = 1; declared = refl; is = refl } in
+    let n : IsOwnNumber 1 types (whole_of 0) = record { precision = 15; own = s } in
+    ((b, ((n, lit< tt), lit< tt)), ((b, ((s, ((n, lit< tt), lit< tt)), lit< tt)), tt))
 
 -- L: DO WHILE ('1'B); IF '0'B THEN GOTO L; M: GOTO M; END;
 abbrev jumping : Y.Stmts
@@ -77,11 +110,42 @@ jumping =
     2)
     (Y.EndOfList [])
 
-jumping_proved : AreProvedStatements 1 1 jumping
+jumping_proved : AreProvedStatements 1 [] jumping
 jumping_proved = ((tt, (((tt, ((refl, lit< tt), lit< tt)), ((refl, lit< tt), tt)), lit< tt)), tt)
 
 jumps_around : AllJumpAround (all_labels jumping) (labels_in jumping) jumping
 jumps_around = (((refl, refl), ((refl, refl), tt)), tt)
+
+-- (X(1), 2 (COLUMN(3), F(5)), A)
+abbrev page : T.Formats
+page =
+    T.FormatThen (record { line = 2; column = 1 }) 1 (T.SpaceFormat 1)
+    (T.FormatThen (record { line = 2; column = 7 }) 2
+    (T.FormatList (T.FormatThen (record { line = 2; column = 10 }) 1 (T.ColumnFormat 3) (T.FormatThen (record { line = 2; column = 21 }) 1 (T.FixedFormat 5) T.NoFormat)))
+    (T.FormatThen (record { line = 2; column = 28 }) 1 (T.TextFormat None) T.NoFormat))
+
+page_proved : AreProvedFormats page × HasData page
+unfolding formats_move_data format_moves_data
+page_proved =
+    let once : IsTimes 1 = (omega arith, omega arith) in
+    let own : AreProvedFormats (T.FormatThen (record { line = 2; column = 10 }) 1 (T.ColumnFormat 3) (T.FormatThen (record { line = 2; column = 21 }) 1 (T.FixedFormat 5) T.NoFormat)) =
+    (once, ((omega arith, omega arith), (once, ((omega arith, omega arith), tt)))) in
+    ((once, (once, ((omega arith, omega arith), ((own, tt), (once, (tt, tt)))))), refl)
+
+-- PUT EDIT (SUBSTR('I IS' || 3, 2), 2, '1'B) by it
+abbrev shown : List Y.PutPair
+shown =
+    record {
+      items = Y.PutValue (Y.TextValue (Y.SubstringFrom (Y.Joined (Y.TextConstant (73 ∷ 32 ∷ 73 ∷ 83 ∷ [])) (Y.TextOfNumber 31 (Y.NumberConstant 3))) (Y.NumberConstant 2))) ∷ Y.PutValue (Y.NumberValue 31 (Y.NumberConstant 2)) ∷ Y.PutValue (Y.BitValue (Y.BitConstant true)) ∷ [];
+      formats = page;
+    }
+    ∷ []
+
+shown_proved : AreProvedPairs 1 [] shown
+unfolding formats_move_data format_moves_data
+shown_proved =
+    let is = page_proved in
+    ((((omega arith, ((omega arith, omega arith), lit< tt)), lit< tt), (lit< tt, (tt, tt))), ((is.0, (is.1, λ text. (tt, ((omega arith, omega arith), (tt, tt))))), tt))
 
 abbrev head : Y.BlockHead
 head = record { kind = Y.ProcedureBlock; number = 1; level = 0; line = 1 }
@@ -89,25 +153,27 @@ head = record { kind = Y.ProcedureBlock; number = 1; level = 0; line = 1 }
 abbrev program : Y.Program
 program =
     record {
-      variables = [] ∷ (plain_number ∷ []) ∷ [];
+      variables = [] ∷ (plain_variable (Y.FixedLeaf 31) [] ∷ []) ∷ [];
       procedures = record { block = Y.BlockOf head body; parameters = []; result = None } ∷ [];
     }
 
 small_program : IsProvedSoFar program
+unfolding formats_move_data format_moves_data
 small_program =
-    let i : IsOwnNumber 1 1 whole_i = record { index = 0; declared = lit< tt; is = refl } in
+    let o : IsOwn 1 (Y.FixedLeaf 31 ∷ []) (Y.FixedLeaf 31) whole_i = record { index = 0; declared = refl; is = refl } in
+    let i : IsOwnNumber 1 (Y.FixedLeaf 31 ∷ []) whole_i = record { precision = 31; own = o } in
     record {
       head = head;
       body = body;
       alone = refl;
-      plain = (tt, ((refl, tt), tt));
+      plain = (tt, ((record { type = Y.FixedLeaf 31; initial = []; scalar = (omega arith, omega arith); begins = tt; is = refl }, tt), tt));
       block = record {
         kind = refl;
         level = refl;
         line = lit< tt;
         statements = (
-          (refl, (i, ((lit< tt, i), lit< tt))),
-          (((((i, tt), ((((omega arith, omega arith), ((omega arith, omega arith), tt)), tt), tt))), lit< tt), tt),
+          (o, ((lit< tt, i), lit< tt)),
+          (((((i, tt), ((((omega arith, omega arith), ((omega arith, omega arith), tt)), (refl, λ text. ((omega arith, omega arith), tt))), tt))), lit< tt), tt),
         );
         jumps = (tt, (tt, tt));
       };

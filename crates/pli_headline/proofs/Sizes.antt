@@ -14,22 +14,23 @@ use Rattle.pli_language.specs.Tree as T
 use Rattle.pli_meaning.specs.DeclaredShapes.{variables_of_block}
 use Rattle.pli_meaning.specs.Headline.{Picture, first_bytes}
 use Rattle.rv_meaning.specs.declared.instr.BranchTest.TheVariants as Test
-use Rattle.pli_coding.specs.Registers.{zero_register, a0, a1, u1, frame_register}
+use Rattle.pli_coding.specs.Registers.{zero_register, a0, a1, a2, u1, frame_register}
 use Rattle.pli_coding.specs.Assembly.{Code, size_of, JumpAhead, JumpBack}
-use Rattle.pli_coding.specs.Instructions.{is_immediate, skip_where, small, constant, number, store_word, service}
+use Rattle.pli_coding.specs.Instructions.{is_immediate, skip_where, small, constant, number, store_word, move, service, tested_service}
 use Rattle.pli_coding.specs.Frames.{words_place}
 use Rattle.pli_coding.specs.Environments.{Environment, Taken, none_taken, is_register_left, with_number, save, fetch}
 use Rattle.pli_coding.specs.Arithmetic.{signed_code, absolute_code, sign_code, calculated_code, modulo_code, divided_code, extreme_code, negated_code, combined_code, compared_code, fitted_code}
-use Rattle.pli_coding.specs.Expressions.{number_code, extremes_code, bit_code}
+use Rattle.pli_coding.specs.Expressions.{number_code, extremes_code, bit_code, text_code}
 use Rattle.pli_coding.specs.Storing.{stored_into}
-use Rattle.pli_coding.specs.Streams.{value_put, number_put, as_text, item_put, items_put, edit_begun, edit_ended, put_pair, put_pairs, put_item_words, put_items_words, put_words, skip_option}
+use Rattle.pli_coding.specs.Streams.{value_put, number_put, text_put, as_text, item_put, items_put, edit_begun, edit_ended, put_pair, put_pairs, put_item_words, put_items_words, put_words, skip_option}
 use Rattle.pli_coding.specs.Allocating.{act_code}
 use Rattle.pli_coding.specs.Statements.{if_met, while_met, block_words, stmt_code, stmts_code, stmt_words, stmts_words, marked, once_code, bit_if, in_turns, before_turns, number_if, start_code, limit_code, step_code, started_code, start_place, step_place, limit_place, turn_of, turns_code, words_back, words_behind_limit, words_behind_condition, limit_kept, while_kept, stepped_code}
-use Rattle.pli_coding.specs.Temporaries.{number_words, numbers_words, bit_words, reference_words}
-use Rattle.pli_headline.specs.ProvedSoFar.{ArePlain, IsOwnNumber, IsProvedNumber, AreProvedNumbers, IsProvedBit, IsProvedItem, AreProvedItems, AreProvedPairs, IsProvedStatement, AreProvedStatements, IsProvedBitIf, IsProvedNumberIf}
+use Rattle.pli_coding.specs.Temporaries.{number_words, numbers_words, text_words, bit_words, reference_words}
+use Rattle.pli_headline.specs.ProvedSoFar.{ArePlain, Types, IsOwn, IsProvedNumber, AreProvedNumbers, IsProvedBit, IsProvedText, IsProvedItem, AreProvedItems, AreProvedPairs, IsProvedStatement, AreProvedStatements, IsProvedBitIf, IsProvedNumberIf}
 use Rattle.pli_coding.specs.Entries.{variables_words}
 use Rattle.pli_coding.specs.Procedures.{procedure_begun, procedure_ended, procedure_in}
 use Rattle.pli_headline.specs.Headline.{FitsMemory}
+use Rattle.pli_headline.proofs.Scalars.{by_plain}
 use Rattle.pli_headline.proofs.Linking.{size_append}
 
 -- ---- words of expressions
@@ -37,8 +38,8 @@ use Rattle.pli_headline.proofs.Linking.{size_append}
 most : (a b n : ℕ) → a ≤ n → b ≤ n → max a b ≤ n
 most a b n h i = grind (arith, nat_tests)
 
-own_words : (block count : ℕ) (r : Y.Reference) → IsOwnNumber block count r → reference_words r ≡ 0
-own_words block count r is = ap reference_words is.is
+own_words : (block : ℕ) (types : Types) (type : Y.LeafType) (r : Y.Reference) → IsOwn block types type r → reference_words r ≡ 0
+own_words block types type r is = ap reference_words is.is
 
 displaced_by : (q : Bool) (x : Code) (y : Code) → 1 ≤ size_of x → 1 ≤ size_of y → 1 ≤ size_of (cond q x y)
 displaced_by true x y h i = h
@@ -59,47 +60,47 @@ both_size a c last t m n h i =
     most _ _ _ (omega (arith, h, s1)) (omega (arith, i, one, s1, s2, s3))
 
 mutual
-  number_size : (e : Environment) (t : Taken) (block count : ℕ) (x : Y.Number) → IsProvedNumber block count x → number_words x ≤ size_of (number_code e t x) + 1
-  number_size e t block count (Y.NumberConstant n) is = omega arith
-  number_size e t block count (Y.NumberIn r) is = let z = own_words block count r is in omega (arith, z)
-  number_size e t block count (Y.NumberOfBit x) is = bit_size e t block count x is
-  number_size e t block count (Y.Signed sign x) is =
-      let n = number_size e t block count x is in
+  number_size : (e : Environment) (t : Taken) (block : ℕ) (types : Types) (x : Y.Number) → IsProvedNumber block types x → number_words x ≤ size_of (number_code e t x) + 1
+  number_size e t block types (Y.NumberConstant n) is = omega arith
+  number_size e t block types (Y.NumberIn r) is = let z = own_words block types (Y.FixedLeaf is.precision) r is.own in omega (arith, z)
+  number_size e t block types (Y.NumberOfBit x) is = bit_size e t block types x is
+  number_size e t block types (Y.Signed sign x) is =
+      let n = number_size e t block types x is in
       let s = size_append (number_code e t x) (signed_code t sign) in
       most _ _ _ (omega arith) (omega (arith, n, s))
-  number_size e t block count (Y.Calculated operator left right) is =
+  number_size e t block types (Y.Calculated operator left right) is =
       both_size (number_code e t left) (number_code e (with_number t) right) (fetch u1 t ++ calculated_code t operator) t (number_words left) (number_words right)
-      (number_size e t block count left is.0) (number_size e (with_number t) block count right is.1)
-  number_size e t block count (Y.Absolute x) is =
-      let n = number_size e t block count x is in
+      (number_size e t block types left is.0) (number_size e (with_number t) block types right is.1)
+  number_size e t block types (Y.Absolute x) is =
+      let n = number_size e t block types x is in
       let s = size_append (number_code e t x) (absolute_code t) in
       most _ _ _ (omega arith) (omega (arith, n, s))
-  number_size e t block count (Y.SignOf x) is =
-      let n = number_size e t block count x is in
+  number_size e t block types (Y.SignOf x) is =
+      let n = number_size e t block types x is in
       let s = size_append (number_code e t x) sign_code in
       omega (arith, n, s)
-  number_size e t block count (Y.Extreme extremum first more) is =
-      let n = number_size e t block count first is.0 in
-      let m = numbers_size e t block count extremum more is.1 in
+  number_size e t block types (Y.Extreme extremum first more) is =
+      let n = number_size e t block types first is.0 in
+      let m = numbers_size e t block types extremum more is.1 in
       let s = size_append (number_code e t first) (extremes_code e t extremum more) in
       most _ _ _ (omega (arith, n, s)) (omega (arith, m, s))
-  number_size e t block count (Y.Modulo dividend divisor) is =
+  number_size e t block types (Y.Modulo dividend divisor) is =
       both_size (number_code e t dividend) (number_code e (with_number t) divisor) (fetch u1 t ++ modulo_code) t (number_words dividend) (number_words divisor)
-      (number_size e t block count dividend is.0) (number_size e (with_number t) block count divisor is.1)
-  number_size e t block count (Y.Divided precision dividend divisor) is =
+      (number_size e t block types dividend is.0) (number_size e (with_number t) block types divisor is.1)
+  number_size e t block types (Y.Divided precision dividend divisor) is =
       both_size (number_code e t dividend) (number_code e (with_number t) divisor) (fetch u1 t ++ divided_code t precision) t (number_words dividend) (number_words divisor)
-      (number_size e t block count dividend is.1.0) (number_size e (with_number t) block count divisor is.1.1)
-  number_size e t block count _ is = absurd is
+      (number_size e t block types dividend is.1.0) (number_size e (with_number t) block types divisor is.1.1)
+  number_size e t block types _ is = absurd is
 
-  numbers_size : (e : Environment) (t : Taken) (block count : ℕ) (extremum : Y.Extremum) (xs : Y.Numbers) → AreProvedNumbers block count xs → numbers_words xs ≤ size_of (extremes_code e t extremum xs)
-  numbers_size e t block count extremum Y.NoNumber are = omega arith
-  numbers_size e t block count extremum (Y.NumberThen first rest) are =
+  numbers_size : (e : Environment) (t : Taken) (block : ℕ) (types : Types) (extremum : Y.Extremum) (xs : Y.Numbers) → AreProvedNumbers block types xs → numbers_words xs ≤ size_of (extremes_code e t extremum xs)
+  numbers_size e t block types extremum Y.NoNumber are = omega arith
+  numbers_size e t block types extremum (Y.NumberThen first rest) are =
       let c = number_code e (with_number t) first in
       let back = fetch u1 t in
       let further = extreme_code extremum in
       let more = extremes_code e t extremum rest in
-      let n = number_size e (with_number t) block count first are.0 in
-      let m = numbers_size e t block count extremum rest are.1 in
+      let n = number_size e (with_number t) block types first are.0 in
+      let m = numbers_size e t block types extremum rest are.1 in
       let one = saved_size a0 t in
       let s1 = size_append (save a0 t) (c ++ (back ++ (further ++ more))) in
       let s2 = size_append c (back ++ (further ++ more)) in
@@ -107,49 +108,96 @@ mutual
       let s4 = size_append further more in
       most _ _ _ (omega (arith, n, one, s1, s2)) (omega (arith, m, s1, s2, s3, s4))
 
-  bit_size : (e : Environment) (t : Taken) (block count : ℕ) (x : Y.Bit) → IsProvedBit block count x → bit_words x ≤ size_of (bit_code e t x) + 1
-  bit_size e t block count (Y.BitConstant b) is = omega arith
-  bit_size e t block count (Y.Negated x) is =
-      let n = bit_size e t block count x is in
+  bit_size : (e : Environment) (t : Taken) (block : ℕ) (types : Types) (x : Y.Bit) → IsProvedBit block types x → bit_words x ≤ size_of (bit_code e t x) + 1
+  bit_size e t block types (Y.BitConstant b) is = omega arith
+  bit_size e t block types (Y.BitIn r) is = let z = own_words block types Y.BitLeaf r is in omega (arith, z)
+  bit_size e t block types (Y.Negated x) is =
+      let n = bit_size e t block types x is in
       let s = size_append (bit_code e t x) (negated_code ∷ []) in
       omega (arith, n, s)
-  bit_size e t block count (Y.Combined operator left right) is =
+  bit_size e t block types (Y.Combined operator left right) is =
       both_size (bit_code e t left) (bit_code e (with_number t) right) (fetch u1 t ++ combined_code operator ∷ []) t (bit_words left) (bit_words right)
-      (bit_size e t block count left is.0) (bit_size e (with_number t) block count right is.1)
-  bit_size e t block count (Y.NumbersCompared comparison left right) is =
+      (bit_size e t block types left is.0) (bit_size e (with_number t) block types right is.1)
+  bit_size e t block types (Y.NumbersCompared comparison left right) is =
       both_size (number_code e t left) (number_code e (with_number t) right) (fetch u1 t ++ compared_code comparison) t (number_words left) (number_words right)
-      (number_size e t block count left is.0) (number_size e (with_number t) block count right is.1)
-  bit_size e t block count (Y.BitsCompared comparison left right) is =
+      (number_size e t block types left is.0) (number_size e (with_number t) block types right is.1)
+  bit_size e t block types (Y.BitsCompared comparison left right) is =
       both_size (bit_code e t left) (bit_code e (with_number t) right) (fetch u1 t ++ compared_code comparison) t (bit_words left) (bit_words right)
-      (bit_size e t block count left is.0) (bit_size e (with_number t) block count right is.1)
-  bit_size e t block count _ is = absurd is
+      (bit_size e t block types left is.0) (bit_size e (with_number t) block types right is.1)
+  bit_size e t block types _ is = absurd is
+
+-- a text takes what its parts take
+text_size : (e : Environment) (t : Taken) (block : ℕ) (types : Types) (x : Y.Text) → IsProvedText block types x → text_words x ≤ size_of (text_code e t x) + 1
+text_size e t block types (Y.TextConstant bytes) is = omega arith
+text_size e t block types (Y.TextOfNumber precision x) is =
+    let n = number_size e t block types x is.1 in
+    let s = size_append (number_code e t x) (as_text precision) in
+    omega (arith, n, s)
+text_size e t block types (Y.TextOfBit x) is =
+    let n = bit_size e t block types x is in
+    let s = size_append (bit_code e t x) (as_text 0) in
+    omega (arith, n, s)
+text_size e t block types (Y.Joined left right) is =
+    let n = text_size e t block types left is.0 in
+    let m = text_size e t block types right is.1 in
+    let s1 = size_append (text_code e t left) (text_code e t right ++ tested_service 22) in
+    let s2 = size_append (text_code e t right) (tested_service 22) in
+    most _ _ _ (omega (arith, n, s1)) (omega (arith, m, s1, s2))
+text_size e t block types (Y.SubstringFrom x start) is =
+    let cut = small a2 0 ∷ tested_service 23 in
+    let n = text_size e t block types x is.0 in
+    let m = number_size e t block types start is.1 in
+    let s1 = size_append (text_code e t x) (number_code e t start ++ cut) in
+    let s2 = size_append (number_code e t start) cut in
+    most _ _ _ (omega (arith, n, s1)) (omega (arith, m, s1, s2))
+text_size e t block types (Y.Substring x start many) is =
+    let cut = small a2 1 ∷ tested_service 23 in
+    let behind = move a1 a0 ∷ (fetch a0 t ++ cut) in
+    let further = number_code e (with_number t) many ++ behind in
+    let n = text_size e t block types x is.0 in
+    let m = number_size e t block types start is.1.0 in
+    let o = number_size e (with_number t) block types many is.1.1 in
+    let s1 = size_append (text_code e t x) (number_code e t start ++ (save a0 t ++ further)) in
+    let s2 = size_append (number_code e t start) (save a0 t ++ further) in
+    let s3 = size_append (save a0 t) further in
+    let s4 = size_append (number_code e (with_number t) many) behind in
+    most _ _ _ (omega (arith, n, s1)) (most _ _ _ (omega (arith, m, s1, s2)) (omega (arith, o, s1, s2, s3, s4)))
+text_size e t block types _ is = absurd is
 
 -- ---- words of statements
 
-value_size : (e : Environment) (t : Taken) (block count : ℕ) (formats : T.Formats) (precision : ℕ) (x : Y.Number) → IsProvedNumber block count x → max 1 (number_words x) ≤ size_of (value_put e t formats (Y.NumberValue precision x)) + 1
-value_size e t block count formats precision x is =
-    let n = number_size e t block count x is in
+value_size : (e : Environment) (t : Taken) (block : ℕ) (types : Types) (formats : T.Formats) (precision : ℕ) (x : Y.Number) → IsProvedNumber block types x → max 1 (number_words x) ≤ size_of (value_put e t formats (Y.NumberValue precision x)) + 1
+value_size e t block types formats precision x is =
+    let n = number_size e t block types x is in
     let s = size_append (number_code e t x) (save a0 t ++ number_put t formats (as_text precision)) in
     most _ _ _ (omega arith) (omega (arith, n, s))
 
-item_size' : (e : Environment) (t : Taken) (block count : ℕ) (formats : T.Formats) (i : Y.PutItem) → IsProvedItem block count i → put_item_words i ≤ size_of (item_put e t formats i) + 1
-item_size' e t block count formats (Y.PutValue (Y.NumberValue precision x)) is = value_size e t block count formats precision x is
-item_size' e t block count formats _ is = absurd is
+item_size' : (e : Environment) (t : Taken) (block : ℕ) (types : Types) (formats : T.Formats) (i : Y.PutItem) → IsProvedItem block types i → put_item_words i ≤ size_of (item_put e t formats i) + 1
+item_size' e t block types formats (Y.PutValue (Y.NumberValue precision x)) is = value_size e t block types formats precision x is
+item_size' e t block types formats (Y.PutValue (Y.BitValue x)) is =
+    let n = bit_size e t block types x is in
+    let s = size_append (bit_code e t x) (save a0 t ++ number_put t formats (as_text 0)) in
+    most _ _ _ (omega arith) (omega (arith, n, s))
+item_size' e t block types formats (Y.PutValue (Y.TextValue x)) is =
+    let n = text_size e t block types x is in
+    let s = size_append (text_code e t x) (text_put formats) in
+    omega (arith, n, s)
+item_size' e t block types formats _ is = absurd is
 
-items_size : (e : Environment) (t : Taken) (block count : ℕ) (formats : T.Formats) (is : List Y.PutItem) → AreProvedItems block count is → put_items_words is ≤ size_of (items_put e t formats is) + 1
-items_size e t block count formats [] are = omega arith
-items_size e t block count formats (i ∷ is) are =
-    let a = item_size' e t block count formats i are.0 in
-    let c = items_size e t block count formats is are.1 in
+items_size : (e : Environment) (t : Taken) (block : ℕ) (types : Types) (formats : T.Formats) (is : List Y.PutItem) → AreProvedItems block types is → put_items_words is ≤ size_of (items_put e t formats is) + 1
+items_size e t block types formats [] are = omega arith
+items_size e t block types formats (i ∷ is) are =
+    let a = item_size' e t block types formats i are.0 in
+    let c = items_size e t block types formats is are.1 in
     let s = size_append (item_put e t formats i) (items_put e t formats is) in
     most _ _ _ (omega (arith, a, s)) (omega (arith, c, s))
 
-pairs_size : (e : Environment) (t : Taken) (block count : ℕ) (ps : List Y.PutPair) → AreProvedPairs block count ps → put_words ps ≤ size_of (put_pairs e t ps) + 1
-pairs_size e t block count [] are = omega arith
-pairs_size e t block count (p ∷ ps) are =
+pairs_size : (e : Environment) (t : Taken) (block : ℕ) (types : Types) (ps : List Y.PutPair) → AreProvedPairs block types ps → put_words ps ≤ size_of (put_pairs e t ps) + 1
+pairs_size e t block types [] are = omega arith
+pairs_size e t block types (p ∷ ps) are =
     let items = items_put e t p.formats p.items in
-    let a = items_size e t block count p.formats p.items are.0 in
-    let c = pairs_size e t block count ps are.1.1 in
+    let a = items_size e t block types p.formats p.items are.0 in
+    let c = pairs_size e t block types ps are.1.1 in
     let s1 = size_append (put_pair e t p) (put_pairs e t ps) in
     let s2 = size_append (edit_begun p.formats 1) (items ++ edit_ended) in
     let s3 = size_append items edit_ended in
@@ -167,35 +215,35 @@ act_size line =
 met_size' : (c : Code) → size_of (if_met c) ≡ 3 + size_of c
 met_size' c = size_append (skip_where Test.NotEqual a0 zero_register (JumpAhead (size_of c) ∷ [])) c
 
-once_size : (e : Environment) (t : Taken) (block count : ℕ) (condition : Option Y.Bit) (line : ℕ) (c : Code) → IsProvedBitIf block count condition → (bit_if condition ≤ size_of (once_code e t condition line c) + 1) × (size_of c ≤ size_of (once_code e t condition line c))
-once_size e t block count None line c is = (omega arith, omega arith)
-once_size e t block count (Some x) line c is =
-    let n = bit_size e t block count x is in
+once_size : (e : Environment) (t : Taken) (block : ℕ) (types : Types) (condition : Option Y.Bit) (line : ℕ) (c : Code) → IsProvedBitIf block types condition → (bit_if condition ≤ size_of (once_code e t condition line c) + 1) × (size_of c ≤ size_of (once_code e t condition line c))
+once_size e t block types None line c is = (omega arith, omega arith)
+once_size e t block types (Some x) line c is =
+    let n = bit_size e t block types x is in
     let s1 = size_append (act_code line) (bit_code e t x ++ if_met c) in
     let s2 = size_append (bit_code e t x) (if_met c) in
     let s3 = met_size' c in
     (omega (arith, n, s1, s2), omega (arith, s1, s2, s3))
 
-limit_words_size : (e : Environment) (t : Taken) (block count : ℕ) (limit : Option Y.Number) → IsProvedNumberIf block count limit → number_if limit ≤ size_of (limit_code e t limit) + 1
-limit_words_size e t block count None is = omega arith
-limit_words_size e t block count (Some x) is =
-    let n = number_size e (before_turns t) block count x is in
+limit_words_size : (e : Environment) (t : Taken) (block : ℕ) (types : Types) (limit : Option Y.Number) → IsProvedNumberIf block types limit → number_if limit ≤ size_of (limit_code e t limit) + 1
+limit_words_size e t block types None is = omega arith
+limit_words_size e t block types (Some x) is =
+    let n = number_size e (before_turns t) block types x is in
     let s = size_append (number_code e (before_turns t) x) (store_word frame_register a0 (limit_place t)) in
     omega (arith, n, s)
 
-condition_words_size : (e : Environment) (t : Taken) (block count : ℕ) (condition : Option Y.Bit) (behind : ℕ) → IsProvedBitIf block count condition → bit_if condition ≤ size_of (while_kept e t condition behind) + 1
-condition_words_size e t block count None behind is = omega arith
-condition_words_size e t block count (Some x) behind is =
-    let n = bit_size e (in_turns t) block count x is in
+condition_words_size : (e : Environment) (t : Taken) (block : ℕ) (types : Types) (condition : Option Y.Bit) (behind : ℕ) → IsProvedBitIf block types condition → bit_if condition ≤ size_of (while_kept e t condition behind) + 1
+condition_words_size e t block types None behind is = omega arith
+condition_words_size e t block types (Some x) behind is =
+    let n = bit_size e (in_turns t) block types x is in
     let s = size_append (bit_code e (in_turns t) x) (skip_where Test.NotEqual a0 zero_register (JumpAhead behind ∷ [])) in
     omega (arith, n, s)
 
 mutual
-  statement_size : (e : Environment) (t : Taken) (block count : ℕ) (x : Y.Stmt) → IsProvedStatement block count x → stmt_words x ≤ size_of (stmt_code e t x) + 1
-  statement_size e t block count (Y.Null line) is = omega arith
-  statement_size e t block count (Y.Assign target (Y.StoredNumber precision x) line) is =
-      let z = own_words block count target is.1.0 in
-      let n = number_size e t block count x is.1.1.0 in
+  statement_size : (e : Environment) (t : Taken) (block : ℕ) (types : Types) (x : Y.Stmt) → IsProvedStatement block types x → stmt_words x ≤ size_of (stmt_code e t x) + 1
+  statement_size e t block types (Y.Null line) is = omega arith
+  statement_size e t block types (Y.Assign target (Y.StoredNumber precision x) line) is =
+      let z = own_words block types (Y.FixedLeaf precision) target is.0 in
+      let n = number_size e t block types x is.1.0 in
       let four = act_size line in
       let code = number_code e t x in
       let fitted = fitted_code t precision in
@@ -204,51 +252,60 @@ mutual
       let s2 = size_append (code ++ fitted) into in
       let s3 = size_append code fitted in
       most _ _ _ (most _ _ _ (omega arith) (omega (arith, n, s1, s2, s3))) (omega (arith, z, four, s1))
-  statement_size e t block count (Y.If condition unit line) is =
+  statement_size e t block types (Y.Assign target (Y.StoredBit x) line) is =
+      let z = own_words block types Y.BitLeaf target is.0 in
+      let n = bit_size e t block types x is.1.0 in
+      let four = act_size line in
+      let code = bit_code e t x in
+      let into = stored_into e t target (Y.StoredBit x) in
+      let s1 = size_append (act_code line) (code ++ into) in
+      let s2 = size_append code into in
+      most _ _ _ (omega (arith, n, s1, s2)) (omega (arith, z, four, s1))
+  statement_size e t block types (Y.If condition unit line) is =
       let test = bit_code e t condition in
       let c = stmt_code e t unit in
-      let n = bit_size e t block count condition is.0 in
-      let m = statement_size e t block count unit is.1.0 in
+      let n = bit_size e t block types condition is.0 in
+      let m = statement_size e t block types unit is.1.0 in
       let s1 = size_append (act_code line) (test ++ if_met c) in
       let s2 = size_append test (if_met c) in
       let s3 = met_size' c in
       most _ _ _ (omega (arith, n, s1, s2)) (omega (arith, m, s1, s2, s3))
-  statement_size e t block count (Y.IfElse condition unit otherwise line) is =
+  statement_size e t block types (Y.IfElse condition unit otherwise line) is =
       let test = bit_code e t condition in
       let c = stmt_code e t unit in
       let d = stmt_code e t otherwise in
       let over = JumpAhead (size_of d) ∷ [] in
-      let n = bit_size e t block count condition is.0 in
-      let m1 = statement_size e t block count unit is.1.0 in
-      let m2 = statement_size e t block count otherwise is.1.1.0 in
+      let n = bit_size e t block types condition is.0 in
+      let m1 = statement_size e t block types unit is.1.0 in
+      let m2 = statement_size e t block types otherwise is.1.1.0 in
       let s1 = size_append (act_code line) (test ++ (if_met (c ++ over) ++ d)) in
       let s2 = size_append test (if_met (c ++ over) ++ d) in
       let s3 = size_append (if_met (c ++ over)) d in
       let s4 = met_size' (c ++ over) in
       let s5 = size_append c over in
       most _ _ _ (omega (arith, n, s1, s2)) (most _ _ _ (omega (arith, m1, s1, s2, s3, s4, s5)) (omega (arith, m2, s1, s2, s3)))
-  statement_size e t block count (Y.Do body line) is =
-      let m = statements_size e t block count body is.0 in
+  statement_size e t block types (Y.Do body line) is =
+      let m = statements_size e t block types body is.0 in
       let s = size_append (act_code line) (stmts_code e t body) in
       omega (arith, m, s)
-  statement_size e t block count (Y.DoWhile condition body line) is =
+  statement_size e t block types (Y.DoWhile condition body line) is =
       let test = bit_code e t condition in
       let c = stmts_code e t body in
       let tested = act_code line ++ test in
       let back = JumpBack (size_of tested + (3 + size_of c)) ∷ [] in
-      let n = bit_size e t block count condition is.0 in
-      let m = statements_size e t block count body is.1.0 in
+      let n = bit_size e t block types condition is.0 in
+      let m = statements_size e t block types body is.1.0 in
       let s1 = size_append (act_code line) (while_met tested c) in
       let s2 = size_append tested (if_met (c ++ back)) in
       let s3 = size_append (act_code line) test in
       let s4 = met_size' (c ++ back) in
       let s5 = size_append c back in
       most _ _ _ (omega (arith, n, s1, s2, s3)) (omega (arith, m, s1, s2, s4, s5))
-  statement_size e t block count (Y.DoOnce target (Y.StoredNumber precision x) condition body line) is =
-      let z = own_words block count target is.0.1.0 in
-      let n = number_size e t block count x is.0.1.1 in
-      let m = statements_size e t block count body is.1.1.0 in
-      let o = once_size e t block count condition line (stmts_code e t body) is.1.0 in
+  statement_size e t block types (Y.DoOnce target (Y.StoredNumber precision x) condition body line) is =
+      let z = own_words block types (Y.FixedLeaf precision) target is.0.0 in
+      let n = number_size e t block types x is.0.1 in
+      let m = statements_size e t block types body is.1.1.0 in
+      let o = once_size e t block types condition line (stmts_code e t body) is.1.0 in
       let four = act_size line in
       let code = number_code e t x in
       let fitted = fitted_code t precision in
@@ -261,16 +318,31 @@ mutual
       most _ _ _
       (most _ _ _ (most _ _ _ (omega arith) (omega (arith, n, s1, s2, s3, s4))) (omega (arith, z, four, s1)))
       (most _ _ _ (let o0 = o.0 in omega (arith, o0, s1, s2)) (let o1 = o.1 in omega (arith, m, o1, s1, s2)))
-  statement_size e t block count (Y.DoCount (Y.NumberCounter precision target) (Y.NumberValue p x) limit step condition body line) is =
+  statement_size e t block types (Y.DoOnce target (Y.StoredBit x) condition body line) is =
+      let z = own_words block types Y.BitLeaf target is.0.0 in
+      let n = bit_size e t block types x is.0.1 in
+      let m = statements_size e t block types body is.1.1.0 in
+      let o = once_size e t block types condition line (stmts_code e t body) is.1.0 in
+      let four = act_size line in
+      let code = bit_code e t x in
+      let into = stored_into e t target (Y.StoredBit x) in
+      let rest = once_code e t condition line (stmts_code e t body) in
+      let s1 = size_append (act_code line) ((code ++ into) ++ rest) in
+      let s2 = size_append (code ++ into) rest in
+      let s3 = size_append code into in
+      most _ _ _
+      (most _ _ _ (omega (arith, n, s1, s2, s3)) (omega (arith, z, four, s1)))
+      (most _ _ _ (let o0 = o.0 in omega (arith, o0, s1, s2)) (let o1 = o.1 in omega (arith, m, o1, s1, s2)))
+  statement_size e t block types (Y.DoCount (Y.NumberCounter precision target) (Y.NumberValue p x) limit step condition body line) is =
       let counter = Y.NumberCounter precision target in
-      let z = own_words block count target is.0.1.0 in
-      let n0 = number_size e (before_turns t) block count x is.0.1.1 in
-      let n1 = limit_words_size e t block count limit is.1.0.0 in
-      let n2 = number_size e (before_turns t) block count step is.1.0.1 in
+      let z = own_words block types (Y.FixedLeaf precision) target is.0.0 in
+      let n0 = number_size e (before_turns t) block types x is.0.1 in
+      let n1 = limit_words_size e t block types limit is.1.0.0 in
+      let n2 = number_size e (before_turns t) block types step is.1.0.1 in
       let c = stmts_code e (in_turns t) body in
       let u = turn_of e t counter limit condition line c in
-      let n3 = condition_words_size e t block count condition (words_behind_condition u) is.1.1.0 in
-      let n4 = statements_size e (in_turns t) block count body is.1.1.1.0 in
+      let n3 = condition_words_size e t block types condition (words_behind_condition u) is.1.1.0 in
+      let n4 = statements_size e (in_turns t) block types body is.1.1.1.0 in
       let four = act_size line in
       let c0 = start_code e t (Y.NumberValue p x) in
       let c1 = limit_code e t limit in
@@ -296,25 +368,25 @@ mutual
       let small2 : max (suc (reference_words target)) (max (bit_if condition) (stmts_words body)) ≤ total - 2 + 1 =
       most _ _ _ (omega (arith, z, four, s1)) (most _ _ _ (omega (arith, n3, four, s1, s2, s8, s9, s10)) (omega (arith, n4, four, s1, s2, s8, s9, s10, s11))) in
       most _ _ _ (omega (arith, small1, four, s1)) (omega (arith, small2, four, s1))
-  statement_size e t block count (Y.Goto level label line) is = omega arith
-  statement_size e t block count (Y.Stop line) is = omega arith
-  statement_size e t block count (Y.Signal condition line) is = omega arith
-  statement_size e t block count (Y.Put None pairs line) is =
-      let n = pairs_size e t block count pairs is.0 in
+  statement_size e t block types (Y.Goto level label line) is = omega arith
+  statement_size e t block types (Y.Stop line) is = omega arith
+  statement_size e t block types (Y.Signal condition line) is = omega arith
+  statement_size e t block types (Y.Put None pairs line) is =
+      let n = pairs_size e t block types pairs is.0 in
       let s = size_append (act_code line) (put_pairs e t pairs) in
       omega (arith, n, s)
-  statement_size e t block count (Y.Put (Some n) pairs line) is =
-      let m = pairs_size e t block count pairs is.1.0 in
+  statement_size e t block types (Y.Put (Some n) pairs line) is =
+      let m = pairs_size e t block types pairs is.1.0 in
       let s1 = size_append (act_code line) (skip_option 1 (Some n) ++ put_pairs e t pairs) in
       let s2 = size_append (skip_option 1 (Some n)) (put_pairs e t pairs) in
       omega (arith, m, s1, s2)
-  statement_size e t block count _ is = absurd is
+  statement_size e t block types _ is = absurd is
 
-  pub statements_size : (e : Environment) (t : Taken) (block count : ℕ) (body : Y.Stmts) → AreProvedStatements block count body → stmts_words body ≤ size_of (stmts_code e t body) + 1
-  statements_size e t block count (Y.EndOfList labels) are = omega arith
-  statements_size e t block count (Y.StmtThen labels first rest) are =
-      let a = statement_size e t block count first are.0 in
-      let c = statements_size e t block count rest are.1 in
+  pub statements_size : (e : Environment) (t : Taken) (block : ℕ) (types : Types) (body : Y.Stmts) → AreProvedStatements block types body → stmts_words body ≤ size_of (stmts_code e t body) + 1
+  statements_size e t block types (Y.EndOfList labels) are = omega arith
+  statements_size e t block types (Y.StmtThen labels first rest) are =
+      let a = statement_size e t block types first are.0 in
+      let c = statements_size e t block types rest are.1 in
       let s1 = size_append (marked e.block labels) (stmt_code e t first ++ stmts_code e t rest) in
       let s2 = size_append (stmt_code e t first) (stmts_code e t rest) in
       most _ _ _ (omega (arith, a, s1, s2)) (omega (arith, c, s1, s2))
@@ -324,17 +396,17 @@ mutual
 no_variable_words : (ds : List Y.DeclaredVariable) → ArePlain ds → variables_words ds ≡ 0
 no_variable_words [] are = refl
 no_variable_words (d ∷ ds) are =
-    ap (λ u. variables_words (u ∷ ds)) are.0 ∙ ap (λ n. max 0 n) (no_variable_words ds are.1)
+    by_plain (λ u. variables_words (u ∷ ds) ≡ max 0 (variables_words ds)) (λ p i. refl) (λ i. refl) d are.0 ∙ ap (λ n. max 0 n) (no_variable_words ds are.1)
 
 -- they are fewer than the words of its code
-pub procedure_size : (e : Environment) (head : Y.BlockHead) (count : ℕ) (body : Y.Stmts) → ArePlain (variables_of_block e.program head.number) → AreProvedStatements head.number count body → block_words e head.number (stmts_words body) ≤ size_of (procedure_in e head body [] None)
-procedure_size e head count body plain are =
+pub procedure_size : (e : Environment) (head : Y.BlockHead) (types : Types) (body : Y.Stmts) → ArePlain (variables_of_block e.program head.number) → AreProvedStatements head.number types body → block_words e head.number (stmts_words body) ≤ size_of (procedure_in e head body [] None)
+procedure_size e head types body plain are =
     let words = block_words e head.number (stmts_words body) in
     let begun = procedure_begun e head words [] in
     let code = stmts_code e none_taken body in
     let ended = procedure_ended e head words None in
     let none = no_variable_words (variables_of_block e.program head.number) plain in
-    let n = statements_size e none_taken head.number count body are in
+    let n = statements_size e none_taken head.number types body are in
     let s1 = size_append begun (code ++ ended) in
     let s2 = size_append code ended in
     let room : stmts_words body ≤ size_of (procedure_in e head body [] None) = omega (arith, n, s1, s2) in

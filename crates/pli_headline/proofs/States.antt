@@ -1,30 +1,31 @@
--- The state of a block whose variables hold numbers: variable j has serial j + 1.
-use Rattle.std.proofs.Common.{◌≡◌, ℕ, suc, ◌<◌, List, [], ◌∷◌, Some, Bool, true, false, refl, sym, ap, ◌∙◌, subst, arith}
-use Rattle.std.specs.Prelude.{ℤ, cond, ◌==◌, if◌then◌else◌}
+-- The state of a block whose variables are scalars: variable j has serial j + 1.
+use Rattle.std.proofs.Common.{◌≡◌, ℕ, suc, List, [], ◌∷◌, None, Some, Bool, true, false, refl, sym, ap, ◌∙◌, subst, arith}
+use Rattle.std.specs.Prelude.{ℤ, cond, ◌==◌, slice_get, if◌then◌else◌}
 use Rattle.std.proofs.lemmas.Bool.{eqb-true}
 use Rattle.std.proofs.lemmas.Bool.Decides.{nat_tests}
-use Rattle.pli_meaning.specs.BasicValues.{BasicValue, BasicNumber}
+use Rattle.pli_typing.specs.TypedTree as Y
+use Rattle.pli_meaning.specs.BasicValues.{BasicValue}
 use Rattle.pli_meaning.specs.Contents.{Generation}
 use Rattle.pli_meaning.specs.StorageState.{State, Living, generation_of, living_of, living_changed, generation_changed, standing_for, if_same_shape}
 use Rattle.pli_meaning.specs.Placing as P
-use Rattle.pli_headline.proofs.Numbers.{IsWide}
-use Rattle.pli_headline.proofs.Variables.{HoldsNumber, own, number_binding, number_generation, number_shape, designated_number}
+use Rattle.pli_headline.proofs.Scalars.{IsNumeric, Typed, by_type, value_as, Fits, fits_numeric}
+use Rattle.pli_headline.proofs.Variables.{HoldsScalar, own, scalar_binding, scalar_generation, scalar_shape, same_scalar, designated_scalar}
 use Rattle.pli_headline.proofs.Assignments.{assigned_state}
 
 abbrev pub with_number_at : (ℕ → ℤ) → ℕ → ℤ → ℕ → ℤ
 with_number_at numbers j z i = if i == j then z else numbers i
 
--- the variables of the block stand for generations that hold numbers
-pub record Holds (s : State) (block j : ℕ) (z : ℤ) : Type 0 where
+-- a variable of the block stands for a generation that holds the value of a number
+pub record Holds (s : State) (block j : ℕ) (type : Y.LeafType) (z : ℤ) : Type 0 where
   pub values : ℕ → List ℤ → BasicValue
-  pub stands : standing_for s (own block j) ≡ Some (number_binding j (suc j))
-  pub lives : generation_of (living_of s.living (suc j)) ≡ Some (number_generation values)
-  pub value : values 0 [] ≡ BasicNumber z
-  pub wide : IsWide z
+  pub stands : standing_for s (own block j) ≡ Some (scalar_binding type j (suc j))
+  pub lives : generation_of (living_of s.living (suc j)) ≡ Some (scalar_generation type values)
+  pub value : values 0 [] ≡ value_as type z
+  pub fits : Fits type z
 
-abbrev pub holds_number : {s : State} {block j : ℕ} {z : ℤ} → Holds s block j z → HoldsNumber s (own block j) z
-holds_number {j = j} h =
-    record { serial = suc j; values = h.values; stands = h.stands; lives = ap (if_same_shape number_shape) h.lives; value = h.value; wide = h.wide }
+abbrev pub holds_scalar : {s : State} {block j : ℕ} {type : Y.LeafType} {z : ℤ} → Holds s block j type z → HoldsScalar s (own block j) type z
+holds_scalar {j = j} {type = type} {z = z} h =
+    record { serial = suc j; values = h.values; stands = h.stands; lives = ap (if_same_shape (scalar_shape type)) h.lives ∙ ap (λ t. cond t (Some (scalar_generation type h.values)) None) (same_scalar type (fits_numeric type z h.fits)); value = h.value; fits = h.fits }
 
 -- ---- what lives after a change
 
@@ -56,23 +57,36 @@ changed_other (l ∷ ls) n m change other = changed_other_by (l.serial == n) l l
 
 -- ---- assignment
 
-holds_by : {s : State} {block j : ℕ} (q : Bool) (i : ℕ) (x z : ℤ) → (i == j) ≡ q → IsWide z → (h : Holds s block j x) (y : ℤ) → Holds s block i y → Holds (assigned_state s (suc j) h.values z) block i (cond q z y)
-holds_by {s} {block} {j} true i x z e wide h y o =
+-- what an element of a scalar holds once it is stored
+element_is : (type : Y.LeafType) → IsNumeric type → (serial : ℕ) (values : ℕ → List ℤ → BasicValue) (z : ℤ) → (P.with_element (designated_scalar type serial values) (value_as type z) (scalar_generation type values)).values 0 [] ≡ value_as type z
+element_is type is serial values z =
+    by_type (λ t. (P.with_element (designated_scalar t serial values) (value_as t z) (scalar_generation t values)).values 0 [] ≡ value_as t z) (λ p. refl) refl type is
+
+holds_by : {s : State} {block j : ℕ} {type : Y.LeafType} (q : Bool) (i : ℕ) (other : Y.LeafType) (x z : ℤ) → (i == j) ≡ q → (i ≡ j → other ≡ type) → Fits type z → (h : Holds s block j type x) (y : ℤ) → Holds s block i other y → Holds (assigned_state s type (suc j) h.values z) block i other (cond q z y)
+holds_by {s} {block} {j} {type} true i other x z e alike fits h y o =
     let same : i ≡ j = eqb-true i j e in
-    let change = P.with_element (designated_number (suc j) h.values) (BasicNumber z) in
-    subst (λ u. Holds (assigned_state s (suc j) h.values z) block u z) (sym same)
+    let change = P.with_element (designated_scalar type (suc j) h.values) (value_as type z) in
+    subst (λ w. Holds (assigned_state s type (suc j) h.values z) block i w z) (sym (alike same))
+    (subst (λ u. Holds (assigned_state s type (suc j) h.values z) block u type z) (sym same)
     (record {
-      values = (change (number_generation h.values)).values;
+      values = (change (scalar_generation type h.values)).values;
       stands = h.stands;
-      lives = changed_same s.living (suc j) change (number_generation h.values) h.lives;
-      value = refl;
-      wide = wide;
-    })
-holds_by {s} {block} {j} false i x z e wide h y o =
-    let change = P.with_element (designated_number (suc j) h.values) (BasicNumber z) in
-    let other : (suc j == suc i) ≡ false = grind (arith, nat_tests) in
-    record { values = o.values; stands = o.stands; lives = changed_other s.living (suc j) (suc i) change other ∙ o.lives; value = o.value; wide = o.wide }
+      lives = changed_same s.living (suc j) change (scalar_generation type h.values) h.lives;
+      value = element_is type (fits_numeric type z fits) (suc j) h.values z;
+      fits = fits;
+    }))
+holds_by {s} {block} {j} {type} false i other x z e alike fits h y o =
+    let change = P.with_element (designated_scalar type (suc j) h.values) (value_as type z) in
+    let apart : (suc j == suc i) ≡ false = grind (arith, nat_tests) in
+    record { values = o.values; stands = o.stands; lives = changed_other s.living (suc j) (suc i) change apart ∙ o.lives; value = o.value; fits = o.fits }
+
+-- the types of a place are one
+pub one_type : (types : List Y.LeafType) (i j : ℕ) (type other : Y.LeafType) → slice_get types j ≡ Some type → slice_get types i ≡ Some other → i ≡ j → other ≡ type
+one_type types i j type other h k e =
+    let both : Some other ≡ Some type = sym k ∙ ap (λ n. slice_get types n) e ∙ h in
+    cc both
 
 -- the numbers after one is assigned
-pub holds_assigned : {s : State} {block j : ℕ} (count : ℕ) (numbers : ℕ → ℤ) (z : ℤ) → IsWide z → (h : Holds s block j (numbers j)) → ((i : ℕ) → i < count → Holds s block i (numbers i)) → (i : ℕ) → i < count → Holds (assigned_state s (suc j) h.values z) block i (with_number_at numbers j z i)
-holds_assigned {j = j} count numbers z wide h all i below = holds_by (i == j) i (numbers j) z refl wide h (numbers i) (all i below)
+pub holds_assigned : {s : State} {block j : ℕ} (types : List Y.LeafType) {type : Y.LeafType} (numbers : ℕ → ℤ) (z : ℤ) (below : slice_get types j ≡ Some type) → Fits type z → (h : Holds s block j type (numbers j)) → ((i : ℕ) (b : Typed types i) → Holds s block i b.0 (numbers i)) → (i : ℕ) (b : Typed types i) → Holds (assigned_state s type (suc j) h.values z) block i b.0 (with_number_at numbers j z i)
+holds_assigned {j = j} types {type} numbers z below fits h all i b =
+    holds_by (i == j) i b.0 (numbers j) z refl (one_type types i j type b.0 below b.1) fits h (numbers i) (all i b)

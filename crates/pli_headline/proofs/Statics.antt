@@ -1,7 +1,7 @@
 -- The data that code names stands in the first memory of its image, each with its bytes at its place.
 use Rattle.std.proofs.Common.{◌≡◌, ℕ, ◌+◌, ◌-◌, ◌*◌, ◌^◌, ◌<◌, ◌≤◌, List, [], ◌∷◌, ◌++◌, length, Bool, true, false, refl, sym, ap, ◌∙◌, subst, arith, length-append}
 use Rattle.std.specs.Prelude.{cond, ◌||◌, map, replicate, slice_index}
-use Rattle.std.specs.List.{flat_map, list_any}
+use Rattle.std.specs.List.{flat_map, filter, list_any}
 use Rattle.std.proofs.lemmas.List.{append_assoc, length-map, length-replicate, get_or_append_left, get_or-append-add}
 use Rattle.rv_meaning.specs.Words.{sum}
 use Rattle.rv_meaning.specs.Memory.{bytes_of_words}
@@ -11,14 +11,14 @@ use Rattle.rv_meaning.proofs.ImageBytes.{length-bytes_of_words}
 use Rattle.pli_typing.specs.Signatures.{rounded_up}
 use Rattle.pli_meaning.specs.Headline.{first_bytes}
 use Rattle.pli_coding.specs.Assembly.{InitialLeaf, Datum, ConstantBytes, InitialValues, NumberWord, StaticStorage, same_datum, DataPlace, Code, size_of}
-use Rattle.pli_coding.specs.StaticData.{datum_size, is_storage, begins_at, PlacedDatum, placed_from, datum_place, leaf_bytes, datum_bytes, bytes_from, static_data}
+use Rattle.pli_coding.specs.StaticData.{once, is_initial, is_constant, is_word, is_storage, values_of, datum_size, begins_at, PlacedDatum, placed_from, datum_place, leaf_bytes, datum_bytes, bytes_from, static_data}
 use Rattle.pli_coding.specs.Linking.{place_of, data_start, links_of, data_bytes}
 use Rattle.pli_coding.specs.Images.{linked_code, picture_of_code}
 use Rattle.pli_headline.specs.Headline.{FitsMemory}
 use Rattle.pli_headline.proofs.Engine.{Base}
 use Rattle.pli_headline.proofs.Linking.{linked_length}
 use Rattle.pli_headline.proofs.DataNamed.{IsNamed, BytesStand}
-use Rattle.pli_headline.proofs.DataOnce.{Has, same_datum-equal, static_has}
+use Rattle.pli_headline.proofs.DataOnce.{Has, same_datum-equal, AreInitial, filtered_initial, named_once, initial_has, static_has}
 
 -- ---- bytes within others, from an index on
 
@@ -150,6 +150,26 @@ stands_from all (x ∷ ds) at d h =
     stands_by (same_datum d x) all ds at next (datum_place d (placed_from next ds)) x d refl refl
     (λ no'. stands_from all ds next d (in_rest (same_datum d x) (list_any (same_datum d) ds) no' h))
 
+-- lists of INITIAL values stand before what they lead to
+place_by : (q : Bool) (xs ys : List Datum) (at : ℕ) (x l v : Datum) → same_datum l x ≡ q → same_datum v x ≡ false → Has (xs ++ ys) v → (q ≡ false → datum_place l (placed_from (begins_at x at + datum_size x) (xs ++ ys)) ≤ datum_place v (placed_from (begins_at x at + datum_size x) (xs ++ ys))) → cond q (begins_at x at) (datum_place l (placed_from (begins_at x at + datum_size x) (xs ++ ys))) ≤ datum_place v (placed_from (begins_at x at + datum_size x) (xs ++ ys))
+place_by true xs ys at x l v e other has later =
+    let s = (stands_from [] (xs ++ ys) (begins_at x at + datum_size x) v has).later in
+    omega (arith, s)
+place_by false xs ys at x l v e other has later = later refl
+
+other_datum : (q : Bool) (x v : Datum) → same_datum v x ≡ q → is_initial x ≡ true → is_initial v ≡ false → same_datum v x ≡ false
+other_datum true x v e h k = let same = ap is_initial (same_datum-equal v x e) in absurd (cc (same, h, k))
+other_datum false x v e h k = e
+
+place_before : (xs ys : List Datum) (at : ℕ) (l v : Datum) → AreInitial xs → Has xs l → is_initial v ≡ false → Has (xs ++ ys) v → datum_place l (placed_from at (xs ++ ys)) ≤ datum_place v (placed_from at (xs ++ ys))
+place_before [] ys at l v are h k has = absurd (cc h)
+place_before (x ∷ xs) ys at l v are h k has =
+    let next = begins_at x at + datum_size x in
+    let other = other_datum (same_datum v x) x v refl are.0 k in
+    let rest = in_rest (same_datum v x) (list_any (same_datum v) (xs ++ ys)) other has in
+    let place = place_by (same_datum l x) xs ys at x l v refl other rest (λ no'. place_before xs ys next l v are.1 (in_rest (same_datum l x) (list_any (same_datum l) xs) no' h) k rest) in
+    subst (λ t. cond (same_datum l x) (begins_at x at) (datum_place l (placed_from next (xs ++ ys))) ≤ cond t (begins_at x at) (datum_place v (placed_from next (xs ++ ys)))) (sym other) place
+
 -- ---- in the first memory
 
 -- what stands within static bytes stands in memory, from the next multiple of 16 behind the code on
@@ -177,12 +197,12 @@ place_in code d = datum_place d (links_of code).data'
 abbrev pub bytes_in : Code → Datum → List ℕ
 bytes_in code d = datum_bytes (links_of code).data' (place_in code d) d
 
-datum_within : (code : Code) (d : Datum) → IsNamed d code → (data_start code ≤ place_in code d) × Within (data_bytes code) (place_in code d - data_start code) (bytes_in code d)
+datum_within : (code : Code) (d : Datum) → Has (static_data code) d → (data_start code ≤ place_in code d) × Within (data_bytes code) (place_in code d - data_start code) (bytes_in code d)
 datum_within code d h =
-    let s = stands_from (links_of code).data' (static_data code) (data_start code) d (static_has code d h) in
+    let s = stands_from (links_of code).data' (static_data code) (data_start code) d h in
     (s.later, s.within)
 
-in_memory : (code : Code) (d : Datum) → IsNamed d code → Within (first_bytes (picture_of_code code)) (place_in code d) (bytes_in code d)
+in_memory : (code : Code) (d : Datum) → Has (static_data code) d → Within (first_bytes (picture_of_code code)) (place_in code d) (bytes_in code d)
 in_memory code d h =
     let s = datum_within code d h in
     let words = bytes_of_words (map word_of (linked_code code)) in
@@ -197,9 +217,9 @@ in_memory code d h =
 start_near : (n : ℕ) → n ≤ 2 ^ 20 → (4 * n ≤ rounded_up 16 (4 * n)) × (rounded_up 16 (4 * n) ≤ 4 * 2 ^ 20)
 start_near n h = (omega arith, omega (arith, h))
 
--- every datum that is named stands with its bytes
-pub datum_stands : (code : Code) → FitsMemory (picture_of_code code) → (d : Datum) → IsNamed d code → BytesStand (linked_code code) (first_bytes (picture_of_code code)) (place_in code d) (bytes_in code d)
-datum_stands code fits d h =
+-- every datum stands with its bytes
+pub datum_there : (code : Code) → FitsMemory (picture_of_code code) → (d : Datum) → Has (static_data code) d → BytesStand (linked_code code) (first_bytes (picture_of_code code)) (place_in code d) (bytes_in code d)
+datum_there code fits d h =
     let s = datum_within code d h in
     let small' = fits.code_fits in
     let few = fits.statics_fit in
@@ -213,11 +233,15 @@ datum_stands code fits d h =
       bytes_are = λ k below. within_byte (first_bytes (picture_of_code code)) (place_in code d) (bytes_in code d) k below (in_memory code d h);
     }
 
+-- so does one that is named
+pub datum_stands : (code : Code) → FitsMemory (picture_of_code code) → (d : Datum) → IsNamed d code → BytesStand (linked_code code) (first_bytes (picture_of_code code)) (place_in code d) (bytes_in code d)
+datum_stands code fits d h = datum_there code fits d (static_has code d h)
+
 -- constant bytes stand where they are said to
-pub constant_stands : (code : Code) → FitsMemory (picture_of_code code) → (bytes : List ℕ) → IsNamed (ConstantBytes bytes) code → BytesStand (linked_code code) (first_bytes (picture_of_code code)) (place_in code (ConstantBytes bytes)) bytes
-constant_stands code fits bytes h =
+pub constant_there : (code : Code) → FitsMemory (picture_of_code code) → (bytes : List ℕ) → Has (static_data code) (ConstantBytes bytes) → BytesStand (linked_code code) (first_bytes (picture_of_code code)) (place_in code (ConstantBytes bytes)) bytes
+constant_there code fits bytes h =
     let d = ConstantBytes bytes in
-    let s = datum_stands code fits d h in
+    let s = datum_there code fits d h in
     let padding : List ℕ = replicate (rounded_up 4 (length bytes) - length bytes) 0 in
     let e = length-append bytes padding in
     let end = s.inside in
@@ -226,6 +250,15 @@ constant_stands code fits bytes h =
       inside = omega (arith, end, e);
       bytes_are = λ k below. within_byte (first_bytes (picture_of_code code)) (place_in code d) bytes k below (within_front (first_bytes (picture_of_code code)) (place_in code d) bytes padding (in_memory code d h));
     }
+
+pub constant_stands : (code : Code) → FitsMemory (picture_of_code code) → (bytes : List ℕ) → IsNamed (ConstantBytes bytes) code → BytesStand (linked_code code) (first_bytes (picture_of_code code)) (place_in code (ConstantBytes bytes)) bytes
+constant_stands code fits bytes h = constant_there code fits bytes (static_has code (ConstantBytes bytes) h)
+
+-- INITIAL values stand behind the list that leads to them
+pub values_behind : (code : Code) (l : InitialLeaf) → IsNamed (InitialValues (l ∷ [])) code → Has (static_data code) (ConstantBytes l.values) → place_in code (InitialValues (l ∷ [])) ≤ place_in code (ConstantBytes l.values)
+values_behind code l h has =
+    let named = named_once code in
+    place_before (filter is_initial named) (once [] (filter is_constant named ++ flat_map values_of named) ++ (filter is_word named ++ filter is_storage named)) (data_start code) (InitialValues (l ∷ [])) (ConstantBytes l.values) (filtered_initial named) (initial_has code (l ∷ []) h) refl has
 
 -- so does the sum of the base and its offset point there
 pub datum_pointed : (code : Code) → FitsMemory (picture_of_code code) → (d : Datum) → IsNamed d code → (b : Base) → sum b.at (place_of (links_of code) (DataPlace d)) ≡ b.at + place_in code d

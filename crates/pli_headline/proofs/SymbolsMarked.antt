@@ -1,28 +1,25 @@
--- The symbols that code marks. The code of expressions, assignments and PUT marks none.
-use Rattle.std.proofs.Common.{◌≡◌, ℕ, List, [], ◌∷◌, ◌++◌, Some, Bool, true, false, refl, ap, ◌∙◌, append-nil}
-use Rattle.std.specs.Prelude.{ℤ, pos, cond, nat_lt, ◌&&◌}
+-- The symbols that code marks. The code of expressions and assignments marks none.
+use Rattle.std.proofs.Common.{◌≡◌, ℕ, List, [], ◌∷◌, ◌++◌, Bool, true, false, refl, ap, ◌∙◌, append-nil}
+use Rattle.std.specs.Prelude.{ℤ, pos, cond, nat_lt}
 use Rattle.rv_meaning.specs.declared.instr.Register.{Register}
 use Rattle.rv_meaning.specs.declared.instr.RegisterOp.TheVariants as Op
-use Rattle.rv_meaning.specs.declared.instr.BranchTest.TheVariants as Test
 use Rattle.pli_language.specs.declared.condition.Condition.TheVariants as C
-use Rattle.pli_language.specs.Tree as T
 use Rattle.pli_typing.specs.TypedTree as Y
 use Rattle.pli_meaning.specs.Codes.{fixed_overflow_code}
 use Rattle.pli_meaning.specs.Numbers.{operator_precision}
 use Rattle.pli_coding.specs.Registers.{frame_register, a0, a1, u1, u2}
-use Rattle.pli_coding.specs.Assembly.{Symbol, Plain, BaseIn, OffsetOf, OffsetAhead, JumpTo, CallTo, JumpAhead, JumpBack, Mark, Code, size_of}
-use Rattle.pli_coding.specs.Instructions.{registers, is_immediate, small, constant, number, plus, load_word, store_word, choice, service}
+use Rattle.pli_coding.specs.Assembly.{Symbol, Plain, BaseIn, OffsetOf, OffsetAhead, JumpTo, CallTo, JumpAhead, JumpBack, Mark, Code}
+use Rattle.pli_coding.specs.Instructions.{registers, is_immediate, small, constant, number, plus, load_word, store_word, service}
 use Rattle.pli_coding.specs.Frames.{words_place}
 use Rattle.pli_coding.specs.Environments.{Environment, Taken, is_register_left, with_number, save, fetch}
 use Rattle.pli_coding.specs.Arithmetic.{raised, overflow_raised, calculated_code, quotient_checked, narrowed_code, fitted_code, divided_code, signed_code, absolute_code, sign_code, modulo_code, extreme_code, negated_code, combined_code, compared_code}
 use Rattle.pli_coding.specs.Locating.{stored}
 use Rattle.pli_coding.specs.Expressions.{number_code, extremes_code, bit_code, type_in, address_in}
 use Rattle.pli_coding.specs.Storing.{word_stored}
-use Rattle.pli_coding.specs.Streams.{has_fixed, has_text, number_written, text_written, number_put, as_text, item_put, items_put, edit_ended, put_pair, put_pairs, skip_option}
 use Rattle.pli_coding.specs.Allocating.{act_code}
-use Rattle.pli_headline.specs.ProvedSoFar.{IsOwnNumber, IsProvedNumber, AreProvedNumbers, IsProvedBit, IsProvedItem, AreProvedItems, AreProvedPairs}
-use Rattle.pli_headline.proofs.Variables.{outermost, own, whole, data_place, number_loaded, number_reached, number_stored}
-use Rattle.pli_headline.proofs.CodeSizes.{HasPlain, declared_plain}
+use Rattle.pli_headline.specs.ProvedSoFar.{Types, IsOwn, IsProvedNumber, AreProvedNumbers, IsProvedBit}
+use Rattle.pli_headline.proofs.Scalars.{IsNumeric, Typed}
+use Rattle.pli_headline.proofs.Variables.{IsDeclared, outermost, own, whole, data_place, scalar_loaded, scalar_stored, number_loaded, bit_loaded, scalar_reached, scalar_kept}
 
 abbrev pub symbols_marked : Code → List Symbol
 symbols_marked [] = []
@@ -73,10 +70,10 @@ store_none rs value z = either (is_immediate z) _ _ refl refl
 pub plus_none : (rd rs : Register) (z : ℤ) → Marks (plus rd rs z) []
 plus_none rd rs z = either (is_immediate z) _ _ refl refl
 
-saved_none : (r : Register) (t : Taken) → Marks (save r t) []
+pub saved_none : (r : Register) (t : Taken) → Marks (save r t) []
 saved_none r t = either (is_register_left t) _ _ refl (store_none frame_register r (words_place t.words 1))
 
-fetched_none : (r : Register) (t : Taken) → Marks (fetch r t) []
+pub fetched_none : (r : Register) (t : Taken) → Marks (fetch r t) []
 fetched_none r t = either (is_register_left t) _ _ refl (load_none r frame_register (words_place t.words 1))
 
 pub overflow_none : (t : Taken) → Marks (overflow_raised t) []
@@ -122,12 +119,29 @@ compared_none Y.IsGreaterOrEqual = refl
 
 -- ---- expressions
 
-pub reference_none : (e : Environment) (t : Taken) (block count : ℕ) (r : Y.Reference) → HasPlain e block count → IsOwnNumber block count r → Marks (number_code (outermost e) t (Y.NumberIn r)) []
-reference_none e t block count r has is =
-    let d = declared_plain e block count is.index has is.declared in
-    let same : number_code (outermost e) t (Y.NumberIn r) ≡ load_word a0 frame_register (pos (data_place e block is.index)) =
-    ap (λ q. number_code (outermost e) t (Y.NumberIn q)) is.is ∙ number_loaded e t block is.index d in
-    ap symbols_marked same ∙ load_none a0 frame_register (pos (data_place e block is.index))
+-- the code of a block with variables of these types
+abbrev pub HasTypes : Environment → (block : ℕ) → Types → Type 0
+HasTypes e block types = (j : ℕ) (b : Typed types j) → IsDeclared e block j b.0
+
+loaded_none : (type : Y.LeafType) (place : ℕ) → Marks (scalar_loaded type place) []
+loaded_none type place = either (is_immediate (pos place)) _ _ refl refl
+
+kept_none : (type : Y.LeafType) (place : ℕ) → Marks (scalar_stored type place) []
+kept_none type place = either (is_immediate (pos place)) _ _ refl refl
+
+pub reference_none : (e : Environment) (t : Taken) (block : ℕ) (types : Types) (p : ℕ) (r : Y.Reference) → HasTypes e block types → IsOwn block types (Y.FixedLeaf p) r → Marks (number_code (outermost e) t (Y.NumberIn r)) []
+reference_none e t block types p r has is =
+    let place = data_place e block is.index in
+    let same : number_code (outermost e) t (Y.NumberIn r) ≡ scalar_loaded (Y.FixedLeaf p) place =
+    ap (λ q. number_code (outermost e) t (Y.NumberIn q)) is.is ∙ number_loaded e t block is.index p (has is.index (Y.FixedLeaf p, is.declared)) in
+    ap symbols_marked same ∙ loaded_none (Y.FixedLeaf p) place
+
+bit_reference_none : (e : Environment) (t : Taken) (block : ℕ) (types : Types) (r : Y.Reference) → HasTypes e block types → IsOwn block types Y.BitLeaf r → Marks (bit_code (outermost e) t (Y.BitIn r)) []
+bit_reference_none e t block types r has is =
+    let place = data_place e block is.index in
+    let same : bit_code (outermost e) t (Y.BitIn r) ≡ scalar_loaded Y.BitLeaf place =
+    ap (λ q. bit_code (outermost e) t (Y.BitIn q)) is.is ∙ bit_loaded e t block is.index (has is.index (Y.BitLeaf, is.declared)) in
+    ap symbols_marked same ∙ loaded_none Y.BitLeaf place
 
 -- two operands, the first of which waits
 operands_none : (a c last : Code) (t : Taken) → Marks a [] → Marks c [] → Marks last [] → Marks (a ++ (save a0 t ++ (c ++ (fetch u1 t ++ last)))) []
@@ -137,111 +151,80 @@ operands_none a c last t h k m =
     (behind c (fetch u1 t ++ last) [] k (behind (fetch u1 t) last [] (fetched_none u1 t) m)))
 
 mutual
-  pub number_none : (e : Environment) (t : Taken) (block count : ℕ) (x : Y.Number) → HasPlain e block count → IsProvedNumber block count x → Marks (number_code (outermost e) t x) []
-  number_none e t block count (Y.NumberConstant n) has is = constant_none a0 (pos n)
-  number_none e t block count (Y.NumberIn r) has is = reference_none e t block count r has is
-  number_none e t block count (Y.NumberOfBit x) has is = bit_none e t block count x has is
-  number_none e t block count (Y.Signed sign x) has is =
-      behind (number_code (outermost e) t x) (signed_code t sign) [] (number_none e t block count x has is) (sign_none t sign)
-  number_none e t block count (Y.Calculated operator left right) has is =
+  pub number_none : (e : Environment) (t : Taken) (block : ℕ) (types : Types) (x : Y.Number) → HasTypes e block types → IsProvedNumber block types x → Marks (number_code (outermost e) t x) []
+  number_none e t block types (Y.NumberConstant n) has is = constant_none a0 (pos n)
+  number_none e t block types (Y.NumberIn r) has is = reference_none e t block types is.precision r has is.own
+  number_none e t block types (Y.NumberOfBit x) has is = bit_none e t block types x has is
+  number_none e t block types (Y.Signed sign x) has is =
+      behind (number_code (outermost e) t x) (signed_code t sign) [] (number_none e t block types x has is) (sign_none t sign)
+  number_none e t block types (Y.Calculated operator left right) has is =
       operands_none (number_code (outermost e) t left) (number_code (outermost e) (with_number t) right) (calculated_code t operator) t
-      (number_none e t block count left has is.0) (number_none e (with_number t) block count right has is.1) (calculated_none t operator)
-  number_none e t block count (Y.Absolute x) has is =
-      behind (number_code (outermost e) t x) (absolute_code t) [] (number_none e t block count x has is) (overflow_none t)
-  number_none e t block count (Y.SignOf x) has is =
-      behind (number_code (outermost e) t x) sign_code [] (number_none e t block count x has is) refl
-  number_none e t block count (Y.Extreme extremum first more) has is =
-      behind (number_code (outermost e) t first) (extremes_code (outermost e) t extremum more) [] (number_none e t block count first has is.0) (numbers_none e t block count extremum more has is.1)
-  number_none e t block count (Y.Modulo dividend divisor) has is =
+      (number_none e t block types left has is.0) (number_none e (with_number t) block types right has is.1) (calculated_none t operator)
+  number_none e t block types (Y.Absolute x) has is =
+      behind (number_code (outermost e) t x) (absolute_code t) [] (number_none e t block types x has is) (overflow_none t)
+  number_none e t block types (Y.SignOf x) has is =
+      behind (number_code (outermost e) t x) sign_code [] (number_none e t block types x has is) refl
+  number_none e t block types (Y.Extreme extremum first more) has is =
+      behind (number_code (outermost e) t first) (extremes_code (outermost e) t extremum more) [] (number_none e t block types first has is.0) (numbers_none e t block types extremum more has is.1)
+  number_none e t block types (Y.Modulo dividend divisor) has is =
       operands_none (number_code (outermost e) t dividend) (number_code (outermost e) (with_number t) divisor) modulo_code t
-      (number_none e t block count dividend has is.0) (number_none e (with_number t) block count divisor has is.1) refl
-  number_none e t block count (Y.Divided precision dividend divisor) has is =
+      (number_none e t block types dividend has is.0) (number_none e (with_number t) block types divisor has is.1) refl
+  number_none e t block types (Y.Divided precision dividend divisor) has is =
       operands_none (number_code (outermost e) t dividend) (number_code (outermost e) (with_number t) divisor) (divided_code t precision) t
-      (number_none e t block count dividend has is.1.0) (number_none e (with_number t) block count divisor has is.1.1) (divided_none t precision)
-  number_none e t block count _ has is = absurd is
+      (number_none e t block types dividend has is.1.0) (number_none e (with_number t) block types divisor has is.1.1) (divided_none t precision)
+  number_none e t block types _ has is = absurd is
 
-  numbers_none : (e : Environment) (t : Taken) (block count : ℕ) (extremum : Y.Extremum) (xs : Y.Numbers) → HasPlain e block count → AreProvedNumbers block count xs → Marks (extremes_code (outermost e) t extremum xs) []
-  numbers_none e t block count extremum Y.NoNumber has are = refl
-  numbers_none e t block count extremum (Y.NumberThen first rest) has are =
+  numbers_none : (e : Environment) (t : Taken) (block : ℕ) (types : Types) (extremum : Y.Extremum) (xs : Y.Numbers) → HasTypes e block types → AreProvedNumbers block types xs → Marks (extremes_code (outermost e) t extremum xs) []
+  numbers_none e t block types extremum Y.NoNumber has are = refl
+  numbers_none e t block types extremum (Y.NumberThen first rest) has are =
       let c = number_code (outermost e) (with_number t) first in
       let further = extreme_code extremum in
       let more = extremes_code (outermost e) t extremum rest in
       behind (save a0 t) (c ++ (fetch u1 t ++ (further ++ more))) [] (saved_none a0 t)
-      (behind c (fetch u1 t ++ (further ++ more)) [] (number_none e (with_number t) block count first has are.0)
+      (behind c (fetch u1 t ++ (further ++ more)) [] (number_none e (with_number t) block types first has are.0)
       (behind (fetch u1 t) (further ++ more) [] (fetched_none u1 t)
-      (behind further more [] (extreme_none extremum) (numbers_none e t block count extremum rest has are.1))))
+      (behind further more [] (extreme_none extremum) (numbers_none e t block types extremum rest has are.1))))
 
-  pub bit_none : (e : Environment) (t : Taken) (block count : ℕ) (x : Y.Bit) → HasPlain e block count → IsProvedBit block count x → Marks (bit_code (outermost e) t x) []
-  bit_none e t block count (Y.BitConstant true) has is = refl
-  bit_none e t block count (Y.BitConstant false) has is = refl
-  bit_none e t block count (Y.Negated x) has is =
-      behind (bit_code (outermost e) t x) (negated_code ∷ []) [] (bit_none e t block count x has is) refl
-  bit_none e t block count (Y.Combined operator left right) has is =
+  pub bit_none : (e : Environment) (t : Taken) (block : ℕ) (types : Types) (x : Y.Bit) → HasTypes e block types → IsProvedBit block types x → Marks (bit_code (outermost e) t x) []
+  bit_none e t block types (Y.BitConstant true) has is = refl
+  bit_none e t block types (Y.BitConstant false) has is = refl
+  bit_none e t block types (Y.BitIn r) has is = bit_reference_none e t block types r has is
+  bit_none e t block types (Y.Negated x) has is =
+      behind (bit_code (outermost e) t x) (negated_code ∷ []) [] (bit_none e t block types x has is) refl
+  bit_none e t block types (Y.Combined operator left right) has is =
       operands_none (bit_code (outermost e) t left) (bit_code (outermost e) (with_number t) right) (combined_code operator ∷ []) t
-      (bit_none e t block count left has is.0) (bit_none e (with_number t) block count right has is.1) (combined_none operator)
-  bit_none e t block count (Y.NumbersCompared comparison left right) has is =
+      (bit_none e t block types left has is.0) (bit_none e (with_number t) block types right has is.1) (combined_none operator)
+  bit_none e t block types (Y.NumbersCompared comparison left right) has is =
       operands_none (number_code (outermost e) t left) (number_code (outermost e) (with_number t) right) (compared_code comparison) t
-      (number_none e t block count left has is.0) (number_none e (with_number t) block count right has is.1) (compared_none comparison)
-  bit_none e t block count (Y.BitsCompared comparison left right) has is =
+      (number_none e t block types left has is.0) (number_none e (with_number t) block types right has is.1) (compared_none comparison)
+  bit_none e t block types (Y.BitsCompared comparison left right) has is =
       operands_none (bit_code (outermost e) t left) (bit_code (outermost e) (with_number t) right) (compared_code comparison) t
-      (bit_none e t block count left has is.0) (bit_none e (with_number t) block count right has is.1) (compared_none comparison)
-  bit_none e t block count _ has is = absurd is
-
--- ---- PUT
-
-chosen_none : (f w : Bool) (fixed text : Code) → Marks fixed [] → Marks text [] → Marks (cond (f && w) (small u1 1 ∷ choice Test.Equal a0 u1 fixed text) (cond f fixed text)) []
-chosen_none true true fixed text h k =
-    behind (text ++ JumpAhead (size_of fixed) ∷ []) fixed [] (behind text (JumpAhead (size_of fixed) ∷ []) [] k refl) h
-chosen_none true false fixed text h k = h
-chosen_none false true fixed text h k = k
-chosen_none false false fixed text h k = k
-
-put_none : (t : Taken) (formats : T.Formats) (precision : ℕ) → Marks (number_put t formats (as_text precision)) []
-put_none t formats precision =
-    let fixed = fetch a0 t ++ number_written in
-    let text = fetch a0 t ++ (as_text precision ++ text_written) in
-    chosen_none (has_fixed formats) (has_text formats) fixed text (behind (fetch a0 t) number_written [] (fetched_none a0 t) refl) (behind (fetch a0 t) (as_text precision ++ text_written) [] (fetched_none a0 t) refl)
-
-item_none : (e : Environment) (t : Taken) (block count : ℕ) (formats : T.Formats) (i : Y.PutItem) → HasPlain e block count → IsProvedItem block count i → Marks (item_put (outermost e) t formats i) []
-item_none e t block count formats (Y.PutValue (Y.NumberValue precision x)) has is =
-    let put = number_put t formats (as_text precision) in
-    behind (number_code (outermost e) t x) (save a0 t ++ put) [] (number_none e t block count x has is)
-    (behind (save a0 t) put [] (saved_none a0 t) (put_none t formats precision))
-item_none e t block count formats _ has is = absurd is
-
-items_none : (e : Environment) (t : Taken) (block count : ℕ) (formats : T.Formats) (is : List Y.PutItem) → HasPlain e block count → AreProvedItems block count is → Marks (items_put (outermost e) t formats is) []
-items_none e t block count formats [] has are = refl
-items_none e t block count formats (i ∷ is) has are =
-    behind (item_put (outermost e) t formats i) (items_put (outermost e) t formats is) [] (item_none e t block count formats i has are.0) (items_none e t block count formats is has are.1)
-
-pub pairs_none : (e : Environment) (t : Taken) (block count : ℕ) (ps : List Y.PutPair) → HasPlain e block count → AreProvedPairs block count ps → Marks (put_pairs (outermost e) t ps) []
-pairs_none e t block count [] has are = refl
-pairs_none e t block count (p ∷ ps) has are =
-    let items = items_put (outermost e) t p.formats p.items in
-    let first : Marks (put_pair (outermost e) t p) [] = behind items edit_ended [] (items_none e t block count p.formats p.items has are.0) refl in
-    behind (put_pair (outermost e) t p) (put_pairs (outermost e) t ps) [] first (pairs_none e t block count ps has are.1.1)
-
-pub skip_none : (n : ℕ) → Marks (skip_option 1 (Some n)) []
-skip_none n = behind (number a0 n) (small a1 1 ∷ service 39) [] (constant_none a0 (pos n)) refl
+      (bit_none e t block types left has is.0) (bit_none e (with_number t) block types right has is.1) (compared_none comparison)
+  bit_none e t block types _ has is = absurd is
 
 -- ---- assignments
 
-pub target_none : (e : Environment) (t : Taken) (block count : ℕ) (r : Y.Reference) → HasPlain e block count → IsOwnNumber block count r → Marks (word_stored (outermost e) t r) []
-target_none e t block count r has is =
-    let d = declared_plain e block count is.index has is.declared in
-    let place : ℤ = pos (data_place e block is.index) in
-    let into = store_word frame_register a0 place in
+pub target_none : (e : Environment) (t : Taken) (block : ℕ) (types : Types) (type : Y.LeafType) (r : Y.Reference) → IsNumeric type → HasTypes e block types → IsOwn block types type r → Marks (word_stored (outermost e) t r) []
+target_none e t block types type r numeric has is =
+    let d = has is.index (type, is.declared) in
+    let place = data_place e block is.index in
+    let into = scalar_stored type place in
     let same : word_stored (outermost e) t r ≡ save a0 t ++ ([] ++ (fetch a0 t ++ into)) =
     ap (λ q. word_stored (outermost e) t q) is.is
-    ∙ ap (λ c. save a0 t ++ (c ++ (fetch a0 t ++ stored (type_in (outermost e) (whole (own block is.index))) a0 (address_in (outermost e) (whole (own block is.index)))))) (number_reached e (with_number t) block is.index d)
-    ∙ ap (λ c. save a0 t ++ ([] ++ (fetch a0 t ++ c))) (number_stored e block is.index d) in
+    ∙ ap (λ c. save a0 t ++ (c ++ (fetch a0 t ++ stored (type_in (outermost e) (whole (own block is.index))) a0 (address_in (outermost e) (whole (own block is.index)))))) (scalar_reached e (with_number t) block is.index type numeric d)
+    ∙ ap (λ c. save a0 t ++ ([] ++ (fetch a0 t ++ c))) (scalar_kept e block is.index type numeric d) in
     ap symbols_marked same
     ∙ behind (save a0 t) (fetch a0 t ++ into) [] (saved_none a0 t)
-    (behind (fetch a0 t) into [] (fetched_none a0 t) (store_none frame_register a0 place))
+    (behind (fetch a0 t) into [] (fetched_none a0 t) (kept_none type place))
 
 -- a number that is stored
-pub stored_none : (e : Environment) (t : Taken) (block count precision : ℕ) (r : Y.Reference) (x : Y.Number) → HasPlain e block count → IsOwnNumber block count r → IsProvedNumber block count x → Marks ((number_code (outermost e) t x ++ fitted_code t precision) ++ word_stored (outermost e) t r) []
-stored_none e t block count precision r x has own' is =
+pub stored_none : (e : Environment) (t : Taken) (block : ℕ) (types : Types) (precision : ℕ) (r : Y.Reference) (x : Y.Number) → HasTypes e block types → IsOwn block types (Y.FixedLeaf precision) r → IsProvedNumber block types x → Marks ((number_code (outermost e) t x ++ fitted_code t precision) ++ word_stored (outermost e) t r) []
+stored_none e t block types precision r x has own' is =
     let code = number_code (outermost e) t x in
     let fitted = fitted_code t precision in
-    behind (code ++ fitted) (word_stored (outermost e) t r) [] (behind code fitted [] (number_none e t block count x has is) (fitted_none t precision)) (target_none e t block count r has own')
+    behind (code ++ fitted) (word_stored (outermost e) t r) [] (behind code fitted [] (number_none e t block types x has is) (fitted_none t precision)) (target_none e t block types (Y.FixedLeaf precision) r tt has own')
+
+-- a bit that is stored
+pub bit_stored_none : (e : Environment) (t : Taken) (block : ℕ) (types : Types) (r : Y.Reference) (x : Y.Bit) → HasTypes e block types → IsOwn block types Y.BitLeaf r → IsProvedBit block types x → Marks (bit_code (outermost e) t x ++ word_stored (outermost e) t r) []
+bit_stored_none e t block types r x has own' is =
+    behind (bit_code (outermost e) t x) (word_stored (outermost e) t r) [] (bit_none e t block types x has is) (target_none e t block types Y.BitLeaf r tt has own')

@@ -1,6 +1,6 @@
 -- The tests of a turn of DO with a variable that counts: the limit, and then WHILE.
-use Rattle.std.proofs.Common.{◌≡◌, ℕ, ◌+◌, ◌<◌, ◌≤◌, List, [], ◌∷◌, ◌++◌, length, Option, None, Some, Bool, true, false, refl, sym, ap, ◌∙◌, subst, arith}
-use Rattle.std.specs.Prelude.{ℤ, ◌==◌, if◌then◌else◌}
+use Rattle.std.proofs.Common.{◌≡◌, ℕ, ◌+◌, ◌≤◌, List, [], ◌∷◌, ◌++◌, length, Option, None, Some, Bool, true, false, refl, sym, ap, ◌∙◌, subst, arith}
+use Rattle.std.specs.Prelude.{ℤ, ◌==◌, slice_get, if◌then◌else◌}
 use Rattle.rv_meaning.specs.declared.instr.Instr.{Instr}
 use Rattle.rv_meaning.specs.declared.instr.RegisterOp.TheVariants as Op
 use Rattle.rv_meaning.specs.declared.instr.BranchTest.TheVariants as Test
@@ -20,7 +20,7 @@ use Rattle.pli_coding.specs.Environments.{Environment, Taken}
 use Rattle.pli_coding.specs.Expressions.{number_code, bit_code}
 use Rattle.pli_coding.specs.Statements.{limit_place, step_place, in_turns, counter_read, limit_tested, limit_kept, while_kept, bit_if}
 use Rattle.pli_coding.specs.Linking.{Links}
-use Rattle.pli_headline.specs.ProvedSoFar.{IsOwnNumber, IsProvedBitIf}
+use Rattle.pli_headline.specs.ProvedSoFar.{Types, IsOwnNumber, IsProvedBitIf}
 use Rattle.pli_headline.proofs.Engine.{Base, address}
 use Rattle.pli_headline.proofs.Linking.{size_append}
 use Rattle.pli_headline.proofs.Items.{Linked, At}
@@ -39,11 +39,11 @@ use Rattle.pli_headline.proofs.Limits.{limit_piece}
 use Rattle.pli_headline.proofs.Reach.{Family, Aims, Comes, Closed, before_closed, comes_on, reached, reached_holds}
 
 -- a variable of the block that counts
-abbrev pub counting : (block j : ℕ) → Y.Counter
-counting block j = Y.NumberCounter 31 (whole (own block j))
+abbrev pub counting : (block j p : ℕ) → Y.Counter
+counting block j p = Y.NumberCounter p (whole (own block j))
 
 -- what a test comes to: it is met behind its code, or the turns are over at a place
-abbrev pub Met : {e : Environment} {block count : ℕ} → Block e block count → (ℕ → ℤ) → Services → State → (h t : ℕ → ℕ) → (met over : ℕ) → Aims Bool → Type 0
+abbrev pub Met : {e : Environment} {block : ℕ} {types : Types} → Block e block types → (ℕ → ℤ) → Services → State → (h t : ℕ → ℕ) → (met over : ℕ) → Aims Bool → Type 0
 Met bl n v s h t met over aims =
     ((f : Family) (h' t' : ℕ → ℕ) → Stays (in_turns bl.taken) h t h' t' → ((b : Base) → At b met (Known (bl.ground n) v h' t' nothing b) (f b)) → aims.done met f v true s)
     × ((f : Family) (h' t' : ℕ → ℕ) → Stays (in_turns bl.taken) h t h' t' → ((b : Base) → At b over (Known (bl.ground n) v h' t' nothing b) (f b)) → aims.done over f v false s)
@@ -91,16 +91,16 @@ condition_size e taken (Some x) c d =
     size_append (bit_code e (in_turns taken) x) (skip_where Test.NotEqual a0 zero_register (JumpAhead c ∷ []))
     ∙ sym (size_append (bit_code e (in_turns taken) x) (skip_where Test.NotEqual a0 zero_register (JumpAhead d ∷ [])))
 
-pub within_piece : {links : Links} {code : List Instr} {i : ℕ} {v : Services} {h t : ℕ → ℕ} {s : State} {aims : Aims Bool} {e : Environment} {block count : ℕ} (bl : Block e block count) (routines : Routines links code) (around : Around) (j : ℕ) (limit : Option Y.Number) (most : Option ℤ) (step : ℤ) (behind : ℕ) (closed : Closed code aims) (n : ℕ → ℤ) (f : Family) (k : ℕ) → j < count → LimitWaits limit most t bl.taken.words → IsWide step → t (bl.taken.words + 1) ≡ word step → bl.taken.words + 2 ≤ bl.words → i + size_of (limit_kept (outermost e) bl.taken (counting block j) limit behind) + behind ≤ length code → Linked links code i (limit_kept (outermost e) bl.taken (counting block j) limit behind) → Serving k s v around.line → AllHold s block count n → ((b : Base) → At b i (Known (bl.ground n) v h t nothing b) (f b)) → Met bl n v s h t (i + size_of (limit_kept (outermost e) bl.taken (counting block j) limit behind)) (i + size_of (limit_kept (outermost e) bl.taken (counting block j) limit behind) + behind) aims → Comes code i f v aims (M.within_limit around (counting block j) most step k s)
+pub within_piece : {links : Links} {code : List Instr} {i : ℕ} {v : Services} {h t : ℕ → ℕ} {s : State} {aims : Aims Bool} {e : Environment} {block : ℕ} {types : Types} (bl : Block e block types) (routines : Routines links code) (around : Around) (j p : ℕ) (limit : Option Y.Number) (most : Option ℤ) (step : ℤ) (behind : ℕ) (closed : Closed code aims) (n : ℕ → ℤ) (f : Family) (k : ℕ) → slice_get types j ≡ Some (Y.FixedLeaf p) → LimitWaits limit most t bl.taken.words → IsWide step → t (bl.taken.words + 1) ≡ word step → bl.taken.words + 2 ≤ bl.words → i + size_of (limit_kept (outermost e) bl.taken (counting block j p) limit behind) + behind ≤ length code → Linked links code i (limit_kept (outermost e) bl.taken (counting block j p) limit behind) → Serving k s v around.line → AllHold s block types n → ((b : Base) → At b i (Known (bl.ground n) v h t nothing b) (f b)) → Met bl n v s h t (i + size_of (limit_kept (outermost e) bl.taken (counting block j p) limit behind)) (i + size_of (limit_kept (outermost e) bl.taken (counting block j p) limit behind) + behind) aims → Comes code i f v aims (M.within_limit around (counting block j p) most step k s)
 unfolding M.within_limit M.counter_number V.number ◌>>=◌ give
-within_piece {i = i} {v = v} {h = h} {t = t} {s = s} {aims = aims} bl routines around j None None step behind closed n f k below waits ws at_step room inside l serving all at met =
+within_piece {i = i} {v = v} {h = h} {t = t} {s = s} {aims = aims} bl routines around j p None None step behind closed n f k below waits ws at_step room inside l serving all at met =
     let same : i ≡ i + 0 = omega arith in
     record { to = subst (λ u. aims.done u f v true s) (sym same) (met.0 f h t (stays_same (in_turns bl.taken) h t) (λ b. record { pc = (at b).pc ∙ ap (address b) same; holds = (at b).holds })) }
-within_piece {code = code} {i = i} {v = v} {h = h} {t = t} {s = s} {aims = aims} {e = e} {block = block} {count = count} bl routines around j (Some x) (Some limit) step behind closed n f k below waits ws at_step room inside l serving all at met =
+within_piece {code = code} {i = i} {v = v} {h = h} {t = t} {s = s} {aims = aims} {e = e} {block = block} {types = types} bl routines around j p (Some x) (Some limit) step behind closed n f k below waits ws at_step room inside l serving all at met =
     let target = whole (own block j) in
     let a = number_code (outermost e) (in_turns bl.taken) (Y.NumberIn target) in
     let c = limit_tested bl.taken behind in
-    let mine : IsOwnNumber block count target = record { index = j; declared = below; is = refl } in
+    let mine : IsOwnNumber block types target = record { precision = p; own = record { index = j; declared = below; is = refl } } in
     let size = size_append a c in
     let place : i + size_of a + size_of c ≡ i + size_of (a ++ c) = omega (arith, size) in
     let place' : i + size_of a + size_of c + behind ≡ i + size_of (a ++ c) + behind = omega (arith, size) in
@@ -112,8 +112,8 @@ within_piece {code = code} {i = i} {v = v} {h = h} {t = t} {s = s} {aims = aims}
     (limit_piece s k (give true) (give false) closed (bl.temps n) f1 bl.taken limit step z behind waits.0 ws wz (omega (arith, room, w)) (stays.words bl.taken.words (omega arith) ∙ waits.1) (stays.words (bl.taken.words + 1) (omega arith) ∙ at_step) (omega (arith, inside, place')) (back_of a c l) at1
     (λ f2 at2. record { to = subst (λ u. aims.done u f2 v true s) (sym place) (met.0 f2 h1 t1 stays (λ b. record { pc = (at2 b).pc ∙ ap (address b) place; holds = (at2 b).holds })) })
     (λ f2 at2. record { to = subst (λ u. aims.done u f2 v false s) (sym place') (met.1 f2 h1 t1 stays (λ b. record { pc = (at2 b).pc ∙ ap (address b) place'; holds = (at2 b).holds })) }))))
-within_piece bl routines around j None (Some limit) step behind closed n f k below waits ws at_step room inside l serving all at met = absurd waits
-within_piece bl routines around j (Some x) None step behind closed n f k below waits ws at_step room inside l serving all at met = absurd waits
+within_piece bl routines around j p None (Some limit) step behind closed n f k below waits ws at_step room inside l serving all at met = absurd waits
+within_piece bl routines around j p (Some x) None step behind closed n f k below waits ws at_step room inside l serving all at met = absurd waits
 
 -- ---- WHILE
 
@@ -131,7 +131,7 @@ kept_by {i = i} {v = v} {aims = aims} s false closed f behind inside l at met ov
     let there : i + 1 + (2 + behind) ≡ i + 3 + behind = omega arith in
     closed.done r false s (closed.done q false s (subst (λ u. aims.done u (reached q) v false s) (sym there) (over (reached q) (λ b. let o = reached_holds q b in record { pc = o.pc ∙ ap (address b) there; holds = o.holds }))))
 
-pub condition_piece : {links : Links} {code : List Instr} {i : ℕ} {v : Services} {h t : ℕ → ℕ} {s : State} {aims : Aims Bool} {e : Environment} {block count : ℕ} (bl : Block e block count) (routines : Routines links code) (around : Around) (condition : Option Y.Bit) (behind : ℕ) (closed : Closed code aims) (n : ℕ → ℤ) (f : Family) (k : ℕ) → IsProvedBitIf block count condition → bl.taken.words + 2 + bit_if condition ≤ bl.words → i + size_of (while_kept (outermost e) bl.taken condition behind) + behind ≤ length code → Linked links code i (while_kept (outermost e) bl.taken condition behind) → Serving k s v around.line → AllHold s block count n → ((b : Base) → At b i (Known (bl.ground n) v h t nothing b) (f b)) → Met bl n v s h t (i + size_of (while_kept (outermost e) bl.taken condition behind)) (i + size_of (while_kept (outermost e) bl.taken condition behind) + behind) aims → Comes code i f v aims (M.condition_met around condition k s)
+pub condition_piece : {links : Links} {code : List Instr} {i : ℕ} {v : Services} {h t : ℕ → ℕ} {s : State} {aims : Aims Bool} {e : Environment} {block : ℕ} {types : Types} (bl : Block e block types) (routines : Routines links code) (around : Around) (condition : Option Y.Bit) (behind : ℕ) (closed : Closed code aims) (n : ℕ → ℤ) (f : Family) (k : ℕ) → IsProvedBitIf block types condition → bl.taken.words + 2 + bit_if condition ≤ bl.words → i + size_of (while_kept (outermost e) bl.taken condition behind) + behind ≤ length code → Linked links code i (while_kept (outermost e) bl.taken condition behind) → Serving k s v around.line → AllHold s block types n → ((b : Base) → At b i (Known (bl.ground n) v h t nothing b) (f b)) → Met bl n v s h t (i + size_of (while_kept (outermost e) bl.taken condition behind)) (i + size_of (while_kept (outermost e) bl.taken condition behind) + behind) aims → Comes code i f v aims (M.condition_met around condition k s)
 unfolding M.condition_met give
 condition_piece {i = i} {v = v} {h = h} {t = t} {s = s} {aims = aims} bl routines around None behind closed n f k is room inside l serving all at met =
     let same : i ≡ i + 0 = omega arith in

@@ -1,9 +1,12 @@
--- Variables of the running block that hold a number: in the meaning, and the code that reaches them.
-use Rattle.std.proofs.Common.{◌≡◌, ℕ, ◌+◌, List, [], ◌++◌, Option, Some, ap, ◌∙◌}
-use Rattle.std.specs.Prelude.{ℤ, pos, slice_get, take, unwrap_or, if◌then◌else◌}
+-- Scalar variables of the running block: in the meaning, and the code that reaches them.
+use Rattle.std.proofs.Common.{◌≡◌, ℕ, ◌+◌, List, [], ◌++◌, Option, Some, true, refl, ap, ◌∙◌}
+use Rattle.std.specs.Prelude.{ℤ, pos, ◌&&◌, slice_get, take, unwrap_or, if◌then◌else◌}
+use Rattle.std.proofs.lemmas.Bool.{eq-eqb}
+use Rattle.rv_meaning.specs.declared.instr.Instr.TheVariants as I
+use Rattle.pli_language.specs.Tree as T
 use Rattle.pli_typing.specs.TypedTree as Y
-use Rattle.pli_meaning.specs.BasicValues.{VariableName, BasicValue, BasicNumber}
-use Rattle.pli_meaning.specs.Contents.{Shape, Generation, number_in, is_within}
+use Rattle.pli_meaning.specs.BasicValues.{VariableName, BasicValue}
+use Rattle.pli_meaning.specs.Contents.{Shape, same_shape, Generation, number_in, bit_in, is_within}
 use Rattle.pli_meaning.specs.DeclaredShapes.{shape_of, variables_of_block}
 use Rattle.pli_meaning.specs.StorageState.{State, Binding, standing_for, named}
 use Rattle.pli_meaning.specs.Control.{give, flow_on, looked, choose, ◌>>=◌, ◌>>◌}
@@ -12,18 +15,23 @@ use Rattle.pli_meaning.specs.Raising.{Around}
 use Rattle.pli_meaning.specs.Evaluating as V
 use Rattle.pli_coding.specs.Registers.{frame_register, a0, u3}
 use Rattle.pli_coding.specs.Assembly.{Code}
-use Rattle.pli_coding.specs.Instructions.{load_word, store_word}
+use Rattle.pli_coding.specs.Instructions.{displaced}
 use Rattle.pli_coding.specs.Environments.{Environment, Taken, no_declaration}
-use Rattle.pli_coding.specs.Expressions.{number_code, reference_code, type_in, address_in}
+use Rattle.pli_coding.specs.Expressions.{number_code, bit_code, reference_code, type_in, address_in}
 use Rattle.pli_coding.specs.Locating.{Address, no_leaf, leaf_number, leaf_place, found_reached, loaded, stored}
 use Rattle.pli_coding.specs.Frames.{automatic_place, has_constant_size}
-use Rattle.pli_headline.specs.ProvedSoFar.{plain_number}
-use Rattle.pli_headline.proofs.Numbers.{IsWide}
+use Rattle.pli_headline.specs.ProvedSoFar.{plain_variable}
+use Rattle.pli_headline.proofs.Scalars.{IsNumeric, by_type, bit_of, value_as, Fits, load_kind, store_kind}
 
 -- ---- in the meaning
 
-abbrev pub number_shape : Shape
-number_shape = shape_of [] plain_number
+abbrev pub scalar_shape : Y.LeafType → Shape
+scalar_shape type = shape_of [] (plain_variable type [])
+
+-- a shape is the same as itself
+pub same_scalar : (type : Y.LeafType) → IsNumeric type → same_shape (scalar_shape type) (scalar_shape type) ≡ true
+same_scalar type is =
+    by_type (λ t. same_shape (scalar_shape t) (scalar_shape t) ≡ true) (λ p. ap (λ t. (t && true) && true) (eq-eqb p p refl)) refl type is
 
 abbrev pub whole_part : Y.Part
 whole_part = record { first = 0; count = 1 }
@@ -35,37 +43,43 @@ whole v = Y.Referring v Y.NotLocated whole_part Y.NoNumber
 abbrev pub own : (block index : ℕ) → Y.Variable
 own block index = record { class = Y.AutomaticClass; block = block; level = 0; index = index }
 
-abbrev pub number_binding : (index serial : ℕ) → Binding
-number_binding index serial = record { variable = index; name = VariableName serial; shape = number_shape }
+abbrev pub scalar_binding : Y.LeafType → (index serial : ℕ) → Binding
+scalar_binding type index serial = record { variable = index; name = VariableName serial; shape = scalar_shape type }
 
-abbrev pub number_generation : (ℕ → List ℤ → BasicValue) → Generation
-number_generation values = record { shape = number_shape; extent = pos 0; values = values }
+abbrev pub scalar_generation : Y.LeafType → (ℕ → List ℤ → BasicValue) → Generation
+scalar_generation type values = record { shape = scalar_shape type; extent = pos 0; values = values }
 
--- a variable stands for a generation that holds a number
-pub record HoldsNumber (s : State) (v : Y.Variable) (z : ℤ) : Type 0 where
+-- a variable stands for a generation that holds the value of a number
+pub record HoldsScalar (s : State) (v : Y.Variable) (type : Y.LeafType) (z : ℤ) : Type 0 where
   pub serial : ℕ
   pub values : ℕ → List ℤ → BasicValue
-  pub stands : standing_for s v ≡ Some (number_binding v.index serial)
-  pub lives : named s (VariableName serial) number_shape ≡ Some (number_generation values)
-  pub value : values 0 [] ≡ BasicNumber z
-  pub wide : IsWide z
+  pub stands : standing_for s v ≡ Some (scalar_binding type v.index serial)
+  pub lives : named s (VariableName serial) (scalar_shape type) ≡ Some (scalar_generation type values)
+  pub value : values 0 [] ≡ value_as type z
+  pub fits : Fits type z
 
 -- what is designated then
-abbrev pub designated_number : (serial : ℕ) → (ℕ → List ℤ → BasicValue) → V.Designated
-designated_number serial values =
-    record { name = VariableName serial; generation = number_generation values; extent = pos 0; part = whole_part; subscripts = [] }
+abbrev pub designated_scalar : Y.LeafType → (serial : ℕ) → (ℕ → List ℤ → BasicValue) → V.Designated
+designated_scalar type serial values =
+    record { name = VariableName serial; generation = scalar_generation type values; extent = pos 0; part = whole_part; subscripts = [] }
 
-pub designated_gives : (around : Around) (s : State) (v : Y.Variable) (z : ℤ) (k : ℕ) (h : HoldsNumber s v z) → V.designated around (whole v) k s ≡ give (designated_number h.serial h.values) k s
+pub designated_gives : (around : Around) (s : State) (v : Y.Variable) (type : Y.LeafType) (z : ℤ) (k : ℕ) (h : HoldsScalar s v type z) → V.designated around (whole v) k s ≡ give (designated_scalar type h.serial h.values) k s
 unfolding V.designated V.located V.numbers V.variable_designated V.part_designated looked ◌>>=◌ ◌>>◌ R.or_error R.demanded choose give
-designated_gives around s v z k h =
+designated_gives around s v type z k h =
     ap (λ o. flow_on k (R.or_error around 101 o k s) (λ b. V.part_designated around b.name b.shape whole_part [])) h.stands
-    ∙ ap (λ o. flow_on k (R.or_error around 101 o k s) (λ g. ◌>>=◌ (R.or_error around 107 (V.extent_in_force g whole_part)) (λ e. ◌>>◌ (R.demanded around 102 (is_within (take 0 (V.leaf_at number_shape e 0).bounds) [])) (give (record { name = VariableName h.serial; generation = g; extent = e; part = whole_part; subscripts = [] }))))) h.lives
+    ∙ ap (λ o. flow_on k (R.or_error around 101 o k s) (λ g. ◌>>=◌ (R.or_error around 107 (V.extent_in_force g whole_part)) (λ e. ◌>>◌ (R.demanded around 102 (is_within (take 0 (V.leaf_at (scalar_shape type) e 0).bounds) [])) (give (record { name = VariableName h.serial; generation = g; extent = e; part = whole_part; subscripts = [] }))))) h.lives
 
-pub number_gives : (around : Around) (s : State) (v : Y.Variable) (z : ℤ) (k : ℕ) → HoldsNumber s v z → V.number around (Y.NumberIn (whole v)) k s ≡ give z k s
+pub number_gives : (around : Around) (s : State) (v : Y.Variable) (p : ℕ) (z : ℤ) (k : ℕ) → HoldsScalar s v (Y.FixedLeaf p) z → V.number around (Y.NumberIn (whole v)) k s ≡ give z k s
 unfolding V.number ◌>>=◌ give
-number_gives around s v z k h =
-    ap (λ q. flow_on k q (λ d. give (number_in (V.value_in d)))) (designated_gives around s v z k h)
+number_gives around s v p z k h =
+    ap (λ q. flow_on k q (λ d. give (number_in (V.value_in d)))) (designated_gives around s v (Y.FixedLeaf p) z k h)
     ∙ ap (λ u. give (number_in u) k s) h.value
+
+pub bit_gives : (around : Around) (s : State) (v : Y.Variable) (z : ℤ) (k : ℕ) → HoldsScalar s v Y.BitLeaf z → V.bit around (Y.BitIn (whole v)) k s ≡ give (bit_of z) k s
+unfolding V.bit ◌>>=◌ give
+bit_gives around s v z k h =
+    ap (λ q. flow_on k q (λ d. give (bit_in (V.value_in d)))) (designated_gives around s v Y.BitLeaf z k h)
+    ∙ ap (λ u. give (bit_in u) k s) h.value
 
 -- ---- in the code
 
@@ -95,13 +109,36 @@ reached_by e t block index o =
     let v = own block index in
     if has_constant_size (declared_in o) then [] else found_reached (outermost e) t t v whole_part (leaf_number (outermost e) v 0) 0
 
-pub number_loaded : (e : Environment) (t : Taken) (block index : ℕ) → slice_get (variables_of_block e.program block) index ≡ Some plain_number → number_code (outermost e) t (Y.NumberIn (whole (own block index))) ≡ load_word a0 frame_register (pos (data_place e block index))
-number_loaded e t block index declared =
-    ap (λ o. reached_by e t block index o ++ loaded (type_by o) a0 (address_by e block index o)) declared
+-- what loads and stores a variable of a type
+abbrev pub scalar_loaded : Y.LeafType → (place : ℕ) → Code
+scalar_loaded type place = displaced (λ r z. I.Load (load_kind type) a0 r z) frame_register (pos place)
+
+abbrev pub scalar_stored : Y.LeafType → (place : ℕ) → Code
+scalar_stored type place = displaced (λ r z. I.Store (store_kind type) r a0 z) frame_register (pos place)
+
+abbrev pub IsDeclared : Environment → (block index : ℕ) → Y.LeafType → Type 0
+IsDeclared e block index type =
+    (initial : List T.InitialItem) × (slice_get (variables_of_block e.program block) index ≡ Some (plain_variable type initial))
+
+pub number_loaded : (e : Environment) (t : Taken) (block index p : ℕ) → IsDeclared e block index (Y.FixedLeaf p) → number_code (outermost e) t (Y.NumberIn (whole (own block index))) ≡ scalar_loaded (Y.FixedLeaf p) (data_place e block index)
+number_loaded e t block index p declared =
+    ap (λ o. reached_by e t block index o ++ loaded (type_by o) a0 (address_by e block index o)) declared.1
+
+pub bit_loaded : (e : Environment) (t : Taken) (block index : ℕ) → IsDeclared e block index Y.BitLeaf → bit_code (outermost e) t (Y.BitIn (whole (own block index))) ≡ scalar_loaded Y.BitLeaf (data_place e block index)
+bit_loaded e t block index declared =
+    ap (λ o. reached_by e t block index o ++ loaded (type_by o) a0 (address_by e block index o)) declared.1
 
 -- nothing is left to do before the store
-pub number_reached : (e : Environment) (t : Taken) (block index : ℕ) → slice_get (variables_of_block e.program block) index ≡ Some plain_number → reference_code (outermost e) t (whole (own block index)) ≡ []
-number_reached e t block index declared = ap (reached_by e t block index) declared
+pub scalar_reached : (e : Environment) (t : Taken) (block index : ℕ) (type : Y.LeafType) → IsNumeric type → IsDeclared e block index type → reference_code (outermost e) t (whole (own block index)) ≡ []
+scalar_reached e t block index type =
+    by_type (λ u. IsDeclared e block index u → reference_code (outermost e) t (whole (own block index)) ≡ [])
+    (λ p declared. ap (reached_by e t block index) declared.1)
+    (λ declared. ap (reached_by e t block index) declared.1)
+    type
 
-pub number_stored : (e : Environment) (block index : ℕ) → slice_get (variables_of_block e.program block) index ≡ Some plain_number → stored (type_in (outermost e) (whole (own block index))) a0 (address_in (outermost e) (whole (own block index))) ≡ store_word frame_register a0 (pos (data_place e block index))
-number_stored e block index declared = ap (λ o. stored (type_by o) a0 (address_by e block index o)) declared
+pub scalar_kept : (e : Environment) (block index : ℕ) (type : Y.LeafType) → IsNumeric type → IsDeclared e block index type → stored (type_in (outermost e) (whole (own block index))) a0 (address_in (outermost e) (whole (own block index))) ≡ scalar_stored type (data_place e block index)
+scalar_kept e block index type =
+    by_type (λ u. IsDeclared e block index u → stored (type_in (outermost e) (whole (own block index))) a0 (address_in (outermost e) (whole (own block index))) ≡ scalar_stored u (data_place e block index))
+    (λ p declared. ap (λ o. stored (type_by o) a0 (address_by e block index o)) declared.1)
+    (λ declared. ap (λ o. stored (type_by o) a0 (address_by e block index o)) declared.1)
+    type

@@ -1,5 +1,5 @@
 -- The headline of every program that is proved so far: its code does what it means at each number of acts.
-use Rattle.std.proofs.Common.{ℕ, suc, ◌+◌, ◌^◌, ◌<◌, ◌≤◌, List, refl, arith}
+use Rattle.std.proofs.Common.{ℕ, suc, ◌+◌, ◌^◌, ◌<◌, ◌≤◌, List, length, refl, sym, arith}
 use Rattle.std.proofs.Math.Nat.{le-max_right}
 use Rattle.rv_meaning.specs.declared.instr.Instr.{Instr}
 use Rattle.pli_typing.specs.TypedTree as Y
@@ -20,12 +20,14 @@ use Rattle.pli_headline.proofs.Promises.{Laws, Comes_at, from_flow, Works, promi
 use Rattle.pli_headline.proofs.Statics.{constant_stands}
 use Rattle.pli_headline.proofs.Marks.{Placed, placed}
 use Rattle.pli_headline.proofs.Sizes.{procedure_size, first_length}
-use Rattle.pli_headline.proofs.MainProcedure.{main_head, alone_of, main_environment, main_words, main_plain, plain_at}
+use Rattle.pli_headline.proofs.MainProcedure.{main_head, alone_of, main_environment, main_words, main_plain, declared_at}
+use Rattle.pli_headline.proofs.PlainNumbers.{length_types}
 use Rattle.pli_headline.proofs.FirstFrame.{first_step_of}
 use Rattle.pli_headline.proofs.MainFrame.{main_frame}
 use Rattle.pli_headline.proofs.LabelMarks.{labels_stand}
 use Rattle.pli_headline.proofs.MainBody.{main_body_does}
-use Rattle.pli_headline.proofs.MainRuns.{main_around, main_count, main_data, BodyDoes, main_runs}
+use Rattle.pli_headline.proofs.InitialNamed.{all_ready}
+use Rattle.pli_headline.proofs.MainRuns.{main_around, main_count, main_types, main_data, BodyDoes, main_runs}
 
 -- ---- the procedure of a program
 
@@ -50,8 +52,16 @@ few_words program is fits =
     let p = (placed_for program is fits).procedure in
     let inside = p.inside in
     let small' = p.small' in
-    let n = procedure_size (main_environment program (block_in is)) (main_head (block_in is) (line_in is)) (main_count program (block_in is)) is.body (main_plain program (block_in is) is.plain) is.block.statements in
+    let n = procedure_size (main_environment program (block_in is)) (main_head (block_in is) (line_in is)) (main_types program (block_in is)) is.body (main_plain program (block_in is) is.plain) is.block.statements in
     omega (arith, inside, small', n)
+
+-- there is some code
+some_code : (program : Y.Program) (is : IsProvedSoFar program) → FitsMemory (picture_of parts program) → 0 < length (code_for program)
+some_code program is fits =
+    let p = placed_for program is fits in
+    let inside = p.procedure.inside in
+    let behind = p.behind in
+    omega (arith, inside, behind)
 
 -- ---- its statements
 
@@ -64,7 +74,8 @@ body_done program is fits k few =
     main_body_does program block line is.body alone
     (main_frame (main_words program block is.body) (main_count program block) small' few)
     (memory_for program)
-    (λ j below. plain_at (variables_of_block program block) j (main_plain program block is.plain) below)
+    (main_types program block) (sym (length_types (variables_of_block program block)))
+    (λ j b. declared_at (variables_of_block program block) j (main_plain program block is.plain) b.1)
     (λ j below. main_data program block line is.body j is.plain alone below few)
     (links_of (code_of parts program)) (code_for program)
     (placed_for program is fits).routines (main_around program k line)
@@ -78,7 +89,7 @@ comes : (laws : Laws) (program : Y.Program) (is : IsProvedSoFar program) → Fit
 unfolding meaning
 comes laws program is fits input k room =
     from_flow laws (picture_of parts program) (table_of program) program input k (run program (suc k) k (first_state input)) refl
-    (main_runs program (block_in is) (line_in is) is.body (memory_for program) input is.plain (alone_of program is) (few_words program is fits) k is.block.line room (first_length (picture_of parts program) fits) (placed_for program is fits) (body_done program is fits k))
+    (main_runs program (block_in is) (line_in is) is.body (memory_for program) input is.plain (alone_of program is) (few_words program is fits) k (all_ready program (block_in is) (line_in is) is.body is.plain (alone_of program is) fits (some_code program is fits)) is.block.line room (first_length (picture_of parts program) fits) (placed_for program is fits) (body_done program is fits k))
 
 works : (laws : Laws) (program : Y.Program) (is : IsProvedSoFar program) → FitsMemory (picture_of parts program) → Works (picture_of parts program) (table_of program) program
 works laws program is fits =

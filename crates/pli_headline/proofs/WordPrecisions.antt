@@ -112,7 +112,7 @@ lost m p w some few all h i =
 
 -- ---- the test
 
-abbrev below : ℕ → ℤ → Bool
+abbrev pub below : ℕ → ℤ → Bool
 below m (pos n) = nat_lt n m
 below m (negsuc n) = nat_lt n m
 
@@ -127,7 +127,7 @@ tested_by m p false (negsuc n) some few most all w e =
     let over : p ≤ n = grind (arith, nat_tests) in
     lost m p (2 ^ 32 - suc n) some few all (omega (arith, w, most)) (omega (arith, over, w, few))
 
-below_is : (p : ℕ) (z : ℤ) → is_of_precision p z ≡ below (2 ^ p) z
+pub below_is : (p : ℕ) (z : ℤ) → is_of_precision p z ≡ below (2 ^ p) z
 below_is p (pos n) = refl
 below_is p (negsuc n) = refl
 

@@ -1,5 +1,5 @@
 -- Bytes that a service writes: what they leave of the memory, and what is loaded then.
-use Rattle.std.proofs.Common.{◌≡◌, ℕ, suc, ◌+◌, ◌-◌, ◌<◌, ◌≤◌, ◌⊎◌, inl, inr, List, [], ◌∷◌, ◌++◌, length, refl, ap, ◌∙◌, arith}
+use Rattle.std.proofs.Common.{◌≡◌, ℕ, ◌+◌, ◌-◌, ◌<◌, ◌≤◌, ◌⊎◌, inl, inr, List, ◌++◌, length, refl, ap, ◌∙◌, arith}
 use Rattle.std.specs.Prelude.{slice_index, get_or, take, drop}
 use Rattle.std.proofs.lemmas.List.{length-append, length-take-le, length-drop, get_or_append_left, get_or-take, get_or-drop, get_or-append_right}
 use Rattle.rv_meaning.specs.Memory.{load}
@@ -43,19 +43,3 @@ load-with_other n bs m at from h (inl l) =
     load-same n (with_bytes bs at m) m from (λ k a b. byte-with_below bs m at k h (omega (arith, b, l)))
 load-with_other n bs m at from h (inr l) =
     load-same n (with_bytes bs at m) m from (λ k a b. byte-with_past bs m at k h (omega (arith, a, l)))
-
-abbrev pub zero_word : List ℕ
-zero_word = 0 ∷ 0 ∷ 0 ∷ 0 ∷ []
-
-pub load-with_zero : (m : List ℕ) (at : ℕ) → at + 4 ≤ length m → load 4 (with_bytes zero_word at m) at ≡ 0
-load-with_zero m at h =
-    let m' = with_bytes zero_word at m in
-    let at0 : at ≡ at + 0 = omega arith in
-    let at1 : suc at ≡ at + 1 = omega arith in
-    let at2 : suc (suc at) ≡ at + 2 = omega arith in
-    let at3 : suc (suc (suc at)) ≡ at + 3 = omega arith in
-    let e0 : slice_index m' at ≡ 0 = ap (slice_index m') at0 ∙ byte-with_inside zero_word m at 0 h (omega arith) in
-    let e1 : slice_index m' (suc at) ≡ 0 = ap (slice_index m') at1 ∙ byte-with_inside zero_word m at 1 h (omega arith) in
-    let e2 : slice_index m' (suc (suc at)) ≡ 0 = ap (slice_index m') at2 ∙ byte-with_inside zero_word m at 2 h (omega arith) in
-    let e3 : slice_index m' (suc (suc (suc at))) ≡ 0 = ap (slice_index m') at3 ∙ byte-with_inside zero_word m at 3 h (omega arith) in
-    omega (arith, e0, e1, e2, e3)

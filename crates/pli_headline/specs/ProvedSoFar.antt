@@ -1,134 +1,240 @@
--- The programs for which the headline is proved so far: one procedure, whose variables are FIXED BINARY(31), with assignments, IF, DO,
--- GOTO, STOP, SIGNAL and PUT EDIT of numbers by F. Each form that is proved takes a line off.
-use Rattle.std.specs.Prelude.{◌≡◌, ℕ, suc, ◌<◌, ◌≤◌, ◌^◌, List, [], ◌∷◌, ◌++◌, length, Option, None, Some, true, if◌then◌else◌, ⊤}
+-- The programs for which the headline is proved so far: one procedure with scalars of FIXED BINARY and BIT(1), with or without
+-- INITIAL; expressions of numbers and bits; assignments of these, IF, groups, DO WHILE, DO with a FIXED or BIT(1) variable, GOTO to a
+-- label of a list around it, STOP, SIGNAL, and PUT EDIT of numbers, bits and texts, by lists of F, A, X, SKIP and COLUMN items. Each form
+-- that is proved takes a line off.
+use Rattle.std.specs.Prelude.{◌≡◌, ℕ, suc, ◌<◌, ◌≤◌, ◌^◌, List, [], ◌∷◌, ◌++◌, length, map, slice_get, Option, None, Some, true, if◌then◌else◌, ⊤}
 use Rattle.pli_language.specs.Keywords.{same_bytes}
 use Rattle.pli_language.specs.Tree as T
+use Rattle.pli_language.specs.Formats.{formats_move_data}
 use Rattle.pli_typing.specs.TypedTree as Y
+use Rattle.pli_meaning.specs.Numbers.{is_of_precision}
 use Rattle.pli_meaning.specs.Control.{Label, is_among}
 use Rattle.pli_meaning.specs.DeclaredShapes.{variables_of_block}
 use Rattle.pli_meaning.specs.Executing.{labels_in}
+use Rattle.pli_coding.specs.Streams.{has_text}
 
 -- ---- declarations
 
--- AUTOMATIC FIXED BINARY(31) without INITIAL, a scalar
-abbrev pub plain_number : Y.DeclaredVariable
-plain_number =
+-- an AUTOMATIC scalar of a type, with what INITIAL gives it
+abbrev pub plain_variable : Y.LeafType → List T.InitialItem → Y.DeclaredVariable
+plain_variable type initial =
     record {
       class = Y.AutomaticClass;
       members = record { depth = 0; dimensions = 0 } ∷ [];
-      leaves = record { type = Y.FixedLeaf 31; bounds = []; initial = [] } ∷ [];
+      leaves = record { type = type; bounds = []; initial = initial } ∷ [];
       refer = None;
       evaluations = [];
     }
 
+-- FIXED BINARY of 1 to 31 bits, and BIT(1)
+abbrev pub IsScalar : Y.LeafType → Type 0
+IsScalar (Y.FixedLeaf p) = (1 ≤ p) × (p ≤ 31)
+IsScalar Y.BitLeaf = ⊤
+IsScalar _ = ⊥
+
+-- a constant of a type
+abbrev pub IsConstantOf : Y.LeafType → T.InitialValue → Type 0
+IsConstantOf (Y.FixedLeaf p) (T.InitialNumber z) = is_of_precision p z ≡ true
+IsConstantOf Y.BitLeaf (T.InitialBit b) = ⊤
+IsConstantOf _ _ = ⊥
+
+-- no INITIAL, or one constant
+abbrev pub IsInitial : Y.LeafType → List T.InitialItem → Type 0
+IsInitial type [] = ⊤
+IsInitial type (i ∷ []) = (i.repetition ≡ 1) × IsConstantOf type i.value
+IsInitial type _ = ⊥
+
+pub record IsPlain (d : Y.DeclaredVariable) : Type 0 where
+  pub type : Y.LeafType
+  pub initial : List T.InitialItem
+  pub scalar : IsScalar type
+  pub begins : IsInitial type initial
+  pub is : d ≡ plain_variable type initial
+
 abbrev pub ArePlain : List Y.DeclaredVariable → Type 0
 ArePlain [] = ⊤
-ArePlain (d ∷ ds) = (d ≡ plain_number) × ArePlain ds
+ArePlain (d ∷ ds) = IsPlain d × ArePlain ds
 
--- ---- expressions, in a block with so many variables
+-- the types of a block's variables
+abbrev pub Types : Type 0
+Types = List Y.LeafType
 
--- a variable of the block itself, all of it
-pub record IsOwnNumber (block count : ℕ) (r : Y.Reference) : Type 0 where
+abbrev pub type_of : Y.DeclaredVariable → Y.LeafType
+type_of d = first_type d.leaves
+  where
+    first_type : List Y.Leaf → Y.LeafType
+    first_type [] = Y.BitLeaf
+    first_type (l ∷ ls) = l.type
+
+abbrev pub types_of : List Y.DeclaredVariable → Types
+types_of ds = map type_of ds
+
+-- ---- expressions, in a block whose variables have these types
+
+-- a variable of the block itself of a type, all of it
+pub record IsOwn (block : ℕ) (types : Types) (type : Y.LeafType) (r : Y.Reference) : Type 0 where
   pub index : ℕ
-  pub declared : index < count
+  pub declared : slice_get types index ≡ Some type
   pub is : r ≡ Y.Referring (record { class = Y.AutomaticClass; block = block; level = 0; index = index }) Y.NotLocated (record { first = 0; count = 1 }) Y.NoNumber
 
+-- one that holds a number
+pub record IsOwnNumber (block : ℕ) (types : Types) (r : Y.Reference) : Type 0 where
+  pub precision : ℕ
+  pub own : IsOwn block types (Y.FixedLeaf precision) r
+
 abbrev mutual
-  pub IsProvedNumber : (block count : ℕ) → Y.Number → Type 0
-  IsProvedNumber block count (Y.NumberConstant n) = n < 2 ^ 31
-  IsProvedNumber block count (Y.NumberIn r) = IsOwnNumber block count r
-  IsProvedNumber block count (Y.NumberOfBit x) = IsProvedBit block count x
-  IsProvedNumber block count (Y.Signed sign x) = IsProvedNumber block count x
-  IsProvedNumber block count (Y.Calculated operator left right) = IsProvedNumber block count left × IsProvedNumber block count right
-  IsProvedNumber block count (Y.Absolute x) = IsProvedNumber block count x
-  IsProvedNumber block count (Y.SignOf x) = IsProvedNumber block count x
-  IsProvedNumber block count (Y.Extreme extremum first more) = IsProvedNumber block count first × AreProvedNumbers block count more
-  IsProvedNumber block count (Y.Modulo dividend divisor) = IsProvedNumber block count dividend × IsProvedNumber block count divisor
-  IsProvedNumber block count (Y.Divided precision dividend divisor) =
-      (precision ≤ 31) × (IsProvedNumber block count dividend × IsProvedNumber block count divisor)
-  IsProvedNumber block count _ = ⊥
+  pub IsProvedNumber : (block : ℕ) (types : Types) → Y.Number → Type 0
+  IsProvedNumber block types (Y.NumberConstant n) = n < 2 ^ 31
+  IsProvedNumber block types (Y.NumberIn r) = IsOwnNumber block types r
+  IsProvedNumber block types (Y.NumberOfBit x) = IsProvedBit block types x
+  IsProvedNumber block types (Y.Signed sign x) = IsProvedNumber block types x
+  IsProvedNumber block types (Y.Calculated operator left right) = IsProvedNumber block types left × IsProvedNumber block types right
+  IsProvedNumber block types (Y.Absolute x) = IsProvedNumber block types x
+  IsProvedNumber block types (Y.SignOf x) = IsProvedNumber block types x
+  IsProvedNumber block types (Y.Extreme extremum first more) = IsProvedNumber block types first × AreProvedNumbers block types more
+  IsProvedNumber block types (Y.Modulo dividend divisor) = IsProvedNumber block types dividend × IsProvedNumber block types divisor
+  IsProvedNumber block types (Y.Divided precision dividend divisor) =
+      (precision ≤ 31) × (IsProvedNumber block types dividend × IsProvedNumber block types divisor)
+  IsProvedNumber block types _ = ⊥
 
-  pub AreProvedNumbers : (block count : ℕ) → Y.Numbers → Type 0
-  AreProvedNumbers block count Y.NoNumber = ⊤
-  AreProvedNumbers block count (Y.NumberThen first rest) = IsProvedNumber block count first × AreProvedNumbers block count rest
+  pub AreProvedNumbers : (block : ℕ) (types : Types) → Y.Numbers → Type 0
+  AreProvedNumbers block types Y.NoNumber = ⊤
+  AreProvedNumbers block types (Y.NumberThen first rest) = IsProvedNumber block types first × AreProvedNumbers block types rest
 
-  pub IsProvedBit : (block count : ℕ) → Y.Bit → Type 0
-  IsProvedBit block count (Y.BitConstant b) = ⊤
-  IsProvedBit block count (Y.Negated x) = IsProvedBit block count x
-  IsProvedBit block count (Y.Combined operator left right) = IsProvedBit block count left × IsProvedBit block count right
-  IsProvedBit block count (Y.NumbersCompared comparison left right) = IsProvedNumber block count left × IsProvedNumber block count right
-  IsProvedBit block count (Y.BitsCompared comparison left right) = IsProvedBit block count left × IsProvedBit block count right
-  IsProvedBit block count _ = ⊥
+  pub IsProvedBit : (block : ℕ) (types : Types) → Y.Bit → Type 0
+  IsProvedBit block types (Y.BitConstant b) = ⊤
+  IsProvedBit block types (Y.BitIn r) = IsOwn block types Y.BitLeaf r
+  IsProvedBit block types (Y.Negated x) = IsProvedBit block types x
+  IsProvedBit block types (Y.Combined operator left right) = IsProvedBit block types left × IsProvedBit block types right
+  IsProvedBit block types (Y.NumbersCompared comparison left right) = IsProvedNumber block types left × IsProvedNumber block types right
+  IsProvedBit block types (Y.BitsCompared comparison left right) = IsProvedBit block types left × IsProvedBit block types right
+  IsProvedBit block types _ = ⊥
 
--- ---- statements
+abbrev pub IsProvedNumberIf : (block : ℕ) (types : Types) → Option Y.Number → Type 0
+IsProvedNumberIf block types None = ⊤
+IsProvedNumberIf block types (Some x) = IsProvedNumber block types x
 
--- F items alone, of which there is one at least, each 1 to 1,000 times
-abbrev pub IsProvedFormat : T.Format → Type 0
-IsProvedFormat (T.FixedFormat width) = (1 ≤ width) × (width ≤ 1024)
-IsProvedFormat _ = ⊥
+abbrev pub IsProvedBitIf : (block : ℕ) (types : Types) → Option Y.Bit → Type 0
+IsProvedBitIf block types None = ⊤
+IsProvedBitIf block types (Some x) = IsProvedBit block types x
 
-abbrev pub AreProvedFormats : T.Formats → Type 0
-AreProvedFormats T.NoFormat = ⊤
-AreProvedFormats (T.FormatThen place repetition first rest) =
-    ((1 ≤ repetition) × (repetition ≤ 1000)) × (IsProvedFormat first × AreProvedFormats rest)
+-- ---- texts
+
+-- the places of a number as a text go by its precision
+abbrev pub IsPrecision : ℕ → Type 0
+IsPrecision precision = (1 ≤ precision) × (precision ≤ 31)
+
+-- constants of 1,024 bytes at most, numbers and bits as texts, texts that are joined, and their parts
+abbrev pub IsProvedText : (block : ℕ) (types : Types) → Y.Text → Type 0
+IsProvedText block types (Y.TextConstant bytes) = length bytes ≤ 1024
+IsProvedText block types (Y.TextOfNumber precision x) = IsPrecision precision × IsProvedNumber block types x
+IsProvedText block types (Y.TextOfBit x) = IsProvedBit block types x
+IsProvedText block types (Y.Joined left right) = IsProvedText block types left × IsProvedText block types right
+IsProvedText block types (Y.SubstringFrom x start) = IsProvedText block types x × IsProvedNumber block types start
+IsProvedText block types (Y.Substring x start many) =
+    IsProvedText block types x × (IsProvedNumber block types start × IsProvedNumber block types many)
+IsProvedText block types _ = ⊥
+
+-- ---- PUT
+
+-- the number of a control item or of SKIP, or how often an item stands
+abbrev pub IsTimes : ℕ → Type 0
+IsTimes n = (1 ≤ n) × (n ≤ 1000)
 
 abbrev pub HasFormat : T.Formats → Type 0
 HasFormat T.NoFormat = ⊥
 HasFormat (T.FormatThen place repetition first rest) = ⊤
 
-abbrev pub IsProvedItem : (block count : ℕ) → Y.PutItem → Type 0
-IsProvedItem block count (Y.PutValue (Y.NumberValue precision x)) = IsProvedNumber block count x
-IsProvedItem block count _ = ⊥
+abbrev pub IsWidth : ℕ → Type 0
+IsWidth width = (1 ≤ width) × (width ≤ 1024)
 
-abbrev pub AreProvedItems : (block count : ℕ) → List Y.PutItem → Type 0
-AreProvedItems block count [] = ⊤
-AreProvedItems block count (i ∷ is) = IsProvedItem block count i × AreProvedItems block count is
+abbrev pub IsWidthIf : Option ℕ → Type 0
+IsWidthIf None = ⊤
+IsWidthIf (Some width) = IsWidth width
 
-abbrev pub AreProvedPairs : (block count : ℕ) → List Y.PutPair → Type 0
-AreProvedPairs block count [] = ⊤
-AreProvedPairs block count (p ∷ ps) =
-    AreProvedItems block count p.items × ((AreProvedFormats p.formats × HasFormat p.formats) × AreProvedPairs block count ps)
+-- F items, A items, control items, and lists of these that have an item
+abbrev mutual
+  pub IsProvedFormat : T.Format → Type 0
+  IsProvedFormat (T.FixedFormat width) = IsWidth width
+  IsProvedFormat (T.SpaceFormat n) = IsTimes n
+  IsProvedFormat (T.SkipFormat n) = IsTimes n
+  IsProvedFormat (T.ColumnFormat n) = IsTimes n
+  IsProvedFormat (T.TextFormat width) = IsWidthIf width
+  IsProvedFormat (T.FormatList formats) = AreProvedFormats formats × HasFormat formats
 
-abbrev pub IsProvedNumberIf : (block count : ℕ) → Option Y.Number → Type 0
-IsProvedNumberIf block count None = ⊤
-IsProvedNumberIf block count (Some x) = IsProvedNumber block count x
+  pub AreProvedFormats : T.Formats → Type 0
+  AreProvedFormats T.NoFormat = ⊤
+  AreProvedFormats (T.FormatThen place repetition first rest) =
+      IsTimes repetition × (IsProvedFormat first × AreProvedFormats rest)
 
-abbrev pub IsProvedBitIf : (block count : ℕ) → Option Y.Bit → Type 0
-IsProvedBitIf block count None = ⊤
-IsProvedBitIf block count (Some x) = IsProvedBit block count x
+-- a data item, at any depth
+abbrev pub HasData : T.Formats → Type 0
+HasData formats = formats_move_data formats ≡ true
+
+abbrev pub IsProvedItem : (block : ℕ) (types : Types) → Y.PutItem → Type 0
+IsProvedItem block types (Y.PutValue (Y.NumberValue precision x)) = IsProvedNumber block types x
+IsProvedItem block types (Y.PutValue (Y.TextValue x)) = IsProvedText block types x
+IsProvedItem block types (Y.PutValue (Y.BitValue x)) = IsProvedBit block types x
+IsProvedItem block types _ = ⊥
+
+abbrev pub AreProvedItems : (block : ℕ) (types : Types) → List Y.PutItem → Type 0
+AreProvedItems block types [] = ⊤
+AreProvedItems block types (i ∷ is) = IsProvedItem block types i × AreProvedItems block types is
+
+-- a number that an A item may show
+abbrev pub HasPrecision : Y.PutItem → Type 0
+HasPrecision (Y.PutValue (Y.NumberValue precision x)) = IsPrecision precision
+HasPrecision _ = ⊤
+
+abbrev pub HavePrecisions : List Y.PutItem → Type 0
+HavePrecisions [] = ⊤
+HavePrecisions (i ∷ is) = HasPrecision i × HavePrecisions is
+
+abbrev pub AreProvedPairs : (block : ℕ) (types : Types) → List Y.PutPair → Type 0
+AreProvedPairs block types [] = ⊤
+AreProvedPairs block types (p ∷ ps) =
+    AreProvedItems block types p.items
+    × ((AreProvedFormats p.formats × (HasData p.formats × (has_text p.formats ≡ true → HavePrecisions p.items)))
+    × AreProvedPairs block types ps)
+
+-- ---- statements
 
 -- lines fit a word
 abbrev pub IsLine : ℕ → Type 0
 IsLine line = line < 2 ^ 31
 
 abbrev mutual
-  pub IsProvedStatement : (block count : ℕ) → Y.Stmt → Type 0
-  IsProvedStatement block count (Y.Null line) = IsLine line
-  IsProvedStatement block count (Y.Assign target (Y.StoredNumber precision x) line) =
-      (precision ≡ 31) × (IsOwnNumber block count target × (IsProvedNumber block count x × IsLine line))
-  IsProvedStatement block count (Y.If condition unit line) =
-      IsProvedBit block count condition × (IsProvedStatement block count unit × IsLine line)
-  IsProvedStatement block count (Y.IfElse condition unit otherwise line) =
-      IsProvedBit block count condition × (IsProvedStatement block count unit × (IsProvedStatement block count otherwise × IsLine line))
-  IsProvedStatement block count (Y.Do body line) = AreProvedStatements block count body × IsLine line
-  IsProvedStatement block count (Y.DoWhile condition body line) =
-      IsProvedBit block count condition × (AreProvedStatements block count body × IsLine line)
-  IsProvedStatement block count (Y.DoOnce target (Y.StoredNumber precision x) condition body line) =
-      ((precision ≡ 31) × (IsOwnNumber block count target × IsProvedNumber block count x)) × (IsProvedBitIf block count condition × (AreProvedStatements block count body × IsLine line))
-  IsProvedStatement block count (Y.DoCount (Y.NumberCounter precision target) (Y.NumberValue p x) limit step condition body line) =
-      ((precision ≡ 31) × (IsOwnNumber block count target × IsProvedNumber block count x))
-      × ((IsProvedNumberIf block count limit × IsProvedNumber block count step) × (IsProvedBitIf block count condition × (AreProvedStatements block count body × IsLine line)))
-  IsProvedStatement block count (Y.Goto level label line) = (level ≡ 0) × IsLine line
-  IsProvedStatement block count (Y.Stop line) = IsLine line
-  IsProvedStatement block count (Y.Signal condition line) = IsLine line
-  IsProvedStatement block count (Y.Put None pairs line) = AreProvedPairs block count pairs × IsLine line
-  IsProvedStatement block count (Y.Put (Some n) pairs line) = ((1 ≤ n) × (n ≤ 1000)) × (AreProvedPairs block count pairs × IsLine line)
-  IsProvedStatement block count _ = ⊥
+  pub IsProvedStatement : (block : ℕ) (types : Types) → Y.Stmt → Type 0
+  IsProvedStatement block types (Y.Null line) = IsLine line
+  IsProvedStatement block types (Y.Assign target (Y.StoredNumber precision x) line) =
+      IsOwn block types (Y.FixedLeaf precision) target × (IsProvedNumber block types x × IsLine line)
+  IsProvedStatement block types (Y.Assign target (Y.StoredBit x) line) =
+      IsOwn block types Y.BitLeaf target × (IsProvedBit block types x × IsLine line)
+  IsProvedStatement block types (Y.If condition unit line) =
+      IsProvedBit block types condition × (IsProvedStatement block types unit × IsLine line)
+  IsProvedStatement block types (Y.IfElse condition unit otherwise line) =
+      IsProvedBit block types condition × (IsProvedStatement block types unit × (IsProvedStatement block types otherwise × IsLine line))
+  IsProvedStatement block types (Y.Do body line) = AreProvedStatements block types body × IsLine line
+  IsProvedStatement block types (Y.DoWhile condition body line) =
+      IsProvedBit block types condition × (AreProvedStatements block types body × IsLine line)
+  IsProvedStatement block types (Y.DoOnce target (Y.StoredNumber precision x) condition body line) =
+      (IsOwn block types (Y.FixedLeaf precision) target × IsProvedNumber block types x) × (IsProvedBitIf block types condition × (AreProvedStatements block types body × IsLine line))
+  IsProvedStatement block types (Y.DoOnce target (Y.StoredBit x) condition body line) =
+      (IsOwn block types Y.BitLeaf target × IsProvedBit block types x) × (IsProvedBitIf block types condition × (AreProvedStatements block types body × IsLine line))
+  IsProvedStatement block types (Y.DoCount (Y.NumberCounter precision target) (Y.NumberValue p x) limit step condition body line) =
+      (IsOwn block types (Y.FixedLeaf precision) target × IsProvedNumber block types x)
+      × ((IsProvedNumberIf block types limit × IsProvedNumber block types step) × (IsProvedBitIf block types condition × (AreProvedStatements block types body × IsLine line)))
+  IsProvedStatement block types (Y.Goto level label line) = (level ≡ 0) × IsLine line
+  IsProvedStatement block types (Y.Stop line) = IsLine line
+  IsProvedStatement block types (Y.Signal condition line) = IsLine line
+  IsProvedStatement block types (Y.Put None pairs line) = AreProvedPairs block types pairs × IsLine line
+  IsProvedStatement block types (Y.Put (Some n) pairs line) = IsTimes n × (AreProvedPairs block types pairs × IsLine line)
+  IsProvedStatement block types _ = ⊥
 
-  pub AreProvedStatements : (block count : ℕ) → Y.Stmts → Type 0
-  AreProvedStatements block count (Y.EndOfList labels) = ⊤
-  AreProvedStatements block count (Y.StmtThen labels first rest) =
-      IsProvedStatement block count first × AreProvedStatements block count rest
+  pub AreProvedStatements : (block : ℕ) (types : Types) → Y.Stmts → Type 0
+  AreProvedStatements block types (Y.EndOfList labels) = ⊤
+  AreProvedStatements block types (Y.StmtThen labels first rest) =
+      IsProvedStatement block types first × AreProvedStatements block types rest
 
 -- ---- jumps
 
@@ -178,7 +284,7 @@ pub record IsProvedBlock (program : Y.Program) (head : Y.BlockHead) (body : Y.St
   pub kind : head.kind ≡ Y.ProcedureBlock
   pub level : head.level ≡ 0
   pub line : IsLine head.line
-  pub statements : AreProvedStatements head.number (length (variables_of_block program head.number)) body
+  pub statements : AreProvedStatements head.number (types_of (variables_of_block program head.number)) body
   pub jumps : AllJumpAround (all_labels body) (labels_in body) body
 
 -- one procedure, without parameters and without a result

@@ -1,0 +1,136 @@
+-- A text that waits is shown: by F as the number that it is, where it is one, and by A as it is.
+use Rattle.std.proofs.Common.{◌≡◌, ℕ, ◌+◌, List, [], ◌∷◌, ◌++◌, Option, Some, None, Bool, true, false, refl, sym, ap, ◌∙◌, subst, arith, lit<}
+use Rattle.std.specs.Prelude.{ℤ, cond}
+use Rattle.std.specs.Option.{option_map}
+use Rattle.rv_meaning.specs.declared.instr.Instr.{Instr}
+use Rattle.rv_meaning.specs.Words.{word}
+use Rattle.pli_language.specs.Tree as T
+use Rattle.pli_meaning.specs.Codes.{conversion_code}
+use Rattle.pli_meaning.specs.Numbers.{is_of_precision}
+use Rattle.pli_meaning.specs.Texts.{number_in_text, within_precision, signed_value, without_leading_blanks, without_trailing_blanks}
+use Rattle.pli_meaning.specs.StorageState.{State}
+use Rattle.pli_meaning.specs.Control.{Meaning, give, flow_on, ◌>>=◌, ◌>>◌}
+use Rattle.pli_meaning.specs.Raising as R
+use Rattle.pli_meaning.specs.Raising.{Around}
+use Rattle.pli_meaning.specs.Evaluating.{ComputationalNumber, ComputationalText}
+use Rattle.pli_meaning.specs.Streaming as P
+use Rattle.pli_meaning.specs.Streaming.{FormatItem, DataFormat, DataItem, FixedItem, TextItem}
+use Rattle.pli_serving.specs.ServiceState.{Services, EditPlace, Entry, TextEntry}
+use Rattle.pli_serving.specs.Answers.{Done}
+use Rattle.pli_serving.specs.Finding.{Call}
+use Rattle.pli_serving.specs.Outcomes.{with_entries, on_text, or_status, becoming}
+use Rattle.pli_serving.specs.Edits as E
+use Rattle.pli_serving.specs.TextServices as X
+use Rattle.pli_coding.specs.Registers.{a0}
+use Rattle.pli_coding.specs.Assembly.{Code, size_of}
+use Rattle.pli_coding.specs.Instructions.{small, tested_service}
+use Rattle.pli_coding.specs.Environments.{Environment}
+use Rattle.pli_coding.specs.Streams.{has_fixed, has_text, by_item, number_written, text_written}
+use Rattle.pli_coding.specs.Linking.{Links}
+use Rattle.pli_headline.specs.ProvedSoFar.{Types}
+use Rattle.pli_headline.proofs.Engine.{Base, address, call_at}
+use Rattle.pli_headline.proofs.Items.{Linked, At, straight}
+use Rattle.pli_headline.proofs.Numbers.{IsWide}
+use Rattle.pli_headline.proofs.Bodies.{Ground, Known, zero_is}
+use Rattle.pli_headline.proofs.Jumps.{front_of, back_of}
+use Rattle.pli_headline.proofs.Temporaries.{nothing}
+use Rattle.pli_headline.proofs.Calls.{Serving}
+use Rattle.pli_headline.proofs.Raising.{Routines, small_is}
+use Rattle.pli_headline.proofs.Operators.{valued}
+use Rattle.pli_headline.proofs.Statements.{Block, AllHold, counted_holds}
+use Rattle.pli_headline.proofs.FormatData.{IsOf}
+use Rattle.pli_headline.proofs.EditItems.{putting, Finds, fielded}
+use Rattle.pli_headline.proofs.EditPieces.{field_piece, Shown, shown_state}
+use Rattle.pli_headline.proofs.EditTexts.{at_other_texts, text_piece}
+use Rattle.pli_headline.proofs.TextCalls.{three, told, tested_call}
+use Rattle.pli_headline.proofs.EditChoices.{ValueBehind, item_chosen}
+use Rattle.pli_headline.proofs.Reach.{Family, Aims, Comes, Closed, before_closed, comes_on, onward}
+
+-- ---- numbers in texts
+
+within_wide : (b : Bool) (x z : ℤ) → is_of_precision 31 x ≡ b → cond b (Some x) None ≡ Some z → IsWide z
+within_wide true x z e h = let same : x ≡ z = cc h in subst (λ u. is_of_precision 31 u ≡ true) same e
+within_wide false x z e h = absurd (cc h)
+
+precise_wide : (o : Option ℤ) (z : ℤ) → within_precision 31 o ≡ Some z → IsWide z
+precise_wide None z h = absurd (cc h)
+precise_wide (Some x) z h = within_wide (is_of_precision 31 x) x z refl h
+
+number_wide : (t : List ℕ) (z : ℤ) → number_in_text t ≡ Some z → IsWide z
+number_wide t z h = precise_wide (signed_value (without_trailing_blanks (without_leading_blanks t))) z h
+
+-- ---- 26: the top text as a number
+
+word_told : (c : Call) (v : Services) (o : Option ℤ) → or_status c 0 conversion_code (option_map word o) (λ w. Done v c.memory w 0) ≡ told c.services c.memory 0 conversion_code (λ z. v) word o
+word_told c v None = refl
+word_told c v (Some z) = refl
+
+number_answer : (code : List Instr) (v : Services) (m : List ℕ) (text : List ℕ) (texts : List Entry) → v.entries ≡ TextEntry text ∷ texts → X.to_number_served (call_at code v m) 0 ≡ told v m 0 conversion_code (λ z. with_entries texts v) word (number_in_text text)
+number_answer code v m text texts top =
+    let c = call_at code v m in
+    ap (λ u. on_text u (λ t below. or_status c 0 conversion_code (X.word_in_text 0 t) (λ w. becoming c (with_entries below v) w 0))) top
+    ∙ word_told c (with_entries texts v) (number_in_text text)
+
+-- ---- by F
+
+abbrev pub text_by_fixed : Code
+text_by_fixed = small a0 0 ∷ (tested_service 26 ++ number_written)
+
+shown_converted : (around : Around) (t : List ℕ) (width : ℕ) (o : Option ℤ) (k : ℕ) (s : State) → number_in_text t ≡ o → P.shown_by around (ComputationalText t) (FixedItem width) k s ≡ ((R.or_error around conversion_code o) >>= (λ z. P.shown_by around (ComputationalNumber 31 z) (FixedItem width))) k s
+unfolding P.shown_by R.or_error ◌>>=◌ give
+shown_converted around t width o k s e =
+    ap (λ u. flow_on k (R.or_error around conversion_code u k s) (λ z. P.shown_by around (ComputationalNumber 31 z) (FixedItem width))) e
+
+converted_piece : {links : Links} {code : List Instr} {i : ℕ} {g : Ground} {v : Services} {h t : ℕ → ℕ} {s : State} {aims : Aims (Unit {0})} (closed : Closed code aims) (routines : Routines links code) (f : Family) (around : Around) (width : ℕ) (whole left : List FormatItem) (below : List EditPlace) (text : List ℕ) (texts : List Entry) (k : ℕ) → v.entries ≡ TextEntry text ∷ texts → Finds v.edits (DataFormat (FixedItem width)) whole left below → Linked links code i text_by_fixed → Serving k s v around.line → ((b : Base) → At b i (Known g v h t nothing b) (f b)) → Shown g h t k s (with_entries texts v) around.line (i + 15) (putting whole left ∷ below) aims → Comes code i f v aims (P.shown_by around (ComputationalText text) (FixedItem width) k s)
+unfolding ◌>>=◌
+converted_piece {code = code} {i = i} {g = g} {v = v} {h = h} {t = t} {s = s} {aims = aims} closed routines f around width whole left below text texts k top next l serving at goal =
+    let o = number_in_text text in
+    let v' = with_entries texts v in
+    let next' : ℤ → Meaning (Unit {0}) = λ n. P.shown_by around (ComputationalNumber 31 n) (FixedItem width) in
+    let y : Base → ℕ = λ b. (f b).machine.registers 11 in
+    let z : Base → ℕ = λ b. (f b).machine.registers 12 in
+    let front = small a0 0 ∷ [] in
+    let call = tested_service 26 in
+    let l1 = back_of front (call ++ number_written) l in
+    let e : i + 1 + 5 + 9 ≡ i + 15 = omega arith in
+    let r = straight i f v v (λ b. Known g v h t (three (λ b'. 0) y z) b) (front_of front (call ++ number_written) l) (omega arith) (λ b. (at b).pc)
+    (λ b. let q = (at b).holds in record {
+      body = record { services = q.body.services; registers = q.body.registers; bytes = q.body.bytes; memory = q.body.memory };
+      regs = (small_is _ 0 (zero_is q.body) (lit< tt), (refl, (refl, tt)));
+    }) in
+    subst (Comes code i f v aims) (sym (shown_converted around text width o k s refl))
+    (onward closed r (λ f1 at1.
+    comes_on k (R.or_error around conversion_code o k s) next'
+    (tested_call o (before_closed k next' closed) routines f1 around 26 conversion_code k (λ b. 0) y z (λ n. v') (λ n b. word n) (λ c x0 x1 x2 x3 x4. X.to_number_served c x0) (lit< tt) (lit< tt) refl (λ c u. refl) (λ n. omega arith)
+    (λ b m x3 x4. number_answer code v m text texts top) (front_of call number_written l1) serving at1
+    (λ n f2 found at2.
+    field_piece closed routines f2 around width whole left below 31 n k (number_wide text n found) next (back_of call number_written l1) (at_other_texts texts serving) at2
+    (λ field f3 serving3 at3.
+    subst (λ u. aims.done u f3 (fielded field (putting whole left ∷ below) v') tt (shown_state field s)) (sym e)
+    (goal field f3 serving3 (λ b. record { pc = (at3 b).pc ∙ ap (address b) e; holds = (at3 b).holds })))))))
+
+-- ---- by either
+
+converted_shown : {e : Environment} {block : ℕ} {types : Types} (bl : Block e block types) {links : Links} {code : List Instr} {i : ℕ} {v : Services} {h t : ℕ → ℕ} {s : State} {aims : Aims (List FormatItem)} (closed : Closed code aims) (routines : Routines links code) (f : Family) (around : Around) (width : ℕ) (n : ℕ → ℤ) (whole left : List FormatItem) (below : List EditPlace) (text : List ℕ) (texts : List Entry) (k : ℕ) → v.entries ≡ TextEntry text ∷ texts → Finds v.edits (DataFormat (FixedItem width)) whole left below → Linked links code i text_by_fixed → Serving k s v around.line → AllHold s block types n → ((b : Base) → At b i (Known (bl.ground n) v h t nothing b) (f b)) → ValueBehind bl k around.line h t (i + 15) n whole left below aims → Comes code i f v aims (((P.shown_by around (ComputationalText text) (FixedItem width)) >> (give left)) k s)
+unfolding ◌>>◌ give
+converted_shown bl {code = code} {i = i} {v = v} {s = s} {aims = aims} closed routines f around width n whole left below text texts k top found l serving all at goal =
+    let last : Unit {0} → Meaning (List FormatItem) = λ q. give left in
+    comes_on k (P.shown_by around (ComputationalText text) (FixedItem width) k s) last
+    (converted_piece (before_closed k last closed) routines f around width whole left below text texts k top found l serving at
+    (λ field f1 serving1 at1. record { to = goal (shown_state field s) _ f1 serving1 (λ j b. counted_holds _ (all j b)) refl at1 }))
+
+as_it_is_shown : {e : Environment} {block : ℕ} {types : Types} (bl : Block e block types) {links : Links} {code : List Instr} {i : ℕ} {v : Services} {h t : ℕ → ℕ} {s : State} {aims : Aims (List FormatItem)} (closed : Closed code aims) (f : Family) (around : Around) (width : Option ℕ) (n : ℕ → ℤ) (whole left : List FormatItem) (below : List EditPlace) (text : List ℕ) (texts : List Entry) (k : ℕ) → v.entries ≡ TextEntry text ∷ texts → Finds v.edits (DataFormat (TextItem width)) whole left below → Linked links code i text_written → Serving k s v around.line → AllHold s block types n → ((b : Base) → At b i (Known (bl.ground n) v h t nothing b) (f b)) → ValueBehind bl k around.line h t (i + 2) n whole left below aims → Comes code i f v aims (((P.shown_by around (ComputationalText text) (TextItem width)) >> (give left)) k s)
+unfolding ◌>>◌ give
+as_it_is_shown bl {s = s} closed f around width n whole left below text texts k top found l serving all at goal =
+    let last : Unit {0} → Meaning (List FormatItem) = λ q. give left in
+    comes_on k (P.shown_by around (ComputationalText text) (TextItem width) k s) last
+    (text_piece (before_closed k last closed) f around (ComputationalText text) width whole left below texts k found top l serving at
+    (λ field f1 serving1 at1. record { to = goal (shown_state field s) _ f1 serving1 (λ j b. counted_holds _ (all j b)) refl at1 }))
+
+pub text_shown : {e : Environment} {block : ℕ} {types : Types} (bl : Block e block types) {links : Links} {code : List Instr} {i : ℕ} {v : Services} {h t : ℕ → ℕ} {s : State} {aims : Aims (List FormatItem)} (closed : Closed code aims) (routines : Routines links code) (f : Family) (around : Around) (fs : T.Formats) (d : DataItem) (n : ℕ → ℤ) (whole left : List FormatItem) (below : List EditPlace) (text : List ℕ) (texts : List Entry) (k : ℕ) → IsOf (has_fixed fs) (has_text fs) d → v.entries ≡ TextEntry text ∷ texts → Finds v.edits (DataFormat d) whole left below → Linked links code i (by_item fs text_by_fixed text_written) → Serving k s v around.line → AllHold s block types n → ((b : Base) → At b i (Known (bl.ground n) v h t (valued (E.data_number d)) b) (f b)) → ValueBehind bl k around.line h t (i + size_of (by_item fs text_by_fixed text_written)) n whole left below aims → Comes code i f v aims (((P.shown_by around (ComputationalText text) d) >> (give left)) k s)
+text_shown bl closed routines f around fs (FixedItem width) n whole left below text texts k is top found l serving all at goal =
+    item_chosen bl (has_fixed fs) (has_text fs) closed f (FixedItem width) text_by_fixed text_written n whole left below k around.line is l at
+    (λ j f1 l1 at1 goal1. converted_shown bl closed routines f1 around width n whole left below text texts k top found l1 serving all at1 goal1) goal
+text_shown bl closed routines f around fs (TextItem width) n whole left below text texts k is top found l serving all at goal =
+    item_chosen bl (has_fixed fs) (has_text fs) closed f (TextItem width) text_by_fixed text_written n whole left below k around.line is l at
+    (λ j f1 l1 at1 goal1. as_it_is_shown bl closed f1 around width n whole left below text texts k top found l1 serving all at1 goal1) goal

@@ -1,0 +1,165 @@
+-- Types of scalars: the numbers that variables of a type hold, a bit as 0 or 1, and how they stand in memory.
+use Rattle.std.proofs.Common.{◌≡◌, ℕ, zero, suc, ◌^◌, ◌<◌, ◌≤◌, List, [], ◌∷◌, length, Some, Bool, true, false, refl, sym, ap, ◌∙◌, subst, arith}
+use Rattle.std.specs.Prelude.{ℤ, pos, negsuc, nat_le, slice_get, unwrap_or, if◌then◌else◌}
+use Rattle.std.proofs.Math.Nat.{pow-le-pow_right}
+use Rattle.std.proofs.lemmas.Nat.{pow_pos}
+use Rattle.std.proofs.lemmas.Bool.Decides.{nat_tests}
+use Rattle.rv_meaning.specs.declared.instr.LoadKind.{LoadKind}
+use Rattle.rv_meaning.specs.declared.instr.LoadKind.TheVariants as Load
+use Rattle.rv_meaning.specs.declared.instr.StoreKind.{StoreKind}
+use Rattle.rv_meaning.specs.declared.instr.StoreKind.TheVariants as Store
+use Rattle.rv_meaning.specs.Words.{word, flag}
+use Rattle.pli_language.specs.Tree as T
+use Rattle.pli_typing.specs.TypedTree as Y
+use Rattle.pli_meaning.specs.BasicValues.{BasicValue, BasicNumber, BasicBit}
+use Rattle.pli_meaning.specs.Numbers.{is_of_precision}
+use Rattle.pli_meaning.specs.Texts.{bit_number}
+use Rattle.pli_headline.specs.ProvedSoFar.{plain_variable, IsScalar, IsConstantOf, IsInitial, IsPlain, Types}
+use Rattle.pli_headline.proofs.Numbers.{IsWide}
+use Rattle.pli_headline.proofs.WordPrecisions.{below, below_is}
+
+-- ---- by the type
+
+-- FIXED BINARY or BIT(1)
+abbrev pub IsNumeric : Y.LeafType → Type 0
+IsNumeric (Y.FixedLeaf p) = Unit {0}
+IsNumeric Y.BitLeaf = Unit {0}
+IsNumeric _ = ⊥
+
+pub by_type : (P : Y.LeafType → Type 0) → ((p : ℕ) → P (Y.FixedLeaf p)) → P Y.BitLeaf → (type : Y.LeafType) → IsNumeric type → P type
+by_type P fixed bit (Y.FixedLeaf p) is = fixed p
+by_type P fixed bit Y.BitLeaf is = bit
+by_type P fixed bit _ is = absurd is
+
+pub is_numeric : (type : Y.LeafType) → IsScalar type → IsNumeric type
+is_numeric (Y.FixedLeaf p) is = tt
+is_numeric Y.BitLeaf is = tt
+is_numeric _ is = absurd is
+
+pub by_plain : (P : Y.DeclaredVariable → Type 0) → ((p : ℕ) (i : List T.InitialItem) → P (plain_variable (Y.FixedLeaf p) i)) → ((i : List T.InitialItem) → P (plain_variable Y.BitLeaf i)) → (d : Y.DeclaredVariable) → IsPlain d → P d
+by_plain P fixed bit d is =
+    subst P (sym is.is) (by_type (λ t. P (plain_variable t is.initial)) (λ p. fixed p is.initial) (bit is.initial) is.type (is_numeric is.type is.scalar))
+
+-- ---- values
+
+-- 0 is the bit that isn't set
+abbrev pub bit_of : ℤ → Bool
+bit_of (pos zero) = false
+bit_of _ = true
+
+-- what a variable of a type holds, by its number
+abbrev pub value_as : Y.LeafType → ℤ → BasicValue
+value_as Y.BitLeaf z = BasicBit (bit_of z)
+value_as _ z = BasicNumber z
+
+-- the numbers of a type
+abbrev pub Fits : Y.LeafType → ℤ → Type 0
+Fits (Y.FixedLeaf p) z = (p ≤ 31) × (is_of_precision p z ≡ true)
+Fits Y.BitLeaf z = z ≡ bit_number (bit_of z)
+Fits _ z = ⊥
+
+pub bit_back : (b : Bool) → bit_of (bit_number b) ≡ b
+bit_back true = refl
+bit_back false = refl
+
+pub bit_fits : (b : Bool) → Fits Y.BitLeaf (bit_number b)
+bit_fits true = refl
+bit_fits false = refl
+
+pub bit_wide : (b : Bool) → IsWide (bit_number b)
+bit_wide true = refl
+bit_wide false = refl
+
+pub bit_word : (b : Bool) → flag b ≡ word (bit_number b)
+bit_word true = refl
+bit_word false = refl
+
+below_more : (m n : ℕ) → m ≤ n → (z : ℤ) → below m z ≡ true → below n z ≡ true
+below_more m n h (pos x) e = grind (arith, nat_tests)
+below_more m n h (negsuc x) e = grind (arith, nat_tests)
+
+-- fewer bits are enough for more
+pub fewer_bits : (p q : ℕ) (z : ℤ) → p ≤ q → is_of_precision p z ≡ true → is_of_precision q z ≡ true
+fewer_bits p q z h e =
+    let two : 0 < 2 = omega arith in
+    below_is q z ∙ below_more (2 ^ p) (2 ^ q) (pow-le-pow_right two h) z (sym (below_is p z) ∙ e)
+
+pub fits_wide : (type : Y.LeafType) (z : ℤ) → Fits type z → IsWide z
+fits_wide (Y.FixedLeaf p) z fits = fewer_bits p 31 z fits.0 fits.1
+fits_wide Y.BitLeaf z fits = subst IsWide (sym fits) (bit_wide (bit_of z))
+fits_wide _ z fits = absurd fits
+
+pub fits_numeric : (type : Y.LeafType) (z : ℤ) → Fits type z → IsNumeric type
+fits_numeric (Y.FixedLeaf p) z fits = tt
+fits_numeric Y.BitLeaf z fits = tt
+fits_numeric _ z fits = absurd fits
+
+-- all scalars may hold 0
+pub zero_fits : (type : Y.LeafType) → IsScalar type → Fits type (pos 0)
+zero_fits (Y.FixedLeaf p) is = (is.1, zero_precise p)
+  where
+    zero_precise : (p : ℕ) → is_of_precision p (pos 0) ≡ true
+    zero_precise p = let e : 0 < 2 ^ p = pow_pos p in grind (arith, nat_tests)
+zero_fits Y.BitLeaf is = refl
+zero_fits _ is = absurd is
+
+-- ---- INITIAL
+
+-- a type, and what INITIAL gives
+pub record Scalar : Type 0 where
+  pub type : Y.LeafType
+  pub initial : List T.InitialItem
+
+abbrev pub constant_number : T.InitialValue → ℤ
+constant_number (T.InitialNumber z) = z
+constant_number (T.InitialBit b) = bit_number b
+constant_number _ = pos 0
+
+-- the number with which a scalar begins
+abbrev pub begin_of : List T.InitialItem → ℤ
+begin_of [] = pos 0
+begin_of (i ∷ is) = constant_number i.value
+
+constant_fits : (type : Y.LeafType) (v : T.InitialValue) → IsScalar type → IsConstantOf type v → Fits type (constant_number v)
+constant_fits (Y.FixedLeaf p) (T.InitialNumber z) is h = (is.1, h)
+constant_fits Y.BitLeaf (T.InitialBit b) is h = bit_fits b
+constant_fits _ _ is h = absurd h
+
+pub begin_fits : (type : Y.LeafType) (items : List T.InitialItem) → IsScalar type → IsInitial type items → Fits type (begin_of items)
+begin_fits type [] is h = zero_fits type is
+begin_fits type (i ∷ []) is h = constant_fits type i.value is h.1
+begin_fits type _ is h = absurd h
+
+-- ---- in memory
+
+abbrev pub load_kind : Y.LeafType → LoadKind
+load_kind (Y.FixedLeaf p) = if nat_le p 15 then Load.Half else Load.Word
+load_kind Y.BitLeaf = Load.ByteUnsigned
+load_kind _ = Load.Word
+
+abbrev pub store_kind : Y.LeafType → StoreKind
+store_kind (Y.FixedLeaf p) = if nat_le p 15 then Store.Half else Store.Word
+store_kind Y.BitLeaf = Store.Byte
+store_kind _ = Store.Word
+
+-- ---- the types as a function of places
+
+abbrev pub kind_at : Types → ℕ → Y.LeafType
+kind_at types j = unwrap_or (slice_get types j) Y.BitLeaf
+
+-- a place that has a type
+abbrev pub Typed : Types → ℕ → Type 0
+Typed types j = (type : Y.LeafType) × (slice_get types j ≡ Some type)
+
+pub kind_is : (types : Types) (j : ℕ) {type : Y.LeafType} → slice_get types j ≡ Some type → kind_at types j ≡ type
+kind_is types j h = ap (λ o. unwrap_or o Y.BitLeaf) h
+
+pub place_below : {A : Type 0} (xs : List A) (j : ℕ) (x : A) → slice_get xs j ≡ Some x → j < length xs
+place_below [] j x h = absurd (cc h)
+place_below (y ∷ ys) zero x h = omega arith
+place_below (y ∷ ys) (suc j) x h = let m = place_below ys j x h in omega (arith, m)
+
+pub place_taken : {A : Type 0} (xs : List A) (j : ℕ) → j < length xs → (x : A) × (slice_get xs j ≡ Some x)
+place_taken [] j h = absurd (omega (arith, h))
+place_taken (y ∷ ys) zero h = (y, refl)
+place_taken (y ∷ ys) (suc j) h = place_taken ys j (omega (arith, h))
