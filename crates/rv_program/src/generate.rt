@@ -6,6 +6,7 @@ ghost use Rattle.rv_meaning.specs.Images.{image};
 ghost use Rattle.pli_typing.specs.TypedStatementView.{program_of};
 ghost use Rattle.pli_coding.specs.Linking.{data_bytes};
 ghost use Rattle.pli_coding.specs.Images as form;
+ghost use Rattle.pli_frames.specs.Parts.{parts};
 ghost use Rattle.rv_assembly.specs.Fitting.{AllFit};
 ghost use Rattle.rv_program.specs.Generated.{IsCodeOf};
 
