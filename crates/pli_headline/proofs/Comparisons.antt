@@ -18,7 +18,7 @@ use Rattle.pli_headline.proofs.Bodies.{Ground, zero_is}
 use Rattle.pli_headline.proofs.Operators.{valued, paired}
 use Rattle.pli_headline.proofs.Evaluations.{bit_kind, Operates, straight_operates}
 
-compared_operates : {links : Links} {code : List Instr} {g : Ground} {v : Services} {s : State} {k : ℕ} (c : Y.Comparison) (l r : ℕ) (z : Bool) → compared_word c l r ≡ flag z → Operates bit_kind links code g v s k 1 (paired l r) (λ taken. compared_code c) (give z)
+compared_operates : {links : Links} {code : List Instr} {g : Ground} {v : Services} {s : State} {k words : ℕ} (c : Y.Comparison) (l r : ℕ) (z : Bool) → compared_word c l r ≡ flag z → Operates bit_kind links code g v s k words (paired l r) (λ taken. compared_code c) (give z)
 compared_operates Y.IsEqual l r z e =
     straight_operates z tt
     (λ h t b i w o. record {
@@ -62,7 +62,7 @@ compared_operates Y.IsGreaterOrEqual l r z e =
       regs = (ap (λ u. compared_word Y.IsGreaterOrEqual u (w.machine.registers 10)) o.regs.0 ∙ ap (compared_word Y.IsGreaterOrEqual l) o.regs.1.0 ∙ e, tt);
     })
 
-pub numbers_operate : {links : Links} {code : List Instr} {g : Ground} {v : Services} {s : State} {k : ℕ} (c : Y.Comparison) (x y : ℤ) → IsWide x → IsWide y → Operates bit_kind links code g v s k 1 (paired (word x) (word y)) (λ taken. compared_code c) (give (holds c (int_cmp x y)))
+pub numbers_operate : {links : Links} {code : List Instr} {g : Ground} {v : Services} {s : State} {k words : ℕ} (c : Y.Comparison) (x y : ℤ) → IsWide x → IsWide y → Operates bit_kind links code g v s k words (paired (word x) (word y)) (λ taken. compared_code c) (give (holds c (int_cmp x y)))
 numbers_operate c x y wx wy = compared_operates c (word x) (word y) (holds c (int_cmp x y)) (numbers_compared c x y wx wy)
 
 pub bits_operate : {links : Links} {code : List Instr} {g : Ground} {v : Services} {s : State} {k : ℕ} (c : Y.Comparison) (a b : Bool) → Operates bit_kind links code g v s k 1 (paired (flag a) (flag b)) (λ taken. compared_code c) (give (holds c (bit_order a b)))

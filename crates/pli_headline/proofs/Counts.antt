@@ -37,7 +37,6 @@ use Rattle.pli_headline.proofs.Bodies.{Known}
 use Rattle.pli_headline.proofs.Jumps.{front_of, back_of, linked_at}
 use Rattle.pli_headline.proofs.Temporaries.{Stays, stays_same, stays_then, put, put_other, put_same, nothing}
 use Rattle.pli_headline.proofs.Calls.{Serving}
-use Rattle.pli_headline.proofs.Raising.{Routines}
 use Rattle.pli_headline.proofs.Acts.{acted, act_from, act_piece}
 use Rattle.pli_headline.proofs.Variables.{whole, own, outermost}
 use Rattle.pli_headline.proofs.Operators.{valued, sum_piece, sum_zero}
@@ -45,7 +44,7 @@ use Rattle.pli_headline.proofs.Expressions.{number_does}
 use Rattle.pli_headline.proofs.Scalars.{Fits}
 use Rattle.pli_headline.proofs.Precisions.{fitted_piece}
 use Rattle.pli_headline.proofs.States.{with_number_at, holds_assigned}
-use Rattle.pli_headline.proofs.Statements.{Block, AllHold, counted_holds, Behind, Enough, further, Does}
+use Rattle.pli_headline.proofs.Statements.{Standing, Block, AllHold, counted_holds, Behind, Enough, further, Does}
 use Rattle.pli_headline.proofs.Ifs.{setting}
 use Rattle.pli_headline.proofs.Waiting.{kept_piece, read_piece, stays_fewer, stays_kept}
 use Rattle.pli_headline.proofs.Counters.{line_code, on_line, line_piece, counter_piece}
@@ -71,6 +70,9 @@ turning bl =
       writes = bl.writes;
     }
 
+pub standing_turning : {e : Environment} {block : ℕ} {types : Types} {bl : Block e block types} {links : Links} {code : List Instr} → Standing bl links code → Standing (turning bl) links code
+standing_turning s = record { raises = s.raises; constants = s.constants }
+
 -- a jump out of it leaves fewer words that wait
 turning_enough : {e : Environment} {block : ℕ} {types : Types} (bl : Block e block types) {links : Links} {k turns i : ℕ} {h t : ℕ → ℕ} {acts : ℕ} {jumped : ℕ → Family → Services → ℕ → Label → State → Type 0} → Enough bl links k turns i h t acts jumped → Enough (turning bl) links k turns i h t acts jumped
 turning_enough bl more =
@@ -94,7 +96,7 @@ turning_enough bl more =
 abbrev lefted : ℕ → Base → List (ℕ × ℕ)
 lefted x b = (6, x) ∷ []
 
-pub stepping_piece : {links : Links} {code : List Instr} {i : ℕ} {v : Services} {h t : ℕ → ℕ} {s : State} {aims : Aims (Unit {0})} {e : Environment} {block : ℕ} {types : Types} (bl : Block e block types) (routines : Routines links code) (around : Around) (line : ℕ) (j p : ℕ) (step : ℤ) (closed : Closed code aims) (n : ℕ → ℤ) (f : Family) (old k : ℕ) → line < 2 ^ 31 → p ≤ 31 → slice_get types j ≡ Some (Y.FixedLeaf p) → IsWide step → t (bl.taken.words + 1) ≡ word step → bl.taken.words + 3 ≤ bl.words → Linked links code i (stepped_code (outermost e) bl.taken (counting block j p) line) → Serving k s v old → AllHold s block types n → ((b : Base) → At b i (Known (bl.ground n) v h t nothing b) (f b)) → ((z : ℤ) (f' : Family) (h' t' : ℕ → ℕ) → Fits (Y.FixedLeaf p) z → Stays (in_turns bl.taken) h t h' t' → Serving k s (on_line line v) line → ((b : Base) → At b (i + size_of (stepped_code (outermost e) bl.taken (counting block j p) line)) (Known (bl.ground n) (on_line line v) h' t' (valued (word z)) b) (f' b)) → Comes code (i + size_of (stepped_code (outermost e) bl.taken (counting block j p) line)) f' (on_line line v) aims (M.assigned (at_line around line) (whole (own block j)) (BasicNumber z) k s)) → Comes code i f v aims (M.stepped (at_line around line) (counting block j p) step k s)
+pub stepping_piece : {links : Links} {code : List Instr} {i : ℕ} {v : Services} {h t : ℕ → ℕ} {s : State} {aims : Aims (Unit {0})} {e : Environment} {block : ℕ} {types : Types} (bl : Block e block types) (routines : Standing bl links code) (around : Around) (line : ℕ) (j p : ℕ) (step : ℤ) (closed : Closed code aims) (n : ℕ → ℤ) (f : Family) (old k : ℕ) → line < 2 ^ 31 → p ≤ 31 → slice_get types j ≡ Some (Y.FixedLeaf p) → IsWide step → t (bl.taken.words + 1) ≡ word step → bl.taken.words + 3 ≤ bl.words → Linked links code i (stepped_code (outermost e) bl.taken (counting block j p) line) → Serving k s v old → AllHold s block types n → ((b : Base) → At b i (Known (bl.ground n) v h t nothing b) (f b)) → ((z : ℤ) (f' : Family) (h' t' : ℕ → ℕ) → Fits (Y.FixedLeaf p) z → Stays (in_turns bl.taken) h t h' t' → Serving k s (on_line line v) line → ((b : Base) → At b (i + size_of (stepped_code (outermost e) bl.taken (counting block j p) line)) (Known (bl.ground n) (on_line line v) h' t' (valued (word z)) b) (f' b)) → Comes code (i + size_of (stepped_code (outermost e) bl.taken (counting block j p) line)) f' (on_line line v) aims (M.assigned (at_line around line) (whole (own block j)) (BasicNumber z) k s)) → Comes code i f v aims (M.stepped (at_line around line) (counting block j p) step k s)
 unfolding M.stepped M.counter_number M.counter_value V.number ◌>>=◌ give
 stepping_piece {links = links} {code = code} {i = i} {v = v} {h = h} {t = t} {s = s} {aims = aims} {e = e} {block = block} {types = types} bl routines around line j p step closed n f old k fits few below ws at_step room l serving all at goal =
     let here = at_line around line in
@@ -141,12 +143,12 @@ stepping_piece {links = links} {code = code} {i = i} {v = v} {h = h} {t = t} {s 
     onward closed (read_piece (bl.temps n) (j1 + size_of a + 1) f3 a0 (bl.taken.words + 1) (word step) (omega (arith, room, w)) (stays2.words (bl.taken.words + 1) (omega arith) ∙ at_step) (record { reserved_stay = λ y u. refl; known_stay = λ b y u q. q; set = λ y u. refl }) (record { reserved_stay = λ y u. refl; known_stay = λ b y u q. q; set = λ y u. refl }) (front_of c (d ++ q) l4) at3)
     (λ f4 at4.
     comes_on k (R.value_of here (checked 31 (z +ℤ step)) k s) next2
-    (sum_piece (before_closed k next2 closed) routines (bl.temps n) f4 here taken z step k wz ws (λ none. omega (arith, room, w)) (front_of d q l5) serving1
+    (sum_piece (before_closed k next2 closed) routines.raises (bl.temps n) f4 here taken z step k wz ws (λ none. omega (arith, room, w)) (front_of d q l5) serving1
     (λ b. let o = at4 b in record { pc = o.pc; holds = record { body = o.holds.body; regs = (o.holds.regs.1.0, (o.holds.regs.0, tt)) } })
     (λ z2 f5 w2 at5.
     comes_on k (M.counter_value here (counting block j p) z2 k s) store
     (comes_on k (R.value_of here (checked p z2) k s) as_value
-    (fitted_piece (before_closed k as_value (before_closed k store closed)) routines (bl.temps n) f5 here taken p z2 k few w2 (λ none. omega (arith, room, w)) (back_of d q l5) serving1 at5
+    (fitted_piece (before_closed k as_value (before_closed k store closed)) routines.raises (bl.temps n) f5 here taken p z2 k few w2 (λ none. omega (arith, room, w)) (back_of d q l5) serving1 at5
     (λ f6 fits6 at6. record {
       to =
           subst (λ u. Comes code u f6 v1 aims (M.assigned here target (BasicNumber z2) k s)) (sym there)
@@ -172,7 +174,7 @@ limit_stays (Some x) None t t' j e waits = absurd waits
 limit_stays (Some x) (Some m) t t' j e waits = (waits.0, e ∙ waits.1)
 
 -- from the act of a turn on, with credits enough for it
-head_piece : {e : Environment} {block : ℕ} {types : Types} (bl : Block e block types) {links : Links} {code : List Instr} (routines : Routines links code) (around : Around) (j p : ℕ) (limit : Option Y.Number) (most : Option ℤ) (step : ℤ) (condition : Option Y.Bit) (line : ℕ) (c : Code) (part : Meaning (Unit {0})) → slice_get types j ≡ Some (Y.FixedLeaf p) → IsWide step → IsProvedBitIf block types condition → bl.taken.words + 3 ≤ bl.words → bl.taken.words + 2 + bit_if condition ≤ bl.words → line < 2 ^ 31 → Does (turning bl) links code around.turns c part → (turns : ℕ) {i : ℕ} {s : State} {v : Services} {h t : ℕ → ℕ} {aims : Aims (Unit {0})} (closed : Closed code aims) (credits old : ℕ) (n : ℕ → ℤ) (f : Family) (k : ℕ) → k < turns + v.world.acts → credits + size_of (act_code line) ≤ cost code → Linked links code i (turns_of bl j p limit condition line c) → LimitWaits limit most t bl.taken.words → t (bl.taken.words + 1) ≡ word step → Serving k s v old → AllHold s block types n → ((b : Base) → At b (i + size_of (word_stored (outermost e) (in_turns bl.taken) (whole (own block j)))) (Known (bl.ground n) v h t nothing b) (f b)) → Behind bl k h t (i + size_of (turns_of bl j p limit condition line c)) aims → Enough bl links k around.turns i h t v.world.acts aims.jumped → Comes code credits f v aims (repeated_while turns (M.turn_due (at_line around line) (counting block j p) most step condition) (part >> (M.stepped (at_line around line) (counting block j p) step)) k s)
+head_piece : {e : Environment} {block : ℕ} {types : Types} (bl : Block e block types) {links : Links} {code : List Instr} (routines : Standing bl links code) (around : Around) (j p : ℕ) (limit : Option Y.Number) (most : Option ℤ) (step : ℤ) (condition : Option Y.Bit) (line : ℕ) (c : Code) (part : Meaning (Unit {0})) → slice_get types j ≡ Some (Y.FixedLeaf p) → IsWide step → IsProvedBitIf block types condition → bl.taken.words + 3 ≤ bl.words → bl.taken.words + 2 + bit_if condition ≤ bl.words → line < 2 ^ 31 → Does (turning bl) links code around.turns c part → (turns : ℕ) {i : ℕ} {s : State} {v : Services} {h t : ℕ → ℕ} {aims : Aims (Unit {0})} (closed : Closed code aims) (credits old : ℕ) (n : ℕ → ℤ) (f : Family) (k : ℕ) → k < turns + v.world.acts → credits + size_of (act_code line) ≤ cost code → Linked links code i (turns_of bl j p limit condition line c) → LimitWaits limit most t bl.taken.words → t (bl.taken.words + 1) ≡ word step → Serving k s v old → AllHold s block types n → ((b : Base) → At b (i + size_of (word_stored (outermost e) (in_turns bl.taken) (whole (own block j)))) (Known (bl.ground n) v h t nothing b) (f b)) → Behind bl k h t (i + size_of (turns_of bl j p limit condition line c)) aims → Enough bl links k around.turns i h t v.world.acts aims.jumped → Comes code credits f v aims (repeated_while turns (M.turn_due (at_line around line) (counting block j p) most step condition) (part >> (M.stepped (at_line around line) (counting block j p) step)) k s)
 unfolding repeated_while M.turn_due ◌>>=◌ ◌>>◌ give stuck choose
 head_piece bl routines around j p limit most step condition line c part below ws is room room' fits inner zero closed credits old n f k enough paid l waits at_step serving all at goal more =
     absurd (let a = serving.allowed in omega (arith, a, enough))
@@ -278,7 +280,7 @@ other_place : (i k : ℕ) → k < i → (i == k) ≡ false
 other_place i k h = grind (arith, nat_tests)
 
 -- a number is evaluated while three words may wait, and kept in one of them
-number_kept : {links : Links} {code : List Instr} {i : ℕ} {v : Services} {h t : ℕ → ℕ} {s : State} {aims : Aims ℤ} {e : Environment} {block : ℕ} {types : Types} (bl : Block e block types) (routines : Routines links code) (around : Around) (x : Y.Number) (n : ℕ → ℤ) (j : ℕ) (closed : Closed code aims) (f : Family) (k : ℕ) → IsProvedNumber block types x → bl.taken.words + 3 + number_words x ≤ bl.words → j < bl.words → Linked links code i (number_code (outermost e) (before_turns bl.taken) x ++ store_word frame_register a0 (words_place j 1)) → Serving k s v around.line → AllHold s block types n → ((b : Base) → At b i (Known (bl.ground n) v h t nothing b) (f b)) → ((z : ℤ) (f' : Family) (h' t' : ℕ → ℕ) → IsWide z → Stays (before_turns bl.taken) h t h' t' → ((b : Base) → At b (i + size_of (number_code (outermost e) (before_turns bl.taken) x ++ store_word frame_register a0 (words_place j 1))) (Known (bl.ground n) v h' (put t' j (word z)) nothing b) (f' b)) → aims.done (i + size_of (number_code (outermost e) (before_turns bl.taken) x ++ store_word frame_register a0 (words_place j 1))) f' v z s) → Comes code i f v aims (V.number around x k s)
+number_kept : {links : Links} {code : List Instr} {i : ℕ} {v : Services} {h t : ℕ → ℕ} {s : State} {aims : Aims ℤ} {e : Environment} {block : ℕ} {types : Types} (bl : Block e block types) (routines : Standing bl links code) (around : Around) (x : Y.Number) (n : ℕ → ℤ) (j : ℕ) (closed : Closed code aims) (f : Family) (k : ℕ) → IsProvedNumber block types x → bl.taken.words + 3 + number_words x ≤ bl.words → j < bl.words → Linked links code i (number_code (outermost e) (before_turns bl.taken) x ++ store_word frame_register a0 (words_place j 1)) → Serving k s v around.line → AllHold s block types n → ((b : Base) → At b i (Known (bl.ground n) v h t nothing b) (f b)) → ((z : ℤ) (f' : Family) (h' t' : ℕ → ℕ) → IsWide z → Stays (before_turns bl.taken) h t h' t' → ((b : Base) → At b (i + size_of (number_code (outermost e) (before_turns bl.taken) x ++ store_word frame_register a0 (words_place j 1))) (Known (bl.ground n) v h' (put t' j (word z)) nothing b) (f' b)) → aims.done (i + size_of (number_code (outermost e) (before_turns bl.taken) x ++ store_word frame_register a0 (words_place j 1))) f' v z s) → Comes code i f v aims (V.number around x k s)
 number_kept {i = i} {v = v} {s = s} {aims = aims} {e = e} bl routines around x n j closed f k is room inside l serving all at goal =
     let a = number_code (outermost e) (before_turns bl.taken) x in
     let c = store_word frame_register a0 (words_place j 1) in
@@ -292,7 +294,7 @@ number_kept {i = i} {v = v} {s = s} {aims = aims} {e = e} bl routines around x n
     (subst (λ u. aims.done u (reached r) v z s) (sym place)
     (goal z (reached r) h1 t1 wz stays (λ b. record { pc = (reached_holds r b).pc ∙ ap (address b) place; holds = (reached_holds r b).holds }))))
 
-limit_kept_piece : {links : Links} {code : List Instr} {i : ℕ} {v : Services} {h t : ℕ → ℕ} {s : State} {aims : Aims (Option ℤ)} {e : Environment} {block : ℕ} {types : Types} (bl : Block e block types) (routines : Routines links code) (around : Around) (limit : Option Y.Number) (n : ℕ → ℤ) (closed : Closed code aims) (f : Family) (k : ℕ) → IsProvedNumberIf block types limit → bl.taken.words + 3 + number_if limit ≤ bl.words → Linked links code i (limit_code (outermost e) bl.taken limit) → Serving k s v around.line → AllHold s block types n → ((b : Base) → At b i (Known (bl.ground n) v h t nothing b) (f b)) → ((most : Option ℤ) (f' : Family) (h' t' : ℕ → ℕ) → LimitWaits limit most t' bl.taken.words → Stays bl.taken h t h' t' → t' (bl.taken.words + 2) ≡ t (bl.taken.words + 2) → ((b : Base) → At b (i + size_of (limit_code (outermost e) bl.taken limit)) (Known (bl.ground n) v h' t' nothing b) (f' b)) → aims.done (i + size_of (limit_code (outermost e) bl.taken limit)) f' v most s) → Comes code i f v aims (M.limit_of around limit k s)
+limit_kept_piece : {links : Links} {code : List Instr} {i : ℕ} {v : Services} {h t : ℕ → ℕ} {s : State} {aims : Aims (Option ℤ)} {e : Environment} {block : ℕ} {types : Types} (bl : Block e block types) (routines : Standing bl links code) (around : Around) (limit : Option Y.Number) (n : ℕ → ℤ) (closed : Closed code aims) (f : Family) (k : ℕ) → IsProvedNumberIf block types limit → bl.taken.words + 3 + number_if limit ≤ bl.words → Linked links code i (limit_code (outermost e) bl.taken limit) → Serving k s v around.line → AllHold s block types n → ((b : Base) → At b i (Known (bl.ground n) v h t nothing b) (f b)) → ((most : Option ℤ) (f' : Family) (h' t' : ℕ → ℕ) → LimitWaits limit most t' bl.taken.words → Stays bl.taken h t h' t' → t' (bl.taken.words + 2) ≡ t (bl.taken.words + 2) → ((b : Base) → At b (i + size_of (limit_code (outermost e) bl.taken limit)) (Known (bl.ground n) v h' t' nothing b) (f' b)) → aims.done (i + size_of (limit_code (outermost e) bl.taken limit)) f' v most s) → Comes code i f v aims (M.limit_of around limit k s)
 unfolding M.limit_of ◌>>=◌ give
 limit_kept_piece {i = i} {v = v} {h = h} {t = t} {s = s} {aims = aims} bl routines around None n closed f k is room l serving all at goal =
     let same : i ≡ i + 0 = omega arith in
@@ -316,7 +318,7 @@ abbrev count_rest : Around → (line : ℕ) → Y.Counter → Option Y.Number �
 count_rest around line counter limit step condition part value =
     (M.limit_of (at_line around line) limit) >>= (λ most. (V.number (at_line around line) step) >>= (λ by. (M.counter_started (at_line around line) counter value) >>= (λ first. (M.assigned (at_line around line) (M.reference_of counter) first) >> (repeated_while around.turns (M.turn_due (at_line around line) counter most by condition) (part >> (M.stepped (at_line around line) counter by))))))
 
-pub count_does : {e : Environment} {block : ℕ} {types : Types} (bl : Block e block types) (links : Links) (code : List Instr) (routines : Routines links code) (around : Around) (j precision p : ℕ) (x : Y.Number) (limit : Option Y.Number) (step : Y.Number) (condition : Option Y.Bit) (body : Y.Stmts) (line : ℕ) → slice_get types j ≡ Some (Y.FixedLeaf precision) → IsProvedNumber block types x → IsProvedNumberIf block types limit → IsProvedNumber block types step → IsProvedBitIf block types condition → bl.taken.words + 3 + number_words x ≤ bl.words → bl.taken.words + 3 + number_if limit ≤ bl.words → bl.taken.words + 3 + number_words step ≤ bl.words → bl.taken.words + 2 + bit_if condition ≤ bl.words → line < 2 ^ 31 → Does (turning bl) links code around.turns (stmts_code (outermost e) (in_turns bl.taken) body) (M.list around body) → Does bl links code around.turns (stmt_code (outermost e) bl.taken (Y.DoCount (counting block j precision) (Y.NumberValue p x) limit step condition body line)) (M.statement around (Y.DoCount (counting block j precision) (Y.NumberValue p x) limit step condition body line))
+pub count_does : {e : Environment} {block : ℕ} {types : Types} (bl : Block e block types) (links : Links) (code : List Instr) (routines : Standing bl links code) (around : Around) (j precision p : ℕ) (x : Y.Number) (limit : Option Y.Number) (step : Y.Number) (condition : Option Y.Bit) (body : Y.Stmts) (line : ℕ) → slice_get types j ≡ Some (Y.FixedLeaf precision) → IsProvedNumber block types x → IsProvedNumberIf block types limit → IsProvedNumber block types step → IsProvedBitIf block types condition → bl.taken.words + 3 + number_words x ≤ bl.words → bl.taken.words + 3 + number_if limit ≤ bl.words → bl.taken.words + 3 + number_words step ≤ bl.words → bl.taken.words + 2 + bit_if condition ≤ bl.words → line < 2 ^ 31 → Does (turning bl) links code around.turns (stmts_code (outermost e) (in_turns bl.taken) body) (M.list around body) → Does bl links code around.turns (stmt_code (outermost e) bl.taken (Y.DoCount (counting block j precision) (Y.NumberValue p x) limit step condition body line)) (M.statement around (Y.DoCount (counting block j precision) (Y.NumberValue p x) limit step condition body line))
 unfolding M.statement M.list V.computational M.counter_started M.counter_value R.or_error ◌>>=◌ ◌>>◌ give
 count_does {e} {block} {types} bl links code routines around j precision p x limit step condition body line below isx isl iss isc roomx rooml rooms roomc fits inner =
     record {
@@ -395,7 +397,7 @@ count_does {e} {block} {types} bl links code routines around j precision p x lim
                 (λ f5 at5.
                 comes_on k (M.counter_started here counter (V.ComputationalNumber p z0) k s') store
                 (comes_on k (R.value_of here (checked precision z0) k s') as_stored
-                (fitted_piece (before_closed k as_stored (before_closed k store closed)) routines (bl.temps n) f5 here (in_turns bl.taken) precision z0 k few wz0 (λ none. omega (arith, roomx, words)) (back_of c3 c4 l3) serving1 at5
+                (fitted_piece (before_closed k as_stored (before_closed k store closed)) routines.raises (bl.temps n) f5 here (in_turns bl.taken) precision z0 k few wz0 (λ none. omega (arith, roomx, words)) (back_of c3 c4 l3) serving1 at5
                 (λ f5' fits5 at5'.
                 record {
                   to =

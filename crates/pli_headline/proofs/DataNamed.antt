@@ -1,8 +1,10 @@
--- The data that code names, and bytes that stand in the first memory.
-use Rattle.std.proofs.Common.{◌≡◌, ℕ, ◌+◌, ◌*◌, ◌^◌, ◌<◌, ◌≤◌, ◌⊎◌, inl, inr, List, [], ◌∷◌, ◌++◌, length}
+-- The data that code names, the data that have places, and bytes that stand in the first memory.
+use Rattle.std.proofs.Common.{◌≡◌, ℕ, ◌+◌, ◌*◌, ◌^◌, ◌<◌, ◌≤◌, ◌⊎◌, inl, inr, List, [], ◌∷◌, ◌++◌, length, true}
 use Rattle.std.specs.Prelude.{slice_index}
+use Rattle.std.specs.List.{list_any}
 use Rattle.rv_meaning.specs.declared.instr.Instr.{Instr}
-use Rattle.pli_coding.specs.Assembly.{Datum, DataPlace, Item, OffsetOf, Code}
+use Rattle.pli_coding.specs.Assembly.{Datum, same_datum, DataPlace, Item, OffsetOf, Code}
+use Rattle.pli_coding.specs.StaticData.{PlacedDatum}
 
 abbrev pub Names : Datum → Item → Type 0
 Names d (OffsetOf r s) = s ≡ DataPlace d
@@ -21,6 +23,10 @@ is_named_front d (x ∷ xs) ys (inr h) = inr (is_named_front d xs ys h)
 pub is_named_back : (d : Datum) (xs ys : Code) → IsNamed d ys → IsNamed d (xs ++ ys)
 is_named_back d [] ys h = h
 is_named_back d (x ∷ xs) ys h = inr (is_named_back d xs ys h)
+
+-- a datum that has a place behind the code
+abbrev pub IsPlaced : Datum → List PlacedDatum → Type 0
+IsPlaced d ps = list_any (λ (p : PlacedDatum). same_datum d p.datum) ps ≡ true
 
 -- bytes that stand in the first memory, behind the code and below the stacks
 pub record BytesStand (code : List Instr) (first : List ℕ) (at : ℕ) (bytes : List ℕ) : Type 0 where

@@ -1,12 +1,12 @@
 -- A datum that code names is one of its static data.
 use Rattle.std.proofs.Common.{◌≡◌, ℕ, List, [], ◌∷◌, ◌++◌, ◌⊎◌, inl, inr, Bool, true, false, refl, sym, ap, ◌∙◌, subst}
-use Rattle.std.specs.Prelude.{cond, ◌==◌, ◌&&◌}
+use Rattle.std.specs.Prelude.{cond, ◌==◌, ◌&&◌, ◌+◌, ◌||◌}
 use Rattle.std.specs.List.{flat_map, filter, list_any}
 use Rattle.std.proofs.lemmas.Bool.{eqb-true, eq-eqb, and_parts, and_from, or_cases, or_left, or_right}
 use Rattle.std.proofs.lemmas.List.Folds.{list_any-append}
 use Rattle.pli_language.specs.Keywords.{same_bytes}
 use Rattle.pli_coding.specs.Assembly.{InitialLeaf, Datum, ConstantBytes, InitialValues, NumberWord, StaticStorage, same_initial, same_datum, Plain, BaseIn, OffsetOf, OffsetAhead, JumpTo, CallTo, JumpAhead, JumpBack, Mark, Code}
-use Rattle.pli_coding.specs.StaticData.{data_of_symbol, data_named, once, is_initial, is_constant, is_word, is_storage, values_of, ordered, static_data}
+use Rattle.pli_coding.specs.StaticData.{PlacedDatum, begins_at, datum_size, placed_from, data_of_symbol, data_named, once, is_initial, is_constant, is_word, is_storage, values_of, ordered, static_data}
 use Rattle.pli_headline.proofs.DataNamed.{IsNamed}
 
 -- ---- equal data
@@ -205,3 +205,8 @@ values_has code leaves v h k =
     (has_front (once [] (constants ++ flat_map values_of named)) _ v
     (has_once (constants ++ flat_map values_of named) v
     (has_back constants (flat_map values_of named) v (has_flat named (InitialValues leaves) v all k))))
+
+-- what is there has a place
+pub placed_same : (d : Datum) (at : ℕ) (ds : List Datum) → list_any (λ (p : PlacedDatum). same_datum d p.datum) (placed_from at ds) ≡ list_any (same_datum d) ds
+placed_same d at [] = refl
+placed_same d at (x ∷ ds) = ap (λ q. same_datum d x || q) (placed_same d (begins_at x at + datum_size x) ds)

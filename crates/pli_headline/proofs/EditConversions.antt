@@ -1,13 +1,11 @@
 -- A text that waits is shown: by F as the number that it is, where it is one, and by A as it is.
-use Rattle.std.proofs.Common.{◌≡◌, ℕ, ◌+◌, List, [], ◌∷◌, ◌++◌, Option, Some, None, Bool, true, false, refl, sym, ap, ◌∙◌, subst, arith, lit<}
-use Rattle.std.specs.Prelude.{ℤ, cond}
-use Rattle.std.specs.Option.{option_map}
+use Rattle.std.proofs.Common.{◌≡◌, ℕ, ◌+◌, List, [], ◌∷◌, ◌++◌, Option, refl, sym, ap, ◌∙◌, subst, arith, lit<}
+use Rattle.std.specs.Prelude.{ℤ}
 use Rattle.rv_meaning.specs.declared.instr.Instr.{Instr}
 use Rattle.rv_meaning.specs.Words.{word}
 use Rattle.pli_language.specs.Tree as T
 use Rattle.pli_meaning.specs.Codes.{conversion_code}
-use Rattle.pli_meaning.specs.Numbers.{is_of_precision}
-use Rattle.pli_meaning.specs.Texts.{number_in_text, within_precision, signed_value, without_leading_blanks, without_trailing_blanks}
+use Rattle.pli_meaning.specs.Texts.{number_in_text}
 use Rattle.pli_meaning.specs.StorageState.{State}
 use Rattle.pli_meaning.specs.Control.{Meaning, give, flow_on, ◌>>=◌, ◌>>◌}
 use Rattle.pli_meaning.specs.Raising as R
@@ -16,9 +14,7 @@ use Rattle.pli_meaning.specs.Evaluating.{ComputationalNumber, ComputationalText}
 use Rattle.pli_meaning.specs.Streaming as P
 use Rattle.pli_meaning.specs.Streaming.{FormatItem, DataFormat, DataItem, FixedItem, TextItem}
 use Rattle.pli_serving.specs.ServiceState.{Services, EditPlace, Entry, TextEntry}
-use Rattle.pli_serving.specs.Answers.{Done}
-use Rattle.pli_serving.specs.Finding.{Call}
-use Rattle.pli_serving.specs.Outcomes.{with_entries, on_text, or_status, becoming}
+use Rattle.pli_serving.specs.Outcomes.{with_entries}
 use Rattle.pli_serving.specs.Edits as E
 use Rattle.pli_serving.specs.TextServices as X
 use Rattle.pli_coding.specs.Registers.{a0}
@@ -28,9 +24,8 @@ use Rattle.pli_coding.specs.Environments.{Environment}
 use Rattle.pli_coding.specs.Streams.{has_fixed, has_text, by_item, number_written, text_written}
 use Rattle.pli_coding.specs.Linking.{Links}
 use Rattle.pli_headline.specs.ProvedSoFar.{Types}
-use Rattle.pli_headline.proofs.Engine.{Base, address, call_at}
+use Rattle.pli_headline.proofs.Engine.{Base, address}
 use Rattle.pli_headline.proofs.Items.{Linked, At, straight}
-use Rattle.pli_headline.proofs.Numbers.{IsWide}
 use Rattle.pli_headline.proofs.Bodies.{Ground, Known, zero_is}
 use Rattle.pli_headline.proofs.Jumps.{front_of, back_of}
 use Rattle.pli_headline.proofs.Temporaries.{nothing}
@@ -42,34 +37,10 @@ use Rattle.pli_headline.proofs.FormatData.{IsOf}
 use Rattle.pli_headline.proofs.EditItems.{putting, Finds, fielded}
 use Rattle.pli_headline.proofs.EditPieces.{field_piece, Shown, shown_state}
 use Rattle.pli_headline.proofs.EditTexts.{at_other_texts, text_piece}
-use Rattle.pli_headline.proofs.TextCalls.{three, told, tested_call}
+use Rattle.pli_headline.proofs.TextCalls.{three, tested_call}
+use Rattle.pli_headline.proofs.TextNumbers.{number_wide, number_answer}
 use Rattle.pli_headline.proofs.EditChoices.{ValueBehind, item_chosen}
 use Rattle.pli_headline.proofs.Reach.{Family, Aims, Comes, Closed, before_closed, comes_on, onward}
-
--- ---- numbers in texts
-
-within_wide : (b : Bool) (x z : ℤ) → is_of_precision 31 x ≡ b → cond b (Some x) None ≡ Some z → IsWide z
-within_wide true x z e h = let same : x ≡ z = cc h in subst (λ u. is_of_precision 31 u ≡ true) same e
-within_wide false x z e h = absurd (cc h)
-
-precise_wide : (o : Option ℤ) (z : ℤ) → within_precision 31 o ≡ Some z → IsWide z
-precise_wide None z h = absurd (cc h)
-precise_wide (Some x) z h = within_wide (is_of_precision 31 x) x z refl h
-
-number_wide : (t : List ℕ) (z : ℤ) → number_in_text t ≡ Some z → IsWide z
-number_wide t z h = precise_wide (signed_value (without_trailing_blanks (without_leading_blanks t))) z h
-
--- ---- 26: the top text as a number
-
-word_told : (c : Call) (v : Services) (o : Option ℤ) → or_status c 0 conversion_code (option_map word o) (λ w. Done v c.memory w 0) ≡ told c.services c.memory 0 conversion_code (λ z. v) word o
-word_told c v None = refl
-word_told c v (Some z) = refl
-
-number_answer : (code : List Instr) (v : Services) (m : List ℕ) (text : List ℕ) (texts : List Entry) → v.entries ≡ TextEntry text ∷ texts → X.to_number_served (call_at code v m) 0 ≡ told v m 0 conversion_code (λ z. with_entries texts v) word (number_in_text text)
-number_answer code v m text texts top =
-    let c = call_at code v m in
-    ap (λ u. on_text u (λ t below. or_status c 0 conversion_code (X.word_in_text 0 t) (λ w. becoming c (with_entries below v) w 0))) top
-    ∙ word_told c (with_entries texts v) (number_in_text text)
 
 -- ---- by F
 

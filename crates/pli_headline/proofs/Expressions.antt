@@ -1,4 +1,5 @@
--- Expressions of numbers and bits: the code leaves the word of the meaning's value in a0, or the run ends with it.
+-- Expressions of numbers, bits and texts: the code leaves the word of the meaning's value in a0, or a text on the stack of texts,
+-- or the run ends with it.
 use Rattle.std.proofs.Common.{◌≡◌, ℕ, ◌+◌, ◌^◌, ◌<◌, ◌≤◌, List, [], ◌∷◌, Some, Bool, true, false, refl, sym, ap, ◌∙◌, subst, arith, lit<}
 use Rattle.std.specs.Prelude.{ℤ, pos, max, slice_get}
 use Rattle.std.proofs.lemmas.Bool.Decides.{nat_tests}
@@ -13,15 +14,16 @@ use Rattle.pli_meaning.specs.StorageState.{State}
 use Rattle.pli_meaning.specs.Control.{give, ◌>>=◌}
 use Rattle.pli_meaning.specs.Raising.{Around}
 use Rattle.pli_meaning.specs.Evaluating as V
-use Rattle.pli_serving.specs.ServiceState.{Services}
+use Rattle.pli_serving.specs.ServiceState.{Services, Entry, TextEntry}
+use Rattle.pli_serving.specs.Outcomes.{with_entries}
 use Rattle.pli_coding.specs.Registers.{a0}
 use Rattle.pli_coding.specs.Assembly.{Code, size_of}
 use Rattle.pli_coding.specs.Instructions.{small}
 use Rattle.pli_coding.specs.Environments.{Environment, Taken}
-use Rattle.pli_coding.specs.Expressions.{number_code, extremes_code, bit_code}
-use Rattle.pli_coding.specs.Temporaries.{number_words, numbers_words, bit_words}
+use Rattle.pli_coding.specs.Expressions.{number_code, extremes_code, bit_code, text_code}
+use Rattle.pli_coding.specs.Temporaries.{number_words, numbers_words, bit_words, text_words}
 use Rattle.pli_coding.specs.Linking.{Links}
-use Rattle.pli_headline.specs.ProvedSoFar.{Types, IsOwn, IsOwnNumber, IsProvedNumber, AreProvedNumbers, IsProvedBit}
+use Rattle.pli_headline.specs.ProvedSoFar.{Types, IsOwn, IsOwnNumber, IsProvedNumber, AreProvedNumbers, IsProvedBit, IsProvedText}
 use Rattle.pli_headline.proofs.Engine.{Base}
 use Rattle.pli_headline.proofs.Items.{Linked, At, straight}
 use Rattle.pli_headline.proofs.Numbers.{IsWide, word_small}
@@ -29,6 +31,7 @@ use Rattle.pli_headline.proofs.Bodies.{Ground, Known, Free, PlaceOf, zero_is, co
 use Rattle.pli_headline.proofs.Temporaries.{Temporaries, stays_same, nothing}
 use Rattle.pli_headline.proofs.Calls.{Serving}
 use Rattle.pli_headline.proofs.Raising.{Routines, small_is}
+use Rattle.pli_headline.proofs.StandingBytes.{ConstantsStand}
 use Rattle.pli_headline.proofs.Operators.{valued}
 use Rattle.pli_headline.proofs.Calculations.{calculated_operates}
 use Rattle.pli_headline.proofs.Signs.{signed_operates, absolute_operates, sign_operates}
@@ -38,6 +41,9 @@ use Rattle.pli_headline.proofs.Extremes.{Follows, follows_none, follows_next, ex
 use Rattle.pli_headline.proofs.Comparisons.{numbers_operate, bits_operate, negated_operates, and_operates, or_operates}
 use Rattle.pli_headline.proofs.Evaluations.{Kind, number_kind, bit_kind, Valued, Evaluates, read_evaluates, operated_evaluates, both_evaluate}
 use Rattle.pli_headline.proofs.Scalars.{bit_of, bit_wide, bit_word, fits_wide, load_kind}
+use Rattle.pli_headline.proofs.EditTexts.{at_other_texts}
+use Rattle.pli_headline.proofs.Texts.{EvaluatesText, constant_evaluates, number_evaluates_text, bit_evaluates_text, joined_evaluates, from_evaluates, part_evaluates}
+use Rattle.pli_headline.proofs.TextValues.{one_finishes, two_finish, length_finishes, index_finishes, verify_finishes, number_finishes, bit_finishes, compare_finishes}
 use Rattle.pli_headline.proofs.Variables.{HoldsScalar, IsDeclared, whole, own, number_gives, bit_gives, outermost, data_place, scalar_loaded, number_loaded, bit_loaded}
 use Rattle.pli_headline.proofs.Reach.{Family, Aims, Comes, Closed, onward}
 
@@ -51,9 +57,15 @@ pub record Scope (g : Ground) (e : Environment) (block : ℕ) (types : Types) (s
 -- what stands around an expression
 pub record Setting (links : Links) (code : List Instr) (g : Ground) (v : Services) (s : State) (k : ℕ) (e : Environment) (block : ℕ) (types : Types) (numbers : ℕ → ℤ) (around : Around) : Type 0 where
   pub routines : Routines links code
+  pub constants : ConstantsStand links code g
   pub temps : Temporaries g
   pub scope : Scope g e block types s numbers
   pub serving : Serving k s v around.line
+
+-- above other texts
+pub above_texts : {links : Links} {code : List Instr} {g : Ground} {v : Services} {s : State} {k : ℕ} {e : Environment} {block : ℕ} {types : Types} {numbers : ℕ → ℤ} {around : Around} (texts : List Entry) → Setting links code g v s k e block types numbers around → Setting links code g (with_entries texts v) s k e block types numbers around
+above_texts texts st =
+    record { routines = st.routines; constants = st.constants; temps = st.temps; scope = st.scope; serving = at_other_texts texts st.serving }
 
 -- ---- constants and variables
 
@@ -137,7 +149,7 @@ bit_does' {g = g} {v = v} n b few e =
 -- ---- expressions
 
 mutual
-  unfolding V.number V.numbers V.bit ◌>>=◌ give
+  unfolding V.number V.numbers V.bit V.text ◌>>=◌ give
 
   pub number_does : (x : Y.Number) {links : Links} {code : List Instr} {g : Ground} {v : Services} {s : State} {k : ℕ} {e : Environment} {block : ℕ} {types : Types} {numbers : ℕ → ℤ} {around : Around} → Setting links code g v s k e block types numbers around → IsProvedNumber block types x → Evaluates number_kind links code g v s k (number_words x) (λ taken. number_code (outermost e) taken x) (V.number around x)
   number_does (Y.NumberConstant n) {e = e} {around = around} st is = constant_does (outermost e) around n is
@@ -162,11 +174,16 @@ mutual
   number_does (Y.Divided precision dividend divisor) {around = around} st is =
       both_evaluate st.temps (number_words dividend) (number_words divisor) (number_does dividend st is.1.0) (number_does divisor st is.1.1)
       (λ x y wx wy. divided_operates st.routines st.temps around st.serving precision is.0 x y wx wy)
+  number_does (Y.NumberOfText x) {around = around} st is =
+      one_finishes (text_does x st is) (λ text short. number_finishes st.routines around st.serving text)
+  number_does (Y.LengthOf x) st is = one_finishes (text_does x st is) (λ text short. length_finishes text short)
+  number_does (Y.IndexOf searched sought) {v = v} st is =
+      two_finish (text_words searched) (text_words sought) (text_does searched st is.0) (λ text. text_does sought (above_texts (TextEntry text ∷ v.entries) st) is.1)
+      (λ x y sx sy. index_finishes x y sx)
+  number_does (Y.VerifyOf searched allowed) {v = v} st is =
+      two_finish (text_words searched) (text_words allowed) (text_does searched st is.0) (λ text. text_does allowed (above_texts (TextEntry text ∷ v.entries) st) is.1)
+      (λ x y sx sy. verify_finishes x y sx)
   number_does (Y.NumberFrom c) st is = absurd is
-  number_does (Y.NumberOfText x) st is = absurd is
-  number_does (Y.LengthOf x) st is = absurd is
-  number_does (Y.IndexOf searched sought) st is = absurd is
-  number_does (Y.VerifyOf searched allowed) st is = absurd is
   number_does (Y.LowerBound r dimension) st is = absurd is
   number_does (Y.UpperBound r dimension) st is = absurd is
   number_does (Y.ElementsOf r dimension) st is = absurd is
@@ -193,13 +210,30 @@ mutual
       (λ x y wx wy. numbers_operate comparison x y wx wy)
   bit_does (Y.BitsCompared comparison left right) st is =
       both_evaluate st.temps (bit_words left) (bit_words right) (bit_does left st is.0) (bit_does right st is.1) (λ a b fa fb. bits_operate comparison a b)
+  bit_does (Y.BitOfText x) {around = around} st is =
+      one_finishes (text_does x st is) (λ text short. bit_finishes st.routines around st.serving text)
+  bit_does (Y.TextsCompared comparison left right) {v = v} st is =
+      two_finish (text_words left) (text_words right) (text_does left st is.0) (λ text. text_does right (above_texts (TextEntry text ∷ v.entries) st) is.1)
+      (λ x y sx sy. compare_finishes comparison x y)
   bit_does (Y.BitFrom c) st is = absurd is
-  bit_does (Y.BitOfText x) st is = absurd is
-  bit_does (Y.TextsCompared comparison left right) st is = absurd is
   bit_does (Y.PointersCompared equal left right) st is = absurd is
   bit_does (Y.OffsetsCompared equal left right) st is = absurd is
 
+  pub text_does : (x : Y.Text) {links : Links} {code : List Instr} {g : Ground} {v : Services} {s : State} {k : ℕ} {e : Environment} {block : ℕ} {types : Types} {numbers : ℕ → ℤ} {around : Around} → Setting links code g v s k e block types numbers around → IsProvedText block types x → EvaluatesText links code g v s k (text_words x) (λ taken. text_code (outermost e) taken x) (V.text around x)
+  text_does (Y.TextConstant bytes) st is = constant_evaluates bytes st.constants is
+  text_does (Y.TextOfNumber precision x) st is = number_evaluates_text precision is.0 (number_does x st is.1)
+  text_does (Y.TextOfBit x) st is = bit_evaluates_text (bit_does x st is)
+  text_does (Y.Joined left right) {v = v} {around = around} st is =
+      joined_evaluates (text_words left) (text_words right) st.routines around st.serving (text_does left st is.0) (λ text. text_does right (above_texts (TextEntry text ∷ v.entries) st) is.1)
+  text_does (Y.SubstringFrom x start) {v = v} {around = around} st is =
+      from_evaluates (text_words x) (number_words start) st.routines around st.serving (text_does x st is.0) (λ text. number_does start (above_texts (TextEntry text ∷ v.entries) st) is.1)
+  text_does (Y.Substring x start count) {v = v} {around = around} st is =
+      part_evaluates st.temps (text_words x) (number_words start) (number_words count) st.routines around st.serving (text_does x st is.0)
+      (λ text. number_does start (above_texts (TextEntry text ∷ v.entries) st) is.1.0) (λ text. number_does count (above_texts (TextEntry text ∷ v.entries) st) is.1.1)
+  text_does (Y.TextIn r) st is = absurd is
+  text_does (Y.TextFrom c) st is = absurd is
+
 -- a number, wherever its code stands
-pub number_piece : {links : Links} {code : List Instr} {i : ℕ} {g : Ground} {v : Services} {h t : ℕ → ℕ} {s : State} {aims : Aims ℤ} (x : Y.Number) (closed : Closed code aims) (routines : Routines links code) (temps : Temporaries g) (e : Environment) (block : ℕ) (types : Types) (numbers : ℕ → ℤ) (f : Family) (around : Around) (taken : Taken) (k : ℕ) → IsProvedNumber block types x → taken.words + number_words x ≤ g.words → Scope g e block types s numbers → Linked links code i (number_code (outermost e) taken x) → Serving k s v around.line → ((b : Base) → At b i (Known g v h t nothing b) (f b)) → Valued number_kind g taken h t v s (i + size_of (number_code (outermost e) taken x)) aims → Comes code i f v aims (V.number around x k s)
-number_piece x closed routines temps e block types numbers f around taken k is room scope l serving at goal =
-    (number_does x (record { routines = routines; temps = temps; scope = scope; serving = serving }) is).does closed f taken room l at goal
+pub number_piece : {links : Links} {code : List Instr} {i : ℕ} {g : Ground} {v : Services} {h t : ℕ → ℕ} {s : State} {aims : Aims ℤ} (x : Y.Number) (closed : Closed code aims) (routines : Routines links code) (constants : ConstantsStand links code g) (temps : Temporaries g) (e : Environment) (block : ℕ) (types : Types) (numbers : ℕ → ℤ) (f : Family) (around : Around) (taken : Taken) (k : ℕ) → IsProvedNumber block types x → taken.words + number_words x ≤ g.words → Scope g e block types s numbers → Linked links code i (number_code (outermost e) taken x) → Serving k s v around.line → ((b : Base) → At b i (Known g v h t nothing b) (f b)) → Valued number_kind g taken h t v s (i + size_of (number_code (outermost e) taken x)) aims → Comes code i f v aims (V.number around x k s)
+number_piece x closed routines constants temps e block types numbers f around taken k is room scope l serving at goal =
+    (number_does x (record { routines = routines; constants = constants; temps = temps; scope = scope; serving = serving }) is).does closed f taken room l at goal

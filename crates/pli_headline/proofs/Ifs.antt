@@ -29,12 +29,11 @@ use Rattle.pli_headline.proofs.Bodies.{Ground, Known, Free, zero_is}
 use Rattle.pli_headline.proofs.Jumps.{front_of, back_of, rest_of, linked_at, skip_taken, skip_passed, ahead_piece}
 use Rattle.pli_headline.proofs.Temporaries.{nothing, stays_then}
 use Rattle.pli_headline.proofs.Calls.{Serving}
-use Rattle.pli_headline.proofs.Raising.{Routines}
 use Rattle.pli_headline.proofs.Acts.{acted, act_piece}
 use Rattle.pli_headline.proofs.Variables.{outermost}
 use Rattle.pli_headline.proofs.Operators.{valued}
 use Rattle.pli_headline.proofs.Expressions.{Setting, bit_does}
-use Rattle.pli_headline.proofs.Statements.{Block, AllHold, further, scope_of, counted_holds, Does}
+use Rattle.pli_headline.proofs.Statements.{Standing, Block, AllHold, further, scope_of, counted_holds, Does}
 use Rattle.pli_headline.proofs.Reach.{Family, Aims, Comes, Closed, before_closed, comes_on, onward, reached, reached_holds}
 
 -- ---- what a test chooses
@@ -71,14 +70,14 @@ chosen_piece {links = links} {code = code} {i = i} {g = g} {v = v} {h = h} {t = 
     (λ f2 at2. subst (λ n. Comes code n f2 v aims (other k s)) (sym there) (otherwise f2 (λ b. record { pc = (at2 b).pc ∙ ap (address b) there; holds = (at2 b).holds }))))
 
 -- what stands around an expression of a block
-abbrev pub setting : {e : Environment} {block : ℕ} {types : Types} (bl : Block e block types) {links : Links} {code : List Instr} {v : Services} {s : State} {k : ℕ} {around : Around} → Routines links code → (n : ℕ → ℤ) → AllHold s block types n → Serving k s v around.line → Setting links code (bl.ground n) v s k e block types n around
+abbrev pub setting : {e : Environment} {block : ℕ} {types : Types} (bl : Block e block types) {links : Links} {code : List Instr} {v : Services} {s : State} {k : ℕ} {around : Around} → Standing bl links code → (n : ℕ → ℤ) → AllHold s block types n → Serving k s v around.line → Setting links code (bl.ground n) v s k e block types n around
 setting bl routines n all serving =
-    record { routines = routines; temps = bl.temps n; scope = scope_of bl n all; serving = serving }
+    record { routines = routines.raises; constants = routines.constants n; temps = bl.temps n; scope = scope_of bl n all; serving = serving }
 
 -- ---- the statements
 
 -- code that runs where a test behind an act is met
-pub tested_does : {e : Environment} {block : ℕ} {types : Types} (bl : Block e block types) (links : Links) (code : List Instr) (turns : ℕ) (routines : Routines links code) (around : Around) (condition : Y.Bit) (line : ℕ) (c : Code) (meaning : Meaning (Unit {0})) → IsProvedBit block types condition → bl.taken.words + bit_words condition ≤ bl.words → line < 2 ^ 31 → Does bl links code turns c meaning → Does bl links code turns (act_code line ++ (bit_code (outermost e) bl.taken condition ++ if_met c)) ((act counted) >> ((V.bit (at_line around line) condition) >>= (λ met. choose met meaning (give tt))))
+pub tested_does : {e : Environment} {block : ℕ} {types : Types} (bl : Block e block types) (links : Links) (code : List Instr) (turns : ℕ) (routines : Standing bl links code) (around : Around) (condition : Y.Bit) (line : ℕ) (c : Code) (meaning : Meaning (Unit {0})) → IsProvedBit block types condition → bl.taken.words + bit_words condition ≤ bl.words → line < 2 ^ 31 → Does bl links code turns c meaning → Does bl links code turns (act_code line ++ (bit_code (outermost e) bl.taken condition ++ if_met c)) ((act counted) >> ((V.bit (at_line around line) condition) >>= (λ met. choose met meaning (give tt))))
 unfolding ◌>>=◌ ◌>>◌ give
 tested_does {e} {block} {types} bl links code turns routines around condition line c meaning is room fits inner =
     record {
@@ -119,12 +118,12 @@ tested_does {e} {block} {types} bl links code turns routines around condition li
           })))));
     }
 
-pub if_does : {e : Environment} {block : ℕ} {types : Types} (bl : Block e block types) (links : Links) (code : List Instr) (routines : Routines links code) (around : Around) (condition : Y.Bit) (unit : Y.Stmt) (line : ℕ) → IsProvedBit block types condition → bl.taken.words + bit_words condition ≤ bl.words → line < 2 ^ 31 → Does bl links code around.turns (stmt_code (outermost e) bl.taken unit) (M.statement around unit) → Does bl links code around.turns (stmt_code (outermost e) bl.taken (Y.If condition unit line)) (M.statement around (Y.If condition unit line))
+pub if_does : {e : Environment} {block : ℕ} {types : Types} (bl : Block e block types) (links : Links) (code : List Instr) (routines : Standing bl links code) (around : Around) (condition : Y.Bit) (unit : Y.Stmt) (line : ℕ) → IsProvedBit block types condition → bl.taken.words + bit_words condition ≤ bl.words → line < 2 ^ 31 → Does bl links code around.turns (stmt_code (outermost e) bl.taken unit) (M.statement around unit) → Does bl links code around.turns (stmt_code (outermost e) bl.taken (Y.If condition unit line)) (M.statement around (Y.If condition unit line))
 unfolding M.statement
 if_does {e} bl links code routines around condition unit line is room fits inner =
     tested_does bl links code around.turns routines around condition line (stmt_code (outermost e) bl.taken unit) (M.statement around unit) is room fits inner
 
-pub if_else_does : {e : Environment} {block : ℕ} {types : Types} (bl : Block e block types) (links : Links) (code : List Instr) (routines : Routines links code) (around : Around) (condition : Y.Bit) (unit otherwise : Y.Stmt) (line : ℕ) → IsProvedBit block types condition → bl.taken.words + bit_words condition ≤ bl.words → line < 2 ^ 31 → Does bl links code around.turns (stmt_code (outermost e) bl.taken unit) (M.statement around unit) → Does bl links code around.turns (stmt_code (outermost e) bl.taken otherwise) (M.statement around otherwise) → Does bl links code around.turns (stmt_code (outermost e) bl.taken (Y.IfElse condition unit otherwise line)) (M.statement around (Y.IfElse condition unit otherwise line))
+pub if_else_does : {e : Environment} {block : ℕ} {types : Types} (bl : Block e block types) (links : Links) (code : List Instr) (routines : Standing bl links code) (around : Around) (condition : Y.Bit) (unit otherwise : Y.Stmt) (line : ℕ) → IsProvedBit block types condition → bl.taken.words + bit_words condition ≤ bl.words → line < 2 ^ 31 → Does bl links code around.turns (stmt_code (outermost e) bl.taken unit) (M.statement around unit) → Does bl links code around.turns (stmt_code (outermost e) bl.taken otherwise) (M.statement around otherwise) → Does bl links code around.turns (stmt_code (outermost e) bl.taken (Y.IfElse condition unit otherwise line)) (M.statement around (Y.IfElse condition unit otherwise line))
 unfolding M.statement ◌>>=◌ ◌>>◌
 if_else_does {e} {block} {types} bl links code routines around condition unit otherwise line is room fits first second =
     record {

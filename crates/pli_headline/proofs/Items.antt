@@ -8,11 +8,12 @@ use Rattle.rv_meaning.specs.declared.instr.Instr.{Instr}
 use Rattle.rv_meaning.specs.Words.{word, sum}
 use Rattle.rv_meaning.specs.Machine.{written}
 use Rattle.pli_serving.specs.ServiceState.{Services}
-use Rattle.pli_coding.specs.Assembly.{Item, Plain, BaseIn, OffsetOf, OffsetAhead, JumpTo, CallTo, JumpAhead, JumpBack, Mark, Code, item_size, size_of}
+use Rattle.pli_coding.specs.Assembly.{Datum, Item, Plain, BaseIn, OffsetOf, OffsetAhead, JumpTo, CallTo, JumpAhead, JumpBack, Mark, Code, item_size, size_of}
 use Rattle.pli_coding.specs.Linking.{Links, upper_part, lower_part, distance, place_of, item_code}
 use Rattle.image_runs.specs.Runs.{Whole, Runs, run_on}
 use Rattle.pli_headline.proofs.Engine.{Base, at_base, HasAt, address, most_code, Steps, Passed, passes, run_on-add}
 use Rattle.pli_headline.proofs.Linking.{HasItems, item_has}
+use Rattle.pli_headline.proofs.DataNamed.{IsNamed, IsPlaced}
 use Rattle.pli_headline.proofs.Reach.{Family, Reach, cost}
 
 -- ---- numbers in two parts
@@ -21,8 +22,9 @@ pub parts_sum : (w : ℕ) → w < 2 ^ 32 → sum (upper_part w * 2 ^ 12) (word (
 parts_sum w h = omega (arith, ints)
 
 -- the base, from a place of the code
-pub base_sum : (base i : ℕ) → 0 < i → 4 * i < 2 ^ 24 → base + 2 ^ 24 ≤ 2 ^ 32 → sum (sum (base + 4 * i) (upper_part (distance (4 * i) 0) * 2 ^ 12)) (word (lower_part (distance (4 * i) 0))) ≡ base
-base_sum base i p h valid = omega (arith, ints)
+pub base_sum : (base i : ℕ) → 4 * i < 2 ^ 24 → base + 2 ^ 24 ≤ 2 ^ 32 → sum (sum (base + 4 * i) (upper_part (distance (4 * i) 0) * 2 ^ 12)) (word (lower_part (distance (4 * i) 0))) ≡ base
+base_sum base zero h valid = omega (arith, valid)
+base_sum base (suc i) h valid = omega (arith, ints)
 
 -- ---- one item
 
@@ -44,7 +46,7 @@ upper_base b i = sum (address b i) (upper_part (distance (4 * i) 0) * 2 ^ 12)
 -- what has to hold where an item runs, and what then holds
 abbrev pub ItemSteps : Links → List Instr → Base → ℕ → Item → Whole → (Whole → Type 0) → Type 0
 ItemSteps links code b i (Plain x) w Q = Steps code b i x w Q
-ItemSteps links code b i (BaseIn r) w Q = (0 < i) × IsSet r.index × Q (with_both b i w r.index (upper_base b i) b.at)
+ItemSteps links code b i (BaseIn r) w Q = IsSet r.index × Q (with_both b i w r.index (upper_base b i) b.at)
 ItemSteps links code b i (OffsetOf r s) w Q =
     (place_of links s < 2 ^ 32) × IsSet r.index × Q (with_both b i w r.index (upper_part (place_of links s) * 2 ^ 12) (place_of links s))
 ItemSteps links code b i (Mark s) w Q = Q w
@@ -90,7 +92,7 @@ item_walked links code b i (Plain x) w Q h here has s = walked 1 refl (passes co
 item_walked links code b i (BaseIn r) w Q h here has s =
     let d = distance (4 * i) 0 in
     walked 2 refl (passes code b i (item_code links (4 * i) (BaseIn r)) w (λ j w'. Q w') h here has
-    (both b i w r.index (upper_base b i) (word (lower_part d)) b.at Q s.1 (base_sum b.at i s.0 (omega (arith, h)) b.valid.1) s.2))
+    (both b i w r.index (upper_base b i) (word (lower_part d)) b.at Q s.0 (base_sum b.at i (omega (arith, h)) b.valid.1) s.1))
 item_walked links code b i (OffsetOf r y) w Q h here has s =
     let p = place_of links y in
     walked 2 refl (passes code b i (item_code links (4 * i) (OffsetOf r y)) w (λ j w'. Q w') h here has
@@ -124,11 +126,12 @@ pub record At (b : Base) (i : ℕ) (P : Whole → Type 0) (w : Whole) : Type 0 w
   pub pc : w.machine.pc ≡ address b i
   pub holds : P w
 
--- a place of the code, linked, that a machine can hold
+-- a place of the code, linked, that a machine can hold; the data that are named there have places
 pub record Linked (links : Links) (code : List Instr) (i : ℕ) (xs : Code) : Type 0 where
   pub small' : length code ≤ most_code
   pub inside : i + size_of xs ≤ length code
   pub has : HasItems links code i xs
+  pub named : (d : Datum) → IsNamed d xs → IsPlaced d links.data'
 
 paid_straight : (n c d a a' : ℕ) → a ≤ a' → n + c + d * a ≤ c + n + d * a'
 paid_straight n c d a a' h = let m : d * a ≤ d * a' = mul-le-mul_left d h in omega (arith, m)

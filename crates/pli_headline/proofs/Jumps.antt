@@ -1,5 +1,5 @@
 -- Places of pieces in linked code, branches over small code, and jumps of any length.
-use Rattle.std.proofs.Common.{◌≡◌, ℕ, suc, ◌+◌, ◌-◌, ◌*◌, ◌%◌, ◌^◌, ◌<◌, ◌≤◌, List, [], ◌∷◌, ◌++◌, length, Some, true, false, refl, ap, ◌∙◌, subst, arith}
+use Rattle.std.proofs.Common.{◌≡◌, ℕ, suc, ◌+◌, ◌-◌, ◌*◌, ◌%◌, ◌^◌, ◌<◌, ◌≤◌, List, [], ◌∷◌, ◌++◌, length, Some, true, false, refl, ap, ◌∙◌, subst, arith, ◌⊎◌, inl, inr}
 use Rattle.std.specs.Prelude.{ℤ, pos, cond, slice_get}
 use Rattle.std.proofs.lemmas.Int.{ints}
 use Rattle.std.proofs.lemmas.Bool.{eq-eqb}
@@ -17,6 +17,7 @@ use Rattle.pli_coding.specs.Linking.{Links, upper_part, lower_part, distance, ju
 use Rattle.image_runs.specs.Runs.{Whole, Runs, next, of_effect, run_on}
 use Rattle.pli_headline.proofs.Engine.{Base, at_base, HasAt, address, most_code, effect_at, next_address, branch_taken, branch_passed, with_register, passes}
 use Rattle.pli_headline.proofs.Linking.{items_front, items_back, size_append}
+use Rattle.pli_headline.proofs.DataNamed.{is_named_front, is_named_back}
 use Rattle.pli_headline.proofs.Items.{Linked, At}
 use Rattle.pli_coding.specs.Registers.{zero_register, return_register, far_register}
 use Rattle.pli_headline.proofs.Bodies.{Ground, Known, Free, with', set_known, lose_known}
@@ -27,18 +28,25 @@ use Rattle.pli_headline.proofs.Reach.{Family, Reach}
 pub front_of : {links : Links} {code : List Instr} {i : ℕ} (xs ys : Code) → Linked links code i (xs ++ ys) → Linked links code i xs
 front_of {links} {code} {i} xs ys l =
     let e = size_append xs ys in let n = l.inside in
-    record { small' = l.small'; inside = omega (arith, e, n); has = items_front links code i xs ys l.has }
+    record { small' = l.small'; inside = omega (arith, e, n); has = items_front links code i xs ys l.has; named = λ d h. l.named d (is_named_front d xs ys h) }
 
 pub back_of : {links : Links} {code : List Instr} {i : ℕ} (xs ys : Code) → Linked links code i (xs ++ ys) → Linked links code (i + size_of xs) ys
 back_of {links} {code} {i} xs ys l =
     let e = size_append xs ys in let n = l.inside in
-    record { small' = l.small'; inside = omega (arith, e, n); has = items_back links code i xs ys l.has }
+    record { small' = l.small'; inside = omega (arith, e, n); has = items_back links code i xs ys l.has; named = λ d h. l.named d (is_named_back d xs ys h) }
 
 pub rest_of : {links : Links} {code : List Instr} {i : ℕ} (x : Item) (xs : Code) → Linked links code i (x ∷ xs) → Linked links code (i + item_size x) xs
-rest_of x xs l = let n = l.inside in record { small' = l.small'; inside = omega (arith, n); has = l.has.1 }
+rest_of x xs l =
+    let n = l.inside in record { small' = l.small'; inside = omega (arith, n); has = l.has.1; named = λ d h. l.named d (inr h) }
 
 pub first_of : {links : Links} {code : List Instr} {i : ℕ} (x : Item) (xs : Code) → Linked links code i (x ∷ xs) → Linked links code i (x ∷ [])
-first_of x xs l = let n = l.inside in record { small' = l.small'; inside = omega (arith, n); has = (l.has.0, tt) }
+first_of x xs l =
+    let n = l.inside in
+    record { small' = l.small'; inside = omega (arith, n); has = (l.has.0, tt); named = λ d h. l.named d (alone h) }
+  where
+    alone : {P Q : Type 0} → P ⊎ ⊥ → P ⊎ Q
+    alone (inl h) = inl h
+    alone (inr h) = absurd h
 
 -- the same place said otherwise
 pub linked_at : {links : Links} {code : List Instr} {i : ℕ} (j : ℕ) (xs : Code) → i ≡ j → Linked links code i xs → Linked links code j xs

@@ -28,11 +28,10 @@ use Rattle.pli_headline.proofs.Bodies.{Ground, Known, Free, lose_known}
 use Rattle.pli_headline.proofs.Jumps.{front_of, back_of, linked_at, jumped}
 use Rattle.pli_headline.proofs.Temporaries.{nothing, stays_same, stays_then}
 use Rattle.pli_headline.proofs.Calls.{Serving}
-use Rattle.pli_headline.proofs.Raising.{Routines}
 use Rattle.pli_headline.proofs.Acts.{acted, act_piece, act_from}
 use Rattle.pli_headline.proofs.Variables.{outermost}
 use Rattle.pli_headline.proofs.Expressions.{bit_does}
-use Rattle.pli_headline.proofs.Statements.{Block, AllHold, counted_holds, Behind, Enough, further, Does}
+use Rattle.pli_headline.proofs.Statements.{Standing, Block, AllHold, counted_holds, Behind, Enough, further, Does}
 use Rattle.pli_headline.proofs.Ifs.{met_size, free_far, chosen_piece, setting}
 use Rattle.pli_headline.proofs.Since.{since_closed, comes_since}
 use Rattle.pli_headline.proofs.Reach.{Family, Reach, cost, Aims, Comes, Closed, before_closed, comes_on, onward}
@@ -65,7 +64,7 @@ abbrev pub test_code : Environment → Taken → (line : ℕ) → Y.Bit → Code
 test_code e taken line condition = act_code line ++ bit_code e taken condition
 
 -- from the beginning of a turn, with credits enough for its act
-turns_piece : {e : Environment} {block : ℕ} {types : Types} (bl : Block e block types) {links : Links} {code : List Instr} (routines : Routines links code) (around : Around) (condition : Y.Bit) (body : Code) (line : ℕ) (part : Meaning (Unit {0})) → IsProvedBit block types condition → bl.taken.words + bit_words condition ≤ bl.words → line < 2 ^ 31 → Does bl links code around.turns body part → (turns : ℕ) {i : ℕ} {s : State} {v : Services} {h t : ℕ → ℕ} {aims : Aims (Unit {0})} (closed : Closed code aims) (credits old : ℕ) (n : ℕ → ℤ) (f : Family) (k : ℕ) → k < turns + v.world.acts → credits + size_of (act_code line) ≤ cost code → Linked links code i (while_met (test_code (outermost e) bl.taken line condition) body) → Serving k s v old → AllHold s block types n → ((b : Base) → At b i (Known (bl.ground n) v h t nothing b) (f b)) → Behind bl k h t (i + size_of (while_met (test_code (outermost e) bl.taken line condition) body)) aims → Enough bl links k around.turns i h t v.world.acts aims.jumped → Comes code credits f v aims (repeated_while turns (M.met_after_act (at_line around line) condition) part k s)
+turns_piece : {e : Environment} {block : ℕ} {types : Types} (bl : Block e block types) {links : Links} {code : List Instr} (routines : Standing bl links code) (around : Around) (condition : Y.Bit) (body : Code) (line : ℕ) (part : Meaning (Unit {0})) → IsProvedBit block types condition → bl.taken.words + bit_words condition ≤ bl.words → line < 2 ^ 31 → Does bl links code around.turns body part → (turns : ℕ) {i : ℕ} {s : State} {v : Services} {h t : ℕ → ℕ} {aims : Aims (Unit {0})} (closed : Closed code aims) (credits old : ℕ) (n : ℕ → ℤ) (f : Family) (k : ℕ) → k < turns + v.world.acts → credits + size_of (act_code line) ≤ cost code → Linked links code i (while_met (test_code (outermost e) bl.taken line condition) body) → Serving k s v old → AllHold s block types n → ((b : Base) → At b i (Known (bl.ground n) v h t nothing b) (f b)) → Behind bl k h t (i + size_of (while_met (test_code (outermost e) bl.taken line condition) body)) aims → Enough bl links k around.turns i h t v.world.acts aims.jumped → Comes code credits f v aims (repeated_while turns (M.met_after_act (at_line around line) condition) part k s)
 unfolding repeated_while M.met_after_act ◌>>=◌ ◌>>◌ give stuck
 turns_piece bl routines around condition body line part is room fits inner zero closed credits old n f k enough paid l serving all at goal more =
     absurd (let a = serving.allowed in omega (arith, a, enough))
@@ -120,7 +119,7 @@ turns_piece {e} {block} {types} bl {links} {code} routines around condition body
           (goal s1 (acted line v) line n h2 t2 f3 serving1 all1 stays (λ b. record { pc = (at3 b).pc ∙ ap (address b) place; holds = (at3 b).holds }));
     })))))
 
-pub while_does : {e : Environment} {block : ℕ} {types : Types} (bl : Block e block types) (links : Links) (code : List Instr) (routines : Routines links code) (around : Around) (condition : Y.Bit) (body : Y.Stmts) (line : ℕ) → IsProvedBit block types condition → bl.taken.words + bit_words condition ≤ bl.words → line < 2 ^ 31 → Does bl links code around.turns (stmts_code (outermost e) bl.taken body) (M.list around body) → Does bl links code around.turns (stmt_code (outermost e) bl.taken (Y.DoWhile condition body line)) (M.statement around (Y.DoWhile condition body line))
+pub while_does : {e : Environment} {block : ℕ} {types : Types} (bl : Block e block types) (links : Links) (code : List Instr) (routines : Standing bl links code) (around : Around) (condition : Y.Bit) (body : Y.Stmts) (line : ℕ) → IsProvedBit block types condition → bl.taken.words + bit_words condition ≤ bl.words → line < 2 ^ 31 → Does bl links code around.turns (stmts_code (outermost e) bl.taken body) (M.list around body) → Does bl links code around.turns (stmt_code (outermost e) bl.taken (Y.DoWhile condition body line)) (M.statement around (Y.DoWhile condition body line))
 unfolding M.statement M.list ◌>>◌
 while_does {e} {block} {types} bl links code routines around condition body line is room fits inner =
     record {

@@ -5,7 +5,8 @@ use Rattle.std.proofs.lemmas.List.{append-nil}
 use Rattle.rv_meaning.specs.declared.instr.Instr.{Instr}
 use Rattle.pli_typing.specs.TypedTree as Y
 use Rattle.pli_coding.specs.Assembly.{Mark, Code, size_of, ProcedureEntry, RaiseCondition, RaiseError, ErrorEnd}
-use Rattle.pli_coding.specs.Linking.{Links, MarkedPlace, marks_from, marked_place, place_of, links_of}
+use Rattle.pli_coding.specs.Linking.{Links, MarkedPlace, marks_from, marked_place, place_of, links_of, data_start}
+use Rattle.pli_coding.specs.StaticData.{static_data}
 use Rattle.pli_coding.specs.Environments.{BlockPlace, Environment, none_taken}
 use Rattle.pli_coding.specs.Statements.{stmts_code}
 use Rattle.pli_coding.specs.Procedures.{finish_code, procedure_begun, procedure_ended, procedure_in, procedures_code, routines_of_block, routine_environment, routines_code}
@@ -17,6 +18,7 @@ use Rattle.pli_headline.proofs.Engine.{most_code}
 use Rattle.pli_headline.proofs.Linking.{linked_length, has_items}
 use Rattle.pli_headline.proofs.Items.{Linked}
 use Rattle.pli_headline.proofs.Jumps.{front_of, back_of}
+use Rattle.pli_headline.proofs.DataOnce.{static_has, placed_same}
 use Rattle.pli_headline.proofs.Raising.{Routines}
 use Rattle.pli_headline.proofs.MainProcedure.{main_head, IsAlone, main_environment, main_words, main_plain}
 use Rattle.pli_headline.proofs.FirstFrame.{start_of, start_is, start_resume}
@@ -87,7 +89,7 @@ pub record Placed (program : Y.Program) (block line : ℕ) (body : Y.Stmts) (lin
 whole_linked : (c : Code) → length (linked_code c) ≤ most_code → Linked (links_of c) (linked_code c) 0 c
 whole_linked c h =
     let n = linked_length (links_of c) 0 c in
-    record { small' = h; inside = omega (arith, n); has = has_items (links_of c) c refl }
+    record { small' = h; inside = omega (arith, n); has = has_items (links_of c) c refl; named = λ d h. placed_same d (data_start c) (static_data c) ∙ static_has c d h }
 
 pub placed : (program : Y.Program) (block line : ℕ) (body : Y.Stmts) → AllPlain program.variables → IsAlone program block line body → length (linked_code (code_of parts program)) ≤ most_code → Placed program block line body (links_of (code_of parts program)) (linked_code (code_of parts program))
 placed program block line body all alone small' =

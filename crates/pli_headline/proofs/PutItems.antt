@@ -16,7 +16,7 @@ use Rattle.pli_meaning.specs.Streaming as P
 use Rattle.pli_meaning.specs.Streaming.{FormatItem, DataItem, format_items}
 use Rattle.pli_serving.specs.ServiceState.{Services, EditPlace, TextEntry}
 use Rattle.pli_coding.specs.Registers.{a0}
-use Rattle.pli_coding.specs.Assembly.{ConstantBytes, size_of}
+use Rattle.pli_coding.specs.Assembly.{size_of}
 use Rattle.pli_coding.specs.Environments.{Environment, save, is_register_left}
 use Rattle.pli_coding.specs.Expressions.{number_code, bit_code, text_code}
 use Rattle.pli_coding.specs.Temporaries.{number_words, bit_words, text_words}
@@ -35,19 +35,16 @@ use Rattle.pli_headline.proofs.Temporaries.{nothing, held_with, words_with, wait
 use Rattle.pli_headline.proofs.Calls.{Serving}
 use Rattle.pli_headline.proofs.Raising.{Routines}
 use Rattle.pli_headline.proofs.Variables.{outermost}
-use Rattle.pli_headline.proofs.Expressions.{number_piece, bit_does}
+use Rattle.pli_headline.proofs.Expressions.{number_piece, bit_does, text_does}
 use Rattle.pli_headline.proofs.Ifs.{setting}
 use Rattle.pli_headline.proofs.Operators.{valued}
-use Rattle.pli_headline.proofs.Statements.{Block, AllHold, counted_holds, scope_of}
+use Rattle.pli_headline.proofs.Statements.{Standing, Block, AllHold, counted_holds, scope_of}
 use Rattle.pli_headline.proofs.FormatData.{items_data, Suit, formats_suit}
 use Rattle.pli_headline.proofs.EditItems.{putting}
 use Rattle.pli_headline.proofs.EditControls.{Kept, next_piece}
 use Rattle.pli_headline.proofs.EditValues.{by_fixed, by_text, ShownAs, number_as, bit_as, word_shown}
 use Rattle.pli_headline.proofs.EditTexts.{at_other_texts}
-use Rattle.pli_headline.proofs.Texts.{text_does}
-use Rattle.pli_headline.proofs.DataNamed.{is_named_front}
 use Rattle.pli_headline.proofs.EditConversions.{text_by_fixed, text_shown}
-use Rattle.pli_headline.proofs.StandingBytes.{NamedStand}
 use Rattle.pli_headline.proofs.Reach.{Family, Aims, Comes, Closed, before_closed, comes_on, onward}
 
 abbrev pub number_item : (precision : ℕ) → Y.Number → Y.PutItem
@@ -95,7 +92,7 @@ word_piece {e} {block} {types} bl {i = i} {h = h} {t = t} {s = s} {aims = aims} 
 
 -- ---- a number, and a bit
 
-number_item_piece : {e : Environment} {block : ℕ} {types : Types} (bl : Block e block types) {links : Links} {code : List Instr} {i : ℕ} {v : Services} {h t : ℕ → ℕ} {s : State} {aims : Aims (List FormatItem)} (closed : Closed code aims) (routines : Routines links code) (f : Family) (around : Around) (fs : T.Formats) (p : ℕ) (x : Y.Number) (n : ℕ → ℤ) (rest : List FormatItem) (below : List EditPlace) (k : ℕ) → IsProvedNumber block types x → bl.taken.words + max 1 (number_words x) ≤ bl.words → AreProvedFormats fs → HasData fs → (has_text fs ≡ true → IsPrecision p) → Suit (has_fixed fs) (has_text fs) rest → v.edits ≡ putting (format_items fs) rest ∷ below → Linked links code i (C.item_put (outermost e) bl.taken fs (number_item p x)) → Serving k s v around.line → AllHold s block types n → ((b : Base) → At b i (Known (bl.ground n) v h t nothing b) (f b)) → ItemBehind bl k around.line h t (i + size_of (C.item_put (outermost e) bl.taken fs (number_item p x))) n fs below aims → Comes code i f v aims (P.item_put around (format_items fs) rest (number_item p x) k s)
+number_item_piece : {e : Environment} {block : ℕ} {types : Types} (bl : Block e block types) {links : Links} {code : List Instr} {i : ℕ} {v : Services} {h t : ℕ → ℕ} {s : State} {aims : Aims (List FormatItem)} (closed : Closed code aims) (routines : Standing bl links code) (f : Family) (around : Around) (fs : T.Formats) (p : ℕ) (x : Y.Number) (n : ℕ → ℤ) (rest : List FormatItem) (below : List EditPlace) (k : ℕ) → IsProvedNumber block types x → bl.taken.words + max 1 (number_words x) ≤ bl.words → AreProvedFormats fs → HasData fs → (has_text fs ≡ true → IsPrecision p) → Suit (has_fixed fs) (has_text fs) rest → v.edits ≡ putting (format_items fs) rest ∷ below → Linked links code i (C.item_put (outermost e) bl.taken fs (number_item p x)) → Serving k s v around.line → AllHold s block types n → ((b : Base) → At b i (Known (bl.ground n) v h t nothing b) (f b)) → ItemBehind bl k around.line h t (i + size_of (C.item_put (outermost e) bl.taken fs (number_item p x))) n fs below aims → Comes code i f v aims (P.item_put around (format_items fs) rest (number_item p x) k s)
 unfolding P.item_put V.computational ◌>>=◌ ◌>>◌ give
 number_item_piece {e} {block} {types} bl {i = i} {s = s} {aims = aims} closed routines f around fs p x n rest below k is room are has precise suits edits l serving all at goal =
     let least = le-max_left 1 (number_words x) in
@@ -109,17 +106,17 @@ number_item_piece {e} {block} {types} bl {i = i} {s = s} {aims = aims} closed ro
     let fit : ℤ → Meaning Computational = λ z. give (ComputationalNumber p z) in
     comes_on k (V.computational around (Y.NumberValue p x) k s) next'
     (comes_on k (V.number around x k s) fit
-    (number_piece x (before_closed k fit (before_closed k next' closed)) routines (bl.temps n) e block types n f around bl.taken k is (omega (arith, room, most, w)) (scope_of bl n all) (front_of a put' l) serving at
+    (number_piece x (before_closed k fit (before_closed k next' closed)) routines.raises (routines.constants n) (bl.temps n) e block types n f around bl.taken k is (omega (arith, room, most, w)) (scope_of bl n all) (front_of a put' l) serving at
     (λ z f1 h1 t1 wide stays at1.
     record {
       to =
-          word_piece bl closed routines f1 around fs (ComputationalNumber p z) p z n rest below k (number_as around (has_text fs) p z wide precise) (omega (arith, room, least)) are has suits edits (back_of a put' l) serving all at1
+          word_piece bl closed routines.raises f1 around fs (ComputationalNumber p z) p z n rest below k (number_as around (has_text fs) p z wide precise) (omega (arith, room, least)) are has suits edits (back_of a put' l) serving all at1
           (λ s2 v2 rest2 h2 t2 f2 serving2 all2 suits2 edits2 stays2 at2.
           subst (λ q. aims.done q f2 v2 rest2 s2) (sym place)
           (goal s2 v2 rest2 h2 t2 f2 serving2 all2 suits2 edits2 (stays_then stays stays2) (λ b. record { pc = (at2 b).pc ∙ ap (address b) place; holds = (at2 b).holds })));
     })))
 
-bit_item_piece : {e : Environment} {block : ℕ} {types : Types} (bl : Block e block types) {links : Links} {code : List Instr} {i : ℕ} {v : Services} {h t : ℕ → ℕ} {s : State} {aims : Aims (List FormatItem)} (closed : Closed code aims) (routines : Routines links code) (f : Family) (around : Around) (fs : T.Formats) (x : Y.Bit) (n : ℕ → ℤ) (rest : List FormatItem) (below : List EditPlace) (k : ℕ) → IsProvedBit block types x → bl.taken.words + max 1 (bit_words x) ≤ bl.words → AreProvedFormats fs → HasData fs → Suit (has_fixed fs) (has_text fs) rest → v.edits ≡ putting (format_items fs) rest ∷ below → Linked links code i (C.item_put (outermost e) bl.taken fs (bit_item x)) → Serving k s v around.line → AllHold s block types n → ((b : Base) → At b i (Known (bl.ground n) v h t nothing b) (f b)) → ItemBehind bl k around.line h t (i + size_of (C.item_put (outermost e) bl.taken fs (bit_item x))) n fs below aims → Comes code i f v aims (P.item_put around (format_items fs) rest (bit_item x) k s)
+bit_item_piece : {e : Environment} {block : ℕ} {types : Types} (bl : Block e block types) {links : Links} {code : List Instr} {i : ℕ} {v : Services} {h t : ℕ → ℕ} {s : State} {aims : Aims (List FormatItem)} (closed : Closed code aims) (routines : Standing bl links code) (f : Family) (around : Around) (fs : T.Formats) (x : Y.Bit) (n : ℕ → ℤ) (rest : List FormatItem) (below : List EditPlace) (k : ℕ) → IsProvedBit block types x → bl.taken.words + max 1 (bit_words x) ≤ bl.words → AreProvedFormats fs → HasData fs → Suit (has_fixed fs) (has_text fs) rest → v.edits ≡ putting (format_items fs) rest ∷ below → Linked links code i (C.item_put (outermost e) bl.taken fs (bit_item x)) → Serving k s v around.line → AllHold s block types n → ((b : Base) → At b i (Known (bl.ground n) v h t nothing b) (f b)) → ItemBehind bl k around.line h t (i + size_of (C.item_put (outermost e) bl.taken fs (bit_item x))) n fs below aims → Comes code i f v aims (P.item_put around (format_items fs) rest (bit_item x) k s)
 unfolding P.item_put V.computational ◌>>=◌ ◌>>◌ give
 bit_item_piece {e} {block} {types} bl {i = i} {v = v} {s = s} {aims = aims} closed routines f around fs x n rest below k is room are has suits edits l serving all at goal =
     let least = le-max_left 1 (bit_words x) in
@@ -137,7 +134,7 @@ bit_item_piece {e} {block} {types} bl {i = i} {v = v} {s = s} {aims = aims} clos
     (λ met f1 h1 t1 one stays at1.
     record {
       to =
-          word_piece bl closed routines f1 around fs (ComputationalBit met) 0 (bit_number met) n rest below k (bit_as around (has_text fs) met) (omega (arith, room, least)) are has suits edits (back_of a put' l) serving all
+          word_piece bl closed routines.raises f1 around fs (ComputationalBit met) 0 (bit_number met) n rest below k (bit_as around (has_text fs) met) (omega (arith, room, least)) are has suits edits (back_of a put' l) serving all
           (λ b. record { pc = (at1 b).pc; holds = record { body = (at1 b).holds.body; regs = ((at1 b).holds.regs.0 ∙ bit_word met, tt) } })
           (λ s2 v2 rest2 h2 t2 f2 serving2 all2 suits2 edits2 stays2 at2.
           subst (λ q. aims.done q f2 v2 rest2 s2) (sym place)
@@ -146,9 +143,9 @@ bit_item_piece {e} {block} {types} bl {i = i} {v = v} {s = s} {aims = aims} clos
 
 -- ---- a text
 
-text_item_piece : {e : Environment} {block : ℕ} {types : Types} (bl : Block e block types) {links : Links} {code : List Instr} {i : ℕ} {v : Services} {h t : ℕ → ℕ} {s : State} {aims : Aims (List FormatItem)} (closed : Closed code aims) (routines : Routines links code) (f : Family) (around : Around) (fs : T.Formats) (x : Y.Text) (n : ℕ → ℤ) (rest : List FormatItem) (below : List EditPlace) (k : ℕ) → IsProvedText block types x → bl.taken.words + text_words x ≤ bl.words → AreProvedFormats fs → HasData fs → NamedStand bl links code (C.item_put (outermost e) bl.taken fs (text_item x)) → Suit (has_fixed fs) (has_text fs) rest → v.edits ≡ putting (format_items fs) rest ∷ below → Linked links code i (C.item_put (outermost e) bl.taken fs (text_item x)) → Serving k s v around.line → AllHold s block types n → ((b : Base) → At b i (Known (bl.ground n) v h t nothing b) (f b)) → ItemBehind bl k around.line h t (i + size_of (C.item_put (outermost e) bl.taken fs (text_item x))) n fs below aims → Comes code i f v aims (P.item_put around (format_items fs) rest (text_item x) k s)
+text_item_piece : {e : Environment} {block : ℕ} {types : Types} (bl : Block e block types) {links : Links} {code : List Instr} {i : ℕ} {v : Services} {h t : ℕ → ℕ} {s : State} {aims : Aims (List FormatItem)} (closed : Closed code aims) (routines : Standing bl links code) (f : Family) (around : Around) (fs : T.Formats) (x : Y.Text) (n : ℕ → ℤ) (rest : List FormatItem) (below : List EditPlace) (k : ℕ) → IsProvedText block types x → bl.taken.words + text_words x ≤ bl.words → AreProvedFormats fs → HasData fs → Suit (has_fixed fs) (has_text fs) rest → v.edits ≡ putting (format_items fs) rest ∷ below → Linked links code i (C.item_put (outermost e) bl.taken fs (text_item x)) → Serving k s v around.line → AllHold s block types n → ((b : Base) → At b i (Known (bl.ground n) v h t nothing b) (f b)) → ItemBehind bl k around.line h t (i + size_of (C.item_put (outermost e) bl.taken fs (text_item x))) n fs below aims → Comes code i f v aims (P.item_put around (format_items fs) rest (text_item x) k s)
 unfolding P.item_put V.computational ◌>>=◌ ◌>>◌ give
-text_item_piece {e} {block} {types} bl {links} {code} {i} {v} {h} {t} {s} {aims} closed routines f around fs x n rest below k is room are has stand suits edits l serving all at goal =
+text_item_piece {e} {block} {types} bl {links} {code} {i} {v} {h} {t} {s} {aims} closed routines f around fs x n rest below k is room are has suits edits l serving all at goal =
     let w = bl.words_are n in
     let a = text_code (outermost e) bl.taken x in
     let shown = by_item fs text_by_fixed text_written in
@@ -161,15 +158,15 @@ text_item_piece {e} {block} {types} bl {links} {code} {i} {v} {h} {t} {s} {aims}
     let fit : List ℕ → Meaning Computational = λ text. give (ComputationalText text) in
     comes_on k (V.computational around (Y.TextValue x) k s) next'
     (comes_on k (V.text around x k s) fit
-    ((text_does x {e = e} {around = around} (setting bl routines n all serving) is).does (before_closed k fit (before_closed k next' closed)) f bl.taken (omega (arith, room, w)) (record { stand = λ bytes named t' b m o. (stand bytes (is_named_front (ConstantBytes bytes) a (controls_carried_out ++ shown) named)).stand n t' b m o }) (front_of a (controls_carried_out ++ shown) l) at
-    (λ text f1 h1 t1 stays at1.
+    ((text_does x {e = e} {around = around} (setting bl routines n all serving) is).does (before_closed k fit (before_closed k next' closed)) f bl.taken (omega (arith, room, w)) (front_of a (controls_carried_out ++ shown) l) at
+    (λ text f1 h1 t1 short stays at1.
     let u = ComputationalText text in
     record {
       to =
           comes_on k (P.next_item P.control_put whole rest k s) (show u)
           (next_piece (all_kept block types n) (before_closed k (show u) closed) (has_fixed fs) (has_text fs) f1 whole rest below k (items_data fs are has) (formats_suit fs) suits edits (front_of controls_carried_out shown l1) (record { serving = at_other_texts (TextEntry text ∷ v.entries) serving; holds = all; texts_are = refl }) at1
           (λ s2 v2 f2 d behind under2 found2 suits2 at2.
-          text_shown bl closed routines f2 around fs d n whole behind below text v.entries k suits2.0 under2.texts_are found2 (back_of controls_carried_out shown l1) under2.serving under2.holds at2
+          text_shown bl closed routines.raises f2 around fs d n whole behind below text v.entries k suits2.0 under2.texts_are found2 (back_of controls_carried_out shown l1) under2.serving under2.holds at2
           (λ s3 v3 f3 serving3 all3 edits3 at3.
           subst (λ q. aims.done q f3 v3 behind s3) (sym place)
           (goal s3 v3 behind h1 t1 f3 serving3 all3 suits2.1 edits3 stays (λ b. record { pc = (at3 b).pc ∙ ap (address b) place; holds = (at3 b).holds })))));
@@ -177,11 +174,11 @@ text_item_piece {e} {block} {types} bl {links} {code} {i} {v} {h} {t} {s} {aims}
 
 -- ---- any of these
 
-pub item_piece : {e : Environment} {block : ℕ} {types : Types} (bl : Block e block types) {links : Links} {code : List Instr} (item : Y.PutItem) {i : ℕ} {v : Services} {h t : ℕ → ℕ} {s : State} {aims : Aims (List FormatItem)} (closed : Closed code aims) (routines : Routines links code) (f : Family) (around : Around) (fs : T.Formats) (n : ℕ → ℤ) (rest : List FormatItem) (below : List EditPlace) (k : ℕ) → IsProvedItem block types item → bl.taken.words + put_item_words item ≤ bl.words → AreProvedFormats fs → HasData fs → (has_text fs ≡ true → HasPrecision item) → NamedStand bl links code (C.item_put (outermost e) bl.taken fs item) → Suit (has_fixed fs) (has_text fs) rest → v.edits ≡ putting (format_items fs) rest ∷ below → Linked links code i (C.item_put (outermost e) bl.taken fs item) → Serving k s v around.line → AllHold s block types n → ((b : Base) → At b i (Known (bl.ground n) v h t nothing b) (f b)) → ItemBehind bl k around.line h t (i + size_of (C.item_put (outermost e) bl.taken fs item)) n fs below aims → Comes code i f v aims (P.item_put around (format_items fs) rest item k s)
-item_piece bl (Y.PutValue (Y.NumberValue p x)) closed routines f around fs n rest below k is room are has precise stand suits edits l serving all at goal =
+pub item_piece : {e : Environment} {block : ℕ} {types : Types} (bl : Block e block types) {links : Links} {code : List Instr} (item : Y.PutItem) {i : ℕ} {v : Services} {h t : ℕ → ℕ} {s : State} {aims : Aims (List FormatItem)} (closed : Closed code aims) (routines : Standing bl links code) (f : Family) (around : Around) (fs : T.Formats) (n : ℕ → ℤ) (rest : List FormatItem) (below : List EditPlace) (k : ℕ) → IsProvedItem block types item → bl.taken.words + put_item_words item ≤ bl.words → AreProvedFormats fs → HasData fs → (has_text fs ≡ true → HasPrecision item) → Suit (has_fixed fs) (has_text fs) rest → v.edits ≡ putting (format_items fs) rest ∷ below → Linked links code i (C.item_put (outermost e) bl.taken fs item) → Serving k s v around.line → AllHold s block types n → ((b : Base) → At b i (Known (bl.ground n) v h t nothing b) (f b)) → ItemBehind bl k around.line h t (i + size_of (C.item_put (outermost e) bl.taken fs item)) n fs below aims → Comes code i f v aims (P.item_put around (format_items fs) rest item k s)
+item_piece bl (Y.PutValue (Y.NumberValue p x)) closed routines f around fs n rest below k is room are has precise suits edits l serving all at goal =
     number_item_piece bl closed routines f around fs p x n rest below k is room are has precise suits edits l serving all at goal
-item_piece bl (Y.PutValue (Y.BitValue x)) closed routines f around fs n rest below k is room are has precise stand suits edits l serving all at goal =
+item_piece bl (Y.PutValue (Y.BitValue x)) closed routines f around fs n rest below k is room are has precise suits edits l serving all at goal =
     bit_item_piece bl closed routines f around fs x n rest below k is room are has suits edits l serving all at goal
-item_piece bl (Y.PutValue (Y.TextValue x)) closed routines f around fs n rest below k is room are has precise stand suits edits l serving all at goal =
-    text_item_piece bl closed routines f around fs x n rest below k is room are has stand suits edits l serving all at goal
-item_piece bl _ closed routines f around fs n rest below k is room are has precise stand suits edits l serving all at goal = absurd is
+item_piece bl (Y.PutValue (Y.TextValue x)) closed routines f around fs n rest below k is room are has precise suits edits l serving all at goal =
+    text_item_piece bl closed routines f around fs x n rest below k is room are has suits edits l serving all at goal
+item_piece bl _ closed routines f around fs n rest below k is room are has precise suits edits l serving all at goal = absurd is

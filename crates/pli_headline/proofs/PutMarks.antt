@@ -1,48 +1,19 @@
--- The code of texts and of PUT marks no symbols.
-use Rattle.std.proofs.Common.{ℕ, List, [], ◌∷◌, ◌++◌, length, Some, Bool, true, false, refl}
+-- The code of PUT marks no symbols.
+use Rattle.std.proofs.Common.{ℕ, List, [], ◌∷◌, ◌++◌, Some, Bool, true, false, refl}
 use Rattle.std.specs.Prelude.{pos, cond, ◌&&◌}
 use Rattle.rv_meaning.specs.declared.instr.BranchTest.TheVariants as Test
 use Rattle.pli_language.specs.Tree as T
 use Rattle.pli_typing.specs.TypedTree as Y
-use Rattle.pli_coding.specs.Registers.{a0, a1, a2, u1}
+use Rattle.pli_coding.specs.Registers.{a0, a1, u1}
 use Rattle.pli_coding.specs.Assembly.{JumpAhead, Code, size_of}
-use Rattle.pli_coding.specs.Instructions.{move, small, number, choice, service, tested_service}
-use Rattle.pli_coding.specs.Environments.{Environment, Taken, with_number, save, fetch}
+use Rattle.pli_coding.specs.Instructions.{small, number, choice, service}
+use Rattle.pli_coding.specs.Environments.{Environment, Taken, save, fetch}
 use Rattle.pli_coding.specs.Expressions.{number_code, text_code, bit_code}
 use Rattle.pli_coding.specs.Streams.{has_fixed, has_text, number_written, text_written, number_put, text_put, as_text, item_put, items_put, edit_ended, put_pair, put_pairs, skip_option}
-use Rattle.pli_headline.specs.ProvedSoFar.{Types, IsProvedText, IsProvedItem, AreProvedItems, AreProvedPairs}
+use Rattle.pli_headline.specs.ProvedSoFar.{Types, IsProvedItem, AreProvedItems, AreProvedPairs}
 use Rattle.pli_headline.proofs.Variables.{outermost}
 use Rattle.pli_headline.proofs.EditConversions.{text_by_fixed}
-use Rattle.pli_headline.proofs.SymbolsMarked.{HasTypes, Marks, behind, constant_none, saved_none, fetched_none, number_none, bit_none}
-
--- ---- texts
-
-text_none : (e : Environment) (t : Taken) (block : ℕ) (types : Types) (x : Y.Text) → HasTypes e block types → IsProvedText block types x → Marks (text_code (outermost e) t x) []
-text_none e t block types (Y.TextConstant bytes) has is =
-    behind (number a1 (length bytes)) (small a2 0 ∷ service 20) [] (constant_none a1 (pos (length bytes))) refl
-text_none e t block types (Y.TextOfNumber precision x) has is =
-    behind (number_code (outermost e) t x) (as_text precision) [] (number_none e t block types x has is.1) refl
-text_none e t block types (Y.TextOfBit x) has is =
-    behind (bit_code (outermost e) t x) (as_text 0) [] (bit_none e t block types x has is) refl
-text_none e t block types (Y.Joined left right) has is =
-    let c = text_code (outermost e) t right in
-    behind (text_code (outermost e) t left) (c ++ tested_service 22) [] (text_none e t block types left has is.0)
-    (behind c (tested_service 22) [] (text_none e t block types right has is.1) refl)
-text_none e t block types (Y.SubstringFrom x start) has is =
-    let cut = small a2 0 ∷ tested_service 23 in
-    let c = number_code (outermost e) t start in
-    behind (text_code (outermost e) t x) (c ++ cut) [] (text_none e t block types x has is.0)
-    (behind c cut [] (number_none e t block types start has is.1) refl)
-text_none e t block types (Y.Substring x start many) has is =
-    let cut = small a2 1 ∷ tested_service 23 in
-    let last = move a1 a0 ∷ (fetch a0 t ++ cut) in
-    let c = number_code (outermost e) t start in
-    let d = number_code (outermost e) (with_number t) many in
-    behind (text_code (outermost e) t x) (c ++ (save a0 t ++ (d ++ last))) [] (text_none e t block types x has is.0)
-    (behind c (save a0 t ++ (d ++ last)) [] (number_none e t block types start has is.1.0)
-    (behind (save a0 t) (d ++ last) [] (saved_none a0 t)
-    (behind d last [] (number_none e (with_number t) block types many has is.1.1) (behind (fetch a0 t) cut [] (fetched_none a0 t) refl))))
-text_none e t block types _ has is = absurd is
+use Rattle.pli_headline.proofs.SymbolsMarked.{text_none, HasTypes, Marks, behind, constant_none, saved_none, fetched_none, number_none, bit_none}
 
 -- ---- PUT
 

@@ -59,6 +59,13 @@ both_size a c last t m n h i =
     let s3 = size_append c last in
     most _ _ _ (omega (arith, h, s1)) (omega (arith, i, one, s1, s2, s3))
 
+-- two texts, one above the other
+two_size : (a c last : Code) (m n : ℕ) → m ≤ size_of a + 1 → n ≤ size_of c + 1 → max m n ≤ size_of (a ++ (c ++ last)) + 1
+two_size a c last m n h i =
+    let s1 = size_append a (c ++ last) in
+    let s2 = size_append c last in
+    most _ _ _ (omega (arith, h, s1)) (omega (arith, i, s1, s2))
+
 mutual
   number_size : (e : Environment) (t : Taken) (block : ℕ) (types : Types) (x : Y.Number) → IsProvedNumber block types x → number_words x ≤ size_of (number_code e t x) + 1
   number_size e t block types (Y.NumberConstant n) is = omega arith
@@ -90,6 +97,20 @@ mutual
   number_size e t block types (Y.Divided precision dividend divisor) is =
       both_size (number_code e t dividend) (number_code e (with_number t) divisor) (fetch u1 t ++ divided_code t precision) t (number_words dividend) (number_words divisor)
       (number_size e t block types dividend is.1.0) (number_size e (with_number t) block types divisor is.1.1)
+  number_size e t block types (Y.NumberOfText x) is =
+      let n = text_size e t block types x is in
+      let s = size_append (text_code e t x) (small a0 0 ∷ tested_service 26) in
+      omega (arith, n, s)
+  number_size e t block types (Y.LengthOf x) is =
+      let n = text_size e t block types x is in
+      let s = size_append (text_code e t x) (small a2 3 ∷ service 27) in
+      omega (arith, n, s)
+  number_size e t block types (Y.IndexOf searched sought) is =
+      two_size (text_code e t searched) (text_code e t sought) (small a0 0 ∷ service 25) (text_words searched) (text_words sought)
+      (text_size e t block types searched is.0) (text_size e t block types sought is.1)
+  number_size e t block types (Y.VerifyOf searched allowed) is =
+      two_size (text_code e t searched) (text_code e t allowed) (small a0 1 ∷ service 25) (text_words searched) (text_words allowed)
+      (text_size e t block types searched is.0) (text_size e t block types allowed is.1)
   number_size e t block types _ is = absurd is
 
   numbers_size : (e : Environment) (t : Taken) (block : ℕ) (types : Types) (extremum : Y.Extremum) (xs : Y.Numbers) → AreProvedNumbers block types xs → numbers_words xs ≤ size_of (extremes_code e t extremum xs)
@@ -124,45 +145,50 @@ mutual
   bit_size e t block types (Y.BitsCompared comparison left right) is =
       both_size (bit_code e t left) (bit_code e (with_number t) right) (fetch u1 t ++ compared_code comparison) t (bit_words left) (bit_words right)
       (bit_size e t block types left is.0) (bit_size e (with_number t) block types right is.1)
+  bit_size e t block types (Y.BitOfText x) is =
+      let n = text_size e t block types x is in
+      let s = size_append (text_code e t x) (small a0 1 ∷ tested_service 26) in
+      omega (arith, n, s)
+  bit_size e t block types (Y.TextsCompared comparison left right) is =
+      two_size (text_code e t left) (text_code e t right) (service 24 ++ (move u1 a0 ∷ small a0 0 ∷ compared_code comparison)) (text_words left) (text_words right)
+      (text_size e t block types left is.0) (text_size e t block types right is.1)
   bit_size e t block types _ is = absurd is
 
--- a text takes what its parts take
-text_size : (e : Environment) (t : Taken) (block : ℕ) (types : Types) (x : Y.Text) → IsProvedText block types x → text_words x ≤ size_of (text_code e t x) + 1
-text_size e t block types (Y.TextConstant bytes) is = omega arith
-text_size e t block types (Y.TextOfNumber precision x) is =
-    let n = number_size e t block types x is.1 in
-    let s = size_append (number_code e t x) (as_text precision) in
-    omega (arith, n, s)
-text_size e t block types (Y.TextOfBit x) is =
-    let n = bit_size e t block types x is in
-    let s = size_append (bit_code e t x) (as_text 0) in
-    omega (arith, n, s)
-text_size e t block types (Y.Joined left right) is =
-    let n = text_size e t block types left is.0 in
-    let m = text_size e t block types right is.1 in
-    let s1 = size_append (text_code e t left) (text_code e t right ++ tested_service 22) in
-    let s2 = size_append (text_code e t right) (tested_service 22) in
-    most _ _ _ (omega (arith, n, s1)) (omega (arith, m, s1, s2))
-text_size e t block types (Y.SubstringFrom x start) is =
-    let cut = small a2 0 ∷ tested_service 23 in
-    let n = text_size e t block types x is.0 in
-    let m = number_size e t block types start is.1 in
-    let s1 = size_append (text_code e t x) (number_code e t start ++ cut) in
-    let s2 = size_append (number_code e t start) cut in
-    most _ _ _ (omega (arith, n, s1)) (omega (arith, m, s1, s2))
-text_size e t block types (Y.Substring x start many) is =
-    let cut = small a2 1 ∷ tested_service 23 in
-    let behind = move a1 a0 ∷ (fetch a0 t ++ cut) in
-    let further = number_code e (with_number t) many ++ behind in
-    let n = text_size e t block types x is.0 in
-    let m = number_size e t block types start is.1.0 in
-    let o = number_size e (with_number t) block types many is.1.1 in
-    let s1 = size_append (text_code e t x) (number_code e t start ++ (save a0 t ++ further)) in
-    let s2 = size_append (number_code e t start) (save a0 t ++ further) in
-    let s3 = size_append (save a0 t) further in
-    let s4 = size_append (number_code e (with_number t) many) behind in
-    most _ _ _ (omega (arith, n, s1)) (most _ _ _ (omega (arith, m, s1, s2)) (omega (arith, o, s1, s2, s3, s4)))
-text_size e t block types _ is = absurd is
+  -- a text takes what its parts take
+  text_size : (e : Environment) (t : Taken) (block : ℕ) (types : Types) (x : Y.Text) → IsProvedText block types x → text_words x ≤ size_of (text_code e t x) + 1
+  text_size e t block types (Y.TextConstant bytes) is = omega arith
+  text_size e t block types (Y.TextOfNumber precision x) is =
+      let n = number_size e t block types x is.1 in
+      let s = size_append (number_code e t x) (as_text precision) in
+      omega (arith, n, s)
+  text_size e t block types (Y.TextOfBit x) is =
+      let n = bit_size e t block types x is in
+      let s = size_append (bit_code e t x) (as_text 0) in
+      omega (arith, n, s)
+  text_size e t block types (Y.Joined left right) is =
+      let n = text_size e t block types left is.0 in
+      let m = text_size e t block types right is.1 in
+      two_size (text_code e t left) (text_code e t right) (tested_service 22) (text_words left) (text_words right) n m
+  text_size e t block types (Y.SubstringFrom x start) is =
+      let cut = small a2 0 ∷ tested_service 23 in
+      let n = text_size e t block types x is.0 in
+      let m = number_size e t block types start is.1 in
+      let s1 = size_append (text_code e t x) (number_code e t start ++ cut) in
+      let s2 = size_append (number_code e t start) cut in
+      most _ _ _ (omega (arith, n, s1)) (omega (arith, m, s1, s2))
+  text_size e t block types (Y.Substring x start many) is =
+      let cut = small a2 1 ∷ tested_service 23 in
+      let behind = move a1 a0 ∷ (fetch a0 t ++ cut) in
+      let further = number_code e (with_number t) many ++ behind in
+      let n = text_size e t block types x is.0 in
+      let m = number_size e t block types start is.1.0 in
+      let o = number_size e (with_number t) block types many is.1.1 in
+      let s1 = size_append (text_code e t x) (number_code e t start ++ (save a0 t ++ further)) in
+      let s2 = size_append (number_code e t start) (save a0 t ++ further) in
+      let s3 = size_append (save a0 t) further in
+      let s4 = size_append (number_code e (with_number t) many) behind in
+      most _ _ _ (omega (arith, n, s1)) (most _ _ _ (omega (arith, m, s1, s2)) (omega (arith, o, s1, s2, s3, s4)))
+  text_size e t block types _ is = absurd is
 
 -- ---- words of statements
 

@@ -34,6 +34,7 @@ use Rattle.pli_headline.proofs.Jumps.{front_of, back_of}
 use Rattle.pli_headline.proofs.Temporaries.{Temporaries, Stays, stays_same, stays_then, nothing}
 use Rattle.pli_headline.proofs.Calls.{Serving, main_height}
 use Rattle.pli_headline.proofs.Raising.{Routines}
+use Rattle.pli_headline.proofs.StandingBytes.{ConstantsStand}
 use Rattle.pli_headline.proofs.Acts.{acted, act_piece}
 use Rattle.pli_headline.proofs.Variables.{IsDeclared, whole, own, outermost, data_place}
 use Rattle.pli_headline.proofs.Expressions.{Scope}
@@ -58,6 +59,11 @@ pub record Block (e : Environment) (block : ℕ) (types : Types) : Type 1 where
   pub places : (n : ℕ → ℤ) (j : ℕ) {type : Y.LeafType} → slice_get types j ≡ Some type → PlaceOf (ground n) (pos (data_place e block j)) ((ground n).frame + data_place e block j)
   pub reads : (n : ℕ → ℤ) (j : ℕ) {type : Y.LeafType} → slice_get types j ≡ Some type → Fits type (n j) → (t : ℕ → ℕ) (b : Base) (m : List ℕ) → (ground n).memory t b m → extended (load_kind type) (load (load_width (load_kind type)) m ((ground n).frame + data_place e block j)) ≡ word (n j)
   pub writes : (n : ℕ → ℤ) (j : ℕ) (z : ℤ) {type : Y.LeafType} → slice_get types j ≡ Some type → Fits type (n j) → Fits type z → (t : ℕ → ℕ) (b : Base) (m : List ℕ) → length m ≡ memory_size → (ground n).memory t b m → (ground (with_number_at n j z)).memory t b (store (store_width (store_kind type)) m ((ground n).frame + data_place e block j) (word z))
+
+-- what stands beside it: the routines of raises, and constant bytes
+pub record Standing {e : Environment} {block : ℕ} {types : Types} (bl : Block e block types) (links : Links) (code : List Instr) : Type 0 where
+  pub raises : Routines links code
+  pub constants : (n : ℕ → ℤ) → ConstantsStand links code (bl.ground n)
 
 abbrev pub AllHold : State → (block : ℕ) → Types → (ℕ → ℤ) → Type 0
 AllHold s block types n = (j : ℕ) (b : Typed types j) → Holds s block j b.0 (n j)
@@ -130,7 +136,7 @@ null_does bl links code around line fits =
     }
 
 -- an assignment of a value that fits its target, a variable of the block
-pub assign_does : {e : Environment} {block : ℕ} {types : Types} (bl : Block e block types) (links : Links) (code : List Instr) (routines : Routines links code) (around : Around) (j : ℕ) {type : Y.LeafType} (source : Y.Stored) (line words : ℕ) (below : slice_get types j ≡ Some type) → ((v : Services) (s : State) (k : ℕ) (n : ℕ → ℤ) → AllHold s block types n → Serving k s v line → Stores links code (bl.ground n) v s k words type (λ taken. stored_code (outermost e) taken source) (V.stored_value (at_line around line) source)) → stored_into (outermost e) bl.taken (whole (own block j)) source ≡ word_stored (outermost e) bl.taken (whole (own block j)) → bl.taken.words + 1 ≤ bl.words → bl.taken.words + words ≤ bl.words → line < 2 ^ 31 → Does bl links code around.turns (act_code line ++ assigned_code (outermost e) bl.taken (whole (own block j)) source) (M.statement around (Y.Assign (whole (own block j)) source line))
+pub assign_does : {e : Environment} {block : ℕ} {types : Types} (bl : Block e block types) (links : Links) (code : List Instr) (routines : Standing bl links code) (around : Around) (j : ℕ) {type : Y.LeafType} (source : Y.Stored) (line words : ℕ) (below : slice_get types j ≡ Some type) → ((v : Services) (s : State) (k : ℕ) (n : ℕ → ℤ) → AllHold s block types n → Serving k s v line → Stores links code (bl.ground n) v s k words type (λ taken. stored_code (outermost e) taken source) (V.stored_value (at_line around line) source)) → stored_into (outermost e) bl.taken (whole (own block j)) source ≡ word_stored (outermost e) bl.taken (whole (own block j)) → bl.taken.words + 1 ≤ bl.words → bl.taken.words + words ≤ bl.words → line < 2 ^ 31 → Does bl links code around.turns (act_code line ++ assigned_code (outermost e) bl.taken (whole (own block j)) source) (M.statement around (Y.Assign (whole (own block j)) source line))
 unfolding M.statement ◌>>=◌ ◌>>◌
 assign_does {e} {block} {types} bl links code routines around j {type} source line words below stores into some room fits =
     record {
@@ -170,19 +176,19 @@ assign_does {e} {block} {types} bl links code routines around j {type} source li
           (λ b. record { pc = (at3 b).pc ∙ ap (address b) place; holds = (at3 b).holds })))))));
     }
 
-pub assign_number_does : {e : Environment} {block : ℕ} {types : Types} (bl : Block e block types) (links : Links) (code : List Instr) (routines : Routines links code) (around : Around) (r : Y.Reference) (p : ℕ) (x : Y.Number) (line : ℕ) → IsOwn block types (Y.FixedLeaf p) r → IsProvedNumber block types x → bl.taken.words + max 1 (number_words x) ≤ bl.words → line < 2 ^ 31 → Does bl links code around.turns (act_code line ++ assigned_code (outermost e) bl.taken r (Y.StoredNumber p x)) (M.statement around (Y.Assign r (Y.StoredNumber p x) line))
+pub assign_number_does : {e : Environment} {block : ℕ} {types : Types} (bl : Block e block types) (links : Links) (code : List Instr) (routines : Standing bl links code) (around : Around) (r : Y.Reference) (p : ℕ) (x : Y.Number) (line : ℕ) → IsOwn block types (Y.FixedLeaf p) r → IsProvedNumber block types x → bl.taken.words + max 1 (number_words x) ≤ bl.words → line < 2 ^ 31 → Does bl links code around.turns (act_code line ++ assigned_code (outermost e) bl.taken r (Y.StoredNumber p x)) (M.statement around (Y.Assign r (Y.StoredNumber p x) line))
 assign_number_does {e} {block} {types} bl links code routines around r p x line own' is room fits =
     let least = le-max_left 1 (number_words x) in
     subst (λ q. Does bl links code around.turns (act_code line ++ assigned_code (outermost e) bl.taken q (Y.StoredNumber p x)) (M.statement around (Y.Assign q (Y.StoredNumber p x) line))) (sym own'.is)
     (assign_does bl links code routines around own'.index (Y.StoredNumber p x) line (max 1 (number_words x)) own'.declared
-    (λ v s k n all serving. number_stores {e = e} {block = block} {types = types} {numbers = n} {around = at_line around line} p x (all own'.index (Y.FixedLeaf p, own'.declared)).fits.0 (record { routines = routines; temps = bl.temps n; scope = scope_of bl n all; serving = serving }) is)
+    (λ v s k n all serving. number_stores {e = e} {block = block} {types = types} {numbers = n} {around = at_line around line} p x (all own'.index (Y.FixedLeaf p, own'.declared)).fits.0 (record { routines = routines.raises; constants = routines.constants n; temps = bl.temps n; scope = scope_of bl n all; serving = serving }) is)
     refl (omega (arith, room, least)) room fits)
 
-pub assign_bit_does : {e : Environment} {block : ℕ} {types : Types} (bl : Block e block types) (links : Links) (code : List Instr) (routines : Routines links code) (around : Around) (r : Y.Reference) (x : Y.Bit) (line : ℕ) → IsOwn block types Y.BitLeaf r → IsProvedBit block types x → bl.taken.words + 1 ≤ bl.words → bl.taken.words + bit_words x ≤ bl.words → line < 2 ^ 31 → Does bl links code around.turns (act_code line ++ assigned_code (outermost e) bl.taken r (Y.StoredBit x)) (M.statement around (Y.Assign r (Y.StoredBit x) line))
+pub assign_bit_does : {e : Environment} {block : ℕ} {types : Types} (bl : Block e block types) (links : Links) (code : List Instr) (routines : Standing bl links code) (around : Around) (r : Y.Reference) (x : Y.Bit) (line : ℕ) → IsOwn block types Y.BitLeaf r → IsProvedBit block types x → bl.taken.words + 1 ≤ bl.words → bl.taken.words + bit_words x ≤ bl.words → line < 2 ^ 31 → Does bl links code around.turns (act_code line ++ assigned_code (outermost e) bl.taken r (Y.StoredBit x)) (M.statement around (Y.Assign r (Y.StoredBit x) line))
 assign_bit_does {e} {block} {types} bl links code routines around r x line own' is some room fits =
     subst (λ q. Does bl links code around.turns (act_code line ++ assigned_code (outermost e) bl.taken q (Y.StoredBit x)) (M.statement around (Y.Assign q (Y.StoredBit x) line))) (sym own'.is)
     (assign_does bl links code routines around own'.index (Y.StoredBit x) line (bit_words x) own'.declared
-    (λ v s k n all serving. bit_stores {e = e} {block = block} {types = types} {numbers = n} {around = at_line around line} x (record { routines = routines; temps = bl.temps n; scope = scope_of bl n all; serving = serving }) is)
+    (λ v s k n all serving. bit_stores {e = e} {block = block} {types = types} {numbers = n} {around = at_line around line} x (record { routines = routines.raises; constants = routines.constants n; temps = bl.temps n; scope = scope_of bl n all; serving = serving }) is)
     refl some room fits)
 
 -- ---- labels stand in the code without a word

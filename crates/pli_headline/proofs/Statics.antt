@@ -17,8 +17,8 @@ use Rattle.pli_coding.specs.Images.{linked_code, picture_of_code}
 use Rattle.pli_headline.specs.Headline.{FitsMemory}
 use Rattle.pli_headline.proofs.Engine.{Base}
 use Rattle.pli_headline.proofs.Linking.{linked_length}
-use Rattle.pli_headline.proofs.DataNamed.{IsNamed, BytesStand}
-use Rattle.pli_headline.proofs.DataOnce.{Has, same_datum-equal, AreInitial, filtered_initial, named_once, initial_has, static_has}
+use Rattle.pli_headline.proofs.DataNamed.{IsNamed, IsPlaced, BytesStand}
+use Rattle.pli_headline.proofs.DataOnce.{Has, same_datum-equal, AreInitial, filtered_initial, named_once, initial_has, static_has, placed_same}
 
 -- ---- bytes within others, from an index on
 
@@ -251,8 +251,10 @@ constant_there code fits bytes h =
       bytes_are = λ k below. within_byte (first_bytes (picture_of_code code)) (place_in code d) bytes k below (within_front (first_bytes (picture_of_code code)) (place_in code d) bytes padding (in_memory code d h));
     }
 
-pub constant_stands : (code : Code) → FitsMemory (picture_of_code code) → (bytes : List ℕ) → IsNamed (ConstantBytes bytes) code → BytesStand (linked_code code) (first_bytes (picture_of_code code)) (place_in code (ConstantBytes bytes)) bytes
-constant_stands code fits bytes h = constant_there code fits bytes (static_has code (ConstantBytes bytes) h)
+-- so do those that have a place
+pub constant_stands : (code : Code) → FitsMemory (picture_of_code code) → (bytes : List ℕ) → IsPlaced (ConstantBytes bytes) (links_of code).data' → BytesStand (linked_code code) (first_bytes (picture_of_code code)) (place_in code (ConstantBytes bytes)) bytes
+constant_stands code fits bytes placed =
+    constant_there code fits bytes (sym (placed_same (ConstantBytes bytes) (data_start code) (static_data code)) ∙ placed)
 
 -- INITIAL values stand behind the list that leads to them
 pub values_behind : (code : Code) (l : InitialLeaf) → IsNamed (InitialValues (l ∷ [])) code → Has (static_data code) (ConstantBytes l.values) → place_in code (InitialValues (l ∷ [])) ≤ place_in code (ConstantBytes l.values)

@@ -1,5 +1,5 @@
 -- The symbols that code marks. The code of expressions and assignments marks none.
-use Rattle.std.proofs.Common.{◌≡◌, ℕ, List, [], ◌∷◌, ◌++◌, Bool, true, false, refl, ap, ◌∙◌, append-nil}
+use Rattle.std.proofs.Common.{◌≡◌, ℕ, List, [], ◌∷◌, ◌++◌, length, Bool, true, false, refl, ap, ◌∙◌, append-nil}
 use Rattle.std.specs.Prelude.{ℤ, pos, cond, nat_lt}
 use Rattle.rv_meaning.specs.declared.instr.Register.{Register}
 use Rattle.rv_meaning.specs.declared.instr.RegisterOp.TheVariants as Op
@@ -7,17 +7,18 @@ use Rattle.pli_language.specs.declared.condition.Condition.TheVariants as C
 use Rattle.pli_typing.specs.TypedTree as Y
 use Rattle.pli_meaning.specs.Codes.{fixed_overflow_code}
 use Rattle.pli_meaning.specs.Numbers.{operator_precision}
-use Rattle.pli_coding.specs.Registers.{frame_register, a0, a1, u1, u2}
+use Rattle.pli_coding.specs.Registers.{frame_register, a0, a1, a2, u1, u2}
 use Rattle.pli_coding.specs.Assembly.{Symbol, Plain, BaseIn, OffsetOf, OffsetAhead, JumpTo, CallTo, JumpAhead, JumpBack, Mark, Code}
-use Rattle.pli_coding.specs.Instructions.{registers, is_immediate, small, constant, number, plus, load_word, store_word, service}
+use Rattle.pli_coding.specs.Instructions.{registers, is_immediate, small, constant, number, plus, load_word, store_word, move, service, tested_service}
 use Rattle.pli_coding.specs.Frames.{words_place}
 use Rattle.pli_coding.specs.Environments.{Environment, Taken, is_register_left, with_number, save, fetch}
 use Rattle.pli_coding.specs.Arithmetic.{raised, overflow_raised, calculated_code, quotient_checked, narrowed_code, fitted_code, divided_code, signed_code, absolute_code, sign_code, modulo_code, extreme_code, negated_code, combined_code, compared_code}
 use Rattle.pli_coding.specs.Locating.{stored}
-use Rattle.pli_coding.specs.Expressions.{number_code, extremes_code, bit_code, type_in, address_in}
+use Rattle.pli_coding.specs.Expressions.{number_code, extremes_code, text_code, bit_code, type_in, address_in}
+use Rattle.pli_coding.specs.Streams.{as_text}
 use Rattle.pli_coding.specs.Storing.{word_stored}
 use Rattle.pli_coding.specs.Allocating.{act_code}
-use Rattle.pli_headline.specs.ProvedSoFar.{Types, IsOwn, IsProvedNumber, AreProvedNumbers, IsProvedBit}
+use Rattle.pli_headline.specs.ProvedSoFar.{Types, IsOwn, IsProvedNumber, AreProvedNumbers, IsProvedBit, IsProvedText}
 use Rattle.pli_headline.proofs.Scalars.{IsNumeric, Typed}
 use Rattle.pli_headline.proofs.Variables.{IsDeclared, outermost, own, whole, data_place, scalar_loaded, scalar_stored, number_loaded, bit_loaded, scalar_reached, scalar_kept}
 
@@ -150,6 +151,10 @@ operands_none a c last t h k m =
     (behind (save a0 t) (c ++ (fetch u1 t ++ last)) [] (saved_none a0 t)
     (behind c (fetch u1 t ++ last) [] k (behind (fetch u1 t) last [] (fetched_none u1 t) m)))
 
+-- two texts, one above the other
+texts_none : (a c last : Code) → Marks a [] → Marks c [] → Marks last [] → Marks (a ++ (c ++ last)) []
+texts_none a c last h k m = behind a (c ++ last) [] h (behind c last [] k m)
+
 mutual
   pub number_none : (e : Environment) (t : Taken) (block : ℕ) (types : Types) (x : Y.Number) → HasTypes e block types → IsProvedNumber block types x → Marks (number_code (outermost e) t x) []
   number_none e t block types (Y.NumberConstant n) has is = constant_none a0 (pos n)
@@ -172,6 +177,14 @@ mutual
   number_none e t block types (Y.Divided precision dividend divisor) has is =
       operands_none (number_code (outermost e) t dividend) (number_code (outermost e) (with_number t) divisor) (divided_code t precision) t
       (number_none e t block types dividend has is.1.0) (number_none e (with_number t) block types divisor has is.1.1) (divided_none t precision)
+  number_none e t block types (Y.NumberOfText x) has is =
+      behind (text_code (outermost e) t x) (small a0 0 ∷ tested_service 26) [] (text_none e t block types x has is) refl
+  number_none e t block types (Y.LengthOf x) has is =
+      behind (text_code (outermost e) t x) (small a2 3 ∷ service 27) [] (text_none e t block types x has is) refl
+  number_none e t block types (Y.IndexOf searched sought) has is =
+      texts_none (text_code (outermost e) t searched) (text_code (outermost e) t sought) (small a0 0 ∷ service 25) (text_none e t block types searched has is.0) (text_none e t block types sought has is.1) refl
+  number_none e t block types (Y.VerifyOf searched allowed) has is =
+      texts_none (text_code (outermost e) t searched) (text_code (outermost e) t allowed) (small a0 1 ∷ service 25) (text_none e t block types searched has is.0) (text_none e t block types allowed has is.1) refl
   number_none e t block types _ has is = absurd is
 
   numbers_none : (e : Environment) (t : Taken) (block : ℕ) (types : Types) (extremum : Y.Extremum) (xs : Y.Numbers) → HasTypes e block types → AreProvedNumbers block types xs → Marks (extremes_code (outermost e) t extremum xs) []
@@ -200,7 +213,40 @@ mutual
   bit_none e t block types (Y.BitsCompared comparison left right) has is =
       operands_none (bit_code (outermost e) t left) (bit_code (outermost e) (with_number t) right) (compared_code comparison) t
       (bit_none e t block types left has is.0) (bit_none e (with_number t) block types right has is.1) (compared_none comparison)
+  bit_none e t block types (Y.BitOfText x) has is =
+      behind (text_code (outermost e) t x) (small a0 1 ∷ tested_service 26) [] (text_none e t block types x has is) refl
+  bit_none e t block types (Y.TextsCompared comparison left right) has is =
+      let moves = move u1 a0 ∷ small a0 0 ∷ [] in
+      texts_none (text_code (outermost e) t left) (text_code (outermost e) t right) (service 24 ++ (moves ++ compared_code comparison)) (text_none e t block types left has is.0) (text_none e t block types right has is.1)
+      (behind (service 24) (moves ++ compared_code comparison) [] refl (behind moves (compared_code comparison) [] refl (compared_none comparison)))
   bit_none e t block types _ has is = absurd is
+
+  pub text_none : (e : Environment) (t : Taken) (block : ℕ) (types : Types) (x : Y.Text) → HasTypes e block types → IsProvedText block types x → Marks (text_code (outermost e) t x) []
+  text_none e t block types (Y.TextConstant bytes) has is =
+      behind (number a1 (length bytes)) (small a2 0 ∷ service 20) [] (constant_none a1 (pos (length bytes))) refl
+  text_none e t block types (Y.TextOfNumber precision x) has is =
+      behind (number_code (outermost e) t x) (as_text precision) [] (number_none e t block types x has is.1) refl
+  text_none e t block types (Y.TextOfBit x) has is =
+      behind (bit_code (outermost e) t x) (as_text 0) [] (bit_none e t block types x has is) refl
+  text_none e t block types (Y.Joined left right) has is =
+      let c = text_code (outermost e) t right in
+      behind (text_code (outermost e) t left) (c ++ tested_service 22) [] (text_none e t block types left has is.0)
+      (behind c (tested_service 22) [] (text_none e t block types right has is.1) refl)
+  text_none e t block types (Y.SubstringFrom x start) has is =
+      let cut = small a2 0 ∷ tested_service 23 in
+      let c = number_code (outermost e) t start in
+      behind (text_code (outermost e) t x) (c ++ cut) [] (text_none e t block types x has is.0)
+      (behind c cut [] (number_none e t block types start has is.1) refl)
+  text_none e t block types (Y.Substring x start many) has is =
+      let cut = small a2 1 ∷ tested_service 23 in
+      let last = move a1 a0 ∷ (fetch a0 t ++ cut) in
+      let c = number_code (outermost e) t start in
+      let d = number_code (outermost e) (with_number t) many in
+      behind (text_code (outermost e) t x) (c ++ (save a0 t ++ (d ++ last))) [] (text_none e t block types x has is.0)
+      (behind c (save a0 t ++ (d ++ last)) [] (number_none e t block types start has is.1.0)
+      (behind (save a0 t) (d ++ last) [] (saved_none a0 t)
+      (behind d last [] (number_none e (with_number t) block types many has is.1.1) (behind (fetch a0 t) cut [] (fetched_none a0 t) refl))))
+  text_none e t block types _ has is = absurd is
 
 -- ---- assignments
 

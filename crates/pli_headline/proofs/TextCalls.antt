@@ -29,7 +29,7 @@ use Rattle.pli_headline.proofs.Reach.{Family, Aims, Comes, Closed, onward}
 abbrev pub three : (x y z : Base → ℕ) → Base → List (ℕ × ℕ)
 three x y z b = (10, x b) ∷ (11, y b) ∷ (12, z b) ∷ []
 
-abbrev two : (x y : Base → ℕ) → Base → List (ℕ × ℕ)
+abbrev pub two : (x y : Base → ℕ) → Base → List (ℕ × ℕ)
 two x y b = (10, x b) ∷ (11, y b) ∷ []
 
 -- what a service answers: its code as a status beside a0, or other services and a result
@@ -42,7 +42,7 @@ status_told c x code after result None = refl
 status_told c x code after result (Some r) = refl
 
 -- a call without an act, by three arguments
-asking_piece : {links : Links} {code : List Instr} {i : ℕ} {g : Ground} {v : Services} {h t : ℕ → ℕ} {X : Type 0} {aims : Aims X} {flow : _} (closed : Closed code aims) (f : Family) (v' : Services) (n : ℕ) (x y z x' y' : Base → ℕ) (G : Call → ℕ → ℕ → ℕ → ℕ → ℕ → Answer) → n < 2 ^ 31 → ((c : Call) (r : ℕ → ℕ) → V.served n c r ≡ G c (r 10) (r 11) (r 12) (r 13) (r 14)) → v.world.acts ≤ v'.world.acts → ((b : Base) (m : List ℕ) (x3 x4 : ℕ) → G (call_at code v m) (x b) (y b) (z b) x3 x4 ≡ Done v' m (x' b) (y' b)) → Linked links code i (service n) → ((b : Base) → At b i (Known g v h t (three x y z) b) (f b)) → ((f' : Family) → ((b : Base) → At b (i + 2) (Known g v' h t (two x' y') b) (f' b)) → Comes code (i + 2) f' v' aims flow) → Comes code i f v aims flow
+pub asking_piece : {links : Links} {code : List Instr} {i : ℕ} {g : Ground} {v : Services} {h t : ℕ → ℕ} {X : Type 0} {aims : Aims X} {flow : _} (closed : Closed code aims) (f : Family) (v' : Services) (n : ℕ) (x y z x' y' : Base → ℕ) (G : Call → ℕ → ℕ → ℕ → ℕ → ℕ → Answer) → n < 2 ^ 31 → ((c : Call) (r : ℕ → ℕ) → V.served n c r ≡ G c (r 10) (r 11) (r 12) (r 13) (r 14)) → v.world.acts ≤ v'.world.acts → ((b : Base) (m : List ℕ) (x3 x4 : ℕ) → G (call_at code v m) (x b) (y b) (z b) x3 x4 ≡ Done v' m (x' b) (y' b)) → Linked links code i (service n) → ((b : Base) → At b i (Known g v h t (three x y z) b) (f b)) → ((f' : Family) → ((b : Base) → At b (i + 2) (Known g v' h t (two x' y') b) (f' b)) → Comes code (i + 2) f' v' aims flow) → Comes code i f v aims flow
 asking_piece {code = code} {i = i} {g = g} {v = v} {h = h} {t = t} {aims = aims} {flow = flow} closed f v' n x y z x' y' G fits is more answers l at next' =
     let front = small a7 n ∷ [] in
     let last = Plain I.Ecall ∷ [] in

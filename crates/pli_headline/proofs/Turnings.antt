@@ -29,11 +29,10 @@ use Rattle.pli_headline.proofs.Bodies.{Ground, Known, zero_is}
 use Rattle.pli_headline.proofs.Jumps.{front_of, back_of, rest_of, skip_taken, skip_passed, ahead_piece}
 use Rattle.pli_headline.proofs.Temporaries.{Stays, stays_same, nothing}
 use Rattle.pli_headline.proofs.Calls.{Serving}
-use Rattle.pli_headline.proofs.Raising.{Routines}
 use Rattle.pli_headline.proofs.Variables.{whole, own, outermost}
 use Rattle.pli_headline.proofs.Operators.{valued}
 use Rattle.pli_headline.proofs.Expressions.{number_does, bit_does}
-use Rattle.pli_headline.proofs.Statements.{Block, AllHold}
+use Rattle.pli_headline.proofs.Statements.{Standing, Block, AllHold}
 use Rattle.pli_headline.proofs.Ifs.{free_far, setting}
 use Rattle.pli_headline.proofs.Limits.{limit_piece}
 use Rattle.pli_headline.proofs.Reach.{Family, Aims, Comes, Closed, before_closed, comes_on, reached, reached_holds}
@@ -91,7 +90,7 @@ condition_size e taken (Some x) c d =
     size_append (bit_code e (in_turns taken) x) (skip_where Test.NotEqual a0 zero_register (JumpAhead c ∷ []))
     ∙ sym (size_append (bit_code e (in_turns taken) x) (skip_where Test.NotEqual a0 zero_register (JumpAhead d ∷ [])))
 
-pub within_piece : {links : Links} {code : List Instr} {i : ℕ} {v : Services} {h t : ℕ → ℕ} {s : State} {aims : Aims Bool} {e : Environment} {block : ℕ} {types : Types} (bl : Block e block types) (routines : Routines links code) (around : Around) (j p : ℕ) (limit : Option Y.Number) (most : Option ℤ) (step : ℤ) (behind : ℕ) (closed : Closed code aims) (n : ℕ → ℤ) (f : Family) (k : ℕ) → slice_get types j ≡ Some (Y.FixedLeaf p) → LimitWaits limit most t bl.taken.words → IsWide step → t (bl.taken.words + 1) ≡ word step → bl.taken.words + 2 ≤ bl.words → i + size_of (limit_kept (outermost e) bl.taken (counting block j p) limit behind) + behind ≤ length code → Linked links code i (limit_kept (outermost e) bl.taken (counting block j p) limit behind) → Serving k s v around.line → AllHold s block types n → ((b : Base) → At b i (Known (bl.ground n) v h t nothing b) (f b)) → Met bl n v s h t (i + size_of (limit_kept (outermost e) bl.taken (counting block j p) limit behind)) (i + size_of (limit_kept (outermost e) bl.taken (counting block j p) limit behind) + behind) aims → Comes code i f v aims (M.within_limit around (counting block j p) most step k s)
+pub within_piece : {links : Links} {code : List Instr} {i : ℕ} {v : Services} {h t : ℕ → ℕ} {s : State} {aims : Aims Bool} {e : Environment} {block : ℕ} {types : Types} (bl : Block e block types) (routines : Standing bl links code) (around : Around) (j p : ℕ) (limit : Option Y.Number) (most : Option ℤ) (step : ℤ) (behind : ℕ) (closed : Closed code aims) (n : ℕ → ℤ) (f : Family) (k : ℕ) → slice_get types j ≡ Some (Y.FixedLeaf p) → LimitWaits limit most t bl.taken.words → IsWide step → t (bl.taken.words + 1) ≡ word step → bl.taken.words + 2 ≤ bl.words → i + size_of (limit_kept (outermost e) bl.taken (counting block j p) limit behind) + behind ≤ length code → Linked links code i (limit_kept (outermost e) bl.taken (counting block j p) limit behind) → Serving k s v around.line → AllHold s block types n → ((b : Base) → At b i (Known (bl.ground n) v h t nothing b) (f b)) → Met bl n v s h t (i + size_of (limit_kept (outermost e) bl.taken (counting block j p) limit behind)) (i + size_of (limit_kept (outermost e) bl.taken (counting block j p) limit behind) + behind) aims → Comes code i f v aims (M.within_limit around (counting block j p) most step k s)
 unfolding M.within_limit M.counter_number V.number ◌>>=◌ give
 within_piece {i = i} {v = v} {h = h} {t = t} {s = s} {aims = aims} bl routines around j p None None step behind closed n f k below waits ws at_step room inside l serving all at met =
     let same : i ≡ i + 0 = omega arith in
@@ -131,7 +130,7 @@ kept_by {i = i} {v = v} {aims = aims} s false closed f behind inside l at met ov
     let there : i + 1 + (2 + behind) ≡ i + 3 + behind = omega arith in
     closed.done r false s (closed.done q false s (subst (λ u. aims.done u (reached q) v false s) (sym there) (over (reached q) (λ b. let o = reached_holds q b in record { pc = o.pc ∙ ap (address b) there; holds = o.holds }))))
 
-pub condition_piece : {links : Links} {code : List Instr} {i : ℕ} {v : Services} {h t : ℕ → ℕ} {s : State} {aims : Aims Bool} {e : Environment} {block : ℕ} {types : Types} (bl : Block e block types) (routines : Routines links code) (around : Around) (condition : Option Y.Bit) (behind : ℕ) (closed : Closed code aims) (n : ℕ → ℤ) (f : Family) (k : ℕ) → IsProvedBitIf block types condition → bl.taken.words + 2 + bit_if condition ≤ bl.words → i + size_of (while_kept (outermost e) bl.taken condition behind) + behind ≤ length code → Linked links code i (while_kept (outermost e) bl.taken condition behind) → Serving k s v around.line → AllHold s block types n → ((b : Base) → At b i (Known (bl.ground n) v h t nothing b) (f b)) → Met bl n v s h t (i + size_of (while_kept (outermost e) bl.taken condition behind)) (i + size_of (while_kept (outermost e) bl.taken condition behind) + behind) aims → Comes code i f v aims (M.condition_met around condition k s)
+pub condition_piece : {links : Links} {code : List Instr} {i : ℕ} {v : Services} {h t : ℕ → ℕ} {s : State} {aims : Aims Bool} {e : Environment} {block : ℕ} {types : Types} (bl : Block e block types) (routines : Standing bl links code) (around : Around) (condition : Option Y.Bit) (behind : ℕ) (closed : Closed code aims) (n : ℕ → ℤ) (f : Family) (k : ℕ) → IsProvedBitIf block types condition → bl.taken.words + 2 + bit_if condition ≤ bl.words → i + size_of (while_kept (outermost e) bl.taken condition behind) + behind ≤ length code → Linked links code i (while_kept (outermost e) bl.taken condition behind) → Serving k s v around.line → AllHold s block types n → ((b : Base) → At b i (Known (bl.ground n) v h t nothing b) (f b)) → Met bl n v s h t (i + size_of (while_kept (outermost e) bl.taken condition behind)) (i + size_of (while_kept (outermost e) bl.taken condition behind) + behind) aims → Comes code i f v aims (M.condition_met around condition k s)
 unfolding M.condition_met give
 condition_piece {i = i} {v = v} {h = h} {t = t} {s = s} {aims = aims} bl routines around None behind closed n f k is room inside l serving all at met =
     let same : i ≡ i + 0 = omega arith in

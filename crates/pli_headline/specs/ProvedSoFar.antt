@@ -1,7 +1,7 @@
 -- The programs for which the headline is proved so far: one procedure with scalars of FIXED BINARY and BIT(1), with or without
--- INITIAL; expressions of numbers and bits; assignments of these, IF, groups, DO WHILE, DO with a FIXED or BIT(1) variable, GOTO to a
--- label of a list around it, STOP, SIGNAL, and PUT EDIT of numbers, bits and texts, by lists of F, A, X, SKIP and COLUMN items. Each form
--- that is proved takes a line off.
+-- INITIAL; expressions of numbers, bits and texts; assignments of numbers and bits, IF, groups, DO WHILE, DO with a FIXED or BIT(1)
+-- variable, GOTO to a label of a list around it, STOP, SIGNAL, and PUT EDIT of numbers, bits and texts, by lists of F, A, X, SKIP and
+-- COLUMN items. Each form that is proved takes a line off.
 use Rattle.std.specs.Prelude.{◌≡◌, ℕ, suc, ◌<◌, ◌≤◌, ◌^◌, List, [], ◌∷◌, ◌++◌, length, map, slice_get, Option, None, Some, true, if◌then◌else◌, ⊤}
 use Rattle.pli_language.specs.Keywords.{same_bytes}
 use Rattle.pli_language.specs.Tree as T
@@ -82,11 +82,16 @@ pub record IsOwnNumber (block : ℕ) (types : Types) (r : Y.Reference) : Type 0 
   pub precision : ℕ
   pub own : IsOwn block types (Y.FixedLeaf precision) r
 
+-- the places of a number as a text go by its precision
+abbrev pub IsPrecision : ℕ → Type 0
+IsPrecision precision = (1 ≤ precision) × (precision ≤ 31)
+
 abbrev mutual
   pub IsProvedNumber : (block : ℕ) (types : Types) → Y.Number → Type 0
   IsProvedNumber block types (Y.NumberConstant n) = n < 2 ^ 31
   IsProvedNumber block types (Y.NumberIn r) = IsOwnNumber block types r
   IsProvedNumber block types (Y.NumberOfBit x) = IsProvedBit block types x
+  IsProvedNumber block types (Y.NumberOfText x) = IsProvedText block types x
   IsProvedNumber block types (Y.Signed sign x) = IsProvedNumber block types x
   IsProvedNumber block types (Y.Calculated operator left right) = IsProvedNumber block types left × IsProvedNumber block types right
   IsProvedNumber block types (Y.Absolute x) = IsProvedNumber block types x
@@ -95,6 +100,9 @@ abbrev mutual
   IsProvedNumber block types (Y.Modulo dividend divisor) = IsProvedNumber block types dividend × IsProvedNumber block types divisor
   IsProvedNumber block types (Y.Divided precision dividend divisor) =
       (precision ≤ 31) × (IsProvedNumber block types dividend × IsProvedNumber block types divisor)
+  IsProvedNumber block types (Y.LengthOf x) = IsProvedText block types x
+  IsProvedNumber block types (Y.IndexOf searched sought) = IsProvedText block types searched × IsProvedText block types sought
+  IsProvedNumber block types (Y.VerifyOf searched allowed) = IsProvedText block types searched × IsProvedText block types allowed
   IsProvedNumber block types _ = ⊥
 
   pub AreProvedNumbers : (block : ℕ) (types : Types) → Y.Numbers → Type 0
@@ -107,8 +115,21 @@ abbrev mutual
   IsProvedBit block types (Y.Negated x) = IsProvedBit block types x
   IsProvedBit block types (Y.Combined operator left right) = IsProvedBit block types left × IsProvedBit block types right
   IsProvedBit block types (Y.NumbersCompared comparison left right) = IsProvedNumber block types left × IsProvedNumber block types right
+  IsProvedBit block types (Y.BitOfText x) = IsProvedText block types x
+  IsProvedBit block types (Y.TextsCompared comparison left right) = IsProvedText block types left × IsProvedText block types right
   IsProvedBit block types (Y.BitsCompared comparison left right) = IsProvedBit block types left × IsProvedBit block types right
   IsProvedBit block types _ = ⊥
+
+  -- constants of 1,024 bytes at most, numbers and bits as texts, texts that are joined, and their parts
+  pub IsProvedText : (block : ℕ) (types : Types) → Y.Text → Type 0
+  IsProvedText block types (Y.TextConstant bytes) = length bytes ≤ 1024
+  IsProvedText block types (Y.TextOfNumber precision x) = IsPrecision precision × IsProvedNumber block types x
+  IsProvedText block types (Y.TextOfBit x) = IsProvedBit block types x
+  IsProvedText block types (Y.Joined left right) = IsProvedText block types left × IsProvedText block types right
+  IsProvedText block types (Y.SubstringFrom x start) = IsProvedText block types x × IsProvedNumber block types start
+  IsProvedText block types (Y.Substring x start many) =
+      IsProvedText block types x × (IsProvedNumber block types start × IsProvedNumber block types many)
+  IsProvedText block types _ = ⊥
 
 abbrev pub IsProvedNumberIf : (block : ℕ) (types : Types) → Option Y.Number → Type 0
 IsProvedNumberIf block types None = ⊤
@@ -117,23 +138,6 @@ IsProvedNumberIf block types (Some x) = IsProvedNumber block types x
 abbrev pub IsProvedBitIf : (block : ℕ) (types : Types) → Option Y.Bit → Type 0
 IsProvedBitIf block types None = ⊤
 IsProvedBitIf block types (Some x) = IsProvedBit block types x
-
--- ---- texts
-
--- the places of a number as a text go by its precision
-abbrev pub IsPrecision : ℕ → Type 0
-IsPrecision precision = (1 ≤ precision) × (precision ≤ 31)
-
--- constants of 1,024 bytes at most, numbers and bits as texts, texts that are joined, and their parts
-abbrev pub IsProvedText : (block : ℕ) (types : Types) → Y.Text → Type 0
-IsProvedText block types (Y.TextConstant bytes) = length bytes ≤ 1024
-IsProvedText block types (Y.TextOfNumber precision x) = IsPrecision precision × IsProvedNumber block types x
-IsProvedText block types (Y.TextOfBit x) = IsProvedBit block types x
-IsProvedText block types (Y.Joined left right) = IsProvedText block types left × IsProvedText block types right
-IsProvedText block types (Y.SubstringFrom x start) = IsProvedText block types x × IsProvedNumber block types start
-IsProvedText block types (Y.Substring x start many) =
-    IsProvedText block types x × (IsProvedNumber block types start × IsProvedNumber block types many)
-IsProvedText block types _ = ⊥
 
 -- ---- PUT
 
