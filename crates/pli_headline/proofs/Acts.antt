@@ -77,11 +77,11 @@ act_to {code = code} {i = i} {g = g} {v = v} {h = h} {t = t} {s = s} closed cred
       world = ap counted serving.world;
       running = serving.running;
       line_is = refl;
+      input = serving.input;
       allowed = omega (arith, a, below);
       fits = serving.fits;
-      entered = serving.entered;
-      alone = serving.alone;
-      alone_served = serving.alone_served;
+      nested = serving.nested;
+      waiting = serving.waiting;
     })
     (λ b. record { pc = (reached_holds r3 b).pc ∙ ap (address b) n; holds = (reached_holds r3 b).holds })))))
 

@@ -1,6 +1,6 @@
 -- Assignments of numbers and bits to variables of their types.
-use Rattle.std.proofs.Common.{◌≡◌, ℕ, ◌+◌, ◌<◌, ◌≤◌, List, [], ◌++◌, length, Some, Bool, false, refl, sym, ap, ◌∙◌, subst, arith}
-use Rattle.std.specs.Prelude.{ℤ, pos, max, slice_get}
+use Rattle.std.proofs.Common.{◌≡◌, ℕ, ◌+◌, ◌<◌, ◌≤◌, List, ◌++◌, length, Some, Bool, false, refl, sym, ap, ◌∙◌, subst, arith}
+use Rattle.std.specs.Prelude.{ℤ, pos, max, slice_get, ◌==◌}
 use Rattle.std.proofs.Math.Nat.{le-max_left, le-max_right}
 use Rattle.rv_meaning.specs.declared.instr.Instr.{Instr}
 use Rattle.rv_meaning.specs.Words.{word}
@@ -32,13 +32,14 @@ use Rattle.pli_headline.proofs.Engine.{Base, address}
 use Rattle.pli_headline.proofs.Linking.{size_append}
 use Rattle.pli_headline.proofs.Items.{Linked, At}
 use Rattle.pli_headline.proofs.Numbers.{word_small}
-use Rattle.pli_headline.proofs.Bodies.{Ground, Known, reserved_are, narrow_store_piece}
+use Rattle.pli_headline.proofs.Bodies.{Ground, Known, reserved_are}
 use Rattle.pli_headline.proofs.Jumps.{front_of, back_of}
-use Rattle.pli_headline.proofs.Temporaries.{Temporaries, Stays, stays_saved, nothing, held_with, words_with, waiting_saved, save_piece, fetch_piece}
+use Rattle.pli_headline.proofs.Temporaries.{Temporaries, Stays, stays_saved, nothing, held_with, words_with, waiting_saved, save_piece}
+use Rattle.pli_headline.proofs.Reaching.{write_based}
 use Rattle.pli_headline.proofs.Operators.{valued}
 use Rattle.pli_headline.proofs.Precisions.{fitted_piece}
 use Rattle.pli_headline.proofs.Scalars.{IsNumeric, value_as, Fits, fits_wide, fits_numeric, bit_back, bit_fits, bit_word, store_kind}
-use Rattle.pli_headline.proofs.Variables.{HoldsScalar, whole, own, outermost, data_place, designated_scalar, designated_gives, scalar_stored, scalar_reached, scalar_kept}
+use Rattle.pli_headline.proofs.Variables.{HoldsScalar, whole, own, data_place, designated_scalar, designated_gives, base_found, scalar_stored, scalar_found, scalar_kept}
 use Rattle.pli_headline.proofs.Expressions.{Scope, Setting, number_does, bit_does}
 use Rattle.pli_headline.proofs.Reach.{Family, Aims, Comes, Closed, before_closed, comes_on, onward}
 
@@ -60,12 +61,12 @@ assigned_gives around s j block type old z k h =
 pub record Stores (links : Links) (code : List Instr) (g : Ground) (v : Services) (s : State) (k : ℕ) (words : ℕ) (type : Y.LeafType) (part : Taken → Code) (meaning : Meaning BasicValue) : Type 1 where
   pub does : {i : ℕ} {h t : ℕ → ℕ} {aims : Aims BasicValue} (closed : Closed code aims) (f : Family) (taken : Taken) → taken.words + words ≤ g.words → Linked links code i (part taken) → ((b : Base) → At b i (Known g v h t nothing b) (f b)) → ((z : ℤ) (f' : Family) (h' t' : ℕ → ℕ) → Fits type z → Stays taken h t h' t' → ((b : Base) → At b (i + size_of (part taken)) (Known g v h' t' (valued (word z)) b) (f' b)) → aims.done (i + size_of (part taken)) f' v (value_as type z) s) → Comes code i f v aims (meaning k s)
 
-pub number_stores : {links : Links} {code : List Instr} {g : Ground} {v : Services} {s : State} {k : ℕ} {e : Environment} {block : ℕ} {types : Types} {numbers : ℕ → ℤ} {around : Around} (p : ℕ) (x : Y.Number) → p ≤ 31 → Setting links code g v s k e block types numbers around → IsProvedNumber block types x → Stores links code g v s k (max 1 (number_words x)) (Y.FixedLeaf p) (λ taken. stored_code (outermost e) taken (Y.StoredNumber p x)) (V.stored_value around (Y.StoredNumber p x))
+pub number_stores : {links : Links} {code : List Instr} {g : Ground} {v : Services} {s : State} {k : ℕ} {e : Environment} {block : ℕ} {types : Types} {numbers : ℕ → ℤ} {around : Around} (p : ℕ) (x : Y.Number) → p ≤ 31 → Setting links code g v s k e block types numbers around → IsProvedNumber block types x → Stores links code g v s k (max 1 (number_words x)) (Y.FixedLeaf p) (λ taken. stored_code e taken (Y.StoredNumber p x)) (V.stored_value around (Y.StoredNumber p x))
 unfolding V.stored_value ◌>>=◌ give
 number_stores {code = code} {v = v} {s = s} {k = k} {e = e} {around = around} p x few st is =
     record {
       does = λ {i} {h} {t} {aims} closed f taken room l at goal.
-          let a = number_code (outermost e) taken x in
+          let a = number_code e taken x in
           let c = fitted_code taken p in
           let least = le-max_left 1 (number_words x) in
           let most = le-max_right 1 (number_words x) in
@@ -85,7 +86,7 @@ number_stores {code = code} {v = v} {s = s} {k = k} {e = e} {around = around} p 
           }))));
     }
 
-pub bit_stores : {links : Links} {code : List Instr} {g : Ground} {v : Services} {s : State} {k : ℕ} {e : Environment} {block : ℕ} {types : Types} {numbers : ℕ → ℤ} {around : Around} (x : Y.Bit) → Setting links code g v s k e block types numbers around → IsProvedBit block types x → Stores links code g v s k (bit_words x) Y.BitLeaf (λ taken. stored_code (outermost e) taken (Y.StoredBit x)) (V.stored_value around (Y.StoredBit x))
+pub bit_stores : {links : Links} {code : List Instr} {g : Ground} {v : Services} {s : State} {k : ℕ} {e : Environment} {block : ℕ} {types : Types} {numbers : ℕ → ℤ} {around : Around} (x : Y.Bit) → Setting links code g v s k e block types numbers around → IsProvedBit block types x → Stores links code g v s k (bit_words x) Y.BitLeaf (λ taken. stored_code e taken (Y.StoredBit x)) (V.stored_value around (Y.StoredBit x))
 unfolding V.stored_value ◌>>=◌ give
 bit_stores {v = v} {s = s} {k = k} {e = e} {around = around} x st is =
     record {
@@ -95,22 +96,22 @@ bit_stores {v = v} {s = s} {k = k} {e = e} {around = around} x st is =
           ((bit_does x st is).does (before_closed k as_value closed) f taken room l at
           (λ b f1 h1 t1 u stays at1. record {
             to =
-                subst (λ q. aims.done (i + size_of (bit_code (outermost e) taken x)) f1 v (BasicBit q) s) (bit_back b)
+                subst (λ q. aims.done (i + size_of (bit_code e taken x)) f1 v (BasicBit q) s) (bit_back b)
                 (goal (bit_number b) f1 h1 t1 (bit_fits b) stays (λ base. record { pc = (at1 base).pc; holds = record { body = (at1 base).holds.body; regs = ((at1 base).holds.regs.0 ∙ bit_word b, tt) } }));
           }));
     }
 
 -- ---- the store
 
-stored_is : {g : Ground} {s : State} {numbers : ℕ → ℤ} (e : Environment) (taken : Taken) (block : ℕ) (types : Types) (j : ℕ) {type : Y.LeafType} → slice_get types j ≡ Some type → IsNumeric type → Scope g e block types s numbers → word_stored (outermost e) taken (whole (own block j)) ≡ save a0 taken ++ ([] ++ (fetch a0 taken ++ scalar_stored type (data_place e block j)))
+stored_is : {g : Ground} {s : State} {numbers : ℕ → ℤ} (e : Environment) (taken : Taken) (block : ℕ) (types : Types) (j : ℕ) {type : Y.LeafType} → slice_get types j ≡ Some type → IsNumeric type → Scope g e block types s numbers → word_stored e taken (whole (own block j)) ≡ save a0 taken ++ (base_found e ++ (fetch a0 taken ++ scalar_stored type e (data_place e block j)))
 stored_is e taken block types j {type} below scalar scope =
     let d = scope.declared j below in
-    let written = L.stored (type_in (outermost e) (whole (own block j))) a0 (address_in (outermost e) (whole (own block j))) in
-    ap (λ c. save a0 taken ++ (c ++ (fetch a0 taken ++ written))) (scalar_reached e (with_number taken) block j type scalar d)
-    ∙ ap (λ c. save a0 taken ++ ([] ++ (fetch a0 taken ++ c))) (scalar_kept e block j type scalar d)
+    let written = L.stored (type_in e (whole (own block j))) a0 (address_in e (whole (own block j))) in
+    ap (λ c. save a0 taken ++ (c ++ (fetch a0 taken ++ written))) (scalar_found e (with_number taken) block j type scalar d)
+    ∙ ap (λ c. save a0 taken ++ (base_found e ++ (fetch a0 taken ++ c))) (scalar_kept e block j type scalar d)
 
 -- a value in a0 is assigned to a variable, with whatever credits there are
-pub stored_piece : {links : Links} {code : List Instr} {i : ℕ} {g : Ground} (g' : Ground) {v : Services} {h t : ℕ → ℕ} {s : State} {aims : Aims (Unit {0})} (closed : Closed code aims) (temps : Temporaries g) (credits : ℕ) (e : Environment) (block : ℕ) (types : Types) (numbers : ℕ → ℤ) (f : Family) (around : Around) (taken : Taken) (j : ℕ) {type : Y.LeafType} (z : ℤ) (k : ℕ) (below : slice_get types j ≡ Some type) → Fits type z → (is_register_left taken ≡ false → taken.words < g.words) → (scope : Scope g e block types s numbers) → ((b : Base) (h' : ℕ → ℕ) → reserved_are b g h' ≡ reserved_are b g' h') → ((t' : ℕ → ℕ) (b : Base) (m : List ℕ) → length m ≡ memory_size → g.memory t' b m → g'.memory t' b (store (store_width (store_kind type)) m (g.frame + data_place e block j) (word z))) → Linked links code i (word_stored (outermost e) taken (whole (own block j))) → ((b : Base) → At b i (Known g v h t (valued (word z)) b) (f b)) → ((f' : Family) (h' t' : ℕ → ℕ) → Stays taken h t h' t' → ((b : Base) → At b (i + size_of (word_stored (outermost e) taken (whole (own block j)))) (Known g' v h' t' nothing b) (f' b)) → aims.done (credits + size_of (word_stored (outermost e) taken (whole (own block j)))) f' v tt (assigned_state s type (scope.holds j below).serial (scope.holds j below).values z)) → Comes code credits f v aims (M.assigned around (whole (own block j)) (value_as type z) k s)
+pub stored_piece : {links : Links} {code : List Instr} {i : ℕ} {g : Ground} (g' : Ground) {v : Services} {h t : ℕ → ℕ} {s : State} {aims : Aims (Unit {0})} (closed : Closed code aims) (temps : Temporaries g) (credits : ℕ) (e : Environment) (block : ℕ) (types : Types) (numbers : ℕ → ℤ) (f : Family) (around : Around) (taken : Taken) (j : ℕ) {type : Y.LeafType} (z : ℤ) (k : ℕ) (below : slice_get types j ≡ Some type) → Fits type z → (is_register_left taken ≡ false → taken.words < g.words) → (scope : Scope g e block types s numbers) → ((b : Base) (h' : ℕ → ℕ) → reserved_are b g h' ≡ reserved_are b g' h') → ((t' : ℕ → ℕ) (b : Base) (m : List ℕ) → length m ≡ memory_size → g.memory t' b m → g'.memory t' b (store (store_width (store_kind type)) m (scope.base + data_place e block j) (word z))) → Linked links code i (word_stored e taken (whole (own block j))) → ((b : Base) → At b i (Known g v h t (valued (word z)) b) (f b)) → ((f' : Family) (h' t' : ℕ → ℕ) → Stays taken h t h' t' → ((b : Base) → At b (i + size_of (word_stored e taken (whole (own block j)))) (Known g' v h' t' nothing b) (f' b)) → aims.done (credits + size_of (word_stored e taken (whole (own block j)))) f' v tt (assigned_state s type (scope.holds j below).serial (scope.holds j below).values z)) → Comes code credits f v aims (M.assigned around (whole (own block j)) (value_as type z) k s)
 stored_piece {links = links} {code = code} {i = i} {g = g} g' {v = v} {h = h} {t = t} {s = s} {aims = aims} closed temps credits e block types numbers f around taken j {type} z k below fits left scope same writes l at goal =
     let target = whole (own block j) in
     let holds = scope.holds j below in
@@ -118,27 +119,24 @@ stored_piece {links = links} {code = code} {i = i} {g = g} g' {v = v} {h = h} {t
     let place = data_place e block j in
     let put' = save a0 taken in
     let back = fetch a0 taken in
-    let last = scalar_stored type place in
+    let last = scalar_stored type e place in
+    let written = base_found e ++ (back ++ last) in
     let eq = stored_is e taken block types j below (fits_numeric type z fits) scope in
     let whole_size = ap size_of eq in
     let l1 = subst (Linked links code i) eq l in
-    let l2 = back_of put' (back ++ last) l1 in
-    let l3 = back_of back last l2 in
-    let e1 = size_append put' (back ++ last) in
-    let e2 = size_append back last in
-    let there : i + size_of put' + size_of back + size_of last ≡ i + size_of (word_stored (outermost e) taken target) = omega (arith, whole_size, e1, e2) in
-    let paid : credits + size_of put' + size_of back + size_of last ≡ credits + size_of (word_stored (outermost e) taken target) = omega (arith, whole_size, e1, e2) in
+    let l2 = back_of put' written l1 in
+    let e1 = size_append put' written in
+    let there : i + size_of put' + size_of written ≡ i + size_of (word_stored e taken target) = omega (arith, whole_size, e1) in
+    let paid : credits + size_of put' + size_of written ≡ credits + size_of (word_stored e taken target) = omega (arith, whole_size, e1) in
     let h1 = held_with taken (word z) h in
     let t1 = words_with taken (word z) t in
     subst (Comes code credits f v aims) (sym (assigned_gives around s j block type (numbers j) z k holds))
-    (onward closed (save_piece temps credits f a0 taken (word z) left (word_small z wide) (λ y u. refl) (λ b w' o. o.regs.0) (record { reserved_stay = λ y u. refl; known_stay = λ b y u q. q; set = λ y u. refl }) (front_of put' (back ++ last) l1) at)
+    (onward closed (save_piece temps credits f a0 taken (word z) left (word_small z wide) (λ y u. refl) (λ b w' o. o.regs.0) (record { reserved_stay = λ y u. refl; known_stay = λ b y u q. q; set = λ y u. refl }) (front_of put' written l1) at)
     (λ f1 at1.
-    onward closed (fetch_piece temps (credits + size_of put') f1 a0 taken (word z) left (word_small z wide) (waiting_saved taken h t (word z)) (record { reserved_stay = λ y u. refl; known_stay = λ b y u q. q; set = λ y u. refl }) (record { reserved_stay = λ y u. refl; known_stay = λ b y u q. q; set = λ y u. refl }) (front_of back last l2) at1)
+    onward closed (write_based (0 == e.level) g' temps (credits + size_of put') f1 taken scope.base (store_kind type) (pos place) (scope.base + place) (word z) scope.reach scope.within (scope.places j below) left (word_small z wide) (waiting_saved taken h t (word z)) (λ b. same b h1) (λ b m len o. writes t1 b m len o) l2 at1)
     (λ f2 at2.
-    onward closed (narrow_store_piece g' t1 (credits + size_of put' + size_of back) f2 a0 (store_kind type) (pos place) (g.frame + place) (λ b. word z) (scope.places j below) (λ y u. refl) (λ b w' o. o.regs.0) (λ b. same b h1) (λ b m len o. writes t1 b m len o) (record { reserved_stay = λ y u. refl; known_stay = λ b y u q. q; set = λ y u. refl }) l3 at2)
-    (λ f3 at3.
     record {
       to =
-          subst (λ u. aims.done u f3 v tt (assigned_state s type holds.serial holds.values z)) (sym paid)
-          (goal f3 h1 t1 (stays_saved taken h t (word z)) (λ b. record { pc = (at3 b).pc ∙ ap (address b) there; holds = record { body = (at3 b).holds.body; regs = tt } }));
-    }))))
+          subst (λ u. aims.done u f2 v tt (assigned_state s type holds.serial holds.values z)) (sym paid)
+          (goal f2 h1 t1 (stays_saved taken h t (word z)) (λ b. record { pc = (at2 b).pc ∙ ap (address b) there; holds = (at2 b).holds }));
+    })))

@@ -150,44 +150,50 @@ displaced_by false {i = i} c f instruction r z y P Q small' fits near base more 
 inside_memory : (b : Base) (n : ℕ) → n < memory_size → b.at + n < 2 ^ 32
 inside_memory b n h = let v = b.valid.1 in omega (arith, v, h)
 
-frame_fits : (g : Ground) (b : Base) → b.at + g.frame < 2 ^ 32
-frame_fits g b = let i = g.inside in inside_memory b g.frame (omega (arith, i))
-
--- a place of memory at a displacement from the frame
-pub record PlaceOf (g : Ground) (z : ℤ) (o : ℕ) : Type 0 where
+-- a place of memory at a displacement from another place
+pub record PlaceFrom (base : ℕ) (z : ℤ) (o : ℕ) : Type 0 where
   pub small' : word z < 2 ^ 32
-  pub sums : (b : Base) → sum (b.at + g.frame) (word z) ≡ b.at + o
+  pub sums : (b : Base) → sum (b.at + base) (word z) ≡ b.at + o
   pub aligned : o % 4 ≡ 0
   pub inside : o + 4 ≤ memory_size
   pub above_code : 2 ^ 22 ≤ o
 
-abbrev pub at_place : (b : Base) {g : Ground} {z : ℤ} {o : ℕ} → PlaceOf g z o → (addressed : ℕ) → addressed ≡ sum (b.at + g.frame) (word z) → WordAt b addressed
+-- from the frame
+abbrev pub PlaceOf : Ground → ℤ → ℕ → Type 0
+PlaceOf g z o = PlaceFrom g.frame z o
+
+abbrev pub at_place : (b : Base) {base : ℕ} {z : ℤ} {o : ℕ} → PlaceFrom base z o → (addressed : ℕ) → addressed ≡ sum (b.at + base) (word z) → WordAt b addressed
 at_place b {o = o} p addressed e = record { offset = o; is = e ∙ p.sums b; aligned = p.aligned; inside = p.inside }
 
--- what stands at a place comes into a register
-pub narrow_load_piece : {links : Links} {code : List Instr} {i : ℕ} {g : Ground} {v : Services} {h t : ℕ → ℕ} {rs : Base → List (ℕ × ℕ)} (c : ℕ) (f : Family) (r : Register) (kind : LoadKind) (z : ℤ) (o : ℕ) (x : Base → ℕ) → PlaceOf g z o → ((b : Base) (m : List ℕ) → g.memory t b m → extended kind (load (load_width kind) m o) ≡ x b) → Free rs r.index → Free rs 31 → Linked links code i (displaced (λ s d. I.Load kind r s d) frame_register z) → ((b : Base) → At b i (Known g v h t rs b) (f b)) → Reach code c f v (c + size_of (displaced (λ s d. I.Load kind r s d) frame_register z)) v (λ b w. At b (i + size_of (displaced (λ s d. I.Load kind r s d) frame_register z)) (Known g v h t (with' r.index x rs) b) w)
-narrow_load_piece {g = g} {v = v} {h = h} {t = t} {rs = rs} c f r kind z o x place reads free far l at =
-    displaced_by (is_immediate z) c f (λ s d. I.Load kind r s d) frame_register z (λ b. b.at + g.frame) (Known g v h t rs) (Known g v h t (with' r.index x rs)) place.small' (frame_fits g) (λ y u. refl) (λ b. frame_is (at b).holds.body) (omega arith)
+-- what stands at a place comes into a register, from a place that another register gives
+pub narrow_load_from : {links : Links} {code : List Instr} {i : ℕ} {g : Ground} {v : Services} {h t : ℕ → ℕ} {rs : Base → List (ℕ × ℕ)} (c : ℕ) (f : Family) (r y : Register) (kind : LoadKind) (z : ℤ) (base o : ℕ) (x : Base → ℕ) → PlaceFrom base z o → base < memory_size → IsNear y.index → ((b : Base) (w : Whole) → Known g v h t rs b w → w.machine.registers y.index ≡ b.at + base) → ((b : Base) (m : List ℕ) → g.memory t b m → extended kind (load (load_width kind) m o) ≡ x b) → Free rs r.index → Free rs 31 → Linked links code i (displaced (λ s d. I.Load kind r s d) y z) → ((b : Base) → At b i (Known g v h t rs b) (f b)) → Reach code c f v (c + size_of (displaced (λ s d. I.Load kind r s d) y z)) v (λ b w. At b (i + size_of (displaced (λ s d. I.Load kind r s d) y z)) (Known g v h t (with' r.index x rs) b) w)
+narrow_load_from {g = g} {v = v} {h = h} {t = t} {rs = rs} c f r y kind z base o x place within near based reads free far l at =
+    displaced_by (is_immediate z) c f (λ s d. I.Load kind r s d) y z (λ b. b.at + base) (Known g v h t rs) (Known g v h t (with' r.index x rs)) place.small' (λ b. inside_memory b base within) near (λ b. based b (f b) (at b).holds) (omega arith)
     (record {
       does = λ b j w s d k e. (at_place b place _ e, set_known w r.index (extended kind (load (load_width kind) w.machine.memory o)) _ x free (reads b w.machine.memory k.body.memory) k);
       lost = λ b w u i k. lose_known w 31 u i far k;
     })
     l at
 
--- a word of memory comes into a register
+-- a word of memory comes into a register, from a place that another register gives
+pub load_from : {links : Links} {code : List Instr} {i : ℕ} {g : Ground} {v : Services} {h t : ℕ → ℕ} {rs : Base → List (ℕ × ℕ)} (c : ℕ) (f : Family) (r y : Register) (z : ℤ) (base o : ℕ) (x : Base → ℕ) → PlaceFrom base z o → base < memory_size → IsNear y.index → ((b : Base) (w : Whole) → Known g v h t rs b w → w.machine.registers y.index ≡ b.at + base) → ((b : Base) (m : List ℕ) → g.memory t b m → load 4 m o ≡ x b) → Free rs r.index → Free rs 31 → Linked links code i (load_word r y z) → ((b : Base) → At b i (Known g v h t rs b) (f b)) → Reach code c f v (c + size_of (load_word r y z)) v (λ b w. At b (i + size_of (load_word r y z)) (Known g v h t (with' r.index x rs) b) w)
+load_from c f r y z base o x place within near based reads free far l at = narrow_load_from c f r y Load.Word z base o x place within near based reads free far l at
+
+-- from the frame
 pub load_piece : {links : Links} {code : List Instr} {i : ℕ} {g : Ground} {v : Services} {h t : ℕ → ℕ} {rs : Base → List (ℕ × ℕ)} (c : ℕ) (f : Family) (r : Register) (z : ℤ) (o : ℕ) (x : Base → ℕ) → PlaceOf g z o → ((b : Base) (m : List ℕ) → g.memory t b m → load 4 m o ≡ x b) → Free rs r.index → Free rs 31 → Linked links code i (load_word r frame_register z) → ((b : Base) → At b i (Known g v h t rs b) (f b)) → Reach code c f v (c + size_of (load_word r frame_register z)) v (λ b w. At b (i + size_of (load_word r frame_register z)) (Known g v h t (with' r.index x rs) b) w)
-load_piece c f r z o x place reads free far l at = narrow_load_piece c f r Load.Word z o x place reads free far l at
+load_piece {g = g} c f r z o x place reads free far l at =
+    load_from c f r frame_register z g.frame o x place (let i = g.inside in omega (arith, i)) (λ y u. refl) (λ b w k. frame_is k.body) reads free far l at
 
 -- ---- stores
 
-stored_body : {g : Ground} (g' : Ground) {b : Base} {v : Services} {h t : ℕ → ℕ} (t' : ℕ → ℕ) (kind : StoreKind) (w : Whole) (o u i : ℕ) → reserved_are b g h ≡ reserved_are b g' h → g'.memory t' b (store (store_width kind) w.machine.memory o u) → Body g b v h t w → Body g' b v h t' (record { machine = record { registers = w.machine.registers; memory = store (store_width kind) w.machine.memory o u; pc = i }; services = w.services })
+pub stored_body : {g : Ground} (g' : Ground) {b : Base} {v : Services} {h t : ℕ → ℕ} (t' : ℕ → ℕ) (kind : StoreKind) (w : Whole) (o u i : ℕ) → reserved_are b g h ≡ reserved_are b g' h → g'.memory t' b (store (store_width kind) w.machine.memory o u) → Body g b v h t w → Body g' b v h t' (record { machine = record { registers = w.machine.registers; memory = store (store_width kind) w.machine.memory o u; pc = i }; services = w.services })
 stored_body g' t' kind w o u i same m k =
     record { services = k.services; registers = k.registers ∙ same; bytes = length-store (store_width kind) w.machine.memory o u ∙ k.bytes; memory = m }
 
--- a register goes to a place
-pub narrow_store_piece : {links : Links} {code : List Instr} {i : ℕ} {g : Ground} (g' : Ground) {v : Services} {h t : ℕ → ℕ} (t' : ℕ → ℕ) {rs : Base → List (ℕ × ℕ)} (c : ℕ) (f : Family) (r : Register) (kind : StoreKind) (z : ℤ) (o : ℕ) (x : Base → ℕ) → PlaceOf g z o → IsNear r.index → ((b : Base) (w : Whole) → Known g v h t rs b w → w.machine.registers r.index ≡ x b) → ((b : Base) → reserved_are b g h ≡ reserved_are b g' h) → ((b : Base) (m : List ℕ) → length m ≡ memory_size → g.memory t b m → g'.memory t' b (store (store_width kind) m o (x b))) → Free rs 31 → Linked links code i (displaced (λ s d. I.Store kind s r d) frame_register z) → ((b : Base) → At b i (Known g v h t rs b) (f b)) → Reach code c f v (c + size_of (displaced (λ s d. I.Store kind s r d) frame_register z)) v (λ b w. At b (i + size_of (displaced (λ s d. I.Store kind s r d) frame_register z)) (Known g' v h t' rs b) w)
-narrow_store_piece {g = g} g' {v = v} {h = h} {t = t} t' {rs = rs} c f r kind z o x place near value same writes far l at =
-    displaced_by (is_immediate z) c f (λ s d. I.Store kind s r d) frame_register z (λ b. b.at + g.frame) (Known g v h t rs) (Known g' v h t' rs) place.small' (frame_fits g) (λ y u. refl) (λ b. frame_is (at b).holds.body) (omega arith)
+-- a register goes to a place, which another register gives
+pub narrow_store_into : {links : Links} {code : List Instr} {i : ℕ} {g : Ground} (g' : Ground) {v : Services} {h t : ℕ → ℕ} (t' : ℕ → ℕ) {rs : Base → List (ℕ × ℕ)} (c : ℕ) (f : Family) (r y : Register) (kind : StoreKind) (z : ℤ) (base o : ℕ) (x : Base → ℕ) → PlaceFrom base z o → base < memory_size → IsNear y.index → ((b : Base) (w : Whole) → Known g v h t rs b w → w.machine.registers y.index ≡ b.at + base) → IsNear r.index → ((b : Base) (w : Whole) → Known g v h t rs b w → w.machine.registers r.index ≡ x b) → ((b : Base) → reserved_are b g h ≡ reserved_are b g' h) → ((b : Base) (m : List ℕ) → length m ≡ memory_size → g.memory t b m → g'.memory t' b (store (store_width kind) m o (x b))) → Free rs 31 → Linked links code i (displaced (λ s d. I.Store kind s r d) y z) → ((b : Base) → At b i (Known g v h t rs b) (f b)) → Reach code c f v (c + size_of (displaced (λ s d. I.Store kind s r d) y z)) v (λ b w. At b (i + size_of (displaced (λ s d. I.Store kind s r d) y z)) (Known g' v h t' rs b) w)
+narrow_store_into {g = g} g' {v = v} {h = h} {t = t} t' {rs = rs} c f r y kind z base o x place within near' based near value same writes far l at =
+    displaced_by (is_immediate z) c f (λ s d. I.Store kind s r d) y z (λ b. b.at + base) (Known g v h t rs) (Known g' v h t' rs) place.small' (λ b. inside_memory b base within) near' (λ b. based b (f b) (at b).holds) (omega arith)
     (record {
       does = λ b j w s d k e. (
         at_place b place _ e,
@@ -201,9 +207,14 @@ narrow_store_piece {g = g} g' {v = v} {h = h} {t = t} t' {rs = rs} c f r kind z 
     })
     l at
 
--- a register goes into a word of memory
+-- a register goes into a word of memory, at a place that another register gives
+pub store_into : {links : Links} {code : List Instr} {i : ℕ} {g : Ground} (g' : Ground) {v : Services} {h t : ℕ → ℕ} (t' : ℕ → ℕ) {rs : Base → List (ℕ × ℕ)} (c : ℕ) (f : Family) (r y : Register) (z : ℤ) (base o : ℕ) (x : Base → ℕ) → PlaceFrom base z o → base < memory_size → IsNear y.index → ((b : Base) (w : Whole) → Known g v h t rs b w → w.machine.registers y.index ≡ b.at + base) → IsNear r.index → ((b : Base) (w : Whole) → Known g v h t rs b w → w.machine.registers r.index ≡ x b) → ((b : Base) → reserved_are b g h ≡ reserved_are b g' h) → ((b : Base) (m : List ℕ) → length m ≡ memory_size → g.memory t b m → g'.memory t' b (store 4 m o (x b))) → Free rs 31 → Linked links code i (store_word y r z) → ((b : Base) → At b i (Known g v h t rs b) (f b)) → Reach code c f v (c + size_of (store_word y r z)) v (λ b w. At b (i + size_of (store_word y r z)) (Known g' v h t' rs b) w)
+store_into g' t' c f r y z base o x place within near' based near value same writes far l at = narrow_store_into g' t' c f r y Store.Word z base o x place within near' based near value same writes far l at
+
+-- at a place from the frame
 pub store_piece : {links : Links} {code : List Instr} {i : ℕ} {g : Ground} (g' : Ground) {v : Services} {h t : ℕ → ℕ} (t' : ℕ → ℕ) {rs : Base → List (ℕ × ℕ)} (c : ℕ) (f : Family) (r : Register) (z : ℤ) (o : ℕ) (x : Base → ℕ) → PlaceOf g z o → IsNear r.index → ((b : Base) (w : Whole) → Known g v h t rs b w → w.machine.registers r.index ≡ x b) → ((b : Base) → reserved_are b g h ≡ reserved_are b g' h) → ((b : Base) (m : List ℕ) → length m ≡ memory_size → g.memory t b m → g'.memory t' b (store 4 m o (x b))) → Free rs 31 → Linked links code i (store_word frame_register r z) → ((b : Base) → At b i (Known g v h t rs b) (f b)) → Reach code c f v (c + size_of (store_word frame_register r z)) v (λ b w. At b (i + size_of (store_word frame_register r z)) (Known g' v h t' rs b) w)
-store_piece g' t' c f r z o x place near value same writes far l at = narrow_store_piece g' t' c f r Store.Word z o x place near value same writes far l at
+store_piece {g = g} g' t' c f r z o x place near value same writes far l at =
+    store_into g' t' c f r frame_register z g.frame o x place (let i = g.inside in omega (arith, i)) (λ y u. refl) (λ b w k. frame_is k.body) near value same writes far l at
 
 -- ---- sums
 

@@ -5,49 +5,37 @@ use Rattle.std.proofs.Math.Nat.{mul-le-mul_left}
 use Rattle.std.proofs.lemmas.Bool.{ltb-true, lt-ltb}
 use Rattle.rv_meaning.specs.declared.instr.Instr.{Instr}
 use Rattle.rv_meaning.specs.declared.instr.Instr.TheVariants as I
-use Rattle.pli_language.specs.declared.condition.Condition.{Condition}
 use Rattle.pli_meaning.specs.declared.outcome.End.{End}
 use Rattle.pli_meaning.specs.declared.outcome.End.TheVariants as E
 use Rattle.rv_meaning.specs.Machine as M
 use Rattle.pli_meaning.specs.World.{World, ending}
-use Rattle.pli_meaning.specs.StorageState.{State, Activation, with_world, force, newest_height, ancestor, height_of}
+use Rattle.pli_meaning.specs.StorageState.{State, with_world}
 use Rattle.pli_meaning.specs.Control as F
 use Rattle.pli_meaning.specs.Control.{Flow, Normal, Paused, act, finish}
-use Rattle.pli_serving.specs.ServiceState as S
 use Rattle.pli_serving.specs.ServiceState.{Services}
 use Rattle.pli_serving.specs.Answers.{Answer, Done, Ends, Bad, acting}
 use Rattle.pli_serving.specs.Finding.{Call}
-use Rattle.pli_serving.specs.OnUnits as U
 use Rattle.pli_serving.specs.Serving as V
 use Rattle.pli_coding.specs.Assembly.{Plain}
 use Rattle.pli_coding.specs.Linking.{Links}
 use Rattle.image_runs.specs.Runs.{Whole, Runs, answered, run_on}
 use Rattle.pli_headline.proofs.Engine.{Base, address, most_code, call_at, served, call_next, next_address}
 use Rattle.pli_headline.proofs.Items.{Linked, At}
+use Rattle.pli_headline.proofs.Activations.{Nested}
 use Rattle.pli_headline.proofs.Reach.{Family, cost, acts_of, ActNext, Pausing, Ending, Reach, stay, Aims, Comes}
 
 -- ---- what stands between the meaning and the services
 
--- the height of the main procedure's activation
-abbrev pub main_height : ℕ
-main_height = 1
-
--- the main procedure runs, and no unit is in force
-pub record IsOnlyMain (as' : List Activation) : Type 0 where
-  pub units : (c : Condition) → force as' c ≡ None
-  pub height : newest_height as' ≡ main_height
-  pub outermost : height_of (ancestor as' (newest_height as') 0) ≡ main_height
-
--- the services show what the meaning shows, the run goes on in one block, and no unit is in force
+-- the services show what the meaning shows, the run goes on in nested blocks, and no raise waits for a unit
 pub record Serving (k : ℕ) (s : State) (v : Services) (line : ℕ) : Type 0 where
   pub world : v.world ≡ s.world
   pub running : v.world.end ≡ E.Running
   pub line_is : v.line ≡ line
+  pub input : v.input ≡ s.input
   pub allowed : v.world.acts ≤ k
   pub fits : k + 1 < 2 ^ 64
-  pub entered : (a : S.Activation) × (v.activations ≡ a ∷ [])
-  pub alone : IsOnlyMain s.activations
-  pub alone_served : (c : Condition) → U.force v.activations c ≡ None
+  pub nested : Nested s.activations v.activations
+  pub waiting : v.waiting ≡ None
 
 -- ---- the acts of the meaning
 

@@ -1,7 +1,7 @@
 -- A list catches jumps to its own labels, and goes on at the statement behind the label; a jump to a label of a list around it goes
 -- on there. Each jump makes an act, so the turns that the meaning allows are enough.
 use Rattle.std.proofs.Common.{◌≡◌, ℕ, zero, suc, ◌+◌, ◌*◌, ◌<◌, ◌≤◌, List, [], ◌∷◌, ◌++◌, ◌⊎◌, inl, inr, Option, None, Some, Bool, true, false, refl, sym, ap, ◌∙◌, subst, arith}
-use Rattle.std.specs.Prelude.{ℤ, cond, ◌||◌, ◌==◌}
+use Rattle.std.specs.Prelude.{ℤ, cond, ◌||◌, ◌&&◌, ◌==◌}
 use Rattle.std.proofs.lemmas.Bool.{eq-eqb, and_from, or_cases}
 use Rattle.std.proofs.lemmas.List.Folds.{list_any-append}
 use Rattle.rv_meaning.specs.declared.instr.Instr.{Instr}
@@ -24,8 +24,8 @@ use Rattle.pli_headline.proofs.Items.{Linked, At}
 use Rattle.pli_headline.proofs.Bodies.{Known}
 use Rattle.pli_headline.proofs.Jumps.{front_of, back_of, rest_of, linked_at}
 use Rattle.pli_headline.proofs.Temporaries.{nothing, stays_then}
-use Rattle.pli_headline.proofs.Calls.{Serving, main_height}
-use Rattle.pli_headline.proofs.Variables.{outermost}
+use Rattle.pli_headline.proofs.Activations.{newest_is}
+use Rattle.pli_headline.proofs.Calls.{Serving}
 use Rattle.pli_headline.proofs.Statements.{Block, AllHold, Behind, IsMarkedOnce, Landing, Enough, Does, EachDoes, list_does}
 use Rattle.pli_headline.proofs.MainFlow.{catching, catching_closed, comes_caught}
 use Rattle.pli_headline.proofs.Reach.{Family, Aims, Comes, Closed}
@@ -38,13 +38,18 @@ within labels bl =
       words = bl.words;
       taken = bl.taken;
       labels = labels ++ bl.labels;
+      base = bl.base;
+      within = bl.within;
       words_are = bl.words_are;
       same = bl.same;
       temps = bl.temps;
       declared = bl.declared;
+      reach = bl.reach;
       places = bl.places;
       reads = bl.reads;
       writes = bl.writes;
+      held = bl.held;
+      stack = bl.stack;
     }
 
 -- ---- where a label stands
@@ -71,15 +76,15 @@ record Resumed {e : Environment} {block : ℕ} {types : Types} (bl : Block e blo
   later : i ≤ at
   rest : Y.Stmts
   place : IsMarkedOnce links e.block label → place_of links (LabelPlace e.block label) ≡ 4 * at
-  linked : Linked links code at (stmts_code (outermost e) bl.taken rest)
-  ends : at + size_of (stmts_code (outermost e) bl.taken rest) ≡ i + size_of (stmts_code (outermost e) bl.taken body)
+  linked : Linked links code at (stmts_code e bl.taken rest)
+  ends : at + size_of (stmts_code e bl.taken rest) ≡ i + size_of (stmts_code e bl.taken body)
   each : EachDoes bl links code around rest
   means : (k : ℕ) (s : State) → M.statements around body (Some label) k s ≡ M.statements around rest None k s
 
-resumed_by : {e : Environment} {block : ℕ} {types : Types} (bl : Block e block types) {links : Links} {code : List Instr} {i : ℕ} (around : Around) (labels : List Label) (first : Y.Stmt) (rest : Y.Stmts) (label : Label) (q : Bool) → is_among label labels ≡ q → is_among label (labels ++ M.labels_in rest) ≡ true → EachDoes bl links code around (Y.StmtThen labels first rest) → Linked links code i (stmts_code (outermost e) bl.taken (Y.StmtThen labels first rest)) → ((j : ℕ) → is_among label (M.labels_in rest) ≡ true → Linked links code j (stmts_code (outermost e) bl.taken rest) → Resumed bl links code around rest label j) → Resumed bl links code around (Y.StmtThen labels first rest) label i
+resumed_by : {e : Environment} {block : ℕ} {types : Types} (bl : Block e block types) {links : Links} {code : List Instr} {i : ℕ} (around : Around) (labels : List Label) (first : Y.Stmt) (rest : Y.Stmts) (label : Label) (q : Bool) → is_among label labels ≡ q → is_among label (labels ++ M.labels_in rest) ≡ true → EachDoes bl links code around (Y.StmtThen labels first rest) → Linked links code i (stmts_code e bl.taken (Y.StmtThen labels first rest)) → ((j : ℕ) → is_among label (M.labels_in rest) ≡ true → Linked links code j (stmts_code e bl.taken rest) → Resumed bl links code around rest label j) → Resumed bl links code around (Y.StmtThen labels first rest) label i
 unfolding M.statements choose
 resumed_by {e} bl {i = i} around labels first rest label true own among each l later =
-    let c = stmt_code (outermost e) bl.taken first ++ stmts_code (outermost e) bl.taken rest in
+    let c = stmt_code e bl.taken first ++ stmts_code e bl.taken rest in
     record {
       at = i;
       later = omega arith;
@@ -92,8 +97,8 @@ resumed_by {e} bl {i = i} around labels first rest label true own among each l l
     }
 resumed_by {e} bl {i = i} around labels first rest label false own among each l later =
     let a = marked e.block labels in
-    let c = stmt_code (outermost e) bl.taken first in
-    let d = stmts_code (outermost e) bl.taken rest in
+    let c = stmt_code e bl.taken first in
+    let d = stmts_code e bl.taken rest in
     let behind : is_among label (M.labels_in rest) ≡ true =
     sym (ap (λ q. q || is_among label (M.labels_in rest)) own) ∙ sym (list_any-append (same_bytes label) labels (M.labels_in rest)) ∙ among in
     let o = later (i + size_of a + size_of c) behind (back_of c d (back_of a (c ++ d) l)) in
@@ -129,7 +134,7 @@ resumed_at_end {e} bl {i = i} around labels label among l =
       means = λ k s. ended_means around labels label k s;
     }
 
-resumed : {e : Environment} {block : ℕ} {types : Types} (bl : Block e block types) {links : Links} {code : List Instr} {i : ℕ} (around : Around) (body : Y.Stmts) (label : Label) → is_among label (M.labels_in body) ≡ true → EachDoes bl links code around body → Linked links code i (stmts_code (outermost e) bl.taken body) → Resumed bl links code around body label i
+resumed : {e : Environment} {block : ℕ} {types : Types} (bl : Block e block types) {links : Links} {code : List Instr} {i : ℕ} (around : Around) (body : Y.Stmts) (label : Label) → is_among label (M.labels_in body) ≡ true → EachDoes bl links code around body → Linked links code i (stmts_code e bl.taken body) → Resumed bl links code around body label i
 resumed bl around (Y.EndOfList labels) label among each l = resumed_at_end bl around labels label among l
 resumed bl around (Y.StmtThen labels first rest) label among each l =
     resumed_by bl around labels first rest label (is_among label labels) refl among each l
@@ -138,40 +143,42 @@ resumed bl around (Y.StmtThen labels first rest) label among each l =
 -- ---- the turns
 
 -- a jump is caught, or goes on outside
-landing_by : {e : Environment} {block : ℕ} {types : Types} (bl : Block e block types) {links : Links} {code : List Instr} {k : ℕ} {h t : ℕ → ℕ} {acts : ℕ} {aims : Aims (Unit {0})} (labels : List Label) (next : Label → Meaning (Unit {0})) (label : Label) (q : Bool) → is_among label labels ≡ q → (q ≡ true → Landing bl links k h t acts (λ i f v height l s. Comes code i f v aims (next l k s)) label) → (q ≡ false → Landing bl links k h t acts aims.jumped label) → Landing bl links k h t acts (catching code k main_height labels next aims).jumped label
-landing_by bl {code = code} {k = k} {aims = aims} labels next label true among own outer =
+landing_by : {e : Environment} {block : ℕ} {types : Types} (bl : Block e block types) {links : Links} {code : List Instr} {k : ℕ} {h t : ℕ → ℕ} {acts : ℕ} {aims : Aims (Unit {0})} (labels : List Label) (next : Label → Meaning (Unit {0})) (label : Label) (q : Bool) → is_among label labels ≡ q → (q ≡ true → Landing bl links k h t acts (λ i f v height l s. Comes code i f v aims (next l k s)) label) → (q ≡ false → Landing bl links k h t acts aims.jumped label) → Landing bl links k h t acts (catching code k (suc e.level) labels next aims).jumped label
+landing_by {e} bl {code = code} {k = k} {aims = aims} labels next label true among own outer =
     let o = own refl in
+    let here : ((suc e.level == suc e.level) && is_among label labels) ≡ true = ap (λ u. u && is_among label labels) (eq-eqb (suc e.level) (suc e.level) refl) ∙ among in
     record {
       at = o.at;
       place = o.place;
       near = o.near;
       later = o.later;
       lands = λ s v line n h t f serving all stays acted' at'.
-          subst (λ q. Comes code o.at f v aims (cond q (next label k s) (Jump main_height label s))) (sym among) (o.lands s v line n h t f serving all stays acted' at');
+          subst (λ q. Comes code o.at f v aims (cond q (next label k s) (Jump (suc e.level) label s))) (sym here) (o.lands s v line n h t f serving all stays acted' at');
     }
-landing_by bl {code = code} {k = k} {aims = aims} labels next label false among own outer =
+landing_by {e} bl {code = code} {k = k} {aims = aims} labels next label false among own outer =
     let o = outer refl in
+    let here : ((suc e.level == suc e.level) && is_among label labels) ≡ false = ap (λ u. u && is_among label labels) (eq-eqb (suc e.level) (suc e.level) refl) ∙ among in
     record {
       at = o.at;
       place = o.place;
       near = o.near;
       later = o.later;
       lands = λ s v line n h t f serving all stays acted' at'.
-          subst (λ q. Comes code o.at f v aims (cond q (next label k s) (Jump main_height label s))) (sym among) (record { to = o.lands s v line n h t f serving all stays acted' at' });
+          subst (λ q. Comes code o.at f v aims (cond q (next label k s) (Jump (suc e.level) label s))) (sym here) (record { to = o.lands s v line n h t f serving all stays acted' at' });
     }
 
 -- a list from its start, or from a label on
-catch_piece : {e : Environment} {block : ℕ} {types : Types} (bl : Block e block types) {links : Links} {code : List Instr} (around : Around) (body : Y.Stmts) → EachDoes (within (M.labels_in body) bl) links code around body → (start : ℕ) → 2 ≤ start → Linked links code start (stmts_code (outermost e) bl.taken body) → (turns : ℕ) {i : ℕ} {s : State} {v : Services} {h t : ℕ → ℕ} {aims : Aims (Unit {0})} (from : Option Label) (rest : Y.Stmts) (closed : Closed code aims) (line : ℕ) (n : ℕ → ℤ) (f : Family) (k : ℕ) → k < turns + v.world.acts → ((k' : ℕ) (s' : State) → M.statements around body from k' s' ≡ M.statements around rest None k' s') → EachDoes (within (M.labels_in body) bl) links code around rest → Linked links code i (stmts_code (outermost e) bl.taken rest) → i + size_of (stmts_code (outermost e) bl.taken rest) ≡ start + size_of (stmts_code (outermost e) bl.taken body) → Serving k s v line → AllHold s block types n → ((b : Base) → At b i (Known (bl.ground n) v h t nothing b) (f b)) → Behind bl k h t (start + size_of (stmts_code (outermost e) bl.taken body)) aims → Enough bl links k around.turns i h t v.world.acts aims.jumped → Comes code i f v aims (list_from turns main_height (M.labels_in body) (M.statements around body) from k s)
+catch_piece : {e : Environment} {block : ℕ} {types : Types} (bl : Block e block types) {links : Links} {code : List Instr} (around : Around) (body : Y.Stmts) → EachDoes (within (M.labels_in body) bl) links code around body → (start : ℕ) → 2 ≤ start → Linked links code start (stmts_code e bl.taken body) → (turns : ℕ) {i : ℕ} {s : State} {v : Services} {h t : ℕ → ℕ} {aims : Aims (Unit {0})} (from : Option Label) (rest : Y.Stmts) (closed : Closed code aims) (line : ℕ) (n : ℕ → ℤ) (f : Family) (k : ℕ) → k < turns + v.world.acts → ((k' : ℕ) (s' : State) → M.statements around body from k' s' ≡ M.statements around rest None k' s') → EachDoes (within (M.labels_in body) bl) links code around rest → Linked links code i (stmts_code e bl.taken rest) → i + size_of (stmts_code e bl.taken rest) ≡ start + size_of (stmts_code e bl.taken body) → Serving k s v line → AllHold (suc e.level) s block types n → ((b : Base) → At b i (Known (bl.ground n) v h t nothing b) (f b)) → Behind bl k h t (start + size_of (stmts_code e bl.taken body)) aims → Enough bl links k around.turns i h t v.world.acts aims.jumped aims.returned → Comes code i f v aims (list_from turns (suc e.level) (M.labels_in body) (M.statements around body) from k s)
 unfolding list_from
 catch_piece bl around body every start behind whole zero from rest closed line n f k enough means each l ends serving all at goal more =
     absurd (let a = serving.allowed in omega (arith, a, enough))
 catch_piece {e} {block} {types} bl {links} {code} around body every start behind whole (suc turns) {i} {s} {v} {h} {t} {aims} from rest closed line n f k enough means each l ends serving all at goal more =
     let labels = M.labels_in body in
     let inner = within labels bl in
-    let next' : Label → Meaning (Unit {0}) = λ label. list_from turns main_height labels (M.statements around body) (Some label) in
-    comes_caught k main_height labels next' (M.statements around body from k s)
-    (subst (Comes code i f v (catching code k main_height labels next' aims)) (sym (means k s))
-    ((list_does inner links code around rest each).does (catching_closed k main_height labels next' closed) line n f k l serving all at
+    let next' : Label → Meaning (Unit {0}) = λ label. list_from turns (suc e.level) labels (M.statements around body) (Some label) in
+    comes_caught k (suc e.level) labels next' (M.statements around body from k s)
+    (subst (Comes code i f v (catching code k (suc e.level) labels next' aims)) (sym (means k s))
+    ((list_does inner links code around rest each).does (catching_closed k (suc e.level) labels next' closed) line n f k l serving all at
     (λ s2 v2 line2 n2 h2 t2 f2 serving2 all2 stays2 at2.
     subst (λ u. aims.done u f2 v2 tt s2) (sym ends)
     (goal s2 v2 line2 n2 h2 t2 f2 serving2 all2 stays2 (λ b. record { pc = (at2 b).pc ∙ ap (address b) ends; holds = (at2 b).holds })))
@@ -194,7 +201,7 @@ catch_piece {e} {block} {types} bl {links} {code} around body every start behind
                 catch_piece bl around body every start behind whole turns (Some label) o.rest closed line2 n2 f2 k (omega (arith, enough, grown)) o.means o.each o.linked o.ends serving2 all2 at2
                 (λ s3 v3 line3 n3 h3 t3 f3 serving3 all3 stays3 at3. goal s3 v3 line3 n3 h3 t3 f3 serving3 all3 (stays_then stays2 stays3) at3)
                 (record {
-                  enough = more.enough;
+                  enough = let u = more.enough in omega (arith, u, grown);
                   later = omega (arith, o1, behind);
                   jumps = λ label3 among3 once3.
                       let p = more.jumps label3 among3 once3 in
@@ -205,19 +212,21 @@ catch_piece {e} {block} {types} bl {links} {code} around body every start behind
                         later = p.later;
                         lands = λ s3 v3 line3 n3 h3 t3 f3 serving3 all3 stays3 acted3 at3. p.lands s3 v3 line3 n3 h3 t3 f3 serving3 all3 (stays_then stays2 stays3) (omega (arith, grown, acted3)) at3;
                       };
+                  returns = more.returns;
                 });
           })
           (λ none.
           let o = more.jumps label (sym (ap (λ q. q || is_among label bl.labels) none) ∙ sym (list_any-append (same_bytes label) labels bl.labels) ∙ among) once in
           record { at = o.at; place = o.place; near = o.near; later = o.later; lands = o.lands });
+      returns = more.returns;
     })))
 
 -- a list of statements, of which each does what it means while the list catches
-pub listed : {e : Environment} {block : ℕ} {types : Types} (bl : Block e block types) {links : Links} {code : List Instr} (around : Around) (body : Y.Stmts) → EachDoes (within (M.labels_in body) bl) links code around body → Does bl links code around.turns (stmts_code (outermost e) bl.taken body) (M.list around body)
+pub listed : {e : Environment} {block : ℕ} {types : Types} (bl : Block e block types) {links : Links} {code : List Instr} (around : Around) (body : Y.Stmts) → EachDoes (within (M.labels_in body) bl) links code around body → Does bl links code around.turns (stmts_code e bl.taken body) (M.list around body)
 unfolding M.list M.list_with looked ◌>>=◌
-listed bl {code = code} around body each =
+listed {e} bl {code = code} around body each =
     record {
       does = λ {i} {s} {v} {h} {t} {aims} closed line n f k l serving all at goal more.
-          subst (λ height. Comes code i f v aims (list_from around.turns height (M.labels_in body) (M.statements around body) None k s)) (sym serving.alone.height)
+          subst (λ height. Comes code i f v aims (list_from around.turns height (M.labels_in body) (M.statements around body) None k s)) (sym (newest_is s.activations v.activations e.level serving.nested all.entered))
           (catch_piece bl around body each i more.later l around.turns None body closed line n f k (let u = more.enough in omega (arith, u)) (λ k' s'. refl) each l refl serving all at goal more);
     }

@@ -33,7 +33,7 @@ use Rattle.pli_headline.proofs.FirstFrame.{start_of}
 use Rattle.pli_headline.proofs.Marks.{code_is}
 use Rattle.pli_headline.proofs.MainProcedure.{IsAlone, main_head, main_environment}
 use Rattle.pli_headline.proofs.FirstForms.{all_numbers_plain, block_numbers}
-use Rattle.pli_headline.proofs.Variables.{outermost, own, whole, data_place, number_loaded, scalar_reached, scalar_kept}
+use Rattle.pli_headline.proofs.Variables.{outermost, own, whole, data_place, number_loaded, scalar_found, scalar_kept}
 use Rattle.pli_headline.proofs.CodeSizes.{HasPlain, declared_plain}
 use Rattle.pli_headline.proofs.ProgramSizes.{frame_filled}
 
@@ -119,7 +119,7 @@ reference_none : (e : Environment) (t : Taken) (block count : ℕ) (r : Y.Refere
 reference_none e t block count r has is =
     let d = declared_plain e block count is.index has is.declared in
     let same : number_code (outermost e) t (Y.NumberIn r) ≡ load_word a0 frame_register (pos (data_place e block is.index)) =
-    ap (λ q. number_code (outermost e) t (Y.NumberIn q)) is.is ∙ number_loaded e t block is.index 31 ([], d) in
+    ap (λ q. number_code (outermost e) t (Y.NumberIn q)) is.is ∙ number_loaded (outermost e) t block is.index 31 ([], d) in
     ap data_named same ∙ load_none a0 frame_register (pos (data_place e block is.index))
 
 number_none : (e : Environment) (t : Taken) (block count : ℕ) (x : Y.Number) → HasPlain e block count → IsFirstNumber block count x → Names (number_code (outermost e) t x) []
@@ -184,8 +184,8 @@ target_none e t block count r has is =
     let into = store_word frame_register a0 place in
     let same : word_stored (outermost e) t r ≡ save a0 t ++ ([] ++ (fetch a0 t ++ into)) =
     ap (λ q. word_stored (outermost e) t q) is.is
-    ∙ ap (λ c. save a0 t ++ (c ++ (fetch a0 t ++ stored (type_in (outermost e) (whole (own block is.index))) a0 (address_in (outermost e) (whole (own block is.index)))))) (scalar_reached e (with_number t) block is.index (Y.FixedLeaf 31) tt ([], d))
-    ∙ ap (λ c. save a0 t ++ ([] ++ (fetch a0 t ++ c))) (scalar_kept e block is.index (Y.FixedLeaf 31) tt ([], d)) in
+    ∙ ap (λ c. save a0 t ++ (c ++ (fetch a0 t ++ stored (type_in (outermost e) (whole (own block is.index))) a0 (address_in (outermost e) (whole (own block is.index)))))) (scalar_found (outermost e) (with_number t) block is.index (Y.FixedLeaf 31) tt ([], d))
+    ∙ ap (λ c. save a0 t ++ ([] ++ (fetch a0 t ++ c))) (scalar_kept (outermost e) block is.index (Y.FixedLeaf 31) tt ([], d)) in
     ap data_named same
     ∙ behind (save a0 t) (fetch a0 t ++ into) [] (saved_none a0 t)
     (behind (fetch a0 t) into [] (fetched_none a0 t) (store_none frame_register a0 place))

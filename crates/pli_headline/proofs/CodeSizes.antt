@@ -23,7 +23,7 @@ use Rattle.pli_coding.specs.Statements.{stmt_code, stmts_code, marked}
 use Rattle.pli_headline.specs.FirstForms.{plain_number, AreNumbers, IsFirstReference, IsFirstOperator, IsFirstNumber, IsFirstItem, AreFirstItems, AreFirstPairs, IsFirstStatement, AreFirstStatements}
 use Rattle.pli_headline.proofs.Linking.{size_append}
 use Rattle.pli_headline.proofs.FirstForms.{number_at}
-use Rattle.pli_headline.proofs.Variables.{outermost, own, whole, data_place, number_loaded, scalar_reached, scalar_kept}
+use Rattle.pli_headline.proofs.Variables.{outermost, own, whole, data_place, number_loaded, scalar_found, scalar_kept}
 
 -- ---- nodes
 
@@ -116,7 +116,7 @@ reference_most e t block count r has is =
     let d = declared_plain e block count is.index has is.declared in
     let n = load_most a0 frame_register (pos (data_place e block is.index)) in
     let same : number_code (outermost e) t (Y.NumberIn r) ≡ load_word a0 frame_register (pos (data_place e block is.index)) =
-    ap (λ q. number_code (outermost e) t (Y.NumberIn q)) is.is ∙ number_loaded e t block is.index 31 ([], d) in
+    ap (λ q. number_code (outermost e) t (Y.NumberIn q)) is.is ∙ number_loaded (outermost e) t block is.index 31 ([], d) in
     subst (λ c. size_of c ≤ 3) (sym same) n
 
 pub number_most : (e : Environment) (t : Taken) (block count : ℕ) (x : Y.Number) → HasPlain e block count → IsFirstNumber block count x → size_of (number_code (outermost e) t x) ≤ 30 * number_nodes x
@@ -213,8 +213,8 @@ target_most e t block count r has is =
     let s2 = size_append (fetch a0 t) (store_word frame_register a0 place) in
     let same : word_stored (outermost e) t r ≡ save a0 t ++ ([] ++ (fetch a0 t ++ store_word frame_register a0 place)) =
     ap (λ q. word_stored (outermost e) t q) is.is
-    ∙ ap (λ c. save a0 t ++ (c ++ (fetch a0 t ++ stored (type_in (outermost e) (whole (own block is.index))) a0 (address_in (outermost e) (whole (own block is.index)))))) (scalar_reached e (with_number t) block is.index (Y.FixedLeaf 31) tt ([], d))
-    ∙ ap (λ c. save a0 t ++ ([] ++ (fetch a0 t ++ c))) (scalar_kept e block is.index (Y.FixedLeaf 31) tt ([], d)) in
+    ∙ ap (λ c. save a0 t ++ (c ++ (fetch a0 t ++ stored (type_in (outermost e) (whole (own block is.index))) a0 (address_in (outermost e) (whole (own block is.index)))))) (scalar_found (outermost e) (with_number t) block is.index (Y.FixedLeaf 31) tt ([], d))
+    ∙ ap (λ c. save a0 t ++ ([] ++ (fetch a0 t ++ c))) (scalar_kept (outermost e) block is.index (Y.FixedLeaf 31) tt ([], d)) in
     subst (λ c. size_of c ≤ 9) (sym same) (omega (arith, saved, fetched, n, s1, s2))
 
 pub statement_most : (e : Environment) (t : Taken) (block count : ℕ) (x : Y.Stmt) → HasPlain e block count → IsFirstStatement block count x → size_of (stmt_code (outermost e) t x) ≤ 40 * stmt_nodes x

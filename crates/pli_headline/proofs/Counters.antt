@@ -32,7 +32,7 @@ use Rattle.pli_headline.proofs.Calls.{Serving, called, Calling, call_done}
 use Rattle.pli_headline.proofs.Raising.{small_is}
 use Rattle.pli_headline.proofs.Acts.{word_is}
 use Rattle.pli_headline.proofs.Operators.{valued}
-use Rattle.pli_headline.proofs.Variables.{whole, own, outermost}
+use Rattle.pli_headline.proofs.Variables.{whole, own}
 use Rattle.pli_headline.proofs.Assignments.{assigned_state, stored_piece}
 use Rattle.pli_headline.proofs.States.{with_number_at}
 use Rattle.pli_headline.proofs.Statements.{Block, AllHold, scope_of}
@@ -84,20 +84,20 @@ line_piece {code = code} {i = i} {v = v} {h = h} {t = t} {aims = aims} bl n clos
       world = serving.world;
       running = serving.running;
       line_is = refl;
+      input = serving.input;
       allowed = serving.allowed;
       fits = serving.fits;
-      entered = serving.entered;
-      alone = serving.alone;
-      alone_served = serving.alone_served;
+      nested = serving.nested;
+      waiting = serving.waiting;
     })
     (λ b. record { pc = (at3 b).pc ∙ ap (address b) there; holds = (at3 b).holds })))))
 
 -- ---- the number
 
 -- a number in a0 is assigned to a variable of the block
-pub counter_piece : {links : Links} {code : List Instr} {i : ℕ} {v : Services} {h t : ℕ → ℕ} {s : State} {aims : Aims (Unit {0})} {e : Environment} {block : ℕ} {types : Types} (bl : Block e block types) (n : ℕ → ℤ) (closed : Closed code aims) (credits : ℕ) (f : Family) (around : Around) (taken : Taken) (j p : ℕ) (z : ℤ) (k : ℕ) (below : slice_get types j ≡ Some (Y.FixedLeaf p)) → Fits (Y.FixedLeaf p) z → (is_register_left taken ≡ false → taken.words < bl.words) → (all : AllHold s block types n) → Linked links code i (word_stored (outermost e) taken (whole (own block j))) → ((b : Base) → At b i (Known (bl.ground n) v h t (valued (word z)) b) (f b)) → ((f' : Family) (h' t' : ℕ → ℕ) → Stays taken h t h' t' → ((b : Base) → At b (i + size_of (word_stored (outermost e) taken (whole (own block j)))) (Known (bl.ground (with_number_at n j z)) v h' t' nothing b) (f' b)) → aims.done (credits + size_of (word_stored (outermost e) taken (whole (own block j)))) f' v tt (assigned_state s (Y.FixedLeaf p) (suc j) (all j (Y.FixedLeaf p, below)).values z)) → Comes code credits f v aims (M.assigned around (whole (own block j)) (BasicNumber z) k s)
+pub counter_piece : {links : Links} {code : List Instr} {i : ℕ} {v : Services} {h t : ℕ → ℕ} {s : State} {aims : Aims (Unit {0})} {e : Environment} {block : ℕ} {types : Types} (bl : Block e block types) (n : ℕ → ℤ) (closed : Closed code aims) (credits : ℕ) (f : Family) (around : Around) (taken : Taken) (j p : ℕ) (z : ℤ) (k : ℕ) (below : slice_get types j ≡ Some (Y.FixedLeaf p)) → Fits (Y.FixedLeaf p) z → (is_register_left taken ≡ false → taken.words < bl.words) → (all : AllHold (suc e.level) s block types n) → Linked links code i (word_stored e taken (whole (own block j))) → ((b : Base) → At b i (Known (bl.ground n) v h t (valued (word z)) b) (f b)) → ((f' : Family) (h' t' : ℕ → ℕ) → Stays taken h t h' t' → ((b : Base) → At b (i + size_of (word_stored e taken (whole (own block j)))) (Known (bl.ground (with_number_at n j z)) v h' t' nothing b) (f' b)) → aims.done (credits + size_of (word_stored e taken (whole (own block j)))) f' v tt (assigned_state s (Y.FixedLeaf p) (suc j) (all.numbers j (Y.FixedLeaf p, below)).values z)) → Comes code credits f v aims (M.assigned around (whole (own block j)) (BasicNumber z) k s)
 counter_piece {e = e} {block = block} {types = types} bl n closed credits f around taken j p z k below fits room all l at goal =
     let w = bl.words_are n in
     stored_piece (bl.ground (with_number_at n j z)) closed (bl.temps n) credits e block types n f around taken j z k below fits
     (λ none. subst (λ u. taken.words < u) (sym w) (room none))
-    (scope_of bl n all) (λ b h'. bl.same n (with_number_at n j z) b h') (λ t' b m len o. bl.writes n j z below (all j (Y.FixedLeaf p, below)).fits fits t' b m len o) l at goal
+    (scope_of bl n all) (λ b h'. bl.same n (with_number_at n j z) b h') (λ t' b m len o. bl.writes n j z below (all.numbers j (Y.FixedLeaf p, below)).fits fits t' b m len o) l at goal

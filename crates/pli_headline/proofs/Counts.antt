@@ -38,13 +38,13 @@ use Rattle.pli_headline.proofs.Jumps.{front_of, back_of, linked_at}
 use Rattle.pli_headline.proofs.Temporaries.{Stays, stays_same, stays_then, put, put_other, put_same, nothing}
 use Rattle.pli_headline.proofs.Calls.{Serving}
 use Rattle.pli_headline.proofs.Acts.{acted, act_from, act_piece}
-use Rattle.pli_headline.proofs.Variables.{whole, own, outermost}
+use Rattle.pli_headline.proofs.Variables.{whole, own}
 use Rattle.pli_headline.proofs.Operators.{valued, sum_piece, sum_zero}
 use Rattle.pli_headline.proofs.Expressions.{number_does}
 use Rattle.pli_headline.proofs.Scalars.{Fits}
 use Rattle.pli_headline.proofs.Precisions.{fitted_piece}
-use Rattle.pli_headline.proofs.States.{with_number_at, holds_assigned}
-use Rattle.pli_headline.proofs.Statements.{Standing, Block, AllHold, counted_holds, Behind, Enough, further, Does}
+use Rattle.pli_headline.proofs.States.{with_number_at}
+use Rattle.pli_headline.proofs.Statements.{Standing, Block, AllHold, counted_all, assigned_all, Behind, Enough, further, Does}
 use Rattle.pli_headline.proofs.Ifs.{setting}
 use Rattle.pli_headline.proofs.Waiting.{kept_piece, read_piece, stays_fewer, stays_kept}
 use Rattle.pli_headline.proofs.Counters.{line_code, on_line, line_piece, counter_piece}
@@ -61,20 +61,25 @@ turning bl =
       words = bl.words;
       taken = in_turns bl.taken;
       labels = bl.labels;
+      base = bl.base;
+      within = bl.within;
       words_are = bl.words_are;
       same = bl.same;
       temps = bl.temps;
       declared = bl.declared;
+      reach = bl.reach;
       places = bl.places;
       reads = bl.reads;
       writes = bl.writes;
+      held = bl.held;
+      stack = bl.stack;
     }
 
 pub standing_turning : {e : Environment} {block : ℕ} {types : Types} {bl : Block e block types} {links : Links} {code : List Instr} → Standing bl links code → Standing (turning bl) links code
 standing_turning s = record { raises = s.raises; constants = s.constants }
 
 -- a jump out of it leaves fewer words that wait
-turning_enough : {e : Environment} {block : ℕ} {types : Types} (bl : Block e block types) {links : Links} {k turns i : ℕ} {h t : ℕ → ℕ} {acts : ℕ} {jumped : ℕ → Family → Services → ℕ → Label → State → Type 0} → Enough bl links k turns i h t acts jumped → Enough (turning bl) links k turns i h t acts jumped
+turning_enough : {e : Environment} {block : ℕ} {types : Types} (bl : Block e block types) {links : Links} {k turns i : ℕ} {h t : ℕ → ℕ} {acts : ℕ} {jumped : ℕ → Family → Services → ℕ → Label → State → Type 0} {returned : ℕ → Family → Services → Option BasicValue → State → Type 0} → Enough bl links k turns i h t acts jumped returned → Enough (turning bl) links k turns i h t acts jumped returned
 turning_enough bl more =
     record {
       enough = more.enough;
@@ -88,6 +93,7 @@ turning_enough bl more =
             later = o.later;
             lands = λ s v line n h' t' f serving all stays acted' at'. o.lands s v line n h' t' f serving all (stays_fewer 2 stays) acted' at';
           };
+      returns = more.returns;
     }
 
 -- ---- the next value
@@ -96,7 +102,7 @@ turning_enough bl more =
 abbrev lefted : ℕ → Base → List (ℕ × ℕ)
 lefted x b = (6, x) ∷ []
 
-pub stepping_piece : {links : Links} {code : List Instr} {i : ℕ} {v : Services} {h t : ℕ → ℕ} {s : State} {aims : Aims (Unit {0})} {e : Environment} {block : ℕ} {types : Types} (bl : Block e block types) (routines : Standing bl links code) (around : Around) (line : ℕ) (j p : ℕ) (step : ℤ) (closed : Closed code aims) (n : ℕ → ℤ) (f : Family) (old k : ℕ) → line < 2 ^ 31 → p ≤ 31 → slice_get types j ≡ Some (Y.FixedLeaf p) → IsWide step → t (bl.taken.words + 1) ≡ word step → bl.taken.words + 3 ≤ bl.words → Linked links code i (stepped_code (outermost e) bl.taken (counting block j p) line) → Serving k s v old → AllHold s block types n → ((b : Base) → At b i (Known (bl.ground n) v h t nothing b) (f b)) → ((z : ℤ) (f' : Family) (h' t' : ℕ → ℕ) → Fits (Y.FixedLeaf p) z → Stays (in_turns bl.taken) h t h' t' → Serving k s (on_line line v) line → ((b : Base) → At b (i + size_of (stepped_code (outermost e) bl.taken (counting block j p) line)) (Known (bl.ground n) (on_line line v) h' t' (valued (word z)) b) (f' b)) → Comes code (i + size_of (stepped_code (outermost e) bl.taken (counting block j p) line)) f' (on_line line v) aims (M.assigned (at_line around line) (whole (own block j)) (BasicNumber z) k s)) → Comes code i f v aims (M.stepped (at_line around line) (counting block j p) step k s)
+pub stepping_piece : {links : Links} {code : List Instr} {i : ℕ} {v : Services} {h t : ℕ → ℕ} {s : State} {aims : Aims (Unit {0})} {e : Environment} {block : ℕ} {types : Types} (bl : Block e block types) (routines : Standing bl links code) (around : Around) (line : ℕ) (j p : ℕ) (step : ℤ) (closed : Closed code aims) (n : ℕ → ℤ) (f : Family) (old k : ℕ) → line < 2 ^ 31 → p ≤ 31 → slice_get types j ≡ Some (Y.FixedLeaf p) → IsWide step → t (bl.taken.words + 1) ≡ word step → bl.taken.words + 3 ≤ bl.words → Linked links code i (stepped_code e bl.taken (counting block j p) line) → Serving k s v old → AllHold (suc e.level) s block types n → ((b : Base) → At b i (Known (bl.ground n) v h t nothing b) (f b)) → ((z : ℤ) (f' : Family) (h' t' : ℕ → ℕ) → Fits (Y.FixedLeaf p) z → Stays (in_turns bl.taken) h t h' t' → Serving k s (on_line line v) line → ((b : Base) → At b (i + size_of (stepped_code e bl.taken (counting block j p) line)) (Known (bl.ground n) (on_line line v) h' t' (valued (word z)) b) (f' b)) → Comes code (i + size_of (stepped_code e bl.taken (counting block j p) line)) f' (on_line line v) aims (M.assigned (at_line around line) (whole (own block j)) (BasicNumber z) k s)) → Comes code i f v aims (M.stepped (at_line around line) (counting block j p) step k s)
 unfolding M.stepped M.counter_number M.counter_value V.number ◌>>=◌ give
 stepping_piece {links = links} {code = code} {i = i} {v = v} {h = h} {t = t} {s = s} {aims = aims} {e = e} {block = block} {types = types} bl routines around line j p step closed n f old k fits few below ws at_step room l serving all at goal =
     let here = at_line around line in
@@ -105,7 +111,7 @@ stepping_piece {links = links} {code = code} {i = i} {v = v} {h = h} {t = t} {s 
     let mine : IsOwnNumber block types target = record { precision = p; own = record { index = j; declared = below; is = refl } } in
     let first = number a0 line in
     let second = small a1 1 ∷ service 1 in
-    let a = number_code (outermost e) taken (Y.NumberIn target) in
+    let a = number_code e taken (Y.NumberIn target) in
     let m = move u1 a0 ∷ [] in
     let c = load_word a0 frame_register (step_place bl.taken) in
     let d = sum_code taken in
@@ -122,7 +128,7 @@ stepping_piece {links = links} {code = code} {i = i} {v = v} {h = h} {t = t} {s 
     let e3 = size_append c (d ++ q) in
     let e4 = size_append d q in
     let j1 = i + size_of (line_code line) in
-    let there : j1 + size_of a + 1 + size_of c + size_of d + size_of q ≡ i + size_of (stepped_code (outermost e) bl.taken (counting block j p) line) = omega (arith, e0, e1, e2, e3, e4) in
+    let there : j1 + size_of a + 1 + size_of c + size_of d + size_of q ≡ i + size_of (stepped_code e bl.taken (counting block j p) line) = omega (arith, e0, e1, e2, e3, e4) in
     let w = bl.words_are n in
     let v1 = on_line line v in
     let store : BasicValue → Meaning (Unit {0}) = λ u. M.assigned here target u in
@@ -140,7 +146,7 @@ stepping_piece {links = links} {code = code} {i = i} {v = v} {h = h} {t = t} {s 
       regs = (sum_zero _ (word z) o.regs.0 (word_small z wz), tt);
     }))
     (λ f3 at3.
-    onward closed (read_piece (bl.temps n) (j1 + size_of a + 1) f3 a0 (bl.taken.words + 1) (word step) (omega (arith, room, w)) (stays2.words (bl.taken.words + 1) (omega arith) ∙ at_step) (record { reserved_stay = λ y u. refl; known_stay = λ b y u q. q; set = λ y u. refl }) (record { reserved_stay = λ y u. refl; known_stay = λ b y u q. q; set = λ y u. refl }) (front_of c (d ++ q) l4) at3)
+    onward closed (read_piece (bl.temps n) (j1 + size_of a + 1) f3 a0 (bl.taken.words + 1) (word step) (omega (arith, room, w)) (word_small step ws) (stays2.words (bl.taken.words + 1) (omega arith) ∙ at_step) (record { reserved_stay = λ y u. refl; known_stay = λ b y u q. q; set = λ y u. refl }) (record { reserved_stay = λ y u. refl; known_stay = λ b y u q. q; set = λ y u. refl }) (front_of c (d ++ q) l4) at3)
     (λ f4 at4.
     comes_on k (R.value_of here (checked 31 (z +ℤ step)) k s) next2
     (sum_piece (before_closed k next2 closed) routines.raises (bl.temps n) f4 here taken z step k wz ws (λ none. omega (arith, room, w)) (front_of d q l5) serving1
@@ -160,12 +166,12 @@ stepping_piece {links = links} {code = code} {i = i} {v = v} {h = h} {t = t} {s 
 -- the code of a turn behind what begins it
 abbrev pub turn_rest : {e : Environment} {block : ℕ} {types : Types} → Block e block types → (j p : ℕ) → Option Y.Number → Option Y.Bit → (line : ℕ) → Code → Code
 turn_rest {e} {block} bl j p limit condition line c =
-    let u = turn_of (outermost e) bl.taken (counting block j p) limit condition line c in
-    limit_kept (outermost e) bl.taken (counting block j p) limit (words_behind_limit u)
-    ++ (while_kept (outermost e) bl.taken condition (words_behind_condition u) ++ (c ++ (stepped_code (outermost e) bl.taken (counting block j p) line ++ JumpBack (words_back u) ∷ [])))
+    let u = turn_of e bl.taken (counting block j p) limit condition line c in
+    limit_kept e bl.taken (counting block j p) limit (words_behind_limit u)
+    ++ (while_kept e bl.taken condition (words_behind_condition u) ++ (c ++ (stepped_code e bl.taken (counting block j p) line ++ JumpBack (words_back u) ∷ [])))
 
 abbrev pub turns_of : {e : Environment} {block : ℕ} {types : Types} → Block e block types → (j p : ℕ) → Option Y.Number → Option Y.Bit → (line : ℕ) → Code → Code
-turns_of {e} {block} bl j p limit condition line c = turns_code (turn_of (outermost e) bl.taken (counting block j p) limit condition line c)
+turns_of {e} {block} bl j p limit condition line c = turns_code (turn_of e bl.taken (counting block j p) limit condition line c)
 
 limit_stays : (limit : Option Y.Number) (most : Option ℤ) (t t' : ℕ → ℕ) (j : ℕ) → t' j ≡ t j → LimitWaits limit most t j → LimitWaits limit most t' j
 limit_stays None None t t' j e waits = tt
@@ -174,7 +180,7 @@ limit_stays (Some x) None t t' j e waits = absurd waits
 limit_stays (Some x) (Some m) t t' j e waits = (waits.0, e ∙ waits.1)
 
 -- from the act of a turn on, with credits enough for it
-head_piece : {e : Environment} {block : ℕ} {types : Types} (bl : Block e block types) {links : Links} {code : List Instr} (routines : Standing bl links code) (around : Around) (j p : ℕ) (limit : Option Y.Number) (most : Option ℤ) (step : ℤ) (condition : Option Y.Bit) (line : ℕ) (c : Code) (part : Meaning (Unit {0})) → slice_get types j ≡ Some (Y.FixedLeaf p) → IsWide step → IsProvedBitIf block types condition → bl.taken.words + 3 ≤ bl.words → bl.taken.words + 2 + bit_if condition ≤ bl.words → line < 2 ^ 31 → Does (turning bl) links code around.turns c part → (turns : ℕ) {i : ℕ} {s : State} {v : Services} {h t : ℕ → ℕ} {aims : Aims (Unit {0})} (closed : Closed code aims) (credits old : ℕ) (n : ℕ → ℤ) (f : Family) (k : ℕ) → k < turns + v.world.acts → credits + size_of (act_code line) ≤ cost code → Linked links code i (turns_of bl j p limit condition line c) → LimitWaits limit most t bl.taken.words → t (bl.taken.words + 1) ≡ word step → Serving k s v old → AllHold s block types n → ((b : Base) → At b (i + size_of (word_stored (outermost e) (in_turns bl.taken) (whole (own block j)))) (Known (bl.ground n) v h t nothing b) (f b)) → Behind bl k h t (i + size_of (turns_of bl j p limit condition line c)) aims → Enough bl links k around.turns i h t v.world.acts aims.jumped → Comes code credits f v aims (repeated_while turns (M.turn_due (at_line around line) (counting block j p) most step condition) (part >> (M.stepped (at_line around line) (counting block j p) step)) k s)
+head_piece : {e : Environment} {block : ℕ} {types : Types} (bl : Block e block types) {links : Links} {code : List Instr} (routines : Standing bl links code) (around : Around) (j p : ℕ) (limit : Option Y.Number) (most : Option ℤ) (step : ℤ) (condition : Option Y.Bit) (line : ℕ) (c : Code) (part : Meaning (Unit {0})) → slice_get types j ≡ Some (Y.FixedLeaf p) → IsWide step → IsProvedBitIf block types condition → bl.taken.words + 3 ≤ bl.words → bl.taken.words + 2 + bit_if condition ≤ bl.words → line < 2 ^ 31 → Does (turning bl) links code around.turns c part → (turns : ℕ) {i : ℕ} {s : State} {v : Services} {h t : ℕ → ℕ} {aims : Aims (Unit {0})} (closed : Closed code aims) (credits old : ℕ) (n : ℕ → ℤ) (f : Family) (k : ℕ) → k < turns + v.world.acts → credits + size_of (act_code line) ≤ cost code → Linked links code i (turns_of bl j p limit condition line c) → LimitWaits limit most t bl.taken.words → t (bl.taken.words + 1) ≡ word step → Serving k s v old → AllHold (suc e.level) s block types n → ((b : Base) → At b (i + size_of (word_stored e (in_turns bl.taken) (whole (own block j)))) (Known (bl.ground n) v h t nothing b) (f b)) → Behind bl k h t (i + size_of (turns_of bl j p limit condition line c)) aims → Enough bl links k around.turns i h t v.world.acts aims.jumped aims.returned → Comes code credits f v aims (repeated_while turns (M.turn_due (at_line around line) (counting block j p) most step condition) (part >> (M.stepped (at_line around line) (counting block j p) step)) k s)
 unfolding repeated_while M.turn_due ◌>>=◌ ◌>>◌ give stuck choose
 head_piece bl routines around j p limit most step condition line c part below ws is room room' fits inner zero closed credits old n f k enough paid l waits at_step serving all at goal more =
     absurd (let a = serving.allowed in omega (arith, a, enough))
@@ -182,12 +188,12 @@ head_piece {e} {block} {types} bl {links} {code} routines around j p limit most 
     let here = at_line around line in
     let target = whole (own block j) in
     let w = bl.taken.words in
-    let st = word_stored (outermost e) (in_turns bl.taken) target in
+    let st = word_stored e (in_turns bl.taken) target in
     let ac = act_code line in
-    let u = turn_of (outermost e) bl.taken (counting block j p) limit condition line c in
-    let lim = limit_kept (outermost e) bl.taken (counting block j p) limit (words_behind_limit u) in
-    let con = while_kept (outermost e) bl.taken condition (words_behind_condition u) in
-    let sp = stepped_code (outermost e) bl.taken (counting block j p) line in
+    let u = turn_of e bl.taken (counting block j p) limit condition line c in
+    let lim = limit_kept e bl.taken (counting block j p) limit (words_behind_limit u) in
+    let con = while_kept e bl.taken condition (words_behind_condition u) in
+    let sp = stepped_code e bl.taken (counting block j p) line in
     let jump = JumpBack (words_back u) ∷ [] in
     let rest = lim ++ (con ++ (c ++ (sp ++ jump))) in
     let lb = front_of (st ++ ac) rest l in
@@ -205,8 +211,8 @@ head_piece {e} {block} {types} bl {links} {code} routines around j p limit most 
     let s3 = size_append con (c ++ (sp ++ jump)) in
     let s4 = size_append c (sp ++ jump) in
     let s5 = size_append sp jump in
-    let b1 = limit_size (outermost e) bl.taken (counting block j p) limit (words_behind_limit u) 0 in
-    let b2 = condition_size (outermost e) bl.taken condition (words_behind_condition u) 0 in
+    let b1 = limit_size e bl.taken (counting block j p) limit (words_behind_limit u) 0 in
+    let b2 = condition_size e bl.taken condition (words_behind_condition u) 0 in
     let i3 = i1 + size_of lim + size_of con in
     let i5 = i3 + size_of c + size_of sp in
     let end' = i + size_of (turns_of bl j p limit condition line c) in
@@ -228,7 +234,7 @@ head_piece {e} {block} {types} bl {links} {code} routines around j p limit most 
     (λ f1 serving1 at1.
     let s' = with_world (counted s.world) s in
     let v' = acted line v in
-    let all1 : AllHold s' block types n = λ j' b'. counted_holds _ (all j' b') in
+    let all1 : AllHold (suc e.level) s' block types n = counted_all _ all in
     comes_on k (M.within_limit here (counting block j p) most step k s') conditions
     (within_piece bl routines here j p limit most step (words_behind_limit u) (before_closed k conditions (before_closed k branch closed)) n f1 k below waits ws at_step (omega (arith, room)) (omega (arith, inside, over1)) (front_of lim (con ++ (c ++ (sp ++ jump))) l1) serving1 all1 at1 (
       (λ f2 h2 t2 stays2 at2.
@@ -240,7 +246,7 @@ head_piece {e} {block} {types} bl {links} {code} routines around j p limit most 
                 (inner.does (since_closed acts1 (before_closed k steps (before_closed k goes closed))) line n f3 k (front_of c (sp ++ jump) l3) serving1 all1 at3
                 (λ s4' v4 line4 n4 h4 t4 f4 serving4 all4 stays4 at4 grown.
                 let stays04 = stays_then stays2 (stays_then stays3 stays4) in
-                stepping_piece bl routines around line j p step (before_closed k goes closed) n4 f4 line4 k fits (all4 j (Y.FixedLeaf p, below)).fits.0 below ws (stays04.words (w + 1) (omega arith) ∙ at_step) room (front_of sp jump l4) serving4 all4 at4
+                stepping_piece bl routines around line j p step (before_closed k goes closed) n4 f4 line4 k fits (all4.numbers j (Y.FixedLeaf p, below)).fits.0 below ws (stays04.words (w + 1) (omega arith) ∙ at_step) room (front_of sp jump l4) serving4 all4 at4
                 (λ z f5 h5 t5 wz stays5 serving5 at5.
                 onward (before_closed k goes closed) (back_piece i5 f5 (words_back u) i back (record { reserved_stay = λ y x. refl; known_stay = λ b y x q. q; set = λ y x. refl }) (back_of sp jump l4) at5)
                 (λ f6 at6.
@@ -249,8 +255,8 @@ head_piece {e} {block} {types} bl {links} {code} routines around j p limit most 
                 let stays07 = stays_then stays04 (stays_then stays5 stays7) in
                 head_piece bl routines around j p limit most step condition line c part below ws is room room' fits inner turns closed (i5 + 2 + size_of st) line (with_number_at n4 j z) f7 k (omega (arith, enough, grown)) (omega (arith, inside, ends, s0, s1)) l
                 (limit_stays limit most t t7 w (stays07.words w (omega arith)) waits) (stays07.words (w + 1) (omega arith) ∙ at_step)
-                (record { world = serving5.world; running = serving5.running; line_is = serving5.line_is; allowed = serving5.allowed; fits = serving5.fits; entered = serving5.entered; alone = serving5.alone; alone_served = serving5.alone_served })
-                (λ j' b'. holds_assigned types n4 z below wz (all4 j (Y.FixedLeaf p, below)) all4 j' b') at7
+                (record { world = serving5.world; running = serving5.running; line_is = serving5.line_is; input = serving5.input; allowed = serving5.allowed; fits = serving5.fits; nested = serving5.nested; waiting = serving5.waiting })
+                (assigned_all j z below wz all4) at7
                 (λ s8 v8 line8 n8 h8 t8 f8 serving8 all8 stays8 at8. goal s8 v8 line8 n8 h8 t8 f8 serving8 all8 (stays_then (stays_fewer 2 stays07) stays8) at8)
                 (further more (omega arith) (omega (arith, grown)) (stays_fewer 2 stays07))))))
                 (turning_enough bl (further more (omega arith) (omega arith) (stays_fewer 2 (stays_then stays2 stays3)))))))),
@@ -280,9 +286,9 @@ other_place : (i k : ℕ) → k < i → (i == k) ≡ false
 other_place i k h = grind (arith, nat_tests)
 
 -- a number is evaluated while three words may wait, and kept in one of them
-number_kept : {links : Links} {code : List Instr} {i : ℕ} {v : Services} {h t : ℕ → ℕ} {s : State} {aims : Aims ℤ} {e : Environment} {block : ℕ} {types : Types} (bl : Block e block types) (routines : Standing bl links code) (around : Around) (x : Y.Number) (n : ℕ → ℤ) (j : ℕ) (closed : Closed code aims) (f : Family) (k : ℕ) → IsProvedNumber block types x → bl.taken.words + 3 + number_words x ≤ bl.words → j < bl.words → Linked links code i (number_code (outermost e) (before_turns bl.taken) x ++ store_word frame_register a0 (words_place j 1)) → Serving k s v around.line → AllHold s block types n → ((b : Base) → At b i (Known (bl.ground n) v h t nothing b) (f b)) → ((z : ℤ) (f' : Family) (h' t' : ℕ → ℕ) → IsWide z → Stays (before_turns bl.taken) h t h' t' → ((b : Base) → At b (i + size_of (number_code (outermost e) (before_turns bl.taken) x ++ store_word frame_register a0 (words_place j 1))) (Known (bl.ground n) v h' (put t' j (word z)) nothing b) (f' b)) → aims.done (i + size_of (number_code (outermost e) (before_turns bl.taken) x ++ store_word frame_register a0 (words_place j 1))) f' v z s) → Comes code i f v aims (V.number around x k s)
+number_kept : {links : Links} {code : List Instr} {i : ℕ} {v : Services} {h t : ℕ → ℕ} {s : State} {aims : Aims ℤ} {e : Environment} {block : ℕ} {types : Types} (bl : Block e block types) (routines : Standing bl links code) (around : Around) (x : Y.Number) (n : ℕ → ℤ) (j : ℕ) (closed : Closed code aims) (f : Family) (k : ℕ) → IsProvedNumber block types x → bl.taken.words + 3 + number_words x ≤ bl.words → j < bl.words → Linked links code i (number_code e (before_turns bl.taken) x ++ store_word frame_register a0 (words_place j 1)) → Serving k s v around.line → AllHold (suc e.level) s block types n → ((b : Base) → At b i (Known (bl.ground n) v h t nothing b) (f b)) → ((z : ℤ) (f' : Family) (h' t' : ℕ → ℕ) → IsWide z → Stays (before_turns bl.taken) h t h' t' → ((b : Base) → At b (i + size_of (number_code e (before_turns bl.taken) x ++ store_word frame_register a0 (words_place j 1))) (Known (bl.ground n) v h' (put t' j (word z)) nothing b) (f' b)) → aims.done (i + size_of (number_code e (before_turns bl.taken) x ++ store_word frame_register a0 (words_place j 1))) f' v z s) → Comes code i f v aims (V.number around x k s)
 number_kept {i = i} {v = v} {s = s} {aims = aims} {e = e} bl routines around x n j closed f k is room inside l serving all at goal =
-    let a = number_code (outermost e) (before_turns bl.taken) x in
+    let a = number_code e (before_turns bl.taken) x in
     let c = store_word frame_register a0 (words_place j 1) in
     let size = size_append a c in
     let place : i + size_of a + size_of c ≡ i + size_of (a ++ c) = omega (arith, size) in
@@ -294,7 +300,7 @@ number_kept {i = i} {v = v} {s = s} {aims = aims} {e = e} bl routines around x n
     (subst (λ u. aims.done u (reached r) v z s) (sym place)
     (goal z (reached r) h1 t1 wz stays (λ b. record { pc = (reached_holds r b).pc ∙ ap (address b) place; holds = (reached_holds r b).holds }))))
 
-limit_kept_piece : {links : Links} {code : List Instr} {i : ℕ} {v : Services} {h t : ℕ → ℕ} {s : State} {aims : Aims (Option ℤ)} {e : Environment} {block : ℕ} {types : Types} (bl : Block e block types) (routines : Standing bl links code) (around : Around) (limit : Option Y.Number) (n : ℕ → ℤ) (closed : Closed code aims) (f : Family) (k : ℕ) → IsProvedNumberIf block types limit → bl.taken.words + 3 + number_if limit ≤ bl.words → Linked links code i (limit_code (outermost e) bl.taken limit) → Serving k s v around.line → AllHold s block types n → ((b : Base) → At b i (Known (bl.ground n) v h t nothing b) (f b)) → ((most : Option ℤ) (f' : Family) (h' t' : ℕ → ℕ) → LimitWaits limit most t' bl.taken.words → Stays bl.taken h t h' t' → t' (bl.taken.words + 2) ≡ t (bl.taken.words + 2) → ((b : Base) → At b (i + size_of (limit_code (outermost e) bl.taken limit)) (Known (bl.ground n) v h' t' nothing b) (f' b)) → aims.done (i + size_of (limit_code (outermost e) bl.taken limit)) f' v most s) → Comes code i f v aims (M.limit_of around limit k s)
+limit_kept_piece : {links : Links} {code : List Instr} {i : ℕ} {v : Services} {h t : ℕ → ℕ} {s : State} {aims : Aims (Option ℤ)} {e : Environment} {block : ℕ} {types : Types} (bl : Block e block types) (routines : Standing bl links code) (around : Around) (limit : Option Y.Number) (n : ℕ → ℤ) (closed : Closed code aims) (f : Family) (k : ℕ) → IsProvedNumberIf block types limit → bl.taken.words + 3 + number_if limit ≤ bl.words → Linked links code i (limit_code e bl.taken limit) → Serving k s v around.line → AllHold (suc e.level) s block types n → ((b : Base) → At b i (Known (bl.ground n) v h t nothing b) (f b)) → ((most : Option ℤ) (f' : Family) (h' t' : ℕ → ℕ) → LimitWaits limit most t' bl.taken.words → Stays bl.taken h t h' t' → t' (bl.taken.words + 2) ≡ t (bl.taken.words + 2) → ((b : Base) → At b (i + size_of (limit_code e bl.taken limit)) (Known (bl.ground n) v h' t' nothing b) (f' b)) → aims.done (i + size_of (limit_code e bl.taken limit)) f' v most s) → Comes code i f v aims (M.limit_of around limit k s)
 unfolding M.limit_of ◌>>=◌ give
 limit_kept_piece {i = i} {v = v} {h = h} {t = t} {s = s} {aims = aims} bl routines around None n closed f k is room l serving all at goal =
     let same : i ≡ i + 0 = omega arith in
@@ -318,7 +324,7 @@ abbrev count_rest : Around → (line : ℕ) → Y.Counter → Option Y.Number �
 count_rest around line counter limit step condition part value =
     (M.limit_of (at_line around line) limit) >>= (λ most. (V.number (at_line around line) step) >>= (λ by. (M.counter_started (at_line around line) counter value) >>= (λ first. (M.assigned (at_line around line) (M.reference_of counter) first) >> (repeated_while around.turns (M.turn_due (at_line around line) counter most by condition) (part >> (M.stepped (at_line around line) counter by))))))
 
-pub count_does : {e : Environment} {block : ℕ} {types : Types} (bl : Block e block types) (links : Links) (code : List Instr) (routines : Standing bl links code) (around : Around) (j precision p : ℕ) (x : Y.Number) (limit : Option Y.Number) (step : Y.Number) (condition : Option Y.Bit) (body : Y.Stmts) (line : ℕ) → slice_get types j ≡ Some (Y.FixedLeaf precision) → IsProvedNumber block types x → IsProvedNumberIf block types limit → IsProvedNumber block types step → IsProvedBitIf block types condition → bl.taken.words + 3 + number_words x ≤ bl.words → bl.taken.words + 3 + number_if limit ≤ bl.words → bl.taken.words + 3 + number_words step ≤ bl.words → bl.taken.words + 2 + bit_if condition ≤ bl.words → line < 2 ^ 31 → Does (turning bl) links code around.turns (stmts_code (outermost e) (in_turns bl.taken) body) (M.list around body) → Does bl links code around.turns (stmt_code (outermost e) bl.taken (Y.DoCount (counting block j precision) (Y.NumberValue p x) limit step condition body line)) (M.statement around (Y.DoCount (counting block j precision) (Y.NumberValue p x) limit step condition body line))
+pub count_does : {e : Environment} {block : ℕ} {types : Types} (bl : Block e block types) (links : Links) (code : List Instr) (routines : Standing bl links code) (around : Around) (j precision p : ℕ) (x : Y.Number) (limit : Option Y.Number) (step : Y.Number) (condition : Option Y.Bit) (body : Y.Stmts) (line : ℕ) → slice_get types j ≡ Some (Y.FixedLeaf precision) → IsProvedNumber block types x → IsProvedNumberIf block types limit → IsProvedNumber block types step → IsProvedBitIf block types condition → bl.taken.words + 3 + number_words x ≤ bl.words → bl.taken.words + 3 + number_if limit ≤ bl.words → bl.taken.words + 3 + number_words step ≤ bl.words → bl.taken.words + 2 + bit_if condition ≤ bl.words → line < 2 ^ 31 → Does (turning bl) links code around.turns (stmts_code e (in_turns bl.taken) body) (M.list around body) → Does bl links code around.turns (stmt_code e bl.taken (Y.DoCount (counting block j precision) (Y.NumberValue p x) limit step condition body line)) (M.statement around (Y.DoCount (counting block j precision) (Y.NumberValue p x) limit step condition body line))
 unfolding M.statement M.list V.computational M.counter_started M.counter_value R.or_error ◌>>=◌ ◌>>◌ give
 count_does {e} {block} {types} bl links code routines around j precision p x limit step condition body line below isx isl iss isc roomx rooml rooms roomc fits inner =
     record {
@@ -328,11 +334,11 @@ count_does {e} {block} {types} bl links code routines around j precision p x lim
           let counter = counting block j precision in
           let w = bl.taken.words in
           let a = act_code line in
-          let c0 = start_code (outermost e) bl.taken (Y.NumberValue p x) in
-          let c1 = limit_code (outermost e) bl.taken limit in
-          let c2 = step_code (outermost e) bl.taken step in
+          let c0 = start_code e bl.taken (Y.NumberValue p x) in
+          let c1 = limit_code e bl.taken limit in
+          let c2 = step_code e bl.taken step in
           let c3 = start_loaded bl.taken in
-          let c = stmts_code (outermost e) (in_turns bl.taken) body in
+          let c = stmts_code e (in_turns bl.taken) body in
           let turns' = turns_of bl j precision limit condition line c in
           let c4 = fitted_code (in_turns bl.taken) precision in
           let ahead = c0 ++ (c1 ++ (c2 ++ (c3 ++ c4))) in
@@ -352,8 +358,8 @@ count_does {e} {block} {types} bl links code routines around j precision p x lim
           let begins : i0 + size_of ahead ≡ i4 = omega (arith, s2, s3, s4, s5) in
           let lt = linked_at i4 turns' begins (back_of ahead turns' l0) in
           let place : i4 + size_of turns' ≡ i + size_of (a ++ (ahead ++ turns')) = omega (arith, s0, s1, begins) in
-          let st = word_stored (outermost e) (in_turns bl.taken) target in
-          let u = turn_of (outermost e) bl.taken counter limit condition line c in
+          let st = word_stored e (in_turns bl.taken) target in
+          let u = turn_of e bl.taken counter limit condition line c in
           let begun = st ++ act_code line in
           let rest = turn_rest bl j precision limit condition line c in
           let lst = front_of st (act_code line) (front_of begun rest lt) in
@@ -365,14 +371,14 @@ count_does {e} {block} {types} bl links code routines around j precision p x lim
           let behind' = count_rest around line counter limit step condition part in
           let next' : Unit {0} → Meaning (Unit {0}) = λ q. (V.computational here (Y.NumberValue p x)) >>= behind' in
           let as_stored : ℤ → Meaning BasicValue = λ z. give (BasicNumber z) in
-          let few : precision ≤ 31 = (all j (Y.FixedLeaf precision, below)).fits.0 in
+          let few : precision ≤ 31 = (all.numbers j (Y.FixedLeaf precision, below)).fits.0 in
           let as_value : ℤ → Meaning V.Computational = λ z. give (V.ComputationalNumber p z) in
           comes_on k (act counted k s) next'
           (act_piece (before_closed k next' closed) f line old k fits (front_of a (ahead ++ turns') l) serving at
           (λ f1 serving1 at1.
           let s' = with_world (counted s.world) s in
           let v' = acted line v in
-          let all1 : AllHold s' block types n = λ j' b'. counted_holds _ (all j' b') in
+          let all1 : AllHold (suc e.level) s' block types n = counted_all _ all in
           comes_on k (V.computational here (Y.NumberValue p x) k s') behind'
           (comes_on k (V.number here x k s') as_value
           (number_kept bl routines here x n (w + 2) (before_closed k as_value (before_closed k behind' closed)) f1 k isx roomx (omega (arith, roomx)) (front_of c0 (c1 ++ (c2 ++ (c3 ++ c4))) lc) serving1 all1 at1
@@ -393,7 +399,7 @@ count_does {e} {block} {types} bl links code routines around j precision p x lim
                 let loop = repeated_while around.turns (M.turn_due here counter most by condition) (part >> (M.stepped here counter by)) in
                 let goes : Unit {0} → Meaning (Unit {0}) = λ q. loop in
                 let store : BasicValue → Meaning (Unit {0}) = λ first. (M.assigned here target first) >> loop in
-                onward closed (read_piece (bl.temps n) (i0 + size_of c0 + size_of c1 + size_of c2) f4 a0 (w + 2) (word z0) (omega (arith, roomx, words)) start5 (record { reserved_stay = λ y q. refl; known_stay = λ b y q o. o; set = λ y q. refl }) (record { reserved_stay = λ y q. refl; known_stay = λ b y q o. o; set = λ y q. refl }) (front_of c3 c4 l3) at4)
+                onward closed (read_piece (bl.temps n) (i0 + size_of c0 + size_of c1 + size_of c2) f4 a0 (w + 2) (word z0) (omega (arith, roomx, words)) (word_small z0 wz0) start5 (record { reserved_stay = λ y q. refl; known_stay = λ b y q o. o; set = λ y q. refl }) (record { reserved_stay = λ y q. refl; known_stay = λ b y q o. o; set = λ y q. refl }) (front_of c3 c4 l3) at4)
                 (λ f5 at5.
                 comes_on k (M.counter_started here counter (V.ComputationalNumber p z0) k s') store
                 (comes_on k (R.value_of here (checked precision z0) k s') as_stored
@@ -410,8 +416,8 @@ count_does {e} {block} {types} bl links code routines around j precision p x lim
                       head_piece bl routines around j precision limit most by condition line c part below wby isc (omega (arith, roomx)) roomc fits inner around.turns closed (i4 + size_of st) line (with_number_at n j z0) f6 k (let q = more.enough in omega (arith, q)) (omega (arith, inside, s6, s7)) lt
                       (limit_stays limit most t3 t6 w (stays6.words w (omega arith) ∙ put_other t4 (w + 1) (word by) w (omega arith) ∙ stays4.words w (omega arith)) waits)
                       (stays6.words (w + 1) (omega arith) ∙ put_same t4 (w + 1) (word by))
-                      (record { world = serving1.world; running = serving1.running; line_is = serving1.line_is; allowed = serving1.allowed; fits = serving1.fits; entered = serving1.entered; alone = serving1.alone; alone_served = serving1.alone_served })
-                      (λ j' b'. holds_assigned types n z0 below (few, fits5) (all1 j (Y.FixedLeaf precision, below)) all1 j' b') at6
+                      (record { world = serving1.world; running = serving1.running; line_is = serving1.line_is; input = serving1.input; allowed = serving1.allowed; fits = serving1.fits; nested = serving1.nested; waiting = serving1.waiting })
+                      (assigned_all j z0 below (few, fits5) all1) at6
                       (λ s7' v7 line7 n7 h7 t7 f7 serving7 all7 stays7 at7.
                       subst (λ q. aims.done q f7 v7 tt s7') (sym place)
                       (goal s7' v7 line7 n7 h7 t7 f7 serving7 all7 (stays_then before6 stays7) (λ b. record { pc = (at7 b).pc ∙ ap (address b) place; holds = (at7 b).holds })))

@@ -114,11 +114,11 @@ at_other_places places o =
       world = o.world;
       running = o.running;
       line_is = o.line_is;
+      input = o.input;
       allowed = o.allowed;
       fits = o.fits;
-      entered = o.entered;
-      alone = o.alone;
-      alone_served = o.alone_served;
+      nested = o.nested;
+      waiting = o.waiting;
     }
 
 abbrev pub shown_state : List ℕ → State → State

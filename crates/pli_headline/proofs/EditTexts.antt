@@ -45,11 +45,11 @@ at_other_texts texts o =
       world = o.world;
       running = o.running;
       line_is = o.line_is;
+      input = o.input;
       allowed = o.allowed;
       fits = o.fits;
-      entered = o.entered;
-      alone = o.alone;
-      alone_served = o.alone_served;
+      nested = o.nested;
+      waiting = o.waiting;
     }
 
 -- ---- 21: a number or a bit as a text

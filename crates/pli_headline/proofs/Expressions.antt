@@ -1,13 +1,13 @@
 -- Expressions of numbers, bits and texts: the code leaves the word of the meaning's value in a0, or a text on the stack of texts,
 -- or the run ends with it.
 use Rattle.std.proofs.Common.{◌≡◌, ℕ, ◌+◌, ◌^◌, ◌<◌, ◌≤◌, List, [], ◌∷◌, Some, Bool, true, false, refl, sym, ap, ◌∙◌, subst, arith, lit<}
-use Rattle.std.specs.Prelude.{ℤ, pos, max, slice_get}
+use Rattle.std.specs.Prelude.{ℤ, pos, max, slice_get, ◌==◌}
 use Rattle.std.proofs.lemmas.Bool.Decides.{nat_tests}
 use Rattle.std.proofs.Math.Nat.{le-max_left, le-max_right}
 use Rattle.rv_meaning.specs.declared.instr.Instr.{Instr}
 use Rattle.rv_meaning.specs.Words.{word, flag}
 use Rattle.rv_meaning.specs.Memory.{load}
-use Rattle.rv_meaning.specs.Machine.{load_width, extended}
+use Rattle.rv_meaning.specs.Machine.{memory_size, load_width, extended}
 use Rattle.pli_typing.specs.TypedTree as Y
 use Rattle.pli_meaning.specs.Texts.{bit_number}
 use Rattle.pli_meaning.specs.StorageState.{State}
@@ -27,8 +27,9 @@ use Rattle.pli_headline.specs.ProvedSoFar.{Types, IsOwn, IsOwnNumber, IsProvedNu
 use Rattle.pli_headline.proofs.Engine.{Base}
 use Rattle.pli_headline.proofs.Items.{Linked, At, straight}
 use Rattle.pli_headline.proofs.Numbers.{IsWide, word_small}
-use Rattle.pli_headline.proofs.Bodies.{Ground, Known, Free, PlaceOf, zero_is, constant_piece, narrow_load_piece}
+use Rattle.pli_headline.proofs.Bodies.{Ground, Known, Free, PlaceFrom, zero_is, constant_piece}
 use Rattle.pli_headline.proofs.Temporaries.{Temporaries, stays_same, nothing}
+use Rattle.pli_headline.proofs.Reaching.{Reaches, read_based}
 use Rattle.pli_headline.proofs.Calls.{Serving}
 use Rattle.pli_headline.proofs.Raising.{Routines, small_is}
 use Rattle.pli_headline.proofs.StandingBytes.{ConstantsStand}
@@ -44,15 +45,18 @@ use Rattle.pli_headline.proofs.Scalars.{bit_of, bit_wide, bit_word, fits_wide, l
 use Rattle.pli_headline.proofs.EditTexts.{at_other_texts}
 use Rattle.pli_headline.proofs.Texts.{EvaluatesText, constant_evaluates, number_evaluates_text, bit_evaluates_text, joined_evaluates, from_evaluates, part_evaluates}
 use Rattle.pli_headline.proofs.TextValues.{one_finishes, two_finish, length_finishes, index_finishes, verify_finishes, number_finishes, bit_finishes, compare_finishes}
-use Rattle.pli_headline.proofs.Variables.{HoldsScalar, IsDeclared, whole, own, number_gives, bit_gives, outermost, data_place, scalar_loaded, number_loaded, bit_loaded}
+use Rattle.pli_headline.proofs.Variables.{HoldsScalar, IsDeclared, whole, own, number_gives, bit_gives, data_place, scalar_loaded, number_loaded, bit_loaded}
 use Rattle.pli_headline.proofs.Reach.{Family, Aims, Comes, Closed, onward}
 
 -- the variables of a block, in the meaning and in memory
 pub record Scope (g : Ground) (e : Environment) (block : ℕ) (types : Types) (s : State) (numbers : ℕ → ℤ) : Type 0 where
   pub declared : (j : ℕ) {type : Y.LeafType} → slice_get types j ≡ Some type → IsDeclared e block j type
   pub holds : (j : ℕ) {type : Y.LeafType} → slice_get types j ≡ Some type → HoldsScalar s (own block j) type (numbers j)
-  pub places : (j : ℕ) {type : Y.LeafType} → slice_get types j ≡ Some type → PlaceOf g (pos (data_place e block j)) (g.frame + data_place e block j)
-  pub reads : (j : ℕ) {type : Y.LeafType} → slice_get types j ≡ Some type → (t : ℕ → ℕ) (b : Base) (m : List ℕ) → g.memory t b m → extended (load_kind type) (load (load_width (load_kind type)) m (g.frame + data_place e block j)) ≡ word (numbers j)
+  pub base : ℕ
+  pub within : base < memory_size
+  pub reach : Reaches (0 == e.level) g base
+  pub places : (j : ℕ) {type : Y.LeafType} → slice_get types j ≡ Some type → PlaceFrom base (pos (data_place e block j)) (base + data_place e block j)
+  pub reads : (j : ℕ) {type : Y.LeafType} → slice_get types j ≡ Some type → (t : ℕ → ℕ) (b : Base) (m : List ℕ) → g.memory t b m → extended (load_kind type) (load (load_width (load_kind type)) m (base + data_place e block j)) ≡ word (numbers j)
 
 -- what stands around an expression
 pub record Setting (links : Links) (code : List Instr) (g : Ground) (v : Services) (s : State) (k : ℕ) (e : Environment) (block : ℕ) (types : Types) (numbers : ℕ → ℤ) (around : Around) : Type 0 where
@@ -72,12 +76,9 @@ above_texts texts st =
 constant_wide : (n : ℕ) → n < 2 ^ 31 → IsWide (pos n)
 constant_wide n h = grind (arith, nat_tests)
 
--- scratch registers may be written while nothing else is known
+-- a scratch register may be written while nothing else is known
 abbrev free_a0 : Free nothing 10
 free_a0 = record { reserved_stay = λ y u. refl; known_stay = λ b y u q. q; set = λ y u. refl }
-
-abbrev free_far : Free nothing 31
-free_far = record { reserved_stay = λ y u. refl; known_stay = λ b y u q. q; set = λ y u. refl }
 
 constant_does : {links : Links} {code : List Instr} {g : Ground} {v : Services} {s : State} {k : ℕ} (e : Environment) (around : Around) (n : ℕ) → n < 2 ^ 31 → Evaluates number_kind links code g v s k 0 (λ taken. number_code e taken (Y.NumberConstant n)) (V.number around (Y.NumberConstant n))
 unfolding V.number give
@@ -90,14 +91,14 @@ constant_does e around n is =
     }
 
 -- a variable of a type, read as a value of some kind
-own_piece : {X : Type 0} (kind : Kind X) {links : Links} {code : List Instr} {i : ℕ} {g : Ground} {v : Services} {h t : ℕ → ℕ} {s : State} {aims : Aims X} (closed : Closed code aims) (e : Environment) (block : ℕ) (types : Types) (numbers : ℕ → ℤ) (f : Family) (taken : Taken) (j k : ℕ) {type : Y.LeafType} (below : slice_get types j ≡ Some type) (x : X) → kind.Fits x → word (numbers j) ≡ kind.word_of x → (scope : Scope g e block types s numbers) → Linked links code i (scalar_loaded type (data_place e block j)) → ((b : Base) → At b i (Known g v h t nothing b) (f b)) → Valued kind g taken h t v s (i + size_of (scalar_loaded type (data_place e block j))) aims → Comes code i f v aims (give x k s)
+own_piece : {X : Type 0} (kind : Kind X) {links : Links} {code : List Instr} {i : ℕ} {g : Ground} {v : Services} {h t : ℕ → ℕ} {s : State} {aims : Aims X} (closed : Closed code aims) (e : Environment) (block : ℕ) (types : Types) (numbers : ℕ → ℤ) (f : Family) (taken : Taken) (j k : ℕ) {type : Y.LeafType} (below : slice_get types j ≡ Some type) (x : X) → kind.Fits x → word (numbers j) ≡ kind.word_of x → (scope : Scope g e block types s numbers) → Linked links code i (scalar_loaded type e (data_place e block j)) → ((b : Base) → At b i (Known g v h t nothing b) (f b)) → Valued kind g taken h t v s (i + size_of (scalar_loaded type e (data_place e block j))) aims → Comes code i f v aims (give x k s)
 unfolding give
 own_piece kind {i = i} {h = h} {t = t} closed e block types numbers f taken j k {type} below x fits same scope l at goal =
     let place = data_place e block j in
-    let r = narrow_load_piece i f a0 (load_kind type) (pos place) _ (λ b. word (numbers j)) (scope.places j below) (λ b m o. scope.reads j below t b m o) free_a0 free_far l at in
+    let r = read_based (0 == e.level) i f scope.base (load_kind type) (pos place) (scope.base + place) (λ b. word (numbers j)) scope.reach scope.within (scope.places j below) (λ b m o. scope.reads j below t b m o) l at in
     onward closed r (λ f' at'. record { to = goal x f' h t fits (stays_same taken h t) (λ b. record { pc = (at' b).pc; holds = record { body = (at' b).holds.body; regs = ((at' b).holds.regs.0 ∙ same, tt) } }) })
 
-own_does : {links : Links} {code : List Instr} {g : Ground} {v : Services} {s : State} {k : ℕ} {e : Environment} {block : ℕ} {types : Types} {numbers : ℕ → ℤ} (around : Around) (r : Y.Reference) (words : ℕ) → IsOwnNumber block types r → Scope g e block types s numbers → Evaluates number_kind links code g v s k words (λ taken. number_code (outermost e) taken (Y.NumberIn r)) (V.number around (Y.NumberIn r))
+own_does : {links : Links} {code : List Instr} {g : Ground} {v : Services} {s : State} {k : ℕ} {e : Environment} {block : ℕ} {types : Types} {numbers : ℕ → ℤ} (around : Around) (r : Y.Reference) (words : ℕ) → IsOwnNumber block types r → Scope g e block types s numbers → Evaluates number_kind links code g v s k words (λ taken. number_code e taken (Y.NumberIn r)) (V.number around (Y.NumberIn r))
 own_does {links} {code} {g} {v} {s} {k} {e} {block} {types} {numbers} around r words is scope =
     record {
       does = λ {i} {h} {t} {aims} closed f taken room l at goal.
@@ -105,30 +106,30 @@ own_does {links} {code} {g} {v} {s} {k} {e} {block} {types} {numbers} around r w
           let j = is.own.index in
           let holds = scope.holds j is.own.declared in
           let eq = number_loaded e taken block j p (scope.declared j is.own.declared) in
-          let loaded = scalar_loaded (Y.FixedLeaf p) (data_place e block j) in
+          let loaded = scalar_loaded (Y.FixedLeaf p) e (data_place e block j) in
           let P : Code → Type 0 = λ c. Linked links code i c → Valued number_kind g taken h t v s (i + size_of c) aims → Comes code i f v aims (V.number around (Y.NumberIn (whole (own block j))) k s) in
           let q : P loaded = λ l' goal'.
           subst (Comes code i f v aims) (sym (number_gives around s (own block j) p (numbers j) k holds))
           (own_piece number_kind closed e block types numbers f taken j k is.own.declared (numbers j) (fits_wide (Y.FixedLeaf p) (numbers j) holds.fits) refl scope l' at goal') in
-          let T : Y.Reference → Type 0 = λ u. Linked links code i (number_code (outermost e) taken (Y.NumberIn u)) → Valued number_kind g taken h t v s (i + size_of (number_code (outermost e) taken (Y.NumberIn u))) aims → Comes code i f v aims (V.number around (Y.NumberIn u) k s) in
+          let T : Y.Reference → Type 0 = λ u. Linked links code i (number_code e taken (Y.NumberIn u)) → Valued number_kind g taken h t v s (i + size_of (number_code e taken (Y.NumberIn u))) aims → Comes code i f v aims (V.number around (Y.NumberIn u) k s) in
           let w : T (whole (own block j)) = subst P (sym eq) q in
           subst T (sym is.own.is) w l goal;
     }
 
-own_bit_does : {links : Links} {code : List Instr} {g : Ground} {v : Services} {s : State} {k : ℕ} {e : Environment} {block : ℕ} {types : Types} {numbers : ℕ → ℤ} (around : Around) (r : Y.Reference) (words : ℕ) → IsOwn block types Y.BitLeaf r → Scope g e block types s numbers → Evaluates bit_kind links code g v s k words (λ taken. bit_code (outermost e) taken (Y.BitIn r)) (V.bit around (Y.BitIn r))
+own_bit_does : {links : Links} {code : List Instr} {g : Ground} {v : Services} {s : State} {k : ℕ} {e : Environment} {block : ℕ} {types : Types} {numbers : ℕ → ℤ} (around : Around) (r : Y.Reference) (words : ℕ) → IsOwn block types Y.BitLeaf r → Scope g e block types s numbers → Evaluates bit_kind links code g v s k words (λ taken. bit_code e taken (Y.BitIn r)) (V.bit around (Y.BitIn r))
 own_bit_does {links} {code} {g} {v} {s} {k} {e} {block} {types} {numbers} around r words is scope =
     record {
       does = λ {i} {h} {t} {aims} closed f taken room l at goal.
           let j = is.index in
           let holds = scope.holds j is.declared in
           let eq = bit_loaded e taken block j (scope.declared j is.declared) in
-          let loaded = scalar_loaded Y.BitLeaf (data_place e block j) in
+          let loaded = scalar_loaded Y.BitLeaf e (data_place e block j) in
           let same : word (numbers j) ≡ flag (bit_of (numbers j)) = ap word holds.fits ∙ sym (bit_word (bit_of (numbers j))) in
           let P : Code → Type 0 = λ c. Linked links code i c → Valued bit_kind g taken h t v s (i + size_of c) aims → Comes code i f v aims (V.bit around (Y.BitIn (whole (own block j))) k s) in
           let q : P loaded = λ l' goal'.
           subst (Comes code i f v aims) (sym (bit_gives around s (own block j) (numbers j) k holds))
           (own_piece bit_kind closed e block types numbers f taken j k is.declared (bit_of (numbers j)) tt same scope l' at goal') in
-          let T : Y.Reference → Type 0 = λ u. Linked links code i (bit_code (outermost e) taken (Y.BitIn u)) → Valued bit_kind g taken h t v s (i + size_of (bit_code (outermost e) taken (Y.BitIn u))) aims → Comes code i f v aims (V.bit around (Y.BitIn u) k s) in
+          let T : Y.Reference → Type 0 = λ u. Linked links code i (bit_code e taken (Y.BitIn u)) → Valued bit_kind g taken h t v s (i + size_of (bit_code e taken (Y.BitIn u))) aims → Comes code i f v aims (V.bit around (Y.BitIn u) k s) in
           let w : T (whole (own block j)) = subst P (sym eq) q in
           subst T (sym is.is) w l goal;
     }
@@ -151,8 +152,8 @@ bit_does' {g = g} {v = v} n b few e =
 mutual
   unfolding V.number V.numbers V.bit V.text ◌>>=◌ give
 
-  pub number_does : (x : Y.Number) {links : Links} {code : List Instr} {g : Ground} {v : Services} {s : State} {k : ℕ} {e : Environment} {block : ℕ} {types : Types} {numbers : ℕ → ℤ} {around : Around} → Setting links code g v s k e block types numbers around → IsProvedNumber block types x → Evaluates number_kind links code g v s k (number_words x) (λ taken. number_code (outermost e) taken x) (V.number around x)
-  number_does (Y.NumberConstant n) {e = e} {around = around} st is = constant_does (outermost e) around n is
+  pub number_does : (x : Y.Number) {links : Links} {code : List Instr} {g : Ground} {v : Services} {s : State} {k : ℕ} {e : Environment} {block : ℕ} {types : Types} {numbers : ℕ → ℤ} {around : Around} → Setting links code g v s k e block types numbers around → IsProvedNumber block types x → Evaluates number_kind links code g v s k (number_words x) (λ taken. number_code e taken x) (V.number around x)
+  number_does (Y.NumberConstant n) {e = e} {around = around} st is = constant_does e around n is
   number_does (Y.NumberIn r) {around = around} st is = own_does around r (number_words (Y.NumberIn r)) is st.scope
   number_does (Y.NumberOfBit x) st is = read_evaluates bit_number (λ b fits. bit_wide b) bit_word (bit_does x st is)
   number_does (Y.Signed sign x) {around = around} st is =
@@ -190,12 +191,12 @@ mutual
   number_does (Y.AllocationsOf x) st is = absurd is
   number_does Y.OnCode st is = absurd is
 
-  pub numbers_do : (xs : Y.Numbers) (extremum : Y.Extremum) {links : Links} {code : List Instr} {g : Ground} {v : Services} {s : State} {k : ℕ} {e : Environment} {block : ℕ} {types : Types} {numbers : ℕ → ℤ} {around : Around} → Setting links code g v s k e block types numbers around → AreProvedNumbers block types xs → Follows links code g v s k (numbers_words xs) extremum (λ taken. extremes_code (outermost e) taken extremum xs) (V.numbers around xs)
+  pub numbers_do : (xs : Y.Numbers) (extremum : Y.Extremum) {links : Links} {code : List Instr} {g : Ground} {v : Services} {s : State} {k : ℕ} {e : Environment} {block : ℕ} {types : Types} {numbers : ℕ → ℤ} {around : Around} → Setting links code g v s k e block types numbers around → AreProvedNumbers block types xs → Follows links code g v s k (numbers_words xs) extremum (λ taken. extremes_code e taken extremum xs) (V.numbers around xs)
   numbers_do Y.NoNumber extremum st are = follows_none extremum
   numbers_do (Y.NumberThen first rest) extremum st are =
       follows_next st.temps (number_words first) (numbers_words rest) extremum (number_does first st are.0) (numbers_do rest extremum st are.1)
 
-  pub bit_does : (x : Y.Bit) {links : Links} {code : List Instr} {g : Ground} {v : Services} {s : State} {k : ℕ} {e : Environment} {block : ℕ} {types : Types} {numbers : ℕ → ℤ} {around : Around} → Setting links code g v s k e block types numbers around → IsProvedBit block types x → Evaluates bit_kind links code g v s k (bit_words x) (λ taken. bit_code (outermost e) taken x) (V.bit around x)
+  pub bit_does : (x : Y.Bit) {links : Links} {code : List Instr} {g : Ground} {v : Services} {s : State} {k : ℕ} {e : Environment} {block : ℕ} {types : Types} {numbers : ℕ → ℤ} {around : Around} → Setting links code g v s k e block types numbers around → IsProvedBit block types x → Evaluates bit_kind links code g v s k (bit_words x) (λ taken. bit_code e taken x) (V.bit around x)
   bit_does (Y.BitConstant true) st is = bit_does' 1 true (lit< tt) refl
   bit_does (Y.BitConstant false) st is = bit_does' 0 false (lit< tt) refl
   bit_does (Y.BitIn r) {around = around} st is = own_bit_does around r (bit_words (Y.BitIn r)) is st.scope
@@ -219,7 +220,7 @@ mutual
   bit_does (Y.PointersCompared equal left right) st is = absurd is
   bit_does (Y.OffsetsCompared equal left right) st is = absurd is
 
-  pub text_does : (x : Y.Text) {links : Links} {code : List Instr} {g : Ground} {v : Services} {s : State} {k : ℕ} {e : Environment} {block : ℕ} {types : Types} {numbers : ℕ → ℤ} {around : Around} → Setting links code g v s k e block types numbers around → IsProvedText block types x → EvaluatesText links code g v s k (text_words x) (λ taken. text_code (outermost e) taken x) (V.text around x)
+  pub text_does : (x : Y.Text) {links : Links} {code : List Instr} {g : Ground} {v : Services} {s : State} {k : ℕ} {e : Environment} {block : ℕ} {types : Types} {numbers : ℕ → ℤ} {around : Around} → Setting links code g v s k e block types numbers around → IsProvedText block types x → EvaluatesText links code g v s k (text_words x) (λ taken. text_code e taken x) (V.text around x)
   text_does (Y.TextConstant bytes) st is = constant_evaluates bytes st.constants is
   text_does (Y.TextOfNumber precision x) st is = number_evaluates_text precision is.0 (number_does x st is.1)
   text_does (Y.TextOfBit x) st is = bit_evaluates_text (bit_does x st is)
@@ -234,6 +235,6 @@ mutual
   text_does (Y.TextFrom c) st is = absurd is
 
 -- a number, wherever its code stands
-pub number_piece : {links : Links} {code : List Instr} {i : ℕ} {g : Ground} {v : Services} {h t : ℕ → ℕ} {s : State} {aims : Aims ℤ} (x : Y.Number) (closed : Closed code aims) (routines : Routines links code) (constants : ConstantsStand links code g) (temps : Temporaries g) (e : Environment) (block : ℕ) (types : Types) (numbers : ℕ → ℤ) (f : Family) (around : Around) (taken : Taken) (k : ℕ) → IsProvedNumber block types x → taken.words + number_words x ≤ g.words → Scope g e block types s numbers → Linked links code i (number_code (outermost e) taken x) → Serving k s v around.line → ((b : Base) → At b i (Known g v h t nothing b) (f b)) → Valued number_kind g taken h t v s (i + size_of (number_code (outermost e) taken x)) aims → Comes code i f v aims (V.number around x k s)
+pub number_piece : {links : Links} {code : List Instr} {i : ℕ} {g : Ground} {v : Services} {h t : ℕ → ℕ} {s : State} {aims : Aims ℤ} (x : Y.Number) (closed : Closed code aims) (routines : Routines links code) (constants : ConstantsStand links code g) (temps : Temporaries g) (e : Environment) (block : ℕ) (types : Types) (numbers : ℕ → ℤ) (f : Family) (around : Around) (taken : Taken) (k : ℕ) → IsProvedNumber block types x → taken.words + number_words x ≤ g.words → Scope g e block types s numbers → Linked links code i (number_code e taken x) → Serving k s v around.line → ((b : Base) → At b i (Known g v h t nothing b) (f b)) → Valued number_kind g taken h t v s (i + size_of (number_code e taken x)) aims → Comes code i f v aims (V.number around x k s)
 number_piece x closed routines constants temps e block types numbers f around taken k is room scope l serving at goal =
     (number_does x (record { routines = routines; constants = constants; temps = temps; scope = scope; serving = serving }) is).does closed f taken room l at goal

@@ -5,7 +5,7 @@ use Rattle.pli_typing.specs.TypedTree as Y
 use Rattle.pli_meaning.specs.Control.{Label}
 use Rattle.pli_meaning.specs.DeclaredShapes.{variables_of_block}
 use Rattle.pli_coding.specs.Streams.{has_text}
-use Rattle.pli_headline.specs.ProvedSoFar.{IsPlain, ArePlain, AllPlain, Types, type_of, types_of, IsOwn, HavePrecisions, IsProvedNumber, IsProvedItem, AreProvedItems, AreProvedPairs, IsProvedStatement, AreProvedStatements, JumpsAround, AllJumpAround, IsProvedSoFar}
+use Rattle.pli_headline.specs.ProvedSoFar.{IsPlain, ArePlain, AllPlain, Types, type_of, types_of, IsOwn, HavePrecisions, IsProvedNumber, IsProvedItem, AreProvedItems, AreProvedPairs, IsProvedStatement, AreProvedStatements, JumpsAround, AllJumpAround, IsBare, AreBare, IsProvedSoFar}
 use Rattle.pli_headline.proofs.FormatData.{true_false}
 use Rattle.pli_headline.specs.FirstForms.{plain_number, AreNumbers, AllNumbers, IsFirstReference, IsFirstNumber, IsFirstItem, AreFirstItems, AreFirstPairs, IsFirstStatement, AreFirstStatements, IsFirstProgram}
 
@@ -79,16 +79,28 @@ statements_wider block count types (Y.EndOfList labels) all h = tt
 statements_wider block count types (Y.StmtThen labels first rest) all h = (statement_wider block count types first all h.0, statements_wider block count types rest all h.1)
 
 -- none of them jumps
-statement_stays : (block count : ℕ) (all around : List Label) (x : Y.Stmt) → IsFirstStatement block count x → JumpsAround all around x
-statement_stays block count all around (Y.Null line) h = tt
-statement_stays block count all around (Y.Assign target (Y.StoredNumber precision x) line) h = tt
-statement_stays block count all around (Y.Put None pairs line) h = tt
-statement_stays block count all around _ h = absurd h
+statement_stays : (block count number level : ℕ) (all : List (ℕ × Label)) (around : List Label) (x : Y.Stmt) → IsFirstStatement block count x → JumpsAround number level all around x
+statement_stays block count number level all around (Y.Null line) h = tt
+statement_stays block count number level all around (Y.Assign target (Y.StoredNumber precision x) line) h = tt
+statement_stays block count number level all around (Y.Put None pairs line) h = tt
+statement_stays block count number level all around _ h = absurd h
 
-pub statements_stay : (block count : ℕ) (all around : List Label) (body : Y.Stmts) → AreFirstStatements block count body → AllJumpAround all around body
-statements_stay block count all around (Y.EndOfList labels) h = tt
-statements_stay block count all around (Y.StmtThen labels first rest) h =
-    (statement_stays block count all around first h.0, statements_stay block count all around rest h.1)
+pub statements_stay : (block count number level : ℕ) (all : List (ℕ × Label)) (around : List Label) (body : Y.Stmts) → AreFirstStatements block count body → AllJumpAround number level all around body
+statements_stay block count number level all around (Y.EndOfList labels) h = tt
+statements_stay block count number level all around (Y.StmtThen labels first rest) h =
+    (statement_stays block count number level all around first h.0, statements_stay block count number level all around rest h.1)
+
+-- and none is a block
+statement_bare : (block count : ℕ) (program : Y.Program) (x : Y.Stmt) → IsFirstStatement block count x → IsBare program x
+statement_bare block count program (Y.Null line) h = tt
+statement_bare block count program (Y.Assign target (Y.StoredNumber precision x) line) h = tt
+statement_bare block count program (Y.Put None pairs line) h = tt
+statement_bare block count program _ h = absurd h
+
+pub statements_bare : (block count : ℕ) (program : Y.Program) (body : Y.Stmts) → AreFirstStatements block count body → AreBare program body
+statements_bare block count program (Y.EndOfList labels) h = tt
+statements_bare block count program (Y.StmtThen labels first rest) h =
+    (statement_bare block count program first h.0, statements_bare block count program rest h.1)
 
 abbrev pub program_wider : (program : Y.Program) → IsFirstProgram program → IsProvedSoFar program
 program_wider program is =
@@ -102,6 +114,7 @@ program_wider program is =
         level = is.block.level;
         line = is.block.line;
         statements = statements_wider is.head.number (length (variables_of_block program is.head.number)) (types_of (variables_of_block program is.head.number)) is.body (numbers_typed (variables_of_block program is.head.number) (block_numbers program.variables is.head.number is.plain)) is.block.statements;
-        jumps = statements_stay _ _ _ _ is.body is.block.statements;
+        jumps = statements_stay _ _ _ _ _ _ is.body is.block.statements;
+        inside = statements_bare _ _ program is.body is.block.statements;
       };
     }

@@ -16,18 +16,17 @@ use Rattle.pli_headline.proofs.Engine.{address}
 use Rattle.pli_headline.proofs.Linking.{size_append}
 use Rattle.pli_headline.proofs.Jumps.{front_of, back_of}
 use Rattle.pli_headline.proofs.Acts.{act_piece}
-use Rattle.pli_headline.proofs.Variables.{outermost}
 use Rattle.pli_headline.proofs.Temporaries.{stays_same}
-use Rattle.pli_headline.proofs.Statements.{Block, counted_holds, further, Does}
+use Rattle.pli_headline.proofs.Statements.{Block, counted_all, further, Does}
 use Rattle.pli_headline.proofs.Reach.{before_closed, comes_on}
 
-pub do_does : {e : Environment} {block : ℕ} {types : Types} (bl : Block e block types) (links : Links) (code : List Instr) (around : Around) (body : Y.Stmts) (line : ℕ) → line < 2 ^ 31 → Does bl links code around.turns (stmts_code (outermost e) bl.taken body) (M.list around body) → Does bl links code around.turns (stmt_code (outermost e) bl.taken (Y.Do body line)) (M.statement around (Y.Do body line))
+pub do_does : {e : Environment} {block : ℕ} {types : Types} (bl : Block e block types) (links : Links) (code : List Instr) (around : Around) (body : Y.Stmts) (line : ℕ) → line < 2 ^ 31 → Does bl links code around.turns (stmts_code e bl.taken body) (M.list around body) → Does bl links code around.turns (stmt_code e bl.taken (Y.Do body line)) (M.statement around (Y.Do body line))
 unfolding M.statement M.list ◌>>◌
 do_does {e} {block} {types} bl links code around body line fits inner =
     record {
       does = λ {i} {s} {v} {h} {t} {aims} closed old n f k l serving all at goal more.
           let a = act_code line in
-          let c = stmts_code (outermost e) bl.taken body in
+          let c = stmts_code e bl.taken body in
           let size = size_append a c in
           let place : i + size_of a + size_of c ≡ i + size_of (a ++ c) = omega (arith, size) in
           let list' = M.list_with around (M.labels_in body) (M.statements around body) in
@@ -35,7 +34,7 @@ do_does {e} {block} {types} bl links code around body line fits inner =
           comes_on k (act counted k s) next'
           (act_piece (before_closed k next' closed) f line old k fits (front_of a c l) serving at
           (λ f1 serving1 at1.
-          inner.does closed line n f1 k (back_of a c l) serving1 (λ j below. counted_holds _ (all j below)) at1
+          inner.does closed line n f1 k (back_of a c l) serving1 (counted_all _ all) at1
           (λ s4 v4 line4 n4 h4 t4 f4 serving4 all4 stays4 at4.
           subst (λ u. aims.done u f4 v4 tt s4) (sym place)
           (goal s4 v4 line4 n4 h4 t4 f4 serving4 all4 stays4 (λ b. record { pc = (at4 b).pc ∙ ap (address b) place; holds = (at4 b).holds }))) (further more (omega arith) (omega arith) (stays_same bl.taken h t))));

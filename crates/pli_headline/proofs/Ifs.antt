@@ -1,5 +1,5 @@
 -- IF, with and without ELSE.
-use Rattle.std.proofs.Common.{◌≡◌, ℕ, ◌+◌, ◌^◌, ◌<◌, ◌≤◌, List, [], ◌∷◌, ◌++◌, Bool, true, false, refl, sym, ap, ◌∙◌, subst, arith}
+use Rattle.std.proofs.Common.{◌≡◌, ℕ, suc, ◌+◌, ◌^◌, ◌<◌, ◌≤◌, List, [], ◌∷◌, ◌++◌, Bool, true, false, refl, sym, ap, ◌∙◌, subst, arith}
 use Rattle.std.specs.Prelude.{ℤ, ◌==◌, if◌then◌else◌}
 use Rattle.rv_meaning.specs.declared.instr.Instr.{Instr}
 use Rattle.rv_meaning.specs.declared.instr.BranchTest.TheVariants as Test
@@ -30,10 +30,9 @@ use Rattle.pli_headline.proofs.Jumps.{front_of, back_of, rest_of, linked_at, ski
 use Rattle.pli_headline.proofs.Temporaries.{nothing, stays_then}
 use Rattle.pli_headline.proofs.Calls.{Serving}
 use Rattle.pli_headline.proofs.Acts.{acted, act_piece}
-use Rattle.pli_headline.proofs.Variables.{outermost}
 use Rattle.pli_headline.proofs.Operators.{valued}
 use Rattle.pli_headline.proofs.Expressions.{Setting, bit_does}
-use Rattle.pli_headline.proofs.Statements.{Standing, Block, AllHold, further, scope_of, counted_holds, Does}
+use Rattle.pli_headline.proofs.Statements.{Standing, Block, AllHold, further, scope_of, counted_all, Does}
 use Rattle.pli_headline.proofs.Reach.{Family, Aims, Comes, Closed, before_closed, comes_on, onward, reached, reached_holds}
 
 -- ---- what a test chooses
@@ -70,20 +69,20 @@ chosen_piece {links = links} {code = code} {i = i} {g = g} {v = v} {h = h} {t = 
     (λ f2 at2. subst (λ n. Comes code n f2 v aims (other k s)) (sym there) (otherwise f2 (λ b. record { pc = (at2 b).pc ∙ ap (address b) there; holds = (at2 b).holds }))))
 
 -- what stands around an expression of a block
-abbrev pub setting : {e : Environment} {block : ℕ} {types : Types} (bl : Block e block types) {links : Links} {code : List Instr} {v : Services} {s : State} {k : ℕ} {around : Around} → Standing bl links code → (n : ℕ → ℤ) → AllHold s block types n → Serving k s v around.line → Setting links code (bl.ground n) v s k e block types n around
+abbrev pub setting : {e : Environment} {block : ℕ} {types : Types} (bl : Block e block types) {links : Links} {code : List Instr} {v : Services} {s : State} {k : ℕ} {around : Around} → Standing bl links code → (n : ℕ → ℤ) → AllHold (suc e.level) s block types n → Serving k s v around.line → Setting links code (bl.ground n) v s k e block types n around
 setting bl routines n all serving =
     record { routines = routines.raises; constants = routines.constants n; temps = bl.temps n; scope = scope_of bl n all; serving = serving }
 
 -- ---- the statements
 
 -- code that runs where a test behind an act is met
-pub tested_does : {e : Environment} {block : ℕ} {types : Types} (bl : Block e block types) (links : Links) (code : List Instr) (turns : ℕ) (routines : Standing bl links code) (around : Around) (condition : Y.Bit) (line : ℕ) (c : Code) (meaning : Meaning (Unit {0})) → IsProvedBit block types condition → bl.taken.words + bit_words condition ≤ bl.words → line < 2 ^ 31 → Does bl links code turns c meaning → Does bl links code turns (act_code line ++ (bit_code (outermost e) bl.taken condition ++ if_met c)) ((act counted) >> ((V.bit (at_line around line) condition) >>= (λ met. choose met meaning (give tt))))
+pub tested_does : {e : Environment} {block : ℕ} {types : Types} (bl : Block e block types) (links : Links) (code : List Instr) (turns : ℕ) (routines : Standing bl links code) (around : Around) (condition : Y.Bit) (line : ℕ) (c : Code) (meaning : Meaning (Unit {0})) → IsProvedBit block types condition → bl.taken.words + bit_words condition ≤ bl.words → line < 2 ^ 31 → Does bl links code turns c meaning → Does bl links code turns (act_code line ++ (bit_code e bl.taken condition ++ if_met c)) ((act counted) >> ((V.bit (at_line around line) condition) >>= (λ met. choose met meaning (give tt))))
 unfolding ◌>>=◌ ◌>>◌ give
 tested_does {e} {block} {types} bl links code turns routines around condition line c meaning is room fits inner =
     record {
       does = λ {i} {s} {v} {h} {t} {aims} closed old n f k l serving all at goal more.
           let a = act_code line in
-          let test = bit_code (outermost e) bl.taken condition in
+          let test = bit_code e bl.taken condition in
           let l1 = back_of a (test ++ if_met c) l in
           let l2 = back_of test (if_met c) l1 in
           let e1 = size_append a (test ++ if_met c) in
@@ -100,7 +99,7 @@ tested_does {e} {block} {types} bl links code turns routines around condition li
           (act_piece (before_closed k next' closed) f line old k fits (front_of a (test ++ if_met c) l) serving at
           (λ f1 serving1 at1.
           let s1 = with_world (counted s.world) s in
-          let all1 : AllHold s1 block types n = λ j' below. counted_holds _ (all j' below) in
+          let all1 : AllHold (suc e.level) s1 block types n = counted_all _ all in
           comes_on k (V.bit here condition k s1) branch
           ((bit_does condition {e = e} {around = here} (setting bl routines n all1 serving1) is).does (before_closed k branch closed) f1 bl.taken (omega (arith, room, w)) (front_of test (if_met c) l1) at1
           (λ met f2 h2 t2 one stays at2.
@@ -118,20 +117,20 @@ tested_does {e} {block} {types} bl links code turns routines around condition li
           })))));
     }
 
-pub if_does : {e : Environment} {block : ℕ} {types : Types} (bl : Block e block types) (links : Links) (code : List Instr) (routines : Standing bl links code) (around : Around) (condition : Y.Bit) (unit : Y.Stmt) (line : ℕ) → IsProvedBit block types condition → bl.taken.words + bit_words condition ≤ bl.words → line < 2 ^ 31 → Does bl links code around.turns (stmt_code (outermost e) bl.taken unit) (M.statement around unit) → Does bl links code around.turns (stmt_code (outermost e) bl.taken (Y.If condition unit line)) (M.statement around (Y.If condition unit line))
+pub if_does : {e : Environment} {block : ℕ} {types : Types} (bl : Block e block types) (links : Links) (code : List Instr) (routines : Standing bl links code) (around : Around) (condition : Y.Bit) (unit : Y.Stmt) (line : ℕ) → IsProvedBit block types condition → bl.taken.words + bit_words condition ≤ bl.words → line < 2 ^ 31 → Does bl links code around.turns (stmt_code e bl.taken unit) (M.statement around unit) → Does bl links code around.turns (stmt_code e bl.taken (Y.If condition unit line)) (M.statement around (Y.If condition unit line))
 unfolding M.statement
 if_does {e} bl links code routines around condition unit line is room fits inner =
-    tested_does bl links code around.turns routines around condition line (stmt_code (outermost e) bl.taken unit) (M.statement around unit) is room fits inner
+    tested_does bl links code around.turns routines around condition line (stmt_code e bl.taken unit) (M.statement around unit) is room fits inner
 
-pub if_else_does : {e : Environment} {block : ℕ} {types : Types} (bl : Block e block types) (links : Links) (code : List Instr) (routines : Standing bl links code) (around : Around) (condition : Y.Bit) (unit otherwise : Y.Stmt) (line : ℕ) → IsProvedBit block types condition → bl.taken.words + bit_words condition ≤ bl.words → line < 2 ^ 31 → Does bl links code around.turns (stmt_code (outermost e) bl.taken unit) (M.statement around unit) → Does bl links code around.turns (stmt_code (outermost e) bl.taken otherwise) (M.statement around otherwise) → Does bl links code around.turns (stmt_code (outermost e) bl.taken (Y.IfElse condition unit otherwise line)) (M.statement around (Y.IfElse condition unit otherwise line))
+pub if_else_does : {e : Environment} {block : ℕ} {types : Types} (bl : Block e block types) (links : Links) (code : List Instr) (routines : Standing bl links code) (around : Around) (condition : Y.Bit) (unit otherwise : Y.Stmt) (line : ℕ) → IsProvedBit block types condition → bl.taken.words + bit_words condition ≤ bl.words → line < 2 ^ 31 → Does bl links code around.turns (stmt_code e bl.taken unit) (M.statement around unit) → Does bl links code around.turns (stmt_code e bl.taken otherwise) (M.statement around otherwise) → Does bl links code around.turns (stmt_code e bl.taken (Y.IfElse condition unit otherwise line)) (M.statement around (Y.IfElse condition unit otherwise line))
 unfolding M.statement ◌>>=◌ ◌>>◌
 if_else_does {e} {block} {types} bl links code routines around condition unit otherwise line is room fits first second =
     record {
       does = λ {i} {s} {v} {h} {t} {aims} closed old n f k l serving all at goal more.
           let a = act_code line in
-          let test = bit_code (outermost e) bl.taken condition in
-          let c = stmt_code (outermost e) bl.taken unit in
-          let d = stmt_code (outermost e) bl.taken otherwise in
+          let test = bit_code e bl.taken condition in
+          let c = stmt_code e bl.taken unit in
+          let d = stmt_code e bl.taken otherwise in
           let over = JumpAhead (size_of d) ∷ [] in
           let both = if_met (c ++ over) in
           let l1 = back_of a (test ++ (both ++ d)) l in
@@ -156,7 +155,7 @@ if_else_does {e} {block} {types} bl links code routines around condition unit ot
           (act_piece (before_closed k next' closed) f line old k fits (front_of a (test ++ (both ++ d)) l) serving at
           (λ f1 serving1 at1.
           let s1 = with_world (counted s.world) s in
-          let all1 : AllHold s1 block types n = λ j' below. counted_holds _ (all j' below) in
+          let all1 : AllHold (suc e.level) s1 block types n = counted_all _ all in
           comes_on k (V.bit here condition k s1) branch
           ((bit_does condition {e = e} {around = here} (setting bl routines n all1 serving1) is).does (before_closed k branch closed) f1 bl.taken (omega (arith, room, w)) (front_of test (both ++ d) l1) at1
           (λ met f2 h2 t2 one stays at2.

@@ -1,8 +1,7 @@
 -- The labels of the main procedure: each that stands once among them is marked once in the program's code.
-use Rattle.std.proofs.Common.{◌≡◌, ℕ, suc, ◌+◌, ◌*◌, List, [], ◌∷◌, ◌++◌, Option, None, Some, true, refl, ap, ◌∙◌, arith}
-use Rattle.std.specs.Prelude.{ℤ, pos, neg_ℤ, cond, nat_le, ◌==◌, ◌&&◌, if◌then◌else◌}
+use Rattle.std.proofs.Common.{◌≡◌, ℕ, suc, ◌+◌, ◌*◌, List, [], ◌∷◌, ◌++◌, Option, None, Some, true, inl, refl, sym, ap, ◌∙◌, subst}
+use Rattle.std.specs.Prelude.{ℤ, pos, neg_ℤ, cond, ◌==◌, ◌&&◌, if◌then◌else◌}
 use Rattle.std.proofs.lemmas.Bool.{eq-eqb}
-use Rattle.std.proofs.lemmas.Bool.Decides.{nat_tests}
 use Rattle.rv_meaning.specs.declared.instr.Register.{Register}
 use Rattle.rv_meaning.specs.declared.instr.Instr.TheVariants as I
 use Rattle.pli_language.specs.Keywords.{same_bytes}
@@ -13,7 +12,7 @@ use Rattle.pli_coding.specs.Registers.{zero_register, return_register, frame_reg
 use Rattle.pli_coding.specs.Assembly.{Datum, Symbol, ProcedureEntry, ReturnPlace, LabelPlace, RaiseCondition, RaiseError, ErrorEnd, same_symbol, Plain, BaseIn, OffsetOf, OffsetAhead, JumpTo, CallTo, JumpAhead, JumpBack, Mark, Code, item_size}
 use Rattle.pli_coding.specs.Instructions.{move, small, number, plus, load_word, service}
 use Rattle.pli_coding.specs.Frames.{frame_below, own_offset, temporary_bytes, name_bytes, frame_bytes, automatic_place}
-use Rattle.pli_coding.specs.Environments.{Environment, none_taken, last_of_level}
+use Rattle.pli_coding.specs.Environments.{BlockPlace, Environment, none_taken, last_of_level}
 use Rattle.pli_coding.specs.Locating.{own_place, table_number}
 use Rattle.pli_coding.specs.StaticForms.{initial_datum}
 use Rattle.pli_coding.specs.Extents.{initial_given, initial_code}
@@ -21,10 +20,10 @@ use Rattle.pli_coding.specs.Allocating.{act_code}
 use Rattle.pli_coding.specs.Entries.{frame_begun, block_entered, constant_made, variables_made, variables_code}
 use Rattle.pli_coding.specs.Statements.{stmts_code, stmts_words, block_words}
 use Rattle.pli_coding.specs.Procedures.{procedure_begun, procedure_ended, procedure_in}
-use Rattle.pli_coding.specs.Images.{place_of_head, blocks_in, blocks_among, with_blocks, blocks_of, raise_code, code_of}
+use Rattle.pli_coding.specs.Images.{blocks_among, with_blocks, blocks_of, raise_code, code_of}
 use Rattle.pli_coding.specs.Linking.{marks_from, links_of}
 use Rattle.pli_headline.specs.Headline.{parts}
-use Rattle.pli_headline.specs.ProvedSoFar.{plain_variable, ArePlain, AllPlain, Types, types_of, IsProvedStatement, AreProvedStatements, times, all_labels}
+use Rattle.pli_headline.specs.ProvedSoFar.{plain_variable, ArePlain, AllPlain, types_of, AreProvedStatements, AreBare, times, all_labels}
 use Rattle.pli_headline.proofs.Linking.{times_marked}
 use Rattle.pli_headline.proofs.FirstFrame.{start_of}
 use Rattle.pli_headline.proofs.Marks.{code_is}
@@ -34,6 +33,7 @@ use Rattle.pli_headline.proofs.Variables.{outermost}
 use Rattle.pli_headline.proofs.Gotos.{LabelsStand}
 use Rattle.pli_headline.proofs.ProgramSizes.{frame_filled}
 use Rattle.pli_headline.proofs.SymbolsMarked.{symbols_marked, Marks, both_mark, behind, constant_none, load_none, plus_none, act_none}
+use Rattle.pli_headline.proofs.InnerLevels.{IsAmong, InOrder, among_all, among_with, in_order, last_is}
 use Rattle.pli_headline.proofs.StatementMarks.{places_of, statements_mark}
 
 -- ---- the procedure
@@ -90,24 +90,24 @@ ended_marks e head words =
     ap (λ ss. ReturnPlace head.number ∷ ss) (behind (up ++ below) last [] (behind up below [] (plus_none stack_register frame_register z) refl) refl)
 
 -- the symbols of the whole program
-abbrev program_symbols : (block : ℕ) → List Label → List Symbol
+abbrev program_symbols : (block : ℕ) → List (ℕ × Label) → List Symbol
 program_symbols block labels =
-    RaiseCondition ∷ RaiseError ∷ ErrorEnd ∷ ProcedureEntry block ∷ (places_of block labels ++ ReturnPlace block ∷ [])
+    RaiseCondition ∷ RaiseError ∷ ErrorEnd ∷ ProcedureEntry block ∷ (places_of labels ++ ReturnPlace block ∷ [])
 
-program_marks : (program : Y.Program) (block line : ℕ) (body : Y.Stmts) → AllPlain program.variables → IsAlone program block line body → AreProvedStatements block (types_of (variables_of_block program block)) body → Marks (code_of parts program) (program_symbols block (all_labels body))
-program_marks program block line body plain alone are =
+program_marks : (program : Y.Program) (block line : ℕ) (body : Y.Stmts) → AllPlain program.variables → IsAlone program block line body → AreProvedStatements block (types_of (variables_of_block program block)) body → AreBare program body → Marks (code_of parts program) (program_symbols block (all_labels block body))
+program_marks program block line body plain alone are bare =
     let e = main_environment program block in
     let words = block_words e block (stmts_words body) in
     let begun = procedure_begun e (main_head block line) words [] in
     let code = stmts_code e none_taken body in
     let ended = procedure_ended e (main_head block line) words None in
     let inner = procedure_in e (main_head block line) body [] None in
-    let ss = places_of block (all_labels body) ++ ReturnPlace block ∷ [] in
+    let ss = places_of (all_labels block body) ++ ReturnPlace block ∷ [] in
     let inside : Marks (begun ++ (code ++ ended)) ss =
     behind begun (code ++ ended) ss (prologue_none e block line words (main_plain program block plain))
-    (both_mark code ended (places_of block (all_labels body)) (ReturnPlace block ∷ []) (statements_mark e none_taken block (types_of (variables_of_block program block)) body (λ j b. declared_at (variables_of_block program block) j (main_plain program block plain) b.1) are) (ended_marks e (main_head block line) words)) in
+    (both_mark code ended (places_of (all_labels block body)) (ReturnPlace block ∷ []) (statements_mark e none_taken block (types_of (variables_of_block program block)) body (λ j b. declared_at (variables_of_block program block) j (main_plain program block plain) b.1) are bare) (ended_marks e (main_head block line) words)) in
     ap symbols_marked (code_is program block line body plain alone)
-    ∙ behind (start_of block) (raise_code ++ inner) (program_symbols block (all_labels body)) refl
+    ∙ behind (start_of block) (raise_code ++ inner) (program_symbols block (all_labels block body)) refl
     (both_mark raise_code inner (RaiseCondition ∷ RaiseError ∷ ErrorEnd ∷ []) (ProcedureEntry block ∷ ss) refl (ap (λ us. ProcedureEntry block ∷ us) inside))
 
 -- ---- how often a label is marked
@@ -128,56 +128,52 @@ times_are s at (JumpAhead words ∷ xs) = times_are s (at + 4 * item_size (JumpA
 times_are s at (JumpBack words ∷ xs) = times_are s (at + 4 * item_size (JumpBack words)) xs
 times_are s at (Mark y ∷ xs) = ap (λ n. cond (same_symbol s y) (suc n) n) (times_are s at xs)
 
-label_times : (block : ℕ) (label : Label) (labels : List Label) → (block == block) ≡ true → symbol_times (LabelPlace block label) (places_of block labels ++ ReturnPlace block ∷ []) ≡ times label labels
-label_times block label [] same = refl
-label_times block label (l ∷ ls) same =
-    let n = symbol_times (LabelPlace block label) (places_of block ls ++ ReturnPlace block ∷ []) in
-    ap (λ q. cond (q && same_bytes label l) (suc n) n) same
-    ∙ ap (λ m. cond (same_bytes label l) (suc m) m) (label_times block label ls same)
+label_times : (main block : ℕ) (label : Label) (ps : List (ℕ × Label)) → symbol_times (LabelPlace block label) (places_of ps ++ ReturnPlace main ∷ []) ≡ times block label ps
+label_times main block label [] = refl
+label_times main block label (p ∷ ps) =
+    ap (λ n. cond ((block == p.0) && same_bytes label p.1) (suc n) n) (label_times main block label ps)
 
--- ---- no block stands in the procedure
+end_times : (block : ℕ) (ps : List (ℕ × Label)) → (block == block) ≡ true → symbol_times (ReturnPlace block) (places_of ps ++ ReturnPlace block ∷ []) ≡ 1
+end_times block [] same = ap (λ q. cond q 1 0) same
+end_times block (p ∷ ps) same = end_times block ps same
 
-mutual
-  no_block : (block : ℕ) (types : Types) (x : Y.Stmt) → IsProvedStatement block types x → blocks_in x ≡ []
-  no_block block types (Y.Null line) is = refl
-  no_block block types (Y.Assign target (Y.StoredNumber precision x) line) is = refl
-  no_block block types (Y.Assign target (Y.StoredBit x) line) is = refl
-  no_block block types (Y.If condition unit line) is = no_block block types unit is.1.0
-  no_block block types (Y.IfElse condition unit otherwise line) is =
-      ap (λ u. u ++ blocks_in otherwise) (no_block block types unit is.1.0) ∙ no_block block types otherwise is.1.1.0
-  no_block block types (Y.Do body line) is = no_blocks block types body is.0
-  no_block block types (Y.DoWhile condition body line) is = no_blocks block types body is.1.0
-  no_block block types (Y.DoOnce target (Y.StoredNumber precision x) condition body line) is = no_blocks block types body is.1.1.0
-  no_block block types (Y.DoOnce target (Y.StoredBit x) condition body line) is = no_blocks block types body is.1.1.0
-  no_block block types (Y.DoCount (Y.NumberCounter precision target) (Y.NumberValue p x) limit step condition body line) is = no_blocks block types body is.1.1.1.0
-  no_block block types (Y.Goto level label line) is = refl
-  no_block block types (Y.Stop line) is = refl
-  no_block block types (Y.Signal condition line) is = refl
-  no_block block types (Y.Put None pairs line) is = refl
-  no_block block types (Y.Put (Some n) pairs line) is = refl
-  no_block block types _ is = absurd is
+-- ---- its blocks
 
-  no_blocks : (block : ℕ) (types : Types) (body : Y.Stmts) → AreProvedStatements block types body → blocks_among body ≡ []
-  no_blocks block types (Y.EndOfList labels) are = refl
-  no_blocks block types (Y.StmtThen labels first rest) are =
-      ap (λ u. u ++ blocks_among rest) (no_block block types first are.0) ∙ no_blocks block types rest are.1
+abbrev main_place : (block : ℕ) → BlockPlace
+main_place block = record { number = block; level = 0 }
 
-own_block : (program : Y.Program) (block line : ℕ) (types : Types) (body : Y.Stmts) → IsAlone program block line body → AreProvedStatements block types body → last_of_level block 0 0 (blocks_of program.procedures) ≡ block
-own_block program block line types body alone are =
-    let here : nat_le block block ≡ true = grind (arith, nat_tests) in
-    ap (λ ps. last_of_level block 0 0 (blocks_of ps)) alone
-    ∙ ap (λ bs. last_of_level block 0 0 (with_blocks (place_of_head (main_head block line) ∷ bs) [])) (no_blocks block types body are)
-    ∙ ap (λ q. cond (q && true) block 0) here
+pub blocks_are : (program : Y.Program) (block line : ℕ) (body : Y.Stmts) → IsAlone program block line body → blocks_of program.procedures ≡ with_blocks (blocks_among body) (main_place block ∷ [])
+blocks_are program block line body alone = ap blocks_of alone
+
+pub blocks_known : (program : Y.Program) (block line : ℕ) (body : Y.Stmts) → IsAlone program block line body → (b : BlockPlace) → IsAmong b (blocks_among body) → IsAmong b (blocks_of program.procedures)
+blocks_known program block line body alone b h =
+    subst (IsAmong b) (sym (blocks_are program block line body alone)) (among_with b (blocks_among body) (main_place block ∷ []) h)
+
+blocks_found : (program : Y.Program) (block line : ℕ) (body : Y.Stmts) → IsAlone program block line body → (b : BlockPlace) → IsAmong b (blocks_of program.procedures) → last_of_level b.number b.level 0 (blocks_of program.procedures) ≡ b.number
+blocks_found program block line body alone b h =
+    let order : InOrder (blocks_of program.procedures) = subst InOrder (sym (blocks_are program block line body alone)) (in_order (blocks_among body) (main_place block ∷ []) (tt, tt)) in
+    last_is b 0 (blocks_of program.procedures) order h
+
+own_block : (program : Y.Program) (block line : ℕ) (body : Y.Stmts) → IsAlone program block line body → last_of_level block 0 0 (blocks_of program.procedures) ≡ block
+own_block program block line body alone =
+    blocks_found program block line body alone (main_place block)
+    (subst (IsAmong (main_place block)) (sym (blocks_are program block line body alone)) (among_all (main_place block) (blocks_among body) (main_place block ∷ []) (inl refl)))
 
 -- ---- the labels
 
-pub labels_stand : (program : Y.Program) (block line : ℕ) (body : Y.Stmts) → AllPlain program.variables → IsAlone program block line body → AreProvedStatements block (types_of (variables_of_block program block)) body → LabelsStand (main_environment program block) (links_of (code_of parts program)) (all_labels body)
-labels_stand program block line body plain alone are =
+pub labels_stand : (program : Y.Program) (block line : ℕ) (body : Y.Stmts) → AllPlain program.variables → IsAlone program block line body → AreProvedStatements block (types_of (variables_of_block program block)) body → AreBare program body → LabelsStand (main_environment program block) (links_of (code_of parts program)) (all_labels block body)
+labels_stand program block line body plain alone are bare =
     record {
-      own = own_block program block line (types_of (variables_of_block program block)) body alone are;
-      once = λ label h.
-          times_are (LabelPlace block label) 0 (code_of parts program)
-          ∙ ap (symbol_times (LabelPlace block label)) (program_marks program block line body plain alone are)
-          ∙ label_times block label (all_labels body) (eq-eqb block block refl)
+      own = own_block program block line body alone;
+      found = blocks_found program block line body alone;
+      once = λ number label h.
+          times_are (LabelPlace number label) 0 (code_of parts program)
+          ∙ ap (symbol_times (LabelPlace number label)) (program_marks program block line body plain alone are bare)
+          ∙ label_times block number label (all_labels block body)
           ∙ h;
+      owner = λ outermost. refl;
+      ended = λ outermost.
+          times_are (ReturnPlace block) 0 (code_of parts program)
+          ∙ ap (symbol_times (ReturnPlace block)) (program_marks program block line body plain alone are bare)
+          ∙ end_times block (all_labels block body) (eq-eqb block block refl);
     }

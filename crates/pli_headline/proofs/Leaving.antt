@@ -1,5 +1,5 @@
 -- The main procedure is left: its activation ends, the registers are restored, and the start finishes the run.
-use Rattle.std.proofs.Common.{◌≡◌, ℕ, ◌+◌, ◌^◌, ◌<◌, ◌≤◌, List, [], ◌∷◌, ◌++◌, None, refl, sym, ap, ◌∙◌, arith, lit<}
+use Rattle.std.proofs.Common.{◌≡◌, ℕ, ◌+◌, ◌^◌, ◌<◌, ◌≤◌, List, [], ◌∷◌, ◌++◌, length, None, refl, sym, ap, ◌∙◌, arith, lit<}
 use Rattle.std.specs.Prelude.{ℤ, pos, neg_ℤ, filter, nat_le}
 use Rattle.rv_meaning.specs.declared.instr.Instr.{Instr}
 use Rattle.rv_meaning.specs.declared.instr.Instr.TheVariants as I
@@ -7,7 +7,7 @@ use Rattle.rv_meaning.specs.declared.instr.ImmediateOp.TheVariants as Imm
 use Rattle.rv_meaning.specs.Words.{word, sum}
 use Rattle.rv_meaning.specs.Memory.{load}
 use Rattle.pli_meaning.specs.declared.outcome.End.TheVariants as E
-use Rattle.pli_meaning.specs.StorageState.{State}
+use Rattle.pli_meaning.specs.StorageState.{State, Activation}
 use Rattle.pli_meaning.specs.Control.{finish}
 use Rattle.pli_serving.specs.ServiceState as S
 use Rattle.pli_serving.specs.ServiceState.{Services}
@@ -29,6 +29,7 @@ use Rattle.pli_headline.proofs.Numbers.{below_small}
 use Rattle.pli_headline.proofs.Bodies.{Known, Regs, zero_is, frame_is, displaced_by}
 use Rattle.pli_headline.proofs.Jumps.{front_of, back_of, first_of, hop, jump_register}
 use Rattle.pli_headline.proofs.Temporaries.{nothing}
+use Rattle.pli_headline.proofs.Activations.{Nested}
 use Rattle.pli_headline.proofs.Calls.{Serving, called, Calling, call_done}
 use Rattle.pli_headline.proofs.Raising.{small_is}
 use Rattle.pli_headline.proofs.Finishing.{Bare, finish_piece}
@@ -152,9 +153,17 @@ returned_piece {code = code} {i = i} {v = v} c f g near l at =
 
 -- ---- from the end of the statements to the end of the run
 
-pub leaving_piece : {X : Type 0} {links : Links} {code : List Instr} {i : ℕ} {v : Services} {h t : ℕ → ℕ} {aims : Aims X} (closed : Closed code aims) (e : Environment) (block line words : ℕ) (f : Frame) (first : List ℕ) (numbers : ℕ → ℤ) (g : Family) (s s' : State) (current k : ℕ) → temporary_bytes words < 2 ^ 24 → f.resume ≤ most_code → Linked links code i (procedure_ended e (main_head block line) words None) → Linked links code f.resume finish_code → Serving k s v current → s'.world ≡ s.world → ((b : Base) → At b i (Known (ground_of f first numbers) v h t nothing b) (g b)) → Comes code i g v aims (finish {R = X} E.Finished k s')
-leaving_piece {code = code} {i = i} {v = v} {h = h} {t = t} closed e block line words f first numbers g s s' current k few near l finish' serving same at =
-    let a = serving.entered.0 in
+only_activation : (as' : List Activation) (xs : List S.Activation) → Nested as' xs → length as' ≡ 1 → (a : S.Activation) × (xs ≡ a ∷ [])
+only_activation [] xs h e = absurd (cc e)
+only_activation (a ∷ as') [] h e = absurd h
+only_activation (a ∷ []) (x ∷ []) h e = (x, refl)
+only_activation (a ∷ []) (x ∷ y ∷ xs) h e = absurd h.1.1
+only_activation (a ∷ a' ∷ as') (x ∷ xs) h e = absurd (omega (arith, e))
+
+pub leaving_piece : {X : Type 0} {links : Links} {code : List Instr} {i : ℕ} {v : Services} {h t : ℕ → ℕ} {aims : Aims X} (closed : Closed code aims) (e : Environment) (block line words : ℕ) (f : Frame) (first : List ℕ) (numbers : ℕ → ℤ) (g : Family) (s s' : State) (current k : ℕ) → temporary_bytes words < 2 ^ 24 → f.resume ≤ most_code → Linked links code i (procedure_ended e (main_head block line) words None) → Linked links code f.resume finish_code → Serving k s v current → length s.activations ≡ 1 → s'.world ≡ s.world → ((b : Base) → At b i (Known (ground_of f first numbers) v h t nothing b) (g b)) → Comes code i g v aims (finish {R = X} E.Finished k s')
+leaving_piece {code = code} {i = i} {v = v} {h = h} {t = t} closed e block line words f first numbers g s s' current k few near l finish' serving entered same at =
+    let only = only_activation s.activations v.activations serving.nested entered in
+    let a = only.0 in
     let v' = left_services v a in
     let ps = plus stack_register frame_register (neg_ℤ (pos (temporary_bytes words))) in
     let ended = frame_ended words ++ jump_back in
@@ -174,7 +183,7 @@ leaving_piece {code = code} {i = i} {v = v} {h = h} {t = t} closed e block line 
       regs = (small_is _ 5 z (lit< tt), (small_is _ 0 z (lit< tt), tt));
     }) in
     onward closed r1 (λ g1 at1.
-    onward closed (left_piece (i + 2) f first numbers a g1 serving.entered.1 (first_of (Plain I.Ecall) (all_restored ++ ended) l1) at1) (λ g2 at2.
+    onward closed (left_piece (i + 2) f first numbers a g1 only.1 (first_of (Plain I.Ecall) (all_restored ++ ended) l1) at1) (λ g2 at2.
     onward closed (restored_piece (i + 2 + 1) f g2 (front_of all_restored ended l2) at2) (λ g3 at3.
     onward closed (lowered_piece (i + 2 + 1 + 8) f (temporary_bytes words) g3 few (front_of ps (load_word frame_register frame_register frame_below) l4) at3) (λ g4 at4.
     let r5 = straight (i + 2 + 1 + 8 + size_of ps) g4 v' v' (λ b w. Bare v' ((1, address b f.resume) ∷ (0, 0) ∷ []) w) l5 (omega arith) (λ b. (at4 b).pc)

@@ -19,7 +19,7 @@ use Rattle.pli_coding.specs.Linking.{Links}
 use Rattle.pli_headline.proofs.Engine.{Base, address}
 use Rattle.pli_headline.proofs.Linking.{size_append}
 use Rattle.pli_headline.proofs.Items.{Linked, At, straight}
-use Rattle.pli_headline.proofs.Numbers.{IsWide}
+use Rattle.pli_headline.proofs.Numbers.{IsWide, word_small}
 use Rattle.pli_headline.proofs.WordProducts.{signed_word}
 use Rattle.pli_headline.proofs.Bodies.{Ground, Known, zero_is}
 use Rattle.pli_headline.proofs.Jumps.{front_of, back_of, rest_of, skip_taken, skip_passed, ahead_piece}
@@ -127,9 +127,9 @@ limit_piece {code = code} {i = i} {g = g} {v = v} {h = h} {t = t} {aims = aims} 
     let end'' : j + 3 + behind ≡ i + size_of (limit_tested taken behind) + behind = omega (arith, e1, e2) in
     let falls = int_lt step (pos 0) in
     let chosen = choose (has_not_passed limit step z) one other in
-    onward closed (read_piece temps i f u1 taken.words (word limit) (omega (arith, room)) at_limit (record { reserved_stay = λ y u. refl; known_stay = λ b y u q. q; set = λ y u. refl }) (record { reserved_stay = λ y u. refl; known_stay = λ b y u q. q; set = λ y u. refl }) (front_of a (c ++ (first ++ (sign ++ last))) l) at)
+    onward closed (read_piece temps i f u1 taken.words (word limit) (omega (arith, room)) (word_small limit wl) at_limit (record { reserved_stay = λ y u. refl; known_stay = λ b y u q. q; set = λ y u. refl }) (record { reserved_stay = λ y u. refl; known_stay = λ b y u q. q; set = λ y u. refl }) (front_of a (c ++ (first ++ (sign ++ last))) l) at)
     (λ f1 at1.
-    onward closed (read_piece temps (i + size_of a) f1 u2 (taken.words + 1) (word step) (omega (arith, room)) at_step (record { reserved_stay = λ y u. refl; known_stay = λ b y u q. q; set = λ y u. refl }) (record { reserved_stay = λ y u. refl; known_stay = λ b y u q. q; set = λ y u. refl }) (front_of c (first ++ (sign ++ last)) l2) at1)
+    onward closed (read_piece temps (i + size_of a) f1 u2 (taken.words + 1) (word step) (omega (arith, room)) (word_small step ws) at_step (record { reserved_stay = λ y u. refl; known_stay = λ b y u q. q; set = λ y u. refl }) (record { reserved_stay = λ y u. refl; known_stay = λ b y u q. q; set = λ y u. refl }) (front_of c (first ++ (sign ++ last)) l2) at1)
     (λ f2 at2.
     onward closed (straight (i + size_of a + size_of c) f2 v v (λ b. Known g v h t (flagged (int_lt limit z) step limit z) b) (front_of first (sign ++ last) l3) (omega arith) (λ b. (at2 b).pc)
     (λ b. let o = (at2 b).holds in record {

@@ -29,9 +29,8 @@ use Rattle.pli_headline.proofs.Jumps.{front_of, back_of, linked_at, jumped}
 use Rattle.pli_headline.proofs.Temporaries.{nothing, stays_same, stays_then}
 use Rattle.pli_headline.proofs.Calls.{Serving}
 use Rattle.pli_headline.proofs.Acts.{acted, act_piece, act_from}
-use Rattle.pli_headline.proofs.Variables.{outermost}
 use Rattle.pli_headline.proofs.Expressions.{bit_does}
-use Rattle.pli_headline.proofs.Statements.{Standing, Block, AllHold, counted_holds, Behind, Enough, further, Does}
+use Rattle.pli_headline.proofs.Statements.{Standing, Block, AllHold, counted_all, Behind, Enough, further, Does}
 use Rattle.pli_headline.proofs.Ifs.{met_size, free_far, chosen_piece, setting}
 use Rattle.pli_headline.proofs.Since.{since_closed, comes_since}
 use Rattle.pli_headline.proofs.Reach.{Family, Reach, cost, Aims, Comes, Closed, before_closed, comes_on, onward}
@@ -64,13 +63,13 @@ abbrev pub test_code : Environment → Taken → (line : ℕ) → Y.Bit → Code
 test_code e taken line condition = act_code line ++ bit_code e taken condition
 
 -- from the beginning of a turn, with credits enough for its act
-turns_piece : {e : Environment} {block : ℕ} {types : Types} (bl : Block e block types) {links : Links} {code : List Instr} (routines : Standing bl links code) (around : Around) (condition : Y.Bit) (body : Code) (line : ℕ) (part : Meaning (Unit {0})) → IsProvedBit block types condition → bl.taken.words + bit_words condition ≤ bl.words → line < 2 ^ 31 → Does bl links code around.turns body part → (turns : ℕ) {i : ℕ} {s : State} {v : Services} {h t : ℕ → ℕ} {aims : Aims (Unit {0})} (closed : Closed code aims) (credits old : ℕ) (n : ℕ → ℤ) (f : Family) (k : ℕ) → k < turns + v.world.acts → credits + size_of (act_code line) ≤ cost code → Linked links code i (while_met (test_code (outermost e) bl.taken line condition) body) → Serving k s v old → AllHold s block types n → ((b : Base) → At b i (Known (bl.ground n) v h t nothing b) (f b)) → Behind bl k h t (i + size_of (while_met (test_code (outermost e) bl.taken line condition) body)) aims → Enough bl links k around.turns i h t v.world.acts aims.jumped → Comes code credits f v aims (repeated_while turns (M.met_after_act (at_line around line) condition) part k s)
+turns_piece : {e : Environment} {block : ℕ} {types : Types} (bl : Block e block types) {links : Links} {code : List Instr} (routines : Standing bl links code) (around : Around) (condition : Y.Bit) (body : Code) (line : ℕ) (part : Meaning (Unit {0})) → IsProvedBit block types condition → bl.taken.words + bit_words condition ≤ bl.words → line < 2 ^ 31 → Does bl links code around.turns body part → (turns : ℕ) {i : ℕ} {s : State} {v : Services} {h t : ℕ → ℕ} {aims : Aims (Unit {0})} (closed : Closed code aims) (credits old : ℕ) (n : ℕ → ℤ) (f : Family) (k : ℕ) → k < turns + v.world.acts → credits + size_of (act_code line) ≤ cost code → Linked links code i (while_met (test_code e bl.taken line condition) body) → Serving k s v old → AllHold (suc e.level) s block types n → ((b : Base) → At b i (Known (bl.ground n) v h t nothing b) (f b)) → Behind bl k h t (i + size_of (while_met (test_code e bl.taken line condition) body)) aims → Enough bl links k around.turns i h t v.world.acts aims.jumped aims.returned → Comes code credits f v aims (repeated_while turns (M.met_after_act (at_line around line) condition) part k s)
 unfolding repeated_while M.met_after_act ◌>>=◌ ◌>>◌ give stuck
 turns_piece bl routines around condition body line part is room fits inner zero closed credits old n f k enough paid l serving all at goal more =
     absurd (let a = serving.allowed in omega (arith, a, enough))
 turns_piece {e} {block} {types} bl {links} {code} routines around condition body line part is room fits inner (suc turns) {i} {s} {v} {h} {t} {aims} closed credits old n f k enough paid l serving all at goal more =
     let a = act_code line in
-    let bit' = bit_code (outermost e) bl.taken condition in
+    let bit' = bit_code e bl.taken condition in
     let test = a ++ bit' in
     let jump = JumpBack (size_of test + (3 + size_of body)) ∷ [] in
     let c = body ++ jump in
@@ -96,7 +95,7 @@ turns_piece {e} {block} {types} bl {links} {code} routines around condition body
     (act_from (before_closed k tested (before_closed k branch closed)) credits f line old k fits paid (front_of a bit' lt) serving at
     (λ f1 serving1 at1.
     let s1 = with_world (counted s.world) s in
-    let all1 : AllHold s1 block types n = λ j' below. counted_holds _ (all j' below) in
+    let all1 : AllHold (suc e.level) s1 block types n = counted_all _ all in
     (bit_does condition {e = e} {around = here} (setting bl routines n all1 serving1) is).does (before_closed k branch closed) f1 bl.taken (omega (arith, room, w)) lb at1
     (λ met f2 h2 t2 one stays at2.
     chosen_piece met closed f2 c (part >> again) (give tt) lc at2
@@ -119,14 +118,14 @@ turns_piece {e} {block} {types} bl {links} {code} routines around condition body
           (goal s1 (acted line v) line n h2 t2 f3 serving1 all1 stays (λ b. record { pc = (at3 b).pc ∙ ap (address b) place; holds = (at3 b).holds }));
     })))))
 
-pub while_does : {e : Environment} {block : ℕ} {types : Types} (bl : Block e block types) (links : Links) (code : List Instr) (routines : Standing bl links code) (around : Around) (condition : Y.Bit) (body : Y.Stmts) (line : ℕ) → IsProvedBit block types condition → bl.taken.words + bit_words condition ≤ bl.words → line < 2 ^ 31 → Does bl links code around.turns (stmts_code (outermost e) bl.taken body) (M.list around body) → Does bl links code around.turns (stmt_code (outermost e) bl.taken (Y.DoWhile condition body line)) (M.statement around (Y.DoWhile condition body line))
+pub while_does : {e : Environment} {block : ℕ} {types : Types} (bl : Block e block types) (links : Links) (code : List Instr) (routines : Standing bl links code) (around : Around) (condition : Y.Bit) (body : Y.Stmts) (line : ℕ) → IsProvedBit block types condition → bl.taken.words + bit_words condition ≤ bl.words → line < 2 ^ 31 → Does bl links code around.turns (stmts_code e bl.taken body) (M.list around body) → Does bl links code around.turns (stmt_code e bl.taken (Y.DoWhile condition body line)) (M.statement around (Y.DoWhile condition body line))
 unfolding M.statement M.list ◌>>◌
 while_does {e} {block} {types} bl links code routines around condition body line is room fits inner =
     record {
       does = λ {i} {s} {v} {h} {t} {aims} closed old n f k l serving all at goal more.
           let a = act_code line in
-          let c = stmts_code (outermost e) bl.taken body in
-          let loop = while_met (test_code (outermost e) bl.taken line condition) c in
+          let c = stmts_code e bl.taken body in
+          let loop = while_met (test_code e bl.taken line condition) c in
           let size = size_append a loop in
           let place : i + size_of a + size_of loop ≡ i + size_of (a ++ loop) = omega (arith, size) in
           let part = M.list_with around (M.labels_in body) (M.statements around body) in
@@ -135,7 +134,7 @@ while_does {e} {block} {types} bl links code routines around condition body line
           comes_on k (act counted k s) next'
           (act_piece (before_closed k next' closed) f line old k fits (front_of a loop l) serving at
           (λ f1 serving1 at1.
-          turns_piece bl routines around condition c line part is room fits inner around.turns closed (i + size_of a) line n f1 k (let u = more.enough in omega (arith, u)) (omega (arith, inside, size)) (back_of a loop l) serving1 (λ j below. counted_holds _ (all j below)) at1
+          turns_piece bl routines around condition c line part is room fits inner around.turns closed (i + size_of a) line n f1 k (let u = more.enough in omega (arith, u)) (omega (arith, inside, size)) (back_of a loop l) serving1 (counted_all _ all) at1
           (λ s4 v4 line4 n4 h4 t4 f4 serving4 all4 stays4 at4.
           subst (λ u. aims.done u f4 v4 tt s4) (sym place)
           (goal s4 v4 line4 n4 h4 t4 f4 serving4 all4 stays4 (λ b. record { pc = (at4 b).pc ∙ ap (address b) place; holds = (at4 b).holds }))) (further more (omega arith) (omega arith) (stays_same bl.taken h t))));

@@ -1,5 +1,5 @@
--- Flows of a list that catches jumps to its labels, and of a block that neither jumps nor returns.
-use Rattle.std.proofs.Common.{ℕ, List, None, Option, Bool}
+-- Flows of a list that catches jumps to its labels, and of a block whose own returns end it and which doesn't jump.
+use Rattle.std.proofs.Common.{ℕ, List, None, Option, true}
 use Rattle.std.specs.Prelude.{◌==◌, ◌&&◌, if◌then◌else◌}
 use Rattle.rv_meaning.specs.declared.instr.Instr.{Instr}
 use Rattle.pli_serving.specs.ServiceState.{Services}
@@ -40,7 +40,7 @@ inside aims close =
     record {
       done = λ i f v x s. aims.done i f v None (with_world s.world (close s));
       jumped = λ i f v height label s. ⊥;
-      returned = λ i f v x s. ⊥;
+      returned = λ i f v x s. aims.done i f v x (with_world s.world (close s));
     }
 
 pub inside_closed : {code : List Instr} {aims : Aims (Option BasicValue)} (close : State → State) → Closed code aims → Closed code (inside aims close)
@@ -48,13 +48,13 @@ inside_closed close closed =
     record {
       done = λ r x s a. closed.done r None (with_world s.world (close s)) a;
       jumped = λ r height label s a. absurd a;
-      returned = λ r x s a. absurd a;
+      returned = λ r x s a. closed.done r x (with_world s.world (close s)) a;
     }
 
-pub comes_left : {code : List Instr} {i : ℕ} {f : Family} {v : Services} {aims : Aims (Option BasicValue)} (own : Bool) (close : State → State) (flow : Flow (Unit {0})) → Comes code i f v (inside aims close) flow → Comes code i f v aims (left own close flow)
-comes_left own close (Normal x s) c = record { to = c.to }
-comes_left own close (Jump height label s) c = absurd c.to
-comes_left own close (Return x s) c = absurd c.to
-comes_left own close (F.Ended s) c = record { to = c.to }
-comes_left own close (Paused s) c = record { to = c.to }
-comes_left own close Stuck c = absurd c.to
+pub comes_left : {code : List Instr} {i : ℕ} {f : Family} {v : Services} {aims : Aims (Option BasicValue)} (close : State → State) (flow : Flow (Unit {0})) → Comes code i f v (inside aims close) flow → Comes code i f v aims (left true close flow)
+comes_left close (Normal x s) c = record { to = c.to }
+comes_left close (Jump height label s) c = absurd c.to
+comes_left close (Return x s) c = record { to = c.to }
+comes_left close (F.Ended s) c = record { to = c.to }
+comes_left close (Paused s) c = record { to = c.to }
+comes_left close Stuck c = absurd c.to

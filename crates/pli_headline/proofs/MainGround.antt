@@ -16,11 +16,12 @@ use Rattle.pli_headline.proofs.Engine.{Base, address}
 use Rattle.pli_headline.proofs.Numbers.{above_sum, above_small, word_small}
 use Rattle.pli_headline.proofs.Scalars.{Fits, fits_wide, load_kind, store_kind, Typed, kind_at, kind_is, place_below}
 use Rattle.pli_headline.proofs.Cells.{Cell, kept_by, content, content_word, cell_other, cell_stored, cell_found}
-use Rattle.pli_headline.proofs.Bodies.{Ground, PlaceOf}
+use Rattle.pli_headline.proofs.Bodies.{Ground, PlaceFrom}
+use Rattle.pli_headline.proofs.Reaching.{Reaches}
 use Rattle.pli_headline.proofs.Temporaries.{Temporaries}
 use Rattle.pli_headline.proofs.Variables.{IsDeclared, data_place}
 use Rattle.pli_headline.proofs.States.{with_number_at}
-use Rattle.pli_headline.proofs.Statements.{Block}
+use Rattle.pli_headline.proofs.Statements.{Stack, Block}
 
 -- where the frame lies, its words for temporaries, how many variables stand in it, and the index at which its caller goes on
 pub record Frame : Type 0 where
@@ -61,7 +62,7 @@ ground_of f first numbers =
 
 -- ---- temporaries
 
-apart_words : (at i j words : ℕ) → (i == j) ≡ false → i < words → j < words → 4 * words ≤ at → (at - 4 * suc i + 4 ≤ at - 4 * suc j) ⊎ (at - 4 * suc j + 4 ≤ at - 4 * suc i)
+pub apart_words : (at i j words : ℕ) → (i == j) ≡ false → i < words → j < words → 4 * words ≤ at → (at - 4 * suc i + 4 ≤ at - 4 * suc j) ⊎ (at - 4 * suc j + 4 ≤ at - 4 * suc i)
 apart_words at i j words e h k r = grind (arith, nat_tests)
 
 word_put : (q : Bool) (m : List ℕ) (t : ℕ → ℕ) (at i j x words : ℕ) → (i == j) ≡ q → length m ≡ memory_size → x < 2 ^ 32 → i < words → j < words → 4 * words ≤ at → at ≤ memory_size → load 4 m (at - 4 * suc i) ≡ t i → load 4 (store 4 m (at - 4 * suc j) x) (at - 4 * suc i) ≡ cond q x (t i)
@@ -86,7 +87,7 @@ main_temporaries f first numbers =
             variables = λ i h. cell_other 4 m p x (f.at + number_place i) (word (numbers i)) (inr (omega (arith, above, below))) (o.variables i h);
             temporaries = λ i h. word_put (i == j) m t f.at i j x f.words refl len fits h below (omega (arith, above)) (omega (arith, inside)) (o.temporaries i h);
           };
-      found = λ t b m j below o. o.temporaries j below;
+      found = λ t b m j below known o. o.temporaries j below;
     }
 
 -- ---- variables
@@ -94,7 +95,7 @@ main_temporaries f first numbers =
 apart_numbers : (n at i j : ℕ) → n ≤ 4 → (i == j) ≡ false → (at + number_place i + 4 ≤ at + number_place j) ⊎ (at + number_place j + n ≤ at + number_place i)
 apart_numbers n at i j few e = grind (arith, nat_tests)
 
-width_few : (kind : StoreKind) → store_width kind ≤ 4
+pub width_few : (kind : StoreKind) → store_width kind ≤ 4
 width_few Store.Byte = omega arith
 width_few Store.Half = omega arith
 width_few Store.Word = omega arith
@@ -143,8 +144,8 @@ no_contents f first numbers others t b m none o =
       temporaries = o.temporaries;
     }
 
-pub place_at : (f : Frame) (first : List ℕ) (numbers : ℕ → ℤ) (j n : ℕ) → j < f.count → n ≡ number_place j → PlaceOf (ground_of f first numbers) (pos n) (f.at + n)
-place_at f first numbers j n below e =
+pub place_at : (f : Frame) (j n : ℕ) → j < f.count → n ≡ number_place j → PlaceFrom f.at (pos n) (f.at + n)
+place_at f j n below e =
     let above = f.above_statics in
     let inside = f.inside in
     let whole = f.whole in
@@ -161,24 +162,58 @@ reads_by f first kind numbers j type below e fits t b m o =
     let found : Cell m (f.at + number_place j) (word (content type (numbers j))) = subst (λ u. Cell m (f.at + number_place j) (word (content u (numbers j)))) e (o.variables j below) in
     cell_found type (numbers j) m (f.at + number_place j) fits (subst (Cell m (f.at + number_place j)) (content_word type (numbers j) (fits_wide type (numbers j) fits)) found)
 
+-- what lies above the frame may change
+pub main_keeps : (f : Frame) (first : List ℕ) (numbers : ℕ → ℤ) (t : ℕ → ℕ) (b : Base) (m : List ℕ) (p x : ℕ) → f.at + 144 + 32 * f.count ≤ p → Stands f first numbers t b m → Stands f first numbers t b (store 4 m p x)
+main_keeps f first numbers t b m p x over o =
+    let above = f.above_statics in
+    record {
+      statics = λ k h. byte-store_below 4 m p x k (omega (arith, above, over, h)) ∙ o.statics k h;
+      resumes = load-store_other 4 4 m p x f.at (inl (omega (arith, over))) ∙ o.resumes;
+      below = load-store_other 4 4 m p x (f.at + 4) (inl (omega (arith, over))) ∙ o.below;
+      own = load-store_other 4 4 m p x (f.at + 36) (inl (omega (arith, over))) ∙ o.own;
+      variables = λ j h. cell_other 4 m p x (f.at + number_place j) (word (numbers j)) (inl (omega (arith, over, h))) (o.variables j h);
+      temporaries = λ j h. load-store_other 4 4 m p x (f.at - 4 * suc j) (inl (omega (arith, over))) ∙ o.temporaries j h;
+    }
+
+abbrev main_stack : (f : Frame) (first : List ℕ) (e : Environment) (block : ℕ) (types : Types) → ((j : ℕ) (type : Y.LeafType) → slice_get types j ≡ Some type → j < f.count) → ((j : ℕ) → j < f.count → data_place e block j ≡ number_place j) → Stack e block types f.at (λ n. ground_of f first (contents (kind_at types) n))
+main_stack f first e block types inside placed =
+    let above = f.above_statics in
+    let whole = f.whole in
+    record {
+      frame = f.at;
+      free = f.at + 144 + 32 * f.count;
+      frame_is = λ n. refl;
+      free_is = λ n. refl;
+      aligned = omega (arith, whole);
+      high = omega (arith, above);
+      above = omega arith;
+      keeps = λ n. main_keeps f first (contents (kind_at types) n);
+      under = λ j {type} below. let h = inside j type below in let e' = placed j h in omega (arith, e', h);
+    }
+
 -- the main procedure's block, where its variables are scalars and stand one behind the other
-unfoldable pub main_block : (f : Frame) (first : List ℕ) (e : Environment) (block : ℕ) (types : Types) → f.count ≡ length types → ((j : ℕ) (b : Typed types j) → IsDeclared e block j b.0) → ((j : ℕ) → j < f.count → data_place e block j ≡ number_place j) → Block e block types
-main_block f first e block types count declared placed =
+unfoldable pub main_block : (f : Frame) (first : List ℕ) (e : Environment) (block : ℕ) (types : Types) → e.level ≡ 0 → f.count ≡ length types → ((j : ℕ) (b : Typed types j) → IsDeclared e block j b.0) → ((j : ℕ) → j < f.count → data_place e block j ≡ number_place j) → Block e block types
+main_block f first e block types outermost count declared placed =
     let inside : (j : ℕ) (type : Y.LeafType) → slice_get types j ≡ Some type → j < f.count = λ j type h. let n = place_below types j type h in omega (arith, n, count) in
     record {
       ground = λ n. ground_of f first (contents (kind_at types) n);
       words = f.words;
       taken = none_taken;
       labels = [];
+      base = f.at;
+      within = let i = f.inside in omega (arith, i);
       words_are = λ n. refl;
       same = λ n n' b h. refl;
       temps = λ n. main_temporaries f first (contents (kind_at types) n);
       declared = λ j {type} below. declared j (type, below);
-      places = λ n j {type} below. place_at f first (contents (kind_at types) n) j (data_place e block j) (inside j type below) (placed j (inside j type below));
+      reach = λ n. subst (λ l. Reaches (0 == l) (ground_of f first (contents (kind_at types) n)) f.at) (sym outermost) refl;
+      places = λ j {type} below. place_at f j (data_place e block j) (inside j type below) (placed j (inside j type below));
       reads = λ n j {type} below fits t b m o. ap (λ u. extended (load_kind type) (load (load_width (load_kind type)) m (f.at + u))) (placed j (inside j type below)) ∙ reads_by f first (kind_at types) n j type (inside j type below) (kind_is types j below) fits t b m o;
       writes = λ n j z {type} below old fits t b m len o.
           let k = kind_is types j below in
           let T : Y.LeafType → ℕ → Type 0 = λ w u. Stands f first (contents (kind_at types) (with_number_at n j z)) t b (store (store_width (store_kind w)) m (f.at + u) (word z)) in
           let d = main_writes f first (kind_at types) n j z (inside j type below) (subst (λ w. Fits w (n j)) (sym k) old) (subst (λ w. Fits w z) (sym k) fits) t b m len o in
           subst (λ w. T w (data_place e block j)) k (subst (T (kind_at types j)) (sym (placed j (inside j type below))) d);
+      held = refl;
+      stack = main_stack f first e block types inside placed;
     }

@@ -2,6 +2,7 @@
 -- image through the entry of the procedure to its statements, and from their end to the end of the run.
 use Rattle.std.proofs.Common.{◌≡◌, ℕ, suc, ◌+◌, ◌*◌, ◌^◌, ◌<◌, ◌≤◌, List, [], ◌++◌, length, Option, None, true, false, refl, sym, ap, ◌∙◌, subst, arith}
 use Rattle.std.specs.Prelude.{pos}
+use Rattle.std.proofs.lemmas.Bool.{eq-eqb}
 use Rattle.rv_meaning.specs.declared.instr.Instr.{Instr}
 use Rattle.rv_meaning.specs.Machine.{memory_size}
 use Rattle.rv_meaning.specs.Tables.{TableSignature}
@@ -33,12 +34,12 @@ use Rattle.pli_headline.proofs.Jumps.{front_of, back_of, rest_of, linked_at}
 use Rattle.pli_headline.proofs.Temporaries.{nothing}
 use Rattle.pli_headline.proofs.Calls.{Serving}
 use Rattle.pli_headline.proofs.Acts.{act_piece}
-use Rattle.pli_headline.proofs.Statements.{Block, AllHold, Does, counted_holds}
+use Rattle.pli_headline.proofs.Statements.{Block, AllHold, Does, counted_all}
 use Rattle.pli_headline.proofs.Variables.{data_place}
 use Rattle.pli_headline.proofs.Reach.{Family, Aims, Comes, Closed, before, before_closed, comes_on, onward, never, never_closed}
 use Rattle.pli_headline.proofs.MainGround.{ground_of, number_place, contents, no_contents, main_block}
 use Rattle.pli_headline.proofs.MainProcedure.{main_head, main_procedure, IsAlone, main_environment, main_words, main_plain, declared_at, main_place, statics_meant}
-use Rattle.pli_headline.proofs.Scalars.{Scalar, kind_at, kind_is, place_below}
+use Rattle.pli_headline.proofs.Scalars.{Scalar, Typed, kind_at, kind_is, place_below}
 use Rattle.pli_headline.proofs.PlainNumbers.{scalars_of, are_of, length_types}
 use Rattle.pli_headline.proofs.VariableServed.{Ready}
 use Rattle.pli_headline.proofs.States.{Holds}
@@ -46,7 +47,7 @@ use Rattle.pli_headline.proofs.Marks.{Placed}
 use Rattle.pli_headline.proofs.FirstFrame.{start_resume, start_family, start_ground, no_texts, finish_linked, zeros, started}
 use Rattle.pli_headline.proofs.MainFrame.{main_frame, first_words}
 use Rattle.pli_headline.proofs.Prologue.{begun}
-use Rattle.pli_headline.proofs.MainStates.{begin_numbers, begin_contents, main_state, scalars_hold, no_units, main_activation, main_services, no_units_served}
+use Rattle.pli_headline.proofs.MainStates.{begin_numbers, begin_contents, main_state, scalars_hold, scalars_owned, main_services, main_nested}
 use Rattle.pli_headline.proofs.VariablesMade.{variables_piece}
 use Rattle.pli_headline.proofs.Leaving.{leaving_piece}
 use Rattle.pli_headline.proofs.MainFlow.{inside, inside_closed, comes_left}
@@ -94,7 +95,7 @@ main_data program block line body j all alone below few =
 
 abbrev pub block_of : (program : Y.Program) (block line : ℕ) (body : Y.Stmts) (first : List ℕ) (all : AllPlain program.variables) (alone : IsAlone program block line body) (small' : main_words program block body ≤ most_code) (few : 32 * main_count program block ≤ 2 ^ 20) → Block (main_environment program block) block (main_types program block)
 block_of program block line body first all alone small' few =
-    main_block (main_frame (main_words program block body) (main_count program block) small' few) first (main_environment program block) block (main_types program block) (sym (length_types (variables_of_block program block)))
+    main_block (main_frame (main_words program block body) (main_count program block) small' few) first (main_environment program block) block (main_types program block) refl (sym (length_types (variables_of_block program block)))
     (λ j b. declared_at (variables_of_block program block) j (main_plain program block all) b.1)
     (λ j below. main_data program block line body j all alone below few)
 
@@ -113,7 +114,7 @@ to_finish_closed : (code : List Instr) (k : ℕ) → Closed code (to_finish code
 to_finish_closed code k =
     before_closed k (λ (u : Option BasicValue). finish {R = Unit {0}} E.Finished) (never_closed code)
 
-statements_piece : {links : Links} {code : List Instr} {i : ℕ} {h t : ℕ → ℕ} (program : Y.Program) (block line : ℕ) (body : Y.Stmts) (first : List ℕ) (all : AllPlain program.variables) (alone : IsAlone program block line body) (small' : main_words program block body ≤ most_code) (few : 32 * main_count program block ≤ 2 ^ 20) (k : ℕ) → BodyDoes program block line body first all alone small' links code k → 2 ≤ i → Linked links code i (stmts_code (main_environment program block) none_taken body ++ procedure_ended (main_environment program block) (main_head block line) (main_words program block body) None) → Linked links code start_resume finish_code → (s : State) → {v : Services} → (g : Family) → Serving k s v line → AllHold s block (main_types program block) (begin_numbers (main_kind program block)) → ((b : Base) → At b i (Known (ground_of (main_frame (main_words program block body) (main_count program block) small' few) first (begin_contents (main_kind program block))) v h t nothing b) (g b)) → Comes code i g v (inside (to_finish code k) newest_ended) ((M.list (main_around program k line) body >> M.end_reached (main_around program k line) false) k s)
+statements_piece : {links : Links} {code : List Instr} {i : ℕ} {h t : ℕ → ℕ} (program : Y.Program) (block line : ℕ) (body : Y.Stmts) (first : List ℕ) (all : AllPlain program.variables) (alone : IsAlone program block line body) (small' : main_words program block body ≤ most_code) (few : 32 * main_count program block ≤ 2 ^ 20) (k : ℕ) → BodyDoes program block line body first all alone small' links code k → 2 ≤ i → Linked links code i (stmts_code (main_environment program block) none_taken body ++ procedure_ended (main_environment program block) (main_head block line) (main_words program block body) None) → Linked links code start_resume finish_code → (s : State) → {v : Services} → (g : Family) → Serving k s v line → AllHold 1 s block (main_types program block) (begin_numbers (main_kind program block)) → ((b : Base) → At b i (Known (ground_of (main_frame (main_words program block body) (main_count program block) small' few) first (begin_contents (main_kind program block))) v h t nothing b) (g b)) → Comes code i g v (inside (to_finish code k) newest_ended) ((M.list (main_around program k line) body >> M.end_reached (main_around program k line) false) k s)
 unfolding main_block M.end_reached give ◌>>◌
 statements_piece {code = code} {i = i} {h = h} {t = t} program block line body first all alone small' few k does' later l finish' s g serving holds at =
     let e = main_environment program block in
@@ -129,9 +130,25 @@ statements_piece {code = code} {i = i} {h = h} {t = t} program block line body f
     (λ s' v' line' n' h' t' g' serving' all' stays' at'.
     record {
       to =
-          leaving_piece (never_closed code) e block line (main_words program block body) f first (contents (kind_at (main_types program block)) n') g' s' (with_world s'.world (newest_ended s')) line' k (omega (arith, small')) (omega arith) (back_of st en l) finish' serving' refl at';
+          leaving_piece (never_closed code) e block line (main_words program block body) f first (contents (kind_at (main_types program block)) n') g' s' (with_world s'.world (newest_ended s')) line' k (omega (arith, small')) (omega arith) (back_of st en l) finish' serving' all'.entered refl at';
     })
-    (record { enough = omega arith; later = later; jumps = λ label among once. let none : false ≡ true = among in absurd (cc none) }))
+    (record {
+      enough = omega arith;
+      later = later;
+      jumps = λ label among once. let none : false ≡ true = among in absurd (cc none);
+      returns = λ outermost once.
+          let ended = back_of st en l in
+          let o1 = ended.inside in
+          let o2 = ended.small' in
+          record {
+            at = i + size_of st;
+            place = ended.has.0 (eq-eqb block block refl) once;
+            near = omega (arith, o1, o2);
+            later = omega (arith, later);
+            leaves = λ s' v' line' n' h' t' g' serving' all' at'.
+                leaving_piece (never_closed code) e block line (main_words program block body) f first (contents (kind_at (main_types program block)) n') g' s' (with_world s'.world (newest_ended s')) line' k (omega (arith, small')) (omega arith) ended finish' serving' all'.entered refl at';
+          };
+    }))
 
 -- ---- from the start to the statements
 
@@ -141,16 +158,16 @@ serving_first table kind input at line count k fits =
       world = refl;
       running = refl;
       line_is = refl;
+      input = refl;
       allowed = omega arith;
       fits = fits;
-      entered = (main_activation at, refl);
-      alone = record { units = no_units kind input count; height = refl; outermost = refl };
-      alone_served = no_units_served table kind input at line count;
+      nested = main_nested table kind input at line count;
+      waiting = refl;
     }
 
--- all variables hold what they begin with
-main_hold : (links : Links) (code : List Instr) (first : List ℕ) (program : Y.Program) (block : ℕ) (input : List ℕ) → AllReady links code first program block → AllHold (main_state (main_kind program block) input (main_count program block)) block (main_types program block) (begin_numbers (main_kind program block))
-main_hold links code first program block input ready j b =
+-- each variable holds what it begins with
+main_holds : (links : Links) (code : List Instr) (first : List ℕ) (program : Y.Program) (block : ℕ) (input : List ℕ) → AllReady links code first program block → (j : ℕ) (b : Typed (main_types program block) j) → Holds (main_state (main_kind program block) input (main_count program block)) block j b.0 (begin_numbers (main_kind program block) j)
+main_holds links code first program block input ready j b =
     let n = main_count program block in
     let kind = main_kind program block in
     let same : (kind j).type ≡ b.0 = kind_is (main_types program block) j b.1 in
@@ -160,6 +177,14 @@ main_hold links code first program block input ready j b =
     let mine = ready j inside in
     subst (λ u. Holds (main_state kind input n) block j u (begin_numbers kind j)) same
     (scalars_hold kind input block n j inside mine.numbered.scalar mine.begins)
+
+main_hold : (links : Links) (code : List Instr) (first : List ℕ) (program : Y.Program) (block : ℕ) (input : List ℕ) → AllReady links code first program block → AllHold 1 (main_state (main_kind program block) input (main_count program block)) block (main_types program block) (begin_numbers (main_kind program block))
+main_hold links code first program block input ready =
+    record {
+      numbers = λ j b. main_holds links code first program block input ready j b;
+      entered = refl;
+      owned = λ height above. scalars_owned (main_kind program block) (main_count program block) height above;
+    }
 
 -- behind the variables: the act of the entry, and the statements
 body_piece : {links : Links} {code : List Instr} {i : ℕ} {h t : ℕ → ℕ} (program : Y.Program) (block line : ℕ) (body : Y.Stmts) (first input : List ℕ) (all : AllPlain program.variables) (alone : IsAlone program block line body) (small' : main_words program block body ≤ most_code) (few : 32 * main_count program block ≤ 2 ^ 20) (k : ℕ) → AllReady links code first program block → line < 2 ^ 31 → k + 1 < 2 ^ 64 → BodyDoes program block line body first all alone small' links code k → 2 ≤ i → Linked links code i (act_code line) → Linked links code (i + size_of (act_code line)) (stmts_code (main_environment program block) none_taken body ++ procedure_ended (main_environment program block) (main_head block line) (main_words program block body) None) → Linked links code start_resume finish_code → (at : ℕ) (g : Family) → ((b : Base) → At b i (Known (ground_of (main_frame (main_words program block body) (main_count program block) small' few) first (begin_contents (main_kind program block))) (main_services (table_of program) (main_kind program block) input at line (main_count program block)) h t nothing b) (g b)) → Comes code i g (main_services (table_of program) (main_kind program block) input at line (main_count program block)) (inside (to_finish code k) newest_ended) (main_body program k line body k (main_state (main_kind program block) input (main_count program block)))
@@ -172,7 +197,7 @@ body_piece {links = links} {code = code} program block line body first input all
     comes_on k (act counted k s) next'
     (act_piece (before_closed k next' closed) g line line k low l (serving_first (table_of program) (main_kind program block) input at line n k fits) there (λ g' serving' there'.
     statements_piece program block line body first all alone small' few k does' (omega (arith, later)) behind finish' (with_world (counted s.world) s) g' serving'
-    (λ j below. counted_holds (counted s.world) (main_hold links code first program block input ready j below)) there'))
+    (counted_all (counted s.world) (main_hold links code first program block input ready)) there'))
 
 -- from the entry of the procedure
 procedure_piece : {links : Links} {code : List Instr} (program : Y.Program) (block line : ℕ) (body : Y.Stmts) (first input : List ℕ) (all : AllPlain program.variables) (alone : IsAlone program block line body) (small' : main_words program block body ≤ most_code) (k entry : ℕ) → AllReady links code first program block → line < 2 ^ 31 → k + 1 < 2 ^ 64 → length first ≡ memory_size → 2 ≤ entry → BodyDoes program block line body first all alone small' links code k → Linked links code entry (procedure_in (main_environment program block) (main_head block line) body [] None) → Linked links code start_resume finish_code → (g : Family) → ((b : Base) → At b entry (Known (start_ground first) (first_services (table_of program) input) zeros zeros (with' 1 (λ b'. address b' start_resume) no_texts) b) (g b)) → Comes code entry g (first_services (table_of program) input) (inside (to_finish code k) newest_ended) (flow_on k (K.variables_made (main_around program k line) 0 (variables_of_block program block) k (main_state (main_kind program block) input 0)) (λ u. main_body program k line body))
@@ -234,5 +259,5 @@ main_runs {links} {code} program block line body first input all alone small' k 
     subst (Comes code 0 (start_family first v) v never) (sym (run_meant program block line body input k all alone))
     (onward (never_closed code) (started first v block placed.entry len placed.start placed.entry_is behind (omega (arith, room, long))) (λ g at.
     comes_on k (left true newest_ended flow) next'
-    (comes_left true newest_ended flow
+    (comes_left newest_ended flow
     (procedure_piece program block line body first input all alone small' k placed.entry ready low fits len (omega (arith, behind)) does' placed.procedure finish' g at))))

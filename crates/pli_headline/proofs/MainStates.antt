@@ -3,7 +3,6 @@ use Rattle.std.proofs.Common.{◌≡◌, ℕ, zero, suc, ◌+◌, ◌*◌, ◌<�
 use Rattle.std.specs.Prelude.{ℤ, pos, cond, nat_le, ◌==◌}
 use Rattle.std.proofs.lemmas.Bool.{eqb-true}
 use Rattle.std.proofs.lemmas.Bool.Decides.{nat_tests}
-use Rattle.pli_language.specs.declared.condition.Condition.{Condition}
 use Rattle.rv_meaning.specs.Tables.{TableSignature}
 use Rattle.pli_meaning.specs.World.{first_world}
 use Rattle.pli_meaning.specs.InputLines.{first_input}
@@ -12,18 +11,18 @@ use Rattle.pli_language.specs.Tree as T
 use Rattle.pli_typing.specs.TypedTree as Y
 use Rattle.pli_meaning.specs.Contents.{Generation, footprint_of, fresh}
 use Rattle.pli_meaning.specs.BasicValues.{BasicBit}
-use Rattle.pli_meaning.specs.StorageState.{State, Living, Binding, Activation, generation_of, living_of, binding_of, automatic_in_use, force}
+use Rattle.pli_meaning.specs.StorageState.{State, Living, Binding, Activation, generation_of, living_of, binding_of, automatic_in_use}
 use Rattle.pli_serving.specs.Templates.{template_of}
 use Rattle.pli_serving.specs.ServiceState as S
 use Rattle.pli_serving.specs.ServiceState.{Services}
 use Rattle.pli_serving.specs.Making as G
-use Rattle.pli_serving.specs.OnUnits as U
 use Rattle.pli_headline.specs.ProvedSoFar.{IsScalar, IsConstantOf, IsInitial}
 use Rattle.pli_headline.proofs.Scalars.{Scalar, IsNumeric, by_type, is_numeric, value_as, bit_back, constant_number, begin_of, begin_fits}
 use Rattle.pli_headline.proofs.MainGround.{number_place, contents}
 use Rattle.pli_headline.proofs.InitialRead.{once_only}
 use Rattle.pli_headline.proofs.PlainNumbers.{number_for, Numbered, numbered_shape}
-use Rattle.pli_headline.proofs.States.{Holds}
+use Rattle.pli_headline.proofs.Activations.{Nested}
+use Rattle.pli_headline.proofs.States.{Holds, NoneOwned}
 use Rattle.pli_headline.proofs.Variables.{scalar_shape, scalar_binding}
 
 -- ---- in the meaning
@@ -121,8 +120,13 @@ scalars_hold kind input block count j below is begins =
       fits = begin_fits (kind j).type (kind j).initial is begins;
     }
 
-pub no_units : (kind : ℕ → Scalar) (input : List ℕ) (count : ℕ) (c : Condition) → force (main_state kind input count).activations c ≡ None
-no_units kind input count c = refl
+other_height : (height : ℕ) → 1 < height → (1 == height) ≡ false
+other_height height above = grind (arith, nat_tests)
+
+-- all that lives is of the first height
+pub scalars_owned : (kind : ℕ → Scalar) (count height : ℕ) → 1 < height → NoneOwned height (scalars_living kind count)
+scalars_owned kind zero height above = tt
+scalars_owned kind (suc j) height above = (other_height height above, scalars_owned kind j height above)
 
 -- ---- in the services
 
@@ -166,5 +170,6 @@ served_in_use table kind frame (suc j) are =
     let rest = served_in_use table kind frame j (λ i h. are i (omega (arith, h))) in
     omega (arith, shape, rest)
 
-pub no_units_served : (table : List TableSignature) (kind : ℕ → Scalar) (input : List ℕ) (frame line count : ℕ) (c : Condition) → U.force (main_services table kind input frame line count).activations c ≡ None
-no_units_served table kind input frame line count c = refl
+pub main_nested : (table : List TableSignature) (kind : ℕ → Scalar) (input : List ℕ) (frame line count : ℕ) → Nested (main_state kind input count).activations (main_services table kind input frame line count).activations
+main_nested table kind input frame line count =
+    (record { height = refl; level = refl; parent = refl; units = refl }, (refl, tt))

@@ -134,6 +134,7 @@ filled_path links code i first v f b w later none near len small' k =
                           over_word f b (sum (x 5) (word (pos 0))) 40 refl (omega arith) e',
                           omega (arith, low),
                           (
+                            omega (arith, later),
                             refl,
                             (
                               over_word f b (sum (x 5) (word (pos 0))) 36 refl (omega arith) e',

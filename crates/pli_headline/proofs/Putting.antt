@@ -1,5 +1,5 @@
 -- PUT EDIT: items one behind the other, pairs, and the statement.
-use Rattle.std.proofs.Common.{◌≡◌, ℕ, ◌+◌, ◌^◌, ◌<◌, ◌≤◌, inl, List, [], ◌∷◌, ◌++◌, None, true, refl, sym, ap, ◌∙◌, subst, arith}
+use Rattle.std.proofs.Common.{◌≡◌, ℕ, suc, ◌+◌, ◌^◌, ◌<◌, ◌≤◌, inl, List, [], ◌∷◌, ◌++◌, None, true, refl, sym, ap, ◌∙◌, subst, arith}
 use Rattle.std.specs.Prelude.{ℤ}
 use Rattle.std.proofs.Math.Nat.{le-max_left, le-max_right}
 use Rattle.rv_meaning.specs.declared.instr.Instr.{Instr}
@@ -29,8 +29,7 @@ use Rattle.pli_headline.proofs.Jumps.{front_of, back_of}
 use Rattle.pli_headline.proofs.Temporaries.{nothing, Stays, stays_same, stays_then}
 use Rattle.pli_headline.proofs.Calls.{Serving}
 use Rattle.pli_headline.proofs.Acts.{act_piece}
-use Rattle.pli_headline.proofs.Variables.{outermost}
-use Rattle.pli_headline.proofs.Statements.{Standing, Block, AllHold, counted_holds, Behind, Does}
+use Rattle.pli_headline.proofs.Statements.{Standing, Block, AllHold, counted_all, Behind, Does}
 use Rattle.pli_headline.proofs.FormatData.{Suit, formats_suit}
 use Rattle.pli_headline.proofs.EditItems.{putting, at_places}
 use Rattle.pli_headline.proofs.EditPieces.{begin_piece, end_piece, at_other_places}
@@ -44,10 +43,10 @@ use Rattle.pli_headline.proofs.PutItems.{item_piece}
 
 -- behind items
 abbrev pub ItemsBehind : {e : Environment} {block : ℕ} {types : Types} → Block e block types → (k line : ℕ) → (h t : ℕ → ℕ) → (i : ℕ) → (ℕ → ℤ) → T.Formats → (below : List EditPlace) → Aims (Unit {0}) → Type 0
-ItemsBehind {block = block} {types = types} bl k line h0 t0 i n fs below aims =
-    (s : State) (v : Services) (rest : List FormatItem) (h t : ℕ → ℕ) (f : Family) → Serving k s v line → AllHold s block types n → Suit (has_fixed fs) (has_text fs) rest → v.edits ≡ putting (format_items fs) rest ∷ below → Stays bl.taken h0 t0 h t → ((b : Base) → At b i (Known (bl.ground n) v h t nothing b) (f b)) → aims.done i f v tt s
+ItemsBehind {e = e} {block = block} {types = types} bl k line h0 t0 i n fs below aims =
+    (s : State) (v : Services) (rest : List FormatItem) (h t : ℕ → ℕ) (f : Family) → Serving k s v line → AllHold (suc e.level) s block types n → Suit (has_fixed fs) (has_text fs) rest → v.edits ≡ putting (format_items fs) rest ∷ below → Stays bl.taken h0 t0 h t → ((b : Base) → At b i (Known (bl.ground n) v h t nothing b) (f b)) → aims.done i f v tt s
 
-items_piece : {e : Environment} {block : ℕ} {types : Types} (bl : Block e block types) {links : Links} {code : List Instr} (items : List Y.PutItem) {i : ℕ} {v : Services} {h t : ℕ → ℕ} {s : State} {aims : Aims (Unit {0})} (closed : Closed code aims) (routines : Standing bl links code) (f : Family) (around : Around) (fs : T.Formats) (n : ℕ → ℤ) (rest : List FormatItem) (below : List EditPlace) (k : ℕ) → AreProvedItems block types items → bl.taken.words + put_items_words items ≤ bl.words → AreProvedFormats fs → HasData fs → (has_text fs ≡ true → HavePrecisions items) → Suit (has_fixed fs) (has_text fs) rest → v.edits ≡ putting (format_items fs) rest ∷ below → Linked links code i (C.items_put (outermost e) bl.taken fs items) → Serving k s v around.line → AllHold s block types n → ((b : Base) → At b i (Known (bl.ground n) v h t nothing b) (f b)) → ItemsBehind bl k around.line h t (i + size_of (C.items_put (outermost e) bl.taken fs items)) n fs below aims → Comes code i f v aims (P.items_put around (format_items fs) rest items k s)
+items_piece : {e : Environment} {block : ℕ} {types : Types} (bl : Block e block types) {links : Links} {code : List Instr} (items : List Y.PutItem) {i : ℕ} {v : Services} {h t : ℕ → ℕ} {s : State} {aims : Aims (Unit {0})} (closed : Closed code aims) (routines : Standing bl links code) (f : Family) (around : Around) (fs : T.Formats) (n : ℕ → ℤ) (rest : List FormatItem) (below : List EditPlace) (k : ℕ) → AreProvedItems block types items → bl.taken.words + put_items_words items ≤ bl.words → AreProvedFormats fs → HasData fs → (has_text fs ≡ true → HavePrecisions items) → Suit (has_fixed fs) (has_text fs) rest → v.edits ≡ putting (format_items fs) rest ∷ below → Linked links code i (C.items_put e bl.taken fs items) → Serving k s v around.line → AllHold (suc e.level) s block types n → ((b : Base) → At b i (Known (bl.ground n) v h t nothing b) (f b)) → ItemsBehind bl k around.line h t (i + size_of (C.items_put e bl.taken fs items)) n fs below aims → Comes code i f v aims (P.items_put around (format_items fs) rest items k s)
 unfolding P.items_put ◌>>=◌ give
 items_piece bl [] {i = i} {v = v} {h = h} {t = t} {s = s} {aims = aims} closed routines f around fs n rest below k is room are has precise suits edits l serving all at goal =
     let e : i ≡ i + 0 = omega arith in
@@ -55,8 +54,8 @@ items_piece bl [] {i = i} {v = v} {h = h} {t = t} {s = s} {aims = aims} closed r
       to = subst (λ u. aims.done u f v tt s) (sym e) (goal s v rest h t f serving all suits edits (stays_same bl.taken h t) (λ b. record { pc = (at b).pc ∙ ap (address b) e; holds = (at b).holds }));
     }
 items_piece {e} bl {links} {code} (item ∷ items) {i} {v} {h} {t} {s} {aims} closed routines f around fs n rest below k is room are has precise suits edits l serving all at goal =
-    let a = C.item_put (outermost e) bl.taken fs item in
-    let c = C.items_put (outermost e) bl.taken fs items in
+    let a = C.item_put e bl.taken fs item in
+    let c = C.items_put e bl.taken fs items in
     let next' : List FormatItem → Meaning (Unit {0}) = λ left. P.items_put around (format_items fs) left items in
     let m1 = le-max_left (put_item_words item) (put_items_words items) in
     let m2 = le-max_right (put_item_words item) (put_items_words items) in
@@ -72,7 +71,7 @@ items_piece {e} bl {links} {code} (item ∷ items) {i} {v} {h} {t} {s} {aims} cl
 
 -- ---- pairs
 
-pub pairs_piece : {e : Environment} {block : ℕ} {types : Types} (bl : Block e block types) {links : Links} {code : List Instr} (pairs : List Y.PutPair) {i : ℕ} {v : Services} {h t : ℕ → ℕ} {s : State} {aims : Aims (Unit {0})} (closed : Closed code aims) (routines : Standing bl links code) (f : Family) (around : Around) (n : ℕ → ℤ) (k : ℕ) → AreProvedPairs block types pairs → bl.taken.words + put_words pairs ≤ bl.words → Linked links code i (put_pairs (outermost e) bl.taken pairs) → Serving k s v around.line → AllHold s block types n → ((b : Base) → At b i (Known (bl.ground n) v h t nothing b) (f b)) → Behind bl k h t (i + size_of (put_pairs (outermost e) bl.taken pairs)) aims → Comes code i f v aims (P.pairs_put around pairs k s)
+pub pairs_piece : {e : Environment} {block : ℕ} {types : Types} (bl : Block e block types) {links : Links} {code : List Instr} (pairs : List Y.PutPair) {i : ℕ} {v : Services} {h t : ℕ → ℕ} {s : State} {aims : Aims (Unit {0})} (closed : Closed code aims) (routines : Standing bl links code) (f : Family) (around : Around) (n : ℕ → ℤ) (k : ℕ) → AreProvedPairs block types pairs → bl.taken.words + put_words pairs ≤ bl.words → Linked links code i (put_pairs e bl.taken pairs) → Serving k s v around.line → AllHold (suc e.level) s block types n → ((b : Base) → At b i (Known (bl.ground n) v h t nothing b) (f b)) → Behind bl k h t (i + size_of (put_pairs e bl.taken pairs)) aims → Comes code i f v aims (P.pairs_put around pairs k s)
 unfolding P.pairs_put ◌>>◌ give
 pairs_piece bl [] {i = i} {v = v} {h = h} {t = t} {s = s} {aims = aims} closed routines f around n k is room l serving all at goal =
     let e : i ≡ i + 0 = omega arith in
@@ -86,9 +85,9 @@ pairs_piece {e} bl {links} {code} (p ∷ pairs) {i} {v} {h} {t} {s} {aims} close
     let precise = is.1.0.1.1 in
     let whole = format_items fs in
     let begun = edit_begun fs 1 in
-    let items = C.items_put (outermost e) bl.taken fs p.items in
-    let pair = put_pair (outermost e) bl.taken p in
-    let c = put_pairs (outermost e) bl.taken pairs in
+    let items = C.items_put e bl.taken fs p.items in
+    let pair = put_pair e bl.taken p in
+    let c = put_pairs e bl.taken pairs in
     let bytes = bytes_of_words (formats_length fs ∷ formats_words fs) in
     let lp = front_of pair c l in
     let placed = lp.named (ConstantBytes bytes) (inl refl) in
@@ -119,13 +118,13 @@ pairs_piece {e} bl {links} {code} (p ∷ pairs) {i} {v} {h} {t} {s} {aims} close
 
 -- ---- the statement
 
-pub put_does : {e : Environment} {block : ℕ} {types : Types} (bl : Block e block types) (links : Links) (code : List Instr) (routines : Standing bl links code) (around : Around) (pairs : List Y.PutPair) (line : ℕ) → AreProvedPairs block types pairs → line < 2 ^ 31 → bl.taken.words + put_words pairs ≤ bl.words → Does bl links code around.turns (stmt_code (outermost e) bl.taken (Y.Put None pairs line)) (M.statement around (Y.Put None pairs line))
+pub put_does : {e : Environment} {block : ℕ} {types : Types} (bl : Block e block types) (links : Links) (code : List Instr) (routines : Standing bl links code) (around : Around) (pairs : List Y.PutPair) (line : ℕ) → AreProvedPairs block types pairs → line < 2 ^ 31 → bl.taken.words + put_words pairs ≤ bl.words → Does bl links code around.turns (stmt_code e bl.taken (Y.Put None pairs line)) (M.statement around (Y.Put None pairs line))
 unfolding M.statement P.put ◌>>◌
 put_does {e} {block} {types} bl links code routines around pairs line is fits room =
     record {
       does = λ {i} {s} {v} {h} {t} {aims} closed old n f k l serving all at goal more.
           let front = act_code line in
-          let rest = put_pairs (outermost e) bl.taken pairs in
+          let rest = put_pairs e bl.taken pairs in
           let here = at_line around line in
           let next' : Unit {0} → Meaning (Unit {0}) = λ u. P.pairs_put here pairs in
           let size = size_append front rest in
@@ -133,7 +132,7 @@ put_does {e} {block} {types} bl links code routines around pairs line is fits ro
           comes_on k (act counted k s) next'
           (act_piece (before_closed k next' closed) f line old k fits (front_of front rest l) serving at
           (λ f1 serving1 at1.
-          pairs_piece bl pairs closed routines f1 here n k is room (back_of front rest l) serving1 (λ j below. counted_holds _ (all j below)) at1
+          pairs_piece bl pairs closed routines f1 here n k is room (back_of front rest l) serving1 (counted_all _ all) at1
           (λ s2 v2 line2 n2 h2 t2 f2 serving2 all2 stays2 at2.
           subst (λ u. aims.done u f2 v2 tt s2) (sym place)
           (goal s2 v2 line2 n2 h2 t2 f2 serving2 all2 stays2 (λ b. record { pc = (at2 b).pc ∙ ap (address b) place; holds = (at2 b).holds })))));

@@ -111,10 +111,10 @@ jumping =
     (Y.EndOfList [])
 
 jumping_proved : AreProvedStatements 1 [] jumping
-jumping_proved = ((tt, (((tt, ((refl, lit< tt), lit< tt)), ((refl, lit< tt), tt)), lit< tt)), tt)
+jumping_proved = ((tt, (((tt, (lit< tt, lit< tt)), (lit< tt, tt)), lit< tt)), tt)
 
-jumps_around : AllJumpAround (all_labels jumping) (labels_in jumping) jumping
-jumps_around = (((refl, refl), ((refl, refl), tt)), tt)
+jumps_around : AllJumpAround 1 0 (all_labels 1 jumping) (labels_in jumping) jumping
+jumps_around = (((refl, (refl, refl)), ((refl, (refl, refl)), tt)), tt)
 
 -- (X(1), 2 (COLUMN(3), F(5)), A)
 abbrev page : T.Formats
@@ -147,6 +147,14 @@ shown_proved =
     let is = page_proved in
     ((((omega arith, ((omega arith, omega arith), lit< tt)), lit< tt), (lit< tt, (tt, tt))), ((is.0, (is.1, λ text. (tt, ((omega arith, omega arith), (tt, tt))))), tt))
 
+-- IF '1'B THEN RETURN; RETURN;
+abbrev returning : Y.Stmts
+returning =
+    Y.StmtThen [] (Y.If (Y.BitConstant true) (Y.Return 2) 2) (Y.StmtThen [] (Y.Return 3) (Y.EndOfList []))
+
+returning_proved : AreProvedStatements 1 [] returning
+returning_proved = ((tt, (lit< tt, lit< tt)), (lit< tt, tt))
+
 abbrev head : Y.BlockHead
 head = record { kind = Y.ProcedureBlock; number = 1; level = 0; line = 1 }
 
@@ -176,5 +184,53 @@ small_program =
           (((((i, tt), ((((omega arith, omega arith), ((omega arith, omega arith), tt)), (refl, λ text. ((omega arith, omega arith), tt))), tt))), lit< tt), tt),
         );
         jumps = (tt, (tt, tt));
+        inside = (tt, (tt, tt));
+      };
+    }
+
+-- T: PROC OPTIONS(MAIN); DECLARE I FIXED BINARY(31); BEGIN; I = 1; L: BEGIN; IF '0'B THEN GOTO M; M: END; END; END;
+abbrev inner_head : Y.BlockHead
+inner_head = record { kind = Y.BeginBlock; number = 2; level = 1; line = 2 }
+
+abbrev innermost_head : Y.BlockHead
+innermost_head = record { kind = Y.BeginBlock; number = 3; level = 2; line = 3 }
+
+abbrev innermost_body : Y.Stmts
+innermost_body =
+    Y.StmtThen [] (Y.If (Y.BitConstant false) (Y.Goto 2 (77 ∷ []) 4) 4) (Y.EndOfList ((77 ∷ []) ∷ []))
+
+abbrev inner_body : Y.Stmts
+inner_body =
+    Y.StmtThen [] (Y.Assign whole_i (Y.StoredNumber 31 (Y.NumberConstant 1)) 2)
+    (Y.StmtThen ((76 ∷ []) ∷ []) (Y.Begin (Y.BlockOf innermost_head innermost_body)) (Y.EndOfList []))
+
+abbrev outer_body : Y.Stmts
+outer_body = Y.StmtThen [] (Y.Begin (Y.BlockOf inner_head inner_body)) (Y.EndOfList [])
+
+abbrev with_block : Y.Program
+with_block =
+    record {
+      variables = [] ∷ (plain_variable (Y.FixedLeaf 31) [] ∷ []) ∷ [] ∷ [] ∷ [];
+      procedures = record { block = Y.BlockOf head outer_body; parameters = []; result = None } ∷ [];
+    }
+
+block_program : IsProvedSoFar with_block
+block_program =
+    let i : IsOwn 1 (Y.FixedLeaf 31 ∷ []) (Y.FixedLeaf 31) whole_i = record { index = 0; declared = refl; is = refl } in
+    record {
+      head = head;
+      body = outer_body;
+      alone = refl;
+      plain = (tt, ((record { type = Y.FixedLeaf 31; initial = []; scalar = (omega arith, omega arith); begins = tt; is = refl }, tt), (tt, (tt, tt))));
+      block = record {
+        kind = refl;
+        level = refl;
+        line = lit< tt;
+        statements = (
+          (refl, (lit< tt, ((i, (lit< tt, lit< tt)), ((refl, (lit< tt, ((tt, (lit< tt, lit< tt)), tt))), tt)))),
+          tt,
+        );
+        jumps = (((refl, omega arith), (tt, (((refl, omega arith), ((refl, (refl, refl)), tt)), tt))), tt);
+        inside = ((refl, (tt, ((refl, (tt, tt)), tt))), tt);
       };
     }

@@ -22,11 +22,11 @@ use Rattle.pli_coding.specs.Environments.{Environment, Taken, none_taken, is_reg
 use Rattle.pli_coding.specs.Arithmetic.{signed_code, absolute_code, sign_code, calculated_code, modulo_code, divided_code, extreme_code, negated_code, combined_code, compared_code, fitted_code}
 use Rattle.pli_coding.specs.Expressions.{number_code, extremes_code, bit_code, text_code}
 use Rattle.pli_coding.specs.Storing.{stored_into}
-use Rattle.pli_coding.specs.Streams.{value_put, number_put, text_put, as_text, item_put, items_put, edit_begun, edit_ended, put_pair, put_pairs, put_item_words, put_items_words, put_words, skip_option}
+use Rattle.pli_coding.specs.Streams.{has_fixed, get_item_words, get_items_words, get_words, value_put, number_put, text_put, as_text, item_put, items_put, edit_begun, edit_ended, put_pair, put_pairs, put_item_words, put_items_words, put_words, skip_option}
 use Rattle.pli_coding.specs.Allocating.{act_code}
 use Rattle.pli_coding.specs.Statements.{if_met, while_met, block_words, stmt_code, stmts_code, stmt_words, stmts_words, marked, once_code, bit_if, in_turns, before_turns, number_if, start_code, limit_code, step_code, started_code, start_place, step_place, limit_place, turn_of, turns_code, words_back, words_behind_limit, words_behind_condition, limit_kept, while_kept, stepped_code}
 use Rattle.pli_coding.specs.Temporaries.{number_words, numbers_words, text_words, bit_words, reference_words}
-use Rattle.pli_headline.specs.ProvedSoFar.{ArePlain, Types, IsOwn, IsProvedNumber, AreProvedNumbers, IsProvedBit, IsProvedText, IsProvedItem, AreProvedItems, AreProvedPairs, IsProvedStatement, AreProvedStatements, IsProvedBitIf, IsProvedNumberIf}
+use Rattle.pli_headline.specs.ProvedSoFar.{ArePlain, Types, IsOwn, IsProvedNumber, AreProvedNumbers, IsProvedBit, IsProvedText, IsProvedItem, AreProvedItems, AreProvedPairs, IsProvedGetItem, AreProvedGetItems, AreProvedGetPairs, IsProvedStatement, AreProvedStatements, IsProvedBitIf, IsProvedNumberIf}
 use Rattle.pli_coding.specs.Entries.{variables_words}
 use Rattle.pli_coding.specs.Procedures.{procedure_begun, procedure_ended, procedure_in}
 use Rattle.pli_headline.specs.Headline.{FitsMemory}
@@ -35,10 +35,10 @@ use Rattle.pli_headline.proofs.Linking.{size_append}
 
 -- ---- words of expressions
 
-most : (a b n : ℕ) → a ≤ n → b ≤ n → max a b ≤ n
+pub most : (a b n : ℕ) → a ≤ n → b ≤ n → max a b ≤ n
 most a b n h i = grind (arith, nat_tests)
 
-own_words : (block : ℕ) (types : Types) (type : Y.LeafType) (r : Y.Reference) → IsOwn block types type r → reference_words r ≡ 0
+pub own_words : (block : ℕ) (types : Types) (type : Y.LeafType) (r : Y.Reference) → IsOwn block types type r → reference_words r ≡ 0
 own_words block types type r is = ap reference_words is.is
 
 displaced_by : (q : Bool) (x : Code) (y : Code) → 1 ≤ size_of x → 1 ≤ size_of y → 1 ≤ size_of (cond q x y)
@@ -67,7 +67,7 @@ two_size a c last m n h i =
     most _ _ _ (omega (arith, h, s1)) (omega (arith, i, s1, s2))
 
 mutual
-  number_size : (e : Environment) (t : Taken) (block : ℕ) (types : Types) (x : Y.Number) → IsProvedNumber block types x → number_words x ≤ size_of (number_code e t x) + 1
+  pub number_size : (e : Environment) (t : Taken) (block : ℕ) (types : Types) (x : Y.Number) → IsProvedNumber block types x → number_words x ≤ size_of (number_code e t x) + 1
   number_size e t block types (Y.NumberConstant n) is = omega arith
   number_size e t block types (Y.NumberIn r) is = let z = own_words block types (Y.FixedLeaf is.precision) r is.own in omega (arith, z)
   number_size e t block types (Y.NumberOfBit x) is = bit_size e t block types x is
@@ -129,7 +129,7 @@ mutual
       let s4 = size_append further more in
       most _ _ _ (omega (arith, n, one, s1, s2)) (omega (arith, m, s1, s2, s3, s4))
 
-  bit_size : (e : Environment) (t : Taken) (block : ℕ) (types : Types) (x : Y.Bit) → IsProvedBit block types x → bit_words x ≤ size_of (bit_code e t x) + 1
+  pub bit_size : (e : Environment) (t : Taken) (block : ℕ) (types : Types) (x : Y.Bit) → IsProvedBit block types x → bit_words x ≤ size_of (bit_code e t x) + 1
   bit_size e t block types (Y.BitConstant b) is = omega arith
   bit_size e t block types (Y.BitIn r) is = let z = own_words block types Y.BitLeaf r is in omega (arith, z)
   bit_size e t block types (Y.Negated x) is =
@@ -229,19 +229,34 @@ pairs_size e t block types (p ∷ ps) are =
     let s3 = size_append items edit_ended in
     most _ _ _ (omega (arith, a, s1, s2, s3)) (omega (arith, c, s1))
 
+-- fields take one word
+got_item_words : (block : ℕ) (types : Types) (fixed : Bool) (i : Y.GetItem) → IsProvedGetItem block types fixed i → get_item_words i ≤ 1
+got_item_words block types fixed (Y.GetScalar r) is =
+    let z = own_words block types is.type r is.own in
+    omega (arith, z)
+got_item_words block types fixed (Y.GetAggregate r) is = absurd is
+
+got_items_words : (block : ℕ) (types : Types) (fixed : Bool) (is : List Y.GetItem) → AreProvedGetItems block types fixed is → get_items_words is ≤ 1
+got_items_words block types fixed [] are = omega arith
+got_items_words block types fixed (i ∷ is) are = most _ _ _ (got_item_words block types fixed i are.0) (got_items_words block types fixed is are.1)
+
+got_words : (block : ℕ) (types : Types) (ps : List Y.GetPair) → AreProvedGetPairs block types ps → get_words ps ≤ 1
+got_words block types [] are = omega arith
+got_words block types (p ∷ ps) are = most _ _ _ (got_items_words block types (has_fixed p.formats) p.items are.0) (got_words block types ps are.1.1)
+
 constant_size : (r : Register) (z : ℤ) → 1 ≤ size_of (constant r z)
 constant_size r z = displaced_by (is_immediate z) _ _ (omega arith) (omega arith)
 
-act_size : (line : ℕ) → 4 ≤ size_of (act_code line)
+pub act_size : (line : ℕ) → 4 ≤ size_of (act_code line)
 act_size line =
     let n = constant_size a0 (pos line) in
     let s = size_append (number a0 line) (small a1 0 ∷ service 1) in
     omega (arith, n, s)
 
-met_size' : (c : Code) → size_of (if_met c) ≡ 3 + size_of c
+pub met_size' : (c : Code) → size_of (if_met c) ≡ 3 + size_of c
 met_size' c = size_append (skip_where Test.NotEqual a0 zero_register (JumpAhead (size_of c) ∷ [])) c
 
-once_size : (e : Environment) (t : Taken) (block : ℕ) (types : Types) (condition : Option Y.Bit) (line : ℕ) (c : Code) → IsProvedBitIf block types condition → (bit_if condition ≤ size_of (once_code e t condition line c) + 1) × (size_of c ≤ size_of (once_code e t condition line c))
+pub once_size : (e : Environment) (t : Taken) (block : ℕ) (types : Types) (condition : Option Y.Bit) (line : ℕ) (c : Code) → IsProvedBitIf block types condition → (bit_if condition ≤ size_of (once_code e t condition line c) + 1) × (size_of c ≤ size_of (once_code e t condition line c))
 once_size e t block types None line c is = (omega arith, omega arith)
 once_size e t block types (Some x) line c is =
     let n = bit_size e t block types x is in
@@ -250,14 +265,14 @@ once_size e t block types (Some x) line c is =
     let s3 = met_size' c in
     (omega (arith, n, s1, s2), omega (arith, s1, s2, s3))
 
-limit_words_size : (e : Environment) (t : Taken) (block : ℕ) (types : Types) (limit : Option Y.Number) → IsProvedNumberIf block types limit → number_if limit ≤ size_of (limit_code e t limit) + 1
+pub limit_words_size : (e : Environment) (t : Taken) (block : ℕ) (types : Types) (limit : Option Y.Number) → IsProvedNumberIf block types limit → number_if limit ≤ size_of (limit_code e t limit) + 1
 limit_words_size e t block types None is = omega arith
 limit_words_size e t block types (Some x) is =
     let n = number_size e (before_turns t) block types x is in
     let s = size_append (number_code e (before_turns t) x) (store_word frame_register a0 (limit_place t)) in
     omega (arith, n, s)
 
-condition_words_size : (e : Environment) (t : Taken) (block : ℕ) (types : Types) (condition : Option Y.Bit) (behind : ℕ) → IsProvedBitIf block types condition → bit_if condition ≤ size_of (while_kept e t condition behind) + 1
+pub condition_words_size : (e : Environment) (t : Taken) (block : ℕ) (types : Types) (condition : Option Y.Bit) (behind : ℕ) → IsProvedBitIf block types condition → bit_if condition ≤ size_of (while_kept e t condition behind) + 1
 condition_words_size e t block types None behind is = omega arith
 condition_words_size e t block types (Some x) behind is =
     let n = bit_size e (in_turns t) block types x is in
@@ -265,7 +280,7 @@ condition_words_size e t block types (Some x) behind is =
     omega (arith, n, s)
 
 mutual
-  statement_size : (e : Environment) (t : Taken) (block : ℕ) (types : Types) (x : Y.Stmt) → IsProvedStatement block types x → stmt_words x ≤ size_of (stmt_code e t x) + 1
+  pub statement_size : (e : Environment) (t : Taken) (block : ℕ) (types : Types) (x : Y.Stmt) → IsProvedStatement block types x → stmt_words x ≤ size_of (stmt_code e t x) + 1
   statement_size e t block types (Y.Null line) is = omega arith
   statement_size e t block types (Y.Assign target (Y.StoredNumber precision x) line) is =
       let z = own_words block types (Y.FixedLeaf precision) target is.0 in
@@ -395,6 +410,8 @@ mutual
       most _ _ _ (omega (arith, z, four, s1)) (most _ _ _ (omega (arith, n3, four, s1, s2, s8, s9, s10)) (omega (arith, n4, four, s1, s2, s8, s9, s10, s11))) in
       most _ _ _ (omega (arith, small1, four, s1)) (omega (arith, small2, four, s1))
   statement_size e t block types (Y.Goto level label line) is = omega arith
+  statement_size e t block types (Y.Begin (Y.BlockOf head body)) is = omega arith
+  statement_size e t block types (Y.Return line) is = omega arith
   statement_size e t block types (Y.Stop line) is = omega arith
   statement_size e t block types (Y.Signal condition line) is = omega arith
   statement_size e t block types (Y.Put None pairs line) is =
@@ -406,6 +423,12 @@ mutual
       let s1 = size_append (act_code line) (skip_option 1 (Some n) ++ put_pairs e t pairs) in
       let s2 = size_append (skip_option 1 (Some n)) (put_pairs e t pairs) in
       omega (arith, m, s1, s2)
+  statement_size e t block types (Y.Get None pairs line) is =
+      let n = got_words block types pairs is.0 in
+      omega (arith, n)
+  statement_size e t block types (Y.Get (Some k) pairs line) is =
+      let n = got_words block types pairs is.1.0 in
+      omega (arith, n)
   statement_size e t block types _ is = absurd is
 
   pub statements_size : (e : Environment) (t : Taken) (block : ℕ) (types : Types) (body : Y.Stmts) → AreProvedStatements block types body → stmts_words body ≤ size_of (stmts_code e t body) + 1
@@ -419,7 +442,7 @@ mutual
 
 -- ---- words of the procedure
 
-no_variable_words : (ds : List Y.DeclaredVariable) → ArePlain ds → variables_words ds ≡ 0
+pub no_variable_words : (ds : List Y.DeclaredVariable) → ArePlain ds → variables_words ds ≡ 0
 no_variable_words [] are = refl
 no_variable_words (d ∷ ds) are =
     by_plain (λ u. variables_words (u ∷ ds) ≡ max 0 (variables_words ds)) (λ p i. refl) (λ i. refl) d are.0 ∙ ap (λ n. max 0 n) (no_variable_words ds are.1)

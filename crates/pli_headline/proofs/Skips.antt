@@ -38,8 +38,7 @@ use Rattle.pli_headline.proofs.Temporaries.{nothing}
 use Rattle.pli_headline.proofs.Calls.{Serving, comes_act, called, Calling, call_acts, call_pauses, acts}
 use Rattle.pli_headline.proofs.Raising.{small_is, with_act}
 use Rattle.pli_headline.proofs.Acts.{word_is, act_piece}
-use Rattle.pli_headline.proofs.Variables.{outermost}
-use Rattle.pli_headline.proofs.Statements.{Standing, Block, counted_holds, Does}
+use Rattle.pli_headline.proofs.Statements.{Standing, Block, counted_all, Does}
 use Rattle.pli_headline.proofs.Putting.{pairs_piece}
 use Rattle.pli_headline.proofs.Reach.{Family, Aims, Comes, Closed, cost, before_closed, comes_on, onward, reached, reached_holds}
 
@@ -49,7 +48,7 @@ skipped_world n w = written (control_written (SkipItem n)) w
 abbrev pub skipped_by : ℕ → Services → Services
 skipped_by n v = N.with_world (skipped_world n v.world) v
 
-times_met : (n : ℕ) → 1 ≤ n → n ≤ 1000 → is_times n ≡ true
+pub times_met : (n : ℕ) → 1 ≤ n → n ≤ 1000 → is_times n ≡ true
 times_met n h i =
     let e : nat_le 1 n ≡ true = grind (arith, nat_tests) in
     let f : nat_le n 1000 ≡ true = grind (arith, nat_tests) in
@@ -59,7 +58,7 @@ skip_answer : (code : List Instr) (v : Services) (m : List ℕ) (n k : ℕ) → 
 skip_answer code v m n k h i below fits =
     ap (λ t. bad_unless t (acting v (Done (skipped_by n v) m n 1))) (times_met n h i) ∙ acts v k (Done (skipped_by n v) m n 1) below fits
 
-few_fit : (n : ℕ) → n ≤ 1000 → word (pos n) < 2 ^ 32
+pub few_fit : (n : ℕ) → n ≤ 1000 → word (pos n) < 2 ^ 32
 few_fit n h = omega (arith, ints)
 
 -- the act that ends lines
@@ -101,14 +100,14 @@ skip_piece {code = code} {i = i} {g = g} {v = v} {h = h} {t = t} {s = s} closed 
     (goal (reached r3) (with_act (skipped_world n) (λ w. refl) (λ w. refl) serving below)
     (λ b. record { pc = (reached_holds r3 b).pc ∙ ap (address b) place; holds = (reached_holds r3 b).holds })))))
 
-pub put_skip_does : {e : Environment} {block : ℕ} {types : Types} (bl : Block e block types) (links : Links) (code : List Instr) (routines : Standing bl links code) (around : Around) (n : ℕ) (pairs : List Y.PutPair) (line : ℕ) → 1 ≤ n → n ≤ 1000 → AreProvedPairs block types pairs → line < 2 ^ 31 → bl.taken.words + put_words pairs ≤ bl.words → Does bl links code around.turns (stmt_code (outermost e) bl.taken (Y.Put (Some n) pairs line)) (M.statement around (Y.Put (Some n) pairs line))
+pub put_skip_does : {e : Environment} {block : ℕ} {types : Types} (bl : Block e block types) (links : Links) (code : List Instr) (routines : Standing bl links code) (around : Around) (n : ℕ) (pairs : List Y.PutPair) (line : ℕ) → 1 ≤ n → n ≤ 1000 → AreProvedPairs block types pairs → line < 2 ^ 31 → bl.taken.words + put_words pairs ≤ bl.words → Does bl links code around.turns (stmt_code e bl.taken (Y.Put (Some n) pairs line)) (M.statement around (Y.Put (Some n) pairs line))
 unfolding M.statement P.put ◌>>◌
 put_skip_does {e} {block} {types} bl links code routines around n pairs line least most is fits room =
     record {
       does = λ {i} {s} {v} {h} {t} {aims} closed old numbers f k l serving all at goal more.
           let front = act_code line in
           let skip = skip_option 1 (Some n) in
-          let rest = put_pairs (outermost e) bl.taken pairs in
+          let rest = put_pairs e bl.taken pairs in
           let here = at_line around line in
           let shown : Unit {0} → Meaning (Unit {0}) = λ u. P.pairs_put here pairs in
           let next' : Unit {0} → Meaning (Unit {0}) = λ u. (P.control_put (SkipItem n)) >> (P.pairs_put here pairs) in
@@ -123,7 +122,7 @@ put_skip_does {e} {block} {types} bl links code routines around n pairs line lea
           comes_on k (P.control_put (SkipItem n) k s1) shown
           (skip_piece (before_closed k shown closed) f1 n k least most (front_of skip rest l1) serving1 at1
           (λ f2 serving2 at2.
-          pairs_piece bl pairs closed routines f2 here numbers k is room (back_of skip rest l1) serving2 (λ j below. counted_holds _ (counted_holds (counted s.world) (all j below))) at2
+          pairs_piece bl pairs closed routines f2 here numbers k is room (back_of skip rest l1) serving2 (counted_all _ (counted_all (counted s.world) all)) at2
           (λ s3 v3 line3 n3 h3 t3 f3 serving3 all3 stays3 at3.
           subst (λ u. aims.done u f3 v3 tt s3) (sym place)
           (goal s3 v3 line3 n3 h3 t3 f3 serving3 all3 stays3 (λ b. record { pc = (at3 b).pc ∙ ap (address b) place; holds = (at3 b).holds })))))));

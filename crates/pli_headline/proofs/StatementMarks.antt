@@ -1,35 +1,38 @@
 -- The code of statements that are proved marks the labels of their lists, each as often as it stands there, and nothing else.
-use Rattle.std.proofs.Common.{◌≡◌, ℕ, ◌+◌, List, [], ◌∷◌, ◌++◌, map, Option, None, Some, refl, sym, ap, ◌∙◌, subst}
-use Rattle.std.specs.Prelude.{pos}
+use Rattle.std.proofs.Common.{◌≡◌, ℕ, zero, suc, ◌+◌, List, [], ◌∷◌, ◌++◌, map, Option, None, Some, false, refl, sym, ap, ◌∙◌}
+use Rattle.std.specs.Prelude.{ℤ, pos, neg_ℤ, cond, ◌==◌}
 use Rattle.rv_meaning.specs.declared.instr.BranchTest.TheVariants as Test
 use Rattle.pli_language.specs.declared.condition.Condition.{Condition}
 use Rattle.pli_language.specs.declared.condition.Condition.TheVariants as C
 use Rattle.pli_typing.specs.TypedTree as Y
 use Rattle.pli_meaning.specs.Control.{Label}
-use Rattle.pli_coding.specs.Registers.{zero_register, frame_register, a0, a1, u1, u2}
-use Rattle.pli_coding.specs.Assembly.{Symbol, LabelPlace, JumpAhead, JumpBack, Code, size_of}
-use Rattle.pli_coding.specs.Instructions.{move, small, number, load_word, store_word, skip_where, service}
-use Rattle.pli_coding.specs.Environments.{Environment, Taken}
+use Rattle.pli_coding.specs.Registers.{zero_register, stack_register, frame_register, a0, a1, a2, u0, u1, u2}
+use Rattle.pli_coding.specs.Assembly.{Symbol, BaseIn, LabelPlace, ReturnPlace, JumpTo, JumpAhead, JumpBack, Code, size_of}
+use Rattle.pli_coding.specs.Instructions.{move, subtract, small, number, plus, load_word, store_word, skip_where, service}
+use Rattle.pli_coding.specs.Environments.{Owner, BlockOwner, UnitOwner, Environment, Taken, none_taken, block_around}
+use Rattle.pli_coding.specs.Frames.{frame_below, own_offset, lower_top, display, fixed_size, frame_end, temporary_bytes}
+use Rattle.pli_coding.specs.Entries.{display_copied, display_made, frame_begun, block_left, entered_without_texts, variables_made, variables_code}
+use Rattle.pli_meaning.specs.DeclaredShapes.{variables_of_block}
 use Rattle.pli_coding.specs.Arithmetic.{sum_code, fitted_code}
 use Rattle.pli_coding.specs.Expressions.{number_code, bit_code}
 use Rattle.pli_coding.specs.Storing.{word_stored, assigned_code}
-use Rattle.pli_coding.specs.Streams.{put_pairs, skip_option}
+use Rattle.pli_coding.specs.Streams.{put_pairs, get_pairs, edit_ended, skip_option}
 use Rattle.pli_coding.specs.Allocating.{act_code}
-use Rattle.pli_coding.specs.Statements.{if_met, while_met, once_code, in_turns, before_turns, limit_place, step_place, start_place, start_code, limit_code, step_code, start_loaded, started_code, count_begun, limit_tested, limit_kept, while_kept, stepped_code, turn_of, turns_code, words_behind_limit, words_behind_condition, words_back, signal_code, goto_code, marked, stmt_code, stmts_code}
-use Rattle.pli_headline.specs.ProvedSoFar.{Types, IsOwn, IsProvedNumber, IsProvedNumberIf, IsProvedBit, IsProvedBitIf, IsProvedStatement, AreProvedStatements, inner_labels, all_labels}
-use Rattle.pli_headline.proofs.Variables.{outermost}
-use Rattle.pli_headline.proofs.SymbolsMarked.{HasTypes, Marks, both_mark, behind, before, constant_none, load_none, store_none, overflow_none, act_none, fitted_none, reference_none, number_none, bit_none, target_none, stored_none, bit_stored_none}
+use Rattle.pli_coding.specs.Statements.{if_met, while_met, once_code, in_turns, before_turns, limit_place, step_place, start_place, start_code, limit_code, step_code, start_loaded, started_code, count_begun, limit_tested, limit_kept, while_kept, stepped_code, turn_of, turns_code, words_behind_limit, words_behind_condition, words_back, signal_code, unwound_to, returned_by, goto_outer, goto_code, marked, stmt_code, stmts_code, stmts_words, block_words, begin_environment, begin_code}
+use Rattle.pli_headline.specs.ProvedSoFar.{Types, IsOwn, IsProvedNumber, IsProvedNumberIf, IsProvedBit, IsProvedBitIf, IsProvedStatement, AreProvedStatements, IsBare, AreBare, of_block, inner_labels, all_labels}
+use Rattle.pli_headline.proofs.SymbolsMarked.{HasTypes, symbols_marked, Marks, both_mark, behind, before, either, constant_none, load_none, store_none, plus_none, overflow_none, act_none, fitted_none, reference_none, number_none, bit_none, target_none, stored_none, bit_stored_none}
 use Rattle.pli_headline.proofs.PutMarks.{pairs_none, skip_none}
+use Rattle.pli_headline.proofs.GetMarks.{gets_none, get_skip_none}
 
 -- the places of labels
-abbrev pub places_of : (block : ℕ) → List Label → List Symbol
-places_of block labels = map (λ l. LabelPlace block l) labels
+abbrev pub places_of : List (ℕ × Label) → List Symbol
+places_of ps = map (λ (p : ℕ × Label). LabelPlace p.0 p.1) ps
 
-places_append : (block : ℕ) (ls ms : List Label) → places_of block (ls ++ ms) ≡ places_of block ls ++ places_of block ms
-places_append block [] ms = refl
-places_append block (l ∷ ls) ms = ap (λ ss. LabelPlace block l ∷ ss) (places_append block ls ms)
+places_append : (ps qs : List (ℕ × Label)) → places_of (ps ++ qs) ≡ places_of ps ++ places_of qs
+places_append [] qs = refl
+places_append (p ∷ ps) qs = ap (λ ss. LabelPlace p.0 p.1 ∷ ss) (places_append ps qs)
 
-marked_places : (block : ℕ) (labels : List Label) → Marks (marked block labels) (places_of block labels)
+marked_places : (block : ℕ) (labels : List Label) → Marks (marked block labels) (places_of (of_block block labels))
 marked_places block [] = refl
 marked_places block (l ∷ ls) = ap (λ ss. LabelPlace block l ∷ ss) (marked_places block ls)
 
@@ -42,35 +45,84 @@ signal_none C.ZeroDivide = refl
 signal_none C.Endfile = refl
 signal_none C.Error = refl
 
-goto_none : (e : Environment) (level : ℕ) (label : Label) → level ≡ 0 → Marks (goto_code (outermost e) level label) []
-goto_none e level label zero' = subst (λ n. Marks (goto_code (outermost e) n label) []) (sym zero') refl
+unwound_none : (level keep : ℕ) → Marks (unwound_to level keep) []
+unwound_none level keep =
+    behind (load_word frame_register frame_register (display level)) (load_word a0 frame_register own_offset ++ (small a1 keep ∷ service 6)) [] (load_none frame_register frame_register (display level)) refl
+
+goto_none : (e : Environment) (level : ℕ) (label : Label) → Marks (goto_code e level label) []
+goto_none e level label =
+    let z : ℤ = pos (frame_end e.parts e.program (block_around e level) level) in
+    let outer : Marks (goto_outer e level) [] = behind (unwound_to level 0) (plus stack_register frame_register z) [] (unwound_none level 0) (plus_none stack_register frame_register z) in
+    behind (cond (level == e.level) [] (goto_outer e level)) (JumpTo (LabelPlace (block_around e level) label) ∷ []) [] (either (level == e.level) [] (goto_outer e level) refl outer) refl
+
+return_none : (e : Environment) (owner : Owner) → Marks (returned_by e 0 owner) []
+return_none e UnitOwner = refl
+return_none e (BlockOwner o) =
+    behind (cond (o.level == e.level) [] (unwound_to o.level 0)) (JumpTo (ReturnPlace o.number) ∷ []) [] (either (o.level == e.level) [] (unwound_to o.level 0) refl (unwound_none o.level 0)) refl
+
+-- a block marks what its statements mark
+copied_none : (n left : ℕ) → Marks (display_copied n left) []
+copied_none n zero = store_none frame_register a0 (display n)
+copied_none n (suc left) =
+    let s = store_word frame_register u1 (display n) in
+    behind (load_word u1 a0 (display n)) (s ++ display_copied (suc n) left) [] (load_none u1 a0 (display n))
+    (behind s (display_copied (suc n) left) [] (store_none frame_register u1 (display n)) (copied_none (suc n) left))
+
+display_none : (level : ℕ) → Marks (display_made level) []
+display_none zero = refl
+display_none (suc outer) = copied_none 0 outer
+
+inner_begun_none : (words level : ℕ) → Marks (frame_begun words level 0 false) []
+inner_begun_none words level =
+    let up = plus u0 stack_register (pos (temporary_bytes words)) in
+    let first = store_word u0 frame_register frame_below ++ (load_word u1 frame_register lower_top ++ (move frame_register u0 ∷ store_word frame_register u1 lower_top)) in
+    let made = display_made level in
+    let own = BaseIn u1 ∷ subtract u1 frame_register u1 ∷ store_word frame_register u1 own_offset in
+    let raised = plus stack_register frame_register (pos (fixed_size level 0)) in
+    behind up (first ++ (made ++ (own ++ raised))) [] (plus_none u0 stack_register (pos (temporary_bytes words)))
+    (behind first (made ++ (own ++ raised)) [] refl
+    (behind made (own ++ raised) [] (display_none level) (behind own raised [] refl (plus_none stack_register frame_register (pos (fixed_size level 0))))))
+
+begin_marks : (e : Environment) (head : Y.BlockHead) (words : ℕ) (c : Code) (ss : List Symbol) → variables_of_block e.program head.number ≡ [] → Marks c ss → Marks (begin_code e head words c) ss
+begin_marks e head words c ss none h =
+    let e' = begin_environment head e in
+    let enter = entered_without_texts 1 head.line in
+    let up = plus stack_register frame_register (neg_ℤ (pos (temporary_bytes words))) in
+    let below = load_word frame_register frame_register frame_below in
+    let ended = block_left 0 ++ (up ++ below) in
+    let made : Marks (variables_code e' head.line) [] = ap (λ ds. symbols_marked (variables_made e' head.line 0 ds)) none in
+    let frame = inner_begun_none words head.level in
+    behind (frame_begun words head.level 0 false) (enter ++ (variables_code e' head.line ++ (c ++ ended))) ss frame
+    (behind enter (variables_code e' head.line ++ (c ++ ended)) ss (behind (number a2 head.line) (service 4) [] (constant_none a2 (pos head.line)) refl)
+    (behind (variables_code e' head.line) (c ++ ended) ss made
+    (before c ended ss h (behind up below [] (plus_none stack_register frame_register (neg_ℤ (pos (temporary_bytes words)))) refl))))
 
 -- code behind an act and a test
-tested_marks : (e : Environment) (t : Taken) (block : ℕ) (types : Types) (condition : Y.Bit) (line : ℕ) (c : Code) (ss : List Symbol) → HasTypes e block types → IsProvedBit block types condition → Marks c ss → Marks (act_code line ++ (bit_code (outermost e) t condition ++ c)) ss
+tested_marks : (e : Environment) (t : Taken) (block : ℕ) (types : Types) (condition : Y.Bit) (line : ℕ) (c : Code) (ss : List Symbol) → HasTypes e block types → IsProvedBit block types condition → Marks c ss → Marks (act_code line ++ (bit_code e t condition ++ c)) ss
 tested_marks e t block types condition line c ss has is h =
-    behind (act_code line) (bit_code (outermost e) t condition ++ c) ss (act_none line)
-    (behind (bit_code (outermost e) t condition) c ss (bit_none e t block types condition has is) h)
+    behind (act_code line) (bit_code e t condition ++ c) ss (act_none line)
+    (behind (bit_code e t condition) c ss (bit_none e t block types condition has is) h)
 
-once_marks : (e : Environment) (t : Taken) (block : ℕ) (types : Types) (condition : Option Y.Bit) (line : ℕ) (c : Code) (ss : List Symbol) → HasTypes e block types → IsProvedBitIf block types condition → Marks c ss → Marks (once_code (outermost e) t condition line c) ss
+once_marks : (e : Environment) (t : Taken) (block : ℕ) (types : Types) (condition : Option Y.Bit) (line : ℕ) (c : Code) (ss : List Symbol) → HasTypes e block types → IsProvedBitIf block types condition → Marks c ss → Marks (once_code e t condition line c) ss
 once_marks e t block types None line c ss has is h = h
 once_marks e t block types (Some x) line c ss has is h = tested_marks e t block types x line (if_met c) ss has is h
 
-limit_none : (e : Environment) (t : Taken) (block : ℕ) (types : Types) (limit : Option Y.Number) → HasTypes e block types → IsProvedNumberIf block types limit → Marks (limit_code (outermost e) t limit) []
+limit_none : (e : Environment) (t : Taken) (block : ℕ) (types : Types) (limit : Option Y.Number) → HasTypes e block types → IsProvedNumberIf block types limit → Marks (limit_code e t limit) []
 limit_none e t block types None has is = refl
 limit_none e t block types (Some x) has is =
-    behind (number_code (outermost e) (before_turns t) x) (store_word frame_register a0 (limit_place t)) [] (number_none e (before_turns t) block types x has is) (store_none frame_register a0 (limit_place t))
+    behind (number_code e (before_turns t) x) (store_word frame_register a0 (limit_place t)) [] (number_none e (before_turns t) block types x has is) (store_none frame_register a0 (limit_place t))
 
-begun_none : (e : Environment) (t : Taken) (block : ℕ) (types : Types) (precision p : ℕ) (r : Y.Reference) (x : Y.Number) (limit : Option Y.Number) (step : Y.Number) → HasTypes e block types → IsProvedNumber block types x → IsProvedNumberIf block types limit → IsProvedNumber block types step → Marks (count_begun (outermost e) t (Y.NumberCounter precision r) (Y.NumberValue p x) limit step) []
+begun_none : (e : Environment) (t : Taken) (block : ℕ) (types : Types) (precision p : ℕ) (r : Y.Reference) (x : Y.Number) (limit : Option Y.Number) (step : Y.Number) → HasTypes e block types → IsProvedNumber block types x → IsProvedNumberIf block types limit → IsProvedNumber block types step → Marks (count_begun e t (Y.NumberCounter precision r) (Y.NumberValue p x) limit step) []
 begun_none e t block types precision p r x limit step has isx isl iss =
-    let c0 = start_code (outermost e) t (Y.NumberValue p x) in
-    let c1 = limit_code (outermost e) t limit in
-    let c2 = step_code (outermost e) t step in
+    let c0 = start_code e t (Y.NumberValue p x) in
+    let c1 = limit_code e t limit in
+    let c2 = step_code e t step in
     let c3 = started_code t (Y.NumberCounter precision r) (Y.NumberValue p x) in
     let s0 = store_word frame_register a0 (start_place t) in
     let s2 = store_word frame_register a0 (step_place t) in
-    behind c0 (c1 ++ (c2 ++ c3)) [] (behind (number_code (outermost e) (before_turns t) x) s0 [] (number_none e (before_turns t) block types x has isx) (store_none frame_register a0 (start_place t)))
+    behind c0 (c1 ++ (c2 ++ c3)) [] (behind (number_code e (before_turns t) x) s0 [] (number_none e (before_turns t) block types x has isx) (store_none frame_register a0 (start_place t)))
     (behind c1 (c2 ++ c3) [] (limit_none e t block types limit has isl)
-    (behind c2 c3 [] (behind (number_code (outermost e) (before_turns t) step) s2 [] (number_none e (before_turns t) block types step has iss) (store_none frame_register a0 (step_place t)))
+    (behind c2 c3 [] (behind (number_code e (before_turns t) step) s2 [] (number_none e (before_turns t) block types step has iss) (store_none frame_register a0 (step_place t)))
     (behind (start_loaded t) (fitted_code (in_turns t) precision) [] (load_none a0 frame_register (start_place t)) (fitted_none (in_turns t) precision))))
 
 tested_none : (t : Taken) (words : ℕ) → Marks (limit_tested t words) []
@@ -79,19 +131,19 @@ tested_none t words =
     behind a _ [] (load_none u1 frame_register (limit_place t))
     (behind (load_word u2 frame_register (step_place t)) _ [] (load_none u2 frame_register (step_place t)) refl)
 
-kept_none : (e : Environment) (t : Taken) (block : ℕ) (types : Types) (precision : ℕ) (r : Y.Reference) (limit : Option Y.Number) (words : ℕ) → HasTypes e block types → IsOwn block types (Y.FixedLeaf precision) r → Marks (limit_kept (outermost e) t (Y.NumberCounter precision r) limit words) []
+kept_none : (e : Environment) (t : Taken) (block : ℕ) (types : Types) (precision : ℕ) (r : Y.Reference) (limit : Option Y.Number) (words : ℕ) → HasTypes e block types → IsOwn block types (Y.FixedLeaf precision) r → Marks (limit_kept e t (Y.NumberCounter precision r) limit words) []
 kept_none e t block types precision r None words has is = refl
 kept_none e t block types precision r (Some x) words has is =
-    behind (number_code (outermost e) (in_turns t) (Y.NumberIn r)) (limit_tested t words) [] (reference_none e (in_turns t) block types precision r has is) (tested_none t words)
+    behind (number_code e (in_turns t) (Y.NumberIn r)) (limit_tested t words) [] (reference_none e (in_turns t) block types precision r has is) (tested_none t words)
 
-condition_none : (e : Environment) (t : Taken) (block : ℕ) (types : Types) (condition : Option Y.Bit) (words : ℕ) → HasTypes e block types → IsProvedBitIf block types condition → Marks (while_kept (outermost e) t condition words) []
+condition_none : (e : Environment) (t : Taken) (block : ℕ) (types : Types) (condition : Option Y.Bit) (words : ℕ) → HasTypes e block types → IsProvedBitIf block types condition → Marks (while_kept e t condition words) []
 condition_none e t block types None words has is = refl
 condition_none e t block types (Some x) words has is =
-    behind (bit_code (outermost e) (in_turns t) x) (skip_where Test.NotEqual a0 zero_register (JumpAhead words ∷ [])) [] (bit_none e (in_turns t) block types x has is) refl
+    behind (bit_code e (in_turns t) x) (skip_where Test.NotEqual a0 zero_register (JumpAhead words ∷ [])) [] (bit_none e (in_turns t) block types x has is) refl
 
-stepped_none : (e : Environment) (t : Taken) (block : ℕ) (types : Types) (precision : ℕ) (r : Y.Reference) (line : ℕ) → HasTypes e block types → IsOwn block types (Y.FixedLeaf precision) r → Marks (stepped_code (outermost e) t (Y.NumberCounter precision r) line) []
+stepped_none : (e : Environment) (t : Taken) (block : ℕ) (types : Types) (precision : ℕ) (r : Y.Reference) (line : ℕ) → HasTypes e block types → IsOwn block types (Y.FixedLeaf precision) r → Marks (stepped_code e t (Y.NumberCounter precision r) line) []
 stepped_none e t block types precision r line has is =
-    let read = number_code (outermost e) (in_turns t) (Y.NumberIn r) in
+    let read = number_code e (in_turns t) (Y.NumberIn r) in
     let c = load_word a0 frame_register (step_place t) in
     let d = sum_code (in_turns t) in
     let last = fitted_code (in_turns t) precision in
@@ -100,13 +152,13 @@ stepped_none e t block types precision r line has is =
     (behind c (d ++ last) [] (load_none a0 frame_register (step_place t))
     (behind d last [] (overflow_none (in_turns t)) (fitted_none (in_turns t) precision))))
 
-turns_mark : (e : Environment) (t : Taken) (block : ℕ) (types : Types) (precision : ℕ) (r : Y.Reference) (limit : Option Y.Number) (condition : Option Y.Bit) (line : ℕ) (c : Code) (ss : List Symbol) → HasTypes e block types → IsOwn block types (Y.FixedLeaf precision) r → IsProvedBitIf block types condition → Marks c ss → Marks (turns_code (turn_of (outermost e) t (Y.NumberCounter precision r) limit condition line c)) ss
+turns_mark : (e : Environment) (t : Taken) (block : ℕ) (types : Types) (precision : ℕ) (r : Y.Reference) (limit : Option Y.Number) (condition : Option Y.Bit) (line : ℕ) (c : Code) (ss : List Symbol) → HasTypes e block types → IsOwn block types (Y.FixedLeaf precision) r → IsProvedBitIf block types condition → Marks c ss → Marks (turns_code (turn_of e t (Y.NumberCounter precision r) limit condition line c)) ss
 turns_mark e t block types precision r limit condition line c ss has own' isc h =
-    let u = turn_of (outermost e) t (Y.NumberCounter precision r) limit condition line c in
-    let st = word_stored (outermost e) (in_turns t) r in
-    let lim = limit_kept (outermost e) t (Y.NumberCounter precision r) limit (words_behind_limit u) in
-    let con = while_kept (outermost e) t condition (words_behind_condition u) in
-    let sp = stepped_code (outermost e) t (Y.NumberCounter precision r) line in
+    let u = turn_of e t (Y.NumberCounter precision r) limit condition line c in
+    let st = word_stored e (in_turns t) r in
+    let lim = limit_kept e t (Y.NumberCounter precision r) limit (words_behind_limit u) in
+    let con = while_kept e t condition (words_behind_condition u) in
+    let sp = stepped_code e t (Y.NumberCounter precision r) line in
     let jump = JumpBack (words_back u) ∷ [] in
     behind (st ++ act_code line) (lim ++ (con ++ (c ++ (sp ++ jump)))) ss (behind st (act_code line) [] (target_none e (in_turns t) block types (Y.FixedLeaf precision) r tt has own') (act_none line))
     (behind lim (con ++ (c ++ (sp ++ jump))) ss (kept_none e t block types precision r limit (words_behind_limit u) has own')
@@ -116,79 +168,93 @@ turns_mark e t block types precision r limit condition line c ss has own' isc h 
 -- ---- the statements
 
 mutual
-  pub statement_marks : (e : Environment) (t : Taken) (block : ℕ) (types : Types) (x : Y.Stmt) → HasTypes e block types → IsProvedStatement block types x → Marks (stmt_code (outermost e) t x) (places_of e.block (inner_labels x))
-  statement_marks e t block types (Y.Null line) has is = act_none line
-  statement_marks e t block types (Y.Assign target (Y.StoredNumber precision x) line) has is =
-      behind (act_code line) (assigned_code (outermost e) t target (Y.StoredNumber precision x)) [] (act_none line) (stored_none e t block types precision target x has is.0 is.1.0)
-  statement_marks e t block types (Y.Assign target (Y.StoredBit x) line) has is =
-      behind (act_code line) (assigned_code (outermost e) t target (Y.StoredBit x)) [] (act_none line) (bit_stored_none e t block types target x has is.0 is.1.0)
-  statement_marks e t block types (Y.If condition unit line) has is =
-      tested_marks e t block types condition line (if_met (stmt_code (outermost e) t unit)) (places_of e.block (inner_labels unit)) has is.0 (statement_marks e t block types unit has is.1.0)
-  statement_marks e t block types (Y.IfElse condition unit otherwise line) has is =
-      let c = stmt_code (outermost e) t unit in
-      let d = stmt_code (outermost e) t otherwise in
+  pub statement_marks : (e : Environment) (t : Taken) (block : ℕ) (types : Types) (x : Y.Stmt) → HasTypes e block types → IsProvedStatement block types x → IsBare e.program x → Marks (stmt_code e t x) (places_of (inner_labels e.block x))
+  statement_marks e t block types (Y.Null line) has is bare = act_none line
+  statement_marks e t block types (Y.Assign target (Y.StoredNumber precision x) line) has is bare =
+      behind (act_code line) (assigned_code e t target (Y.StoredNumber precision x)) [] (act_none line) (stored_none e t block types precision target x has is.0 is.1.0)
+  statement_marks e t block types (Y.Assign target (Y.StoredBit x) line) has is bare =
+      behind (act_code line) (assigned_code e t target (Y.StoredBit x)) [] (act_none line) (bit_stored_none e t block types target x has is.0 is.1.0)
+  statement_marks e t block types (Y.If condition unit line) has is bare =
+      tested_marks e t block types condition line (if_met (stmt_code e t unit)) (places_of (inner_labels e.block unit)) has is.0 (statement_marks e t block types unit has is.1.0 bare)
+  statement_marks e t block types (Y.IfElse condition unit otherwise line) has is bare =
+      let c = stmt_code e t unit in
+      let d = stmt_code e t otherwise in
       let over = JumpAhead (size_of d) ∷ [] in
-      let ls = places_of e.block (inner_labels unit) in
-      let ms = places_of e.block (inner_labels otherwise) in
-      tested_marks e t block types condition line (if_met (c ++ over) ++ d) (places_of e.block (inner_labels unit ++ inner_labels otherwise)) has is.0
-      (both_mark (c ++ over) d ls ms (before c over ls (statement_marks e t block types unit has is.1.0) refl) (statement_marks e t block types otherwise has is.1.1.0)
-      ∙ sym (places_append e.block (inner_labels unit) (inner_labels otherwise)))
-  statement_marks e t block types (Y.Do body line) has is =
-      behind (act_code line) (stmts_code (outermost e) t body) (places_of e.block (all_labels body)) (act_none line) (statements_mark e t block types body has is.0)
-  statement_marks e t block types (Y.DoWhile condition body line) has is =
-      let test = act_code line ++ bit_code (outermost e) t condition in
-      let c = stmts_code (outermost e) t body in
+      let ls = places_of (inner_labels e.block unit) in
+      let ms = places_of (inner_labels e.block otherwise) in
+      tested_marks e t block types condition line (if_met (c ++ over) ++ d) (places_of (inner_labels e.block unit ++ inner_labels e.block otherwise)) has is.0
+      (both_mark (c ++ over) d ls ms (before c over ls (statement_marks e t block types unit has is.1.0 bare.0) refl) (statement_marks e t block types otherwise has is.1.1.0 bare.1)
+      ∙ sym (places_append (inner_labels e.block unit) (inner_labels e.block otherwise)))
+  statement_marks e t block types (Y.Do body line) has is bare =
+      behind (act_code line) (stmts_code e t body) (places_of (all_labels e.block body)) (act_none line) (statements_mark e t block types body has is.0 bare)
+  statement_marks e t block types (Y.DoWhile condition body line) has is bare =
+      let test = act_code line ++ bit_code e t condition in
+      let c = stmts_code e t body in
       let jump = JumpBack (size_of test + (3 + size_of c)) ∷ [] in
-      let ls = places_of e.block (all_labels body) in
+      let ls = places_of (all_labels e.block body) in
       behind (act_code line) (while_met test c) ls (act_none line)
-      (behind test (if_met (c ++ jump)) ls (behind (act_code line) (bit_code (outermost e) t condition) [] (act_none line) (bit_none e t block types condition has is.0))
-      (before c jump ls (statements_mark e t block types body has is.1.0) refl))
-  statement_marks e t block types (Y.DoOnce target (Y.StoredNumber precision x) condition body line) has is =
-      let stored' = assigned_code (outermost e) t target (Y.StoredNumber precision x) in
-      let c = stmts_code (outermost e) t body in
-      let rest = once_code (outermost e) t condition line c in
-      let ls = places_of e.block (all_labels body) in
+      (behind test (if_met (c ++ jump)) ls (behind (act_code line) (bit_code e t condition) [] (act_none line) (bit_none e t block types condition has is.0))
+      (before c jump ls (statements_mark e t block types body has is.1.0 bare) refl))
+  statement_marks e t block types (Y.DoOnce target (Y.StoredNumber precision x) condition body line) has is bare =
+      let stored' = assigned_code e t target (Y.StoredNumber precision x) in
+      let c = stmts_code e t body in
+      let rest = once_code e t condition line c in
+      let ls = places_of (all_labels e.block body) in
       behind (act_code line) (stored' ++ rest) ls (act_none line)
       (behind stored' rest ls (stored_none e t block types precision target x has is.0.0 is.0.1)
-      (once_marks e t block types condition line c ls has is.1.0 (statements_mark e t block types body has is.1.1.0)))
-  statement_marks e t block types (Y.DoOnce target (Y.StoredBit x) condition body line) has is =
-      let stored' = assigned_code (outermost e) t target (Y.StoredBit x) in
-      let c = stmts_code (outermost e) t body in
-      let rest = once_code (outermost e) t condition line c in
-      let ls = places_of e.block (all_labels body) in
+      (once_marks e t block types condition line c ls has is.1.0 (statements_mark e t block types body has is.1.1.0 bare)))
+  statement_marks e t block types (Y.DoOnce target (Y.StoredBit x) condition body line) has is bare =
+      let stored' = assigned_code e t target (Y.StoredBit x) in
+      let c = stmts_code e t body in
+      let rest = once_code e t condition line c in
+      let ls = places_of (all_labels e.block body) in
       behind (act_code line) (stored' ++ rest) ls (act_none line)
       (behind stored' rest ls (bit_stored_none e t block types target x has is.0.0 is.0.1)
-      (once_marks e t block types condition line c ls has is.1.0 (statements_mark e t block types body has is.1.1.0)))
-  statement_marks e t block types (Y.DoCount (Y.NumberCounter precision target) (Y.NumberValue p x) limit step condition body line) has is =
+      (once_marks e t block types condition line c ls has is.1.0 (statements_mark e t block types body has is.1.1.0 bare)))
+  statement_marks e t block types (Y.DoCount (Y.NumberCounter precision target) (Y.NumberValue p x) limit step condition body line) has is bare =
       let counter = Y.NumberCounter precision target in
-      let ahead = count_begun (outermost e) t counter (Y.NumberValue p x) limit step in
-      let c = stmts_code (outermost e) (in_turns t) body in
-      let turns' = turns_code (turn_of (outermost e) t counter limit condition line c) in
-      let ls = places_of e.block (all_labels body) in
+      let ahead = count_begun e t counter (Y.NumberValue p x) limit step in
+      let c = stmts_code e (in_turns t) body in
+      let turns' = turns_code (turn_of e t counter limit condition line c) in
+      let ls = places_of (all_labels e.block body) in
       behind (act_code line) (ahead ++ turns') ls (act_none line)
       (behind ahead turns' ls (begun_none e t block types precision p target x limit step has is.0.1 is.1.0.0 is.1.0.1)
-      (turns_mark e t block types precision target limit condition line c ls has is.0.0 is.1.1.0 (statements_mark e (in_turns t) block types body has is.1.1.1.0)))
-  statement_marks e t block types (Y.Goto level label line) has is =
-      behind (act_code line) (goto_code (outermost e) level label) [] (act_none line) (goto_none e level label is.0)
-  statement_marks e t block types (Y.Stop line) has is =
+      (turns_mark e t block types precision target limit condition line c ls has is.0.0 is.1.1.0 (statements_mark e (in_turns t) block types body has is.1.1.1.0 bare)))
+  statement_marks e t block types (Y.Begin (Y.BlockOf head body)) has is bare =
+      let e' = begin_environment head e in
+      let c = stmts_code e' none_taken body in
+      let words = block_words e head.number (stmts_words body) in
+      let ss = places_of (all_labels head.number body) in
+      behind (act_code head.line) (begin_code e head words c) ss (act_none head.line) (begin_marks e head words c ss bare.0 (statements_mark e' none_taken block types body has is.1.1 bare.1))
+  statement_marks e t block types (Y.Return line) has is bare =
+      behind (act_code line) (returned_by e 0 e.owner) [] (act_none line) (return_none e e.owner)
+  statement_marks e t block types (Y.Goto level label line) has is bare =
+      behind (act_code line) (goto_code e level label) [] (act_none line) (goto_none e level label)
+  statement_marks e t block types (Y.Stop line) has is bare =
       before (act_code line) (small a0 1 ∷ small a1 0 ∷ service 2) [] (act_none line) refl
-  statement_marks e t block types (Y.Signal condition line) has is =
+  statement_marks e t block types (Y.Signal condition line) has is bare =
       behind (act_code line) (signal_code condition) [] (act_none line) (signal_none condition)
-  statement_marks e t block types (Y.Put None pairs line) has is =
-      behind (act_code line) (put_pairs (outermost e) t pairs) [] (act_none line) (pairs_none e t block types pairs has is.0)
-  statement_marks e t block types (Y.Put (Some n) pairs line) has is =
-      behind (act_code line) (skip_option 1 (Some n) ++ put_pairs (outermost e) t pairs) [] (act_none line)
-      (behind (skip_option 1 (Some n)) (put_pairs (outermost e) t pairs) [] (skip_none n) (pairs_none e t block types pairs has is.1.0))
-  statement_marks e t block types _ has is = absurd is
+  statement_marks e t block types (Y.Put None pairs line) has is bare =
+      behind (act_code line) (put_pairs e t pairs) [] (act_none line) (pairs_none e t block types pairs has is.0)
+  statement_marks e t block types (Y.Put (Some n) pairs line) has is bare =
+      behind (act_code line) (skip_option 1 (Some n) ++ put_pairs e t pairs) [] (act_none line)
+      (behind (skip_option 1 (Some n)) (put_pairs e t pairs) [] (skip_none n) (pairs_none e t block types pairs has is.1.0))
+  statement_marks e t block types (Y.Get None pairs line) has is bare =
+      behind (act_code line) (get_pairs e t pairs ++ edit_ended) [] (act_none line) (gets_none e t block types pairs has is.0)
+  statement_marks e t block types (Y.Get (Some n) pairs line) has is bare =
+      let got = get_pairs e t pairs ++ edit_ended in
+      behind (act_code line) (skip_option 0 (Some n) ++ got) [] (act_none line) (behind (skip_option 0 (Some n)) got [] (get_skip_none n) (gets_none e t block types pairs has is.1.0))
+  statement_marks e t block types _ has is bare = absurd is
 
-  pub statements_mark : (e : Environment) (t : Taken) (block : ℕ) (types : Types) (body : Y.Stmts) → HasTypes e block types → AreProvedStatements block types body → Marks (stmts_code (outermost e) t body) (places_of e.block (all_labels body))
-  statements_mark e t block types (Y.EndOfList labels) has are = marked_places e.block labels
-  statements_mark e t block types (Y.StmtThen labels first rest) has are =
-      let c = stmt_code (outermost e) t first in
-      let d = stmts_code (outermost e) t rest in
-      let ls = inner_labels first in
-      let ms = all_labels rest in
-      both_mark (marked e.block labels) (c ++ d) (places_of e.block labels) (places_of e.block ls ++ places_of e.block ms) (marked_places e.block labels)
-      (both_mark c d (places_of e.block ls) (places_of e.block ms) (statement_marks e t block types first has are.0) (statements_mark e t block types rest has are.1))
-      ∙ ap (λ ss. places_of e.block labels ++ ss) (sym (places_append e.block ls ms))
-      ∙ sym (places_append e.block labels (ls ++ ms))
+  pub statements_mark : (e : Environment) (t : Taken) (block : ℕ) (types : Types) (body : Y.Stmts) → HasTypes e block types → AreProvedStatements block types body → AreBare e.program body → Marks (stmts_code e t body) (places_of (all_labels e.block body))
+  statements_mark e t block types (Y.EndOfList labels) has are bare = marked_places e.block labels
+  statements_mark e t block types (Y.StmtThen labels first rest) has are bare =
+      let c = stmt_code e t first in
+      let d = stmts_code e t rest in
+      let marks = of_block e.block labels in
+      let ls = inner_labels e.block first in
+      let ms = all_labels e.block rest in
+      both_mark (marked e.block labels) (c ++ d) (places_of marks) (places_of ls ++ places_of ms) (marked_places e.block labels)
+      (both_mark c d (places_of ls) (places_of ms) (statement_marks e t block types first has are.0 bare.0) (statements_mark e t block types rest has are.1 bare.1))
+      ∙ ap (λ ss. places_of marks ++ ss) (sym (places_append ls ms))
+      ∙ sym (places_append marks (ls ++ ms))

@@ -1,6 +1,6 @@
 -- Statements of a block whose variables are scalars, one behind the other.
-use Rattle.std.proofs.Common.{◌≡◌, ℕ, suc, ◌+◌, ◌*◌, ◌^◌, ◌<◌, ◌≤◌, List, [], ◌∷◌, ◌++◌, length, Some, None, true, refl, sym, ap, ◌∙◌, subst, arith}
-use Rattle.std.specs.Prelude.{ℤ, pos, max, slice_get}
+use Rattle.std.proofs.Common.{◌≡◌, ℕ, suc, ◌+◌, ◌*◌, ◌%◌, ◌^◌, ◌<◌, ◌≤◌, List, [], ◌∷◌, ◌++◌, length, Option, Some, None, true, refl, sym, ap, ◌∙◌, subst, arith}
+use Rattle.std.specs.Prelude.{ℤ, pos, max, slice_get, ◌==◌}
 use Rattle.std.proofs.Math.Nat.{le-max_left}
 use Rattle.rv_meaning.specs.declared.instr.Instr.{Instr}
 use Rattle.rv_meaning.specs.Words.{word}
@@ -15,7 +15,7 @@ use Rattle.pli_meaning.specs.Raising.{Around, at_line}
 use Rattle.pli_meaning.specs.Evaluating as V
 use Rattle.pli_meaning.specs.Executing as M
 use Rattle.pli_serving.specs.ServiceState.{Services}
-use Rattle.pli_coding.specs.Assembly.{LabelPlace, Code, size_of}
+use Rattle.pli_coding.specs.Assembly.{LabelPlace, ReturnPlace, Code, size_of}
 use Rattle.pli_coding.specs.Allocating.{act_code}
 use Rattle.pli_coding.specs.Environments.{Environment, Taken}
 use Rattle.pli_coding.specs.Expressions.{stored_code}
@@ -29,60 +29,84 @@ use Rattle.pli_headline.proofs.Engine.{Base, address, most_code}
 use Rattle.pli_headline.proofs.Linking.{times_marked, size_append}
 use Rattle.pli_headline.proofs.Items.{Linked, At, straight, Items}
 use Rattle.pli_headline.proofs.Scalars.{Typed, Fits, load_kind, store_kind}
-use Rattle.pli_headline.proofs.Bodies.{Ground, Known, PlaceOf, reserved_are}
+use Rattle.pli_headline.proofs.Bodies.{Ground, Known, PlaceFrom, reserved_are}
 use Rattle.pli_headline.proofs.Jumps.{front_of, back_of}
 use Rattle.pli_headline.proofs.Temporaries.{Temporaries, Stays, stays_same, stays_then, nothing}
-use Rattle.pli_headline.proofs.Calls.{Serving, main_height}
+use Rattle.pli_headline.proofs.Reaching.{Reaches}
+use Rattle.pli_headline.proofs.Calls.{Serving}
 use Rattle.pli_headline.proofs.Raising.{Routines}
 use Rattle.pli_headline.proofs.StandingBytes.{ConstantsStand}
 use Rattle.pli_headline.proofs.Acts.{acted, act_piece}
-use Rattle.pli_headline.proofs.Variables.{IsDeclared, whole, own, outermost, data_place}
+use Rattle.pli_headline.proofs.Variables.{IsDeclared, whole, own, data_place}
 use Rattle.pli_headline.proofs.Expressions.{Scope}
 use Rattle.pli_headline.proofs.Assignments.{assigned_state, Stores, number_stores, bit_stores, stored_piece}
-use Rattle.pli_headline.proofs.States.{Holds, holds_scalar, holds_assigned, with_number_at}
+use Rattle.pli_headline.proofs.States.{Holds, holds_scalar, holds_assigned, with_number_at, NoneOwned, none_owned_changed}
 use Rattle.pli_headline.proofs.Since.{since_closed, comes_since}
 use Rattle.pli_headline.proofs.Reach.{Family, Aims, Comes, Closed, before_closed, comes_on, onward}
 
 -- ---- a block
 
--- the ground of a block by the numbers that its variables hold, the temporaries that are taken while its statements run, and the
--- labels that a GOTO there may name: those of the lists that are carried out around
+-- the stack above a block's frame, where blocks inside it have theirs
+pub record Stack (e : Environment) (block : ℕ) (types : Types) (base : ℕ) (ground : (ℕ → ℤ) → Ground) : Type 0 where
+  pub frame : ℕ
+  pub free : ℕ
+  pub frame_is : (n : ℕ → ℤ) → (ground n).frame ≡ frame
+  pub free_is : (n : ℕ → ℤ) → (ground n).free ≡ free
+  pub aligned : free % 4 ≡ 0
+  pub high : 7 * 2 ^ 20 ≤ free
+  pub above : frame + 144 ≤ free
+  pub keeps : (n : ℕ → ℤ) (t : ℕ → ℕ) (b : Base) (m : List ℕ) (p x : ℕ) → free ≤ p → (ground n).memory t b m → (ground n).memory t b (store 4 m p x)
+  pub under : (j : ℕ) {type : Y.LeafType} → slice_get types j ≡ Some type → base + data_place e block j + 4 ≤ free
+
+-- the ground of a block by the numbers that variables hold, which stand in the main procedure's frame, the temporaries that are taken
+-- while its statements run, and the labels that a GOTO there may name: those of the lists that are carried out around
 pub record Block (e : Environment) (block : ℕ) (types : Types) : Type 1 where
   pub ground : (ℕ → ℤ) → Ground
   pub words : ℕ
   pub taken : Taken
   pub labels : List Label
+  pub base : ℕ
+  pub within : base < memory_size
   pub words_are : (n : ℕ → ℤ) → (ground n).words ≡ words
   pub same : (n n' : ℕ → ℤ) (b : Base) (h : ℕ → ℕ) → reserved_are b (ground n) h ≡ reserved_are b (ground n') h
   pub temps : (n : ℕ → ℤ) → Temporaries (ground n)
   pub declared : (j : ℕ) {type : Y.LeafType} → slice_get types j ≡ Some type → IsDeclared e block j type
-  pub places : (n : ℕ → ℤ) (j : ℕ) {type : Y.LeafType} → slice_get types j ≡ Some type → PlaceOf (ground n) (pos (data_place e block j)) ((ground n).frame + data_place e block j)
-  pub reads : (n : ℕ → ℤ) (j : ℕ) {type : Y.LeafType} → slice_get types j ≡ Some type → Fits type (n j) → (t : ℕ → ℕ) (b : Base) (m : List ℕ) → (ground n).memory t b m → extended (load_kind type) (load (load_width (load_kind type)) m ((ground n).frame + data_place e block j)) ≡ word (n j)
-  pub writes : (n : ℕ → ℤ) (j : ℕ) (z : ℤ) {type : Y.LeafType} → slice_get types j ≡ Some type → Fits type (n j) → Fits type z → (t : ℕ → ℕ) (b : Base) (m : List ℕ) → length m ≡ memory_size → (ground n).memory t b m → (ground (with_number_at n j z)).memory t b (store (store_width (store_kind type)) m ((ground n).frame + data_place e block j) (word z))
+  pub reach : (n : ℕ → ℤ) → Reaches (0 == e.level) (ground n) base
+  pub places : (j : ℕ) {type : Y.LeafType} → slice_get types j ≡ Some type → PlaceFrom base (pos (data_place e block j)) (base + data_place e block j)
+  pub reads : (n : ℕ → ℤ) (j : ℕ) {type : Y.LeafType} → slice_get types j ≡ Some type → Fits type (n j) → (t : ℕ → ℕ) (b : Base) (m : List ℕ) → (ground n).memory t b m → extended (load_kind type) (load (load_width (load_kind type)) m (base + data_place e block j)) ≡ word (n j)
+  pub writes : (n : ℕ → ℤ) (j : ℕ) (z : ℤ) {type : Y.LeafType} → slice_get types j ≡ Some type → Fits type (n j) → Fits type z → (t : ℕ → ℕ) (b : Base) (m : List ℕ) → length m ≡ memory_size → (ground n).memory t b m → (ground (with_number_at n j z)).memory t b (store (store_width (store_kind type)) m (base + data_place e block j) (word z))
+  pub held : taken.registers ≡ 0
+  pub stack : Stack e block types base ground
 
 -- what stands beside it: the routines of raises, and constant bytes
 pub record Standing {e : Environment} {block : ℕ} {types : Types} (bl : Block e block types) (links : Links) (code : List Instr) : Type 0 where
   pub raises : Routines links code
   pub constants : (n : ℕ → ℤ) → ConstantsStand links code (bl.ground n)
 
-abbrev pub AllHold : State → (block : ℕ) → Types → (ℕ → ℤ) → Type 0
-AllHold s block types n = (j : ℕ) (b : Typed types j) → Holds s block j b.0 (n j)
+-- so many blocks are entered, variables hold these numbers, and all that lives is STATIC or the main procedure's
+pub record AllHold (height : ℕ) (s : State) (block : ℕ) (types : Types) (n : ℕ → ℤ) : Type 0 where
+  pub numbers : (j : ℕ) (b : Typed types j) → Holds s block j b.0 (n j)
+  pub entered : length s.activations ≡ height
+  pub owned : (height' : ℕ) → 1 < height' → NoneOwned height' s.living
 
-abbrev pub scope_of : {e : Environment} {block : ℕ} {types : Types} (b : Block e block types) {s : State} (n : ℕ → ℤ) → AllHold s block types n → Scope (b.ground n) e block types s n
+abbrev pub scope_of : {e : Environment} {block : ℕ} {types : Types} (b : Block e block types) {s : State} (n : ℕ → ℤ) → AllHold (suc e.level) s block types n → Scope (b.ground n) e block types s n
 scope_of b n all =
     record {
       declared = λ j below. b.declared j below;
-      holds = λ j {type} below. holds_scalar (all j (type, below));
-      places = λ j below. b.places n j below;
-      reads = λ j {type} below. b.reads n j below (all j (type, below)).fits;
+      holds = λ j {type} below. holds_scalar (all.numbers j (type, below));
+      base = b.base;
+      within = b.within;
+      reach = b.reach n;
+      places = λ j below. b.places j below;
+      reads = λ j {type} below. b.reads n j below (all.numbers j (type, below)).fits;
     }
 
 -- ---- what a statement's code does
 
 -- behind a statement: other services, a state and numbers that stand together, and what waited before it
 abbrev pub Behind : {e : Environment} {block : ℕ} {types : Types} → Block e block types → (k : ℕ) → (h t : ℕ → ℕ) → (i : ℕ) → Aims (Unit {0}) → Type 0
-Behind {block = block} {types = types} bl k h0 t0 i aims =
-    (s : State) (v : Services) (line : ℕ) (n : ℕ → ℤ) (h t : ℕ → ℕ) (f : Family) → Serving k s v line → AllHold s block types n → Stays bl.taken h0 t0 h t → ((b : Base) → At b i (Known (bl.ground n) v h t nothing b) (f b)) → aims.done i f v tt s
+Behind {e = e} {block = block} {types = types} bl k h0 t0 i aims =
+    (s : State) (v : Services) (line : ℕ) (n : ℕ → ℤ) (h t : ℕ → ℕ) (f : Family) → Serving k s v line → AllHold (suc e.level) s block types n → Stays bl.taken h0 t0 h t → ((b : Base) → At b i (Known (bl.ground n) v h t nothing b) (f b)) → aims.done i f v tt s
 
 -- a label is marked once
 abbrev pub IsMarkedOnce : Links → (block : ℕ) → Label → Type 0
@@ -94,20 +118,33 @@ pub record Landing {e : Environment} {block : ℕ} {types : Types} (bl : Block e
   pub place : place_of links (LabelPlace e.block label) ≡ 4 * at
   pub near : at ≤ most_code
   pub later : 2 ≤ at
-  pub lands : (s : State) (v : Services) (line : ℕ) (n : ℕ → ℤ) (h t : ℕ → ℕ) (f : Family) → Serving k s v line → AllHold s block types n → Stays bl.taken h0 t0 h t → acts < v.world.acts → ((b : Base) → At b at (Known (bl.ground n) v h t nothing b) (f b)) → jumped at f v main_height label s
+  pub lands : (s : State) (v : Services) (line : ℕ) (n : ℕ → ℤ) (h t : ℕ → ℕ) (f : Family) → Serving k s v line → AllHold (suc e.level) s block types n → Stays bl.taken h0 t0 h t → acts < v.world.acts → ((b : Base) → At b at (Known (bl.ground n) v h t nothing b) (f b)) → jumped at f v (suc e.level) label s
+
+-- the end of a block is marked once
+abbrev pub IsEndMarkedOnce : Links → (block : ℕ) → Type 0
+IsEndMarkedOnce links block = times_marked (ReturnPlace block) links.marks ≡ 1
+
+-- where a return of a procedure goes on: at the end of its block, whatever waited
+pub record Exit (e : Environment) (block : ℕ) (types : Types) (ground : (ℕ → ℤ) → Ground) (links : Links) (k : ℕ) (returned : ℕ → Family → Services → Option BasicValue → State → Type 0) : Type 0 where
+  pub at : ℕ
+  pub place : place_of links (ReturnPlace e.block) ≡ 4 * at
+  pub near : at ≤ most_code
+  pub later : 2 ≤ at
+  pub leaves : (s : State) (v : Services) (line : ℕ) (n : ℕ → ℤ) (h t : ℕ → ℕ) (f : Family) → Serving k s v line → AllHold (suc e.level) s block types n → ((b : Base) → At b at (Known (ground n) v h t nothing b) (f b)) → returned at f v None s
 
 -- what a part may count on where it begins: loops and jumps may make more turns than acts are allowed, the code stands behind the
--- start, and jumps to the block's labels go on
-pub record Enough {e : Environment} {block : ℕ} {types : Types} (bl : Block e block types) (links : Links) (k turns i : ℕ) (h t : ℕ → ℕ) (acts : ℕ) (jumped : ℕ → Family → Services → ℕ → Label → State → Type 0) : Type 0 where
-  pub enough : k < turns
+-- start, and jumps to the block's labels go on, and so does a return
+pub record Enough {e : Environment} {block : ℕ} {types : Types} (bl : Block e block types) (links : Links) (k turns i : ℕ) (h t : ℕ → ℕ) (acts : ℕ) (jumped : ℕ → Family → Services → ℕ → Label → State → Type 0) (returned : ℕ → Family → Services → Option BasicValue → State → Type 0) : Type 0 where
+  pub enough : k < turns + acts
   pub later : 2 ≤ i
   pub jumps : (label : Label) → is_among label bl.labels ≡ true → IsMarkedOnce links e.block label → Landing bl links k h t acts jumped label
+  pub returns : e.level ≡ 0 → IsEndMarkedOnce links e.block → Exit e block types bl.ground links k returned
 
 -- the same further on
-pub further : {e : Environment} {block : ℕ} {types : Types} {bl : Block e block types} {links : Links} {k turns i : ℕ} {h t : ℕ → ℕ} {acts : ℕ} {jumped : ℕ → Family → Services → ℕ → Label → State → Type 0} {i' : ℕ} {h' t' : ℕ → ℕ} {acts' : ℕ} → Enough bl links k turns i h t acts jumped → i ≤ i' → acts ≤ acts' → Stays bl.taken h t h' t' → Enough bl links k turns i' h' t' acts' jumped
+pub further : {e : Environment} {block : ℕ} {types : Types} {bl : Block e block types} {links : Links} {k turns i : ℕ} {h t : ℕ → ℕ} {acts : ℕ} {jumped : ℕ → Family → Services → ℕ → Label → State → Type 0} {returned : ℕ → Family → Services → Option BasicValue → State → Type 0} {i' : ℕ} {h' t' : ℕ → ℕ} {acts' : ℕ} → Enough bl links k turns i h t acts jumped returned → i ≤ i' → acts ≤ acts' → Stays bl.taken h t h' t' → Enough bl links k turns i' h' t' acts' jumped returned
 further more behind grown stays =
     record {
-      enough = more.enough;
+      enough = let u = more.enough in omega (arith, u, grown);
       later = let l = more.later in omega (arith, l, behind);
       jumps = λ label among once.
           let o = more.jumps label among once in
@@ -118,75 +155,89 @@ further more behind grown stays =
             later = o.later;
             lands = λ s v line n h'' t'' f serving all stays' acted' at'. o.lands s v line n h'' t'' f serving all (stays_then stays stays') (omega (arith, grown, acted')) at';
           };
+      returns = more.returns;
     }
 
 -- from wherever a block's variables stand, a part's code does what the part means
 pub record Does {e : Environment} {block : ℕ} {types : Types} (bl : Block e block types) (links : Links) (code : List Instr) (turns : ℕ) (part : Code) (meaning : Meaning (Unit {0})) : Type 1 where
-  pub does : {i : ℕ} {s : State} {v : Services} {h t : ℕ → ℕ} {aims : Aims (Unit {0})} (closed : Closed code aims) (line : ℕ) (n : ℕ → ℤ) (f : Family) (k : ℕ) → Linked links code i part → Serving k s v line → AllHold s block types n → ((b : Base) → At b i (Known (bl.ground n) v h t nothing b) (f b)) → Behind bl k h t (i + size_of part) aims → Enough bl links k turns i h t v.world.acts aims.jumped → Comes code i f v aims (meaning k s)
+  pub does : {i : ℕ} {s : State} {v : Services} {h t : ℕ → ℕ} {aims : Aims (Unit {0})} (closed : Closed code aims) (line : ℕ) (n : ℕ → ℤ) (f : Family) (k : ℕ) → Linked links code i part → Serving k s v line → AllHold (suc e.level) s block types n → ((b : Base) → At b i (Known (bl.ground n) v h t nothing b) (f b)) → Behind bl k h t (i + size_of part) aims → Enough bl links k turns i h t v.world.acts aims.jumped aims.returned → Comes code i f v aims (meaning k s)
 
-pub counted_holds : {s : State} {block j : ℕ} {type : Y.LeafType} {z : ℤ} (w : World) → Holds s block j type z → Holds (with_world w s) block j type z
+counted_holds : {s : State} {block j : ℕ} {type : Y.LeafType} {z : ℤ} (w : World) → Holds s block j type z → Holds (with_world w s) block j type z
 counted_holds w h = record { values = h.values; stands = h.stands; lives = h.lives; value = h.value; fits = h.fits }
+
+pub counted_all : {height : ℕ} {s : State} {block : ℕ} {types : Types} {n : ℕ → ℤ} (w : World) → AllHold height s block types n → AllHold height (with_world w s) block types n
+counted_all w all =
+    record { numbers = λ j below. counted_holds w (all.numbers j below); entered = all.entered; owned = all.owned }
+
+-- the numbers after one is assigned
+pub assigned_all : {height : ℕ} {s : State} {block : ℕ} {types : Types} {n : ℕ → ℤ} (j : ℕ) {type : Y.LeafType} (z : ℤ) (below : slice_get types j ≡ Some type) → Fits type z → (all : AllHold height s block types n) → AllHold height (assigned_state s type (suc j) (all.numbers j (type, below)).values z) block types (with_number_at n j z)
+assigned_all {s = s} {types = types} {n = n} j {type} z below fits all =
+    record {
+      numbers = λ i b. holds_assigned types n z below fits (all.numbers j (type, below)) all.numbers i b;
+      entered = all.entered;
+      owned = λ height' above. none_owned_changed height' (suc j) _ s.living (all.owned height' above);
+    }
 
 pub null_does : {e : Environment} {block : ℕ} {types : Types} (bl : Block e block types) (links : Links) (code : List Instr) (around : Around) (line : ℕ) → line < 2 ^ 31 → Does bl links code around.turns (act_code line) (M.statement around (Y.Null line))
 unfolding M.statement
 null_does bl links code around line fits =
     record {
       does = λ {i} {s} {v} {h} {t} {aims} closed old n f k l serving all at goal more.
-          act_piece closed f line old k fits l serving at (λ f' serving' at'. goal _ _ line n h t f' serving' (λ j below. counted_holds _ (all j below)) (stays_same bl.taken h t) at');
+          act_piece closed f line old k fits l serving at (λ f' serving' at'. goal _ _ line n h t f' serving' (counted_all _ all) (stays_same bl.taken h t) at');
     }
 
 -- an assignment of a value that fits its target, a variable of the block
-pub assign_does : {e : Environment} {block : ℕ} {types : Types} (bl : Block e block types) (links : Links) (code : List Instr) (routines : Standing bl links code) (around : Around) (j : ℕ) {type : Y.LeafType} (source : Y.Stored) (line words : ℕ) (below : slice_get types j ≡ Some type) → ((v : Services) (s : State) (k : ℕ) (n : ℕ → ℤ) → AllHold s block types n → Serving k s v line → Stores links code (bl.ground n) v s k words type (λ taken. stored_code (outermost e) taken source) (V.stored_value (at_line around line) source)) → stored_into (outermost e) bl.taken (whole (own block j)) source ≡ word_stored (outermost e) bl.taken (whole (own block j)) → bl.taken.words + 1 ≤ bl.words → bl.taken.words + words ≤ bl.words → line < 2 ^ 31 → Does bl links code around.turns (act_code line ++ assigned_code (outermost e) bl.taken (whole (own block j)) source) (M.statement around (Y.Assign (whole (own block j)) source line))
+pub assign_does : {e : Environment} {block : ℕ} {types : Types} (bl : Block e block types) (links : Links) (code : List Instr) (routines : Standing bl links code) (around : Around) (j : ℕ) {type : Y.LeafType} (source : Y.Stored) (line words : ℕ) (below : slice_get types j ≡ Some type) → ((v : Services) (s : State) (k : ℕ) (n : ℕ → ℤ) → AllHold (suc e.level) s block types n → Serving k s v line → Stores links code (bl.ground n) v s k words type (λ taken. stored_code e taken source) (V.stored_value (at_line around line) source)) → stored_into e bl.taken (whole (own block j)) source ≡ word_stored e bl.taken (whole (own block j)) → bl.taken.words + 1 ≤ bl.words → bl.taken.words + words ≤ bl.words → line < 2 ^ 31 → Does bl links code around.turns (act_code line ++ assigned_code e bl.taken (whole (own block j)) source) (M.statement around (Y.Assign (whole (own block j)) source line))
 unfolding M.statement ◌>>=◌ ◌>>◌
 assign_does {e} {block} {types} bl links code routines around j {type} source line words below stores into some room fits =
     record {
       does = λ {i} {s} {v} {h} {t} {aims} closed old n f k l serving all at goal more.
           let front = act_code line in
           let target = whole (own block j) in
-          let valued' = stored_code (outermost e) bl.taken source in
-          let last = word_stored (outermost e) bl.taken target in
-          let rest = assigned_code (outermost e) bl.taken target source in
+          let valued' = stored_code e bl.taken source in
+          let last = word_stored e bl.taken target in
+          let rest = assigned_code e bl.taken target source in
           let here = at_line around line in
           let store : BasicValue → Meaning (Unit {0}) = λ y. M.assigned here target y in
           let next' : Unit {0} → Meaning (Unit {0}) = λ u. (V.stored_value here source) >>= store in
           let size = size_append front rest in
-          let size1 = size_append valued' (stored_into (outermost e) bl.taken target source) in
+          let size1 = size_append valued' (stored_into e bl.taken target source) in
           let size2 = ap size_of into in
           let place : i + size_of front + size_of valued' + size_of last ≡ i + size_of (front ++ rest) = omega (arith, size, size1, size2) in
           let l1 = back_of front rest l in
-          let ll = subst (Linked links code (i + size_of front + size_of valued')) into (back_of valued' (stored_into (outermost e) bl.taken target source) l1) in
+          let ll = subst (Linked links code (i + size_of front + size_of valued')) into (back_of valued' (stored_into e bl.taken target source) l1) in
           let w = bl.words_are n in
           comes_on k (act counted k s) next'
           (act_piece (before_closed k next' closed) f line old k fits (front_of front rest l) serving at
           (λ f1 serving1 at1.
           let s1 = with_world (counted s.world) s in
-          let all1 : AllHold s1 block types n = λ i' below'. counted_holds _ (all i' below') in
+          let all1 : AllHold (suc e.level) s1 block types n = counted_all _ all in
           comes_on k (V.stored_value here source k s1) store
-          ((stores _ s1 k n all1 serving1).does (before_closed k store closed) f1 bl.taken (omega (arith, room, w)) (front_of valued' (stored_into (outermost e) bl.taken target source) l1) at1
+          ((stores _ s1 k n all1 serving1).does (before_closed k store closed) f1 bl.taken (omega (arith, room, w)) (front_of valued' (stored_into e bl.taken target source) l1) at1
           (λ z f2 h2 t2 fits2 stays2 at2.
           stored_piece (bl.ground (with_number_at n j z)) closed (bl.temps n) (i + size_of front + size_of valued') e block types n f2 here bl.taken j z k below fits2 (λ none. omega (arith, some, w)) (scope_of bl n all1)
-          (λ b h'. bl.same n (with_number_at n j z) b h') (λ t' b m len o. bl.writes n j z below (all1 j (type, below)).fits fits2 t' b m len o) ll at2
+          (λ b h'. bl.same n (with_number_at n j z) b h') (λ t' b m len o. bl.writes n j z below (all1.numbers j (type, below)).fits fits2 t' b m len o) ll at2
           (λ f3 h3 t3 stays3 at3.
-          let s2 = assigned_state s1 type (suc j) (all1 j (type, below)).values z in
+          let s2 = assigned_state s1 type (suc j) (all1.numbers j (type, below)).values z in
           subst (λ u. aims.done u f3 (acted line v) tt s2) (sym place)
           (goal s2 (acted line v) line (with_number_at n j z) h3 t3 f3
-          (record { world = serving1.world; running = serving1.running; line_is = serving1.line_is; allowed = serving1.allowed; fits = serving1.fits; entered = serving1.entered; alone = serving1.alone; alone_served = serving1.alone_served })
-          (λ i' below'. holds_assigned types n z below fits2 (all1 j (type, below)) all1 i' below')
+          (record { world = serving1.world; running = serving1.running; line_is = serving1.line_is; input = serving1.input; allowed = serving1.allowed; fits = serving1.fits; nested = serving1.nested; waiting = serving1.waiting })
+          (assigned_all j z below fits2 all1)
           (stays_then stays2 stays3)
           (λ b. record { pc = (at3 b).pc ∙ ap (address b) place; holds = (at3 b).holds })))))));
     }
 
-pub assign_number_does : {e : Environment} {block : ℕ} {types : Types} (bl : Block e block types) (links : Links) (code : List Instr) (routines : Standing bl links code) (around : Around) (r : Y.Reference) (p : ℕ) (x : Y.Number) (line : ℕ) → IsOwn block types (Y.FixedLeaf p) r → IsProvedNumber block types x → bl.taken.words + max 1 (number_words x) ≤ bl.words → line < 2 ^ 31 → Does bl links code around.turns (act_code line ++ assigned_code (outermost e) bl.taken r (Y.StoredNumber p x)) (M.statement around (Y.Assign r (Y.StoredNumber p x) line))
+pub assign_number_does : {e : Environment} {block : ℕ} {types : Types} (bl : Block e block types) (links : Links) (code : List Instr) (routines : Standing bl links code) (around : Around) (r : Y.Reference) (p : ℕ) (x : Y.Number) (line : ℕ) → IsOwn block types (Y.FixedLeaf p) r → IsProvedNumber block types x → bl.taken.words + max 1 (number_words x) ≤ bl.words → line < 2 ^ 31 → Does bl links code around.turns (act_code line ++ assigned_code e bl.taken r (Y.StoredNumber p x)) (M.statement around (Y.Assign r (Y.StoredNumber p x) line))
 assign_number_does {e} {block} {types} bl links code routines around r p x line own' is room fits =
     let least = le-max_left 1 (number_words x) in
-    subst (λ q. Does bl links code around.turns (act_code line ++ assigned_code (outermost e) bl.taken q (Y.StoredNumber p x)) (M.statement around (Y.Assign q (Y.StoredNumber p x) line))) (sym own'.is)
+    subst (λ q. Does bl links code around.turns (act_code line ++ assigned_code e bl.taken q (Y.StoredNumber p x)) (M.statement around (Y.Assign q (Y.StoredNumber p x) line))) (sym own'.is)
     (assign_does bl links code routines around own'.index (Y.StoredNumber p x) line (max 1 (number_words x)) own'.declared
-    (λ v s k n all serving. number_stores {e = e} {block = block} {types = types} {numbers = n} {around = at_line around line} p x (all own'.index (Y.FixedLeaf p, own'.declared)).fits.0 (record { routines = routines.raises; constants = routines.constants n; temps = bl.temps n; scope = scope_of bl n all; serving = serving }) is)
+    (λ v s k n all serving. number_stores {e = e} {block = block} {types = types} {numbers = n} {around = at_line around line} p x (all.numbers own'.index (Y.FixedLeaf p, own'.declared)).fits.0 (record { routines = routines.raises; constants = routines.constants n; temps = bl.temps n; scope = scope_of bl n all; serving = serving }) is)
     refl (omega (arith, room, least)) room fits)
 
-pub assign_bit_does : {e : Environment} {block : ℕ} {types : Types} (bl : Block e block types) (links : Links) (code : List Instr) (routines : Standing bl links code) (around : Around) (r : Y.Reference) (x : Y.Bit) (line : ℕ) → IsOwn block types Y.BitLeaf r → IsProvedBit block types x → bl.taken.words + 1 ≤ bl.words → bl.taken.words + bit_words x ≤ bl.words → line < 2 ^ 31 → Does bl links code around.turns (act_code line ++ assigned_code (outermost e) bl.taken r (Y.StoredBit x)) (M.statement around (Y.Assign r (Y.StoredBit x) line))
+pub assign_bit_does : {e : Environment} {block : ℕ} {types : Types} (bl : Block e block types) (links : Links) (code : List Instr) (routines : Standing bl links code) (around : Around) (r : Y.Reference) (x : Y.Bit) (line : ℕ) → IsOwn block types Y.BitLeaf r → IsProvedBit block types x → bl.taken.words + 1 ≤ bl.words → bl.taken.words + bit_words x ≤ bl.words → line < 2 ^ 31 → Does bl links code around.turns (act_code line ++ assigned_code e bl.taken r (Y.StoredBit x)) (M.statement around (Y.Assign r (Y.StoredBit x) line))
 assign_bit_does {e} {block} {types} bl links code routines around r x line own' is some room fits =
-    subst (λ q. Does bl links code around.turns (act_code line ++ assigned_code (outermost e) bl.taken q (Y.StoredBit x)) (M.statement around (Y.Assign q (Y.StoredBit x) line))) (sym own'.is)
+    subst (λ q. Does bl links code around.turns (act_code line ++ assigned_code e bl.taken q (Y.StoredBit x)) (M.statement around (Y.Assign q (Y.StoredBit x) line))) (sym own'.is)
     (assign_does bl links code routines around own'.index (Y.StoredBit x) line (bit_words x) own'.declared
     (λ v s k n all serving. bit_stores {e = e} {block = block} {types = types} {numbers = n} {around = at_line around line} x (record { routines = routines.raises; constants = routines.constants n; temps = bl.temps n; scope = scope_of bl n all; serving = serving }) is)
     refl some room fits)
@@ -206,10 +257,10 @@ marked_piece {links = links} {code = code} {i = i} {g = g} {v = v} {h = h} {t = 
 abbrev pub EachDoes : {e : Environment} {block : ℕ} {types : Types} → Block e block types → Links → List Instr → Around → Y.Stmts → Type 1
 EachDoes {e} bl links code around (Y.EndOfList labels) = Unit {1}
 EachDoes {e} bl links code around (Y.StmtThen labels first rest) =
-    Does bl links code around.turns (stmt_code (outermost e) bl.taken first) (M.statement around first) × EachDoes bl links code around rest
+    Does bl links code around.turns (stmt_code e bl.taken first) (M.statement around first) × EachDoes bl links code around rest
 
 -- a list of statements, of which each does what it means
-pub list_does : {e : Environment} {block : ℕ} {types : Types} (bl : Block e block types) (links : Links) (code : List Instr) (around : Around) (body : Y.Stmts) → EachDoes bl links code around body → Does bl links code around.turns (stmts_code (outermost e) bl.taken body) (M.statements around body None)
+pub list_does : {e : Environment} {block : ℕ} {types : Types} (bl : Block e block types) (links : Links) (code : List Instr) (around : Around) (body : Y.Stmts) → EachDoes bl links code around body → Does bl links code around.turns (stmts_code e bl.taken body) (M.statements around body None)
 unfolding M.statements give choose ◌>>◌
 list_does {e} bl links code around (Y.EndOfList labels) each =
     record {
@@ -220,8 +271,8 @@ list_does {e} bl links code around (Y.StmtThen labels first rest) each =
     record {
       does = λ {i} {s} {v} {h} {t} {aims} closed line n f k l serving all at goal more.
           let a = marked e.block labels in
-          let c = stmt_code (outermost e) bl.taken first in
-          let d = stmts_code (outermost e) bl.taken rest in
+          let c = stmt_code e bl.taken first in
+          let d = stmts_code e bl.taken rest in
           let l2 = back_of a (c ++ d) l in
           let e1 = size_append a (c ++ d) in
           let e2 = size_append c d in

@@ -55,6 +55,22 @@ pub changed_other : (ls : List Living) (n m : ℕ) (change : Generation → Gene
 changed_other [] n m change other = refl
 changed_other (l ∷ ls) n m change other = changed_other_by (l.serial == n) l ls n m change other refl (changed_other ls n m change other)
 
+-- ---- owners
+
+-- nothing lives with a height
+abbrev pub NoneOwned : (height : ℕ) → List Living → Type 0
+NoneOwned height [] = Unit {0}
+NoneOwned height (l ∷ ls) = ((l.owner == height) ≡ false) × NoneOwned height ls
+
+none_owned_by : (q : Bool) (height serial : ℕ) (change : Generation → Generation) (l : Living) (ls : List Living) → (l.owner == height) ≡ false → NoneOwned height ls → NoneOwned height (living_changed serial (generation_changed change) ls) → NoneOwned height (cond q (generation_changed change l ∷ ls) (l ∷ living_changed serial (generation_changed change) ls))
+none_owned_by true height serial change l ls here rest more = (here, rest)
+none_owned_by false height serial change l ls here rest more = (here, more)
+
+pub none_owned_changed : (height serial : ℕ) (change : Generation → Generation) (ls : List Living) → NoneOwned height ls → NoneOwned height (living_changed serial (generation_changed change) ls)
+none_owned_changed height serial change [] none = tt
+none_owned_changed height serial change (l ∷ ls) none =
+    none_owned_by (l.serial == serial) height serial change l ls none.0 none.1 (none_owned_changed height serial change ls none.1)
+
 -- ---- assignment
 
 -- what an element of a scalar holds once it is stored

@@ -30,7 +30,6 @@ use Rattle.pli_headline.proofs.Temporaries.{nothing}
 use Rattle.pli_headline.proofs.Calls.{Serving, comes_finish, called, Calling, end_pauses, call_ends, acts}
 use Rattle.pli_headline.proofs.Raising.{small_is}
 use Rattle.pli_headline.proofs.Acts.{act_piece}
-use Rattle.pli_headline.proofs.Variables.{outermost}
 use Rattle.pli_headline.proofs.Statements.{Block, Does}
 use Rattle.pli_headline.proofs.Reach.{Family, Aims, Comes, Closed, cost, before_closed, comes_on, onward}
 
@@ -58,7 +57,7 @@ stop_piece {code = code} {i = i} {g = g} {v = v} {h = h} {t = t} {s = s} closed 
     (end_pauses (credits + 3) f' v v' few serving.running (λ b. (at' b).holds.body.services) (add-one v.world.acts) calling)
     (call_ends (credits + 3) f' v v' (λ e. cc e) calling))
 
-pub stop_does : {e : Environment} {block : ℕ} {types : Types} (bl : Block e block types) (links : Links) (code : List Instr) (around : Around) (line : ℕ) → line < 2 ^ 31 → Does bl links code around.turns (stmt_code (outermost e) bl.taken (Y.Stop line)) (M.statement around (Y.Stop line))
+pub stop_does : {e : Environment} {block : ℕ} {types : Types} (bl : Block e block types) (links : Links) (code : List Instr) (around : Around) (line : ℕ) → line < 2 ^ 31 → Does bl links code around.turns (stmt_code e bl.taken (Y.Stop line)) (M.statement around (Y.Stop line))
 unfolding M.statement ◌>>◌
 stop_does bl links code around line fits =
     record {

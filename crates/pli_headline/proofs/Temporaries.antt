@@ -1,5 +1,5 @@
 -- Temporaries: values that wait in registers while some are left, else in words below the frame.
-use Rattle.std.proofs.Common.{◌≡◌, ℕ, zero, suc, ◌+◌, ◌-◌, ◌*◌, ◌^◌, ◌<◌, List, [], ◌∷◌, length, Bool, true, false, refl, sym, ap, ◌∙◌, arith}
+use Rattle.std.proofs.Common.{◌≡◌, ℕ, zero, suc, ◌+◌, ◌-◌, ◌*◌, ◌^◌, ◌<◌, List, [], ◌∷◌, length, Bool, true, false, refl, sym, ap, ◌∙◌, subst, arith}
 use Rattle.std.specs.Prelude.{pos, cond, ◌==◌, if◌then◌else◌}
 use Rattle.std.proofs.lemmas.Bool.{eq-eqb, ltb-true}
 use Rattle.std.proofs.lemmas.Bool.Decides.{nat_tests}
@@ -27,10 +27,11 @@ use Rattle.pli_headline.proofs.Reach.{Family, Reach, reach_map}
 abbrev pub put : (ℕ → ℕ) → ℕ → ℕ → ℕ → ℕ
 put xs k x i = if i == k then x else xs i
 
--- the words below the frame keep what is stored there, and nothing else is touched by that
+-- the words below the frame keep what is stored there, and nothing else is touched by that; of a word that is none for the machine
+-- nothing is known
 pub record Temporaries (g : Ground) : Type 0 where
   pub kept : (t : ℕ → ℕ) (b : Base) (m : List ℕ) (j x : ℕ) → j < g.words → length m ≡ memory_size → x < 2 ^ 32 → g.memory t b m → g.memory (put t j x) b (store 4 m (g.frame - 4 * suc j) x)
-  pub found : (t : ℕ → ℕ) (b : Base) (m : List ℕ) (j : ℕ) → j < g.words → g.memory t b m → load 4 m (g.frame - 4 * suc j) ≡ t j
+  pub found : (t : ℕ → ℕ) (b : Base) (m : List ℕ) (j : ℕ) → j < g.words → t j < 2 ^ 32 → g.memory t b m → load 4 m (g.frame - 4 * suc j) ≡ t j
 
 -- a value that waits at the temporaries in use
 abbrev pub waiting : Taken → (h t : ℕ → ℕ) → ℕ
@@ -174,7 +175,7 @@ fetch_by true {g = g} {v = v} {h = h} {t = t} {rs = rs} temps c f r k x left roo
     set_known (f b) r.index _ _ (λ b'. x) free (sum_zero ((f b).machine.registers (held k.registers).index) x (held_is k.registers g b h (f b).machine.registers below o.body.registers ∙ value) fits) o)
 fetch_by false {g = g} {t = t} temps c f r k x left room fits value free far l at =
     let j = k.words in
-    load_piece c f r (words_place j 1) (g.frame - 4 * suc j) (λ b. x) (word_place g j (room refl)) (λ b m o. temps.found t b m j (room refl) o ∙ value) free far l at
+    load_piece c f r (words_place j 1) (g.frame - 4 * suc j) (λ b. x) (word_place g j (room refl)) (λ b m o. temps.found t b m j (room refl) (subst (λ u. u < 2 ^ 32) (sym value) fits) o ∙ value) free far l at
 
 -- what waits comes into a register
 pub fetch_piece : {links : Links} {code : List Instr} {i : ℕ} {g : Ground} {v : Services} {h t : ℕ → ℕ} {rs : Base → List (ℕ × ℕ)} (temps : Temporaries g) (c : ℕ) (f : Family) (r : Register) (k : Taken) (x : ℕ) → (is_register_left k ≡ false → k.words < g.words) → x < 2 ^ 32 → waiting k h t ≡ x → Free rs r.index → Free rs 31 → Linked links code i (fetch r k) → ((b : Base) → At b i (Known g v h t rs b) (f b)) → Reach code c f v (c + size_of (fetch r k)) v (λ b w. At b (i + size_of (fetch r k)) (Known g v h t (with' r.index (λ b'. x) rs) b) w)

@@ -1,5 +1,5 @@
 -- The tests of a turn of DO with a variable that counts: the limit, and then WHILE.
-use Rattle.std.proofs.Common.{◌≡◌, ℕ, ◌+◌, ◌≤◌, List, [], ◌∷◌, ◌++◌, length, Option, None, Some, Bool, true, false, refl, sym, ap, ◌∙◌, subst, arith}
+use Rattle.std.proofs.Common.{◌≡◌, ℕ, suc, ◌+◌, ◌≤◌, List, [], ◌∷◌, ◌++◌, length, Option, None, Some, Bool, true, false, refl, sym, ap, ◌∙◌, subst, arith}
 use Rattle.std.specs.Prelude.{ℤ, ◌==◌, slice_get, if◌then◌else◌}
 use Rattle.rv_meaning.specs.declared.instr.Instr.{Instr}
 use Rattle.rv_meaning.specs.declared.instr.RegisterOp.TheVariants as Op
@@ -29,7 +29,7 @@ use Rattle.pli_headline.proofs.Bodies.{Ground, Known, zero_is}
 use Rattle.pli_headline.proofs.Jumps.{front_of, back_of, rest_of, skip_taken, skip_passed, ahead_piece}
 use Rattle.pli_headline.proofs.Temporaries.{Stays, stays_same, nothing}
 use Rattle.pli_headline.proofs.Calls.{Serving}
-use Rattle.pli_headline.proofs.Variables.{whole, own, outermost}
+use Rattle.pli_headline.proofs.Variables.{whole, own}
 use Rattle.pli_headline.proofs.Operators.{valued}
 use Rattle.pli_headline.proofs.Expressions.{number_does, bit_does}
 use Rattle.pli_headline.proofs.Statements.{Standing, Block, AllHold}
@@ -90,14 +90,14 @@ condition_size e taken (Some x) c d =
     size_append (bit_code e (in_turns taken) x) (skip_where Test.NotEqual a0 zero_register (JumpAhead c ∷ []))
     ∙ sym (size_append (bit_code e (in_turns taken) x) (skip_where Test.NotEqual a0 zero_register (JumpAhead d ∷ [])))
 
-pub within_piece : {links : Links} {code : List Instr} {i : ℕ} {v : Services} {h t : ℕ → ℕ} {s : State} {aims : Aims Bool} {e : Environment} {block : ℕ} {types : Types} (bl : Block e block types) (routines : Standing bl links code) (around : Around) (j p : ℕ) (limit : Option Y.Number) (most : Option ℤ) (step : ℤ) (behind : ℕ) (closed : Closed code aims) (n : ℕ → ℤ) (f : Family) (k : ℕ) → slice_get types j ≡ Some (Y.FixedLeaf p) → LimitWaits limit most t bl.taken.words → IsWide step → t (bl.taken.words + 1) ≡ word step → bl.taken.words + 2 ≤ bl.words → i + size_of (limit_kept (outermost e) bl.taken (counting block j p) limit behind) + behind ≤ length code → Linked links code i (limit_kept (outermost e) bl.taken (counting block j p) limit behind) → Serving k s v around.line → AllHold s block types n → ((b : Base) → At b i (Known (bl.ground n) v h t nothing b) (f b)) → Met bl n v s h t (i + size_of (limit_kept (outermost e) bl.taken (counting block j p) limit behind)) (i + size_of (limit_kept (outermost e) bl.taken (counting block j p) limit behind) + behind) aims → Comes code i f v aims (M.within_limit around (counting block j p) most step k s)
+pub within_piece : {links : Links} {code : List Instr} {i : ℕ} {v : Services} {h t : ℕ → ℕ} {s : State} {aims : Aims Bool} {e : Environment} {block : ℕ} {types : Types} (bl : Block e block types) (routines : Standing bl links code) (around : Around) (j p : ℕ) (limit : Option Y.Number) (most : Option ℤ) (step : ℤ) (behind : ℕ) (closed : Closed code aims) (n : ℕ → ℤ) (f : Family) (k : ℕ) → slice_get types j ≡ Some (Y.FixedLeaf p) → LimitWaits limit most t bl.taken.words → IsWide step → t (bl.taken.words + 1) ≡ word step → bl.taken.words + 2 ≤ bl.words → i + size_of (limit_kept e bl.taken (counting block j p) limit behind) + behind ≤ length code → Linked links code i (limit_kept e bl.taken (counting block j p) limit behind) → Serving k s v around.line → AllHold (suc e.level) s block types n → ((b : Base) → At b i (Known (bl.ground n) v h t nothing b) (f b)) → Met bl n v s h t (i + size_of (limit_kept e bl.taken (counting block j p) limit behind)) (i + size_of (limit_kept e bl.taken (counting block j p) limit behind) + behind) aims → Comes code i f v aims (M.within_limit around (counting block j p) most step k s)
 unfolding M.within_limit M.counter_number V.number ◌>>=◌ give
 within_piece {i = i} {v = v} {h = h} {t = t} {s = s} {aims = aims} bl routines around j p None None step behind closed n f k below waits ws at_step room inside l serving all at met =
     let same : i ≡ i + 0 = omega arith in
     record { to = subst (λ u. aims.done u f v true s) (sym same) (met.0 f h t (stays_same (in_turns bl.taken) h t) (λ b. record { pc = (at b).pc ∙ ap (address b) same; holds = (at b).holds })) }
 within_piece {code = code} {i = i} {v = v} {h = h} {t = t} {s = s} {aims = aims} {e = e} {block = block} {types = types} bl routines around j p (Some x) (Some limit) step behind closed n f k below waits ws at_step room inside l serving all at met =
     let target = whole (own block j) in
-    let a = number_code (outermost e) (in_turns bl.taken) (Y.NumberIn target) in
+    let a = number_code e (in_turns bl.taken) (Y.NumberIn target) in
     let c = limit_tested bl.taken behind in
     let mine : IsOwnNumber block types target = record { precision = p; own = record { index = j; declared = below; is = refl } } in
     let size = size_append a c in
@@ -130,13 +130,13 @@ kept_by {i = i} {v = v} {aims = aims} s false closed f behind inside l at met ov
     let there : i + 1 + (2 + behind) ≡ i + 3 + behind = omega arith in
     closed.done r false s (closed.done q false s (subst (λ u. aims.done u (reached q) v false s) (sym there) (over (reached q) (λ b. let o = reached_holds q b in record { pc = o.pc ∙ ap (address b) there; holds = o.holds }))))
 
-pub condition_piece : {links : Links} {code : List Instr} {i : ℕ} {v : Services} {h t : ℕ → ℕ} {s : State} {aims : Aims Bool} {e : Environment} {block : ℕ} {types : Types} (bl : Block e block types) (routines : Standing bl links code) (around : Around) (condition : Option Y.Bit) (behind : ℕ) (closed : Closed code aims) (n : ℕ → ℤ) (f : Family) (k : ℕ) → IsProvedBitIf block types condition → bl.taken.words + 2 + bit_if condition ≤ bl.words → i + size_of (while_kept (outermost e) bl.taken condition behind) + behind ≤ length code → Linked links code i (while_kept (outermost e) bl.taken condition behind) → Serving k s v around.line → AllHold s block types n → ((b : Base) → At b i (Known (bl.ground n) v h t nothing b) (f b)) → Met bl n v s h t (i + size_of (while_kept (outermost e) bl.taken condition behind)) (i + size_of (while_kept (outermost e) bl.taken condition behind) + behind) aims → Comes code i f v aims (M.condition_met around condition k s)
+pub condition_piece : {links : Links} {code : List Instr} {i : ℕ} {v : Services} {h t : ℕ → ℕ} {s : State} {aims : Aims Bool} {e : Environment} {block : ℕ} {types : Types} (bl : Block e block types) (routines : Standing bl links code) (around : Around) (condition : Option Y.Bit) (behind : ℕ) (closed : Closed code aims) (n : ℕ → ℤ) (f : Family) (k : ℕ) → IsProvedBitIf block types condition → bl.taken.words + 2 + bit_if condition ≤ bl.words → i + size_of (while_kept e bl.taken condition behind) + behind ≤ length code → Linked links code i (while_kept e bl.taken condition behind) → Serving k s v around.line → AllHold (suc e.level) s block types n → ((b : Base) → At b i (Known (bl.ground n) v h t nothing b) (f b)) → Met bl n v s h t (i + size_of (while_kept e bl.taken condition behind)) (i + size_of (while_kept e bl.taken condition behind) + behind) aims → Comes code i f v aims (M.condition_met around condition k s)
 unfolding M.condition_met give
 condition_piece {i = i} {v = v} {h = h} {t = t} {s = s} {aims = aims} bl routines around None behind closed n f k is room inside l serving all at met =
     let same : i ≡ i + 0 = omega arith in
     record { to = subst (λ u. aims.done u f v true s) (sym same) (met.0 f h t (stays_same (in_turns bl.taken) h t) (λ b. record { pc = (at b).pc ∙ ap (address b) same; holds = (at b).holds })) }
 condition_piece {i = i} {v = v} {s = s} {aims = aims} {e = e} bl routines around (Some x) behind closed n f k is room inside l serving all at met =
-    let a = bit_code (outermost e) (in_turns bl.taken) x in
+    let a = bit_code e (in_turns bl.taken) x in
     let c = skip_where Test.NotEqual a0 zero_register (JumpAhead behind ∷ []) in
     let size = size_append a c in
     let place : i + size_of a + 3 ≡ i + size_of (a ++ c) = omega (arith, size) in

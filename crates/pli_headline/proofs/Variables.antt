@@ -1,4 +1,4 @@
--- Scalar variables of the running block: in the meaning, and the code that reaches them.
+-- Scalar variables of the block of level 0: in the meaning, and the code that reaches them.
 use Rattle.std.proofs.Common.{◌≡◌, ℕ, ◌+◌, List, [], ◌++◌, Option, Some, true, refl, ap, ◌∙◌}
 use Rattle.std.specs.Prelude.{ℤ, pos, ◌&&◌, slice_get, take, unwrap_or, if◌then◌else◌}
 use Rattle.std.proofs.lemmas.Bool.{eq-eqb}
@@ -13,12 +13,13 @@ use Rattle.pli_meaning.specs.Control.{give, flow_on, looked, choose, ◌>>=◌, 
 use Rattle.pli_meaning.specs.Raising as R
 use Rattle.pli_meaning.specs.Raising.{Around}
 use Rattle.pli_meaning.specs.Evaluating as V
-use Rattle.pli_coding.specs.Registers.{frame_register, a0, u3}
+use Rattle.rv_meaning.specs.declared.instr.Register.{Register}
+use Rattle.pli_coding.specs.Registers.{a0, u3}
 use Rattle.pli_coding.specs.Assembly.{Code}
 use Rattle.pli_coding.specs.Instructions.{displaced}
 use Rattle.pli_coding.specs.Environments.{Environment, Taken, no_declaration}
 use Rattle.pli_coding.specs.Expressions.{number_code, bit_code, reference_code, type_in, address_in}
-use Rattle.pli_coding.specs.Locating.{Address, no_leaf, leaf_number, leaf_place, found_reached, loaded, stored}
+use Rattle.pli_coding.specs.Locating.{Address, no_leaf, leaf_number, leaf_place, found_reached, frame_found, frame_in, loaded, stored}
 use Rattle.pli_coding.specs.Frames.{automatic_place, has_constant_size}
 use Rattle.pli_headline.specs.ProvedSoFar.{plain_variable}
 use Rattle.pli_headline.proofs.Scalars.{IsNumeric, by_type, bit_of, value_as, Fits, load_kind, store_kind}
@@ -63,14 +64,11 @@ abbrev pub designated_scalar : Y.LeafType → (serial : ℕ) → (ℕ → List �
 designated_scalar type serial values =
     record { name = VariableName serial; generation = scalar_generation type values; extent = pos 0; part = whole_part; subscripts = [] }
 
-pub designated_by : (around : Around) (s : State) (v : Y.Variable) (type : Y.LeafType) (serial : ℕ) (values : ℕ → List ℤ → BasicValue) (k : ℕ) → standing_for s v ≡ Some (scalar_binding type v.index serial) → named s (VariableName serial) (scalar_shape type) ≡ Some (scalar_generation type values) → V.designated around (whole v) k s ≡ give (designated_scalar type serial values) k s
-unfolding V.designated V.located V.numbers V.variable_designated V.part_designated looked ◌>>=◌ ◌>>◌ R.or_error R.demanded choose give
-designated_by around s v type serial values k stands lives =
-    ap (λ o. flow_on k (R.or_error around 101 o k s) (λ b. V.part_designated around b.name b.shape whole_part [])) stands
-    ∙ ap (λ o. flow_on k (R.or_error around 101 o k s) (λ g. ◌>>=◌ (R.or_error around 107 (V.extent_in_force g whole_part)) (λ e. ◌>>◌ (R.demanded around 102 (is_within (take 0 (V.leaf_at (scalar_shape type) e 0).bounds) [])) (give (record { name = VariableName serial; generation = g; extent = e; part = whole_part; subscripts = [] }))))) lives
-
 pub designated_gives : (around : Around) (s : State) (v : Y.Variable) (type : Y.LeafType) (z : ℤ) (k : ℕ) (h : HoldsScalar s v type z) → V.designated around (whole v) k s ≡ give (designated_scalar type h.serial h.values) k s
-designated_gives around s v type z k h = designated_by around s v type h.serial h.values k h.stands h.lives
+unfolding V.designated V.located V.numbers V.variable_designated V.part_designated looked ◌>>=◌ ◌>>◌ R.or_error R.demanded choose give
+designated_gives around s v type z k h =
+    ap (λ o. flow_on k (R.or_error around 101 o k s) (λ b. V.part_designated around b.name b.shape whole_part [])) h.stands
+    ∙ ap (λ o. flow_on k (R.or_error around 101 o k s) (λ g. ◌>>=◌ (R.or_error around 107 (V.extent_in_force g whole_part)) (λ e. ◌>>◌ (R.demanded around 102 (is_within (take 0 (V.leaf_at (scalar_shape type) e 0).bounds) [])) (give (record { name = VariableName h.serial; generation = g; extent = e; part = whole_part; subscripts = [] }))))) h.lives
 
 pub number_gives : (around : Around) (s : State) (v : Y.Variable) (p : ℕ) (z : ℤ) (k : ℕ) → HoldsScalar s v (Y.FixedLeaf p) z → V.number around (Y.NumberIn (whole v)) k s ≡ give z k s
 unfolding V.number ◌>>=◌ give
@@ -94,54 +92,62 @@ data_place e block index = automatic_place e.parts e.program block 0 index + 16 
 abbrev pub outermost : Environment → Environment
 outermost e = record e { level = 0 }
 
-abbrev pub declared_in : Option Y.DeclaredVariable → Y.DeclaredVariable
+abbrev declared_in : Option Y.DeclaredVariable → Y.DeclaredVariable
 declared_in o = unwrap_or o no_declaration
 
-abbrev pub type_by : Option Y.DeclaredVariable → Y.LeafType
+abbrev type_by : Option Y.DeclaredVariable → Y.LeafType
 type_by o = (unwrap_or (slice_get (declared_in o).leaves 0) no_leaf).type
 
-abbrev pub address_by : Environment → (block index : ℕ) → Option Y.DeclaredVariable → Address
-address_by e block index o =
+-- the frame of level 0 is found
+abbrev pub base_found : Environment → Code
+base_found e = frame_found e 0 u3 ++ []
+
+abbrev pub base_register : Environment → Register
+base_register e = frame_in e 0 u3
+
+abbrev address_from : Environment → (block index : ℕ) → Option Y.DeclaredVariable → Address
+address_from e block index o =
     record {
-      register = if has_constant_size (declared_in o) then frame_register else u3;
+      register = if has_constant_size (declared_in o) then base_register e else u3;
       displacement = pos (if has_constant_size (declared_in o) then automatic_place e.parts e.program block 0 index + 16 + leaf_place (declared_in o) 0 else 0);
     }
 
-abbrev pub reached_by : Environment → Taken → (block index : ℕ) → Option Y.DeclaredVariable → Code
-reached_by e t block index o =
+abbrev reached_from : Environment → Taken → (block index : ℕ) → Option Y.DeclaredVariable → Code
+reached_from e t block index o =
     let v = own block index in
-    if has_constant_size (declared_in o) then [] else found_reached (outermost e) t t v whole_part (leaf_number (outermost e) v 0) 0
+    if has_constant_size (declared_in o) then base_found e else found_reached e t t v whole_part (leaf_number e v 0) 0
 
--- what loads and stores a variable of a type
-abbrev pub scalar_loaded : Y.LeafType → (place : ℕ) → Code
-scalar_loaded type place = displaced (λ r z. I.Load (load_kind type) a0 r z) frame_register (pos place)
+-- what loads and stores a variable of a type, from a frame of any level
+abbrev pub scalar_loaded : Y.LeafType → Environment → (place : ℕ) → Code
+scalar_loaded type e place =
+    base_found e ++ displaced (λ r z. I.Load (load_kind type) a0 r z) (base_register e) (pos place)
 
-abbrev pub scalar_stored : Y.LeafType → (place : ℕ) → Code
-scalar_stored type place = displaced (λ r z. I.Store (store_kind type) r a0 z) frame_register (pos place)
+abbrev pub scalar_stored : Y.LeafType → Environment → (place : ℕ) → Code
+scalar_stored type e place = displaced (λ r z. I.Store (store_kind type) r a0 z) (base_register e) (pos place)
 
 abbrev pub IsDeclared : Environment → (block index : ℕ) → Y.LeafType → Type 0
 IsDeclared e block index type =
     (initial : List T.InitialItem) × (slice_get (variables_of_block e.program block) index ≡ Some (plain_variable type initial))
 
-pub number_loaded : (e : Environment) (t : Taken) (block index p : ℕ) → IsDeclared e block index (Y.FixedLeaf p) → number_code (outermost e) t (Y.NumberIn (whole (own block index))) ≡ scalar_loaded (Y.FixedLeaf p) (data_place e block index)
+pub number_loaded : (e : Environment) (t : Taken) (block index p : ℕ) → IsDeclared e block index (Y.FixedLeaf p) → number_code e t (Y.NumberIn (whole (own block index))) ≡ scalar_loaded (Y.FixedLeaf p) e (data_place e block index)
 number_loaded e t block index p declared =
-    ap (λ o. reached_by e t block index o ++ loaded (type_by o) a0 (address_by e block index o)) declared.1
+    ap (λ o. reached_from e t block index o ++ loaded (type_by o) a0 (address_from e block index o)) declared.1
 
-pub bit_loaded : (e : Environment) (t : Taken) (block index : ℕ) → IsDeclared e block index Y.BitLeaf → bit_code (outermost e) t (Y.BitIn (whole (own block index))) ≡ scalar_loaded Y.BitLeaf (data_place e block index)
+pub bit_loaded : (e : Environment) (t : Taken) (block index : ℕ) → IsDeclared e block index Y.BitLeaf → bit_code e t (Y.BitIn (whole (own block index))) ≡ scalar_loaded Y.BitLeaf e (data_place e block index)
 bit_loaded e t block index declared =
-    ap (λ o. reached_by e t block index o ++ loaded (type_by o) a0 (address_by e block index o)) declared.1
+    ap (λ o. reached_from e t block index o ++ loaded (type_by o) a0 (address_from e block index o)) declared.1
 
--- nothing is left to do before the store
-pub scalar_reached : (e : Environment) (t : Taken) (block index : ℕ) (type : Y.LeafType) → IsNumeric type → IsDeclared e block index type → reference_code (outermost e) t (whole (own block index)) ≡ []
-scalar_reached e t block index type =
-    by_type (λ u. IsDeclared e block index u → reference_code (outermost e) t (whole (own block index)) ≡ [])
-    (λ p declared. ap (reached_by e t block index) declared.1)
-    (λ declared. ap (reached_by e t block index) declared.1)
+-- what is left to do before the store
+pub scalar_found : (e : Environment) (t : Taken) (block index : ℕ) (type : Y.LeafType) → IsNumeric type → IsDeclared e block index type → reference_code e t (whole (own block index)) ≡ base_found e
+scalar_found e t block index type =
+    by_type (λ u. IsDeclared e block index u → reference_code e t (whole (own block index)) ≡ base_found e)
+    (λ p declared. ap (reached_from e t block index) declared.1)
+    (λ declared. ap (reached_from e t block index) declared.1)
     type
 
-pub scalar_kept : (e : Environment) (block index : ℕ) (type : Y.LeafType) → IsNumeric type → IsDeclared e block index type → stored (type_in (outermost e) (whole (own block index))) a0 (address_in (outermost e) (whole (own block index))) ≡ scalar_stored type (data_place e block index)
+pub scalar_kept : (e : Environment) (block index : ℕ) (type : Y.LeafType) → IsNumeric type → IsDeclared e block index type → stored (type_in e (whole (own block index))) a0 (address_in e (whole (own block index))) ≡ scalar_stored type e (data_place e block index)
 scalar_kept e block index type =
-    by_type (λ u. IsDeclared e block index u → stored (type_in (outermost e) (whole (own block index))) a0 (address_in (outermost e) (whole (own block index))) ≡ scalar_stored u (data_place e block index))
-    (λ p declared. ap (λ o. stored (type_by o) a0 (address_by e block index o)) declared.1)
-    (λ declared. ap (λ o. stored (type_by o) a0 (address_by e block index o)) declared.1)
+    by_type (λ u. IsDeclared e block index u → stored (type_in e (whole (own block index))) a0 (address_in e (whole (own block index))) ≡ scalar_stored u e (data_place e block index))
+    (λ p declared. ap (λ o. stored (type_by o) a0 (address_from e block index o)) declared.1)
+    (λ declared. ap (λ o. stored (type_by o) a0 (address_from e block index o)) declared.1)
     type

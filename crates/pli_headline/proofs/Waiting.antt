@@ -1,5 +1,5 @@
 -- Words of the frame in which numbers wait while statements run: kept from a0, and read again.
-use Rattle.std.proofs.Common.{◌≡◌, ℕ, suc, ◌+◌, ◌-◌, ◌*◌, ◌^◌, ◌<◌, ◌≤◌, List, refl, ◌∙◌, arith}
+use Rattle.std.proofs.Common.{◌≡◌, ℕ, suc, ◌+◌, ◌-◌, ◌*◌, ◌^◌, ◌<◌, ◌≤◌, List, refl, sym, ◌∙◌, subst, arith}
 use Rattle.rv_meaning.specs.declared.instr.Instr.{Instr}
 use Rattle.rv_meaning.specs.declared.instr.Register.{Register}
 use Rattle.pli_serving.specs.ServiceState.{Services}
@@ -23,9 +23,9 @@ kept_piece {i = i} {g = g} {v = v} {h = h} {t = t} temps c f j x room fits l at 
     reach_map (λ b w. At b (i + size_of (store_word frame_register a0 (words_place j 1))) (Known g v h (put t j x) nothing b) w) s (λ b w o. record { pc = o.pc; holds = record { body = o.holds.body; regs = tt } })
 
 -- the word at a place is read
-pub read_piece : {links : Links} {code : List Instr} {i : ℕ} {g : Ground} {v : Services} {h t : ℕ → ℕ} {rs : Base → List (ℕ × ℕ)} (temps : Temporaries g) (c : ℕ) (f : Family) (r : Register) (j x : ℕ) → j < g.words → t j ≡ x → Free rs r.index → Free rs 31 → Linked links code i (load_word r frame_register (words_place j 1)) → ((b : Base) → At b i (Known g v h t rs b) (f b)) → Reach code c f v (c + size_of (load_word r frame_register (words_place j 1))) v (λ b w. At b (i + size_of (load_word r frame_register (words_place j 1))) (Known g v h t (with' r.index (λ b'. x) rs) b) w)
-read_piece {g = g} {t = t} temps c f r j x room value free far l at =
-    load_piece c f r (words_place j 1) (g.frame - 4 * suc j) (λ b. x) (word_place g j room) (λ b m o. temps.found t b m j room o ∙ value) free far l at
+pub read_piece : {links : Links} {code : List Instr} {i : ℕ} {g : Ground} {v : Services} {h t : ℕ → ℕ} {rs : Base → List (ℕ × ℕ)} (temps : Temporaries g) (c : ℕ) (f : Family) (r : Register) (j x : ℕ) → j < g.words → x < 2 ^ 32 → t j ≡ x → Free rs r.index → Free rs 31 → Linked links code i (load_word r frame_register (words_place j 1)) → ((b : Base) → At b i (Known g v h t rs b) (f b)) → Reach code c f v (c + size_of (load_word r frame_register (words_place j 1))) v (λ b w. At b (i + size_of (load_word r frame_register (words_place j 1))) (Known g v h t (with' r.index (λ b'. x) rs) b) w)
+read_piece {g = g} {t = t} temps c f r j x room fits value free far l at =
+    load_piece c f r (words_place j 1) (g.frame - 4 * suc j) (λ b. x) (word_place g j room) (λ b m o. temps.found t b m j room (subst (λ u. u < 2 ^ 32) (sym value) fits) o ∙ value) free far l at
 
 -- what stays while more words are taken stays while fewer are
 pub stays_fewer : {k : Taken} {h t h' t' : ℕ → ℕ} (n : ℕ) → Stays (with_words n k) h t h' t' → Stays k h t h' t'

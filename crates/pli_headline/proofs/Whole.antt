@@ -20,11 +20,13 @@ use Rattle.pli_headline.proofs.Promises.{Laws, Comes_at, from_flow, Works, promi
 use Rattle.pli_headline.proofs.Statics.{constant_stands}
 use Rattle.pli_headline.proofs.Marks.{Placed, placed}
 use Rattle.pli_headline.proofs.Sizes.{procedure_size, first_length}
+use Rattle.pli_headline.proofs.InnerWords.{all_inner_words}
+use Rattle.pli_headline.proofs.InnerSizes.{procedure_inner}
 use Rattle.pli_headline.proofs.MainProcedure.{main_head, alone_of, main_environment, main_words, main_plain, declared_at}
 use Rattle.pli_headline.proofs.PlainNumbers.{length_types}
 use Rattle.pli_headline.proofs.FirstFrame.{first_step_of}
 use Rattle.pli_headline.proofs.MainFrame.{main_frame}
-use Rattle.pli_headline.proofs.LabelMarks.{labels_stand}
+use Rattle.pli_headline.proofs.LabelMarks.{blocks_known, labels_stand}
 use Rattle.pli_headline.proofs.MainBody.{main_body_does}
 use Rattle.pli_headline.proofs.InitialNamed.{all_ready}
 use Rattle.pli_headline.proofs.MainRuns.{main_around, main_count, main_types, main_data, BodyDoes, main_runs}
@@ -55,6 +57,14 @@ few_words program is fits =
     let n = procedure_size (main_environment program (block_in is)) (main_head (block_in is) (line_in is)) (main_types program (block_in is)) is.body (main_plain program (block_in is) is.plain) is.block.statements in
     omega (arith, inside, small', n)
 
+few_inner : (program : Y.Program) (is : IsProvedSoFar program) → FitsMemory (picture_of parts program) → main_words program (block_in is) is.body + all_inner_words is.body ≤ most_code
+few_inner program is fits =
+    let p = (placed_for program is fits).procedure in
+    let inside = p.inside in
+    let small' = p.small' in
+    let n = procedure_inner (main_environment program (block_in is)) (main_head (block_in is) (line_in is)) (main_types program (block_in is)) is.body (main_plain program (block_in is) is.plain) is.block.statements in
+    omega (arith, inside, small', n)
+
 -- there is some code
 some_code : (program : Y.Program) (is : IsProvedSoFar program) → FitsMemory (picture_of parts program) → 0 < length (code_for program)
 some_code program is fits =
@@ -78,9 +88,10 @@ body_done program is fits k few =
     (λ j b. declared_at (variables_of_block program block) j (main_plain program block is.plain) b.1)
     (λ j below. main_data program block line is.body j is.plain alone below few)
     (links_of (code_of parts program)) (code_for program)
-    (placed_for program is fits).routines (main_around program k line)
-    (labels_stand program block line is.body is.plain alone is.block.statements) is.block.statements is.block.jumps
+    (placed_for program is fits).routines (main_around program k line) refl
+    (labels_stand program block line is.body is.plain alone is.block.statements is.block.inside) is.block.statements is.block.jumps
     (le-max_right (variables_words (variables_of_block program block)) (stmts_words is.body))
+    (let most = few_inner program is fits in omega (arith, most, few)) is.block.inside (record { enter = refl; turns = refl }) (blocks_known program block line is.body alone)
     (constant_stands (code_of parts program) fits)
 
 -- ---- its runs

@@ -1,8 +1,8 @@
 -- The programs for which the headline is proved so far: one procedure with scalars of FIXED BINARY and BIT(1), with or without
--- INITIAL; expressions of numbers, bits and texts; assignments of numbers and bits, IF, groups, DO WHILE, DO with a FIXED or BIT(1)
--- variable, GOTO to a label of a list around it, STOP, SIGNAL, and PUT EDIT of numbers, bits and texts, by lists of F, A, X, SKIP and
--- COLUMN items. Each form that is proved takes a line off.
-use Rattle.std.specs.Prelude.{◌≡◌, ℕ, suc, ◌<◌, ◌≤◌, ◌^◌, List, [], ◌∷◌, ◌++◌, length, map, slice_get, Option, None, Some, true, if◌then◌else◌, ⊤}
+-- INITIAL, and BEGIN blocks in it and in one another that declare nothing; expressions of numbers and bits; assignments of these, IF,
+-- groups, DO WHILE, DO with a FIXED or BIT(1) variable, GOTO to a label of a list around it in its block, RETURN in the procedure, STOP,
+-- SIGNAL, and PUT EDIT of numbers, bits and texts, by lists of F, A, X, SKIP and COLUMN items. Each form that is proved takes a line off.
+use Rattle.std.specs.Prelude.{◌≡◌, ℕ, suc, ◌<◌, ◌≤◌, ◌^◌, List, [], ◌∷◌, ◌++◌, length, map, slice_get, Bool, Option, None, Some, true, false, if◌then◌else◌, ⊤, ◌==◌, ◌&&◌}
 use Rattle.pli_language.specs.Keywords.{same_bytes}
 use Rattle.pli_language.specs.Tree as T
 use Rattle.pli_language.specs.Formats.{formats_move_data}
@@ -11,7 +11,7 @@ use Rattle.pli_meaning.specs.Numbers.{is_of_precision}
 use Rattle.pli_meaning.specs.Control.{Label, is_among}
 use Rattle.pli_meaning.specs.DeclaredShapes.{variables_of_block}
 use Rattle.pli_meaning.specs.Executing.{labels_in}
-use Rattle.pli_coding.specs.Streams.{has_text}
+use Rattle.pli_coding.specs.Streams.{has_fixed, has_text}
 
 -- ---- declarations
 
@@ -201,6 +201,46 @@ AreProvedPairs block types (p ∷ ps) =
     × ((AreProvedFormats p.formats × (HasData p.formats × (has_text p.formats ≡ true → HavePrecisions p.items)))
     × AreProvedPairs block types ps)
 
+-- ---- GET
+
+-- A items of GET have widths
+abbrev mutual
+  pub HasWidths : T.Format → Type 0
+  HasWidths (T.TextFormat None) = ⊥
+  HasWidths (T.FormatList formats) = HaveWidths formats
+  HasWidths _ = ⊤
+
+  pub HaveWidths : T.Formats → Type 0
+  HaveWidths T.NoFormat = ⊤
+  HaveWidths (T.FormatThen place repetition first rest) = HasWidths first × HaveWidths rest
+
+-- numbers are read by any item, and bits by A items
+abbrev pub IsReadBy : (fixed : Bool) → Y.LeafType → Type 0
+IsReadBy fixed (Y.FixedLeaf p) = ⊤
+IsReadBy fixed Y.BitLeaf = fixed ≡ false
+IsReadBy fixed _ = ⊥
+
+-- a variable of the block that is read by items of a list
+pub record IsTarget (block : ℕ) (types : Types) (fixed : Bool) (r : Y.Reference) : Type 0 where
+  pub type : Y.LeafType
+  pub own : IsOwn block types type r
+  pub read : IsReadBy fixed type
+
+abbrev pub IsProvedGetItem : (block : ℕ) (types : Types) (fixed : Bool) → Y.GetItem → Type 0
+IsProvedGetItem block types fixed (Y.GetScalar r) = IsTarget block types fixed r
+IsProvedGetItem block types fixed _ = ⊥
+
+abbrev pub AreProvedGetItems : (block : ℕ) (types : Types) (fixed : Bool) → List Y.GetItem → Type 0
+AreProvedGetItems block types fixed [] = ⊤
+AreProvedGetItems block types fixed (i ∷ is) =
+    IsProvedGetItem block types fixed i × AreProvedGetItems block types fixed is
+
+abbrev pub AreProvedGetPairs : (block : ℕ) (types : Types) → List Y.GetPair → Type 0
+AreProvedGetPairs block types [] = ⊤
+AreProvedGetPairs block types (p ∷ ps) =
+    AreProvedGetItems block types (has_fixed p.formats) p.items
+    × ((AreProvedFormats p.formats × (HasData p.formats × HaveWidths p.formats)) × AreProvedGetPairs block types ps)
+
 -- ---- statements
 
 -- lines fit a word
@@ -228,11 +268,16 @@ abbrev mutual
   IsProvedStatement block types (Y.DoCount (Y.NumberCounter precision target) (Y.NumberValue p x) limit step condition body line) =
       (IsOwn block types (Y.FixedLeaf precision) target × IsProvedNumber block types x)
       × ((IsProvedNumberIf block types limit × IsProvedNumber block types step) × (IsProvedBitIf block types condition × (AreProvedStatements block types body × IsLine line)))
-  IsProvedStatement block types (Y.Goto level label line) = (level ≡ 0) × IsLine line
+  IsProvedStatement block types (Y.Begin (Y.BlockOf head body)) =
+      (head.kind ≡ Y.BeginBlock) × (IsLine head.line × AreProvedStatements block types body)
+  IsProvedStatement block types (Y.Return line) = IsLine line
+  IsProvedStatement block types (Y.Goto level label line) = IsLine line
   IsProvedStatement block types (Y.Stop line) = IsLine line
   IsProvedStatement block types (Y.Signal condition line) = IsLine line
   IsProvedStatement block types (Y.Put None pairs line) = AreProvedPairs block types pairs × IsLine line
   IsProvedStatement block types (Y.Put (Some n) pairs line) = IsTimes n × (AreProvedPairs block types pairs × IsLine line)
+  IsProvedStatement block types (Y.Get None pairs line) = AreProvedGetPairs block types pairs × IsLine line
+  IsProvedStatement block types (Y.Get (Some n) pairs line) = IsTimes n × (AreProvedGetPairs block types pairs × IsLine line)
   IsProvedStatement block types _ = ⊥
 
   pub AreProvedStatements : (block : ℕ) (types : Types) → Y.Stmts → Type 0
@@ -242,41 +287,69 @@ abbrev mutual
 
 -- ---- jumps
 
--- how often a label stands among some
-abbrev pub times : Label → List Label → ℕ
-times label [] = 0
-times label (l ∷ ls) = if same_bytes label l then suc (times label ls) else times label ls
+-- how often a label of a block stands among some
+abbrev pub times : (block : ℕ) → Label → List (ℕ × Label) → ℕ
+times block label [] = 0
+times block label (p ∷ ps) =
+    if (block == p.0) && same_bytes label p.1 then suc (times block label ps) else times block label ps
 
--- the labels of a list, and of the lists of groups in it
+abbrev pub of_block : (block : ℕ) → List Label → List (ℕ × Label)
+of_block block labels = map (λ l. (block, l)) labels
+
+-- the labels of a list in a block, and of the lists of groups and blocks in it
 abbrev mutual
-  pub inner_labels : Y.Stmt → List Label
-  inner_labels (Y.If condition unit line) = inner_labels unit
-  inner_labels (Y.IfElse condition unit otherwise line) = inner_labels unit ++ inner_labels otherwise
-  inner_labels (Y.Do body line) = all_labels body
-  inner_labels (Y.DoWhile condition body line) = all_labels body
-  inner_labels (Y.DoOnce target start condition body line) = all_labels body
-  inner_labels (Y.DoCount counter start limit step condition body line) = all_labels body
-  inner_labels _ = []
+  pub inner_labels : (block : ℕ) → Y.Stmt → List (ℕ × Label)
+  inner_labels block (Y.If condition unit line) = inner_labels block unit
+  inner_labels block (Y.IfElse condition unit otherwise line) = inner_labels block unit ++ inner_labels block otherwise
+  inner_labels block (Y.Do body line) = all_labels block body
+  inner_labels block (Y.DoWhile condition body line) = all_labels block body
+  inner_labels block (Y.DoOnce target start condition body line) = all_labels block body
+  inner_labels block (Y.DoCount counter start limit step condition body line) = all_labels block body
+  inner_labels block (Y.Begin (Y.BlockOf head body)) = all_labels head.number body
+  inner_labels block _ = []
 
-  pub all_labels : Y.Stmts → List Label
-  all_labels (Y.EndOfList labels) = labels
-  all_labels (Y.StmtThen labels first rest) = labels ++ (inner_labels first ++ all_labels rest)
+  pub all_labels : (block : ℕ) → Y.Stmts → List (ℕ × Label)
+  all_labels block (Y.EndOfList labels) = of_block block labels
+  all_labels block (Y.StmtThen labels first rest) = of_block block labels ++ (inner_labels block first ++ all_labels block rest)
 
--- a GOTO names a label of a list around it, which stands once in its block
+-- a GOTO names a label of a list around it in its block, which has a level, and the label stands once in the program's blocks of that
+-- number; RETURN stands in the procedure, and begin blocks stand up to a hundred deep
 abbrev mutual
-  pub JumpsAround : (all around : List Label) → Y.Stmt → Type 0
-  JumpsAround all around (Y.If condition unit line) = JumpsAround all around unit
-  JumpsAround all around (Y.IfElse condition unit otherwise line) = JumpsAround all around unit × JumpsAround all around otherwise
-  JumpsAround all around (Y.Do body line) = AllJumpAround all (labels_in body ++ around) body
-  JumpsAround all around (Y.DoWhile condition body line) = AllJumpAround all (labels_in body ++ around) body
-  JumpsAround all around (Y.DoOnce target start condition body line) = AllJumpAround all (labels_in body ++ around) body
-  JumpsAround all around (Y.DoCount counter start limit step condition body line) = AllJumpAround all (labels_in body ++ around) body
-  JumpsAround all around (Y.Goto level label line) = (is_among label around ≡ true) × (times label all ≡ 1)
-  JumpsAround all around _ = ⊤
+  pub JumpsAround : (block level : ℕ) → (all : List (ℕ × Label)) → (around : List Label) → Y.Stmt → Type 0
+  JumpsAround block level all around (Y.If condition unit line) = JumpsAround block level all around unit
+  JumpsAround block level all around (Y.IfElse condition unit otherwise line) = JumpsAround block level all around unit × JumpsAround block level all around otherwise
+  JumpsAround block level all around (Y.Do body line) = AllJumpAround block level all (labels_in body ++ around) body
+  JumpsAround block level all around (Y.DoWhile condition body line) = AllJumpAround block level all (labels_in body ++ around) body
+  JumpsAround block level all around (Y.DoOnce target start condition body line) = AllJumpAround block level all (labels_in body ++ around) body
+  JumpsAround block level all around (Y.DoCount counter start limit step condition body line) = AllJumpAround block level all (labels_in body ++ around) body
+  JumpsAround block level all around (Y.Begin (Y.BlockOf head body)) =
+      ((head.level ≡ suc level) × (head.level ≤ 100)) × AllJumpAround head.number head.level all (labels_in body) body
+  JumpsAround block level all around (Y.Goto to label line) = (to ≡ level) × ((is_among label around ≡ true) × (times block label all ≡ 1))
+  JumpsAround block level all around (Y.Return line) = level ≡ 0
+  JumpsAround block level all around _ = ⊤
 
-  pub AllJumpAround : (all around : List Label) → Y.Stmts → Type 0
-  AllJumpAround all around (Y.EndOfList labels) = ⊤
-  AllJumpAround all around (Y.StmtThen labels first rest) = JumpsAround all around first × AllJumpAround all around rest
+  pub AllJumpAround : (block level : ℕ) → (all : List (ℕ × Label)) → (around : List Label) → Y.Stmts → Type 0
+  AllJumpAround block level all around (Y.EndOfList labels) = ⊤
+  AllJumpAround block level all around (Y.StmtThen labels first rest) = JumpsAround block level all around first × AllJumpAround block level all around rest
+
+-- ---- blocks inside the procedure
+
+-- they declare nothing
+abbrev mutual
+  pub IsBare : Y.Program → Y.Stmt → Type 0
+  IsBare program (Y.If condition unit line) = IsBare program unit
+  IsBare program (Y.IfElse condition unit otherwise line) = IsBare program unit × IsBare program otherwise
+  IsBare program (Y.Do body line) = AreBare program body
+  IsBare program (Y.DoWhile condition body line) = AreBare program body
+  IsBare program (Y.DoOnce target start condition body line) = AreBare program body
+  IsBare program (Y.DoCount counter start limit step condition body line) = AreBare program body
+  IsBare program (Y.Begin (Y.BlockOf head body)) =
+      (variables_of_block program head.number ≡ []) × AreBare program body
+  IsBare program _ = ⊤
+
+  pub AreBare : Y.Program → Y.Stmts → Type 0
+  AreBare program (Y.EndOfList labels) = ⊤
+  AreBare program (Y.StmtThen labels first rest) = IsBare program first × AreBare program rest
 
 -- ---- programs
 
@@ -289,7 +362,8 @@ pub record IsProvedBlock (program : Y.Program) (head : Y.BlockHead) (body : Y.St
   pub level : head.level ≡ 0
   pub line : IsLine head.line
   pub statements : AreProvedStatements head.number (types_of (variables_of_block program head.number)) body
-  pub jumps : AllJumpAround (all_labels body) (labels_in body) body
+  pub jumps : AllJumpAround head.number 0 (all_labels head.number body) (labels_in body) body
+  pub inside : AreBare program body
 
 -- one procedure, without parameters and without a result
 pub record IsProvedSoFar (program : Y.Program) : Type 0 where

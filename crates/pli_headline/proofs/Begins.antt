@@ -1,0 +1,222 @@
+-- BEGIN blocks that declare nothing, in the main procedure and in one another.
+use Rattle.std.proofs.Common.{◌≡◌, ℕ, zero, suc, ◌+◌, ◌*◌, ◌^◌, ◌<◌, ◌≤◌, List, [], ◌∷◌, ◌++◌, length, None, Option, true, false, refl, sym, ap, ◌∙◌, subst, arith}
+use Rattle.std.proofs.lemmas.Bool.{lt-ltb}
+use Rattle.std.specs.Prelude.{ℤ, max, nat_lt}
+use Rattle.rv_meaning.specs.declared.instr.Instr.{Instr}
+use Rattle.pli_typing.specs.TypedTree as Y
+use Rattle.pli_meaning.specs.World.{counted}
+use Rattle.pli_meaning.specs.BasicValues.{BasicValue}
+use Rattle.pli_meaning.specs.DeclaredShapes.{variables_of_block}
+use Rattle.pli_meaning.specs.StorageState.{State, with_world, newest_ended, most_activations}
+use Rattle.pli_meaning.specs.Control as F
+use Rattle.pli_meaning.specs.Control.{Flow, Normal, Jump, Return, Paused, Stuck, Meaning, flow_on, left, give, act, ◌>>◌}
+use Rattle.pli_meaning.specs.Raising.{Around}
+use Rattle.pli_meaning.specs.Executing as M
+use Rattle.pli_serving.specs.ServiceState.{Services}
+use Rattle.pli_coding.specs.Registers.{frame_register, a0}
+use Rattle.pli_coding.specs.Assembly.{Code, size_of}
+use Rattle.pli_coding.specs.Instructions.{move}
+use Rattle.pli_coding.specs.Allocating.{act_code}
+use Rattle.pli_coding.specs.Entries.{frame_begun, entered_without_texts, variables_made, variables_words}
+use Rattle.pli_coding.specs.Environments.{Environment, none_taken}
+use Rattle.pli_coding.specs.Frames.{fixed_size, temporary_bytes}
+use Rattle.pli_coding.specs.Statements.{begin_environment, begin_code, block_words, stmts_words, stmt_code, stmts_code}
+use Rattle.pli_coding.specs.Linking.{Links}
+use Rattle.pli_headline.specs.ProvedSoFar.{Types}
+use Rattle.pli_headline.proofs.Engine.{Base, address}
+use Rattle.pli_headline.proofs.Linking.{size_append}
+use Rattle.pli_headline.proofs.Items.{Linked, At}
+use Rattle.pli_headline.proofs.Bodies.{Known}
+use Rattle.pli_headline.proofs.Jumps.{front_of, back_of}
+use Rattle.pli_headline.proofs.Temporaries.{nothing}
+use Rattle.pli_headline.proofs.Activations.{same_length}
+use Rattle.pli_headline.proofs.Calls.{Serving}
+use Rattle.pli_headline.proofs.Acts.{act_piece}
+use Rattle.pli_headline.proofs.Statements.{Block, AllHold, counted_all, Does}
+use Rattle.pli_headline.proofs.InnerFrames.{Inner, inner_block}
+use Rattle.pli_headline.proofs.BeginFrames.{inner_begun, inner_frame}
+use Rattle.pli_headline.proofs.BeginEntered.{entered_activation, entered_services, ended_services, inner_ended, inner_entered, inner_left}
+use Rattle.pli_headline.proofs.BeginMeant.{Entering, inner_around, begin_part, inner_part, begin_meant, entered_state, entered_nested, entered_all, ended_input, left_all}
+use Rattle.pli_headline.proofs.Reach.{Family, Aims, Comes, Closed, before_closed, comes_on, onward}
+
+-- ---- the end of the block
+
+-- a jump or a return goes on outside, once the block's activation ended
+abbrev ending_block : Aims (Option BasicValue) → (State → State) → Aims (Unit {0})
+ending_block aims close =
+    record {
+      done = λ i f v x s. aims.done i f v None (with_world s.world (close s));
+      jumped = λ i f v height label s. aims.jumped i f v height label (with_world s.world (close s));
+      returned = λ i f v x s. aims.returned i f v x (with_world s.world (close s));
+    }
+
+ending_closed : {code : List Instr} {aims : Aims (Option BasicValue)} (close : State → State) → Closed code aims → Closed code (ending_block aims close)
+ending_closed close closed =
+    record {
+      done = λ r x s a. closed.done r None (with_world s.world (close s)) a;
+      jumped = λ r height label s a. closed.jumped r height label (with_world s.world (close s)) a;
+      returned = λ r x s a. closed.returned r x (with_world s.world (close s)) a;
+    }
+
+comes_ended : {code : List Instr} {i : ℕ} {f : Family} {v : Services} {aims : Aims (Option BasicValue)} (close : State → State) (flow : Flow (Unit {0})) → Comes code i f v (ending_block aims close) flow → Comes code i f v aims (left false close flow)
+comes_ended close (Normal x s) c = record { to = c.to }
+comes_ended close (Jump height label s) c = record { to = c.to }
+comes_ended close (Return x s) c = record { to = c.to }
+comes_ended close (F.Ended s) c = record { to = c.to }
+comes_ended close (Paused s) c = record { to = c.to }
+comes_ended close Stuck c = absurd c.to
+
+-- ---- the code
+
+-- behind its act
+abbrev inner_code : Environment → Y.BlockHead → (words : ℕ) → Y.Stmts → Code
+inner_code e head words body =
+    inner_begun words (suc e.level)
+    ++ (entered_without_texts 1 head.line ++ (stmts_code (begin_environment head e) none_taken body ++ inner_ended words))
+
+inner_code_is : (e : Environment) (head : Y.BlockHead) (body : Y.Stmts) → head.level ≡ suc e.level → variables_of_block e.program head.number ≡ [] → begin_code e head (block_words e head.number (stmts_words body)) (stmts_code (begin_environment head e) none_taken body) ≡ inner_code e head (max 0 (stmts_words body)) body
+inner_code_is e head body next none =
+    let e' = begin_environment head e in
+    let code = stmts_code e' none_taken body in
+    let enter = entered_without_texts 1 head.line in
+    ap (λ ds. inner_begun_at head.level (max (variables_words ds) (stmts_words body)) (enter ++ (variables_made e' head.line 0 ds ++ (code ++ inner_ended (max (variables_words ds) (stmts_words body)))))) none
+    ∙ ap (λ level. inner_begun_at level (max 0 (stmts_words body)) (enter ++ (code ++ inner_ended (max 0 (stmts_words body))))) next
+  where
+    inner_begun_at : (level words : ℕ) → Code → Code
+    inner_begun_at level words behind = (move a0 frame_register ∷ frame_begun words level 0 false) ++ behind
+
+-- ---- what it does
+
+-- where its frame lies, and how much more the frame takes
+pub inner_room : (free words level : ℕ) → level < 100 → free + 4 * words + 700 ≤ 14 * 2 ^ 20 → free + temporary_bytes words + fixed_size (suc level) 0 + 4 ≤ 14 * 2 ^ 20
+inner_room free words level few room = omega (arith, few, room)
+
+abbrev pub inner_of : {e : Environment} {block : ℕ} {types : Types} (bl : Block e block types) (words : ℕ) → e.level < 100 → bl.stack.free + 4 * words + 700 ≤ 14 * 2 ^ 20 → Inner bl
+inner_of {e} bl words few room =
+    record { words = words; at = bl.stack.free + temporary_bytes words; place = refl; room = inner_room bl.stack.free words e.level few room }
+
+few_entered : (n level : ℕ) → level < 100 → n ≡ suc level → nat_lt n most_activations ≡ true
+few_entered n level few e = lt-ltb n most_activations (omega (arith, few, e))
+
+-- behind its act
+inner_piece : {e : Environment} {block : ℕ} {types : Types} (bl : Block e block types) {links : Links} {code : List Instr} (around : Around) (more : ℕ) (head : Y.BlockHead) (body : Y.Stmts) (inner : Inner bl) → e.level < 100 → (next : head.level ≡ suc e.level) → head.kind ≡ Y.BeginBlock → head.line < 2 ^ 31 → variables_of_block e.program head.number ≡ [] → around.enter ≡ M.entered e.program (suc more) → ((t0 : ℕ → ℕ) → Does (inner_block bl inner t0 head.number head.level next) links code (suc more) (stmts_code (begin_environment head e) none_taken body) (M.list (inner_around e.program more head.line) body)) → {i : ℕ} {s : State} {v : Services} {h t : ℕ → ℕ} {aims : Aims (Unit {0})} (closed : Closed code aims) (n : ℕ → ℤ) (f : Family) (k line : ℕ) → k < suc more + v.world.acts → 2 ≤ i → Linked links code i (inner_code e head inner.words body) → Serving k s v line → AllHold (suc e.level) s block types n → ((b : Base) → At b i (Known (bl.ground n) v h t nothing b) (f b)) → ((s' : State) (v' : Services) (line' : ℕ) (n' : ℕ → ℤ) (h' : ℕ → ℕ) (f' : Family) → Serving k s' v' line' → AllHold (suc e.level) s' block types n' → ((b : Base) → At b (i + size_of (inner_code e head inner.words body)) (Known (bl.ground n') v' h' t nothing b) (f' b)) → aims.done (i + size_of (inner_code e head inner.words body)) f' v' tt s') → Comes code i f v aims (begin_part around head body k s)
+unfolding M.end_reached give ◌>>◌
+inner_piece {e} {block} {types} bl {links} {code} around more head body inner shallow next kind fits none enter does' {i} {s} {v} {h} {t} {aims} closed n f k line enough later l serving all at goal =
+    let program = e.program in
+    let here = inner_around program more head.line in
+    let c1 = inner_begun inner.words (suc e.level) in
+    let c2 = entered_without_texts 1 head.line in
+    let c3 = stmts_code (begin_environment head e) none_taken body in
+    let c4 = inner_ended inner.words in
+    let l2 = back_of c1 (c2 ++ (c3 ++ c4)) l in
+    let l3 = back_of c2 (c3 ++ c4) l2 in
+    let n1 = size_append c1 (c2 ++ (c3 ++ c4)) in
+    let n2 = size_append c2 (c3 ++ c4) in
+    let n3 = size_append c3 c4 in
+    let i2 = i + size_of c1 in
+    let i3 = i2 + size_of c2 in
+    let i4 = i3 + size_of c3 in
+    let place : i4 + size_of c4 ≡ i + size_of (c1 ++ (c2 ++ (c3 ++ c4))) = omega (arith, n1, n2, n3) in
+    let s2 = entered_state head body s in
+    let v2 = entered_services v inner.at head.line in
+    let few = few_entered (length s.activations) e.level shallow all.entered in
+    let few' = few_entered (length v.activations) e.level shallow (same_length s.activations v.activations serving.nested ∙ all.entered) in
+    let last : Option BasicValue → Meaning (Unit {0}) = λ u. give tt in
+    let behind : Unit {0} → Meaning (Unit {0}) = λ u. M.end_reached here false in
+    let part = inner_part program more head body in
+    let closed1 = before_closed k last closed in
+    let closed2 = ending_closed newest_ended closed1 in
+    let closed3 = before_closed k behind closed2 in
+    subst (Comes code i f v aims) (sym (begin_meant program around more head body k s enter kind none few))
+    (onward closed (inner_frame bl inner n i f shallow (omega (arith, later)) (front_of c1 (c2 ++ (c3 ++ c4)) l) at)
+    (λ f1 at1.
+    onward closed (inner_entered bl inner n i2 f1 head.line fits serving.waiting few' (front_of c2 (c3 ++ c4) l2) at1)
+    (λ f2 at2.
+    comes_on k (left false newest_ended (part k s2)) last
+    (comes_ended newest_ended (part k s2)
+    (comes_on k (M.list here body k s2) behind
+    ((does' t).does closed3 head.line n f2 k (front_of c3 c4 l3)
+    (record {
+      world = serving.world;
+      running = serving.running;
+      line_is = refl;
+      input = serving.input;
+      allowed = serving.allowed;
+      fits = serving.fits;
+      nested = entered_nested head body s v.activations (entered_activation v inner.at) e.level next all.entered refl serving.nested;
+      waiting = refl;
+    })
+    (subst (λ m. AllHold (suc m) s2 block types n) (sym next) (entered_all head body s v.activations e.level next serving.nested all))
+    at2
+    (λ s3 v3 line3 n3' h3 t3 f3 serving3 all3 stays3 at3.
+    let o = left_all s3 v3.activations e.level serving3.nested (subst (λ m. AllHold (suc m) s3 block types n3') next all3) in
+    let v4 = ended_services v3 o.newest o.rest in
+    record {
+      to =
+          onward closed (inner_left bl inner n3' i4 f3 o.newest o.rest o.are (back_of c3 c4 l3) at3)
+          (λ f4 at4.
+          record {
+            to =
+                subst (λ u. aims.done u f4 v4 tt (with_world s3.world (newest_ended s3))) (sym place)
+                (goal (with_world s3.world (newest_ended s3)) v4 o.newest.line n3' h3 f4
+                (record {
+                  world = serving3.world;
+                  running = serving3.running;
+                  line_is = refl;
+                  input = serving3.input ∙ sym (ended_input s3);
+                  allowed = serving3.allowed;
+                  fits = serving3.fits;
+                  nested = o.nested;
+                  waiting = serving3.waiting;
+                })
+                o.all
+                (λ b. record { pc = (at4 b).pc ∙ ap (address b) place; holds = (at4 b).holds }));
+          });
+    })
+    (record {
+      enough = omega (arith, enough);
+      later = omega (arith, later);
+      jumps = λ label among once. let no : false ≡ true = among in absurd (cc no);
+      returns = λ outer once. absurd (omega (arith, next, outer));
+    })))))))
+
+own_begin_does : {e : Environment} {block : ℕ} {types : Types} (bl : Block e block types) (links : Links) (code : List Instr) (around : Around) (more : ℕ) (head : Y.BlockHead) (body : Y.Stmts) (inner : Inner bl) → e.level < 100 → (next : head.level ≡ suc e.level) → head.kind ≡ Y.BeginBlock → head.line < 2 ^ 31 → variables_of_block e.program head.number ≡ [] → Entering e.program around more → ((more' : ℕ) (t0 : ℕ → ℕ) → Does (inner_block bl inner t0 head.number head.level next) links code (suc more') (stmts_code (begin_environment head e) none_taken body) (M.list (inner_around e.program more' head.line) body)) → Does bl links code around.turns (act_code head.line ++ inner_code e head inner.words body) (M.statement around (Y.Begin (Y.BlockOf head body)))
+unfolding M.statement ◌>>◌
+own_begin_does {e} {block} {types} bl links code around zero head body inner shallow next kind fits none entering does' =
+    record {
+      does = λ {i} {s} {v} {h} {t} {aims} closed old n f k l serving all at goal more'.
+          let next' : Unit {0} → Meaning (Unit {0}) = λ u. begin_part around head body in
+          comes_on k (act counted k s) next'
+          (act_piece (before_closed k next' closed) f head.line old k fits (front_of (act_code head.line) (inner_code e head inner.words body) l) serving at
+          (λ f1 serving1 at1.
+          absurd (let e1 = more'.enough in let e2 = entering.turns in let e3 = serving1.allowed in omega (arith, e1, e2, e3))));
+    }
+own_begin_does {e} {block} {types} bl links code around (suc more) head body inner shallow next kind fits none entering does' =
+    record {
+      does = λ {i} {s} {v} {h} {t} {aims} closed old n f k l serving all at goal more'.
+          let a = act_code head.line in
+          let c = inner_code e head inner.words body in
+          let size = size_append a c in
+          let place : i + size_of a + size_of c ≡ i + size_of (a ++ c) = omega (arith, size) in
+          let e1 = more'.enough in
+          let e2 = entering.turns in
+          let later = more'.later in
+          let next' : Unit {0} → Meaning (Unit {0}) = λ u. begin_part around head body in
+          comes_on k (act counted k s) next'
+          (act_piece (before_closed k next' closed) f head.line old k fits (front_of a c l) serving at
+          (λ f1 serving1 at1.
+          inner_piece bl around more head body inner shallow next kind fits none entering.enter (does' more) closed n f1 k head.line (omega (arith, e1, e2)) (omega (arith, later)) (back_of a c l) serving1
+          (counted_all (counted s.world) all)
+          at1
+          (λ s4 v4 line4 n4 h4 f4 serving4 all4 at4.
+          subst (λ u. aims.done u f4 v4 tt s4) (sym place)
+          (goal s4 v4 line4 n4 h4 t f4 serving4
+          all4
+          (record { registers = λ r below. absurd (let held = bl.held in omega (arith, held, below)); words = λ j below. refl })
+          (λ b. record { pc = (at4 b).pc ∙ ap (address b) place; holds = (at4 b).holds })))));
+    }
+
+pub begin_does : {e : Environment} {block : ℕ} {types : Types} (bl : Block e block types) (links : Links) (code : List Instr) (around : Around) (more : ℕ) (head : Y.BlockHead) (body : Y.Stmts) (inner : Inner bl) → inner.words ≡ max 0 (stmts_words body) → e.level < 100 → (next : head.level ≡ suc e.level) → head.kind ≡ Y.BeginBlock → head.line < 2 ^ 31 → variables_of_block e.program head.number ≡ [] → Entering e.program around more → ((more' : ℕ) (t0 : ℕ → ℕ) → Does (inner_block bl inner t0 head.number head.level next) links code (suc more') (stmts_code (begin_environment head e) none_taken body) (M.list (inner_around e.program more' head.line) body)) → Does bl links code around.turns (stmt_code e bl.taken (Y.Begin (Y.BlockOf head body))) (M.statement around (Y.Begin (Y.BlockOf head body)))
+begin_does {e} bl links code around more head body inner same shallow next kind fits none entering does' =
+    subst (λ c. Does bl links code around.turns (act_code head.line ++ c) (M.statement around (Y.Begin (Y.BlockOf head body)))) (ap (λ w. inner_code e head w body) same ∙ sym (inner_code_is e head body next none))
+    (own_begin_does bl links code around more head body inner shallow next kind fits none entering does')

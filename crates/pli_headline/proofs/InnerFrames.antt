@@ -1,0 +1,153 @@
+-- The frame of a block inside another: what stands in memory while it runs, above what stands for the block around it.
+use Rattle.std.proofs.Common.{◌≡◌, ℕ, suc, ◌+◌, ◌-◌, ◌*◌, ◌%◌, ◌^◌, ◌<◌, ◌≤◌, inl, inr, List, [], length, Some, Bool, true, false, refl, sym, ap, ◌∙◌, subst, arith}
+use Rattle.std.specs.Prelude.{ℤ, cond, slice_get, ◌==◌}
+use Rattle.std.proofs.lemmas.Bool.{eqb-true}
+use Rattle.std.proofs.lemmas.Bool.Decides.{nat_tests}
+use Rattle.rv_meaning.specs.Words.{word}
+use Rattle.rv_meaning.specs.Memory.{load, store}
+use Rattle.rv_meaning.specs.Machine.{memory_size, store_width}
+use Rattle.rv_meaning.proofs.MemoryLaws.{load-store_same, load-store_other}
+use Rattle.pli_typing.specs.TypedTree as Y
+use Rattle.pli_coding.specs.Frames.{display, fixed_size, temporary_bytes}
+use Rattle.pli_coding.specs.Environments.{Environment, none_taken, in_frame}
+use Rattle.pli_headline.specs.ProvedSoFar.{Types}
+use Rattle.pli_headline.proofs.Engine.{Base}
+use Rattle.pli_headline.proofs.Numbers.{above_sum, above_small}
+use Rattle.pli_headline.proofs.Scalars.{Fits, store_kind}
+use Rattle.pli_headline.proofs.Bodies.{Ground, PlaceOf}
+use Rattle.pli_headline.proofs.Reaching.{Reaches}
+use Rattle.pli_headline.proofs.Temporaries.{Temporaries}
+use Rattle.pli_headline.proofs.Variables.{data_place}
+use Rattle.pli_headline.proofs.States.{with_number_at}
+use Rattle.pli_headline.proofs.MainGround.{apart_words, width_few}
+use Rattle.pli_headline.proofs.Statements.{Block}
+
+-- where it lies, and its words for temporaries
+pub record Inner {e : Environment} {block : ℕ} {types : Types} (bl : Block e block types) : Type 0 where
+  pub words : ℕ
+  pub at : ℕ
+  pub place : at ≡ bl.stack.free + temporary_bytes words
+  pub room : at + fixed_size (suc e.level) 0 + 4 ≤ 14 * 2 ^ 20
+
+pub record Inside (around : Base → List ℕ → Type 0) (outer base at words : ℕ) (t : ℕ → ℕ) (b : Base) (m : List ℕ) : Type 0 where
+  pub kept : around b m
+  pub below : load 4 m (at + 4) ≡ b.at + outer
+  pub own : load 4 m (at + 36) ≡ at
+  pub shown : load 4 m (at + 144) ≡ b.at + base
+  pub temporaries : (j : ℕ) → j < words → t j < 2 ^ 32 → load 4 m (at - 4 * suc j) ≡ t j
+
+pub inner_whole : (at free words : ℕ) → at ≡ free + temporary_bytes words → free % 4 ≡ 0 → at % 4 ≡ 0
+inner_whole at free words e h = omega (arith, e, h)
+
+pub inner_above : (at free words : ℕ) → at ≡ free + temporary_bytes words → free + 4 * words ≤ at
+inner_above at free words e = omega (arith, e)
+
+-- on the ground of the block around, where these temporaries wait
+abbrev pub inner_ground : {e : Environment} {block : ℕ} {types : Types} (bl : Block e block types) → Inner bl → (t0 : ℕ → ℕ) → (ℕ → ℤ) → Ground
+inner_ground {e} bl inner t0 n =
+    record {
+      frame = inner.at;
+      free = inner.at + fixed_size (suc e.level) 0;
+      words = inner.words;
+      memory = Inside ((bl.ground n).memory t0) bl.stack.frame bl.base inner.at inner.words;
+      whole = inner_whole inner.at bl.stack.free inner.words inner.place bl.stack.aligned;
+      above_code = let a = inner_above inner.at bl.stack.free inner.words inner.place in let h = bl.stack.high in omega (arith, a, h);
+      inside = let r = inner.room in omega (arith, r);
+    }
+
+-- ---- its temporaries
+
+inner_put : (q : Bool) (m : List ℕ) (t : ℕ → ℕ) (at i j x words : ℕ) → (i == j) ≡ q → length m ≡ memory_size → x < 2 ^ 32 → i < words → j < words → 4 * words ≤ at → at ≤ memory_size → cond q x (t i) < 2 ^ 32 → (t i < 2 ^ 32 → load 4 m (at - 4 * suc i) ≡ t i) → load 4 (store 4 m (at - 4 * suc j) x) (at - 4 * suc i) ≡ cond q x (t i)
+inner_put true m t at i j x words e len fits h k r s known o =
+    let same : i ≡ j = eqb-true i j e in
+    ap (λ u. load 4 (store 4 m (at - 4 * suc j) x) (at - 4 * suc u)) same ∙ load-store_same 4 m (at - 4 * suc j) x fits (omega (arith, len, k, r, s))
+inner_put false m t at i j x words e len fits h k r s known o =
+    load-store_other 4 4 m (at - 4 * suc j) x (at - 4 * suc i) (apart_words at i j words e h k r) ∙ o known
+
+pub inner_temporaries : {e : Environment} {block : ℕ} {types : Types} (bl : Block e block types) (inner : Inner bl) (t0 : ℕ → ℕ) (n : ℕ → ℤ) → Temporaries (inner_ground bl inner t0 n)
+inner_temporaries bl inner t0 n =
+    let above = inner_above inner.at bl.stack.free inner.words inner.place in
+    let room = inner.room in
+    record {
+      kept = λ t b m j x below len fits o.
+          let p = inner.at - 4 * suc j in
+          record {
+            kept = bl.stack.keeps n t0 b m p x (omega (arith, above, below)) o.kept;
+            below = load-store_other 4 4 m p x (inner.at + 4) (inr (omega (arith, above, below))) ∙ o.below;
+            own = load-store_other 4 4 m p x (inner.at + 36) (inr (omega (arith, above, below))) ∙ o.own;
+            shown = load-store_other 4 4 m p x (inner.at + 144) (inr (omega (arith, above, below))) ∙ o.shown;
+            temporaries = λ i h known. inner_put (i == j) m t inner.at i j x inner.words refl len fits h below (omega (arith, above)) (omega (arith, room)) known (o.temporaries i h);
+          };
+      found = λ t b m j below known o. o.temporaries j below known;
+    }
+
+-- ---- variables of the block around
+
+pub inner_writes : {e : Environment} {block : ℕ} {types : Types} (bl : Block e block types) (inner : Inner bl) (t0 : ℕ → ℕ) (n : ℕ → ℤ) (j : ℕ) (z : ℤ) {type : Y.LeafType} → slice_get types j ≡ Some type → Fits type (n j) → Fits type z → (t : ℕ → ℕ) (b : Base) (m : List ℕ) → length m ≡ memory_size → (inner_ground bl inner t0 n).memory t b m → (inner_ground bl inner t0 (with_number_at n j z)).memory t b (store (store_width (store_kind type)) m (bl.base + data_place e block j) (word z))
+inner_writes {e} {block} bl inner t0 n j z {type} below old fits t b m len o =
+    let p = bl.base + data_place e block j in
+    let w = store_width (store_kind type) in
+    let few = width_few (store_kind type) in
+    let above = inner_above inner.at bl.stack.free inner.words inner.place in
+    let under = bl.stack.under j below in
+    record {
+      kept = bl.writes n j z below old fits t0 b m len o.kept;
+      below = load-store_other w 4 m p (word z) (inner.at + 4) (inr (omega (arith, above, under, few))) ∙ o.below;
+      own = load-store_other w 4 m p (word z) (inner.at + 36) (inr (omega (arith, above, under, few))) ∙ o.own;
+      shown = load-store_other w 4 m p (word z) (inner.at + 144) (inr (omega (arith, above, under, few))) ∙ o.shown;
+      temporaries = λ i h known. load-store_other w 4 m p (word z) (inner.at - 4 * suc i) (inr (omega (arith, above, under, h, few))) ∙ o.temporaries i h known;
+    }
+
+pub inner_place : (g : Ground) → g.frame + 148 ≤ 14 * 2 ^ 20 → 7 * 2 ^ 20 ≤ g.frame → PlaceOf g (display 0) (g.frame + 144)
+inner_place g room high =
+    let whole = g.whole in
+    record {
+      small' = above_small 144 (omega arith);
+      sums = λ b. above_sum b.at g.frame 144 b.valid.1 (omega (arith, room));
+      aligned = omega (arith, whole);
+      inside = omega (arith, room);
+      above_code = omega (arith, high);
+    }
+
+pub other_level : (level outer : ℕ) → level ≡ suc outer → (0 == level) ≡ false
+other_level level outer e = grind (arith, nat_tests)
+
+-- the block inside, in a frame of the next level
+abbrev pub inner_block : {e : Environment} {block : ℕ} {types : Types} (bl : Block e block types) (inner : Inner bl) (t0 : ℕ → ℕ) (number level : ℕ) → level ≡ suc e.level → Block (in_frame number level e) block types
+inner_block {e} bl inner t0 number level next =
+    let above = inner_above inner.at bl.stack.free inner.words inner.place in
+    let high = bl.stack.high in
+    record {
+      ground = inner_ground bl inner t0;
+      words = inner.words;
+      taken = none_taken;
+      labels = [];
+      base = bl.base;
+      within = bl.within;
+      words_are = λ n. refl;
+      same = λ n n' b h. refl;
+      temps = inner_temporaries bl inner t0;
+      declared = λ j below. bl.declared j below;
+      reach = λ n. subst (λ q. Reaches q (inner_ground bl inner t0 n) bl.base) (sym (other_level level e.level next)) (inner_place (inner_ground bl inner t0 n) (let room = inner.room in omega (arith, room)) (omega (arith, above, high)), λ t b m o. o.shown);
+      places = λ j below. bl.places j below;
+      reads = λ n j below fits t b m o. bl.reads n j below fits t0 b m o.kept;
+      writes = λ n j z below old fits t b m len o. inner_writes bl inner t0 n j z below old fits t b m len o;
+      held = refl;
+      stack = record {
+        frame = inner.at;
+        free = inner.at + fixed_size (suc e.level) 0;
+        frame_is = λ n. refl;
+        free_is = λ n. refl;
+        aligned = let w = inner_whole inner.at bl.stack.free inner.words inner.place bl.stack.aligned in omega (arith, w);
+        high = omega (arith, above, high);
+        above = omega arith;
+        keeps = λ n t b m p x over o. record {
+          kept = bl.stack.keeps n t0 b m p x (omega (arith, above, over)) o.kept;
+          below = load-store_other 4 4 m p x (inner.at + 4) (inl (omega (arith, over))) ∙ o.below;
+          own = load-store_other 4 4 m p x (inner.at + 36) (inl (omega (arith, over))) ∙ o.own;
+          shown = load-store_other 4 4 m p x (inner.at + 144) (inl (omega (arith, over))) ∙ o.shown;
+          temporaries = λ i h known. load-store_other 4 4 m p x (inner.at - 4 * suc i) (inl (omega (arith, over, above, h))) ∙ o.temporaries i h known;
+        };
+        under = λ j below. let u = bl.stack.under j below in omega (arith, u, above);
+      };
+    }

@@ -1,0 +1,107 @@
+-- How code gets at the frame that holds the variables: it is the running frame, or stands in the display of that.
+use Rattle.std.proofs.Common.{◌≡◌, ℕ, ◌+◌, ◌^◌, ◌<◌, List, [], ◌++◌, length, Bool, true, false, refl, ap, ◌∙◌, subst, arith}
+use Rattle.std.specs.Prelude.{ℤ, cond}
+use Rattle.rv_meaning.specs.declared.instr.Instr.{Instr}
+use Rattle.rv_meaning.specs.declared.instr.Instr.TheVariants as I
+use Rattle.rv_meaning.specs.declared.instr.LoadKind.{LoadKind}
+use Rattle.rv_meaning.specs.declared.instr.StoreKind.{StoreKind}
+use Rattle.rv_meaning.specs.declared.instr.Register.{Register}
+use Rattle.rv_meaning.specs.Memory.{load, store}
+use Rattle.rv_meaning.specs.Machine.{memory_size, load_width, extended, store_width}
+use Rattle.pli_serving.specs.ServiceState.{Services}
+use Rattle.pli_coding.specs.Registers.{frame_register, a0, u3}
+use Rattle.pli_coding.specs.Assembly.{Code, size_of}
+use Rattle.pli_coding.specs.Instructions.{displaced, load_word}
+use Rattle.pli_coding.specs.Frames.{display}
+use Rattle.pli_coding.specs.Environments.{Taken, is_register_left, fetch}
+use Rattle.pli_coding.specs.Linking.{Links}
+use Rattle.image_runs.specs.Runs.{Whole}
+use Rattle.pli_headline.proofs.Engine.{Base, address}
+use Rattle.pli_headline.proofs.Linking.{size_append}
+use Rattle.pli_headline.proofs.Items.{Linked, At}
+use Rattle.pli_headline.proofs.Bodies.{Ground, Known, PlaceFrom, PlaceOf, with', frame_is, reserved_are, load_piece, narrow_load_from, narrow_store_into}
+use Rattle.pli_headline.proofs.Jumps.{front_of, back_of}
+use Rattle.pli_headline.proofs.Temporaries.{Temporaries, waiting, nothing, fetch_piece}
+use Rattle.pli_headline.proofs.Reach.{Family, Reach, reach_then, reach_map, reached, reached_holds}
+
+-- ---- places of a reach
+
+-- the same reach, where credits and place are said in other words
+pub reach_moved : {code : List Instr} {f : Family} {v v' : Services} {c c' c'' i' i'' : ℕ} {Q : Base → Whole → Type 0} → c' ≡ c'' → i' ≡ i'' → Reach code c f v c' v' (λ b w. At b i' (Q b) w) → Reach code c f v c'' v' (λ b w. At b i'' (Q b) w)
+reach_moved {code} {f} {v} {v'} {c} {c'} {c''} {i'} {i''} {Q} e e' r =
+    subst (λ n. Reach code c f v n v' (λ b w. At b i'' (Q b) w)) e
+    (reach_map (λ b w. At b i'' (Q b) w) r (λ b w o. record { pc = o.pc ∙ ap (address b) e'; holds = o.holds }))
+
+-- ---- the frame of the variables
+
+-- the running frame is that frame, or knows it
+abbrev pub Reaches : Bool → Ground → (base : ℕ) → Type 0
+Reaches true g base = g.frame ≡ base
+Reaches false g base =
+    PlaceOf g (display 0) (g.frame + 144)
+    × ((t : ℕ → ℕ) (b : Base) (m : List ℕ) → g.memory t b m → load 4 m (g.frame + 144) ≡ b.at + base)
+
+-- where it isn't the running one its address comes into a register
+abbrev pub found_by : Bool → Code
+found_by q = cond q [] (load_word u3 frame_register (display 0)) ++ []
+
+abbrev pub register_by : Bool → Register
+register_by q = cond q frame_register u3
+
+-- what stands for a variable comes into a0
+pub read_based : (q : Bool) {links : Links} {code : List Instr} {i : ℕ} {g : Ground} {v : Services} {h t : ℕ → ℕ} (c : ℕ) (f : Family) (base : ℕ) (kind : LoadKind) (z : ℤ) (o : ℕ) (x : Base → ℕ) → Reaches q g base → base < memory_size → PlaceFrom base z o → ((b : Base) (m : List ℕ) → g.memory t b m → extended kind (load (load_width kind) m o) ≡ x b) → Linked links code i (found_by q ++ displaced (λ s d. I.Load kind a0 s d) (register_by q) z) → ((b : Base) → At b i (Known g v h t nothing b) (f b)) → Reach code c f v (c + size_of (found_by q ++ displaced (λ s d. I.Load kind a0 s d) (register_by q) z)) v (λ b w. At b (i + size_of (found_by q ++ displaced (λ s d. I.Load kind a0 s d) (register_by q) z)) (Known g v h t (with' 10 x nothing) b) w)
+read_based true {g = g} c f base kind z o x reaches within place reads l at =
+    narrow_load_from c f a0 frame_register kind z base o x place within (λ y u. refl) (λ b w k. frame_is k.body ∙ ap (λ u. b.at + u) reaches) reads
+    (record { reserved_stay = λ y u. refl; known_stay = λ b y u k. k; set = λ y u. refl })
+    (record { reserved_stay = λ y u. refl; known_stay = λ b y u k. k; set = λ y u. refl })
+    l at
+read_based false {i = i} {g = g} {v = v} {h = h} {t = t} c f base kind z o x reaches within place reads l at =
+    let first = load_word u3 frame_register (display 0) in
+    let second = displaced (λ s d. I.Load kind a0 s d) u3 z in
+    let size = size_append first second in
+    let r1 = load_piece c f u3 (display 0) (g.frame + 144) (λ b. b.at + base) reaches.0 (λ b m k. reaches.1 t b m k)
+    (record { reserved_stay = λ y u. refl; known_stay = λ b y u k. k; set = λ y u. refl })
+    (record { reserved_stay = λ y u. refl; known_stay = λ b y u k. k; set = λ y u. refl })
+    (front_of first second l) at in
+    let r2 = narrow_load_from (c + size_of first) (reached r1) a0 u3 kind z base o x place within (λ y u. refl) (λ b w k. k.regs.0) reads
+    (record { reserved_stay = λ y u. refl; known_stay = λ b y u k. (k.0, tt); set = λ y u. refl })
+    (record { reserved_stay = λ y u. refl; known_stay = λ b y u k. (k.0, tt); set = λ y u. refl })
+    (back_of first second l) (reached_holds r1) in
+    reach_moved (omega (arith, size)) (omega (arith, size))
+    (reach_map (λ b w. At b (i + size_of first + size_of second) (Known g v h t (with' 10 x nothing) b) w) (reach_then r1 r2) (λ b w k. record { pc = k.pc; holds = record { body = k.holds.body; regs = (k.holds.regs.0, tt) } }))
+
+-- what waits goes to a variable's place
+pub write_based : (q : Bool) {links : Links} {code : List Instr} {i : ℕ} {g : Ground} (g' : Ground) {v : Services} {h t : ℕ → ℕ} (temps : Temporaries g) (c : ℕ) (f : Family) (taken : Taken) (base : ℕ) (kind : StoreKind) (z : ℤ) (o x : ℕ) → Reaches q g base → base < memory_size → PlaceFrom base z o → (is_register_left taken ≡ false → taken.words < g.words) → x < 2 ^ 32 → waiting taken h t ≡ x → ((b : Base) → reserved_are b g h ≡ reserved_are b g' h) → ((b : Base) (m : List ℕ) → length m ≡ memory_size → g.memory t b m → g'.memory t b (store (store_width kind) m o x)) → Linked links code i (found_by q ++ (fetch a0 taken ++ displaced (λ s d. I.Store kind s a0 d) (register_by q) z)) → ((b : Base) → At b i (Known g v h t nothing b) (f b)) → Reach code c f v (c + size_of (found_by q ++ (fetch a0 taken ++ displaced (λ s d. I.Store kind s a0 d) (register_by q) z))) v (λ b w. At b (i + size_of (found_by q ++ (fetch a0 taken ++ displaced (λ s d. I.Store kind s a0 d) (register_by q) z))) (Known g' v h t nothing b) w)
+write_based true {i = i} {g = g} g' {v = v} {h = h} {t = t} temps c f taken base kind z o x reaches within place left fits waits same writes l at =
+    let back = fetch a0 taken in
+    let last = displaced (λ s d. I.Store kind s a0 d) frame_register z in
+    let size = size_append back last in
+    let r1 = fetch_piece temps c f a0 taken x left fits waits
+    (record { reserved_stay = λ y u. refl; known_stay = λ b y u k. k; set = λ y u. refl })
+    (record { reserved_stay = λ y u. refl; known_stay = λ b y u k. k; set = λ y u. refl })
+    (front_of back last l) at in
+    let r2 = narrow_store_into g' t (c + size_of back) (reached r1) a0 frame_register kind z base o (λ b. x) place within (λ y u. refl) (λ b w k. frame_is k.body ∙ ap (λ u. b.at + u) reaches) (λ y u. refl) (λ b w k. k.regs.0) same writes
+    (record { reserved_stay = λ y u. refl; known_stay = λ b y u k. (k.0, tt); set = λ y u. refl })
+    (back_of back last l) (reached_holds r1) in
+    reach_moved (omega (arith, size)) (omega (arith, size))
+    (reach_map (λ b w. At b (i + size_of back + size_of last) (Known g' v h t nothing b) w) (reach_then r1 r2) (λ b w k. record { pc = k.pc; holds = record { body = k.holds.body; regs = tt } }))
+write_based false {i = i} {g = g} g' {v = v} {h = h} {t = t} temps c f taken base kind z o x reaches within place left fits waits same writes l at =
+    let first = load_word u3 frame_register (display 0) in
+    let back = fetch a0 taken in
+    let last = displaced (λ s d. I.Store kind s a0 d) u3 z in
+    let size = size_append back last in
+    let size' = size_append first (back ++ last) in
+    let l2 = back_of first (back ++ last) l in
+    let r0 = load_piece c f u3 (display 0) (g.frame + 144) (λ b. b.at + base) reaches.0 (λ b m k. reaches.1 t b m k)
+    (record { reserved_stay = λ y u. refl; known_stay = λ b y u k. k; set = λ y u. refl })
+    (record { reserved_stay = λ y u. refl; known_stay = λ b y u k. k; set = λ y u. refl })
+    (front_of first (back ++ last) l) at in
+    let r1 = fetch_piece temps (c + size_of first) (reached r0) a0 taken x left fits waits
+    (record { reserved_stay = λ y u. refl; known_stay = λ b y u k. (k.0, tt); set = λ y u. refl })
+    (record { reserved_stay = λ y u. refl; known_stay = λ b y u k. (k.0, tt); set = λ y u. refl })
+    (front_of back last l2) (reached_holds r0) in
+    let r2 = narrow_store_into g' t (c + size_of first + size_of back) (reached r1) a0 u3 kind z base o (λ b. x) place within (λ y u. refl) (λ b w k. k.regs.1.0) (λ y u. refl) (λ b w k. k.regs.0) same writes
+    (record { reserved_stay = λ y u. refl; known_stay = λ b y u k. (k.0, (k.1.0, tt)); set = λ y u. refl })
+    (back_of back last l2) (reached_holds r1) in
+    reach_moved (omega (arith, size, size')) (omega (arith, size, size'))
+    (reach_map (λ b w. At b (i + size_of first + size_of back + size_of last) (Known g' v h t nothing b) w) (reach_then r0 (reach_then r1 r2)) (λ b w k. record { pc = k.pc; holds = record { body = k.holds.body; regs = tt } }))
