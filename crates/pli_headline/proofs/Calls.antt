@@ -26,7 +26,7 @@ use Rattle.pli_headline.proofs.Reach.{Family, cost, acts_of, ActNext, Pausing, E
 
 -- ---- what stands between the meaning and the services
 
--- the services show what the meaning shows, the run goes on in nested blocks, and no raise waits for a unit
+-- the services show what the meaning shows, and have the same input left; the run goes on in nested blocks, and no raise waits for a unit
 pub record Serving (k : ℕ) (s : State) (v : Services) (line : ℕ) : Type 0 where
   pub world : v.world ≡ s.world
   pub running : v.world.end ≡ E.Running

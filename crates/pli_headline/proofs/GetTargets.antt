@@ -1,7 +1,6 @@
 -- An item of GET: the next data item is found, a field is taken for a number or a bit, and it is stored in a variable of the block.
 use Rattle.std.proofs.Common.{◌≡◌, ℕ, suc, ◌+◌, ◌≤◌, List, [], ◌∷◌, ◌++◌, Option, Some, None, Bool, true, refl, sym, ap, ◌∙◌, subst, arith, lit<}
 use Rattle.std.specs.Prelude.{ℤ, slice_get, unwrap_or}
-use Rattle.std.specs.Option.{option_map}
 use Rattle.rv_meaning.specs.declared.instr.Instr.{Instr}
 use Rattle.rv_meaning.specs.Words.{word, flag}
 use Rattle.pli_language.specs.Tree as T
@@ -19,10 +18,8 @@ use Rattle.pli_meaning.specs.Raising as R
 use Rattle.pli_meaning.specs.Raising.{Around}
 use Rattle.pli_meaning.specs.Streaming as P
 use Rattle.pli_meaning.specs.Streaming.{FormatItem, DataFormat, DataItem, FixedItem, TextItem, Field, TextField, format_items}
-use Rattle.pli_serving.specs.ServiceState.{Services, EditPlace, Entry, TextEntry}
-use Rattle.pli_serving.specs.Answers.{Done}
-use Rattle.pli_serving.specs.Finding.{Call}
-use Rattle.pli_serving.specs.Outcomes.{pushed, with_entries, on_text, or_status, becoming}
+use Rattle.pli_serving.specs.ServiceState.{Services, EditPlace, TextEntry}
+use Rattle.pli_serving.specs.Outcomes.{pushed, with_entries}
 use Rattle.pli_serving.specs.Edits as E
 use Rattle.pli_serving.specs.TextServices as X
 use Rattle.pli_coding.specs.Registers.{a0}
@@ -37,7 +34,7 @@ use Rattle.pli_coding.specs.Streams as C
 use Rattle.pli_coding.specs.Streams.{has_fixed, has_text, controls_carried_out, awaited_before, field_awaited, field_stored, bit_got}
 use Rattle.pli_coding.specs.Linking.{Links}
 use Rattle.pli_headline.specs.ProvedSoFar.{Types, IsReadBy, IsProvedGetItem, AreProvedFormats, HasData, HaveWidths}
-use Rattle.pli_headline.proofs.Engine.{Base, address, call_at}
+use Rattle.pli_headline.proofs.Engine.{Base, address}
 use Rattle.pli_headline.proofs.Linking.{size_append}
 use Rattle.pli_headline.proofs.Items.{Linked, At, straight}
 use Rattle.pli_headline.proofs.Numbers as N
@@ -56,7 +53,8 @@ use Rattle.pli_headline.proofs.Statements.{Block, AllHold, assigned_all, scope_o
 use Rattle.pli_headline.proofs.FormatData.{items_data, true_false}
 use Rattle.pli_headline.proofs.EditTexts.{at_other_texts}
 use Rattle.pli_headline.proofs.EditChoices.{by_kinds}
-use Rattle.pli_headline.proofs.TextCalls.{three, told, tested_call}
+use Rattle.pli_headline.proofs.TextCalls.{three, tested_call}
+use Rattle.pli_headline.proofs.TextNumbers.{bit_answer}
 use Rattle.pli_headline.proofs.GetItems.{getting, Gets, read_state}
 use Rattle.pli_headline.proofs.GetControls.{Kept, next_piece}
 use Rattle.pli_headline.proofs.GetWidths.{Suits, formats_suited}
@@ -147,16 +145,6 @@ number_stored {e} {block} {types} bl {code = code} {i = i} {v = v} {s = s} {aims
     }))
 
 -- ---- bits
-
-flag_told : (c : Call) (v : Services) (o : Option Bool) → or_status c 1 conversion_code (option_map flag o) (λ w. Done v c.memory w 0) ≡ told c.services c.memory 1 conversion_code (λ b. v) flag o
-flag_told c v None = refl
-flag_told c v (Some b) = refl
-
-bit_answer : (code : List Instr) (v : Services) (m : List ℕ) (text : List ℕ) (texts : List Entry) → v.entries ≡ TextEntry text ∷ texts → X.to_number_served (call_at code v m) 1 ≡ told v m 1 conversion_code (λ b. with_entries texts v) flag (bit_in_text text)
-bit_answer code v m text texts top =
-    let c = call_at code v m in
-    ap (λ u. on_text u (λ t below. or_status c 1 conversion_code (X.word_in_text 1 t) (λ w. becoming c (with_entries below v) w 0))) top
-    ∙ flag_told c (with_entries texts v) (bit_in_text text)
 
 -- a text that waits is stored as a bit
 bit_stored : {e : Environment} {block : ℕ} {types : Types} (bl : Block e block types) {links : Links} {code : List Instr} {i : ℕ} {v : Services} {h t : ℕ → ℕ} {s : State} {aims : Aims (Option (List FormatItem))} (closed : Closed code aims) (routines : Routines links code) (f : Family) (around : Around) (j : ℕ) (field : List ℕ) (n : ℕ → ℤ) (fixed text : Bool) (all left : List FormatItem) (below : List EditPlace) (k : ℕ) → slice_get types j ≡ Some Y.BitLeaf → bl.taken.words + 1 ≤ bl.words → Suits fixed text left → v.edits ≡ getting all left ∷ below → Linked links code i (small a0 1 ∷ (tested_service 26 ++ word_stored e bl.taken (whole (own block j)))) → Serving k s v around.line → AllHold (suc e.level) s block types n → ((b : Base) → At b i (Known (bl.ground n) (pushed (TextEntry field) v) h t nothing b) (f b)) → ItemBehind bl k around.line h t (i + 6 + size_of (word_stored e bl.taken (whole (own block j)))) fixed text all below aims → Comes code i f (pushed (TextEntry field) v) (converting code aims k around (whole (own block j)) left) (P.field_converted around Bit (TextField field) k s)

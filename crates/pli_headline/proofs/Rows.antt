@@ -1,5 +1,5 @@
 -- The statement's definitions, computed.
-use Rattle.std.proofs.Common.{◌≡◌, ℕ, ◌+◌, ◌≤◌, List, [], ◌∷◌, None, Some, true, false, refl, arith, lit<}
+use Rattle.std.proofs.Common.{◌≡◌, ℕ, ◌+◌, ◌≤◌, List, [], ◌∷◌, None, Some, Bool, true, false, refl, arith, lit<}
 use Rattle.std.specs.Prelude.{negsuc}
 use Rattle.rv_meaning.specs.declared.instr.Fault.TheVariants.{BadService}
 use Rattle.rv_meaning.specs.declared.instr.Instr.TheVariants as I
@@ -11,7 +11,7 @@ use Rattle.image_runs.specs.Runs.{Stopped, layout_of, shown_by}
 use Rattle.pli_meaning.specs.Headline.{step_cost}
 use Rattle.pli_headline.specs.Headline.{parts}
 use Rattle.pli_meaning.specs.Executing.{labels_in}
-use Rattle.pli_headline.specs.ProvedSoFar.{IsProvedSoFar, ArePlain, Types, AreProvedStatements, AllJumpAround, all_labels, AreProvedFormats, AreProvedPairs, IsTimes, HasData, IsOwn, IsOwnNumber, plain_variable}
+use Rattle.pli_headline.specs.ProvedSoFar.{IsProvedSoFar, ArePlain, Types, AreProvedStatements, AllJumpAround, all_labels, AreProvedFormats, AreProvedPairs, IsTimes, HasData, IsOwn, IsOwnNumber, IsTarget, plain_variable}
 
 -- a fault is no world
 fault_shown : shown_by (Stopped BadService) ≡ None
@@ -154,6 +154,50 @@ returning =
 
 returning_proved : AreProvedStatements 1 [] returning
 returning_proved = ((tt, (lit< tt, lit< tt)), (lit< tt, tt))
+
+-- GET SKIP(2) EDIT (B, S) (COLUMN(3), A(4)), (S) (2 (X(1), F(5)));
+abbrev inner : T.Formats
+inner =
+    T.FormatThen (record { line = 2; column = 50 }) 1 (T.SpaceFormat 1) (T.FormatThen (record { line = 2; column = 56 }) 1 (T.FixedFormat 5) T.NoFormat)
+
+abbrev reading : Y.Stmts
+reading =
+    Y.StmtThen []
+    (Y.Get (Some 2)
+    (record {
+      items = Y.GetScalar (whole_of 1) ∷ Y.GetScalar (whole_of 0) ∷ [];
+      formats = T.FormatThen (record { line = 2; column = 26 }) 1 (T.ColumnFormat 3) (T.FormatThen (record { line = 2; column = 37 }) 1 (T.TextFormat (Some 4)) T.NoFormat);
+    }
+    ∷ record { items = Y.GetScalar (whole_of 0) ∷ []; formats = T.FormatThen (record { line = 2; column = 48 }) 2 (T.FormatList inner) T.NoFormat }
+    ∷ [])
+    2)
+    (Y.EndOfList [])
+
+reading_proved : AreProvedStatements 1 (Y.FixedLeaf 15 ∷ Y.BitLeaf ∷ []) reading
+unfolding formats_move_data format_moves_data
+reading_proved =
+    let types : Types = Y.FixedLeaf 15 ∷ Y.BitLeaf ∷ [] in
+    let s : IsOwn 1 types (Y.FixedLeaf 15) (whole_of 0) = record { index = 0; declared = refl; is = refl } in
+    let b : IsOwn 1 types Y.BitLeaf (whole_of 1) = record { index = 1; declared = refl; is = refl } in
+    let once : IsTimes 1 = (omega arith, omega arith) in
+    let number_read : (fixed : Bool) → IsTarget 1 types fixed (whole_of 0) = λ fixed. record { type = Y.FixedLeaf 15; own = s; read = tt } in
+    let bit_read : IsTarget 1 types false (whole_of 1) = record { type = Y.BitLeaf; own = b; read = refl } in
+    let line : AreProvedFormats inner = (once, (once, (once, ((omega arith, omega arith), tt)))) in (
+      (
+        (omega arith, omega arith),
+        (
+          (
+            (bit_read, (number_read false, tt)),
+            (
+              ((once, ((omega arith, omega arith), (once, ((omega arith, omega arith), tt)))), (refl, (tt, (tt, tt)))),
+              ((number_read true, tt), ((((omega arith, omega arith), ((line, tt), tt)), (refl, ((tt, (tt, tt)), tt))), tt)),
+            ),
+          ),
+          lit< tt,
+        ),
+      ),
+      tt,
+    )
 
 abbrev head : Y.BlockHead
 head = record { kind = Y.ProcedureBlock; number = 1; level = 0; line = 1 }

@@ -1,7 +1,8 @@
 -- The programs for which the headline is proved so far: one procedure with scalars of FIXED BINARY and BIT(1), with or without
 -- INITIAL, and BEGIN blocks in it and in one another that declare nothing; expressions of numbers and bits; assignments of these, IF,
 -- groups, DO WHILE, DO with a FIXED or BIT(1) variable, GOTO to a label of a list around it in its block, RETURN in the procedure, STOP,
--- SIGNAL, and PUT EDIT of numbers, bits and texts, by lists of F, A, X, SKIP and COLUMN items. Each form that is proved takes a line off.
+-- SIGNAL, PUT EDIT of numbers, bits and texts, and GET EDIT of such scalars, by lists of F, A, X, SKIP and COLUMN items. Each form that is
+-- proved takes a line off.
 use Rattle.std.specs.Prelude.{◌≡◌, ℕ, suc, ◌<◌, ◌≤◌, ◌^◌, List, [], ◌∷◌, ◌++◌, length, map, slice_get, Bool, Option, None, Some, true, false, if◌then◌else◌, ⊤, ◌==◌, ◌&&◌}
 use Rattle.pli_language.specs.Keywords.{same_bytes}
 use Rattle.pli_language.specs.Tree as T
