@@ -65,12 +65,12 @@ compiled {s = s} {ts = ts} {tree = tree} {coded = coded} {image = image} headlin
     record {
       program = made.0;
       source =
-        record {
-          tokens = ts;
-          tree = tree;
-          accepted = record { read = read; spelled = spelled; declares = declares; keeps_types = typed_faultless made.1 };
-          resolved = made.1;
-        };
+          record {
+            tokens = ts;
+            tree = tree;
+            accepted = record { read = read; spelled = spelled; declares = declares; keeps_types = typed_faultless made.1 };
+            resolved = made.1;
+          };
       coded = code;
       short = short.1;
       cheap = costs made.0 image (length ts) code short.1;
