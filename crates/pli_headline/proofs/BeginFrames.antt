@@ -35,8 +35,8 @@ use Rattle.pli_headline.proofs.BeginDisplays.{frame_word, own_is, unmoved, moved
 abbrev owned_code : Code
 owned_code = BaseIn u1 ∷ subtract u1 frame_register u1 ∷ store_word frame_register u1 own_offset
 
-owned_path : {e : Environment} {block : ℕ} {types : Types} (bl : Block e block types) (inner : Inner bl) (n : ℕ → ℤ) (links : Links) (code : List Instr) (i : ℕ) (v : Services) (h t0 : ℕ → ℕ) (b : Base) (w : Whole) → 0 < i → length code ≤ most_code → Known (displayed_ground bl inner t0 n) v h unknown (outer_regs (bl.ground n).frame) b w → Items links code b i owned_code w (Known (owned_ground bl inner t0 n) v h unknown nothing b)
-owned_path bl inner n links code i v h t0 b w later small' k =
+owned_path : {e : Environment} {block : ℕ} {types : Types} (bl : Block e block types) (inner : Inner bl) (n : ℕ → ℤ) (links : Links) (code : List Instr) (i : ℕ) (v : Services) (h t0 : ℕ → ℕ) (b : Base) (w : Whole) → length code ≤ most_code → Known (displayed_ground bl inner t0 n) v h unknown (outer_regs (bl.ground n).frame) b w → Items links code b i owned_code w (Known (owned_ground bl inner t0 n) v h unknown nothing b)
+owned_path bl inner n links code i v h t0 b w small' k =
     let x = w.machine.registers in
     let m = w.machine.memory in
     let at = inner.at in
@@ -48,7 +48,6 @@ owned_path bl inner n links code i v h t0 b w later small' k =
     let own = operated Op.Subtract (x 8) b.at in
     let mine = own_is b at (x 8) (omega (arith, room)) fp in
     let o = k.body.memory in (
-      omega (arith, later),
       refl,
       (
         frame_word b at (x 8) 36 (omega (arith, room)) whole refl (omega arith) fp,
@@ -141,6 +140,6 @@ inner_frame {e} bl inner n {links} {code} {i} {v} {h} {t0} c f few later l at =
     let s4 = display_piece bl inner n e.level (c2 + 4) (reached s3) (omega (arith, few)) (bl.reach n) (front_of copied r5 l4) (reached_holds s3) in
     let c4 = c2 + 4 + size_of copied in
     let s5 = straight c4 (reached s4) v v (λ b w. Known (owned_ground bl inner t0 n) v h unknown nothing b w) (front_of owned_code raised l5) (omega arith) (λ b. (reached_holds s4 b).pc)
-    (λ b. owned_path bl inner n links code (i + 1 + size_of up + 4 + size_of copied) v h t0 b (reached s4 b) (omega (arith, later)) l.small' (reached_holds s4 b).holds) in
+    (λ b. owned_path bl inner n links code (i + 1 + size_of up + 4 + size_of copied) v h t0 b (reached s4 b) l.small' (reached_holds s4 b).holds) in
     let s6 = raised_piece bl inner n (c4 + 4) (reached s5) (back_of owned_code raised l5) (reached_holds s5) in
     reach_moved (omega (arith, n1, n2)) (omega (arith, n1, n2)) (reach_then s1 (reach_then s2 (reach_then s3 (reach_then s4 (reach_then s5 s6)))))

@@ -16,10 +16,11 @@ use Rattle.pli_coding.specs.Images.{environment_of, start_code, raise_code, code
 use Rattle.pli_headline.specs.Headline.{parts, FitsMemory}
 use Rattle.pli_headline.specs.ProvedSoFar.{AllPlain, IsInitial, types_of}
 use Rattle.pli_headline.proofs.DataNamed.{is_named_front, is_named_back}
-use Rattle.pli_headline.proofs.Scalars.{Scalar, IsNumeric, is_numeric, place_taken, kind_is}
+use Rattle.pli_headline.proofs.Scalars.{Scalar, IsHeld, place_taken, kind_is}
 use Rattle.pli_headline.proofs.InitialRead.{start_datum, IsNamedIf, initial_reads}
 use Rattle.pli_headline.proofs.MainProcedure.{main_head, main_environment, IsAlone, main_plain}
 use Rattle.pli_headline.proofs.PlainNumbers.{number_for, Numbered, main_numbered, AreOf, scalars_of, are_of, begins_at, length_types}
+use Rattle.pli_headline.proofs.VariablePlaces.{frame_size}
 use Rattle.pli_headline.proofs.NamesMade.{made_code, variables_are, made_named}
 use Rattle.pli_headline.proofs.Entering.{entry_code}
 use Rattle.pli_headline.proofs.VariableServed.{Ready}
@@ -34,7 +35,7 @@ named_back : (start : Option Datum) (xs ys : Code) → IsNamedIf start ys → Is
 named_back None xs ys h = tt
 named_back (Some d) xs ys h = is_named_back d xs ys h
 
-variables_named : (program : Y.Program) (block line : ℕ) (kind : ℕ → Scalar) (j i : ℕ) (ds : List Y.DeclaredVariable) → AreOf kind j ds → ((n : ℕ) → n < length ds → IsNumeric (kind (j + n)).type) → i < length ds → IsNamedIf (start_datum (kind (j + i)).initial) (variables_made (main_environment program block) line j ds)
+variables_named : (program : Y.Program) (block line : ℕ) (kind : ℕ → Scalar) (j i : ℕ) (ds : List Y.DeclaredVariable) → AreOf kind j ds → ((n : ℕ) → n < length ds → IsHeld (kind (j + n)).type) → i < length ds → IsNamedIf (start_datum (kind (j + i)).initial) (variables_made (main_environment program block) line j ds)
 variables_named program block line kind j i [] are numeric below = absurd (omega (arith, below))
 variables_named program block line kind j zero (d ∷ ds) are numeric below =
     let here : j + 0 ≡ j = omega arith in
@@ -42,9 +43,9 @@ variables_named program block line kind j zero (d ∷ ds) are numeric below =
     let place = automatic_place parts program block 0 j in
     let n = number_for (table_of program) (kind j).type in
     let mine = start_datum (kind j).initial in
-    let eq = variables_are program block line j place (kind j) d ds are.0 (subst (λ q. IsNumeric (kind q).type) here (numeric 0 (omega arith))) refl in
+    let eq = variables_are program block line j place (kind j) d ds are.0 (subst (λ q. IsHeld (kind q).type) here (numeric 0 (omega arith))) refl in
     subst (λ q. IsNamedIf (start_datum (kind q).initial) (variables_made (main_environment program block) line j (d ∷ ds))) (sym here)
-    (subst (IsNamedIf mine) (sym eq) (named_front mine (made_code place n mine) rest (made_named place n mine)))
+    (subst (IsNamedIf mine) (sym eq) (named_front mine (made_code (frame_size (kind j).type) place n mine) rest (made_named (frame_size (kind j).type) place n mine)))
 variables_named program block line kind j (suc i) (d ∷ ds) are numeric below =
     let here : j + 0 ≡ j = omega arith in
     let next' : suc j + i ≡ j + suc i = omega arith in
@@ -52,10 +53,10 @@ variables_named program block line kind j (suc i) (d ∷ ds) are numeric below =
     let place = automatic_place parts program block 0 j in
     let n = number_for (table_of program) (kind j).type in
     let start = start_datum (kind (j + suc i)).initial in
-    let eq = variables_are program block line j place (kind j) d ds are.0 (subst (λ q. IsNumeric (kind q).type) here (numeric 0 (omega arith))) refl in
-    let later = variables_named program block line kind (suc j) i ds are.1 (λ m h. subst (λ q. IsNumeric (kind q).type) (next_place j m) (numeric (suc m) (omega (arith, h)))) (omega (arith, below)) in
+    let eq = variables_are program block line j place (kind j) d ds are.0 (subst (λ q. IsHeld (kind q).type) here (numeric 0 (omega arith))) refl in
+    let later = variables_named program block line kind (suc j) i ds are.1 (λ m h. subst (λ q. IsHeld (kind q).type) (next_place j m) (numeric (suc m) (omega (arith, h)))) (omega (arith, below)) in
     subst (IsNamedIf start) (sym eq)
-    (named_back start (made_code place n (start_datum (kind j).initial)) rest (subst (λ q. IsNamedIf (start_datum (kind q).initial) rest) next' later))
+    (named_back start (made_code (frame_size (kind j).type) place n (start_datum (kind j).initial)) rest (subst (λ q. IsNamedIf (start_datum (kind q).initial) rest) next' later))
   where
     next_place : (j m : ℕ) → j + suc m ≡ suc j + m
     next_place j m = omega arith
@@ -63,10 +64,10 @@ variables_named program block line kind j (suc i) (d ∷ ds) are numeric below =
 none_before : (i : ℕ) → i ≡ 0 + i
 none_before i = omega arith
 
-own_named : (program : Y.Program) (block line : ℕ) (kind : ℕ → Scalar) (i : ℕ) (ds : List Y.DeclaredVariable) → AreOf kind 0 ds → ((n : ℕ) → n < length ds → IsNumeric (kind n).type) → i < length ds → IsNamedIf (start_datum (kind i).initial) (variables_made (main_environment program block) line 0 ds)
+own_named : (program : Y.Program) (block line : ℕ) (kind : ℕ → Scalar) (i : ℕ) (ds : List Y.DeclaredVariable) → AreOf kind 0 ds → ((n : ℕ) → n < length ds → IsHeld (kind n).type) → i < length ds → IsNamedIf (start_datum (kind i).initial) (variables_made (main_environment program block) line 0 ds)
 own_named program block line kind i ds are numeric below =
     subst (λ q. IsNamedIf (start_datum (kind q).initial) (variables_made (main_environment program block) line 0 ds)) (sym (none_before i))
-    (variables_named program block line kind 0 i ds are (λ n h. subst (λ q. IsNumeric (kind q).type) (none_before n) (numeric n h)) below)
+    (variables_named program block line kind 0 i ds are (λ n h. subst (λ q. IsHeld (kind q).type) (none_before n) (numeric n h)) below)
 
 -- in the program
 program_named : (program : Y.Program) (block line : ℕ) (body : Y.Stmts) (start : Option Datum) → IsAlone program block line body → IsNamedIf start (variables_code (main_environment program block) line) → IsNamedIf start (code_of parts program)
@@ -98,9 +99,9 @@ all_ready program block line body all alone fits some j h =
     let kind = scalars_of ds in
     let are = main_plain program block all in
     let long = length_types ds in
-    let numbered : (n : ℕ) → n < length ds → IsNumeric (kind n).type = λ n below.
+    let numbered : (n : ℕ) → n < length ds → IsHeld (kind n).type = λ n below.
     let found = place_taken (types_of ds) n (omega (arith, below, long)) in
-    subst IsNumeric (sym (kind_is (types_of ds) n found.1)) (is_numeric found.0 (main_numbered program block n all found.1).scalar) in
+    subst IsHeld (sym (kind_is (types_of ds) n found.1)) (main_numbered program block n all found.1).held in
     let found = place_taken (types_of ds) j (omega (arith, h, long)) in
     let same = kind_is (types_of ds) j found.1 in
     let number = subst (λ t. Numbered (table_of program) t) (sym same) (main_numbered program block j all found.1) in
@@ -109,5 +110,5 @@ all_ready program block line body all alone fits some j h =
     record {
       numbered = number;
       begins = begins;
-      reads = initial_reads (code_of parts program) fits some (kind j).type (kind j).initial number.scalar begins named;
+      reads = initial_reads (code_of parts program) fits some (kind j).type (kind j).initial number.held begins named;
     }

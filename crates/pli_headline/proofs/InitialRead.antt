@@ -27,7 +27,7 @@ use Rattle.pli_headline.specs.ProvedSoFar.{plain_variable, IsScalar, IsConstantO
 use Rattle.pli_headline.proofs.Engine.{call_at}
 use Rattle.pli_headline.proofs.Numbers.{IsWide, word_small}
 use Rattle.pli_headline.proofs.WordProducts.{signed_word}
-use Rattle.pli_headline.proofs.Scalars.{constant_number, fewer_bits}
+use Rattle.pli_headline.proofs.Scalars.{constant_number, fewer_bits, IsHeld, constant_scalar}
 use Rattle.pli_headline.proofs.Variables.{scalar_shape}
 use Rattle.pli_headline.proofs.DataNamed.{IsNamed, BytesStand}
 use Rattle.pli_headline.proofs.DataOnce.{Has, same_datum-same, values_has}
@@ -172,13 +172,13 @@ constant_reads program fits some type v scalar constant named =
           (constant_read type v scalar constant);
     }
 
-pub initial_reads : (program : Code) → FitsMemory (picture_of_code program) → 0 < length (linked_code program) → (type : Y.LeafType) (items : List T.InitialItem) → IsScalar type → IsInitial type items → IsNamedIf (start_datum items) program → Reads (links_of program) (linked_code program) (first_bytes (picture_of_code program)) type items
-initial_reads program fits some type [] scalar begins named =
+pub initial_reads : (program : Code) → FitsMemory (picture_of_code program) → 0 < length (linked_code program) → (type : Y.LeafType) (items : List T.InitialItem) → IsHeld type → IsInitial type items → IsNamedIf (start_datum items) program → Reads (links_of program) (linked_code program) (first_bytes (picture_of_code program)) type items
+initial_reads program fits some type [] held begins named =
     record { small' = omega arith; read = λ u m same. refl }
-initial_reads program fits some type (i ∷ []) scalar begins named =
+initial_reads program fits some type (i ∷ []) held begins named =
     let v = i.value in
     let same : i ≡ once_only v = ap (λ n. record { repetition = n; value = v }) begins.0 in
     let named' : IsNamedIf (start_datum (once_only v ∷ [])) program = subst (λ q. IsNamedIf (start_datum (q ∷ [])) program) same named in
     subst (λ q. Reads (links_of program) (linked_code program) (first_bytes (picture_of_code program)) type (q ∷ [])) (sym same)
-    (constant_reads program fits some type v scalar begins.1 named')
-initial_reads program fits some type _ scalar begins named = absurd begins
+    (constant_reads program fits some type v (constant_scalar type v held begins.1) begins.1 named')
+initial_reads program fits some type _ held begins named = absurd begins

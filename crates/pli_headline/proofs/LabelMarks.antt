@@ -28,7 +28,7 @@ use Rattle.pli_headline.proofs.Linking.{times_marked}
 use Rattle.pli_headline.proofs.FirstFrame.{start_of}
 use Rattle.pli_headline.proofs.Marks.{code_is}
 use Rattle.pli_headline.proofs.MainProcedure.{IsAlone, main_head, main_environment, main_plain, declared_at}
-use Rattle.pli_headline.proofs.Scalars.{by_plain}
+use Rattle.pli_headline.proofs.Scalars.{by_plain, character, varying}
 use Rattle.pli_headline.proofs.Variables.{outermost}
 use Rattle.pli_headline.proofs.Gotos.{LabelsStand}
 use Rattle.pli_headline.proofs.ProgramSizes.{frame_filled}
@@ -66,7 +66,7 @@ variables_none e line index (d ∷ ds) are =
     let rest = variables_made (outermost e) line (suc index) ds in
     let here : (u : Y.DeclaredVariable) → Marks (constant_made (outermost e) place u ++ rest) [] = λ u.
     behind (constant_made (outermost e) place u) rest [] (made_none e place u) (variables_none e line (suc index) ds are.1) in
-    by_plain (λ u. Marks (variables_made (outermost e) line index (u ∷ ds)) []) (λ p i. here (plain_variable (Y.FixedLeaf p) i)) (λ i. here (plain_variable Y.BitLeaf i)) d are.0
+    by_plain (λ u. Marks (variables_made (outermost e) line index (u ∷ ds)) []) (λ p i. here (plain_variable (Y.FixedLeaf p) i)) (λ i. here (plain_variable Y.BitLeaf i)) (λ n i. here (plain_variable (character n) i)) (λ n i. here (plain_variable (varying n) i)) d are.0
 
 begun_none : (words : ℕ) → Marks (frame_begun words 0 0 true) []
 begun_none words =

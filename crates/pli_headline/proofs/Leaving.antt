@@ -1,6 +1,6 @@
 -- The main procedure is left: its activation ends, the registers are restored, and the start finishes the run.
 use Rattle.std.proofs.Common.{◌≡◌, ℕ, ◌+◌, ◌^◌, ◌<◌, ◌≤◌, List, [], ◌∷◌, ◌++◌, length, None, refl, sym, ap, ◌∙◌, arith, lit<}
-use Rattle.std.specs.Prelude.{ℤ, pos, neg_ℤ, filter, nat_le}
+use Rattle.std.specs.Prelude.{pos, neg_ℤ, filter, nat_le}
 use Rattle.rv_meaning.specs.declared.instr.Instr.{Instr}
 use Rattle.rv_meaning.specs.declared.instr.Instr.TheVariants as I
 use Rattle.rv_meaning.specs.declared.instr.ImmediateOp.TheVariants as Imm
@@ -34,6 +34,7 @@ use Rattle.pli_headline.proofs.Calls.{Serving, called, Calling, call_done}
 use Rattle.pli_headline.proofs.Raising.{small_is}
 use Rattle.pli_headline.proofs.Finishing.{Bare, finish_piece}
 use Rattle.pli_headline.proofs.Reach.{Family, Reach, Aims, Comes, Closed, onward}
+use Rattle.pli_headline.proofs.Holdings.{Content}
 use Rattle.pli_headline.proofs.MainGround.{Frame, ground_of}
 use Rattle.pli_headline.proofs.MainProcedure.{main_head}
 use Rattle.pli_headline.proofs.Prologue.{over_word}
@@ -77,7 +78,7 @@ jump_back = Plain (I.JumpRegister zero_register return_register (pos 0)) ∷ []
 abbrev last_part : (words : ℕ) → Code
 last_part words = load_word frame_register frame_register frame_below ++ jump_back
 
-left_piece : {links : Links} {code : List Instr} {i : ℕ} {v : Services} {h t : ℕ → ℕ} (c : ℕ) (f : Frame) (first : List ℕ) (numbers : ℕ → ℤ) (a : S.Activation) (g : Family) → v.activations ≡ a ∷ [] → Linked links code i (Plain I.Ecall ∷ []) → ((b : Base) → At b i (Known (ground_of f first numbers) v h t (λ b'. (17, 5) ∷ (10, 0) ∷ []) b) (g b)) → Reach code c g v (c + 1) (left_services v a) (λ b w. At b (i + 1) (Returning f (left_services v a) (in_frame f) b) w)
+left_piece : {links : Links} {code : List Instr} {i : ℕ} {v : Services} {h t : ℕ → ℕ} (c : ℕ) (f : Frame) (first : List ℕ) (numbers : ℕ → Content) (a : S.Activation) (g : Family) → v.activations ≡ a ∷ [] → Linked links code i (Plain I.Ecall ∷ []) → ((b : Base) → At b i (Known (ground_of f first numbers) v h t (λ b'. (17, 5) ∷ (10, 0) ∷ []) b) (g b)) → Reach code c g v (c + 1) (left_services v a) (λ b w. At b (i + 1) (Returning f (left_services v a) (in_frame f) b) w)
 left_piece {code = code} {i = i} {v = v} c f first numbers a g e l at =
     let v' = left_services v a in
     let calling : Calling _ code i g (λ b. Done v' (g b).machine.memory 0 ((g b).machine.registers 11)) = record {
@@ -160,7 +161,7 @@ only_activation (a ∷ []) (x ∷ []) h e = (x, refl)
 only_activation (a ∷ []) (x ∷ y ∷ xs) h e = absurd h.1.1
 only_activation (a ∷ a' ∷ as') (x ∷ xs) h e = absurd (omega (arith, e))
 
-pub leaving_piece : {X : Type 0} {links : Links} {code : List Instr} {i : ℕ} {v : Services} {h t : ℕ → ℕ} {aims : Aims X} (closed : Closed code aims) (e : Environment) (block line words : ℕ) (f : Frame) (first : List ℕ) (numbers : ℕ → ℤ) (g : Family) (s s' : State) (current k : ℕ) → temporary_bytes words < 2 ^ 24 → f.resume ≤ most_code → Linked links code i (procedure_ended e (main_head block line) words None) → Linked links code f.resume finish_code → Serving k s v current → length s.activations ≡ 1 → s'.world ≡ s.world → ((b : Base) → At b i (Known (ground_of f first numbers) v h t nothing b) (g b)) → Comes code i g v aims (finish {R = X} E.Finished k s')
+pub leaving_piece : {X : Type 0} {links : Links} {code : List Instr} {i : ℕ} {v : Services} {h t : ℕ → ℕ} {aims : Aims X} (closed : Closed code aims) (e : Environment) (block line words : ℕ) (f : Frame) (first : List ℕ) (numbers : ℕ → Content) (g : Family) (s s' : State) (current k : ℕ) → temporary_bytes words < 2 ^ 24 → f.resume ≤ most_code → Linked links code i (procedure_ended e (main_head block line) words None) → Linked links code f.resume finish_code → Serving k s v current → length s.activations ≡ 1 → s'.world ≡ s.world → ((b : Base) → At b i (Known (ground_of f first numbers) v h t nothing b) (g b)) → Comes code i g v aims (finish {R = X} E.Finished k s')
 leaving_piece {code = code} {i = i} {v = v} {h = h} {t = t} closed e block line words f first numbers g s s' current k few near l finish' serving entered same at =
     let only = only_activation s.activations v.activations serving.nested entered in
     let a = only.0 in

@@ -16,7 +16,8 @@ use Rattle.pli_headline.proofs.Raising.{Routines}
 use Rattle.pli_headline.proofs.Scalars.{Typed}
 use Rattle.pli_headline.proofs.Variables.{IsDeclared, data_place}
 use Rattle.pli_headline.proofs.Statements.{Standing, Does}
-use Rattle.pli_headline.proofs.MainGround.{Frame, number_place, main_block}
+use Rattle.pli_headline.proofs.MainGround.{Frame, main_block}
+use Rattle.pli_headline.proofs.VariablePlaces.{room_of, number_place}
 use Rattle.pli_headline.proofs.DataNamed.{IsPlaced, BytesStand}
 use Rattle.pli_headline.proofs.StandingBytes.{constants_stand}
 use Rattle.pli_headline.proofs.InnerLevels.{IsAmong}
@@ -27,7 +28,7 @@ use Rattle.pli_headline.proofs.ProvedStatements.{body_does}
 use Rattle.pli_headline.proofs.MainProcedure.{main_environment, IsAlone}
 
 -- the main procedure's statements, in its frame
-pub main_does : (f : Frame) (first : List ℕ) (e : Environment) (block : ℕ) (types : Types) (outermost : e.level ≡ 0) (count : f.count ≡ length types) (declared : (j : ℕ) (b : Typed types j) → IsDeclared e block j b.0) (placed : (j : ℕ) → j < f.count → data_place e block j ≡ number_place j) (links : Links) (code : List Instr) (routines : Routines links code) (around : Around) (same : around.program ≡ e.program) (body : Y.Stmts) → {all : List (ℕ × Label)} → LabelsStand e links all → AreProvedStatements block types body → AllJumpAround e.block 0 all (labels_in body) body → stmts_words body ≤ f.words → f.at + 144 + 32 * f.count + 4 * all_inner_words body + 700 * 101 ≤ 14 * 2 ^ 20 → AreBare e.program body → {more : ℕ} → Entering e.program around more → ((b : BlockPlace) → IsAmong b (blocks_among body) → IsAmong b e.blocks) → ((bytes : List ℕ) → IsPlaced (ConstantBytes bytes) links.data' → BytesStand code first (place_of links (DataPlace (ConstantBytes bytes))) bytes) → Does (main_block f first e block types outermost count declared placed) links code around.turns (stmts_code e none_taken body) (M.list around body)
+pub main_does : (f : Frame) (first : List ℕ) (e : Environment) (block : ℕ) (types : Types) (outermost : e.level ≡ 0) (count : f.count ≡ length types) (declared : (j : ℕ) (b : Typed types j) → IsDeclared e block j b.0) (placed : (j : ℕ) → j < f.count → data_place e block j ≡ number_place f.sizes j) (links : Links) (code : List Instr) (routines : Routines links code) (around : Around) (same : around.program ≡ e.program) (body : Y.Stmts) → {all : List (ℕ × Label)} → LabelsStand e links all → AreProvedStatements block types body → AllJumpAround e.block 0 all (labels_in body) body → stmts_words body ≤ f.words → f.at + 144 + room_of f.sizes f.count + 4 * all_inner_words body + 700 * 101 ≤ 14 * 2 ^ 20 → AreBare e.program body → {more : ℕ} → Entering e.program around more → ((b : BlockPlace) → IsAmong b (blocks_among body) → IsAmong b e.blocks) → ((bytes : List ℕ) → IsPlaced (ConstantBytes bytes) links.data' → BytesStand code first (place_of links (DataPlace (ConstantBytes bytes))) bytes) → Does (main_block f first e block types outermost count declared placed) links code around.turns (stmts_code e none_taken body) (M.list around body)
 unfolding main_block
 main_does f first e block types outermost count declared placed links code routines around same body {all} named are jumps room space bare entering known stands =
     let bl = main_block f first e block types outermost count declared placed in
@@ -39,6 +40,6 @@ main_does f first e block types outermost count declared placed links code routi
     (omega (arith, space, outermost)) bare entering known
 
 -- a frame of level 0 is the outermost
-pub main_body_does : (program : Y.Program) (block line : ℕ) (body : Y.Stmts) → IsAlone program block line body → (f : Frame) (first : List ℕ) (types : Types) (count : f.count ≡ length types) (declared : (j : ℕ) (b : Typed types j) → IsDeclared (main_environment program block) block j b.0) (placed : (j : ℕ) → j < f.count → data_place (main_environment program block) block j ≡ number_place j) (links : Links) (code : List Instr) (routines : Routines links code) (around : Around) → around.program ≡ program → {all : List (ℕ × Label)} → LabelsStand (main_environment program block) links all → AreProvedStatements block types body → AllJumpAround block 0 all (labels_in body) body → stmts_words body ≤ f.words → f.at + 144 + 32 * f.count + 4 * all_inner_words body + 700 * 101 ≤ 14 * 2 ^ 20 → AreBare program body → {more : ℕ} → Entering program around more → ((b : BlockPlace) → IsAmong b (blocks_among body) → IsAmong b (main_environment program block).blocks) → ((bytes : List ℕ) → IsPlaced (ConstantBytes bytes) links.data' → BytesStand code first (place_of links (DataPlace (ConstantBytes bytes))) bytes) → Does (main_block f first (main_environment program block) block types refl count declared placed) links code around.turns (stmts_code (main_environment program block) none_taken body) (M.list around body)
+pub main_body_does : (program : Y.Program) (block line : ℕ) (body : Y.Stmts) → IsAlone program block line body → (f : Frame) (first : List ℕ) (types : Types) (count : f.count ≡ length types) (declared : (j : ℕ) (b : Typed types j) → IsDeclared (main_environment program block) block j b.0) (placed : (j : ℕ) → j < f.count → data_place (main_environment program block) block j ≡ number_place f.sizes j) (links : Links) (code : List Instr) (routines : Routines links code) (around : Around) → around.program ≡ program → {all : List (ℕ × Label)} → LabelsStand (main_environment program block) links all → AreProvedStatements block types body → AllJumpAround block 0 all (labels_in body) body → stmts_words body ≤ f.words → f.at + 144 + room_of f.sizes f.count + 4 * all_inner_words body + 700 * 101 ≤ 14 * 2 ^ 20 → AreBare program body → {more : ℕ} → Entering program around more → ((b : BlockPlace) → IsAmong b (blocks_among body) → IsAmong b (main_environment program block).blocks) → ((bytes : List ℕ) → IsPlaced (ConstantBytes bytes) links.data' → BytesStand code first (place_of links (DataPlace (ConstantBytes bytes))) bytes) → Does (main_block f first (main_environment program block) block types refl count declared placed) links code around.turns (stmts_code (main_environment program block) none_taken body) (M.list around body)
 main_body_does program block line body alone f first types count declared placed links code routines around same named are jumps room space bare entering known stands =
     main_does f first (main_environment program block) block types refl count declared placed links code routines around same body named are jumps room space bare entering known stands

@@ -15,7 +15,8 @@ use Rattle.pli_coding.specs.Procedures.{procedure_environment}
 use Rattle.pli_coding.specs.Images.{environment_of, static_if, number_if, statics_of_block, statics_code}
 use Rattle.pli_headline.specs.Headline.{parts}
 use Rattle.pli_headline.specs.ProvedSoFar.{plain_variable, IsPlain, ArePlain, AllPlain, type_of, types_of, IsProvedSoFar}
-use Rattle.pli_headline.proofs.Scalars.{by_plain}
+use Rattle.pli_headline.proofs.Scalars.{by_plain, kind_at}
+use Rattle.pli_headline.proofs.VariablePlaces.{Sizes, room_of, room_front, frame_size, sizes_by, text_print}
 
 -- ---- the procedure
 
@@ -72,7 +73,7 @@ declared_at [] j are h = absurd (cc h)
 declared_at (d ∷ ds) zero {type} are h = let e : type_of d ≡ type = cc h in (are.0.initial, ap Some (typed_plain d type are.0 e))
 declared_at (d ∷ ds) (suc j) are h = declared_at ds j are.1 h
 
--- each takes as much
+-- what each takes
 frame_by : (q : Bool) → 16 + rounded_up 16 (rounded_up 4 (cond q 2 4) * 1 + 0) ≡ 32
 frame_by true = refl
 frame_by false = refl
@@ -80,19 +81,25 @@ frame_by false = refl
 pub frame_fixed : (p : ℕ) (i : List T.InitialItem) → frame_bytes parts (plain_variable (Y.FixedLeaf p) i) ≡ 32
 frame_fixed p i = frame_by (nat_le p 15)
 
-frame_plain : (d : Y.DeclaredVariable) → IsPlain d → frame_bytes parts d ≡ 32
-frame_plain d is = by_plain (λ u. frame_bytes parts u ≡ 32) frame_fixed (λ i. refl) d is
+frame_plain : (d : Y.DeclaredVariable) → IsPlain d → frame_bytes parts d ≡ frame_size (type_of d)
+frame_plain d is = by_plain (λ u. frame_bytes parts u ≡ frame_size (type_of u)) frame_fixed (λ i. refl) (λ n i. text_print (suc n)) (λ n i. text_print (2 + suc n)) d is
 
-pub variable_place_plain : (at : ℕ) (ds : List Y.DeclaredVariable) (j : ℕ) → ArePlain ds → j ≤ length ds → at + 32 * j ≤ last_place → variable_place parts at ds j ≡ at + 32 * j
+-- by the types of a block's variables
+abbrev pub block_sizes : List Y.DeclaredVariable → Sizes
+block_sizes ds = sizes_by (kind_at (types_of ds))
+
+pub variable_place_plain : (at : ℕ) (ds : List Y.DeclaredVariable) (j : ℕ) → ArePlain ds → j ≤ length ds → at + room_of (block_sizes ds) j ≤ last_place → variable_place parts at ds j ≡ at + room_of (block_sizes ds) j
 variable_place_plain at [] zero are h fits = omega arith
 variable_place_plain at [] (suc j) are h fits = absurd (omega (arith, h))
 variable_place_plain at (d ∷ ds) zero are h fits = omega arith
 variable_place_plain at (d ∷ ds) (suc j) are h fits =
     let bytes = frame_plain d are.0 in
-    let next : min last_place (at + frame_bytes parts d) ≡ at + 32 = omega (arith, fits, bytes) in
-    ap (λ n. variable_place parts n ds j) next
-    ∙ variable_place_plain (at + 32) ds j are.1 (omega (arith, h)) (omega (arith, fits))
-    ∙ omega arith
+    let size = frame_size (type_of d) in
+    let front : room_of (block_sizes (d ∷ ds)) (suc j) ≡ size + room_of (block_sizes ds) j = room_front (kind_at (types_of (d ∷ ds))) j in
+    let next' : min last_place (at + frame_bytes parts d) ≡ at + size = omega (arith, fits, bytes, front) in
+    ap (λ n. variable_place parts n ds j) next'
+    ∙ variable_place_plain (at + size) ds j are.1 (omega (arith, h)) (omega (arith, fits, front))
+    ∙ omega (arith, front)
 
 main_first : (program : Y.Program) (block line : ℕ) (body : Y.Stmts) → IsAlone program block line body → first_variable program block 0 ≡ 144
 main_first program block line body alone =
@@ -103,8 +110,11 @@ main_first program block line body alone =
         ap (λ u. first_variable (record { variables = program.variables; procedures = u }) block 0) e
         ∙ ap (λ u. fixed_size 0 (length (parameters_in (cond u (Some (main_procedure block line body)) None)))) t
 
+abbrev pub main_sizes : Y.Program → (block : ℕ) → Sizes
+main_sizes program block = block_sizes (variables_of_block program block)
+
 -- the name of the jth variable, from the frame
-pub main_place : (program : Y.Program) (block line : ℕ) (body : Y.Stmts) (j : ℕ) → AllPlain program.variables → IsAlone program block line body → j ≤ length (variables_of_block program block) → 32 * j ≤ 2 ^ 20 → automatic_place parts program block 0 j ≡ 144 + 32 * j
+pub main_place : (program : Y.Program) (block line : ℕ) (body : Y.Stmts) (j : ℕ) → AllPlain program.variables → IsAlone program block line body → j ≤ length (variables_of_block program block) → room_of (main_sizes program block) j ≤ 2 ^ 20 → automatic_place parts program block 0 j ≡ 144 + room_of (main_sizes program block) j
 main_place program block line body j all alone h few =
     ap (λ n. variable_place parts n (variables_of_block program block) j) (main_first program block line body alone)
     ∙ variable_place_plain 144 (variables_of_block program block) j (main_plain program block all) h (omega (arith, few))

@@ -1,6 +1,6 @@
 -- The run of a program that is one procedure of scalars, given that its statements do what they mean: from the start of the
 -- image through the entry of the procedure to its statements, and from their end to the end of the run.
-use Rattle.std.proofs.Common.{◌≡◌, ℕ, suc, ◌+◌, ◌*◌, ◌^◌, ◌<◌, ◌≤◌, List, [], ◌++◌, length, Option, None, true, false, refl, sym, ap, ◌∙◌, subst, arith}
+use Rattle.std.proofs.Common.{◌≡◌, ℕ, suc, ◌+◌, ◌^◌, ◌<◌, ◌≤◌, List, [], ◌++◌, length, Option, None, true, false, refl, sym, ap, ◌∙◌, subst, arith}
 use Rattle.std.specs.Prelude.{pos}
 use Rattle.std.proofs.lemmas.Bool.{eq-eqb}
 use Rattle.rv_meaning.specs.declared.instr.Instr.{Instr}
@@ -25,7 +25,7 @@ use Rattle.pli_coding.specs.Entries.{frame_begun, variables_code}
 use Rattle.pli_coding.specs.Statements.{stmts_code}
 use Rattle.pli_coding.specs.Procedures.{finish_code, procedure_ended, procedure_in}
 use Rattle.pli_coding.specs.Linking.{Links}
-use Rattle.pli_headline.specs.ProvedSoFar.{AllPlain, Types, types_of}
+use Rattle.pli_headline.specs.ProvedSoFar.{IsScalar, AllPlain, Types, types_of}
 use Rattle.pli_headline.proofs.Engine.{Base, address, most_code}
 use Rattle.pli_headline.proofs.Linking.{size_append}
 use Rattle.pli_headline.proofs.Items.{Linked, At}
@@ -37,10 +37,12 @@ use Rattle.pli_headline.proofs.Acts.{act_piece}
 use Rattle.pli_headline.proofs.Statements.{Block, AllHold, Does, counted_all}
 use Rattle.pli_headline.proofs.Variables.{data_place}
 use Rattle.pli_headline.proofs.Reach.{Family, Aims, Comes, Closed, before, before_closed, comes_on, onward, never, never_closed}
-use Rattle.pli_headline.proofs.MainGround.{ground_of, number_place, contents, no_contents, main_block}
-use Rattle.pli_headline.proofs.MainProcedure.{main_head, main_procedure, IsAlone, main_environment, main_words, main_plain, declared_at, main_place, statics_meant}
+use Rattle.pli_headline.proofs.MainGround.{ground_of, contents, no_contents, main_block}
+use Rattle.pli_headline.proofs.MainProcedure.{main_head, main_procedure, IsAlone, main_environment, main_words, main_plain, declared_at, main_sizes, main_place, statics_meant}
+use Rattle.pli_headline.proofs.Holdings.{Counted}
+use Rattle.pli_headline.proofs.VariablePlaces.{room_of, number_place, room_before}
 use Rattle.pli_headline.proofs.Scalars.{Scalar, Typed, kind_at, kind_is, place_below}
-use Rattle.pli_headline.proofs.PlainNumbers.{scalars_of, are_of, length_types}
+use Rattle.pli_headline.proofs.PlainNumbers.{type_scalar, scalars_of, are_of, length_types}
 use Rattle.pli_headline.proofs.VariableServed.{Ready}
 use Rattle.pli_headline.proofs.States.{Holds}
 use Rattle.pli_headline.proofs.Marks.{Placed}
@@ -88,21 +90,26 @@ run_meant program block line body input k all alone =
 abbrev pub main_count : Y.Program → (block : ℕ) → ℕ
 main_count program block = length (variables_of_block program block)
 
-pub main_data : (program : Y.Program) (block line : ℕ) (body : Y.Stmts) (j : ℕ) → AllPlain program.variables → IsAlone program block line body → j < main_count program block → 32 * main_count program block ≤ 2 ^ 20 → data_place (main_environment program block) block j ≡ number_place j
+-- what they take
+abbrev pub main_room : Y.Program → (block : ℕ) → ℕ
+main_room program block = room_of (main_sizes program block) (main_count program block)
+
+pub main_data : (program : Y.Program) (block line : ℕ) (body : Y.Stmts) (j : ℕ) → AllPlain program.variables → IsAlone program block line body → j < main_count program block → main_room program block ≤ 2 ^ 20 → data_place (main_environment program block) block j ≡ number_place (main_sizes program block) j
 main_data program block line body j all alone below few =
-    let e = main_place program block line body j all alone (omega (arith, below)) (omega (arith, below, few)) in
+    let before' = room_before (main_sizes program block) j (main_count program block) below in
+    let e = main_place program block line body j all alone (omega (arith, below)) (omega (arith, before', few)) in
     omega (arith, e)
 
-abbrev pub block_of : (program : Y.Program) (block line : ℕ) (body : Y.Stmts) (first : List ℕ) (all : AllPlain program.variables) (alone : IsAlone program block line body) (small' : main_words program block body ≤ most_code) (few : 32 * main_count program block ≤ 2 ^ 20) → Block (main_environment program block) block (main_types program block)
+abbrev pub block_of : (program : Y.Program) (block line : ℕ) (body : Y.Stmts) (first : List ℕ) (all : AllPlain program.variables) (alone : IsAlone program block line body) (small' : main_words program block body ≤ most_code) (few : main_room program block ≤ 2 ^ 20) → Block (main_environment program block) block (main_types program block)
 block_of program block line body first all alone small' few =
-    main_block (main_frame (main_words program block body) (main_count program block) small' few) first (main_environment program block) block (main_types program block) refl (sym (length_types (variables_of_block program block)))
+    main_block (main_frame (main_words program block body) (main_sizes program block) (main_count program block) small' few) first (main_environment program block) block (main_types program block) refl (sym (length_types (variables_of_block program block)))
     (λ j b. declared_at (variables_of_block program block) j (main_plain program block all) b.1)
     (λ j below. main_data program block line body j all alone below few)
 
 -- what its statements have to do
 abbrev pub BodyDoes : (program : Y.Program) (block line : ℕ) (body : Y.Stmts) (first : List ℕ) (all : AllPlain program.variables) (alone : IsAlone program block line body) (small' : main_words program block body ≤ most_code) → Links → List Instr → (k : ℕ) → Type 1
 BodyDoes program block line body first all alone small' links code k =
-    (few : 32 * main_count program block ≤ 2 ^ 20) → Does (block_of program block line body first all alone small' few) links code (suc k) (stmts_code (main_environment program block) none_taken body) (M.list (main_around program k line) body)
+    (few : main_room program block ≤ 2 ^ 20) → Does (block_of program block line body first all alone small' few) links code (suc k) (stmts_code (main_environment program block) none_taken body) (M.list (main_around program k line) body)
 
 -- ---- from the statements to the end of the run
 
@@ -114,14 +121,14 @@ to_finish_closed : (code : List Instr) (k : ℕ) → Closed code (to_finish code
 to_finish_closed code k =
     before_closed k (λ (u : Option BasicValue). finish {R = Unit {0}} E.Finished) (never_closed code)
 
-statements_piece : {links : Links} {code : List Instr} {i : ℕ} {h t : ℕ → ℕ} (program : Y.Program) (block line : ℕ) (body : Y.Stmts) (first : List ℕ) (all : AllPlain program.variables) (alone : IsAlone program block line body) (small' : main_words program block body ≤ most_code) (few : 32 * main_count program block ≤ 2 ^ 20) (k : ℕ) → BodyDoes program block line body first all alone small' links code k → 2 ≤ i → Linked links code i (stmts_code (main_environment program block) none_taken body ++ procedure_ended (main_environment program block) (main_head block line) (main_words program block body) None) → Linked links code start_resume finish_code → (s : State) → {v : Services} → (g : Family) → Serving k s v line → AllHold 1 s block (main_types program block) (begin_numbers (main_kind program block)) → ((b : Base) → At b i (Known (ground_of (main_frame (main_words program block body) (main_count program block) small' few) first (begin_contents (main_kind program block))) v h t nothing b) (g b)) → Comes code i g v (inside (to_finish code k) newest_ended) ((M.list (main_around program k line) body >> M.end_reached (main_around program k line) false) k s)
+statements_piece : {links : Links} {code : List Instr} {i : ℕ} {h t : ℕ → ℕ} (program : Y.Program) (block line : ℕ) (body : Y.Stmts) (first : List ℕ) (all : AllPlain program.variables) (alone : IsAlone program block line body) (small' : main_words program block body ≤ most_code) (few : main_room program block ≤ 2 ^ 20) (k : ℕ) → BodyDoes program block line body first all alone small' links code k → 2 ≤ i → Linked links code i (stmts_code (main_environment program block) none_taken body ++ procedure_ended (main_environment program block) (main_head block line) (main_words program block body) None) → Linked links code start_resume finish_code → (s : State) → {v : Services} → (g : Family) → Serving k s v line → AllHold 1 s block (main_types program block) (begin_numbers (main_kind program block)) → ((b : Base) → At b i (Known (ground_of (main_frame (main_words program block body) (main_sizes program block) (main_count program block) small' few) first (begin_contents (main_kind program block))) v h t nothing b) (g b)) → Comes code i g v (inside (to_finish code k) newest_ended) ((M.list (main_around program k line) body >> M.end_reached (main_around program k line) false) k s)
 unfolding main_block M.end_reached give ◌>>◌
 statements_piece {code = code} {i = i} {h = h} {t = t} program block line body first all alone small' few k does' later l finish' s g serving holds at =
     let e = main_environment program block in
     let st = stmts_code e none_taken body in
     let en = procedure_ended e (main_head block line) (main_words program block body) None in
     let around = main_around program k line in
-    let f = main_frame (main_words program block body) (main_count program block) small' few in
+    let f = main_frame (main_words program block body) (main_sizes program block) (main_count program block) small' few in
     let aims = inside (to_finish code k) newest_ended in
     let next' : Unit {0} → Meaning (Unit {0}) = λ u. M.end_reached around false in
     let closed = before_closed k next' (inside_closed newest_ended (to_finish_closed code k)) in
@@ -166,8 +173,8 @@ serving_first table kind input at line count k fits =
     }
 
 -- each variable holds what it begins with
-main_holds : (links : Links) (code : List Instr) (first : List ℕ) (program : Y.Program) (block : ℕ) (input : List ℕ) → AllReady links code first program block → (j : ℕ) (b : Typed (main_types program block) j) → Holds (main_state (main_kind program block) input (main_count program block)) block j b.0 (begin_numbers (main_kind program block) j)
-main_holds links code first program block input ready j b =
+main_holds : (links : Links) (code : List Instr) (first : List ℕ) (program : Y.Program) (block : ℕ) (input : List ℕ) → AllPlain program.variables → AllReady links code first program block → (j : ℕ) (b : Typed (main_types program block) j) → Holds (main_state (main_kind program block) input (main_count program block)) block j b.0 (begin_numbers (main_kind program block) j)
+main_holds links code first program block input all ready j b =
     let n = main_count program block in
     let kind = main_kind program block in
     let same : (kind j).type ≡ b.0 = kind_is (main_types program block) j b.1 in
@@ -175,19 +182,20 @@ main_holds links code first program block input ready j b =
     let long = length_types (variables_of_block program block) in
     let inside : j < n = omega (arith, few, long) in
     let mine = ready j inside in
+    let scalar = type_scalar (variables_of_block program block) j b.0 (main_plain program block all) b.1 in
     subst (λ u. Holds (main_state kind input n) block j u (begin_numbers kind j)) same
-    (scalars_hold kind input block n j inside mine.numbered.scalar mine.begins)
+    (scalars_hold kind input block n j inside (subst IsScalar (sym same) scalar) mine.begins)
 
-main_hold : (links : Links) (code : List Instr) (first : List ℕ) (program : Y.Program) (block : ℕ) (input : List ℕ) → AllReady links code first program block → AllHold 1 (main_state (main_kind program block) input (main_count program block)) block (main_types program block) (begin_numbers (main_kind program block))
-main_hold links code first program block input ready =
+main_hold : (links : Links) (code : List Instr) (first : List ℕ) (program : Y.Program) (block : ℕ) (input : List ℕ) → AllPlain program.variables → AllReady links code first program block → AllHold 1 (main_state (main_kind program block) input (main_count program block)) block (main_types program block) (begin_numbers (main_kind program block))
+main_hold links code first program block input all ready =
     record {
-      numbers = λ j b. main_holds links code first program block input ready j b;
+      numbers = λ j b. main_holds links code first program block input all ready j b;
       entered = refl;
       owned = λ height above. scalars_owned (main_kind program block) (main_count program block) height above;
     }
 
 -- behind the variables: the act of the entry, and the statements
-body_piece : {links : Links} {code : List Instr} {i : ℕ} {h t : ℕ → ℕ} (program : Y.Program) (block line : ℕ) (body : Y.Stmts) (first input : List ℕ) (all : AllPlain program.variables) (alone : IsAlone program block line body) (small' : main_words program block body ≤ most_code) (few : 32 * main_count program block ≤ 2 ^ 20) (k : ℕ) → AllReady links code first program block → line < 2 ^ 31 → k + 1 < 2 ^ 64 → BodyDoes program block line body first all alone small' links code k → 2 ≤ i → Linked links code i (act_code line) → Linked links code (i + size_of (act_code line)) (stmts_code (main_environment program block) none_taken body ++ procedure_ended (main_environment program block) (main_head block line) (main_words program block body) None) → Linked links code start_resume finish_code → (at : ℕ) (g : Family) → ((b : Base) → At b i (Known (ground_of (main_frame (main_words program block body) (main_count program block) small' few) first (begin_contents (main_kind program block))) (main_services (table_of program) (main_kind program block) input at line (main_count program block)) h t nothing b) (g b)) → Comes code i g (main_services (table_of program) (main_kind program block) input at line (main_count program block)) (inside (to_finish code k) newest_ended) (main_body program k line body k (main_state (main_kind program block) input (main_count program block)))
+body_piece : {links : Links} {code : List Instr} {i : ℕ} {h t : ℕ → ℕ} (program : Y.Program) (block line : ℕ) (body : Y.Stmts) (first input : List ℕ) (all : AllPlain program.variables) (alone : IsAlone program block line body) (small' : main_words program block body ≤ most_code) (few : main_room program block ≤ 2 ^ 20) (k : ℕ) → AllReady links code first program block → line < 2 ^ 31 → k + 1 < 2 ^ 64 → BodyDoes program block line body first all alone small' links code k → 2 ≤ i → Linked links code i (act_code line) → Linked links code (i + size_of (act_code line)) (stmts_code (main_environment program block) none_taken body ++ procedure_ended (main_environment program block) (main_head block line) (main_words program block body) None) → Linked links code start_resume finish_code → (at : ℕ) (g : Family) → ((b : Base) → At b i (Known (ground_of (main_frame (main_words program block body) (main_sizes program block) (main_count program block) small' few) first (begin_contents (main_kind program block))) (main_services (table_of program) (main_kind program block) input at line (main_count program block)) h t nothing b) (g b)) → Comes code i g (main_services (table_of program) (main_kind program block) input at line (main_count program block)) (inside (to_finish code k) newest_ended) (main_body program k line body k (main_state (main_kind program block) input (main_count program block)))
 unfolding M.entry_act ◌>>◌
 body_piece {links = links} {code = code} program block line body first input all alone small' few k ready low fits does' later l behind finish' at g there =
     let n = main_count program block in
@@ -197,7 +205,7 @@ body_piece {links = links} {code = code} program block line body first input all
     comes_on k (act counted k s) next'
     (act_piece (before_closed k next' closed) g line line k low l (serving_first (table_of program) (main_kind program block) input at line n k fits) there (λ g' serving' there'.
     statements_piece program block line body first all alone small' few k does' (omega (arith, later)) behind finish' (with_world (counted s.world) s) g' serving'
-    (counted_all (counted s.world) (main_hold links code first program block input ready)) there'))
+    (counted_all (counted s.world) (main_hold links code first program block input all ready)) there'))
 
 -- from the entry of the procedure
 procedure_piece : {links : Links} {code : List Instr} (program : Y.Program) (block line : ℕ) (body : Y.Stmts) (first input : List ℕ) (all : AllPlain program.variables) (alone : IsAlone program block line body) (small' : main_words program block body ≤ most_code) (k entry : ℕ) → AllReady links code first program block → line < 2 ^ 31 → k + 1 < 2 ^ 64 → length first ≡ memory_size → 2 ≤ entry → BodyDoes program block line body first all alone small' links code k → Linked links code entry (procedure_in (main_environment program block) (main_head block line) body [] None) → Linked links code start_resume finish_code → (g : Family) → ((b : Base) → At b entry (Known (start_ground first) (first_services (table_of program) input) zeros zeros (with' 1 (λ b'. address b' start_resume) no_texts) b) (g b)) → Comes code entry g (first_services (table_of program) input) (inside (to_finish code k) newest_ended) (flow_on k (K.variables_made (main_around program k line) 0 (variables_of_block program block) k (main_state (main_kind program block) input 0)) (λ u. main_body program k line body))
@@ -207,8 +215,8 @@ procedure_piece {links} {code} program block line body first input all alone sma
     let n = main_count program block in
     let table = table_of program in
     let v = first_services table input in
-    let few : 32 * 0 ≤ 2 ^ 20 = omega arith in
-    let f = main_frame words 0 small' few in
+    let few : room_of (main_sizes program block) 0 ≤ 2 ^ 20 = omega arith in
+    let f = main_frame words (main_sizes program block) 0 small' few in
     let t = first_words first f.at in
     let fb = frame_begun words 0 0 true in
     let ec = entry_code line in
@@ -235,14 +243,14 @@ procedure_piece {links} {code} program block line body first input all alone sma
     let closed = inside_closed newest_ended (to_finish_closed code k) in
     comes_on k (K.variables_made (main_around program k line) 0 (variables_of_block program block) k (main_state (main_kind program block) input 0)) next'
     (onward (before_closed k next' closed) (begun entry first v f g (omega (arith, later)) refl (omega arith) refl len lf at) (λ g1 at1.
-    onward (before_closed k next' closed) (entered_piece (entry + size_of fb) f first (λ j. pos 0) table (main_kind program block) input line g1 low le at1) (λ g2 at2.
+    onward (before_closed k next' closed) (entered_piece (entry + size_of fb) f first (λ j. Counted (pos 0)) table (main_kind program block) input line g1 low le at1) (λ g2 at2.
     variables_piece (before_closed k next' closed) (main_around program k line) program block line words small' first input (main_kind program block) k n zeros t fits
     (λ j below room. main_place program block line body j all alone below room)
     ready
     (variables_of_block program block) 0 (entry + size_of fb + size_of ec) (are_of (variables_of_block program block) (main_plain program block all)) (omega arith) few g2 lv
     (λ b. let o = (at2 b).holds in record {
       pc = (at2 b).pc;
-      holds = record { body = record { services = o.body.services; registers = o.body.registers; bytes = o.body.bytes; memory = no_contents f first (λ j. pos 0) (begin_contents (main_kind program block)) t b _ refl o.body.memory }; regs = o.regs };
+      holds = record { body = record { services = o.body.services; registers = o.body.registers; bytes = o.body.bytes; memory = no_contents f first (λ j. Counted (pos 0)) (begin_contents (main_kind program block)) t b _ refl o.body.memory }; regs = o.regs };
     })
     (λ enough g3 at3. body_piece program block line body first input all alone small' enough k ready low fits does' (omega (arith, later)) la lb finish' f.at g3 at3))))
 

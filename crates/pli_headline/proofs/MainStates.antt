@@ -17,8 +17,10 @@ use Rattle.pli_serving.specs.ServiceState as S
 use Rattle.pli_serving.specs.ServiceState.{Services}
 use Rattle.pli_serving.specs.Making as G
 use Rattle.pli_headline.specs.ProvedSoFar.{IsScalar, IsConstantOf, IsInitial}
-use Rattle.pli_headline.proofs.Scalars.{Scalar, IsNumeric, by_type, is_numeric, value_as, bit_back, constant_number, begin_of, begin_fits}
-use Rattle.pli_headline.proofs.MainGround.{number_place, contents}
+use Rattle.pli_headline.proofs.Scalars.{Scalar, IsNumeric, by_type, is_numeric, IsHeld, by_held, value_as, bit_back, constant_number, begin_of, begin_fits}
+use Rattle.pli_headline.proofs.VariablePlaces.{room_of, number_place, frame_size, sizes_of, text_print}
+use Rattle.pli_headline.proofs.Holdings.{Content}
+use Rattle.pli_headline.proofs.MainGround.{contents}
 use Rattle.pli_headline.proofs.InitialRead.{once_only}
 use Rattle.pli_headline.proofs.PlainNumbers.{number_for, Numbered, numbered_shape}
 use Rattle.pli_headline.proofs.Activations.{Nested}
@@ -59,12 +61,12 @@ print_by : (q : Bool) → footprint (rounded_up 4 (cond q 2 4) * 1 + 0) ≡ 32
 print_by true = refl
 print_by false = refl
 
--- each counts for 32 bytes
-pub scalar_print : (s : Scalar) → IsNumeric s.type → footprint_of (fresh_scalar s) ≡ 32
+-- each counts for what it takes in the frame
+pub scalar_print : (s : Scalar) → IsHeld s.type → footprint_of (fresh_scalar s) ≡ frame_size s.type
 scalar_print s is =
-    by_type (λ t. footprint_of (fresh_scalar (record { type = t; initial = s.initial })) ≡ 32) (λ p. print_by (nat_le p 15)) refl s.type is
+    by_held (λ t. footprint_of (fresh_scalar (record { type = t; initial = s.initial })) ≡ frame_size t) (λ p. print_by (nat_le p 15)) refl (λ n few. text_print (suc n)) (λ n few. text_print (2 + suc n)) s.type is
 
-pub scalars_in_use : (kind : ℕ → Scalar) (count : ℕ) → ((i : ℕ) → i < count → IsNumeric (kind i).type) → automatic_in_use (scalars_living kind count) ≡ 32 * count
+pub scalars_in_use : (kind : ℕ → Scalar) (count : ℕ) → ((i : ℕ) → i < count → IsHeld (kind i).type) → automatic_in_use (scalars_living kind count) ≡ room_of (sizes_of kind) count
 scalars_in_use kind zero are = refl
 scalars_in_use kind (suc j) are =
     let one = scalar_print (kind j) (are j (omega arith)) in
@@ -106,7 +108,7 @@ abbrev pub begin_numbers : (kind : ℕ → Scalar) → ℕ → ℤ
 begin_numbers kind j = begin_of (kind j).initial
 
 -- and what then stands in memory
-abbrev pub begin_contents : (kind : ℕ → Scalar) → ℕ → ℤ
+abbrev pub begin_contents : (kind : ℕ → Scalar) → ℕ → Content
 begin_contents kind = contents (λ j. (kind j).type) (begin_numbers kind)
 
 -- all variables hold what they begin with
@@ -131,7 +133,7 @@ scalars_owned kind (suc j) height above = (other_height height above, scalars_ow
 -- ---- in the services
 
 abbrev pub served_scalar : List TableSignature → (kind : ℕ → Scalar) → (frame j : ℕ) → S.Living
-served_scalar table kind frame j = record { serial = suc j; owner = 1; signature = number_for table (kind j).type; at = frame + number_place j }
+served_scalar table kind frame j = record { serial = suc j; owner = 1; signature = number_for table (kind j).type; at = frame + number_place (sizes_of kind) j }
 
 abbrev pub scalars_served : List TableSignature → (kind : ℕ → Scalar) → (frame count : ℕ) → List S.Living
 scalars_served table kind frame zero = []
@@ -158,15 +160,15 @@ main_services table kind input frame line count =
       edits = [];
     }
 
-shape_print : (type : Y.LeafType) → IsNumeric type → G.footprint_of_shape (Some (scalar_shape type)) ≡ 32
+shape_print : (type : Y.LeafType) → IsHeld type → G.footprint_of_shape (Some (scalar_shape type)) ≡ frame_size type
 shape_print type is =
-    by_type (λ t. G.footprint_of_shape (Some (scalar_shape t)) ≡ 32) (λ p. print_by (nat_le p 15)) refl type is
+    by_held (λ t. G.footprint_of_shape (Some (scalar_shape t)) ≡ frame_size t) (λ p. print_by (nat_le p 15)) refl (λ n few. text_print (suc n)) (λ n few. text_print (2 + suc n)) type is
 
-pub served_in_use : (table : List TableSignature) (kind : ℕ → Scalar) (frame count : ℕ) → ((i : ℕ) → i < count → Numbered table (kind i).type) → G.automatic_in_use (map template_of table) (scalars_served table kind frame count) ≡ 32 * count
+pub served_in_use : (table : List TableSignature) (kind : ℕ → Scalar) (frame count : ℕ) → ((i : ℕ) → i < count → Numbered table (kind i).type) → G.automatic_in_use (map template_of table) (scalars_served table kind frame count) ≡ room_of (sizes_of kind) count
 served_in_use table kind frame zero are = refl
 served_in_use table kind frame (suc j) are =
     let o = are j (omega arith) in
-    let shape = ap G.footprint_of_shape (numbered_shape table (kind j).type o) ∙ shape_print (kind j).type (is_numeric (kind j).type o.scalar) in
+    let shape = ap G.footprint_of_shape (numbered_shape table (kind j).type o) ∙ shape_print (kind j).type o.held in
     let rest = served_in_use table kind frame j (λ i h. are i (omega (arith, h))) in
     omega (arith, shape, rest)
 

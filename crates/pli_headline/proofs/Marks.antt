@@ -28,7 +28,7 @@ use Rattle.pli_headline.proofs.FirstFrame.{start_of, start_is, start_resume}
 no_routines_of_block : (e : Environment) (index : ℕ) (ds : List Y.DeclaredVariable) → ArePlain ds → routines_of_block e index ds ≡ []
 no_routines_of_block e index [] are = refl
 no_routines_of_block e index (d ∷ ds) are =
-    by_plain (λ u. routines_of_block e index (u ∷ ds) ≡ routines_of_block e (suc index) ds) (λ p i. refl) (λ i. refl) d are.0
+    by_plain (λ u. routines_of_block e index (u ∷ ds) ≡ routines_of_block e (suc index) ds) (λ p i. refl) (λ i. refl) (λ n i. refl) (λ n i. refl) d are.0
     ∙ no_routines_of_block e (suc index) ds are.1
 
 no_routines : (e : Environment) (bs : List BlockPlace) → AllPlain e.program.variables → routines_code e bs ≡ []

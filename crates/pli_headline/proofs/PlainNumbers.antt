@@ -1,8 +1,9 @@
 -- The signatures of a block's variables in the table of the program: their numbers, and what stands there.
-use Rattle.std.proofs.Common.{◌≡◌, ℕ, zero, suc, ◌+◌, ◌≤◌, List, [], ◌∷◌, ◌++◌, length, map, Some, refl, sym, ap, ◌∙◌, subst, arith, unwrap_or}
-use Rattle.std.specs.Prelude.{slice_get}
+use Rattle.std.proofs.Common.{◌≡◌, ℕ, zero, suc, ◌+◌, ◌≤◌, List, [], ◌∷◌, ◌++◌, length, map, Some, false, refl, sym, ap, ◌∙◌, subst, arith, unwrap_or}
+use Rattle.std.specs.Prelude.{pos, slice_get, ◌==◌}
+use Rattle.std.proofs.lemmas.Bool.Decides.{nat_tests}
 use Rattle.std.specs.List.{flat_map}
-use Rattle.rv_meaning.specs.Tables.{TableSignature}
+use Rattle.rv_meaning.specs.Tables.{TableSignature, run_time_size}
 use Rattle.pli_language.specs.Tree as T
 use Rattle.pli_typing.specs.TypedTree as Y
 use Rattle.pli_meaning.specs.DeclaredShapes.{variables_of_block}
@@ -10,7 +11,7 @@ use Rattle.pli_serving.specs.Templates.{template_of, shape_at}
 use Rattle.pli_coding.specs.SignatureTable.{signature_of, number_in_table, table_of}
 use Rattle.pli_headline.specs.ProvedSoFar.{plain_variable, IsScalar, IsInitial, ArePlain, AllPlain, type_of, types_of}
 use Rattle.pli_headline.proofs.PlainSignatures.{scalar_signature, HasSignature, HasAll, all_scalar, has_all, found_in, few_signatures, number_most}
-use Rattle.pli_headline.proofs.Scalars.{Scalar, Typed, kind_at, kind_is}
+use Rattle.pli_headline.proofs.Scalars.{Scalar, IsHeld, scalar_held, Typed, kind_at, kind_is}
 use Rattle.pli_headline.proofs.Variables.{scalar_shape}
 use Rattle.pli_headline.proofs.MainProcedure.{all_plain, main_plain, typed_plain}
 
@@ -19,9 +20,9 @@ number_for table type = number_in_table (scalar_signature type) table
 
 -- a type whose signature stands in the table
 pub record Numbered (table : List TableSignature) (type : Y.LeafType) : Type 0 where
-  pub scalar : IsScalar type
+  pub held : IsHeld type
   pub stands : slice_get table (number_for table type) ≡ Some (scalar_signature type)
-  pub few : number_for table type ≤ 32
+  pub few : number_for table type ≤ 2082
 
 -- ---- the variables of a block
 
@@ -45,7 +46,7 @@ type_has (d ∷ ds) zero type table are has h =
     subst (λ u. HasSignature (signature_of u) table) (typed_plain d type are.0 e) has.0
 type_has (d ∷ ds) (suc j) type table are has h = type_has ds j type table are.1 has.1 h
 
-type_scalar : (ds : List Y.DeclaredVariable) (j : ℕ) (type : Y.LeafType) → ArePlain ds → slice_get (types_of ds) j ≡ Some type → IsScalar type
+pub type_scalar : (ds : List Y.DeclaredVariable) (j : ℕ) (type : Y.LeafType) → ArePlain ds → slice_get (types_of ds) j ≡ Some type → IsScalar type
 type_scalar [] j type are h = absurd (cc h)
 type_scalar (d ∷ ds) zero type are h =
     let e : type_of d ≡ type = cc h in
@@ -64,19 +65,27 @@ main_numbered program block j {type} all h =
     let most = number_most (scalar_signature type) table in
     let few = few_signatures every plain in
     record {
-      scalar = scalar;
-      stands = found_in (scalar_signature type) table (record { type = type; scalar = scalar; is = refl }) (all_scalar every [] plain tt) has;
+      held = scalar_held type scalar;
+      stands = found_in (scalar_signature type) table (record { type = type; held = scalar_held type scalar; is = refl }) (all_scalar every [] plain tt) has;
       few = omega (arith, most, few);
     }
 
 -- ---- their shapes
 
-template_shape : (type : Y.LeafType) → IsScalar type → shape_at (template_of (scalar_signature type) ∷ []) 0 ≡ Some (scalar_shape type)
+template_shape : (type : Y.LeafType) → IsHeld type → shape_at (template_of (scalar_signature type) ∷ []) 0 ≡ Some (scalar_shape type)
 template_shape (Y.FixedLeaf p) is = refl
 template_shape Y.BitLeaf is = refl
+template_shape (Y.CharacterLeaf (Y.ConstantExtent (pos n))) is =
+    let few = is.1 in
+    let known : (n == run_time_size) ≡ false = grind (arith, nat_tests) in
+    rw (known) refl
+template_shape (Y.VaryingLeaf (Y.ConstantExtent (pos n))) is =
+    let few = is.1 in
+    let known : (n == run_time_size) ≡ false = grind (arith, nat_tests) in
+    rw (known) refl
 template_shape _ is = absurd is
 
-shape_found : (table : List TableSignature) (n : ℕ) (type : Y.LeafType) → IsScalar type → slice_get table n ≡ Some (scalar_signature type) → shape_at (map template_of table) n ≡ Some (scalar_shape type)
+shape_found : (table : List TableSignature) (n : ℕ) (type : Y.LeafType) → IsHeld type → slice_get table n ≡ Some (scalar_signature type) → shape_at (map template_of table) n ≡ Some (scalar_shape type)
 shape_found [] n type is h = absurd (cc h)
 shape_found (g ∷ gs) zero type is h =
     let e : g ≡ scalar_signature type = cc h in
@@ -84,7 +93,7 @@ shape_found (g ∷ gs) zero type is h =
 shape_found (g ∷ gs) (suc n) type is h = shape_found gs n type is h
 
 pub numbered_shape : (table : List TableSignature) (type : Y.LeafType) → Numbered table type → shape_at (map template_of table) (number_for table type) ≡ Some (scalar_shape type)
-numbered_shape table type o = shape_found table (number_for table type) type o.scalar o.stands
+numbered_shape table type o = shape_found table (number_for table type) type o.held o.stands
 
 -- ---- variables by the types of their places
 

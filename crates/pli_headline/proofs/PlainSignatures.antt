@@ -1,19 +1,22 @@
--- Signatures of scalars: each is told from the others by its words, and a table of them has 32 at most.
+-- Signatures of scalars and texts: each is told from the others by its words, and a table of them has 2,082 at most.
 use Rattle.std.proofs.Common.{◌≡◌, ◌⊎◌, inl, inr, ℕ, zero, suc, ◌+◌, ◌<◌, ◌≤◌, List, [], ◌∷◌, length, Some, Bool, true, false, refl, sym, ap, ◌∙◌, subst, arith, true≢false}
-use Rattle.std.specs.Prelude.{◌==◌, ◌&&◌, slice_get, cond}
+use Rattle.std.specs.Prelude.{pos, ◌==◌, ◌&&◌, slice_get, cond}
 use Rattle.std.proofs.lemmas.Bool.{eqb-true, eq-eqb}
 use Rattle.std.proofs.lemmas.Bool.Decides.{nat_tests}
+use Rattle.rv_meaning.specs.declared.image.TableKind.{TableKind}
+use Rattle.rv_meaning.specs.declared.image.TableKind.TheVariants as K
 use Rattle.rv_meaning.specs.Tables.{TableLeaf, TableSignature}
 use Rattle.pli_typing.specs.TypedTree as Y
 use Rattle.pli_coding.specs.SignatureTable.{signature_of, same_signature, with_signature, with_signatures, number_in_table}
-use Rattle.pli_headline.specs.ProvedSoFar.{plain_variable, IsScalar, ArePlain}
+use Rattle.pli_headline.specs.ProvedSoFar.{plain_variable, ArePlain}
+use Rattle.pli_headline.proofs.Scalars.{IsHeld, scalar_held}
 
 abbrev pub scalar_signature : Y.LeafType → TableSignature
 scalar_signature type = signature_of (plain_variable type [])
 
 pub record IsScalarSignature (g : TableSignature) : Type 0 where
   pub type : Y.LeafType
-  pub scalar : IsScalar type
+  pub held : IsHeld type
   pub is : g ≡ scalar_signature type
 
 abbrev pub AreScalar : List TableSignature → Type 0
@@ -30,30 +33,45 @@ first_false : (t : Bool) → (t && true) ≡ false → t ≡ false
 first_false true e = e
 first_false false e = refl
 
-same_type : (a b : Y.LeafType) → IsScalar a → IsScalar b → same_signature (scalar_signature a) (scalar_signature b) ≡ true → a ≡ b
-same_type (Y.FixedLeaf p) (Y.FixedLeaf q) h k e =
-    ap (λ n. Y.FixedLeaf n) (eqb-true p q (first_true (p == q) e))
+same_type : (a b : Y.LeafType) → IsHeld a → IsHeld b → same_signature (scalar_signature a) (scalar_signature b) ≡ true → a ≡ b
+same_type (Y.FixedLeaf p) (Y.FixedLeaf q) h k e = ap (λ n. Y.FixedLeaf n) (eqb-true p q (first_true (p == q) e))
 same_type (Y.FixedLeaf p) Y.BitLeaf h k e = absurd (true≢false (sym e))
+same_type (Y.FixedLeaf p) (Y.CharacterLeaf (Y.ConstantExtent (pos q))) h k e = absurd (true≢false (sym e))
+same_type (Y.FixedLeaf p) (Y.VaryingLeaf (Y.ConstantExtent (pos q))) h k e = absurd (true≢false (sym e))
 same_type (Y.FixedLeaf p) _ h k e = absurd k
 same_type Y.BitLeaf (Y.FixedLeaf q) h k e = absurd (true≢false (sym e))
 same_type Y.BitLeaf Y.BitLeaf h k e = refl
+same_type Y.BitLeaf (Y.CharacterLeaf (Y.ConstantExtent (pos q))) h k e = absurd (true≢false (sym e))
+same_type Y.BitLeaf (Y.VaryingLeaf (Y.ConstantExtent (pos q))) h k e = absurd (true≢false (sym e))
 same_type Y.BitLeaf _ h k e = absurd k
+same_type (Y.CharacterLeaf (Y.ConstantExtent (pos p))) (Y.FixedLeaf q) h k e = absurd (true≢false (sym e))
+same_type (Y.CharacterLeaf (Y.ConstantExtent (pos p))) Y.BitLeaf h k e = absurd (true≢false (sym e))
+same_type (Y.CharacterLeaf (Y.ConstantExtent (pos p))) (Y.CharacterLeaf (Y.ConstantExtent (pos q))) h k e = ap (λ n. Y.CharacterLeaf (Y.ConstantExtent (pos n))) (eqb-true p q (first_true (p == q) e))
+same_type (Y.CharacterLeaf (Y.ConstantExtent (pos p))) (Y.VaryingLeaf (Y.ConstantExtent (pos q))) h k e = absurd (true≢false (sym e))
+same_type (Y.CharacterLeaf (Y.ConstantExtent (pos p))) _ h k e = absurd k
+same_type (Y.VaryingLeaf (Y.ConstantExtent (pos p))) (Y.FixedLeaf q) h k e = absurd (true≢false (sym e))
+same_type (Y.VaryingLeaf (Y.ConstantExtent (pos p))) Y.BitLeaf h k e = absurd (true≢false (sym e))
+same_type (Y.VaryingLeaf (Y.ConstantExtent (pos p))) (Y.CharacterLeaf (Y.ConstantExtent (pos q))) h k e = absurd (true≢false (sym e))
+same_type (Y.VaryingLeaf (Y.ConstantExtent (pos p))) (Y.VaryingLeaf (Y.ConstantExtent (pos q))) h k e = ap (λ n. Y.VaryingLeaf (Y.ConstantExtent (pos n))) (eqb-true p q (first_true (p == q) e))
+same_type (Y.VaryingLeaf (Y.ConstantExtent (pos p))) _ h k e = absurd k
 same_type _ b h k e = absurd h
 
-same_self : (a : Y.LeafType) → IsScalar a → same_signature (scalar_signature a) (scalar_signature a) ≡ true
+same_self : (a : Y.LeafType) → IsHeld a → same_signature (scalar_signature a) (scalar_signature a) ≡ true
 same_self (Y.FixedLeaf p) h = ap (λ t. t && true) (eq-eqb p p refl)
 same_self Y.BitLeaf h = refl
+same_self (Y.CharacterLeaf (Y.ConstantExtent (pos p))) h = ap (λ t. t && true) (eq-eqb p p refl)
+same_self (Y.VaryingLeaf (Y.ConstantExtent (pos p))) h = ap (λ t. t && true) (eq-eqb p p refl)
 same_self _ h = absurd h
 
 same_is : (g h : TableSignature) → IsScalarSignature g → IsScalarSignature h → same_signature g h ≡ true → g ≡ h
 same_is g h a b e =
     let f : same_signature (scalar_signature a.type) (scalar_signature b.type) ≡ true =
     ap (λ u. same_signature u (scalar_signature b.type)) (sym a.is) ∙ ap (λ u. same_signature g u) (sym b.is) ∙ e in
-    a.is ∙ ap scalar_signature (same_type a.type b.type a.scalar b.scalar f) ∙ sym b.is
+    a.is ∙ ap scalar_signature (same_type a.type b.type a.held b.held f) ∙ sym b.is
 
 self_same : (g h : TableSignature) → IsScalarSignature g → g ≡ h → same_signature g h ≡ true
 self_same g h a e =
-    ap (λ u. same_signature g u) (sym e) ∙ ap (λ u. same_signature u u) a.is ∙ same_self a.type a.scalar
+    ap (λ u. same_signature g u) (sym e) ∙ ap (λ u. same_signature u u) a.is ∙ same_self a.type a.held
 
 -- ---- what the table has
 
@@ -87,7 +105,7 @@ with_keeps f g (h ∷ hs) has = by_test (same_signature f h) has (with_keeps f g
     by_test false (inr k) more = inr (more k)
 
 signature_plain : (d : Y.DeclaredVariable) (ds : List Y.DeclaredVariable) → ArePlain (d ∷ ds) → IsScalarSignature (signature_of d)
-signature_plain d ds are = record { type = are.0.type; scalar = are.0.scalar; is = ap signature_of are.0.is }
+signature_plain d ds are = record { type = are.0.type; held = scalar_held are.0.type are.0.scalar; is = ap signature_of are.0.is }
 
 pub all_scalar : (ds : List Y.DeclaredVariable) (table : List TableSignature) → ArePlain ds → AreScalar table → AreScalar (with_signatures ds table)
 all_scalar [] table are has = has
@@ -122,36 +140,57 @@ found_in g (h ∷ hs) is are has = by_test (same_signature g h) refl has (found_
 
 -- ---- how many there are
 
--- a precision, or 0 of a bit
+-- a bit, the precisions, and the lengths of texts of either kind
+abbrev rank_by : TableKind → (size : ℕ) → ℕ
+rank_by K.Character n = 32 + n
+rank_by K.Varying n = 1057 + n
+rank_by _ n = n
+
 abbrev rank_of : List TableLeaf → ℕ
 rank_of [] = 0
-rank_of (l ∷ ls) = l.size
+rank_of (l ∷ ls) = rank_by l.kind l.size
 
 abbrev rank : TableSignature → ℕ
 rank g = rank_of g.leaves
 
-type_rank : (a : Y.LeafType) → IsScalar a → rank (scalar_signature a) < 32
+type_rank : (a : Y.LeafType) → IsHeld a → rank (scalar_signature a) < 2082
 type_rank (Y.FixedLeaf p) h = let m = h.1 in omega (arith, m)
 type_rank Y.BitLeaf h = omega arith
+type_rank (Y.CharacterLeaf (Y.ConstantExtent (pos p))) h = let m = h.1 in omega (arith, m)
+type_rank (Y.VaryingLeaf (Y.ConstantExtent (pos p))) h = let m = h.1 in omega (arith, m)
 type_rank _ h = absurd h
 
-rank_small : (g : TableSignature) → IsScalarSignature g → rank g < 32
-rank_small g a = subst (λ u. rank u < 32) (sym a.is) (type_rank a.type a.scalar)
+rank_small : (g : TableSignature) → IsScalarSignature g → rank g < 2082
+rank_small g a = subst (λ u. rank u < 2082) (sym a.is) (type_rank a.type a.held)
 
-types_apart : (a b : Y.LeafType) → IsScalar a → IsScalar b → same_signature (scalar_signature a) (scalar_signature b) ≡ false → (rank (scalar_signature a) == rank (scalar_signature b)) ≡ false
+types_apart : (a b : Y.LeafType) → IsHeld a → IsHeld b → same_signature (scalar_signature a) (scalar_signature b) ≡ false → (rank (scalar_signature a) == rank (scalar_signature b)) ≡ false
 types_apart (Y.FixedLeaf p) (Y.FixedLeaf q) h k e = first_false (p == q) e
-types_apart (Y.FixedLeaf p) Y.BitLeaf h k e = let m = h.0 in grind (arith, nat_tests)
+types_apart (Y.FixedLeaf p) Y.BitLeaf h k e = let h0 = h.0 in let h1 = h.1 in grind (arith, nat_tests)
+types_apart (Y.FixedLeaf p) (Y.CharacterLeaf (Y.ConstantExtent (pos q))) h k e = let h0 = h.0 in let h1 = h.1 in let k0 = k.0 in let k1 = k.1 in grind (arith, nat_tests)
+types_apart (Y.FixedLeaf p) (Y.VaryingLeaf (Y.ConstantExtent (pos q))) h k e = let h0 = h.0 in let h1 = h.1 in let k0 = k.0 in let k1 = k.1 in grind (arith, nat_tests)
 types_apart (Y.FixedLeaf p) _ h k e = absurd k
-types_apart Y.BitLeaf (Y.FixedLeaf q) h k e = let m = k.0 in grind (arith, nat_tests)
+types_apart Y.BitLeaf (Y.FixedLeaf q) h k e = let k0 = k.0 in let k1 = k.1 in grind (arith, nat_tests)
 types_apart Y.BitLeaf Y.BitLeaf h k e = absurd (true≢false e)
+types_apart Y.BitLeaf (Y.CharacterLeaf (Y.ConstantExtent (pos q))) h k e = let k0 = k.0 in let k1 = k.1 in grind (arith, nat_tests)
+types_apart Y.BitLeaf (Y.VaryingLeaf (Y.ConstantExtent (pos q))) h k e = let k0 = k.0 in let k1 = k.1 in grind (arith, nat_tests)
 types_apart Y.BitLeaf _ h k e = absurd k
+types_apart (Y.CharacterLeaf (Y.ConstantExtent (pos p))) (Y.FixedLeaf q) h k e = let h0 = h.0 in let h1 = h.1 in let k0 = k.0 in let k1 = k.1 in grind (arith, nat_tests)
+types_apart (Y.CharacterLeaf (Y.ConstantExtent (pos p))) Y.BitLeaf h k e = let h0 = h.0 in let h1 = h.1 in grind (arith, nat_tests)
+types_apart (Y.CharacterLeaf (Y.ConstantExtent (pos p))) (Y.CharacterLeaf (Y.ConstantExtent (pos q))) h k e = let f = first_false (p == q) e in grind (arith, nat_tests)
+types_apart (Y.CharacterLeaf (Y.ConstantExtent (pos p))) (Y.VaryingLeaf (Y.ConstantExtent (pos q))) h k e = let h0 = h.0 in let h1 = h.1 in let k0 = k.0 in let k1 = k.1 in grind (arith, nat_tests)
+types_apart (Y.CharacterLeaf (Y.ConstantExtent (pos p))) _ h k e = absurd k
+types_apart (Y.VaryingLeaf (Y.ConstantExtent (pos p))) (Y.FixedLeaf q) h k e = let h0 = h.0 in let h1 = h.1 in let k0 = k.0 in let k1 = k.1 in grind (arith, nat_tests)
+types_apart (Y.VaryingLeaf (Y.ConstantExtent (pos p))) Y.BitLeaf h k e = let h0 = h.0 in let h1 = h.1 in grind (arith, nat_tests)
+types_apart (Y.VaryingLeaf (Y.ConstantExtent (pos p))) (Y.CharacterLeaf (Y.ConstantExtent (pos q))) h k e = let h0 = h.0 in let h1 = h.1 in let k0 = k.0 in let k1 = k.1 in grind (arith, nat_tests)
+types_apart (Y.VaryingLeaf (Y.ConstantExtent (pos p))) (Y.VaryingLeaf (Y.ConstantExtent (pos q))) h k e = let f = first_false (p == q) e in grind (arith, nat_tests)
+types_apart (Y.VaryingLeaf (Y.ConstantExtent (pos p))) _ h k e = absurd k
 types_apart _ b h k e = absurd h
 
 ranks_apart : (g h : TableSignature) → IsScalarSignature g → IsScalarSignature h → same_signature g h ≡ false → (rank g == rank h) ≡ false
 ranks_apart g h a b e =
     let f : same_signature (scalar_signature a.type) (scalar_signature b.type) ≡ false =
     ap (λ u. same_signature u (scalar_signature b.type)) (sym a.is) ∙ ap (λ u. same_signature g u) (sym b.is) ∙ e in
-    ap (λ u. rank u == rank h) a.is ∙ ap (λ u. rank (scalar_signature a.type) == rank u) b.is ∙ types_apart a.type b.type a.scalar b.scalar f
+    ap (λ u. rank u == rank h) a.is ∙ ap (λ u. rank (scalar_signature a.type) == rank u) b.is ∙ types_apart a.type b.type a.held b.held f
 
 abbrev one_if : Bool → ℕ
 one_if t = cond t 1 0
@@ -222,18 +261,21 @@ total_one (suc b) g gs h = by_rank (rank g == b) refl h (total_one b g gs)
         let m = later less in
         omega (arith, m)
 
-length_total : (table : List TableSignature) → AreScalar table → length table ≤ total 32 table
-length_total [] are = omega arith
-length_total (g ∷ gs) are =
-    let m = length_total gs are.1 in
-    let n = total_one 32 g gs (rank_small g are.0) in
+length_total : (b : ℕ) (table : List TableSignature) → AreScalar table → ((g : TableSignature) → IsScalarSignature g → rank g < b) → length table ≤ total b table
+length_total b [] are low = omega arith
+length_total b (g ∷ gs) are low =
+    let m = length_total b gs are.1 low in
+    let n = total_one b g gs (low g are.0) in
     omega (arith, m, n)
 
-pub few_signatures : (ds : List Y.DeclaredVariable) → ArePlain ds → length (with_signatures ds []) ≤ 32
-few_signatures ds are =
-    let m = length_total (with_signatures ds []) (all_scalar ds [] are tt) in
-    let n = total_few 32 (with_signatures ds []) (λ r. all_once r ds [] are tt (omega arith)) in
+few_below : (b : ℕ) (ds : List Y.DeclaredVariable) → ArePlain ds → ((g : TableSignature) → IsScalarSignature g → rank g < b) → length (with_signatures ds []) ≤ b
+few_below b ds are low =
+    let m = length_total b (with_signatures ds []) (all_scalar ds [] are tt) low in
+    let n = total_few b (with_signatures ds []) (λ r. all_once r ds [] are tt (omega arith)) in
     omega (arith, m, n)
+
+pub few_signatures : (ds : List Y.DeclaredVariable) → ArePlain ds → length (with_signatures ds []) ≤ 2082
+few_signatures ds are = few_below 2082 ds are rank_small
 
 pub number_most : (g : TableSignature) (table : List TableSignature) → number_in_table g table ≤ length table
 number_most g [] = omega arith

@@ -192,13 +192,11 @@ unit_of_raise around c n k s e = ap (λ o. R.unit_run around n o k s) e
 pub raise_piece : {links : Links} {code : List Instr} {g : Ground} {v : Services} {h t : ℕ → ℕ} {s : State} {aims : Aims (Unit {0})} (closed : Closed code aims) (routines : Routines links code) (credits : ℕ) (f : Family) (around : Around) (c : Condition) (number n k : ℕ) → U.condition_of number ≡ Some c → n < 2 ^ 16 → credits + 4 < cost code → Serving k s v around.line → ((b : Base) → At b routines.at (Known g v h t (conditioned number n) b) (f b)) → Comes code credits f v aims (R.raised around c n k s)
 unfolding R.raised ◌>>◌
 raise_piece {links = links} {code = code} {g = g} {v = v} {h = h} {t = t} {s = s} closed routines credits f around c number n k is small' few serving at =
-    let later = routines.later in
     let front = Mark RaiseCondition ∷ BaseIn u0 ∷ subtract a2 return_register u0 ∷ small a7 30 ∷ [] in
     let behind = to_unit (size_of error_code) ++ (error_code ++ unit_begun) in
     let mine = routines.linked in
     let r = straight credits f v v (λ b. Known g v h t (raising_regs number n) b) (front_of front (Plain I.Ecall ∷ behind) mine) (omega arith) (λ b. (at b).pc)
     (λ b. let o = (at b).holds in let z = zero_is o.body in (
-      omega (arith, later),
       refl,
       record {
         body = record { services = o.body.services; registers = o.body.registers; bytes = o.body.bytes; memory = o.body.memory };

@@ -36,9 +36,38 @@ is_numeric (Y.FixedLeaf p) is = tt
 is_numeric Y.BitLeaf is = tt
 is_numeric _ is = absurd is
 
-pub by_plain : (P : Y.DeclaredVariable → Type 0) → ((p : ℕ) (i : List T.InitialItem) → P (plain_variable (Y.FixedLeaf p) i)) → ((i : List T.InitialItem) → P (plain_variable Y.BitLeaf i)) → (d : Y.DeclaredVariable) → IsPlain d → P d
-by_plain P fixed bit d is =
-    subst P (sym is.is) (by_type (λ t. P (plain_variable t is.initial)) (λ p. fixed p is.initial) (bit is.initial) is.type (is_numeric is.type is.scalar))
+-- types that variables of a block have: those of scalars, and texts of constant lengths
+abbrev pub IsHeld : Y.LeafType → Type 0
+IsHeld (Y.FixedLeaf p) = (1 ≤ p) × (p ≤ 31)
+IsHeld Y.BitLeaf = Unit {0}
+IsHeld (Y.CharacterLeaf (Y.ConstantExtent (pos n))) = (1 ≤ n) × (n ≤ 1024)
+IsHeld (Y.VaryingLeaf (Y.ConstantExtent (pos n))) = (1 ≤ n) × (n ≤ 1024)
+IsHeld _ = ⊥
+
+pub scalar_held : (type : Y.LeafType) → IsScalar type → IsHeld type
+scalar_held (Y.FixedLeaf p) is = is
+scalar_held Y.BitLeaf is = tt
+scalar_held _ is = absurd is
+
+-- texts of one byte more
+abbrev pub character : ℕ → Y.LeafType
+character n = Y.CharacterLeaf (Y.ConstantExtent (pos (suc n)))
+
+abbrev pub varying : ℕ → Y.LeafType
+varying n = Y.VaryingLeaf (Y.ConstantExtent (pos (suc n)))
+
+pub by_held : (P : Y.LeafType → Type 0) → ((p : ℕ) → P (Y.FixedLeaf p)) → P Y.BitLeaf → ((n : ℕ) → suc n ≤ 1024 → P (character n)) → ((n : ℕ) → suc n ≤ 1024 → P (varying n)) → (type : Y.LeafType) → IsHeld type → P type
+by_held P fixed bit padded cut (Y.FixedLeaf p) is = fixed p
+by_held P fixed bit padded cut Y.BitLeaf is = bit
+by_held P fixed bit padded cut (Y.CharacterLeaf (Y.ConstantExtent (pos (suc n)))) is = padded n is.1
+by_held P fixed bit padded cut (Y.CharacterLeaf (Y.ConstantExtent (pos zero))) is = let h = is.0 in absurd (omega (arith, h))
+by_held P fixed bit padded cut (Y.VaryingLeaf (Y.ConstantExtent (pos (suc n)))) is = cut n is.1
+by_held P fixed bit padded cut (Y.VaryingLeaf (Y.ConstantExtent (pos zero))) is = let h = is.0 in absurd (omega (arith, h))
+by_held P fixed bit padded cut _ is = absurd is
+
+pub by_plain : (P : Y.DeclaredVariable → Type 0) → ((p : ℕ) (i : List T.InitialItem) → P (plain_variable (Y.FixedLeaf p) i)) → ((i : List T.InitialItem) → P (plain_variable Y.BitLeaf i)) → ((n : ℕ) (i : List T.InitialItem) → P (plain_variable (character n) i)) → ((n : ℕ) (i : List T.InitialItem) → P (plain_variable (varying n) i)) → (d : Y.DeclaredVariable) → IsPlain d → P d
+by_plain P fixed bit padded cut d is =
+    subst P (sym is.is) (by_held (λ t. P (plain_variable t is.initial)) (λ p. fixed p is.initial) (bit is.initial) (λ n few. padded n is.initial) (λ n few. cut n is.initial) is.type (scalar_held is.type is.scalar))
 
 -- ---- values
 
@@ -104,6 +133,12 @@ zero_fits Y.BitLeaf is = refl
 zero_fits _ is = absurd is
 
 -- ---- INITIAL
+
+-- only scalars have constants
+pub constant_scalar : (type : Y.LeafType) (v : T.InitialValue) → IsHeld type → IsConstantOf type v → IsScalar type
+constant_scalar (Y.FixedLeaf p) (T.InitialNumber z) is h = is
+constant_scalar Y.BitLeaf (T.InitialBit b) is h = tt
+constant_scalar _ _ is h = absurd h
 
 -- a type, and what INITIAL gives
 pub record Scalar : Type 0 where

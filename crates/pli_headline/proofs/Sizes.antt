@@ -445,7 +445,7 @@ mutual
 pub no_variable_words : (ds : List Y.DeclaredVariable) → ArePlain ds → variables_words ds ≡ 0
 no_variable_words [] are = refl
 no_variable_words (d ∷ ds) are =
-    by_plain (λ u. variables_words (u ∷ ds) ≡ max 0 (variables_words ds)) (λ p i. refl) (λ i. refl) d are.0 ∙ ap (λ n. max 0 n) (no_variable_words ds are.1)
+    by_plain (λ u. variables_words (u ∷ ds) ≡ max 0 (variables_words ds)) (λ p i. refl) (λ i. refl) (λ n i. refl) (λ n i. refl) d are.0 ∙ ap (λ n. max 0 n) (no_variable_words ds are.1)
 
 -- they are fewer than the words of its code
 pub procedure_size : (e : Environment) (head : Y.BlockHead) (types : Types) (body : Y.Stmts) → ArePlain (variables_of_block e.program head.number) → AreProvedStatements head.number types body → block_words e head.number (stmts_words body) ≤ size_of (procedure_in e head body [] None)

@@ -22,7 +22,7 @@ use Rattle.pli_headline.proofs.Marks.{Placed, placed}
 use Rattle.pli_headline.proofs.Sizes.{procedure_size, first_length}
 use Rattle.pli_headline.proofs.InnerWords.{all_inner_words}
 use Rattle.pli_headline.proofs.InnerSizes.{procedure_inner}
-use Rattle.pli_headline.proofs.MainProcedure.{main_head, alone_of, main_environment, main_words, main_plain, declared_at}
+use Rattle.pli_headline.proofs.MainProcedure.{main_head, alone_of, main_environment, main_words, main_sizes, main_plain, declared_at}
 use Rattle.pli_headline.proofs.PlainNumbers.{length_types}
 use Rattle.pli_headline.proofs.FirstFrame.{first_step_of}
 use Rattle.pli_headline.proofs.MainFrame.{main_frame}
@@ -82,7 +82,7 @@ body_done program is fits k few =
     let alone = alone_of program is in
     let small' = few_words program is fits in
     main_body_does program block line is.body alone
-    (main_frame (main_words program block is.body) (main_count program block) small' few)
+    (main_frame (main_words program block is.body) (main_sizes program block) (main_count program block) small' few)
     (memory_for program)
     (main_types program block) (sym (length_types (variables_of_block program block)))
     (λ j b. declared_at (variables_of_block program block) j (main_plain program block is.plain) b.1)
