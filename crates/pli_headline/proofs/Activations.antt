@@ -1,13 +1,14 @@
 -- The blocks that are entered, in the meaning and among the services: begin blocks in one another and in the main procedure, none
 -- with a unit.
-use Rattle.std.proofs.Common.{◌≡◌, ℕ, suc, ◌<◌, List, [], ◌∷◌, length, None, Some, Bool, true, false, refl, sym, ap, ◌∙◌, arith}
-use Rattle.std.specs.Prelude.{cond, ◌==◌}
+use Rattle.std.proofs.Common.{◌≡◌, ℕ, suc, ◌<◌, List, [], ◌∷◌, length, None, Some, Bool, true, false, refl, sym, ap, ◌∙◌, subst, arith}
+use Rattle.std.specs.Prelude.{map, cond, ◌==◌}
 use Rattle.std.proofs.lemmas.Bool.{eq-eqb, eqb-true}
 use Rattle.std.proofs.lemmas.Bool.Decides.{nat_tests}
 use Rattle.pli_language.specs.declared.condition.Condition.{Condition}
 use Rattle.pli_meaning.specs.StorageState.{Activation, force, first_unit, unit_for, newest_height, ancestor, height_of}
 use Rattle.pli_serving.specs.ServiceState as S
 use Rattle.pli_serving.specs.OnUnits as U
+use Rattle.pli_serving.specs.Blocks.{from_frame}
 
 -- an activation above so many others
 pub record IsNested (below : ℕ) (a : Activation) : Type 0 where
@@ -81,3 +82,46 @@ ancestor_inside a as' n h e =
     ap (λ q. cond q (cond (a.level == 0) (Some a) (ancestor as' a.parent 0)) (ancestor as' a.height 0)) here
     ∙ ap (λ q. cond q (Some a) (ancestor as' a.parent 0)) other
     ∙ ap (λ m. ancestor as' m 0) (h.parent ∙ sym e)
+
+-- ---- frames
+
+abbrev pub frames_of : List S.Activation → List ℕ
+frames_of xs = map (λ (x : S.Activation). x.frame) xs
+
+-- frames of which the oldest lies at a base, and the others above it
+abbrev pub RestOn : (base : ℕ) → List ℕ → Type 0
+RestOn base [] = ⊥
+RestOn base (x ∷ []) = x ≡ base
+RestOn base (x ∷ y ∷ ys) = (base < x) × RestOn base (y ∷ ys)
+
+pub rest_more : (base x : ℕ) (ys : List ℕ) → base < x → RestOn base ys → RestOn base (x ∷ ys)
+rest_more base x [] above h = absurd h
+rest_more base x (y ∷ ys) above h = (above, h)
+
+-- the activation of the frame at the base
+pub record Bottom (base : ℕ) (xs : List S.Activation) : Type 0 where
+  pub activation : S.Activation
+  pub found : from_frame base xs ≡ activation ∷ []
+
+bottom_of : (base : ℕ) (xs : List S.Activation) → RestOn base (frames_of xs) → Bottom base xs
+bottom_of base [] h = absurd h
+bottom_of base (x ∷ []) h =
+    record { activation = x; found = ap (λ q. cond q (x ∷ []) (from_frame base [])) (eq-eqb x.frame base h) }
+bottom_of base (x ∷ y ∷ xs) h =
+    let o = bottom_of base (y ∷ xs) h.1 in
+    let above = h.0 in
+    let other : (x.frame == base) ≡ false = grind (arith, nat_tests) in
+    record {
+      activation = o.activation;
+      found = ap (λ q. cond q (x ∷ y ∷ xs) (from_frame base (y ∷ xs))) other ∙ o.found;
+    }
+
+pub bottom_is : (base : ℕ) (frames : List ℕ) (xs : List S.Activation) → frames_of xs ≡ frames → RestOn base frames → Bottom base xs
+bottom_is base frames xs same h = bottom_of base xs (subst (RestOn base) (sym same) h)
+
+pub only_activation : (as' : List Activation) (xs : List S.Activation) → Nested as' xs → length as' ≡ 1 → (a : S.Activation) × (xs ≡ a ∷ [])
+only_activation [] xs h e = absurd (cc e)
+only_activation (a ∷ as') [] h e = absurd h
+only_activation (a ∷ []) (x ∷ []) h e = (x, refl)
+only_activation (a ∷ []) (x ∷ y ∷ xs) h e = absurd h.1.1
+only_activation (a ∷ a' ∷ as') (x ∷ xs) h e = absurd (omega (arith, e))

@@ -1,5 +1,5 @@
 -- A block inside another one begins: its frame is filled, above the temporaries of its own.
-use Rattle.std.proofs.Common.{◌≡◌, ℕ, suc, ◌+◌, ◌<◌, ◌≤◌, inl, inr, List, [], ◌∷◌, ◌++◌, length, false, refl, ap, ◌∙◌, arith}
+use Rattle.std.proofs.Common.{◌≡◌, ℕ, suc, ◌+◌, ◌*◌, ◌<◌, ◌≤◌, inl, inr, List, [], ◌∷◌, ◌++◌, length, false, refl, ap, ◌∙◌, arith}
 use Rattle.std.specs.Prelude.{ℤ, pos}
 use Rattle.rv_meaning.specs.declared.instr.Instr.TheVariants as I
 use Rattle.rv_meaning.specs.declared.instr.ImmediateOp.TheVariants as Imm
@@ -35,8 +35,8 @@ use Rattle.pli_headline.proofs.BeginDisplays.{frame_word, own_is, unmoved, moved
 abbrev owned_code : Code
 owned_code = BaseIn u1 ∷ subtract u1 frame_register u1 ∷ store_word frame_register u1 own_offset
 
-owned_path : {e : Environment} {block : ℕ} {types : Types} (bl : Block e block types) (inner : Inner bl) (n : ℕ → ℤ) (links : Links) (code : List Instr) (i : ℕ) (v : Services) (h t0 : ℕ → ℕ) (b : Base) (w : Whole) → 0 < i → length code ≤ most_code → Known (displayed_ground bl inner t0 n) v h unknown (outer_regs (bl.ground n).frame) b w → Items links code b i owned_code w (Known (owned_ground bl inner t0 n) v h unknown nothing b)
-owned_path bl inner n links code i v h t0 b w later small' k =
+owned_path : {e : Environment} {block : ℕ} {types : Types} (bl : Block e block types) (inner : Inner bl) (n : ℕ → ℤ) (links : Links) (code : List Instr) (i : ℕ) (v : Services) (h t0 : ℕ → ℕ) (b : Base) (w : Whole) → 0 < i → length code ≤ most_code → Known (displayed_ground bl inner t0 (suc e.level) n) v h unknown (outer_regs (bl.ground n).frame) b w → Items links code b i owned_code w (Known (owned_ground bl inner t0 n) v h unknown nothing b)
+owned_path {e} bl inner n links code i v h t0 b w later small' k =
     let x = w.machine.registers in
     let m = w.machine.memory in
     let at = inner.at in
@@ -62,7 +62,7 @@ owned_path bl inner n links code i v h t0 b w later small' k =
               kept = bl.stack.keeps n t0 b m (at + 36) own (omega (arith, above)) o.begun.kept;
               below = load-store_other 4 4 m (at + 36) own (at + 4) (inl (omega arith)) ∙ o.begun.below;
               own = load-store_same 4 m (at + 36) own (omega (arith, mine, room)) (let q = k.body.bytes in omega (arith, q, room)) ∙ mine;
-              shown = load-store_other 4 4 m (at + 36) own (at + 144) (inr (omega arith)) ∙ o.shown;
+              shown = λ j h. load-store_other 4 4 m (at + 36) own (at + (144 + 4 * j)) (inr (omega arith)) ∙ o.shown j h;
               temporaries = λ j below known. absurd (omega (arith, known));
             };
           };
@@ -138,7 +138,7 @@ inner_frame {e} bl inner n {links} {code} {i} {v} {h} {t0} c f few later l at =
     let c2 = c + 1 + size_of up in
     let s3 = straight c2 (reached s2) v v (λ b w. Known (begun_ground bl inner t0 n) v h unknown (outer_regs g.frame) b w) (front_of begun_code r4 l3) (omega arith) (λ b. (reached_holds s2 b).pc)
     (λ b. begun_path bl inner n links code (i + 1 + size_of up) v h t0 b (reached s2 b) l.small' (reached_holds s2 b).holds) in
-    let s4 = display_piece bl inner n e.level (c2 + 4) (reached s3) (omega (arith, few)) (bl.reach n) (front_of copied r5 l4) (reached_holds s3) in
+    let s4 = display_piece bl inner n (c2 + 4) (reached s3) (omega (arith, few)) (front_of copied r5 l4) (reached_holds s3) in
     let c4 = c2 + 4 + size_of copied in
     let s5 = straight c4 (reached s4) v v (λ b w. Known (owned_ground bl inner t0 n) v h unknown nothing b w) (front_of owned_code raised l5) (omega arith) (λ b. (reached_holds s4 b).pc)
     (λ b. owned_path bl inner n links code (i + 1 + size_of up + 4 + size_of copied) v h t0 b (reached s4 b) (omega (arith, later)) l.small' (reached_holds s4 b).holds) in

@@ -73,8 +73,8 @@ entered_nested head body s xs x height level entered units nested =
     let newest = newest_is s.activations xs height nested entered in
     (subst (λ n. IsNested n (M.activation_of head (begun_in head body s) (length s.activations + 1))) (sym entered) (inner_nested head body s height level entered newest), (units, nested))
 
-pub entered_all : (head : Y.BlockHead) (body : Y.Stmts) (s : State) (xs : List S.Activation) (height : ℕ) {block : ℕ} {types : Types} {n : ℕ → ℤ} → head.level ≡ suc height → Nested s.activations xs → AllHold (suc height) s block types n → AllHold (suc (suc height)) (entered_state head body s) block types n
-entered_all head body s xs height level nested all =
+pub entered_all : (head : Y.BlockHead) (body : Y.Stmts) (s : State) (xs : List S.Activation) (height : ℕ) {frames : List ℕ} {block : ℕ} {types : Types} {n : ℕ → ℤ} (x : S.Activation) → head.level ≡ suc height → Nested s.activations xs → AllHold frames xs (suc height) s block types n → AllHold (x.frame ∷ frames) (x ∷ xs) (suc (suc height)) (entered_state head body s) block types n
+entered_all head body s xs height x level nested all =
     let newest = newest_is s.activations xs height nested all.entered in
     let a = M.activation_of head (begun_in head body s) (length s.activations + 1) in
     let same = ancestor_inside a s.activations height (inner_nested head body s height level all.entered newest) newest in
@@ -83,6 +83,7 @@ entered_all head body s xs height level nested all =
           let h = all.numbers j b in
           record { values = h.values; stands = ap (λ o. binding_in o j) same ∙ h.stands; lives = h.lives; value = h.value; fits = h.fits };
       entered = ap (λ m. suc m) all.entered;
+      framed = ap (λ fs. x.frame ∷ fs) all.framed;
       owned = all.owned;
     }
 
@@ -106,25 +107,29 @@ pub ended_input : (s : State) → (newest_ended s).input ≡ s.input
 ended_input s = without_newest_input s.activations s
 
 -- behind it
-pub record Left (s : State) (xs : List S.Activation) (block : ℕ) (types : Types) (n : ℕ → ℤ) (height : ℕ) : Type 0 where
+pub record Left (frames : List ℕ) (s : State) (xs : List S.Activation) (block : ℕ) (types : Types) (n : ℕ → ℤ) (height : ℕ) : Type 0 where
   pub newest : S.Activation
   pub rest : List S.Activation
   pub are : xs ≡ newest ∷ rest
   pub nested : Nested (with_world s.world (newest_ended s)).activations rest
-  pub all : AllHold (suc height) (with_world s.world (newest_ended s)) block types n
+  pub all : AllHold frames rest (suc height) (with_world s.world (newest_ended s)) block types n
 
-left_by : (s : State) (as' : List Activation) (xs : List S.Activation) (height : ℕ) {block : ℕ} {types : Types} {n : ℕ → ℤ} → s.activations ≡ as' → Nested as' xs → AllHold (suc (suc height)) s block types n → Left s xs block types n height
+abbrev behind_first : List ℕ → List ℕ
+behind_first [] = []
+behind_first (x ∷ xs) = xs
+
+left_by : (s : State) (as' : List Activation) (xs : List S.Activation) (height : ℕ) {at : ℕ} {frames : List ℕ} {block : ℕ} {types : Types} {n : ℕ → ℤ} → s.activations ≡ as' → Nested as' xs → AllHold (at ∷ frames) xs (suc (suc height)) s block types n → Left frames s xs block types n height
 left_by s [] xs height same nested all =
     absurd (let e = all.entered in let f = ap (λ (us : List Activation). length us) same in omega (arith, e, f))
 left_by s (a ∷ as') [] height same nested all = absurd nested
-left_by s (a ∷ as') (x ∷ xs) height {block} {types} {n} same nested all =
+left_by s (a ∷ as') (x ∷ xs) height {frames = frames} {block = block} {types = types} {n = n} same nested all =
     let long : length as' ≡ suc height = (let e = all.entered in let f = ap (λ (us : List Activation). length us) same in omega (arith, e, f)) in
     let newest = newest_is as' xs height nested.1.1 long in
     let inside = ancestor_inside a as' height (subst (λ m. IsNested m a) long nested.0) newest in
     let high : 1 < a.height = (let e = nested.0.height in omega (arith, e, long)) in
     let kept = none_lost a.height s.living (all.owned a.height high) in
     let ended : newest_ended s ≡ without_newest (a ∷ as') s = ap (λ us. without_newest us s) same in
-    let T : State → Type 0 = λ s'. Nested (with_world s.world s').activations xs × AllHold (suc height) (with_world s.world s') block types n in
+    let T : State → Type 0 = λ s'. Nested (with_world s.world s').activations xs × AllHold frames xs (suc height) (with_world s.world s') block types n in
     let done : T (without_newest (a ∷ as') s) = (
       nested.1.1,
       record {
@@ -138,11 +143,12 @@ left_by s (a ∷ as') (x ∷ xs) height {block} {types} {n} same nested all =
               fits = h.fits;
             };
         entered = long;
+        framed = ap behind_first all.framed;
         owned = λ height' above. subst (NoneOwned height') (sym kept) (all.owned height' above);
       },
     ) in
     let o = subst T (sym ended) done in
     record { newest = x; rest = xs; are = refl; nested = o.0; all = o.1 }
 
-pub left_all : (s : State) (xs : List S.Activation) (height : ℕ) {block : ℕ} {types : Types} {n : ℕ → ℤ} → Nested s.activations xs → AllHold (suc (suc height)) s block types n → Left s xs block types n height
+pub left_all : (s : State) (xs : List S.Activation) (height : ℕ) {at : ℕ} {frames : List ℕ} {block : ℕ} {types : Types} {n : ℕ → ℤ} → Nested s.activations xs → AllHold (at ∷ frames) xs (suc (suc height)) s block types n → Left frames s xs block types n height
 left_all s xs height nested all = left_by s s.activations xs height refl nested all

@@ -1,7 +1,7 @@
 -- BEGIN blocks that declare nothing, in the main procedure and in one another.
-use Rattle.std.proofs.Common.{◌≡◌, ℕ, zero, suc, ◌+◌, ◌*◌, ◌^◌, ◌<◌, ◌≤◌, List, [], ◌∷◌, ◌++◌, length, None, Option, true, false, refl, sym, ap, ◌∙◌, subst, arith}
-use Rattle.std.proofs.lemmas.Bool.{lt-ltb}
-use Rattle.std.specs.Prelude.{ℤ, max, nat_lt}
+use Rattle.std.proofs.Common.{◌≡◌, ℕ, zero, suc, ◌+◌, ◌*◌, ◌^◌, ◌<◌, ◌≤◌, List, [], ◌∷◌, ◌++◌, length, None, Option, Bool, true, false, refl, sym, ap, ◌∙◌, subst, arith}
+use Rattle.std.proofs.lemmas.Bool.{lt-ltb, eqb-true}
+use Rattle.std.specs.Prelude.{ℤ, cond, max, nat_lt, ◌==◌}
 use Rattle.rv_meaning.specs.declared.instr.Instr.{Instr}
 use Rattle.pli_typing.specs.TypedTree as Y
 use Rattle.pli_meaning.specs.World.{counted}
@@ -9,19 +9,19 @@ use Rattle.pli_meaning.specs.BasicValues.{BasicValue}
 use Rattle.pli_meaning.specs.DeclaredShapes.{variables_of_block}
 use Rattle.pli_meaning.specs.StorageState.{State, with_world, newest_ended, most_activations}
 use Rattle.pli_meaning.specs.Control as F
-use Rattle.pli_meaning.specs.Control.{Flow, Normal, Jump, Return, Paused, Stuck, Meaning, flow_on, left, give, act, ◌>>◌}
+use Rattle.pli_meaning.specs.Control.{Label, is_among, Flow, Normal, Jump, Return, Paused, Stuck, Meaning, flow_on, left, give, act, ◌>>◌}
 use Rattle.pli_meaning.specs.Raising.{Around}
 use Rattle.pli_meaning.specs.Executing as M
 use Rattle.pli_serving.specs.ServiceState.{Services}
 use Rattle.pli_coding.specs.Registers.{frame_register, a0}
-use Rattle.pli_coding.specs.Assembly.{Code, size_of}
+use Rattle.pli_coding.specs.Assembly.{LabelPlace, Code, size_of}
 use Rattle.pli_coding.specs.Instructions.{move}
 use Rattle.pli_coding.specs.Allocating.{act_code}
 use Rattle.pli_coding.specs.Entries.{frame_begun, entered_without_texts, variables_made, variables_words}
-use Rattle.pli_coding.specs.Environments.{Environment, none_taken}
+use Rattle.pli_coding.specs.Environments.{BlockOwner, Environment, none_taken}
 use Rattle.pli_coding.specs.Frames.{fixed_size, temporary_bytes}
 use Rattle.pli_coding.specs.Statements.{begin_environment, begin_code, block_words, stmts_words, stmt_code, stmts_code}
-use Rattle.pli_coding.specs.Linking.{Links}
+use Rattle.pli_coding.specs.Linking.{Links, place_of}
 use Rattle.pli_headline.specs.ProvedSoFar.{Types}
 use Rattle.pli_headline.proofs.Engine.{Base, address}
 use Rattle.pli_headline.proofs.Linking.{size_append}
@@ -32,8 +32,8 @@ use Rattle.pli_headline.proofs.Temporaries.{nothing}
 use Rattle.pli_headline.proofs.Activations.{same_length}
 use Rattle.pli_headline.proofs.Calls.{Serving}
 use Rattle.pli_headline.proofs.Acts.{act_piece}
-use Rattle.pli_headline.proofs.Statements.{Block, AllHold, counted_all, Does}
-use Rattle.pli_headline.proofs.InnerFrames.{Inner, inner_block}
+use Rattle.pli_headline.proofs.Statements.{Block, AllHold, counted_all, ended_times, Outlet, IsMarkedOnce, Enough, Does}
+use Rattle.pli_headline.proofs.InnerFrames.{Inner, inner_outside, inner_block}
 use Rattle.pli_headline.proofs.BeginFrames.{inner_begun, inner_frame}
 use Rattle.pli_headline.proofs.BeginEntered.{entered_activation, entered_services, ended_services, inner_ended, inner_entered, inner_left}
 use Rattle.pli_headline.proofs.BeginMeant.{Entering, inner_around, begin_part, inner_part, begin_meant, entered_state, entered_nested, entered_all, ended_input, left_all}
@@ -98,10 +98,45 @@ inner_of {e} bl words few room =
 few_entered : (n level : ℕ) → level < 100 → n ≡ suc level → nat_lt n most_activations ≡ true
 few_entered n level few e = lt-ltb n most_activations (omega (arith, few, e))
 
+-- a jump out of it goes on at the block around, or further out
+abbrev ended_jump : (ℕ → Family → Services → ℕ → Label → State → Type 0) → ℕ → Family → Services → ℕ → Label → State → Type 0
+ended_jump jumped i f v height label s = jumped i f v height label (with_world s.world (newest_ended s))
+
+outlet_by : {e : Environment} {block : ℕ} {types : Types} (bl : Block e block types) (inner : Inner bl) {links : Links} {k turns i : ℕ} {h : ℕ → ℕ} (t : ℕ → ℕ) {acts acts' : ℕ} {jumped : ℕ → Family → Services → ℕ → Label → State → Type 0} {returned : ℕ → Family → Services → Option BasicValue → State → Type 0} (q : Bool) (known : (0 == e.level) ≡ q) → ((number : ℕ) → e.owner ≡ BlockOwner (record { number = number; level = 0 }) → (0 == e.level) ≡ true → number ≡ e.block) → Enough bl links k turns i h t acts jumped returned → (number : ℕ) → e.owner ≡ BlockOwner (record { number = number; level = 0 }) → (label : Label) → is_among label (cond q bl.labels bl.outer) ≡ true → IsMarkedOnce links number label → acts ≤ acts' → Outlet number (suc e.level) bl.base block types (inner_outside bl inner t q known).its (inner_outside bl inner t q known).waits links k acts' (ended_jump jumped) label
+outlet_by {e} {block} {types} bl inner {links} {k} {h = h} t {acts' = acts'} {jumped = jumped} true known main ready number owned label among once less =
+    let same : number ≡ e.block = main number owned known in
+    let o = ready.jumps label among (subst (λ u. IsMarkedOnce links u label) same once) in
+    let zero' : e.level ≡ 0 = sym (eqb-true 0 e.level known) in
+    record {
+      at = o.at;
+      place = subst (λ u. place_of links (LabelPlace u label) ≡ 4 * o.at) (sym same) o.place;
+      near = o.near;
+      later = o.later;
+      lands = λ s v line n h' f serving all acted' at'.
+          let s1 = with_world s.world (newest_ended s) in
+          let all0 : AllHold (bl.base ∷ []) v.activations 1 s1 block types n = subst (λ m. AllHold (bl.base ∷ []) v.activations 1 (ended_times m s1) block types n) zero' all in
+          let all1 : AllHold bl.frames v.activations 1 s1 block types n = subst (λ fs. AllHold fs v.activations 1 s1 block types n) (sym (bl.alone known).frames_are) all0 in
+          subst (λ m. jumped o.at f v (suc m) label s1) zero'
+          (o.lands s1 v line n h' t f
+          (subst (λ m. Serving k (ended_times m s1) v line) zero' serving)
+          (subst (λ m. AllHold bl.frames v.activations (suc m) s1 block types n) (sym zero') all1)
+          (record { registers = λ r below. absurd (let held = bl.held in omega (arith, held, below)); words = λ j below. refl })
+          (omega (arith, less, acted')) at');
+    }
+outlet_by bl inner t false known main ready number owned label among once less =
+    let o = ready.outs known number owned label among once in
+    record {
+      at = o.at;
+      place = o.place;
+      near = o.near;
+      later = o.later;
+      lands = λ s v line n h' f serving all acted' at'. o.lands (with_world s.world (newest_ended s)) v line n h' f serving all (omega (arith, less, acted')) at';
+    }
+
 -- behind its act
-inner_piece : {e : Environment} {block : ℕ} {types : Types} (bl : Block e block types) {links : Links} {code : List Instr} (around : Around) (more : ℕ) (head : Y.BlockHead) (body : Y.Stmts) (inner : Inner bl) → e.level < 100 → (next : head.level ≡ suc e.level) → head.kind ≡ Y.BeginBlock → head.line < 2 ^ 31 → variables_of_block e.program head.number ≡ [] → around.enter ≡ M.entered e.program (suc more) → ((t0 : ℕ → ℕ) → Does (inner_block bl inner t0 head.number head.level next) links code (suc more) (stmts_code (begin_environment head e) none_taken body) (M.list (inner_around e.program more head.line) body)) → {i : ℕ} {s : State} {v : Services} {h t : ℕ → ℕ} {aims : Aims (Unit {0})} (closed : Closed code aims) (n : ℕ → ℤ) (f : Family) (k line : ℕ) → k < suc more + v.world.acts → 2 ≤ i → Linked links code i (inner_code e head inner.words body) → Serving k s v line → AllHold (suc e.level) s block types n → ((b : Base) → At b i (Known (bl.ground n) v h t nothing b) (f b)) → ((s' : State) (v' : Services) (line' : ℕ) (n' : ℕ → ℤ) (h' : ℕ → ℕ) (f' : Family) → Serving k s' v' line' → AllHold (suc e.level) s' block types n' → ((b : Base) → At b (i + size_of (inner_code e head inner.words body)) (Known (bl.ground n') v' h' t nothing b) (f' b)) → aims.done (i + size_of (inner_code e head inner.words body)) f' v' tt s') → Comes code i f v aims (begin_part around head body k s)
+inner_piece : {e : Environment} {block : ℕ} {types : Types} (bl : Block e block types) {links : Links} {code : List Instr} (around : Around) (more : ℕ) (head : Y.BlockHead) (body : Y.Stmts) (inner : Inner bl) → (main : (number : ℕ) → e.owner ≡ BlockOwner (record { number = number; level = 0 }) → (0 == e.level) ≡ true → number ≡ e.block) → e.level < 100 → (next : head.level ≡ suc e.level) → head.kind ≡ Y.BeginBlock → head.line < 2 ^ 31 → variables_of_block e.program head.number ≡ [] → around.enter ≡ M.entered e.program (suc more) → ((t0 : ℕ → ℕ) → Does (inner_block bl inner t0 head.number head.level next) links code (suc more) (stmts_code (begin_environment head e) none_taken body) (M.list (inner_around e.program more head.line) body)) → {i : ℕ} {s : State} {v : Services} {h t : ℕ → ℕ} {aims : Aims (Unit {0})} (closed : Closed code aims) (n : ℕ → ℤ) (f : Family) (k line : ℕ) → k < suc more + v.world.acts → 10 ≤ i → {turns0 i0 acts0 : ℕ} → Enough bl links k turns0 i0 h t acts0 aims.jumped aims.returned → acts0 ≤ v.world.acts → Linked links code i (inner_code e head inner.words body) → Serving k s v line → AllHold bl.frames v.activations (suc e.level) s block types n → ((b : Base) → At b i (Known (bl.ground n) v h t nothing b) (f b)) → ((s' : State) (v' : Services) (line' : ℕ) (n' : ℕ → ℤ) (h' : ℕ → ℕ) (f' : Family) → Serving k s' v' line' → AllHold bl.frames v'.activations (suc e.level) s' block types n' → ((b : Base) → At b (i + size_of (inner_code e head inner.words body)) (Known (bl.ground n') v' h' t nothing b) (f' b)) → aims.done (i + size_of (inner_code e head inner.words body)) f' v' tt s') → Comes code i f v aims (begin_part around head body k s)
 unfolding M.end_reached give ◌>>◌
-inner_piece {e} {block} {types} bl {links} {code} around more head body inner shallow next kind fits none enter does' {i} {s} {v} {h} {t} {aims} closed n f k line enough later l serving all at goal =
+inner_piece {e} {block} {types} bl {links} {code} around more head body inner main shallow next kind fits none enter does' {i} {s} {v} {h} {t} {aims} closed n f k line enough later ready less l serving all at goal =
     let program = e.program in
     let here = inner_around program more head.line in
     let c1 = inner_begun inner.words (suc e.level) in
@@ -146,10 +181,10 @@ inner_piece {e} {block} {types} bl {links} {code} around more head body inner sh
       nested = entered_nested head body s v.activations (entered_activation v inner.at) e.level next all.entered refl serving.nested;
       waiting = refl;
     })
-    (subst (λ m. AllHold (suc m) s2 block types n) (sym next) (entered_all head body s v.activations e.level next serving.nested all))
+    (subst (λ m. AllHold (inner.at ∷ bl.frames) v2.activations (suc m) s2 block types n) (sym next) (entered_all head body s v.activations e.level (entered_activation v inner.at) next serving.nested all))
     at2
     (λ s3 v3 line3 n3' h3 t3 f3 serving3 all3 stays3 at3.
-    let o = left_all s3 v3.activations e.level serving3.nested (subst (λ m. AllHold (suc m) s3 block types n3') next all3) in
+    let o = left_all s3 v3.activations e.level serving3.nested (subst (λ m. AllHold (inner.at ∷ bl.frames) v3.activations (suc m) s3 block types n3') next all3) in
     let v4 = ended_services v3 o.newest o.rest in
     record {
       to =
@@ -177,12 +212,24 @@ inner_piece {e} {block} {types} bl {links} {code} around more head body inner sh
       enough = omega (arith, enough);
       later = omega (arith, later);
       jumps = λ label among once. let no : false ≡ true = among in absurd (cc no);
-      returns = λ outer once. absurd (omega (arith, next, outer));
+      outs = λ inside number owned label among once.
+          let o = inner_outside bl inner t (0 == e.level) refl in
+          subst (λ m. Outlet number m bl.base block types o.its o.waits links k v2.world.acts (ended_jump aims.jumped) label) (sym next)
+          (outlet_by bl inner t (0 == e.level) refl main ready number owned label among once (omega (arith, less)));
+      returns = λ number owned once.
+          let o = ready.returns number owned once in
+          record {
+            at = o.at;
+            place = o.place;
+            near = o.near;
+            later = o.later;
+            leaves = λ s' v' f' a world running allowed fits' alone at'. o.leaves (with_world s'.world (newest_ended s')) v' f' a world running allowed fits' alone at';
+          };
     })))))))
 
-own_begin_does : {e : Environment} {block : ℕ} {types : Types} (bl : Block e block types) (links : Links) (code : List Instr) (around : Around) (more : ℕ) (head : Y.BlockHead) (body : Y.Stmts) (inner : Inner bl) → e.level < 100 → (next : head.level ≡ suc e.level) → head.kind ≡ Y.BeginBlock → head.line < 2 ^ 31 → variables_of_block e.program head.number ≡ [] → Entering e.program around more → ((more' : ℕ) (t0 : ℕ → ℕ) → Does (inner_block bl inner t0 head.number head.level next) links code (suc more') (stmts_code (begin_environment head e) none_taken body) (M.list (inner_around e.program more' head.line) body)) → Does bl links code around.turns (act_code head.line ++ inner_code e head inner.words body) (M.statement around (Y.Begin (Y.BlockOf head body)))
+own_begin_does : {e : Environment} {block : ℕ} {types : Types} (bl : Block e block types) (links : Links) (code : List Instr) (around : Around) (more : ℕ) (head : Y.BlockHead) (body : Y.Stmts) (inner : Inner bl) → (main : (number : ℕ) → e.owner ≡ BlockOwner (record { number = number; level = 0 }) → (0 == e.level) ≡ true → number ≡ e.block) → e.level < 100 → (next : head.level ≡ suc e.level) → head.kind ≡ Y.BeginBlock → head.line < 2 ^ 31 → variables_of_block e.program head.number ≡ [] → Entering e.program around more → ((more' : ℕ) (t0 : ℕ → ℕ) → Does (inner_block bl inner t0 head.number head.level next) links code (suc more') (stmts_code (begin_environment head e) none_taken body) (M.list (inner_around e.program more' head.line) body)) → Does bl links code around.turns (act_code head.line ++ inner_code e head inner.words body) (M.statement around (Y.Begin (Y.BlockOf head body)))
 unfolding M.statement ◌>>◌
-own_begin_does {e} {block} {types} bl links code around zero head body inner shallow next kind fits none entering does' =
+own_begin_does {e} {block} {types} bl links code around zero head body inner main shallow next kind fits none entering does' =
     record {
       does = λ {i} {s} {v} {h} {t} {aims} closed old n f k l serving all at goal more'.
           let next' : Unit {0} → Meaning (Unit {0}) = λ u. begin_part around head body in
@@ -191,7 +238,7 @@ own_begin_does {e} {block} {types} bl links code around zero head body inner sha
           (λ f1 serving1 at1.
           absurd (let e1 = more'.enough in let e2 = entering.turns in let e3 = serving1.allowed in omega (arith, e1, e2, e3))));
     }
-own_begin_does {e} {block} {types} bl links code around (suc more) head body inner shallow next kind fits none entering does' =
+own_begin_does {e} {block} {types} bl links code around (suc more) head body inner main shallow next kind fits none entering does' =
     record {
       does = λ {i} {s} {v} {h} {t} {aims} closed old n f k l serving all at goal more'.
           let a = act_code head.line in
@@ -205,7 +252,7 @@ own_begin_does {e} {block} {types} bl links code around (suc more) head body inn
           comes_on k (act counted k s) next'
           (act_piece (before_closed k next' closed) f head.line old k fits (front_of a c l) serving at
           (λ f1 serving1 at1.
-          inner_piece bl around more head body inner shallow next kind fits none entering.enter (does' more) closed n f1 k head.line (omega (arith, e1, e2)) (omega (arith, later)) (back_of a c l) serving1
+          inner_piece bl around more head body inner main shallow next kind fits none entering.enter (does' more) closed n f1 k head.line (omega (arith, e1, e2)) (omega (arith, later)) more' (omega arith) (back_of a c l) serving1
           (counted_all (counted s.world) all)
           at1
           (λ s4 v4 line4 n4 h4 f4 serving4 all4 at4.
@@ -216,7 +263,7 @@ own_begin_does {e} {block} {types} bl links code around (suc more) head body inn
           (λ b. record { pc = (at4 b).pc ∙ ap (address b) place; holds = (at4 b).holds })))));
     }
 
-pub begin_does : {e : Environment} {block : ℕ} {types : Types} (bl : Block e block types) (links : Links) (code : List Instr) (around : Around) (more : ℕ) (head : Y.BlockHead) (body : Y.Stmts) (inner : Inner bl) → inner.words ≡ max 0 (stmts_words body) → e.level < 100 → (next : head.level ≡ suc e.level) → head.kind ≡ Y.BeginBlock → head.line < 2 ^ 31 → variables_of_block e.program head.number ≡ [] → Entering e.program around more → ((more' : ℕ) (t0 : ℕ → ℕ) → Does (inner_block bl inner t0 head.number head.level next) links code (suc more') (stmts_code (begin_environment head e) none_taken body) (M.list (inner_around e.program more' head.line) body)) → Does bl links code around.turns (stmt_code e bl.taken (Y.Begin (Y.BlockOf head body))) (M.statement around (Y.Begin (Y.BlockOf head body)))
-begin_does {e} bl links code around more head body inner same shallow next kind fits none entering does' =
+pub begin_does : {e : Environment} {block : ℕ} {types : Types} (bl : Block e block types) (links : Links) (code : List Instr) (around : Around) (more : ℕ) (head : Y.BlockHead) (body : Y.Stmts) (inner : Inner bl) → (main : (number : ℕ) → e.owner ≡ BlockOwner (record { number = number; level = 0 }) → (0 == e.level) ≡ true → number ≡ e.block) → inner.words ≡ max 0 (stmts_words body) → e.level < 100 → (next : head.level ≡ suc e.level) → head.kind ≡ Y.BeginBlock → head.line < 2 ^ 31 → variables_of_block e.program head.number ≡ [] → Entering e.program around more → ((more' : ℕ) (t0 : ℕ → ℕ) → Does (inner_block bl inner t0 head.number head.level next) links code (suc more') (stmts_code (begin_environment head e) none_taken body) (M.list (inner_around e.program more' head.line) body)) → Does bl links code around.turns (stmt_code e bl.taken (Y.Begin (Y.BlockOf head body))) (M.statement around (Y.Begin (Y.BlockOf head body)))
+begin_does {e} bl links code around more head body inner main same shallow next kind fits none entering does' =
     subst (λ c. Does bl links code around.turns (act_code head.line ++ c) (M.statement around (Y.Begin (Y.BlockOf head body)))) (ap (λ w. inner_code e head w body) same ∙ sym (inner_code_is e head body next none))
-    (own_begin_does bl links code around more head body inner shallow next kind fits none entering does')
+    (own_begin_does bl links code around more head body inner main shallow next kind fits none entering does')

@@ -3,6 +3,7 @@
 use Rattle.std.proofs.Common.{◌≡◌, ℕ, zero, suc, ◌+◌, ◌*◌, ◌<◌, ◌≤◌, List, [], ◌∷◌, ◌++◌, ◌⊎◌, inl, inr, Option, None, Some, Bool, true, false, refl, sym, ap, ◌∙◌, subst, arith}
 use Rattle.std.specs.Prelude.{ℤ, cond, ◌||◌, ◌&&◌, ◌==◌}
 use Rattle.std.proofs.lemmas.Bool.{eq-eqb, and_from, or_cases}
+use Rattle.std.proofs.lemmas.Bool.Decides.{nat_tests}
 use Rattle.std.proofs.lemmas.List.Folds.{list_any-append}
 use Rattle.rv_meaning.specs.declared.instr.Instr.{Instr}
 use Rattle.pli_language.specs.Keywords.{same_bytes}
@@ -49,7 +50,19 @@ within labels bl =
       reads = bl.reads;
       writes = bl.writes;
       held = bl.held;
+      frames = bl.frames;
+      bottom = bl.bottom;
+      size = bl.size;
+      ends = bl.ends;
+      sized = bl.sized;
+      outer = bl.outer;
+      alone = bl.alone;
+      outside = bl.outside;
       stack = bl.stack;
+      levels = bl.levels;
+      level_room = bl.level_room;
+      outermost_level = bl.outermost_level;
+      displays = bl.displays;
     }
 
 -- ---- where a label stands
@@ -168,7 +181,7 @@ landing_by {e} bl {code = code} {k = k} {aims = aims} labels next label false am
     }
 
 -- a list from its start, or from a label on
-catch_piece : {e : Environment} {block : ℕ} {types : Types} (bl : Block e block types) {links : Links} {code : List Instr} (around : Around) (body : Y.Stmts) → EachDoes (within (M.labels_in body) bl) links code around body → (start : ℕ) → 2 ≤ start → Linked links code start (stmts_code e bl.taken body) → (turns : ℕ) {i : ℕ} {s : State} {v : Services} {h t : ℕ → ℕ} {aims : Aims (Unit {0})} (from : Option Label) (rest : Y.Stmts) (closed : Closed code aims) (line : ℕ) (n : ℕ → ℤ) (f : Family) (k : ℕ) → k < turns + v.world.acts → ((k' : ℕ) (s' : State) → M.statements around body from k' s' ≡ M.statements around rest None k' s') → EachDoes (within (M.labels_in body) bl) links code around rest → Linked links code i (stmts_code e bl.taken rest) → i + size_of (stmts_code e bl.taken rest) ≡ start + size_of (stmts_code e bl.taken body) → Serving k s v line → AllHold (suc e.level) s block types n → ((b : Base) → At b i (Known (bl.ground n) v h t nothing b) (f b)) → Behind bl k h t (start + size_of (stmts_code e bl.taken body)) aims → Enough bl links k around.turns i h t v.world.acts aims.jumped aims.returned → Comes code i f v aims (list_from turns (suc e.level) (M.labels_in body) (M.statements around body) from k s)
+catch_piece : {e : Environment} {block : ℕ} {types : Types} (bl : Block e block types) {links : Links} {code : List Instr} (around : Around) (body : Y.Stmts) → EachDoes (within (M.labels_in body) bl) links code around body → (start : ℕ) → 10 ≤ start → Linked links code start (stmts_code e bl.taken body) → (turns : ℕ) {i : ℕ} {s : State} {v : Services} {h t : ℕ → ℕ} {aims : Aims (Unit {0})} (from : Option Label) (rest : Y.Stmts) (closed : Closed code aims) (line : ℕ) (n : ℕ → ℤ) (f : Family) (k : ℕ) → k < turns + v.world.acts → ((k' : ℕ) (s' : State) → M.statements around body from k' s' ≡ M.statements around rest None k' s') → EachDoes (within (M.labels_in body) bl) links code around rest → Linked links code i (stmts_code e bl.taken rest) → i + size_of (stmts_code e bl.taken rest) ≡ start + size_of (stmts_code e bl.taken body) → Serving k s v line → AllHold bl.frames v.activations (suc e.level) s block types n → ((b : Base) → At b i (Known (bl.ground n) v h t nothing b) (f b)) → Behind bl k h t (start + size_of (stmts_code e bl.taken body)) aims → Enough bl links k around.turns i h t v.world.acts aims.jumped aims.returned → Comes code i f v aims (list_from turns (suc e.level) (M.labels_in body) (M.statements around body) from k s)
 unfolding list_from
 catch_piece bl around body every start behind whole zero from rest closed line n f k enough means each l ends serving all at goal more =
     absurd (let a = serving.allowed in omega (arith, a, enough))
@@ -212,12 +225,33 @@ catch_piece {e} {block} {types} bl {links} {code} around body every start behind
                         later = p.later;
                         lands = λ s3 v3 line3 n3 h3 t3 f3 serving3 all3 stays3 acted3 at3. p.lands s3 v3 line3 n3 h3 t3 f3 serving3 all3 (stays_then stays2 stays3) (omega (arith, grown, acted3)) at3;
                       };
+                  outs = λ inside number owned label3 among3 once3.
+                      let p = more.outs inside number owned label3 among3 once3 in
+                      record {
+                        at = p.at;
+                        place = p.place;
+                        near = p.near;
+                        later = p.later;
+                        lands = λ s3 v3 line3 n3 h3 f3 serving3 all3 acted3 at3. p.lands s3 v3 line3 n3 h3 f3 serving3 all3 (omega (arith, grown, acted3)) at3;
+                      };
                   returns = more.returns;
                 });
           })
           (λ none.
           let o = more.jumps label (sym (ap (λ q. q || is_among label bl.labels) none) ∙ sym (list_any-append (same_bytes label) labels bl.labels) ∙ among) once in
           record { at = o.at; place = o.place; near = o.near; later = o.later; lands = o.lands });
+      outs = λ inside number owned label among once.
+          let o = more.outs inside number owned label among once in
+          let other : (1 == suc e.level) ≡ false = grind (arith, nat_tests) in
+          let past : ((1 == suc e.level) && is_among label labels) ≡ false = ap (λ q. q && is_among label labels) other in
+          record {
+            at = o.at;
+            place = o.place;
+            near = o.near;
+            later = o.later;
+            lands = λ s2 v2 line2 n2 h2 f2 serving2 all2 acted2 at2.
+                subst (λ q. Comes code o.at f2 v2 aims (cond q (next' label k s2) (Jump 1 label s2))) (sym past) (record { to = o.lands s2 v2 line2 n2 h2 f2 serving2 all2 acted2 at2 });
+          };
       returns = more.returns;
     })))
 

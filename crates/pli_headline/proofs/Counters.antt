@@ -95,7 +95,7 @@ line_piece {code = code} {i = i} {v = v} {h = h} {t = t} {aims = aims} bl n clos
 -- ---- the number
 
 -- a number in a0 is assigned to a variable of the block
-pub counter_piece : {links : Links} {code : List Instr} {i : ℕ} {v : Services} {h t : ℕ → ℕ} {s : State} {aims : Aims (Unit {0})} {e : Environment} {block : ℕ} {types : Types} (bl : Block e block types) (n : ℕ → ℤ) (closed : Closed code aims) (credits : ℕ) (f : Family) (around : Around) (taken : Taken) (j p : ℕ) (z : ℤ) (k : ℕ) (below : slice_get types j ≡ Some (Y.FixedLeaf p)) → Fits (Y.FixedLeaf p) z → (is_register_left taken ≡ false → taken.words < bl.words) → (all : AllHold (suc e.level) s block types n) → Linked links code i (word_stored e taken (whole (own block j))) → ((b : Base) → At b i (Known (bl.ground n) v h t (valued (word z)) b) (f b)) → ((f' : Family) (h' t' : ℕ → ℕ) → Stays taken h t h' t' → ((b : Base) → At b (i + size_of (word_stored e taken (whole (own block j)))) (Known (bl.ground (with_number_at n j z)) v h' t' nothing b) (f' b)) → aims.done (credits + size_of (word_stored e taken (whole (own block j)))) f' v tt (assigned_state s (Y.FixedLeaf p) (suc j) (all.numbers j (Y.FixedLeaf p, below)).values z)) → Comes code credits f v aims (M.assigned around (whole (own block j)) (BasicNumber z) k s)
+pub counter_piece : {links : Links} {code : List Instr} {i : ℕ} {v : Services} {h t : ℕ → ℕ} {s : State} {aims : Aims (Unit {0})} {e : Environment} {block : ℕ} {types : Types} (bl : Block e block types) (n : ℕ → ℤ) (closed : Closed code aims) (credits : ℕ) (f : Family) (around : Around) (taken : Taken) (j p : ℕ) (z : ℤ) (k : ℕ) (below : slice_get types j ≡ Some (Y.FixedLeaf p)) → Fits (Y.FixedLeaf p) z → (is_register_left taken ≡ false → taken.words < bl.words) → (all : AllHold bl.frames v.activations (suc e.level) s block types n) → Linked links code i (word_stored e taken (whole (own block j))) → ((b : Base) → At b i (Known (bl.ground n) v h t (valued (word z)) b) (f b)) → ((f' : Family) (h' t' : ℕ → ℕ) → Stays taken h t h' t' → ((b : Base) → At b (i + size_of (word_stored e taken (whole (own block j)))) (Known (bl.ground (with_number_at n j z)) v h' t' nothing b) (f' b)) → aims.done (credits + size_of (word_stored e taken (whole (own block j)))) f' v tt (assigned_state s (Y.FixedLeaf p) (suc j) (all.numbers j (Y.FixedLeaf p, below)).values z)) → Comes code credits f v aims (M.assigned around (whole (own block j)) (BasicNumber z) k s)
 counter_piece {e = e} {block = block} {types = types} bl n closed credits f around taken j p z k below fits room all l at goal =
     let w = bl.words_are n in
     stored_piece (bl.ground (with_number_at n j z)) closed (bl.temps n) credits e block types n f around taken j z k below fits

@@ -72,7 +72,19 @@ turning bl =
       reads = bl.reads;
       writes = bl.writes;
       held = bl.held;
+      frames = bl.frames;
+      bottom = bl.bottom;
+      size = bl.size;
+      ends = bl.ends;
+      sized = bl.sized;
+      outer = bl.outer;
+      alone = bl.alone;
+      outside = bl.outside;
       stack = bl.stack;
+      levels = bl.levels;
+      level_room = bl.level_room;
+      outermost_level = bl.outermost_level;
+      displays = bl.displays;
     }
 
 pub standing_turning : {e : Environment} {block : ℕ} {types : Types} {bl : Block e block types} {links : Links} {code : List Instr} → Standing bl links code → Standing (turning bl) links code
@@ -93,6 +105,7 @@ turning_enough bl more =
             later = o.later;
             lands = λ s v line n h' t' f serving all stays acted' at'. o.lands s v line n h' t' f serving all (stays_fewer 2 stays) acted' at';
           };
+      outs = more.outs;
       returns = more.returns;
     }
 
@@ -102,7 +115,7 @@ turning_enough bl more =
 abbrev lefted : ℕ → Base → List (ℕ × ℕ)
 lefted x b = (6, x) ∷ []
 
-pub stepping_piece : {links : Links} {code : List Instr} {i : ℕ} {v : Services} {h t : ℕ → ℕ} {s : State} {aims : Aims (Unit {0})} {e : Environment} {block : ℕ} {types : Types} (bl : Block e block types) (routines : Standing bl links code) (around : Around) (line : ℕ) (j p : ℕ) (step : ℤ) (closed : Closed code aims) (n : ℕ → ℤ) (f : Family) (old k : ℕ) → line < 2 ^ 31 → p ≤ 31 → slice_get types j ≡ Some (Y.FixedLeaf p) → IsWide step → t (bl.taken.words + 1) ≡ word step → bl.taken.words + 3 ≤ bl.words → Linked links code i (stepped_code e bl.taken (counting block j p) line) → Serving k s v old → AllHold (suc e.level) s block types n → ((b : Base) → At b i (Known (bl.ground n) v h t nothing b) (f b)) → ((z : ℤ) (f' : Family) (h' t' : ℕ → ℕ) → Fits (Y.FixedLeaf p) z → Stays (in_turns bl.taken) h t h' t' → Serving k s (on_line line v) line → ((b : Base) → At b (i + size_of (stepped_code e bl.taken (counting block j p) line)) (Known (bl.ground n) (on_line line v) h' t' (valued (word z)) b) (f' b)) → Comes code (i + size_of (stepped_code e bl.taken (counting block j p) line)) f' (on_line line v) aims (M.assigned (at_line around line) (whole (own block j)) (BasicNumber z) k s)) → Comes code i f v aims (M.stepped (at_line around line) (counting block j p) step k s)
+pub stepping_piece : {links : Links} {code : List Instr} {i : ℕ} {v : Services} {h t : ℕ → ℕ} {s : State} {aims : Aims (Unit {0})} {e : Environment} {block : ℕ} {types : Types} (bl : Block e block types) (routines : Standing bl links code) (around : Around) (line : ℕ) (j p : ℕ) (step : ℤ) (closed : Closed code aims) (n : ℕ → ℤ) (f : Family) (old k : ℕ) → line < 2 ^ 31 → p ≤ 31 → slice_get types j ≡ Some (Y.FixedLeaf p) → IsWide step → t (bl.taken.words + 1) ≡ word step → bl.taken.words + 3 ≤ bl.words → Linked links code i (stepped_code e bl.taken (counting block j p) line) → Serving k s v old → AllHold bl.frames v.activations (suc e.level) s block types n → ((b : Base) → At b i (Known (bl.ground n) v h t nothing b) (f b)) → ((z : ℤ) (f' : Family) (h' t' : ℕ → ℕ) → Fits (Y.FixedLeaf p) z → Stays (in_turns bl.taken) h t h' t' → Serving k s (on_line line v) line → ((b : Base) → At b (i + size_of (stepped_code e bl.taken (counting block j p) line)) (Known (bl.ground n) (on_line line v) h' t' (valued (word z)) b) (f' b)) → Comes code (i + size_of (stepped_code e bl.taken (counting block j p) line)) f' (on_line line v) aims (M.assigned (at_line around line) (whole (own block j)) (BasicNumber z) k s)) → Comes code i f v aims (M.stepped (at_line around line) (counting block j p) step k s)
 unfolding M.stepped M.counter_number M.counter_value V.number ◌>>=◌ give
 stepping_piece {links = links} {code = code} {i = i} {v = v} {h = h} {t = t} {s = s} {aims = aims} {e = e} {block = block} {types = types} bl routines around line j p step closed n f old k fits few below ws at_step room l serving all at goal =
     let here = at_line around line in
@@ -180,7 +193,7 @@ limit_stays (Some x) None t t' j e waits = absurd waits
 limit_stays (Some x) (Some m) t t' j e waits = (waits.0, e ∙ waits.1)
 
 -- from the act of a turn on, with credits enough for it
-head_piece : {e : Environment} {block : ℕ} {types : Types} (bl : Block e block types) {links : Links} {code : List Instr} (routines : Standing bl links code) (around : Around) (j p : ℕ) (limit : Option Y.Number) (most : Option ℤ) (step : ℤ) (condition : Option Y.Bit) (line : ℕ) (c : Code) (part : Meaning (Unit {0})) → slice_get types j ≡ Some (Y.FixedLeaf p) → IsWide step → IsProvedBitIf block types condition → bl.taken.words + 3 ≤ bl.words → bl.taken.words + 2 + bit_if condition ≤ bl.words → line < 2 ^ 31 → Does (turning bl) links code around.turns c part → (turns : ℕ) {i : ℕ} {s : State} {v : Services} {h t : ℕ → ℕ} {aims : Aims (Unit {0})} (closed : Closed code aims) (credits old : ℕ) (n : ℕ → ℤ) (f : Family) (k : ℕ) → k < turns + v.world.acts → credits + size_of (act_code line) ≤ cost code → Linked links code i (turns_of bl j p limit condition line c) → LimitWaits limit most t bl.taken.words → t (bl.taken.words + 1) ≡ word step → Serving k s v old → AllHold (suc e.level) s block types n → ((b : Base) → At b (i + size_of (word_stored e (in_turns bl.taken) (whole (own block j)))) (Known (bl.ground n) v h t nothing b) (f b)) → Behind bl k h t (i + size_of (turns_of bl j p limit condition line c)) aims → Enough bl links k around.turns i h t v.world.acts aims.jumped aims.returned → Comes code credits f v aims (repeated_while turns (M.turn_due (at_line around line) (counting block j p) most step condition) (part >> (M.stepped (at_line around line) (counting block j p) step)) k s)
+head_piece : {e : Environment} {block : ℕ} {types : Types} (bl : Block e block types) {links : Links} {code : List Instr} (routines : Standing bl links code) (around : Around) (j p : ℕ) (limit : Option Y.Number) (most : Option ℤ) (step : ℤ) (condition : Option Y.Bit) (line : ℕ) (c : Code) (part : Meaning (Unit {0})) → slice_get types j ≡ Some (Y.FixedLeaf p) → IsWide step → IsProvedBitIf block types condition → bl.taken.words + 3 ≤ bl.words → bl.taken.words + 2 + bit_if condition ≤ bl.words → line < 2 ^ 31 → Does (turning bl) links code around.turns c part → (turns : ℕ) {i : ℕ} {s : State} {v : Services} {h t : ℕ → ℕ} {aims : Aims (Unit {0})} (closed : Closed code aims) (credits old : ℕ) (n : ℕ → ℤ) (f : Family) (k : ℕ) → k < turns + v.world.acts → credits + size_of (act_code line) ≤ cost code → Linked links code i (turns_of bl j p limit condition line c) → LimitWaits limit most t bl.taken.words → t (bl.taken.words + 1) ≡ word step → Serving k s v old → AllHold bl.frames v.activations (suc e.level) s block types n → ((b : Base) → At b (i + size_of (word_stored e (in_turns bl.taken) (whole (own block j)))) (Known (bl.ground n) v h t nothing b) (f b)) → Behind bl k h t (i + size_of (turns_of bl j p limit condition line c)) aims → Enough bl links k around.turns i h t v.world.acts aims.jumped aims.returned → Comes code credits f v aims (repeated_while turns (M.turn_due (at_line around line) (counting block j p) most step condition) (part >> (M.stepped (at_line around line) (counting block j p) step)) k s)
 unfolding repeated_while M.turn_due ◌>>=◌ ◌>>◌ give stuck choose
 head_piece bl routines around j p limit most step condition line c part below ws is room room' fits inner zero closed credits old n f k enough paid l waits at_step serving all at goal more =
     absurd (let a = serving.allowed in omega (arith, a, enough))
@@ -234,7 +247,7 @@ head_piece {e} {block} {types} bl {links} {code} routines around j p limit most 
     (λ f1 serving1 at1.
     let s' = with_world (counted s.world) s in
     let v' = acted line v in
-    let all1 : AllHold (suc e.level) s' block types n = counted_all _ all in
+    let all1 : AllHold bl.frames v.activations (suc e.level) s' block types n = counted_all _ all in
     comes_on k (M.within_limit here (counting block j p) most step k s') conditions
     (within_piece bl routines here j p limit most step (words_behind_limit u) (before_closed k conditions (before_closed k branch closed)) n f1 k below waits ws at_step (omega (arith, room)) (omega (arith, inside, over1)) (front_of lim (con ++ (c ++ (sp ++ jump))) l1) serving1 all1 at1 (
       (λ f2 h2 t2 stays2 at2.
@@ -286,7 +299,7 @@ other_place : (i k : ℕ) → k < i → (i == k) ≡ false
 other_place i k h = grind (arith, nat_tests)
 
 -- a number is evaluated while three words may wait, and kept in one of them
-number_kept : {links : Links} {code : List Instr} {i : ℕ} {v : Services} {h t : ℕ → ℕ} {s : State} {aims : Aims ℤ} {e : Environment} {block : ℕ} {types : Types} (bl : Block e block types) (routines : Standing bl links code) (around : Around) (x : Y.Number) (n : ℕ → ℤ) (j : ℕ) (closed : Closed code aims) (f : Family) (k : ℕ) → IsProvedNumber block types x → bl.taken.words + 3 + number_words x ≤ bl.words → j < bl.words → Linked links code i (number_code e (before_turns bl.taken) x ++ store_word frame_register a0 (words_place j 1)) → Serving k s v around.line → AllHold (suc e.level) s block types n → ((b : Base) → At b i (Known (bl.ground n) v h t nothing b) (f b)) → ((z : ℤ) (f' : Family) (h' t' : ℕ → ℕ) → IsWide z → Stays (before_turns bl.taken) h t h' t' → ((b : Base) → At b (i + size_of (number_code e (before_turns bl.taken) x ++ store_word frame_register a0 (words_place j 1))) (Known (bl.ground n) v h' (put t' j (word z)) nothing b) (f' b)) → aims.done (i + size_of (number_code e (before_turns bl.taken) x ++ store_word frame_register a0 (words_place j 1))) f' v z s) → Comes code i f v aims (V.number around x k s)
+number_kept : {links : Links} {code : List Instr} {i : ℕ} {v : Services} {h t : ℕ → ℕ} {s : State} {aims : Aims ℤ} {e : Environment} {block : ℕ} {types : Types} (bl : Block e block types) (routines : Standing bl links code) (around : Around) (x : Y.Number) (n : ℕ → ℤ) (j : ℕ) (closed : Closed code aims) (f : Family) (k : ℕ) → IsProvedNumber block types x → bl.taken.words + 3 + number_words x ≤ bl.words → j < bl.words → Linked links code i (number_code e (before_turns bl.taken) x ++ store_word frame_register a0 (words_place j 1)) → Serving k s v around.line → AllHold bl.frames v.activations (suc e.level) s block types n → ((b : Base) → At b i (Known (bl.ground n) v h t nothing b) (f b)) → ((z : ℤ) (f' : Family) (h' t' : ℕ → ℕ) → IsWide z → Stays (before_turns bl.taken) h t h' t' → ((b : Base) → At b (i + size_of (number_code e (before_turns bl.taken) x ++ store_word frame_register a0 (words_place j 1))) (Known (bl.ground n) v h' (put t' j (word z)) nothing b) (f' b)) → aims.done (i + size_of (number_code e (before_turns bl.taken) x ++ store_word frame_register a0 (words_place j 1))) f' v z s) → Comes code i f v aims (V.number around x k s)
 number_kept {i = i} {v = v} {s = s} {aims = aims} {e = e} bl routines around x n j closed f k is room inside l serving all at goal =
     let a = number_code e (before_turns bl.taken) x in
     let c = store_word frame_register a0 (words_place j 1) in
@@ -300,7 +313,7 @@ number_kept {i = i} {v = v} {s = s} {aims = aims} {e = e} bl routines around x n
     (subst (λ u. aims.done u (reached r) v z s) (sym place)
     (goal z (reached r) h1 t1 wz stays (λ b. record { pc = (reached_holds r b).pc ∙ ap (address b) place; holds = (reached_holds r b).holds }))))
 
-limit_kept_piece : {links : Links} {code : List Instr} {i : ℕ} {v : Services} {h t : ℕ → ℕ} {s : State} {aims : Aims (Option ℤ)} {e : Environment} {block : ℕ} {types : Types} (bl : Block e block types) (routines : Standing bl links code) (around : Around) (limit : Option Y.Number) (n : ℕ → ℤ) (closed : Closed code aims) (f : Family) (k : ℕ) → IsProvedNumberIf block types limit → bl.taken.words + 3 + number_if limit ≤ bl.words → Linked links code i (limit_code e bl.taken limit) → Serving k s v around.line → AllHold (suc e.level) s block types n → ((b : Base) → At b i (Known (bl.ground n) v h t nothing b) (f b)) → ((most : Option ℤ) (f' : Family) (h' t' : ℕ → ℕ) → LimitWaits limit most t' bl.taken.words → Stays bl.taken h t h' t' → t' (bl.taken.words + 2) ≡ t (bl.taken.words + 2) → ((b : Base) → At b (i + size_of (limit_code e bl.taken limit)) (Known (bl.ground n) v h' t' nothing b) (f' b)) → aims.done (i + size_of (limit_code e bl.taken limit)) f' v most s) → Comes code i f v aims (M.limit_of around limit k s)
+limit_kept_piece : {links : Links} {code : List Instr} {i : ℕ} {v : Services} {h t : ℕ → ℕ} {s : State} {aims : Aims (Option ℤ)} {e : Environment} {block : ℕ} {types : Types} (bl : Block e block types) (routines : Standing bl links code) (around : Around) (limit : Option Y.Number) (n : ℕ → ℤ) (closed : Closed code aims) (f : Family) (k : ℕ) → IsProvedNumberIf block types limit → bl.taken.words + 3 + number_if limit ≤ bl.words → Linked links code i (limit_code e bl.taken limit) → Serving k s v around.line → AllHold bl.frames v.activations (suc e.level) s block types n → ((b : Base) → At b i (Known (bl.ground n) v h t nothing b) (f b)) → ((most : Option ℤ) (f' : Family) (h' t' : ℕ → ℕ) → LimitWaits limit most t' bl.taken.words → Stays bl.taken h t h' t' → t' (bl.taken.words + 2) ≡ t (bl.taken.words + 2) → ((b : Base) → At b (i + size_of (limit_code e bl.taken limit)) (Known (bl.ground n) v h' t' nothing b) (f' b)) → aims.done (i + size_of (limit_code e bl.taken limit)) f' v most s) → Comes code i f v aims (M.limit_of around limit k s)
 unfolding M.limit_of ◌>>=◌ give
 limit_kept_piece {i = i} {v = v} {h = h} {t = t} {s = s} {aims = aims} bl routines around None n closed f k is room l serving all at goal =
     let same : i ≡ i + 0 = omega arith in
@@ -378,7 +391,7 @@ count_does {e} {block} {types} bl links code routines around j precision p x lim
           (λ f1 serving1 at1.
           let s' = with_world (counted s.world) s in
           let v' = acted line v in
-          let all1 : AllHold (suc e.level) s' block types n = counted_all _ all in
+          let all1 : AllHold bl.frames v.activations (suc e.level) s' block types n = counted_all _ all in
           comes_on k (V.computational here (Y.NumberValue p x) k s') behind'
           (comes_on k (V.number here x k s') as_value
           (number_kept bl routines here x n (w + 2) (before_closed k as_value (before_closed k behind' closed)) f1 k isx roomx (omega (arith, roomx)) (front_of c0 (c1 ++ (c2 ++ (c3 ++ c4))) lc) serving1 all1 at1

@@ -32,7 +32,7 @@ use Rattle.pli_headline.proofs.Reach.{Family, Aims, Comes, Closed, onward, reach
 -- behind a value, with what is left of the format list
 abbrev pub ValueBehind : {e : Environment} {block : ℕ} {types : Types} → Block e block types → (k line : ℕ) → (h t : ℕ → ℕ) → (i : ℕ) → (ℕ → ℤ) → (whole left : List FormatItem) → (below : List EditPlace) → Aims (List FormatItem) → Type 0
 ValueBehind {e = e} {block = block} {types = types} bl k line h t i n whole left below aims =
-    (s : State) (v : Services) (f : Family) → Serving k s v line → AllHold (suc e.level) s block types n → v.edits ≡ putting whole left ∷ below → ((b : Base) → At b i (Known (bl.ground n) v h t nothing b) (f b)) → aims.done i f v left s
+    (s : State) (v : Services) (f : Family) → Serving k s v line → AllHold bl.frames v.activations (suc e.level) s block types n → v.edits ≡ putting whole left ∷ below → ((b : Base) → At b i (Known (bl.ground n) v h t nothing b) (f b)) → aims.done i f v left s
 
 -- by a test where the list has both
 abbrev pub choice_code : (fixed text : Code) → Code

@@ -79,16 +79,16 @@ statements_wider block count types (Y.EndOfList labels) all h = tt
 statements_wider block count types (Y.StmtThen labels first rest) all h = (statement_wider block count types first all h.0, statements_wider block count types rest all h.1)
 
 -- none of them jumps
-statement_stays : (block count number level : ℕ) (all : List (ℕ × Label)) (around : List Label) (x : Y.Stmt) → IsFirstStatement block count x → JumpsAround number level all around x
-statement_stays block count number level all around (Y.Null line) h = tt
-statement_stays block count number level all around (Y.Assign target (Y.StoredNumber precision x) line) h = tt
-statement_stays block count number level all around (Y.Put None pairs line) h = tt
-statement_stays block count number level all around _ h = absurd h
+statement_stays : (block count number level : ℕ) (all : List (ℕ × Label)) (procedure : ℕ) (outer around : List Label) (x : Y.Stmt) → IsFirstStatement block count x → JumpsAround number level all procedure outer around x
+statement_stays block count number level all procedure outer around (Y.Null line) h = tt
+statement_stays block count number level all procedure outer around (Y.Assign target (Y.StoredNumber precision x) line) h = tt
+statement_stays block count number level all procedure outer around (Y.Put None pairs line) h = tt
+statement_stays block count number level all procedure outer around _ h = absurd h
 
-pub statements_stay : (block count number level : ℕ) (all : List (ℕ × Label)) (around : List Label) (body : Y.Stmts) → AreFirstStatements block count body → AllJumpAround number level all around body
-statements_stay block count number level all around (Y.EndOfList labels) h = tt
-statements_stay block count number level all around (Y.StmtThen labels first rest) h =
-    (statement_stays block count number level all around first h.0, statements_stay block count number level all around rest h.1)
+pub statements_stay : (block count number level : ℕ) (all : List (ℕ × Label)) (procedure : ℕ) (outer around : List Label) (body : Y.Stmts) → AreFirstStatements block count body → AllJumpAround number level all procedure outer around body
+statements_stay block count number level all procedure outer around (Y.EndOfList labels) h = tt
+statements_stay block count number level all procedure outer around (Y.StmtThen labels first rest) h =
+    (statement_stays block count number level all procedure outer around first h.0, statements_stay block count number level all procedure outer around rest h.1)
 
 -- and none is a block
 statement_bare : (block count : ℕ) (program : Y.Program) (x : Y.Stmt) → IsFirstStatement block count x → IsBare program x
@@ -114,7 +114,7 @@ program_wider program is =
         level = is.block.level;
         line = is.block.line;
         statements = statements_wider is.head.number (length (variables_of_block program is.head.number)) (types_of (variables_of_block program is.head.number)) is.body (numbers_typed (variables_of_block program is.head.number) (block_numbers program.variables is.head.number is.plain)) is.block.statements;
-        jumps = statements_stay _ _ _ _ _ _ is.body is.block.statements;
+        jumps = statements_stay _ _ _ _ _ _ _ _ is.body is.block.statements;
         inside = statements_bare _ _ program is.body is.block.statements;
       };
     }

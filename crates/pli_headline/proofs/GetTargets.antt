@@ -18,7 +18,7 @@ use Rattle.pli_meaning.specs.Raising as R
 use Rattle.pli_meaning.specs.Raising.{Around}
 use Rattle.pli_meaning.specs.Streaming as P
 use Rattle.pli_meaning.specs.Streaming.{FormatItem, DataFormat, DataItem, FixedItem, TextItem, Field, TextField, format_items}
-use Rattle.pli_serving.specs.ServiceState.{Services, EditPlace, TextEntry}
+use Rattle.pli_serving.specs.ServiceState.{Services, Activation, EditPlace, TextEntry}
 use Rattle.pli_serving.specs.Outcomes.{pushed, with_entries}
 use Rattle.pli_serving.specs.Edits as E
 use Rattle.pli_serving.specs.TextServices as X
@@ -79,18 +79,18 @@ target_is e around block j type same declared =
 -- with what is left of the format list, and other numbers in the variables
 abbrev pub ItemBehind : {e : Environment} {block : ℕ} {types : Types} → Block e block types → (k line : ℕ) → (h t : ℕ → ℕ) → (i : ℕ) → (fixed text : Bool) → (whole : List FormatItem) → (below : List EditPlace) → Aims (Option (List FormatItem)) → Type 0
 ItemBehind {e = e} {block = block} {types = types} bl k line h0 t0 i fixed text whole below aims =
-    (s : State) (v : Services) (rest : List FormatItem) (n : ℕ → ℤ) (h t : ℕ → ℕ) (f : Family) → Serving k s v line → AllHold (suc e.level) s block types n → Suits fixed text rest → v.edits ≡ getting whole rest ∷ below → Stays bl.taken h0 t0 h t → ((b : Base) → At b i (Known (bl.ground n) v h t nothing b) (f b)) → aims.done i f v (Some rest) s
+    (s : State) (v : Services) (rest : List FormatItem) (n : ℕ → ℤ) (h t : ℕ → ℕ) (f : Family) → Serving k s v line → AllHold bl.frames v.activations (suc e.level) s block types n → Suits fixed text rest → v.edits ≡ getting whole rest ∷ below → Stays bl.taken h0 t0 h t → ((b : Base) → At b i (Known (bl.ground n) v h t nothing b) (f b)) → aims.done i f v (Some rest) s
 
 -- acts that read leave what the variables hold
 read_holds : {s : State} {block j : ℕ} {type : Y.LeafType} {z : ℤ} (change : Input → Input) → Holds s block j type z → Holds (read_state change s) block j type z
 read_holds change h = record { values = h.values; stands = h.stands; lives = h.lives; value = h.value; fits = h.fits }
 
-pub read_all : {height : ℕ} {s : State} {block : ℕ} {types : Types} {n : ℕ → ℤ} (change : Input → Input) → AllHold height s block types n → AllHold height (read_state change s) block types n
+pub read_all : {frames : List ℕ} {xs : List Activation} {height : ℕ} {s : State} {block : ℕ} {types : Types} {n : ℕ → ℤ} (change : Input → Input) → AllHold frames xs height s block types n → AllHold frames xs height (read_state change s) block types n
 read_all change all =
-    record { numbers = λ j b. read_holds change (all.numbers j b); entered = all.entered; owned = all.owned }
+    record { numbers = λ j b. read_holds change (all.numbers j b); entered = all.entered; framed = all.framed; owned = all.owned }
 
-all_kept : (height block : ℕ) (types : Types) (n : ℕ → ℤ) → Kept (λ s. AllHold height s block types n)
-all_kept height block types n = record { keeps = λ change s all. read_all change all }
+all_kept : (frames : List ℕ) (height block : ℕ) (types : Types) (n : ℕ → ℤ) → Kept (λ xs s. AllHold frames xs height s block types n)
+all_kept frames height block types n = record { keeps = λ xs change s all. read_all change all }
 
 stored_serving : {k : ℕ} {s : State} {v : Services} {line : ℕ} (type : Y.LeafType) (serial : ℕ) (values : ℕ → List ℤ → BasicValue) (z : ℤ) → Serving k s v line → Serving k (assigned_state s type serial values z) v line
 stored_serving type serial values z o =
@@ -106,7 +106,7 @@ stored_serving type serial values z o =
     }
 
 -- a value in a0 is stored
-value_stored : {e : Environment} {block : ℕ} {types : Types} (bl : Block e block types) {links : Links} {code : List Instr} {i : ℕ} {v : Services} {h t : ℕ → ℕ} {s : State} {aims : Aims (Option (List FormatItem))} (closed : Closed code aims) (f : Family) (around : Around) (j : ℕ) {type : Y.LeafType} (z : ℤ) (n : ℕ → ℤ) (fixed text : Bool) (all left : List FormatItem) (below : List EditPlace) (k : ℕ) (at_place : slice_get types j ≡ Some type) → Fits type z → bl.taken.words + 1 ≤ bl.words → Suits fixed text left → v.edits ≡ getting all left ∷ below → Linked links code i (word_stored e bl.taken (whole (own block j))) → Serving k s v around.line → AllHold (suc e.level) s block types n → ((b : Base) → At b i (Known (bl.ground n) v h t (valued (word z)) b) (f b)) → ItemBehind bl k around.line h t (i + size_of (word_stored e bl.taken (whole (own block j)))) fixed text all below aims → Comes code i f v (before code aims k (rest_given left)) (stored_value around (whole (own block j)) (value_as type z) k s)
+value_stored : {e : Environment} {block : ℕ} {types : Types} (bl : Block e block types) {links : Links} {code : List Instr} {i : ℕ} {v : Services} {h t : ℕ → ℕ} {s : State} {aims : Aims (Option (List FormatItem))} (closed : Closed code aims) (f : Family) (around : Around) (j : ℕ) {type : Y.LeafType} (z : ℤ) (n : ℕ → ℤ) (fixed text : Bool) (all left : List FormatItem) (below : List EditPlace) (k : ℕ) (at_place : slice_get types j ≡ Some type) → Fits type z → bl.taken.words + 1 ≤ bl.words → Suits fixed text left → v.edits ≡ getting all left ∷ below → Linked links code i (word_stored e bl.taken (whole (own block j))) → Serving k s v around.line → AllHold bl.frames v.activations (suc e.level) s block types n → ((b : Base) → At b i (Known (bl.ground n) v h t (valued (word z)) b) (f b)) → ItemBehind bl k around.line h t (i + size_of (word_stored e bl.taken (whole (own block j)))) fixed text all below aims → Comes code i f v (before code aims k (rest_given left)) (stored_value around (whole (own block j)) (value_as type z) k s)
 unfolding give
 value_stored {e} {block} {types} bl {i = i} {v = v} {s = s} closed f around j {type} z n fixed text all left below k at_place fits room suits edits l serving hold at goal =
     let w = bl.words_are n in
@@ -122,7 +122,7 @@ value_stored {e} {block} {types} bl {i = i} {v = v} {s = s} closed f around j {t
 -- ---- numbers
 
 -- a number in a0 is stored where it fits
-number_stored : {e : Environment} {block : ℕ} {types : Types} (bl : Block e block types) {links : Links} {code : List Instr} {i : ℕ} {v : Services} {h t : ℕ → ℕ} {s : State} {aims : Aims (Option (List FormatItem))} (closed : Closed code aims) (routines : Routines links code) (f : Family) (around : Around) (j p : ℕ) (z : ℤ) (n : ℕ → ℤ) (fixed text : Bool) (all left : List FormatItem) (below : List EditPlace) (k : ℕ) → slice_get types j ≡ Some (Y.FixedLeaf p) → N.IsWide z → bl.taken.words + 1 ≤ bl.words → Suits fixed text left → v.edits ≡ getting all left ∷ below → Linked links code i (fitted_code bl.taken p ++ word_stored e bl.taken (whole (own block j))) → Serving k s v around.line → AllHold (suc e.level) s block types n → ((b : Base) → At b i (Known (bl.ground n) v h t (valued (word z)) b) (f b)) → ItemBehind bl k around.line h t (i + size_of (fitted_code bl.taken p ++ word_stored e bl.taken (whole (own block j)))) fixed text all below aims → Comes code i f v (converting code aims k around (whole (own block j)) left) (P.number_kept around p z k s)
+number_stored : {e : Environment} {block : ℕ} {types : Types} (bl : Block e block types) {links : Links} {code : List Instr} {i : ℕ} {v : Services} {h t : ℕ → ℕ} {s : State} {aims : Aims (Option (List FormatItem))} (closed : Closed code aims) (routines : Routines links code) (f : Family) (around : Around) (j p : ℕ) (z : ℤ) (n : ℕ → ℤ) (fixed text : Bool) (all left : List FormatItem) (below : List EditPlace) (k : ℕ) → slice_get types j ≡ Some (Y.FixedLeaf p) → N.IsWide z → bl.taken.words + 1 ≤ bl.words → Suits fixed text left → v.edits ≡ getting all left ∷ below → Linked links code i (fitted_code bl.taken p ++ word_stored e bl.taken (whole (own block j))) → Serving k s v around.line → AllHold bl.frames v.activations (suc e.level) s block types n → ((b : Base) → At b i (Known (bl.ground n) v h t (valued (word z)) b) (f b)) → ItemBehind bl k around.line h t (i + size_of (fitted_code bl.taken p ++ word_stored e bl.taken (whole (own block j)))) fixed text all below aims → Comes code i f v (converting code aims k around (whole (own block j)) left) (P.number_kept around p z k s)
 unfolding P.number_kept ◌>>=◌ give
 number_stored {e} {block} {types} bl {code = code} {i = i} {v = v} {s = s} {aims = aims} closed routines f around j p z n fixed text all left below k at_place wide room suits edits l serving hold at goal =
     let r = whole (own block j) in
@@ -147,7 +147,7 @@ number_stored {e} {block} {types} bl {code = code} {i = i} {v = v} {s = s} {aims
 -- ---- bits
 
 -- a text that waits is stored as a bit
-bit_stored : {e : Environment} {block : ℕ} {types : Types} (bl : Block e block types) {links : Links} {code : List Instr} {i : ℕ} {v : Services} {h t : ℕ → ℕ} {s : State} {aims : Aims (Option (List FormatItem))} (closed : Closed code aims) (routines : Routines links code) (f : Family) (around : Around) (j : ℕ) (field : List ℕ) (n : ℕ → ℤ) (fixed text : Bool) (all left : List FormatItem) (below : List EditPlace) (k : ℕ) → slice_get types j ≡ Some Y.BitLeaf → bl.taken.words + 1 ≤ bl.words → Suits fixed text left → v.edits ≡ getting all left ∷ below → Linked links code i (small a0 1 ∷ (tested_service 26 ++ word_stored e bl.taken (whole (own block j)))) → Serving k s v around.line → AllHold (suc e.level) s block types n → ((b : Base) → At b i (Known (bl.ground n) (pushed (TextEntry field) v) h t nothing b) (f b)) → ItemBehind bl k around.line h t (i + 6 + size_of (word_stored e bl.taken (whole (own block j)))) fixed text all below aims → Comes code i f (pushed (TextEntry field) v) (converting code aims k around (whole (own block j)) left) (P.field_converted around Bit (TextField field) k s)
+bit_stored : {e : Environment} {block : ℕ} {types : Types} (bl : Block e block types) {links : Links} {code : List Instr} {i : ℕ} {v : Services} {h t : ℕ → ℕ} {s : State} {aims : Aims (Option (List FormatItem))} (closed : Closed code aims) (routines : Routines links code) (f : Family) (around : Around) (j : ℕ) (field : List ℕ) (n : ℕ → ℤ) (fixed text : Bool) (all left : List FormatItem) (below : List EditPlace) (k : ℕ) → slice_get types j ≡ Some Y.BitLeaf → bl.taken.words + 1 ≤ bl.words → Suits fixed text left → v.edits ≡ getting all left ∷ below → Linked links code i (small a0 1 ∷ (tested_service 26 ++ word_stored e bl.taken (whole (own block j)))) → Serving k s v around.line → AllHold bl.frames v.activations (suc e.level) s block types n → ((b : Base) → At b i (Known (bl.ground n) (pushed (TextEntry field) v) h t nothing b) (f b)) → ItemBehind bl k around.line h t (i + 6 + size_of (word_stored e bl.taken (whole (own block j)))) fixed text all below aims → Comes code i f (pushed (TextEntry field) v) (converting code aims k around (whole (own block j)) left) (P.field_converted around Bit (TextField field) k s)
 unfolding P.field_converted ◌>>=◌ give
 bit_stored {e} {block} {types} bl {links} {code} {i} {v} {h} {t} {s} {aims} closed routines f around j field n fixed text all left below k at_place room suits edits l serving hold at goal =
     let r = whole (own block j) in
@@ -186,14 +186,14 @@ bit_stored {e} {block} {types} bl {links} {code} {i} {v} {h} {t} {s} {aims} clos
 -- ---- behind the test of the end
 
 -- a field is read into a variable of a type
-target_piece : {e : Environment} {block : ℕ} {types : Types} (bl : Block e block types) {links : Links} {code : List Instr} {i : ℕ} {v : Services} {h t : ℕ → ℕ} {s : State} {aims : Aims (Option (List FormatItem))} (closed : Closed code aims) (routines : Routines links code) (f : Family) (around : Around) (same : around.program ≡ e.program) (j : ℕ) (type : Y.LeafType) (fs : T.Formats) (d : DataItem) (n : ℕ → ℤ) (all left : List FormatItem) (below : List EditPlace) (k : ℕ) → slice_get types j ≡ Some type → IsReadBy (has_fixed fs) type → bl.taken.words + 1 ≤ bl.words → Suits (has_fixed fs) (has_text fs) (DataFormat d ∷ left) → Gets v.edits (DataFormat d) all left below → has_character v.input.marks ≡ true → Linked links code i (field_stored e bl.taken fs (whole (own block j)) type) → Serving k s v around.line → AllHold (suc e.level) s block types n → ((b : Base) → At b i (Known (bl.ground n) v h t (valued (E.data_number d)) b) (f b)) → ItemBehind bl k around.line h t (i + size_of (field_stored e bl.taken fs (whole (own block j)) type)) (has_fixed fs) (has_text fs) all below aims → Comes code i f v aims (got_and_stored around (whole (own block j)) left d k s)
+target_piece : {e : Environment} {block : ℕ} {types : Types} (bl : Block e block types) {links : Links} {code : List Instr} {i : ℕ} {v : Services} {h t : ℕ → ℕ} {s : State} {aims : Aims (Option (List FormatItem))} (closed : Closed code aims) (routines : Routines links code) (f : Family) (around : Around) (same : around.program ≡ e.program) (j : ℕ) (type : Y.LeafType) (fs : T.Formats) (d : DataItem) (n : ℕ → ℤ) (all left : List FormatItem) (below : List EditPlace) (k : ℕ) → slice_get types j ≡ Some type → IsReadBy (has_fixed fs) type → bl.taken.words + 1 ≤ bl.words → Suits (has_fixed fs) (has_text fs) (DataFormat d ∷ left) → Gets v.edits (DataFormat d) all left below → has_character v.input.marks ≡ true → Linked links code i (field_stored e bl.taken fs (whole (own block j)) type) → Serving k s v around.line → AllHold bl.frames v.activations (suc e.level) s block types n → ((b : Base) → At b i (Known (bl.ground n) v h t (valued (E.data_number d)) b) (f b)) → ItemBehind bl k around.line h t (i + size_of (field_stored e bl.taken fs (whole (own block j)) type)) (has_fixed fs) (has_text fs) all below aims → Comes code i f v aims (got_and_stored around (whole (own block j)) left d k s)
 target_piece {e} {block} {types} bl {i = i} {aims = aims} closed routines f around same j (Y.FixedLeaf p) fs d n all left below k at_place read room suits found has l serving hold at goal =
     let r = whole (own block j) in
     let got = by_kinds (has_fixed fs) (has_text fs) fixed_as_number text_as_number in
     let store = fitted_code bl.taken p ++ word_stored e bl.taken r in
     let size = size_append got store in
     let place : i + size_of got + size_of store ≡ i + size_of (got ++ store) = omega (arith, size) in
-    number_got (all_kept (suc e.level) block types n) closed routines f around r (has_fixed fs) (has_text fs) p d all left below k (target_is e around block j (Y.FixedLeaf p) same (bl.declared j at_place)) suits.0.0 suits.1.0 found has (front_of got store l) (record { serving = serving; holds = hold }) at
+    number_got (all_kept bl.frames (suc e.level) block types n) closed routines f around r (has_fixed fs) (has_text fs) p d all left below k (target_is e around block j (Y.FixedLeaf p) same (bl.declared j at_place)) suits.0.0 suits.1.0 found has (front_of got store l) (record { serving = serving; holds = hold }) at
     (λ z s1 v1 f1 o at1.
     number_stored bl closed routines f1 around j p z n (has_fixed fs) (has_text fs) all left below k at_place o.0 room (suits.0.1, suits.1.1) o.1.1 (back_of got store l) o.1.0.serving o.1.0.holds at1
     (λ s2 v2 rest2 n2 h2 t2 f2 serving2 hold2 suits2 edits2 stays2 at2.
@@ -203,7 +203,7 @@ target_piece {e} {block} {types} bl {i = i} {v = v} {aims = aims} closed routine
     let r = whole (own block j) in
     let last = word_stored e bl.taken r in
     let place : i + 2 + 6 + size_of last ≡ i + size_of (bit_got ++ last) = omega arith in
-    text_taken (all_kept (suc e.level) block types n) closed f around r Y.BitLeaf width all left below k (target_is e around block j Y.BitLeaf same (bl.declared j at_place)) found has (front_of (service 37) (small a0 1 ∷ (tested_service 26 ++ last)) l) (record { serving = serving; holds = hold }) (λ b. record { pc = (at b).pc; holds = record { body = (at b).holds.body; regs = tt } })
+    text_taken (all_kept bl.frames (suc e.level) block types n) closed f around r Y.BitLeaf width all left below k (target_is e around block j Y.BitLeaf same (bl.declared j at_place)) found has (front_of (service 37) (small a0 1 ∷ (tested_service 26 ++ last)) l) (record { serving = serving; holds = hold }) (λ b. record { pc = (at b).pc; holds = record { body = (at b).holds.body; regs = tt } })
     (λ f1 under1 at1.
     bit_stored bl closed routines f1 around j (field_of width v.input) n (has_fixed fs) (has_text fs) all left below k at_place room (suits.0.1, suits.1.1) refl (back_of (service 37) (small a0 1 ∷ (tested_service 26 ++ last)) l) under1.serving under1.holds at1
     (λ s2 v2 rest2 n2 h2 t2 f2 serving2 hold2 suits2 edits2 stays2 at2.
@@ -217,7 +217,7 @@ target_piece bl closed routines f around same j _ fs d n all left below k at_pla
 -- ---- the whole item
 
 -- into all of a variable
-own_piece : {e : Environment} {block : ℕ} {types : Types} (bl : Block e block types) {links : Links} {code : List Instr} {i : ℕ} {v : Services} {h t : ℕ → ℕ} {s : State} {aims : Aims (Option (List FormatItem))} (closed : Closed code aims) (routines : Routines links code) (f : Family) (around : Around) (same : around.program ≡ e.program) (j : ℕ) (type : Y.LeafType) (fs : T.Formats) (n : ℕ → ℤ) (rest : List FormatItem) (below : List EditPlace) (behind k : ℕ) → slice_get types j ≡ Some type → IsReadBy (has_fixed fs) type → bl.taken.words + 1 ≤ bl.words → AreProvedFormats fs → HasData fs → HaveWidths fs → Suits (has_fixed fs) (has_text fs) rest → v.edits ≡ getting (format_items fs) rest ∷ below → Linked links code i (awaited_before (field_stored e bl.taken fs (whole (own block j)) type) behind) → Serving k s v around.line → AllHold (suc e.level) s block types n → ((b : Base) → At b i (Known (bl.ground n) v h t nothing b) (f b)) → ItemBehind bl k around.line h t (i + size_of (awaited_before (field_stored e bl.taken fs (whole (own block j)) type) behind)) (has_fixed fs) (has_text fs) (format_items fs) below aims → Comes code i f v aims (P.item_got around (format_items fs) rest (Y.GetScalar (whole (own block j))) k s)
+own_piece : {e : Environment} {block : ℕ} {types : Types} (bl : Block e block types) {links : Links} {code : List Instr} {i : ℕ} {v : Services} {h t : ℕ → ℕ} {s : State} {aims : Aims (Option (List FormatItem))} (closed : Closed code aims) (routines : Routines links code) (f : Family) (around : Around) (same : around.program ≡ e.program) (j : ℕ) (type : Y.LeafType) (fs : T.Formats) (n : ℕ → ℤ) (rest : List FormatItem) (below : List EditPlace) (behind k : ℕ) → slice_get types j ≡ Some type → IsReadBy (has_fixed fs) type → bl.taken.words + 1 ≤ bl.words → AreProvedFormats fs → HasData fs → HaveWidths fs → Suits (has_fixed fs) (has_text fs) rest → v.edits ≡ getting (format_items fs) rest ∷ below → Linked links code i (awaited_before (field_stored e bl.taken fs (whole (own block j)) type) behind) → Serving k s v around.line → AllHold bl.frames v.activations (suc e.level) s block types n → ((b : Base) → At b i (Known (bl.ground n) v h t nothing b) (f b)) → ItemBehind bl k around.line h t (i + size_of (awaited_before (field_stored e bl.taken fs (whole (own block j)) type) behind)) (has_fixed fs) (has_text fs) (format_items fs) below aims → Comes code i f v aims (P.item_got around (format_items fs) rest (Y.GetScalar (whole (own block j))) k s)
 unfolding P.item_got ◌>>=◌
 own_piece {e} {block} {types} bl {links} {code} {i} {v} {h} {t} {s} {aims} closed routines f around same j type fs n rest below behind k at_place read room are has wide suits edits l serving hold at goal =
     let r = whole (own block j) in
@@ -233,7 +233,7 @@ own_piece {e} {block} {types} bl {links} {code} {i} {v} {h} {t} {s} {aims} close
     let next1 : Option Field → List FormatItem → Meaning (Option (List FormatItem)) = λ u left. P.scalar_if_got around r left u in
     let nextn : DataItem × List FormatItem → Meaning (Option (List FormatItem)) = λ next. (P.field_got around next.0) >>= (λ u. next1 u next.1) in
     comes_on k (P.next_item P.control_got all rest k s) nextn
-    (next_piece (all_kept (suc e.level) block types n) (before_closed k nextn closed) (has_fixed fs) (has_text fs) f all rest below k (items_data fs are has) (formats_suited fs wide) suits edits (front_of controls_carried_out (endfile_tested b0) l1) (record { serving = serving; holds = hold }) at
+    (next_piece (all_kept bl.frames (suc e.level) block types n) (before_closed k nextn closed) (has_fixed fs) (has_text fs) f all rest below k (items_data fs are has) (formats_suited fs wide) suits edits (front_of controls_carried_out (endfile_tested b0) l1) (record { serving = serving; holds = hold }) at
     (λ s1 v1 f1 d left under1 found1 suits1 at1.
     awaited_piece (λ u. next1 u left) closed routines f1 around d b0 k suits1.1.0 (back_of controls_carried_out (endfile_tested b0) l1) under1.serving at1
     (λ some f2 at2.
@@ -242,7 +242,7 @@ own_piece {e} {block} {types} bl {links} {code} {i} {v} {h} {t} {s} {aims} close
     subst (λ u. aims.done u f3 v3 (Some rest3) s3) (sym place)
     (goal s3 v3 rest3 n3 h3 t3 f3 serving3 hold3 suits3 edits3 stays3 (λ b. record { pc = (at3 b).pc ∙ ap (address b) place; holds = (at3 b).holds }))))))
 
-pub item_piece : {e : Environment} {block : ℕ} {types : Types} (bl : Block e block types) {links : Links} {code : List Instr} (item : Y.GetItem) {i : ℕ} {v : Services} {h t : ℕ → ℕ} {s : State} {aims : Aims (Option (List FormatItem))} (closed : Closed code aims) (routines : Routines links code) (f : Family) (around : Around) (same : around.program ≡ e.program) (fs : T.Formats) (n : ℕ → ℤ) (rest : List FormatItem) (below : List EditPlace) (behind k : ℕ) → IsProvedGetItem block types (has_fixed fs) item → bl.taken.words + 1 ≤ bl.words → AreProvedFormats fs → HasData fs → HaveWidths fs → Suits (has_fixed fs) (has_text fs) rest → v.edits ≡ getting (format_items fs) rest ∷ below → Linked links code i (C.item_got e bl.taken fs item behind) → Serving k s v around.line → AllHold (suc e.level) s block types n → ((b : Base) → At b i (Known (bl.ground n) v h t nothing b) (f b)) → ItemBehind bl k around.line h t (i + size_of (C.item_got e bl.taken fs item behind)) (has_fixed fs) (has_text fs) (format_items fs) below aims → Comes code i f v aims (P.item_got around (format_items fs) rest item k s)
+pub item_piece : {e : Environment} {block : ℕ} {types : Types} (bl : Block e block types) {links : Links} {code : List Instr} (item : Y.GetItem) {i : ℕ} {v : Services} {h t : ℕ → ℕ} {s : State} {aims : Aims (Option (List FormatItem))} (closed : Closed code aims) (routines : Routines links code) (f : Family) (around : Around) (same : around.program ≡ e.program) (fs : T.Formats) (n : ℕ → ℤ) (rest : List FormatItem) (below : List EditPlace) (behind k : ℕ) → IsProvedGetItem block types (has_fixed fs) item → bl.taken.words + 1 ≤ bl.words → AreProvedFormats fs → HasData fs → HaveWidths fs → Suits (has_fixed fs) (has_text fs) rest → v.edits ≡ getting (format_items fs) rest ∷ below → Linked links code i (C.item_got e bl.taken fs item behind) → Serving k s v around.line → AllHold bl.frames v.activations (suc e.level) s block types n → ((b : Base) → At b i (Known (bl.ground n) v h t nothing b) (f b)) → ItemBehind bl k around.line h t (i + size_of (C.item_got e bl.taken fs item behind)) (has_fixed fs) (has_text fs) (format_items fs) below aims → Comes code i f v aims (P.item_got around (format_items fs) rest item k s)
 item_piece {e} {block} {types} bl {links} {code} (Y.GetScalar r) {i} {v} {h} {t} {s} {aims} closed routines f around same fs n rest below behind k is room are has wide suits edits l serving hold at goal =
     let j = is.own.index in
     let q = whole (own block j) in

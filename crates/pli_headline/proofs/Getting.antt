@@ -55,13 +55,13 @@ use Rattle.pli_headline.proofs.Reach.{Family, Aims, Comes, Closed, cost, before_
 -- behind items, for which the input lasted
 abbrev pub ItemsBehind : {e : Environment} {block : ℕ} {types : Types} → Block e block types → (k line : ℕ) → (h t : ℕ → ℕ) → (i : ℕ) → (whole : List FormatItem) → (below : List EditPlace) → Aims Bool → Type 0
 ItemsBehind {e = e} {block = block} {types = types} bl k line h0 t0 i whole below aims =
-    (s : State) (v : Services) (rest : List FormatItem) (n : ℕ → ℤ) (h t : ℕ → ℕ) (f : Family) → Serving k s v line → AllHold (suc e.level) s block types n → v.edits ≡ getting whole rest ∷ below → Stays bl.taken h0 t0 h t → ((b : Base) → At b i (Known (bl.ground n) v h t nothing b) (f b)) → aims.done i f v true s
+    (s : State) (v : Services) (rest : List FormatItem) (n : ℕ → ℤ) (h t : ℕ → ℕ) (f : Family) → Serving k s v line → AllHold bl.frames v.activations (suc e.level) s block types n → v.edits ≡ getting whole rest ∷ below → Stays bl.taken h0 t0 h t → ((b : Base) → At b i (Known (bl.ground n) v h t nothing b) (f b)) → aims.done i f v true s
 
 one_word : (item : Y.GetItem) (block : ℕ) (types : Types) (fixed : Bool) → IsProvedGetItem block types fixed item → 1 ≤ get_item_words item
 one_word (Y.GetScalar r) block types fixed is = omega arith
 one_word (Y.GetAggregate r) block types fixed is = absurd is
 
-items_piece : {e : Environment} {block : ℕ} {types : Types} (bl : Block e block types) {links : Links} {code : List Instr} (items : List Y.GetItem) {i : ℕ} {v : Services} {h t : ℕ → ℕ} {s : State} {aims : Aims Bool} (closed : Closed code aims) (routines : Routines links code) (f : Family) (around : Around) (same : around.program ≡ e.program) (fs : T.Formats) (n : ℕ → ℤ) (rest : List FormatItem) (below : List EditPlace) (behind k : ℕ) → AreProvedGetItems block types (has_fixed fs) items → bl.taken.words + get_items_words items ≤ bl.words → AreProvedFormats fs → HasData fs → HaveWidths fs → Suits (has_fixed fs) (has_text fs) rest → v.edits ≡ getting (format_items fs) rest ∷ below → Linked links code i (C.items_got e bl.taken fs behind items) → Serving k s v around.line → AllHold (suc e.level) s block types n → ((b : Base) → At b i (Known (bl.ground n) v h t nothing b) (f b)) → ItemsBehind bl k around.line h t (i + size_of (C.items_got e bl.taken fs behind items)) (format_items fs) below aims → Comes code i f v aims (P.items_got around (format_items fs) rest items k s)
+items_piece : {e : Environment} {block : ℕ} {types : Types} (bl : Block e block types) {links : Links} {code : List Instr} (items : List Y.GetItem) {i : ℕ} {v : Services} {h t : ℕ → ℕ} {s : State} {aims : Aims Bool} (closed : Closed code aims) (routines : Routines links code) (f : Family) (around : Around) (same : around.program ≡ e.program) (fs : T.Formats) (n : ℕ → ℤ) (rest : List FormatItem) (below : List EditPlace) (behind k : ℕ) → AreProvedGetItems block types (has_fixed fs) items → bl.taken.words + get_items_words items ≤ bl.words → AreProvedFormats fs → HasData fs → HaveWidths fs → Suits (has_fixed fs) (has_text fs) rest → v.edits ≡ getting (format_items fs) rest ∷ below → Linked links code i (C.items_got e bl.taken fs behind items) → Serving k s v around.line → AllHold bl.frames v.activations (suc e.level) s block types n → ((b : Base) → At b i (Known (bl.ground n) v h t nothing b) (f b)) → ItemsBehind bl k around.line h t (i + size_of (C.items_got e bl.taken fs behind items)) (format_items fs) below aims → Comes code i f v aims (P.items_got around (format_items fs) rest items k s)
 unfolding P.items_got ◌>>=◌ give given
 items_piece bl [] {i = i} {v = v} {h = h} {t = t} {s = s} {aims = aims} closed routines f around same fs n rest below behind k is room are has wide suits edits l serving all at goal =
     let e : i ≡ i + 0 = omega arith in
@@ -88,7 +88,7 @@ items_piece {e} {block} {types} bl {links} {code} (item ∷ items) {i} {v} {h} {
 -- ---- pairs
 
 -- pairs, and the way past the exit
-pairs_piece : {e : Environment} {block : ℕ} {types : Types} (bl : Block e block types) {links : Links} {code : List Instr} (pairs : List Y.GetPair) {i : ℕ} {v : Services} {h t : ℕ → ℕ} {s : State} {aims : Aims (Unit {0})} (closed : Closed code aims) (routines : Standing bl links code) (f : Family) (around : Around) (same : around.program ≡ e.program) (n : ℕ → ℤ) (k : ℕ) → AreProvedGetPairs block types pairs → bl.taken.words + get_words pairs ≤ bl.words → Linked links code i (get_pairs e bl.taken pairs) → i + size_of (get_pairs e bl.taken pairs) + 2 ≤ length code → Serving k s v around.line → AllHold (suc e.level) s block types n → ((b : Base) → At b i (Known (bl.ground n) v h t nothing b) (f b)) → Behind bl k h t (i + size_of (get_pairs e bl.taken pairs) + 2) aims → Comes code i f v aims (P.pairs_got around pairs k s)
+pairs_piece : {e : Environment} {block : ℕ} {types : Types} (bl : Block e block types) {links : Links} {code : List Instr} (pairs : List Y.GetPair) {i : ℕ} {v : Services} {h t : ℕ → ℕ} {s : State} {aims : Aims (Unit {0})} (closed : Closed code aims) (routines : Standing bl links code) (f : Family) (around : Around) (same : around.program ≡ e.program) (n : ℕ → ℤ) (k : ℕ) → AreProvedGetPairs block types pairs → bl.taken.words + get_words pairs ≤ bl.words → Linked links code i (get_pairs e bl.taken pairs) → i + size_of (get_pairs e bl.taken pairs) + 2 ≤ length code → Serving k s v around.line → AllHold bl.frames v.activations (suc e.level) s block types n → ((b : Base) → At b i (Known (bl.ground n) v h t nothing b) (f b)) → Behind bl k h t (i + size_of (get_pairs e bl.taken pairs) + 2) aims → Comes code i f v aims (P.pairs_got around pairs k s)
 unfolding P.pairs_got ◌>>=◌ choose give
 pairs_piece bl [] {i = i} {v = v} {h = h} {t = t} {s = s} {aims = aims} closed routines f around same n k is room l inside serving all at goal =
     let e : i + (2 + 2) ≡ i + 2 + 2 = omega arith in

@@ -1,6 +1,6 @@
 -- GOTO to a label of a list that is carried out around it, in the block's own frame.
-use Rattle.std.proofs.Common.{◌≡◌, ℕ, ◌^◌, ◌<◌, [], ◌∷◌, ◌++◌, List, true, refl, sym, ap, ◌∙◌, subst, arith}
-use Rattle.std.specs.Prelude.{cond}
+use Rattle.std.proofs.Common.{◌≡◌, ℕ, ◌^◌, ◌<◌, ◌≤◌, [], ◌∷◌, ◌++◌, List, true, refl, sym, ap, ◌∙◌, subst, arith}
+use Rattle.std.specs.Prelude.{cond, ◌==◌}
 use Rattle.std.proofs.lemmas.Bool.{eq-eqb}
 use Rattle.rv_meaning.specs.declared.instr.Instr.{Instr}
 use Rattle.pli_typing.specs.TypedTree as Y
@@ -11,7 +11,7 @@ use Rattle.pli_meaning.specs.Raising.{Around}
 use Rattle.pli_meaning.specs.Executing as M
 use Rattle.pli_coding.specs.Assembly.{LabelPlace, JumpTo}
 use Rattle.pli_coding.specs.Allocating.{act_code}
-use Rattle.pli_coding.specs.Environments.{Owner, BlockOwner, BlockPlace, Environment, block_around, last_of_level}
+use Rattle.pli_coding.specs.Environments.{Owner, BlockOwner, UnitOwner, BlockPlace, Environment, block_around, last_of_level}
 use Rattle.pli_coding.specs.Statements.{goto_outer, goto_code, stmt_code}
 use Rattle.pli_coding.specs.Linking.{Links}
 use Rattle.pli_headline.specs.ProvedSoFar.{Types, times}
@@ -25,18 +25,20 @@ use Rattle.pli_headline.proofs.Statements.{Block, counted_all, IsMarkedOnce, IsE
 use Rattle.pli_headline.proofs.Ifs.{free_far}
 use Rattle.pli_headline.proofs.Reach.{Comes, before_closed, comes_on, onward}
 
--- a RETURN goes to the end of the block itself
-abbrev pub own_end : Environment → Owner
-own_end e = BlockOwner (record { number = e.block; level = 0 })
+abbrev pub owner_number : Owner → ℕ
+owner_number (BlockOwner b) = b.number
+owner_number UnitOwner = 0
 
 -- the labels of the program's blocks: each that stands once among them is marked once, and each block is the one that a GOTO of its level
--- names; a procedure is what a RETURN ends, and its end is marked once too
-pub record LabelsStand (e : Environment) (links : Links) (all : List (ℕ × Label)) : Type 0 where
+-- names; the main procedure is what a RETURN ends, and its end is marked once too
+pub record LabelsStand (e : Environment) (links : Links) (all : List (ℕ × Label)) (procedure : ℕ) : Type 0 where
   pub own : block_around e e.level ≡ e.block
   pub found : (b : BlockPlace) → IsAmong b e.blocks → last_of_level b.number b.level 0 e.blocks ≡ b.number
   pub once : (block : ℕ) (label : Label) → times block label all ≡ 1 → IsMarkedOnce links block label
-  pub owner : e.level ≡ 0 → e.owner ≡ own_end e
-  pub ended : e.level ≡ 0 → IsEndMarkedOnce links e.block
+  pub owner : e.owner ≡ BlockOwner (record { number = procedure; level = 0 })
+  pub ended : IsEndMarkedOnce links procedure
+  pub outermost : (number : ℕ) → procedure ≤ number → last_of_level number 0 0 e.blocks ≡ procedure
+  pub main : (0 == e.level) ≡ true → procedure ≡ e.block
 
 -- the act leaves no credits to count, so the label may stand anywhere
 own_goto_does : {e : Environment} {block : ℕ} {types : Types} (bl : Block e block types) (links : Links) (code : List Instr) (around : Around) (label : Label) (line : ℕ) → line < 2 ^ 31 → is_among label bl.labels ≡ true → IsMarkedOnce links e.block label → Does bl links code around.turns (act_code line ++ JumpTo (LabelPlace e.block label) ∷ []) (M.statement around (Y.Goto e.level label line))

@@ -1,6 +1,6 @@
 -- The frame of a block inside another: what stands in memory while it runs, above what stands for the block around it.
-use Rattle.std.proofs.Common.{◌≡◌, ℕ, suc, ◌+◌, ◌-◌, ◌*◌, ◌%◌, ◌^◌, ◌<◌, ◌≤◌, inl, inr, List, [], length, Some, Bool, true, false, refl, sym, ap, ◌∙◌, subst, arith}
-use Rattle.std.specs.Prelude.{ℤ, cond, slice_get, ◌==◌}
+use Rattle.std.proofs.Common.{◌≡◌, ℕ, suc, ◌+◌, ◌-◌, ◌*◌, ◌%◌, ◌^◌, ◌<◌, ◌≤◌, inl, inr, List, [], ◌∷◌, length, Some, Bool, true, false, refl, sym, ap, ◌∙◌, subst, arith}
+use Rattle.std.specs.Prelude.{ℤ, pos, cond, slice_get, ◌==◌}
 use Rattle.std.proofs.lemmas.Bool.{eqb-true}
 use Rattle.std.proofs.lemmas.Bool.Decides.{nat_tests}
 use Rattle.rv_meaning.specs.Words.{word}
@@ -15,12 +15,26 @@ use Rattle.pli_headline.proofs.Engine.{Base}
 use Rattle.pli_headline.proofs.Numbers.{above_sum, above_small}
 use Rattle.pli_headline.proofs.Scalars.{Fits, store_kind}
 use Rattle.pli_headline.proofs.Bodies.{Ground, PlaceOf}
+use Rattle.pli_headline.proofs.Activations.{rest_more}
 use Rattle.pli_headline.proofs.Reaching.{Reaches}
 use Rattle.pli_headline.proofs.Temporaries.{Temporaries}
 use Rattle.pli_headline.proofs.Variables.{data_place}
 use Rattle.pli_headline.proofs.States.{with_number_at}
 use Rattle.pli_headline.proofs.MainGround.{apart_words, width_few}
-use Rattle.pli_headline.proofs.Statements.{Block}
+use Rattle.pli_headline.proofs.Statements.{Block, Enclosing}
+
+-- the frames of the levels around it, of which the last is that of the block around
+abbrev pub inner_levels : {e : Environment} {block : ℕ} {types : Types} → Block e block types → ℕ → ℕ
+inner_levels {e} bl j = cond (j == e.level) bl.stack.frame (bl.levels j)
+
+pub outermost_inner : {e : Environment} {block : ℕ} {types : Types} (bl : Block e block types) (q : Bool) → (0 == e.level) ≡ q → cond q bl.stack.frame (bl.levels 0) ≡ bl.base
+outermost_inner bl true known = sym (bl.stack.frame_is (λ j. pos 0)) ∙ (bl.alone known).frame_is (λ j. pos 0)
+outermost_inner bl false known = bl.outermost_level known
+
+pub inner_level_room : {e : Environment} {block : ℕ} {types : Types} (bl : Block e block types) (q : Bool) (j : ℕ) → (j == e.level) ≡ q → bl.stack.free ≤ 14 * 2 ^ 20 → j < suc e.level → cond q bl.stack.frame (bl.levels j) < memory_size
+inner_level_room bl true j known room below = let over = bl.stack.above in omega (arith, over, room)
+inner_level_room {e} bl false j known room below =
+    bl.level_room j (grind (arith, nat_tests))
 
 -- where it lies, and its words for temporaries
 pub record Inner {e : Environment} {block : ℕ} {types : Types} (bl : Block e block types) : Type 0 where
@@ -29,11 +43,11 @@ pub record Inner {e : Environment} {block : ℕ} {types : Types} (bl : Block e b
   pub place : at ≡ bl.stack.free + temporary_bytes words
   pub room : at + fixed_size (suc e.level) 0 + 4 ≤ 14 * 2 ^ 20
 
-pub record Inside (around : Base → List ℕ → Type 0) (outer base at words : ℕ) (t : ℕ → ℕ) (b : Base) (m : List ℕ) : Type 0 where
+pub record Inside (around : Base → List ℕ → Type 0) (outer level : ℕ) (levels : ℕ → ℕ) (at words : ℕ) (t : ℕ → ℕ) (b : Base) (m : List ℕ) : Type 0 where
   pub kept : around b m
   pub below : load 4 m (at + 4) ≡ b.at + outer
   pub own : load 4 m (at + 36) ≡ at
-  pub shown : load 4 m (at + 144) ≡ b.at + base
+  pub shown : (j : ℕ) → j < level → load 4 m (at + (144 + 4 * j)) ≡ b.at + levels j
   pub temporaries : (j : ℕ) → j < words → t j < 2 ^ 32 → load 4 m (at - 4 * suc j) ≡ t j
 
 pub inner_whole : (at free words : ℕ) → at ≡ free + temporary_bytes words → free % 4 ≡ 0 → at % 4 ≡ 0
@@ -49,7 +63,7 @@ inner_ground {e} bl inner t0 n =
       frame = inner.at;
       free = inner.at + fixed_size (suc e.level) 0;
       words = inner.words;
-      memory = Inside ((bl.ground n).memory t0) bl.stack.frame bl.base inner.at inner.words;
+      memory = Inside ((bl.ground n).memory t0) bl.stack.frame (suc e.level) (inner_levels bl) inner.at inner.words;
       whole = inner_whole inner.at bl.stack.free inner.words inner.place bl.stack.aligned;
       above_code = let a = inner_above inner.at bl.stack.free inner.words inner.place in let h = bl.stack.high in omega (arith, a, h);
       inside = let r = inner.room in omega (arith, r);
@@ -75,7 +89,7 @@ inner_temporaries bl inner t0 n =
             kept = bl.stack.keeps n t0 b m p x (omega (arith, above, below)) o.kept;
             below = load-store_other 4 4 m p x (inner.at + 4) (inr (omega (arith, above, below))) ∙ o.below;
             own = load-store_other 4 4 m p x (inner.at + 36) (inr (omega (arith, above, below))) ∙ o.own;
-            shown = load-store_other 4 4 m p x (inner.at + 144) (inr (omega (arith, above, below))) ∙ o.shown;
+            shown = λ i h. load-store_other 4 4 m p x (inner.at + (144 + 4 * i)) (inr (omega (arith, above, below))) ∙ o.shown i h;
             temporaries = λ i h known. inner_put (i == j) m t inner.at i j x inner.words refl len fits h below (omega (arith, above)) (omega (arith, room)) known (o.temporaries i h);
           };
       found = λ t b m j below known o. o.temporaries j below known;
@@ -94,7 +108,7 @@ inner_writes {e} {block} bl inner t0 n j z {type} below old fits t b m len o =
       kept = bl.writes n j z below old fits t0 b m len o.kept;
       below = load-store_other w 4 m p (word z) (inner.at + 4) (inr (omega (arith, above, under, few))) ∙ o.below;
       own = load-store_other w 4 m p (word z) (inner.at + 36) (inr (omega (arith, above, under, few))) ∙ o.own;
-      shown = load-store_other w 4 m p (word z) (inner.at + 144) (inr (omega (arith, above, under, few))) ∙ o.shown;
+      shown = λ i h. load-store_other w 4 m p (word z) (inner.at + (144 + 4 * i)) (inr (omega (arith, above, under, few))) ∙ o.shown i h;
       temporaries = λ i h known. load-store_other w 4 m p (word z) (inner.at - 4 * suc i) (inr (omega (arith, above, under, h, few))) ∙ o.temporaries i h known;
     }
 
@@ -112,11 +126,21 @@ inner_place g room high =
 pub other_level : (level outer : ℕ) → level ≡ suc outer → (0 == level) ≡ false
 other_level level outer e = grind (arith, nat_tests)
 
+-- the main procedure around it
+abbrev pub inner_outside : {e : Environment} {block : ℕ} {types : Types} (bl : Block e block types) (inner : Inner bl) (t0 : ℕ → ℕ) (q : Bool) → (0 == e.level) ≡ q → Enclosing bl.base bl.size (inner_ground bl inner t0)
+inner_outside bl inner t0 true outermost =
+    let o = bl.alone outermost in
+    record { its = bl.ground; waits = t0; frame_is = o.frame_is; free_is = o.free_is; kept = λ n t b m x. x.kept }
+inner_outside bl inner t0 false inside =
+    let o = bl.outside inside in
+    record { its = o.its; waits = o.waits; frame_is = o.frame_is; free_is = o.free_is; kept = λ n t b m x. o.kept n t0 b m x.kept }
+
 -- the block inside, in a frame of the next level
 abbrev pub inner_block : {e : Environment} {block : ℕ} {types : Types} (bl : Block e block types) (inner : Inner bl) (t0 : ℕ → ℕ) (number level : ℕ) → level ≡ suc e.level → Block (in_frame number level e) block types
 inner_block {e} bl inner t0 number level next =
     let above = inner_above inner.at bl.stack.free inner.words inner.place in
     let high = bl.stack.high in
+    let over = bl.stack.over in
     record {
       ground = inner_ground bl inner t0;
       words = inner.words;
@@ -128,11 +152,26 @@ inner_block {e} bl inner t0 number level next =
       same = λ n n' b h. refl;
       temps = inner_temporaries bl inner t0;
       declared = λ j below. bl.declared j below;
-      reach = λ n. subst (λ q. Reaches q (inner_ground bl inner t0 n) bl.base) (sym (other_level level e.level next)) (inner_place (inner_ground bl inner t0 n) (let room = inner.room in omega (arith, room)) (omega (arith, above, high)), λ t b m o. o.shown);
+      reach = λ n. subst (λ q. Reaches q (inner_ground bl inner t0 n) bl.base) (sym (other_level level e.level next)) (inner_place (inner_ground bl inner t0 n) (let room = inner.room in omega (arith, room)) (omega (arith, above, high)), λ t b m o. o.shown 0 (omega arith) ∙ ap (λ u. b.at + u) (outermost_inner bl (0 == e.level) refl));
       places = λ j below. bl.places j below;
       reads = λ n j below fits t b m o. bl.reads n j below fits t0 b m o.kept;
       writes = λ n j z below old fits t b m len o. inner_writes bl inner t0 n j z below old fits t b m len o;
       held = refl;
+      frames = inner.at ∷ bl.frames;
+      bottom = record {
+        holds = bl.bottom.holds;
+        aligned = bl.bottom.aligned;
+        room = bl.bottom.room;
+        own = bl.bottom.own;
+        kept = λ n t b m o. bl.bottom.kept n t0 b m o.kept;
+        rest = rest_more bl.base inner.at bl.frames (omega (arith, over, above)) bl.bottom.rest;
+      };
+      size = bl.size;
+      ends = bl.ends;
+      sized = bl.sized;
+      outer = cond (0 == e.level) bl.labels bl.outer;
+      alone = λ same. let no : true ≡ false = sym same ∙ other_level level e.level next in absurd (cc no);
+      outside = λ inside. inner_outside bl inner t0 (0 == e.level) refl;
       stack = record {
         frame = inner.at;
         free = inner.at + fixed_size (suc e.level) 0;
@@ -141,13 +180,18 @@ inner_block {e} bl inner t0 number level next =
         aligned = let w = inner_whole inner.at bl.stack.free inner.words inner.place bl.stack.aligned in omega (arith, w);
         high = omega (arith, above, high);
         above = omega arith;
+        over = omega (arith, over, above);
         keeps = λ n t b m p x over o. record {
           kept = bl.stack.keeps n t0 b m p x (omega (arith, above, over)) o.kept;
           below = load-store_other 4 4 m p x (inner.at + 4) (inl (omega (arith, over))) ∙ o.below;
           own = load-store_other 4 4 m p x (inner.at + 36) (inl (omega (arith, over))) ∙ o.own;
-          shown = load-store_other 4 4 m p x (inner.at + 144) (inl (omega (arith, over))) ∙ o.shown;
+          shown = λ i h. load-store_other 4 4 m p x (inner.at + (144 + 4 * i)) (inl (omega (arith, over, h))) ∙ o.shown i h;
           temporaries = λ i h known. load-store_other 4 4 m p x (inner.at - 4 * suc i) (inl (omega (arith, over, above, h))) ∙ o.temporaries i h known;
         };
         under = λ j below. let u = bl.stack.under j below in omega (arith, u, above);
       };
+      levels = inner_levels bl;
+      level_room = λ j below. let room = inner.room in inner_level_room bl (j == e.level) j refl (omega (arith, room, above)) (omega (arith, below, next));
+      outermost_level = λ inside. outermost_inner bl (0 == e.level) refl;
+      displays = λ n t b m j below o. o.shown j (omega (arith, below, next));
     }

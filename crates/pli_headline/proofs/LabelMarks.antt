@@ -1,5 +1,5 @@
 -- The labels of the main procedure: each that stands once among them is marked once in the program's code.
-use Rattle.std.proofs.Common.{◌≡◌, ℕ, suc, ◌+◌, ◌*◌, List, [], ◌∷◌, ◌++◌, Option, None, Some, true, inl, refl, sym, ap, ◌∙◌, subst}
+use Rattle.std.proofs.Common.{◌≡◌, ℕ, suc, ◌+◌, ◌*◌, List, [], ◌∷◌, ◌++◌, Option, None, Some, true, inl, inr, ◌≤◌, refl, sym, ap, ◌∙◌, subst}
 use Rattle.std.specs.Prelude.{ℤ, pos, neg_ℤ, cond, ◌==◌, ◌&&◌, if◌then◌else◌}
 use Rattle.std.proofs.lemmas.Bool.{eq-eqb}
 use Rattle.rv_meaning.specs.declared.instr.Register.{Register}
@@ -7,6 +7,7 @@ use Rattle.rv_meaning.specs.declared.instr.Instr.TheVariants as I
 use Rattle.pli_language.specs.Keywords.{same_bytes}
 use Rattle.pli_typing.specs.TypedTree as Y
 use Rattle.pli_meaning.specs.Control.{Label}
+use Rattle.pli_meaning.specs.Executing.{labels_in}
 use Rattle.pli_meaning.specs.DeclaredShapes.{variables_of_block}
 use Rattle.pli_coding.specs.Registers.{zero_register, return_register, frame_register, stack_register, a0, a1, a2, a3, a4, u0, u5}
 use Rattle.pli_coding.specs.Assembly.{Datum, Symbol, ProcedureEntry, ReturnPlace, LabelPlace, RaiseCondition, RaiseError, ErrorEnd, same_symbol, Plain, BaseIn, OffsetOf, OffsetAhead, JumpTo, CallTo, JumpAhead, JumpBack, Mark, Code, item_size}
@@ -23,7 +24,7 @@ use Rattle.pli_coding.specs.Procedures.{procedure_begun, procedure_ended, proced
 use Rattle.pli_coding.specs.Images.{blocks_among, with_blocks, blocks_of, raise_code, code_of}
 use Rattle.pli_coding.specs.Linking.{marks_from, links_of}
 use Rattle.pli_headline.specs.Headline.{parts}
-use Rattle.pli_headline.specs.ProvedSoFar.{plain_variable, ArePlain, AllPlain, types_of, AreProvedStatements, AreBare, times, all_labels}
+use Rattle.pli_headline.specs.ProvedSoFar.{plain_variable, ArePlain, AllPlain, types_of, AreProvedStatements, AreBare, AllJumpAround, Types, times, all_labels}
 use Rattle.pli_headline.proofs.Linking.{times_marked}
 use Rattle.pli_headline.proofs.FirstFrame.{start_of}
 use Rattle.pli_headline.proofs.Marks.{code_is}
@@ -34,6 +35,7 @@ use Rattle.pli_headline.proofs.Gotos.{LabelsStand}
 use Rattle.pli_headline.proofs.ProgramSizes.{frame_filled}
 use Rattle.pli_headline.proofs.SymbolsMarked.{symbols_marked, Marks, both_mark, behind, constant_none, load_none, plus_none, act_none}
 use Rattle.pli_headline.proofs.InnerLevels.{IsAmong, InOrder, among_all, among_with, in_order, last_is}
+use Rattle.pli_headline.proofs.OutermostBlock.{all_lower, all_deeper, first_of_level}
 use Rattle.pli_headline.proofs.StatementMarks.{places_of, statements_mark}
 
 -- ---- the procedure
@@ -159,10 +161,18 @@ own_block program block line body alone =
     blocks_found program block line body alone (main_place block)
     (subst (IsAmong (main_place block)) (sym (blocks_are program block line body alone)) (among_all (main_place block) (blocks_among body) (main_place block ∷ []) (inl refl)))
 
+-- a block of level 0 is the procedure
+outermost_found : (program : Y.Program) (block line : ℕ) (body : Y.Stmts) (types : Types) (all : List (ℕ × Label)) (procedure : ℕ) (outer around : List Label) → IsAlone program block line body → AreProvedStatements block types body → AllJumpAround block 0 all procedure outer around body → (number : ℕ) → block ≤ number → last_of_level number 0 0 (blocks_of program.procedures) ≡ block
+outermost_found program block line body types all procedure outer around alone are jumps number above =
+    subst (λ bs. last_of_level number 0 0 bs ≡ block) (sym (blocks_are program block line body alone))
+    (first_of_level block number 0 (with_blocks (blocks_among body) (main_place block ∷ [])) above
+    (all_lower block (blocks_among body) (main_place block ∷ []) (all_deeper all procedure block types block 0 outer around body are jumps) (inr refl, tt))
+    (inr (among_all (main_place block) (blocks_among body) (main_place block ∷ []) (inl refl))))
+
 -- ---- the labels
 
-pub labels_stand : (program : Y.Program) (block line : ℕ) (body : Y.Stmts) → AllPlain program.variables → IsAlone program block line body → AreProvedStatements block (types_of (variables_of_block program block)) body → AreBare program body → LabelsStand (main_environment program block) (links_of (code_of parts program)) (all_labels block body)
-labels_stand program block line body plain alone are bare =
+pub labels_stand : (program : Y.Program) (block line : ℕ) (body : Y.Stmts) → AllPlain program.variables → IsAlone program block line body → AreProvedStatements block (types_of (variables_of_block program block)) body → AreBare program body → AllJumpAround block 0 (all_labels block body) block [] (labels_in body) body → LabelsStand (main_environment program block) (links_of (code_of parts program)) (all_labels block body) block
+labels_stand program block line body plain alone are bare jumps =
     record {
       own = own_block program block line body alone;
       found = blocks_found program block line body alone;
@@ -171,9 +181,11 @@ labels_stand program block line body plain alone are bare =
           ∙ ap (symbol_times (LabelPlace number label)) (program_marks program block line body plain alone are bare)
           ∙ label_times block number label (all_labels block body)
           ∙ h;
-      owner = λ outermost. refl;
-      ended = λ outermost.
+      owner = refl;
+      ended =
           times_are (ReturnPlace block) 0 (code_of parts program)
           ∙ ap (symbol_times (ReturnPlace block)) (program_marks program block line body plain alone are bare)
           ∙ end_times block (all_labels block body) (eq-eqb block block refl);
+      outermost = λ number above. outermost_found program block line body _ _ _ _ _ alone are jumps number above;
+      main = λ q. refl;
     }

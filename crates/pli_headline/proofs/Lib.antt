@@ -77,6 +77,9 @@ pub mod Catching
 pub mod InnerLevels
 pub mod Gotos
 pub mod Returns
+pub mod EndedBlocks
+pub mod JumpsOut
+pub mod OutermostBlock
 pub mod Groups
 pub mod Loops
 pub mod Stops

@@ -1,5 +1,5 @@
 -- What stands in memory while the main procedure runs: its frame, its variables, its temporaries and the static data.
-use Rattle.std.proofs.Common.{◌≡◌, ℕ, suc, ◌+◌, ◌-◌, ◌*◌, ◌%◌, ◌^◌, ◌<◌, ◌≤◌, ◌⊎◌, inl, inr, List, [], length, Some, Bool, true, false, refl, sym, ap, ◌∙◌, subst, arith}
+use Rattle.std.proofs.Common.{◌≡◌, ℕ, suc, ◌+◌, ◌-◌, ◌*◌, ◌%◌, ◌^◌, ◌<◌, ◌≤◌, ◌⊎◌, inl, inr, List, [], ◌∷◌, length, Some, Bool, true, false, refl, sym, ap, ◌∙◌, subst, arith}
 use Rattle.std.specs.Prelude.{ℤ, pos, cond, ◌==◌, slice_get, slice_index}
 use Rattle.std.proofs.lemmas.Bool.{eqb-true}
 use Rattle.std.proofs.lemmas.Bool.Decides.{nat_tests}
@@ -10,7 +10,8 @@ use Rattle.rv_meaning.specs.Memory.{load, store}
 use Rattle.rv_meaning.specs.Machine.{memory_size, load_width, extended, store_width}
 use Rattle.rv_meaning.proofs.MemoryLaws.{byte-store_below, load-store_same, load-store_other}
 use Rattle.pli_typing.specs.TypedTree as Y
-use Rattle.pli_coding.specs.Environments.{Environment, none_taken}
+use Rattle.pli_coding.specs.Frames.{frame_end}
+use Rattle.pli_coding.specs.Environments.{BlockOwner, Environment, none_taken}
 use Rattle.pli_headline.specs.ProvedSoFar.{Types}
 use Rattle.pli_headline.proofs.Engine.{Base, address}
 use Rattle.pli_headline.proofs.Numbers.{above_sum, above_small, word_small}
@@ -59,6 +60,10 @@ ground_of f first numbers =
       above_code = let h = f.above_statics in omega (arith, h);
       inside = let h = f.inside in omega (arith, h);
     }
+
+-- where its caller goes on, and the frame's own offset
+abbrev pub lowest_holds : Frame → Base → List ℕ → Type 0
+lowest_holds f b m = (load 4 m f.at ≡ address b f.resume) × (load 4 m (f.at + 36) ≡ f.at)
 
 -- ---- temporaries
 
@@ -187,13 +192,17 @@ main_stack f first e block types inside placed =
       aligned = omega (arith, whole);
       high = omega (arith, above);
       above = omega arith;
+      over = omega arith;
       keeps = λ n. main_keeps f first (contents (kind_at types) n);
       under = λ j {type} below. let h = inside j type below in let e' = placed j h in omega (arith, e', h);
     }
 
+pub outermost_is : (level : ℕ) → level ≡ 0 → (0 == level) ≡ false → ⊥
+outermost_is level e q = let no : true ≡ false = ap (λ u. 0 == u) (sym e) ∙ q in cc no
+
 -- the main procedure's block, where its variables are scalars and stand one behind the other
-unfoldable pub main_block : (f : Frame) (first : List ℕ) (e : Environment) (block : ℕ) (types : Types) → e.level ≡ 0 → f.count ≡ length types → ((j : ℕ) (b : Typed types j) → IsDeclared e block j b.0) → ((j : ℕ) → j < f.count → data_place e block j ≡ number_place j) → Block e block types
-main_block f first e block types outermost count declared placed =
+unfoldable pub main_block : (f : Frame) (first : List ℕ) (e : Environment) (block : ℕ) (types : Types) → e.level ≡ 0 → f.count ≡ length types → ((j : ℕ) (b : Typed types j) → IsDeclared e block j b.0) → ((j : ℕ) → j < f.count → data_place e block j ≡ number_place j) → ((number : ℕ) → e.owner ≡ BlockOwner (record { number = number; level = 0 }) → frame_end e.parts e.program number 0 ≡ 144 + 32 * f.count) → Block e block types
+main_block f first e block types outermost count declared placed sized =
     let inside : (j : ℕ) (type : Y.LeafType) → slice_get types j ≡ Some type → j < f.count = λ j type h. let n = place_below types j type h in omega (arith, n, count) in
     record {
       ground = λ n. ground_of f first (contents (kind_at types) n);
@@ -215,5 +224,24 @@ main_block f first e block types outermost count declared placed =
           let d = main_writes f first (kind_at types) n j z (inside j type below) (subst (λ w. Fits w (n j)) (sym k) old) (subst (λ w. Fits w z) (sym k) fits) t b m len o in
           subst (λ w. T w (data_place e block j)) k (subst (T (kind_at types j)) (sym (placed j (inside j type below))) d);
       held = refl;
+      frames = f.at ∷ [];
+      bottom = record {
+        holds = lowest_holds f;
+        aligned = f.whole;
+        room = let i = f.inside in omega (arith, i);
+        own = λ b m o. o.1;
+        kept = λ n t b m o. (o.resumes, o.own);
+        rest = refl;
+      };
+      size = 144 + 32 * f.count;
+      ends = let i = f.inside in omega (arith, i);
+      sized = sized;
+      outer = [];
+      alone = λ q. record { frames_are = refl; frame_is = λ n. refl; free_is = λ n. omega arith };
+      outside = λ q. absurd (outermost_is e.level outermost q);
       stack = main_stack f first e block types inside placed;
+      levels = λ j. f.at;
+      level_room = λ j below. absurd (omega (arith, outermost, below));
+      outermost_level = λ q. refl;
+      displays = λ n t b m j below o. absurd (omega (arith, outermost, below));
     }

@@ -1,6 +1,6 @@
 -- The run of a program that is one procedure of scalars, given that its statements do what they mean: from the start of the
 -- image through the entry of the procedure to its statements, and from their end to the end of the run.
-use Rattle.std.proofs.Common.{◌≡◌, ℕ, suc, ◌+◌, ◌*◌, ◌^◌, ◌<◌, ◌≤◌, List, [], ◌++◌, length, Option, None, true, false, refl, sym, ap, ◌∙◌, subst, arith}
+use Rattle.std.proofs.Common.{◌≡◌, ℕ, suc, ◌+◌, ◌*◌, ◌^◌, ◌<◌, ◌≤◌, List, [], ◌∷◌, ◌++◌, length, Option, None, true, false, refl, sym, ap, ◌∙◌, subst, arith}
 use Rattle.std.specs.Prelude.{pos}
 use Rattle.std.proofs.lemmas.Bool.{eq-eqb}
 use Rattle.rv_meaning.specs.declared.instr.Instr.{Instr}
@@ -17,29 +17,33 @@ use Rattle.pli_meaning.specs.Raising.{Around}
 use Rattle.pli_meaning.specs.Making as K
 use Rattle.pli_meaning.specs.Executing as M
 use Rattle.pli_serving.specs.ServiceState.{Services, first_services}
-use Rattle.pli_coding.specs.Assembly.{ProcedureEntry, Mark, size_of}
+use Rattle.pli_coding.specs.Assembly.{ProcedureEntry, ReturnPlace, Mark, size_of}
 use Rattle.pli_coding.specs.SignatureTable.{table_of}
-use Rattle.pli_coding.specs.Environments.{none_taken}
+use Rattle.pli_coding.specs.Frames.{frame_end}
+use Rattle.pli_headline.specs.Headline.{parts}
+use Rattle.pli_coding.specs.Environments.{BlockOwner, none_taken}
 use Rattle.pli_coding.specs.Allocating.{act_code}
 use Rattle.pli_coding.specs.Entries.{frame_begun, variables_code}
 use Rattle.pli_coding.specs.Statements.{stmts_code}
 use Rattle.pli_coding.specs.Procedures.{finish_code, procedure_ended, procedure_in}
-use Rattle.pli_coding.specs.Linking.{Links}
+use Rattle.pli_coding.specs.Linking.{Links, place_of}
 use Rattle.pli_headline.specs.ProvedSoFar.{AllPlain, Types, types_of}
 use Rattle.pli_headline.proofs.Engine.{Base, address, most_code}
 use Rattle.pli_headline.proofs.Linking.{size_append}
 use Rattle.pli_headline.proofs.Items.{Linked, At}
-use Rattle.pli_headline.proofs.Bodies.{Known, with'}
+use Rattle.pli_headline.proofs.Bodies.{Known, with', zero_is, frame_is}
 use Rattle.pli_headline.proofs.Jumps.{front_of, back_of, rest_of, linked_at}
 use Rattle.pli_headline.proofs.Temporaries.{nothing}
+use Rattle.pli_headline.proofs.Activations.{only_activation}
 use Rattle.pli_headline.proofs.Calls.{Serving}
 use Rattle.pli_headline.proofs.Acts.{act_piece}
-use Rattle.pli_headline.proofs.Statements.{Block, AllHold, Does, counted_all}
+use Rattle.pli_headline.proofs.Statements.{Block, AllHold, IsEndMarkedOnce, Does, counted_all}
 use Rattle.pli_headline.proofs.Variables.{data_place}
+use Rattle.pli_headline.proofs.Gotos.{owner_number}
 use Rattle.pli_headline.proofs.Reach.{Family, Aims, Comes, Closed, before, before_closed, comes_on, onward, never, never_closed}
-use Rattle.pli_headline.proofs.MainGround.{ground_of, number_place, contents, no_contents, main_block}
+use Rattle.pli_headline.proofs.MainGround.{ground_of, number_place, no_contents, main_block}
 use Rattle.pli_headline.proofs.MainProcedure.{main_head, main_procedure, IsAlone, main_environment, main_words, main_plain, declared_at, main_place, statics_meant}
-use Rattle.pli_headline.proofs.Scalars.{Scalar, Typed, kind_at, kind_is, place_below}
+use Rattle.pli_headline.proofs.Scalars.{Scalar, Typed, kind_is, place_below}
 use Rattle.pli_headline.proofs.PlainNumbers.{scalars_of, are_of, length_types}
 use Rattle.pli_headline.proofs.VariableServed.{Ready}
 use Rattle.pli_headline.proofs.States.{Holds}
@@ -93,11 +97,18 @@ main_data program block line body j all alone below few =
     let e = main_place program block line body j all alone (omega (arith, below)) (omega (arith, below, few)) in
     omega (arith, e)
 
+-- where its frame ends
+pub main_sized : (program : Y.Program) (block line : ℕ) (body : Y.Stmts) → AllPlain program.variables → IsAlone program block line body → 32 * main_count program block ≤ 2 ^ 20 → (number : ℕ) → (main_environment program block).owner ≡ BlockOwner (record { number = number; level = 0 }) → frame_end (main_environment program block).parts (main_environment program block).program number 0 ≡ 144 + 32 * main_count program block
+main_sized program block line body all alone few number owned =
+    subst (λ u. frame_end parts program u 0 ≡ 144 + 32 * main_count program block) (ap owner_number owned)
+    (main_place program block line body (main_count program block) all alone (omega arith) few)
+
 abbrev pub block_of : (program : Y.Program) (block line : ℕ) (body : Y.Stmts) (first : List ℕ) (all : AllPlain program.variables) (alone : IsAlone program block line body) (small' : main_words program block body ≤ most_code) (few : 32 * main_count program block ≤ 2 ^ 20) → Block (main_environment program block) block (main_types program block)
 block_of program block line body first all alone small' few =
     main_block (main_frame (main_words program block body) (main_count program block) small' few) first (main_environment program block) block (main_types program block) refl (sym (length_types (variables_of_block program block)))
     (λ j b. declared_at (variables_of_block program block) j (main_plain program block all) b.1)
     (λ j below. main_data program block line body j all alone below few)
+    (main_sized program block line body all alone few)
 
 -- what its statements have to do
 abbrev pub BodyDoes : (program : Y.Program) (block line : ℕ) (body : Y.Stmts) (first : List ℕ) (all : AllPlain program.variables) (alone : IsAlone program block line body) (small' : main_words program block body ≤ most_code) → Links → List Instr → (k : ℕ) → Type 1
@@ -114,9 +125,9 @@ to_finish_closed : (code : List Instr) (k : ℕ) → Closed code (to_finish code
 to_finish_closed code k =
     before_closed k (λ (u : Option BasicValue). finish {R = Unit {0}} E.Finished) (never_closed code)
 
-statements_piece : {links : Links} {code : List Instr} {i : ℕ} {h t : ℕ → ℕ} (program : Y.Program) (block line : ℕ) (body : Y.Stmts) (first : List ℕ) (all : AllPlain program.variables) (alone : IsAlone program block line body) (small' : main_words program block body ≤ most_code) (few : 32 * main_count program block ≤ 2 ^ 20) (k : ℕ) → BodyDoes program block line body first all alone small' links code k → 2 ≤ i → Linked links code i (stmts_code (main_environment program block) none_taken body ++ procedure_ended (main_environment program block) (main_head block line) (main_words program block body) None) → Linked links code start_resume finish_code → (s : State) → {v : Services} → (g : Family) → Serving k s v line → AllHold 1 s block (main_types program block) (begin_numbers (main_kind program block)) → ((b : Base) → At b i (Known (ground_of (main_frame (main_words program block body) (main_count program block) small' few) first (begin_contents (main_kind program block))) v h t nothing b) (g b)) → Comes code i g v (inside (to_finish code k) newest_ended) ((M.list (main_around program k line) body >> M.end_reached (main_around program k line) false) k s)
+statements_piece : {links : Links} {code : List Instr} {i : ℕ} {h t : ℕ → ℕ} (program : Y.Program) (block line : ℕ) (body : Y.Stmts) (first : List ℕ) (all : AllPlain program.variables) (alone : IsAlone program block line body) (small' : main_words program block body ≤ most_code) (few : 32 * main_count program block ≤ 2 ^ 20) (k : ℕ) → BodyDoes program block line body first all alone small' links code k → 10 ≤ i → Linked links code i (stmts_code (main_environment program block) none_taken body ++ procedure_ended (main_environment program block) (main_head block line) (main_words program block body) None) → Linked links code start_resume finish_code → (s : State) → {v : Services} → (g : Family) → Serving k s v line → AllHold ((main_frame (main_words program block body) (main_count program block) small' few).at ∷ []) v.activations 1 s block (main_types program block) (begin_numbers (main_kind program block)) → ((b : Base) → At b i (Known (ground_of (main_frame (main_words program block body) (main_count program block) small' few) first (begin_contents (main_kind program block))) v h t nothing b) (g b)) → Comes code i g v (inside (to_finish code k) newest_ended) ((M.list (main_around program k line) body >> M.end_reached (main_around program k line) false) k s)
 unfolding main_block M.end_reached give ◌>>◌
-statements_piece {code = code} {i = i} {h = h} {t = t} program block line body first all alone small' few k does' later l finish' s g serving holds at =
+statements_piece {links = links} {code = code} {i = i} {h = h} {t = t} program block line body first all alone small' few k does' later l finish' s g serving holds at =
     let e = main_environment program block in
     let st = stmts_code e none_taken body in
     let en = procedure_ended e (main_head block line) (main_words program block body) None in
@@ -128,25 +139,29 @@ statements_piece {code = code} {i = i} {h = h} {t = t} program block line body f
     comes_on k (M.list around body k s) next'
     ((does' few).does {h = h} {t = t} closed line (begin_numbers (main_kind program block)) g k (front_of st en l) serving holds at
     (λ s' v' line' n' h' t' g' serving' all' stays' at'.
+    let o = only_activation s'.activations v'.activations serving'.nested all'.entered in
     record {
       to =
-          leaving_piece (never_closed code) e block line (main_words program block body) f first (contents (kind_at (main_types program block)) n') g' s' (with_world s'.world (newest_ended s')) line' k (omega (arith, small')) (omega arith) (back_of st en l) finish' serving' all'.entered refl at';
+          leaving_piece (never_closed code) e block line (main_words program block body) f g' (with_world s'.world (newest_ended s')) k o.0 (omega (arith, small')) (omega arith) (back_of st en l) finish' serving'.world serving'.running serving'.allowed serving'.fits o.1
+          (λ b. let p = (at' b).holds in record { pc = (at' b).pc; holds = record { services = p.body.services; regs = (frame_is p.body, (zero_is p.body, tt)); memory = (p.body.memory.resumes, p.body.memory.own) } });
     })
     (record {
       enough = omega arith;
-      later = later;
+      later = omega (arith, later);
       jumps = λ label among once. let none : false ≡ true = among in absurd (cc none);
-      returns = λ outermost once.
+      outs = λ inside number owned label among once. let no : true ≡ false = inside in absurd (cc no);
+      returns = λ number owned once.
           let ended = back_of st en l in
           let o1 = ended.inside in
           let o2 = ended.small' in
+          let own : block ≡ number = ap owner_number owned in
           record {
             at = i + size_of st;
-            place = ended.has.0 (eq-eqb block block refl) once;
+            place = subst (λ u. place_of links (ReturnPlace u) ≡ 4 * (i + size_of st)) own (ended.has.0 (eq-eqb block block refl) (subst (IsEndMarkedOnce links) (sym own) once));
             near = omega (arith, o1, o2);
             later = omega (arith, later);
-            leaves = λ s' v' line' n' h' t' g' serving' all' at'.
-                leaving_piece (never_closed code) e block line (main_words program block body) f first (contents (kind_at (main_types program block)) n') g' s' (with_world s'.world (newest_ended s')) line' k (omega (arith, small')) (omega arith) ended finish' serving' all'.entered refl at';
+            leaves = λ s' v' g' a same running allowed fits only at'.
+                leaving_piece (never_closed code) e block line (main_words program block body) f g' (with_world s'.world (newest_ended s')) k a (omega (arith, small')) (omega arith) ended finish' same running allowed fits only at';
           };
     }))
 
@@ -178,18 +193,19 @@ main_holds links code first program block input ready j b =
     subst (λ u. Holds (main_state kind input n) block j u (begin_numbers kind j)) same
     (scalars_hold kind input block n j inside mine.numbered.scalar mine.begins)
 
-main_hold : (links : Links) (code : List Instr) (first : List ℕ) (program : Y.Program) (block : ℕ) (input : List ℕ) → AllReady links code first program block → AllHold 1 (main_state (main_kind program block) input (main_count program block)) block (main_types program block) (begin_numbers (main_kind program block))
-main_hold links code first program block input ready =
+main_hold : (links : Links) (code : List Instr) (first : List ℕ) (program : Y.Program) (block : ℕ) (input : List ℕ) (frame at line : ℕ) → at ≡ frame → AllReady links code first program block → AllHold (frame ∷ []) (main_services (table_of program) (main_kind program block) input at line (main_count program block)).activations 1 (main_state (main_kind program block) input (main_count program block)) block (main_types program block) (begin_numbers (main_kind program block))
+main_hold links code first program block input frame at line same ready =
     record {
       numbers = λ j b. main_holds links code first program block input ready j b;
       entered = refl;
+      framed = ap (λ u. u ∷ []) same;
       owned = λ height above. scalars_owned (main_kind program block) (main_count program block) height above;
     }
 
 -- behind the variables: the act of the entry, and the statements
-body_piece : {links : Links} {code : List Instr} {i : ℕ} {h t : ℕ → ℕ} (program : Y.Program) (block line : ℕ) (body : Y.Stmts) (first input : List ℕ) (all : AllPlain program.variables) (alone : IsAlone program block line body) (small' : main_words program block body ≤ most_code) (few : 32 * main_count program block ≤ 2 ^ 20) (k : ℕ) → AllReady links code first program block → line < 2 ^ 31 → k + 1 < 2 ^ 64 → BodyDoes program block line body first all alone small' links code k → 2 ≤ i → Linked links code i (act_code line) → Linked links code (i + size_of (act_code line)) (stmts_code (main_environment program block) none_taken body ++ procedure_ended (main_environment program block) (main_head block line) (main_words program block body) None) → Linked links code start_resume finish_code → (at : ℕ) (g : Family) → ((b : Base) → At b i (Known (ground_of (main_frame (main_words program block body) (main_count program block) small' few) first (begin_contents (main_kind program block))) (main_services (table_of program) (main_kind program block) input at line (main_count program block)) h t nothing b) (g b)) → Comes code i g (main_services (table_of program) (main_kind program block) input at line (main_count program block)) (inside (to_finish code k) newest_ended) (main_body program k line body k (main_state (main_kind program block) input (main_count program block)))
+body_piece : {links : Links} {code : List Instr} {i : ℕ} {h t : ℕ → ℕ} (program : Y.Program) (block line : ℕ) (body : Y.Stmts) (first input : List ℕ) (all : AllPlain program.variables) (alone : IsAlone program block line body) (small' : main_words program block body ≤ most_code) (few : 32 * main_count program block ≤ 2 ^ 20) (k : ℕ) → AllReady links code first program block → line < 2 ^ 31 → k + 1 < 2 ^ 64 → BodyDoes program block line body first all alone small' links code k → 10 ≤ i → Linked links code i (act_code line) → Linked links code (i + size_of (act_code line)) (stmts_code (main_environment program block) none_taken body ++ procedure_ended (main_environment program block) (main_head block line) (main_words program block body) None) → Linked links code start_resume finish_code → (at : ℕ) → at ≡ (main_frame (main_words program block body) (main_count program block) small' few).at → (g : Family) → ((b : Base) → At b i (Known (ground_of (main_frame (main_words program block body) (main_count program block) small' few) first (begin_contents (main_kind program block))) (main_services (table_of program) (main_kind program block) input at line (main_count program block)) h t nothing b) (g b)) → Comes code i g (main_services (table_of program) (main_kind program block) input at line (main_count program block)) (inside (to_finish code k) newest_ended) (main_body program k line body k (main_state (main_kind program block) input (main_count program block)))
 unfolding M.entry_act ◌>>◌
-body_piece {links = links} {code = code} program block line body first input all alone small' few k ready low fits does' later l behind finish' at g there =
+body_piece {links = links} {code = code} program block line body first input all alone small' few k ready low fits does' later l behind finish' at same g there =
     let n = main_count program block in
     let s = main_state (main_kind program block) input n in
     let next' : Unit {0} → Meaning (Unit {0}) = λ u. M.list (main_around program k line) body >> M.end_reached (main_around program k line) false in
@@ -197,10 +213,10 @@ body_piece {links = links} {code = code} program block line body first input all
     comes_on k (act counted k s) next'
     (act_piece (before_closed k next' closed) g line line k low l (serving_first (table_of program) (main_kind program block) input at line n k fits) there (λ g' serving' there'.
     statements_piece program block line body first all alone small' few k does' (omega (arith, later)) behind finish' (with_world (counted s.world) s) g' serving'
-    (counted_all (counted s.world) (main_hold links code first program block input ready)) there'))
+    (counted_all (counted s.world) (main_hold links code first program block input (main_frame (main_words program block body) (main_count program block) small' few).at at line same ready)) there'))
 
 -- from the entry of the procedure
-procedure_piece : {links : Links} {code : List Instr} (program : Y.Program) (block line : ℕ) (body : Y.Stmts) (first input : List ℕ) (all : AllPlain program.variables) (alone : IsAlone program block line body) (small' : main_words program block body ≤ most_code) (k entry : ℕ) → AllReady links code first program block → line < 2 ^ 31 → k + 1 < 2 ^ 64 → length first ≡ memory_size → 2 ≤ entry → BodyDoes program block line body first all alone small' links code k → Linked links code entry (procedure_in (main_environment program block) (main_head block line) body [] None) → Linked links code start_resume finish_code → (g : Family) → ((b : Base) → At b entry (Known (start_ground first) (first_services (table_of program) input) zeros zeros (with' 1 (λ b'. address b' start_resume) no_texts) b) (g b)) → Comes code entry g (first_services (table_of program) input) (inside (to_finish code k) newest_ended) (flow_on k (K.variables_made (main_around program k line) 0 (variables_of_block program block) k (main_state (main_kind program block) input 0)) (λ u. main_body program k line body))
+procedure_piece : {links : Links} {code : List Instr} (program : Y.Program) (block line : ℕ) (body : Y.Stmts) (first input : List ℕ) (all : AllPlain program.variables) (alone : IsAlone program block line body) (small' : main_words program block body ≤ most_code) (k entry : ℕ) → AllReady links code first program block → line < 2 ^ 31 → k + 1 < 2 ^ 64 → length first ≡ memory_size → 10 ≤ entry → BodyDoes program block line body first all alone small' links code k → Linked links code entry (procedure_in (main_environment program block) (main_head block line) body [] None) → Linked links code start_resume finish_code → (g : Family) → ((b : Base) → At b entry (Known (start_ground first) (first_services (table_of program) input) zeros zeros (with' 1 (λ b'. address b' start_resume) no_texts) b) (g b)) → Comes code entry g (first_services (table_of program) input) (inside (to_finish code k) newest_ended) (flow_on k (K.variables_made (main_around program k line) 0 (variables_of_block program block) k (main_state (main_kind program block) input 0)) (λ u. main_body program k line body))
 procedure_piece {links} {code} program block line body first input all alone small' k entry ready low fits len later does' l finish' g at =
     let e = main_environment program block in
     let words = main_words program block body in
@@ -244,7 +260,7 @@ procedure_piece {links} {code} program block line body first input all alone sma
       pc = (at2 b).pc;
       holds = record { body = record { services = o.body.services; registers = o.body.registers; bytes = o.body.bytes; memory = no_contents f first (λ j. pos 0) (begin_contents (main_kind program block)) t b _ refl o.body.memory }; regs = o.regs };
     })
-    (λ enough g3 at3. body_piece program block line body first input all alone small' enough k ready low fits does' (omega (arith, later)) la lb finish' f.at g3 at3))))
+    (λ enough g3 at3. body_piece program block line body first input all alone small' enough k ready low fits does' (omega (arith, later)) la lb finish' f.at refl g3 at3))))
 
 -- the whole run
 pub main_runs : {links : Links} {code : List Instr} (program : Y.Program) (block line : ℕ) (body : Y.Stmts) (first input : List ℕ) (all : AllPlain program.variables) (alone : IsAlone program block line body) (small' : main_words program block body ≤ most_code) (k : ℕ) → AllReady links code first program block → line < 2 ^ 31 → k + 1 < 2 ^ 64 → length first ≡ memory_size → Placed program block line body links code → BodyDoes program block line body first all alone small' links code k → Comes code 0 (start_family first (first_services (table_of program) input)) (first_services (table_of program) input) never (M.run program (suc k) k (first_state input))

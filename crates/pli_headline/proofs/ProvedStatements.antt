@@ -1,7 +1,7 @@
 -- The statements that are proved so far: each list of them does what it means, where the constant bytes that its code names stand in
 -- memory.
-use Rattle.std.proofs.Common.{◌≡◌, ℕ, suc, ◌+◌, ◌-◌, ◌*◌, ◌^◌, ◌<◌, ◌≤◌, List, [], ◌++◌, Option, None, Some, inl, inr, refl, sym, subst, arith, append-nil}
-use Rattle.std.specs.Prelude.{max}
+use Rattle.std.proofs.Common.{◌≡◌, ℕ, suc, ◌+◌, ◌-◌, ◌*◌, ◌^◌, ◌<◌, ◌≤◌, List, [], ◌++◌, Option, None, Some, inl, inr, true, false, refl, sym, ap, ◌∙◌, subst, arith, append-nil}
+use Rattle.std.specs.Prelude.{cond, max, ◌==◌}
 use Rattle.std.proofs.Math.Nat.{le-max_left, le-max_right}
 use Rattle.rv_meaning.specs.declared.instr.Instr.{Instr}
 use Rattle.pli_typing.specs.TypedTree as Y
@@ -22,11 +22,12 @@ use Rattle.pli_headline.proofs.Ifs.{if_does, if_else_does}
 use Rattle.pli_headline.proofs.Catching.{within, listed}
 use Rattle.pli_headline.proofs.InnerLevels.{IsAmong, among_front, among_back}
 use Rattle.pli_headline.proofs.InnerWords.{inner_words, all_inner_words}
-use Rattle.pli_headline.proofs.InnerFrames.{Inner, inner_block}
+use Rattle.pli_headline.proofs.InnerFrames.{Inner, other_level, inner_block}
 use Rattle.pli_headline.proofs.BeginMeant.{Entering, inner_around, inner_entering}
 use Rattle.pli_headline.proofs.Begins.{inner_of, begin_does}
+use Rattle.pli_headline.proofs.JumpsOut.{out_does}
 use Rattle.pli_headline.proofs.Returns.{return_does}
-use Rattle.pli_headline.proofs.Gotos.{LabelsStand, goto_does}
+use Rattle.pli_headline.proofs.Gotos.{owner_number, LabelsStand, goto_does}
 use Rattle.pli_headline.proofs.Groups.{do_does}
 use Rattle.pli_headline.proofs.Loops.{while_does}
 use Rattle.pli_headline.proofs.Stops.{stop_does}
@@ -54,18 +55,20 @@ standing_inside inner t0 number level next s =
       constants = λ n. record { stand = λ bytes placed t b m o. (s.constants n).stand bytes placed t0 b m o.kept };
     }
 
-inner_labels_stand : {e : Environment} {links : Links} {all : List (ℕ × Label)} → LabelsStand e links all → (number level : ℕ) → level ≡ suc e.level → IsAmong (record { number = number; level = level }) e.blocks → LabelsStand (in_frame number level e) links all
+inner_labels_stand : {e : Environment} {links : Links} {all : List (ℕ × Label)} {procedure : ℕ} → LabelsStand e links all procedure → (number level : ℕ) → level ≡ suc e.level → IsAmong (record { number = number; level = level }) e.blocks → LabelsStand (in_frame number level e) links all procedure
 inner_labels_stand named number level next among =
     record {
       own = named.found (record { number = number; level = level }) among;
       found = named.found;
       once = named.once;
-      owner = λ outer. absurd (omega (arith, next, outer));
-      ended = λ outer. absurd (omega (arith, next, outer));
+      owner = named.owner;
+      ended = named.ended;
+      outermost = named.outermost;
+      main = λ same. let no : true ≡ false = sym same ∙ other_level level _ next in absurd (cc no);
     }
 
 mutual
-  pub statement_does : {e : Environment} {block : ℕ} {types : Types} (bl : Block e block types) (links : Links) (code : List Instr) (routines : Standing bl links code) (around : Around) (same : around.program ≡ e.program) {all : List (ℕ × Label)} (named : LabelsStand e links all) (x : Y.Stmt) → IsProvedStatement block types x → JumpsAround e.block e.level all bl.labels x → bl.taken.words + stmt_words x ≤ bl.words → bl.stack.free + 4 * inner_words x + 700 * (101 - e.level) ≤ 14 * 2 ^ 20 → IsBare e.program x → {more : ℕ} → Entering e.program around more → ((b : BlockPlace) → IsAmong b (blocks_in x) → IsAmong b e.blocks) → Does bl links code around.turns (stmt_code e bl.taken x) (M.statement around x)
+  pub statement_does : {e : Environment} {block : ℕ} {types : Types} (bl : Block e block types) (links : Links) (code : List Instr) (routines : Standing bl links code) (around : Around) (same : around.program ≡ e.program) {all : List (ℕ × Label)} {procedure : ℕ} (named : LabelsStand e links all procedure) (x : Y.Stmt) → IsProvedStatement block types x → JumpsAround e.block e.level all procedure bl.outer bl.labels x → bl.taken.words + stmt_words x ≤ bl.words → bl.stack.free + 4 * inner_words x + 700 * (101 - e.level) ≤ 14 * 2 ^ 20 → IsBare e.program x → {more : ℕ} → Entering e.program around more → ((b : BlockPlace) → IsAmong b (blocks_in x) → IsAmong b e.blocks) → Does bl links code around.turns (stmt_code e bl.taken x) (M.statement around x)
   statement_does bl links code routines around same named (Y.Null line) is jumps room space bare entering known = null_does bl links code around line is
   statement_does bl links code routines around same named (Y.Assign target (Y.StoredNumber precision x) line) is jumps room space bare entering known =
       let a = le-max_left (max 1 (number_words x)) (4 + reference_words target) in
@@ -137,25 +140,27 @@ mutual
       counted_does bl links code routines around target precision p x limit step condition body line is.0.0 is.0.1 is.1.0.0 is.1.0.1 is.1.1.0
       (omega (arith, room, m1, a1, a3)) (omega (arith, room, m1, a2, a4)) (omega (arith, room, m1, a2, a5)) (omega (arith, room, m2, d1, d2)) is.1.1.1.1
       (listed (turning bl) around body (each_does (within (labels_in body) (turning bl)) links code (standing_within (labels_in body) (standing_turning routines)) around same named body is.1.1.1.0 jumps (omega (arith, room, m2, d1, d3)) space bare entering known))
-  statement_does {e} bl links code routines around same {all} named (Y.Begin (Y.BlockOf head body)) is jumps room space bare {more} entering known =
+  statement_does {e} bl links code routines around same {all} {procedure} named (Y.Begin (Y.BlockOf head body)) is jumps room space bare {more} entering known =
       let next = jumps.0.0 in
       let deep = jumps.0.1 in
       let shallow : e.level < 100 = omega (arith, next, deep) in
       let inner = inner_of bl (max 0 (stmts_words body)) shallow (omega (arith, space, shallow)) in
-      begin_does bl links code around more head body inner refl shallow next is.0 is.1.0 bare.0 entering
+      begin_does bl links code around more head body inner (λ number owned main. ap owner_number (sym owned ∙ named.owner) ∙ named.main main) refl shallow next is.0 is.1.0 bare.0 entering
       (λ more' t0.
       let ib = inner_block bl inner t0 head.number head.level next in
       let here = inner_around e.program more' head.line in
-      let high : AllJumpAround head.number head.level all (labels_in body ++ []) body = subst (λ ls. AllJumpAround head.number head.level all ls body) (sym (append-nil (labels_in body))) jumps.1 in
+      let high : AllJumpAround head.number head.level all procedure (cond (0 == e.level) bl.labels bl.outer) (labels_in body ++ []) body = subst (λ ls. AllJumpAround head.number head.level all procedure (cond (0 == e.level) bl.labels bl.outer) ls body) (sym (append-nil (labels_in body))) jumps.1 in
       let most = le-max_right 0 (stmts_words body) in
       listed ib here body
       (each_does (within (labels_in body) ib) links code (standing_within (labels_in body) (standing_inside inner t0 head.number head.level next routines)) here refl (inner_labels_stand named head.number head.level next (known (place_of_head head) (inl refl))) body is.1.1 high (omega (arith, most))
       (omega (arith, space, next, shallow))
       bare.1 (inner_entering e.program more' head.line) (λ b h. known b (inr h))))
   statement_does bl links code routines around same named (Y.Return line) is jumps room space bare entering known =
-      return_does bl links code around line is jumps (named.owner jumps) (named.ended jumps)
-  statement_does {e} bl links code routines around same named (Y.Goto level label line) is jumps room space bare entering known =
+      return_does bl links code around line _ is named.owner named.ended
+  statement_does {e} bl links code routines around same {all} {procedure} named (Y.Goto level label line) is (inl jumps) room space bare entering known =
       goto_does bl links code around level label line jumps.0 is jumps.1.0 (named.once e.block label jumps.1.1) named.own
+  statement_does {e} bl links code routines around same {all} {procedure} named (Y.Goto level label line) is (inr jumps) room space bare entering known =
+      out_does bl links code around level procedure label line jumps.0.0 jumps.0.1 is named.owner jumps.1.1.0 (named.once procedure label jumps.1.1.1) (named.outermost e.block jumps.1.0)
   statement_does bl links code routines around same named (Y.Stop line) is jumps room space bare entering known = stop_does bl links code around line is
   statement_does bl links code routines around same named (Y.Signal condition line) is jumps room space bare entering known = signal_does bl links code routines.raises around condition line is
   statement_does bl links code routines around same named (Y.Put None pairs line) is jumps room space bare entering known =
@@ -168,7 +173,7 @@ mutual
       get_skip_does bl links code routines around same n pairs line is.0.0 is.0.1 is.1.0 is.1.1 room
   statement_does bl links code routines around same named _ is jumps room space bare entering known = absurd is
 
-  pub each_does : {e : Environment} {block : ℕ} {types : Types} (bl : Block e block types) (links : Links) (code : List Instr) (routines : Standing bl links code) (around : Around) (same : around.program ≡ e.program) {all : List (ℕ × Label)} (named : LabelsStand e links all) (body : Y.Stmts) → AreProvedStatements block types body → AllJumpAround e.block e.level all bl.labels body → bl.taken.words + stmts_words body ≤ bl.words → bl.stack.free + 4 * all_inner_words body + 700 * (101 - e.level) ≤ 14 * 2 ^ 20 → AreBare e.program body → {more : ℕ} → Entering e.program around more → ((b : BlockPlace) → IsAmong b (blocks_among body) → IsAmong b e.blocks) → EachDoes bl links code around body
+  pub each_does : {e : Environment} {block : ℕ} {types : Types} (bl : Block e block types) (links : Links) (code : List Instr) (routines : Standing bl links code) (around : Around) (same : around.program ≡ e.program) {all : List (ℕ × Label)} {procedure : ℕ} (named : LabelsStand e links all procedure) (body : Y.Stmts) → AreProvedStatements block types body → AllJumpAround e.block e.level all procedure bl.outer bl.labels body → bl.taken.words + stmts_words body ≤ bl.words → bl.stack.free + 4 * all_inner_words body + 700 * (101 - e.level) ≤ 14 * 2 ^ 20 → AreBare e.program body → {more : ℕ} → Entering e.program around more → ((b : BlockPlace) → IsAmong b (blocks_among body) → IsAmong b e.blocks) → EachDoes bl links code around body
   each_does bl links code routines around same named (Y.EndOfList labels) are jumps room space bare entering known = tt
   each_does bl links code routines around same named (Y.StmtThen labels first rest) are jumps room space bare entering known =
       let a = le-max_left (stmt_words first) (stmts_words rest) in
@@ -180,7 +185,7 @@ mutual
       )
 
 -- the statements of a block
-pub body_does : {e : Environment} {block : ℕ} {types : Types} (bl : Block e block types) (links : Links) (code : List Instr) (routines : Standing bl links code) (around : Around) (same : around.program ≡ e.program) {all : List (ℕ × Label)} (named : LabelsStand e links all) (body : Y.Stmts) → AreProvedStatements block types body → AllJumpAround e.block e.level all (labels_in body ++ bl.labels) body → bl.taken.words + stmts_words body ≤ bl.words → bl.stack.free + 4 * all_inner_words body + 700 * (101 - e.level) ≤ 14 * 2 ^ 20 → AreBare e.program body → {more : ℕ} → Entering e.program around more → ((b : BlockPlace) → IsAmong b (blocks_among body) → IsAmong b e.blocks) → Does bl links code around.turns (stmts_code e bl.taken body) (M.list around body)
+pub body_does : {e : Environment} {block : ℕ} {types : Types} (bl : Block e block types) (links : Links) (code : List Instr) (routines : Standing bl links code) (around : Around) (same : around.program ≡ e.program) {all : List (ℕ × Label)} {procedure : ℕ} (named : LabelsStand e links all procedure) (body : Y.Stmts) → AreProvedStatements block types body → AllJumpAround e.block e.level all procedure bl.outer (labels_in body ++ bl.labels) body → bl.taken.words + stmts_words body ≤ bl.words → bl.stack.free + 4 * all_inner_words body + 700 * (101 - e.level) ≤ 14 * 2 ^ 20 → AreBare e.program body → {more : ℕ} → Entering e.program around more → ((b : BlockPlace) → IsAmong b (blocks_among body) → IsAmong b e.blocks) → Does bl links code around.turns (stmts_code e bl.taken body) (M.list around body)
 body_does bl links code routines around same named body are jumps room space bare entering known =
     listed bl around body
     (each_does (within (labels_in body) bl) links code (standing_within (labels_in body) routines) around same named body are jumps room space bare entering known)

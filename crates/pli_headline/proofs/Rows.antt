@@ -1,5 +1,5 @@
 -- The statement's definitions, computed.
-use Rattle.std.proofs.Common.{◌≡◌, ℕ, ◌+◌, ◌≤◌, List, [], ◌∷◌, None, Some, Bool, true, false, refl, arith, lit<}
+use Rattle.std.proofs.Common.{◌≡◌, ℕ, ◌+◌, ◌≤◌, List, [], ◌∷◌, None, Some, Bool, true, false, inl, inr, refl, arith, lit<}
 use Rattle.std.specs.Prelude.{negsuc}
 use Rattle.rv_meaning.specs.declared.instr.Fault.TheVariants.{BadService}
 use Rattle.rv_meaning.specs.declared.instr.Instr.TheVariants as I
@@ -113,8 +113,8 @@ jumping =
 jumping_proved : AreProvedStatements 1 [] jumping
 jumping_proved = ((tt, (((tt, (lit< tt, lit< tt)), (lit< tt, tt)), lit< tt)), tt)
 
-jumps_around : AllJumpAround 1 0 (all_labels 1 jumping) (labels_in jumping) jumping
-jumps_around = (((refl, (refl, refl)), ((refl, (refl, refl)), tt)), tt)
+jumps_around : AllJumpAround 1 0 (all_labels 1 jumping) 1 [] (labels_in jumping) jumping
+jumps_around = ((inl (refl, (refl, refl)), (inl (refl, (refl, refl)), tt)), tt)
 
 -- (X(1), 2 (COLUMN(3), F(5)), A)
 abbrev page : T.Formats
@@ -232,7 +232,8 @@ small_program =
       };
     }
 
--- T: PROC OPTIONS(MAIN); DECLARE I FIXED BINARY(31); BEGIN; I = 1; L: BEGIN; IF '0'B THEN GOTO M; M: END; END; END;
+-- T: PROC OPTIONS(MAIN); DECLARE I FIXED BINARY(31);
+-- N: BEGIN; I = 1; L: BEGIN; IF '0'B THEN GOTO M; IF '0'B THEN GOTO N; RETURN; M: END; END; END;
 abbrev inner_head : Y.BlockHead
 inner_head = record { kind = Y.BeginBlock; number = 2; level = 1; line = 2 }
 
@@ -241,7 +242,8 @@ innermost_head = record { kind = Y.BeginBlock; number = 3; level = 2; line = 3 }
 
 abbrev innermost_body : Y.Stmts
 innermost_body =
-    Y.StmtThen [] (Y.If (Y.BitConstant false) (Y.Goto 2 (77 ∷ []) 4) 4) (Y.EndOfList ((77 ∷ []) ∷ []))
+    Y.StmtThen [] (Y.If (Y.BitConstant false) (Y.Goto 2 (77 ∷ []) 4) 4)
+    (Y.StmtThen [] (Y.If (Y.BitConstant false) (Y.Goto 0 (78 ∷ []) 5) 5) (Y.StmtThen [] (Y.Return 6) (Y.EndOfList ((77 ∷ []) ∷ []))))
 
 abbrev inner_body : Y.Stmts
 inner_body =
@@ -249,7 +251,7 @@ inner_body =
     (Y.StmtThen ((76 ∷ []) ∷ []) (Y.Begin (Y.BlockOf innermost_head innermost_body)) (Y.EndOfList []))
 
 abbrev outer_body : Y.Stmts
-outer_body = Y.StmtThen [] (Y.Begin (Y.BlockOf inner_head inner_body)) (Y.EndOfList [])
+outer_body = Y.StmtThen ((78 ∷ []) ∷ []) (Y.Begin (Y.BlockOf inner_head inner_body)) (Y.EndOfList [])
 
 abbrev with_block : Y.Program
 with_block =
@@ -271,10 +273,10 @@ block_program =
         level = refl;
         line = lit< tt;
         statements = (
-          (refl, (lit< tt, ((i, (lit< tt, lit< tt)), ((refl, (lit< tt, ((tt, (lit< tt, lit< tt)), tt))), tt)))),
+          (refl, (lit< tt, ((i, (lit< tt, lit< tt)), ((refl, (lit< tt, ((tt, (lit< tt, lit< tt)), ((tt, (lit< tt, lit< tt)), (lit< tt, tt))))), tt)))),
           tt,
         );
-        jumps = (((refl, omega arith), (tt, (((refl, omega arith), ((refl, (refl, refl)), tt)), tt))), tt);
-        inside = ((refl, (tt, ((refl, (tt, tt)), tt))), tt);
+        jumps = (((refl, omega arith), (tt, (((refl, omega arith), (inl (refl, (refl, refl)), (inr ((refl, refl), (omega arith, (refl, refl))), (tt, tt)))), tt))), tt);
+        inside = ((refl, (tt, ((refl, (tt, (tt, (tt, tt)))), tt))), tt);
       };
     }

@@ -1,5 +1,5 @@
 -- Statements of a block whose variables are scalars, one behind the other.
-use Rattle.std.proofs.Common.{◌≡◌, ℕ, suc, ◌+◌, ◌*◌, ◌%◌, ◌^◌, ◌<◌, ◌≤◌, List, [], ◌∷◌, ◌++◌, length, Option, Some, None, true, refl, sym, ap, ◌∙◌, subst, arith}
+use Rattle.std.proofs.Common.{◌≡◌, ℕ, zero, suc, ◌+◌, ◌*◌, ◌%◌, ◌^◌, ◌<◌, ◌≤◌, List, [], ◌∷◌, ◌++◌, length, Option, Some, None, true, false, refl, sym, ap, ◌∙◌, subst, arith}
 use Rattle.std.specs.Prelude.{ℤ, pos, max, slice_get, ◌==◌}
 use Rattle.std.proofs.Math.Nat.{le-max_left}
 use Rattle.rv_meaning.specs.declared.instr.Instr.{Instr}
@@ -7,17 +7,19 @@ use Rattle.rv_meaning.specs.Words.{word}
 use Rattle.rv_meaning.specs.Memory.{load, store}
 use Rattle.rv_meaning.specs.Machine.{memory_size, load_width, extended, store_width}
 use Rattle.pli_typing.specs.TypedTree as Y
+use Rattle.pli_meaning.specs.declared.outcome.End.TheVariants as E
 use Rattle.pli_meaning.specs.World.{World, counted}
 use Rattle.pli_meaning.specs.BasicValues.{BasicValue}
-use Rattle.pli_meaning.specs.StorageState.{State, with_world}
+use Rattle.pli_meaning.specs.StorageState.{State, with_world, newest_ended}
 use Rattle.pli_meaning.specs.Control.{Label, Flow, Meaning, act, give, choose, is_among, ◌>>=◌, ◌>>◌}
 use Rattle.pli_meaning.specs.Raising.{Around, at_line}
 use Rattle.pli_meaning.specs.Evaluating as V
 use Rattle.pli_meaning.specs.Executing as M
-use Rattle.pli_serving.specs.ServiceState.{Services}
+use Rattle.pli_serving.specs.ServiceState.{Services, Activation}
 use Rattle.pli_coding.specs.Assembly.{LabelPlace, ReturnPlace, Code, size_of}
+use Rattle.pli_coding.specs.Frames.{frame_end}
 use Rattle.pli_coding.specs.Allocating.{act_code}
-use Rattle.pli_coding.specs.Environments.{Environment, Taken}
+use Rattle.pli_coding.specs.Environments.{Environment, Taken, BlockOwner}
 use Rattle.pli_coding.specs.Expressions.{stored_code}
 use Rattle.pli_coding.specs.Storing.{word_stored, stored_into, assigned_code}
 use Rattle.pli_coding.specs.Statements.{stmt_code, stmts_code, marked}
@@ -29,10 +31,11 @@ use Rattle.pli_headline.proofs.Engine.{Base, address, most_code}
 use Rattle.pli_headline.proofs.Linking.{times_marked, size_append}
 use Rattle.pli_headline.proofs.Items.{Linked, At, straight, Items}
 use Rattle.pli_headline.proofs.Scalars.{Typed, Fits, load_kind, store_kind}
-use Rattle.pli_headline.proofs.Bodies.{Ground, Known, PlaceFrom, reserved_are}
+use Rattle.pli_headline.proofs.Bodies.{Ground, Known, PlaceFrom, Regs, reserved_are}
 use Rattle.pli_headline.proofs.Jumps.{front_of, back_of}
 use Rattle.pli_headline.proofs.Temporaries.{Temporaries, Stays, stays_same, stays_then, nothing}
 use Rattle.pli_headline.proofs.Reaching.{Reaches}
+use Rattle.pli_headline.proofs.Activations.{frames_of, RestOn}
 use Rattle.pli_headline.proofs.Calls.{Serving}
 use Rattle.pli_headline.proofs.Raising.{Routines}
 use Rattle.pli_headline.proofs.StandingBytes.{ConstantsStand}
@@ -55,11 +58,36 @@ pub record Stack (e : Environment) (block : ℕ) (types : Types) (base : ℕ) (g
   pub aligned : free % 4 ≡ 0
   pub high : 7 * 2 ^ 20 ≤ free
   pub above : frame + 144 ≤ free
+  pub over : base < free
   pub keeps : (n : ℕ → ℤ) (t : ℕ → ℕ) (b : Base) (m : List ℕ) (p x : ℕ) → free ≤ p → (ground n).memory t b m → (ground n).memory t b (store 4 m p x)
   pub under : (j : ℕ) {type : Y.LeafType} → slice_get types j ≡ Some type → base + data_place e block j + 4 ≤ free
 
+-- the frame of the main procedure, below all others, with what stands in it whatever a block does
+pub record Lowest (base : ℕ) (frames : List ℕ) (ground : (ℕ → ℤ) → Ground) : Type 1 where
+  pub holds : Base → List ℕ → Type 0
+  pub aligned : base % 4 ≡ 0
+  pub room : base + 164 ≤ 15 * 2 ^ 20
+  pub own : (b : Base) (m : List ℕ) → holds b m → load 4 m (base + 36) ≡ base
+  pub kept : (n : ℕ → ℤ) (t : ℕ → ℕ) (b : Base) (m : List ℕ) → (ground n).memory t b m → holds b m
+  pub rest : RestOn base frames
+
+-- a block that is the main procedure itself
+pub record Alone (base size : ℕ) (frames : List ℕ) (ground : (ℕ → ℤ) → Ground) : Type 1 where
+  pub frames_are : frames ≡ base ∷ []
+  pub frame_is : (n : ℕ → ℤ) → (ground n).frame ≡ base
+  pub free_is : (n : ℕ → ℤ) → (ground n).free ≡ base + size
+
+-- the ground of the main procedure around a block, and the words that wait there
+pub record Enclosing (base size : ℕ) (ground : (ℕ → ℤ) → Ground) : Type 1 where
+  pub its : (ℕ → ℤ) → Ground
+  pub waits : ℕ → ℕ
+  pub frame_is : (n : ℕ → ℤ) → (its n).frame ≡ base
+  pub free_is : (n : ℕ → ℤ) → (its n).free ≡ base + size
+  pub kept : (n : ℕ → ℤ) (t : ℕ → ℕ) (b : Base) (m : List ℕ) → (ground n).memory t b m → (its n).memory waits b m
+
 -- the ground of a block by the numbers that variables hold, which stand in the main procedure's frame, the temporaries that are taken
--- while its statements run, and the labels that a GOTO there may name: those of the lists that are carried out around
+-- while its statements run, the labels that a GOTO there may name: those of the lists that are carried out around, the frames of the
+-- blocks that are entered, and those of the levels around, which stand in its display
 pub record Block (e : Environment) (block : ℕ) (types : Types) : Type 1 where
   pub ground : (ℕ → ℤ) → Ground
   pub words : ℕ
@@ -76,20 +104,33 @@ pub record Block (e : Environment) (block : ℕ) (types : Types) : Type 1 where
   pub reads : (n : ℕ → ℤ) (j : ℕ) {type : Y.LeafType} → slice_get types j ≡ Some type → Fits type (n j) → (t : ℕ → ℕ) (b : Base) (m : List ℕ) → (ground n).memory t b m → extended (load_kind type) (load (load_width (load_kind type)) m (base + data_place e block j)) ≡ word (n j)
   pub writes : (n : ℕ → ℤ) (j : ℕ) (z : ℤ) {type : Y.LeafType} → slice_get types j ≡ Some type → Fits type (n j) → Fits type z → (t : ℕ → ℕ) (b : Base) (m : List ℕ) → length m ≡ memory_size → (ground n).memory t b m → (ground (with_number_at n j z)).memory t b (store (store_width (store_kind type)) m (base + data_place e block j) (word z))
   pub held : taken.registers ≡ 0
+  pub frames : List ℕ
+  pub bottom : Lowest base frames ground
+  pub size : ℕ
+  pub ends : base + size ≤ 14 * 2 ^ 20
+  pub sized : (number : ℕ) → e.owner ≡ BlockOwner (record { number = number; level = 0 }) → frame_end e.parts e.program number 0 ≡ size
+  pub outer : List Label
+  pub alone : (0 == e.level) ≡ true → Alone base size frames ground
+  pub outside : (0 == e.level) ≡ false → Enclosing base size ground
   pub stack : Stack e block types base ground
+  pub levels : ℕ → ℕ
+  pub level_room : (j : ℕ) → j < e.level → levels j < memory_size
+  pub outermost_level : (0 == e.level) ≡ false → levels 0 ≡ base
+  pub displays : (n : ℕ → ℤ) (t : ℕ → ℕ) (b : Base) (m : List ℕ) (j : ℕ) → j < e.level → (ground n).memory t b m → load 4 m (stack.frame + (144 + 4 * j)) ≡ b.at + levels j
 
 -- what stands beside it: the routines of raises, and constant bytes
 pub record Standing {e : Environment} {block : ℕ} {types : Types} (bl : Block e block types) (links : Links) (code : List Instr) : Type 0 where
   pub raises : Routines links code
   pub constants : (n : ℕ → ℤ) → ConstantsStand links code (bl.ground n)
 
--- so many blocks are entered, variables hold these numbers, and all that lives is STATIC or the main procedure's
-pub record AllHold (height : ℕ) (s : State) (block : ℕ) (types : Types) (n : ℕ → ℤ) : Type 0 where
+-- so many blocks are entered, which have these frames, variables hold these numbers, and all that lives is STATIC or the main procedure's
+pub record AllHold (frames : List ℕ) (xs : List Activation) (height : ℕ) (s : State) (block : ℕ) (types : Types) (n : ℕ → ℤ) : Type 0 where
   pub numbers : (j : ℕ) (b : Typed types j) → Holds s block j b.0 (n j)
   pub entered : length s.activations ≡ height
+  pub framed : frames_of xs ≡ frames
   pub owned : (height' : ℕ) → 1 < height' → NoneOwned height' s.living
 
-abbrev pub scope_of : {e : Environment} {block : ℕ} {types : Types} (b : Block e block types) {s : State} (n : ℕ → ℤ) → AllHold (suc e.level) s block types n → Scope (b.ground n) e block types s n
+abbrev pub scope_of : {e : Environment} {block : ℕ} {types : Types} (b : Block e block types) {s : State} {xs : List Activation} (n : ℕ → ℤ) → AllHold b.frames xs (suc e.level) s block types n → Scope (b.ground n) e block types s n
 scope_of b n all =
     record {
       declared = λ j below. b.declared j below;
@@ -106,7 +147,7 @@ scope_of b n all =
 -- behind a statement: other services, a state and numbers that stand together, and what waited before it
 abbrev pub Behind : {e : Environment} {block : ℕ} {types : Types} → Block e block types → (k : ℕ) → (h t : ℕ → ℕ) → (i : ℕ) → Aims (Unit {0}) → Type 0
 Behind {e = e} {block = block} {types = types} bl k h0 t0 i aims =
-    (s : State) (v : Services) (line : ℕ) (n : ℕ → ℤ) (h t : ℕ → ℕ) (f : Family) → Serving k s v line → AllHold (suc e.level) s block types n → Stays bl.taken h0 t0 h t → ((b : Base) → At b i (Known (bl.ground n) v h t nothing b) (f b)) → aims.done i f v tt s
+    (s : State) (v : Services) (line : ℕ) (n : ℕ → ℤ) (h t : ℕ → ℕ) (f : Family) → Serving k s v line → AllHold bl.frames v.activations (suc e.level) s block types n → Stays bl.taken h0 t0 h t → ((b : Base) → At b i (Known (bl.ground n) v h t nothing b) (f b)) → aims.done i f v tt s
 
 -- a label is marked once
 abbrev pub IsMarkedOnce : Links → (block : ℕ) → Label → Type 0
@@ -117,28 +158,48 @@ pub record Landing {e : Environment} {block : ℕ} {types : Types} (bl : Block e
   pub at : ℕ
   pub place : place_of links (LabelPlace e.block label) ≡ 4 * at
   pub near : at ≤ most_code
-  pub later : 2 ≤ at
-  pub lands : (s : State) (v : Services) (line : ℕ) (n : ℕ → ℤ) (h t : ℕ → ℕ) (f : Family) → Serving k s v line → AllHold (suc e.level) s block types n → Stays bl.taken h0 t0 h t → acts < v.world.acts → ((b : Base) → At b at (Known (bl.ground n) v h t nothing b) (f b)) → jumped at f v (suc e.level) label s
+  pub later : 10 ≤ at
+  pub lands : (s : State) (v : Services) (line : ℕ) (n : ℕ → ℤ) (h t : ℕ → ℕ) (f : Family) → Serving k s v line → AllHold bl.frames v.activations (suc e.level) s block types n → Stays bl.taken h0 t0 h t → acts < v.world.acts → ((b : Base) → At b at (Known (bl.ground n) v h t nothing b) (f b)) → jumped at f v (suc e.level) label s
 
 -- the end of a block is marked once
 abbrev pub IsEndMarkedOnce : Links → (block : ℕ) → Type 0
 IsEndMarkedOnce links block = times_marked (ReturnPlace block) links.marks ≡ 1
 
--- where a return of a procedure goes on: at the end of its block, whatever waited
-pub record Exit (e : Environment) (block : ℕ) (types : Types) (ground : (ℕ → ℤ) → Ground) (links : Links) (k : ℕ) (returned : ℕ → Family → Services → Option BasicValue → State → Type 0) : Type 0 where
+-- once so many blocks have ended
+abbrev pub ended_times : ℕ → State → State
+ended_times zero s = s
+ended_times (suc m) s = ended_times m (with_world s.world (newest_ended s))
+
+-- where a jump out of a block goes on: at a label of the main procedure, in its frame, once the blocks in it have ended
+pub record Outlet (number level base : ℕ) (block : ℕ) (types : Types) (its : (ℕ → ℤ) → Ground) (waits : ℕ → ℕ) (links : Links) (k acts : ℕ) (jumped : ℕ → Family → Services → ℕ → Label → State → Type 0) (label : Label) : Type 0 where
   pub at : ℕ
-  pub place : place_of links (ReturnPlace e.block) ≡ 4 * at
+  pub place : place_of links (LabelPlace number label) ≡ 4 * at
   pub near : at ≤ most_code
-  pub later : 2 ≤ at
-  pub leaves : (s : State) (v : Services) (line : ℕ) (n : ℕ → ℤ) (h t : ℕ → ℕ) (f : Family) → Serving k s v line → AllHold (suc e.level) s block types n → ((b : Base) → At b at (Known (ground n) v h t nothing b) (f b)) → returned at f v None s
+  pub later : 10 ≤ at
+  pub lands : (s : State) (v : Services) (line : ℕ) (n : ℕ → ℤ) (h : ℕ → ℕ) (f : Family) → Serving k (ended_times level s) v line → AllHold (base ∷ []) v.activations 1 (ended_times level s) block types n → acts < v.world.acts → ((b : Base) → At b at (Known (its n) v h waits nothing b) (f b)) → jumped at f v 1 label s
+
+-- a machine in the frame of the main procedure, of which the stack isn't asked
+pub record Unwound (base : ℕ) (holds : Base → List ℕ → Type 0) (v : Services) (b : Base) (w : Whole) : Type 0 where
+  pub services : w.services ≡ v
+  pub regs : Regs ((8, b.at + base) ∷ (0, 0) ∷ []) w.machine.registers
+  pub memory : holds b w.machine.memory
+
+-- where a return goes on: at the end of the procedure, in its frame, once the blocks in it have ended among the services
+pub record Exit (number base : ℕ) (holds : Base → List ℕ → Type 0) (links : Links) (k : ℕ) (returned : ℕ → Family → Services → Option BasicValue → State → Type 0) : Type 0 where
+  pub at : ℕ
+  pub place : place_of links (ReturnPlace number) ≡ 4 * at
+  pub near : at ≤ most_code
+  pub later : 7 ≤ at
+  pub leaves : (s : State) (v : Services) (f : Family) (a : Activation) → v.world ≡ s.world → v.world.end ≡ E.Running → v.world.acts ≤ k → k + 1 < 2 ^ 64 → v.activations ≡ a ∷ [] → ((b : Base) → At b at (Unwound base holds v b) (f b)) → returned at f v None s
 
 -- what a part may count on where it begins: loops and jumps may make more turns than acts are allowed, the code stands behind the
 -- start, and jumps to the block's labels go on, and so does a return
 pub record Enough {e : Environment} {block : ℕ} {types : Types} (bl : Block e block types) (links : Links) (k turns i : ℕ) (h t : ℕ → ℕ) (acts : ℕ) (jumped : ℕ → Family → Services → ℕ → Label → State → Type 0) (returned : ℕ → Family → Services → Option BasicValue → State → Type 0) : Type 0 where
   pub enough : k < turns + acts
-  pub later : 2 ≤ i
+  pub later : 10 ≤ i
   pub jumps : (label : Label) → is_among label bl.labels ≡ true → IsMarkedOnce links e.block label → Landing bl links k h t acts jumped label
-  pub returns : e.level ≡ 0 → IsEndMarkedOnce links e.block → Exit e block types bl.ground links k returned
+  pub outs : (inside : (0 == e.level) ≡ false) (number : ℕ) → e.owner ≡ BlockOwner (record { number = number; level = 0 }) → (label : Label) → is_among label bl.outer ≡ true → IsMarkedOnce links number label → Outlet number e.level bl.base block types (bl.outside inside).its (bl.outside inside).waits links k acts jumped label
+  pub returns : (number : ℕ) → e.owner ≡ BlockOwner (record { number = number; level = 0 }) → IsEndMarkedOnce links number → Exit number bl.base bl.bottom.holds links k returned
 
 -- the same further on
 pub further : {e : Environment} {block : ℕ} {types : Types} {bl : Block e block types} {links : Links} {k turns i : ℕ} {h t : ℕ → ℕ} {acts : ℕ} {jumped : ℕ → Family → Services → ℕ → Label → State → Type 0} {returned : ℕ → Family → Services → Option BasicValue → State → Type 0} {i' : ℕ} {h' t' : ℕ → ℕ} {acts' : ℕ} → Enough bl links k turns i h t acts jumped returned → i ≤ i' → acts ≤ acts' → Stays bl.taken h t h' t' → Enough bl links k turns i' h' t' acts' jumped returned
@@ -155,26 +216,36 @@ further more behind grown stays =
             later = o.later;
             lands = λ s v line n h'' t'' f serving all stays' acted' at'. o.lands s v line n h'' t'' f serving all (stays_then stays stays') (omega (arith, grown, acted')) at';
           };
+      outs = λ inside number owned label among once.
+          let o = more.outs inside number owned label among once in
+          record {
+            at = o.at;
+            place = o.place;
+            near = o.near;
+            later = o.later;
+            lands = λ s v line n h'' f serving all acted' at'. o.lands s v line n h'' f serving all (omega (arith, grown, acted')) at';
+          };
       returns = more.returns;
     }
 
 -- from wherever a block's variables stand, a part's code does what the part means
 pub record Does {e : Environment} {block : ℕ} {types : Types} (bl : Block e block types) (links : Links) (code : List Instr) (turns : ℕ) (part : Code) (meaning : Meaning (Unit {0})) : Type 1 where
-  pub does : {i : ℕ} {s : State} {v : Services} {h t : ℕ → ℕ} {aims : Aims (Unit {0})} (closed : Closed code aims) (line : ℕ) (n : ℕ → ℤ) (f : Family) (k : ℕ) → Linked links code i part → Serving k s v line → AllHold (suc e.level) s block types n → ((b : Base) → At b i (Known (bl.ground n) v h t nothing b) (f b)) → Behind bl k h t (i + size_of part) aims → Enough bl links k turns i h t v.world.acts aims.jumped aims.returned → Comes code i f v aims (meaning k s)
+  pub does : {i : ℕ} {s : State} {v : Services} {h t : ℕ → ℕ} {aims : Aims (Unit {0})} (closed : Closed code aims) (line : ℕ) (n : ℕ → ℤ) (f : Family) (k : ℕ) → Linked links code i part → Serving k s v line → AllHold bl.frames v.activations (suc e.level) s block types n → ((b : Base) → At b i (Known (bl.ground n) v h t nothing b) (f b)) → Behind bl k h t (i + size_of part) aims → Enough bl links k turns i h t v.world.acts aims.jumped aims.returned → Comes code i f v aims (meaning k s)
 
 counted_holds : {s : State} {block j : ℕ} {type : Y.LeafType} {z : ℤ} (w : World) → Holds s block j type z → Holds (with_world w s) block j type z
 counted_holds w h = record { values = h.values; stands = h.stands; lives = h.lives; value = h.value; fits = h.fits }
 
-pub counted_all : {height : ℕ} {s : State} {block : ℕ} {types : Types} {n : ℕ → ℤ} (w : World) → AllHold height s block types n → AllHold height (with_world w s) block types n
+pub counted_all : {frames : List ℕ} {xs : List Activation} {height : ℕ} {s : State} {block : ℕ} {types : Types} {n : ℕ → ℤ} (w : World) → AllHold frames xs height s block types n → AllHold frames xs height (with_world w s) block types n
 counted_all w all =
-    record { numbers = λ j below. counted_holds w (all.numbers j below); entered = all.entered; owned = all.owned }
+    record { numbers = λ j below. counted_holds w (all.numbers j below); entered = all.entered; framed = all.framed; owned = all.owned }
 
 -- the numbers after one is assigned
-pub assigned_all : {height : ℕ} {s : State} {block : ℕ} {types : Types} {n : ℕ → ℤ} (j : ℕ) {type : Y.LeafType} (z : ℤ) (below : slice_get types j ≡ Some type) → Fits type z → (all : AllHold height s block types n) → AllHold height (assigned_state s type (suc j) (all.numbers j (type, below)).values z) block types (with_number_at n j z)
+pub assigned_all : {frames : List ℕ} {xs : List Activation} {height : ℕ} {s : State} {block : ℕ} {types : Types} {n : ℕ → ℤ} (j : ℕ) {type : Y.LeafType} (z : ℤ) (below : slice_get types j ≡ Some type) → Fits type z → (all : AllHold frames xs height s block types n) → AllHold frames xs height (assigned_state s type (suc j) (all.numbers j (type, below)).values z) block types (with_number_at n j z)
 assigned_all {s = s} {types = types} {n = n} j {type} z below fits all =
     record {
       numbers = λ i b. holds_assigned types n z below fits (all.numbers j (type, below)) all.numbers i b;
       entered = all.entered;
+      framed = all.framed;
       owned = λ height' above. none_owned_changed height' (suc j) _ s.living (all.owned height' above);
     }
 
@@ -187,7 +258,7 @@ null_does bl links code around line fits =
     }
 
 -- an assignment of a value that fits its target, a variable of the block
-pub assign_does : {e : Environment} {block : ℕ} {types : Types} (bl : Block e block types) (links : Links) (code : List Instr) (routines : Standing bl links code) (around : Around) (j : ℕ) {type : Y.LeafType} (source : Y.Stored) (line words : ℕ) (below : slice_get types j ≡ Some type) → ((v : Services) (s : State) (k : ℕ) (n : ℕ → ℤ) → AllHold (suc e.level) s block types n → Serving k s v line → Stores links code (bl.ground n) v s k words type (λ taken. stored_code e taken source) (V.stored_value (at_line around line) source)) → stored_into e bl.taken (whole (own block j)) source ≡ word_stored e bl.taken (whole (own block j)) → bl.taken.words + 1 ≤ bl.words → bl.taken.words + words ≤ bl.words → line < 2 ^ 31 → Does bl links code around.turns (act_code line ++ assigned_code e bl.taken (whole (own block j)) source) (M.statement around (Y.Assign (whole (own block j)) source line))
+pub assign_does : {e : Environment} {block : ℕ} {types : Types} (bl : Block e block types) (links : Links) (code : List Instr) (routines : Standing bl links code) (around : Around) (j : ℕ) {type : Y.LeafType} (source : Y.Stored) (line words : ℕ) (below : slice_get types j ≡ Some type) → ((v : Services) (s : State) (k : ℕ) (n : ℕ → ℤ) → AllHold bl.frames v.activations (suc e.level) s block types n → Serving k s v line → Stores links code (bl.ground n) v s k words type (λ taken. stored_code e taken source) (V.stored_value (at_line around line) source)) → stored_into e bl.taken (whole (own block j)) source ≡ word_stored e bl.taken (whole (own block j)) → bl.taken.words + 1 ≤ bl.words → bl.taken.words + words ≤ bl.words → line < 2 ^ 31 → Does bl links code around.turns (act_code line ++ assigned_code e bl.taken (whole (own block j)) source) (M.statement around (Y.Assign (whole (own block j)) source line))
 unfolding M.statement ◌>>=◌ ◌>>◌
 assign_does {e} {block} {types} bl links code routines around j {type} source line words below stores into some room fits =
     record {
@@ -211,7 +282,7 @@ assign_does {e} {block} {types} bl links code routines around j {type} source li
           (act_piece (before_closed k next' closed) f line old k fits (front_of front rest l) serving at
           (λ f1 serving1 at1.
           let s1 = with_world (counted s.world) s in
-          let all1 : AllHold (suc e.level) s1 block types n = counted_all _ all in
+          let all1 : AllHold bl.frames v.activations (suc e.level) s1 block types n = counted_all _ all in
           comes_on k (V.stored_value here source k s1) store
           ((stores _ s1 k n all1 serving1).does (before_closed k store closed) f1 bl.taken (omega (arith, room, w)) (front_of valued' (stored_into e bl.taken target source) l1) at1
           (λ z f2 h2 t2 fits2 stays2 at2.

@@ -90,7 +90,7 @@ condition_size e taken (Some x) c d =
     size_append (bit_code e (in_turns taken) x) (skip_where Test.NotEqual a0 zero_register (JumpAhead c ∷ []))
     ∙ sym (size_append (bit_code e (in_turns taken) x) (skip_where Test.NotEqual a0 zero_register (JumpAhead d ∷ [])))
 
-pub within_piece : {links : Links} {code : List Instr} {i : ℕ} {v : Services} {h t : ℕ → ℕ} {s : State} {aims : Aims Bool} {e : Environment} {block : ℕ} {types : Types} (bl : Block e block types) (routines : Standing bl links code) (around : Around) (j p : ℕ) (limit : Option Y.Number) (most : Option ℤ) (step : ℤ) (behind : ℕ) (closed : Closed code aims) (n : ℕ → ℤ) (f : Family) (k : ℕ) → slice_get types j ≡ Some (Y.FixedLeaf p) → LimitWaits limit most t bl.taken.words → IsWide step → t (bl.taken.words + 1) ≡ word step → bl.taken.words + 2 ≤ bl.words → i + size_of (limit_kept e bl.taken (counting block j p) limit behind) + behind ≤ length code → Linked links code i (limit_kept e bl.taken (counting block j p) limit behind) → Serving k s v around.line → AllHold (suc e.level) s block types n → ((b : Base) → At b i (Known (bl.ground n) v h t nothing b) (f b)) → Met bl n v s h t (i + size_of (limit_kept e bl.taken (counting block j p) limit behind)) (i + size_of (limit_kept e bl.taken (counting block j p) limit behind) + behind) aims → Comes code i f v aims (M.within_limit around (counting block j p) most step k s)
+pub within_piece : {links : Links} {code : List Instr} {i : ℕ} {v : Services} {h t : ℕ → ℕ} {s : State} {aims : Aims Bool} {e : Environment} {block : ℕ} {types : Types} (bl : Block e block types) (routines : Standing bl links code) (around : Around) (j p : ℕ) (limit : Option Y.Number) (most : Option ℤ) (step : ℤ) (behind : ℕ) (closed : Closed code aims) (n : ℕ → ℤ) (f : Family) (k : ℕ) → slice_get types j ≡ Some (Y.FixedLeaf p) → LimitWaits limit most t bl.taken.words → IsWide step → t (bl.taken.words + 1) ≡ word step → bl.taken.words + 2 ≤ bl.words → i + size_of (limit_kept e bl.taken (counting block j p) limit behind) + behind ≤ length code → Linked links code i (limit_kept e bl.taken (counting block j p) limit behind) → Serving k s v around.line → AllHold bl.frames v.activations (suc e.level) s block types n → ((b : Base) → At b i (Known (bl.ground n) v h t nothing b) (f b)) → Met bl n v s h t (i + size_of (limit_kept e bl.taken (counting block j p) limit behind)) (i + size_of (limit_kept e bl.taken (counting block j p) limit behind) + behind) aims → Comes code i f v aims (M.within_limit around (counting block j p) most step k s)
 unfolding M.within_limit M.counter_number V.number ◌>>=◌ give
 within_piece {i = i} {v = v} {h = h} {t = t} {s = s} {aims = aims} bl routines around j p None None step behind closed n f k below waits ws at_step room inside l serving all at met =
     let same : i ≡ i + 0 = omega arith in
@@ -130,7 +130,7 @@ kept_by {i = i} {v = v} {aims = aims} s false closed f behind inside l at met ov
     let there : i + 1 + (2 + behind) ≡ i + 3 + behind = omega arith in
     closed.done r false s (closed.done q false s (subst (λ u. aims.done u (reached q) v false s) (sym there) (over (reached q) (λ b. let o = reached_holds q b in record { pc = o.pc ∙ ap (address b) there; holds = o.holds }))))
 
-pub condition_piece : {links : Links} {code : List Instr} {i : ℕ} {v : Services} {h t : ℕ → ℕ} {s : State} {aims : Aims Bool} {e : Environment} {block : ℕ} {types : Types} (bl : Block e block types) (routines : Standing bl links code) (around : Around) (condition : Option Y.Bit) (behind : ℕ) (closed : Closed code aims) (n : ℕ → ℤ) (f : Family) (k : ℕ) → IsProvedBitIf block types condition → bl.taken.words + 2 + bit_if condition ≤ bl.words → i + size_of (while_kept e bl.taken condition behind) + behind ≤ length code → Linked links code i (while_kept e bl.taken condition behind) → Serving k s v around.line → AllHold (suc e.level) s block types n → ((b : Base) → At b i (Known (bl.ground n) v h t nothing b) (f b)) → Met bl n v s h t (i + size_of (while_kept e bl.taken condition behind)) (i + size_of (while_kept e bl.taken condition behind) + behind) aims → Comes code i f v aims (M.condition_met around condition k s)
+pub condition_piece : {links : Links} {code : List Instr} {i : ℕ} {v : Services} {h t : ℕ → ℕ} {s : State} {aims : Aims Bool} {e : Environment} {block : ℕ} {types : Types} (bl : Block e block types) (routines : Standing bl links code) (around : Around) (condition : Option Y.Bit) (behind : ℕ) (closed : Closed code aims) (n : ℕ → ℤ) (f : Family) (k : ℕ) → IsProvedBitIf block types condition → bl.taken.words + 2 + bit_if condition ≤ bl.words → i + size_of (while_kept e bl.taken condition behind) + behind ≤ length code → Linked links code i (while_kept e bl.taken condition behind) → Serving k s v around.line → AllHold bl.frames v.activations (suc e.level) s block types n → ((b : Base) → At b i (Known (bl.ground n) v h t nothing b) (f b)) → Met bl n v s h t (i + size_of (while_kept e bl.taken condition behind)) (i + size_of (while_kept e bl.taken condition behind) + behind) aims → Comes code i f v aims (M.condition_met around condition k s)
 unfolding M.condition_met give
 condition_piece {i = i} {v = v} {h = h} {t = t} {s = s} {aims = aims} bl routines around None behind closed n f k is room inside l serving all at met =
     let same : i ≡ i + 0 = omega arith in

@@ -29,7 +29,7 @@ use Rattle.pli_headline.proofs.MainFrame.{main_frame}
 use Rattle.pli_headline.proofs.LabelMarks.{blocks_known, labels_stand}
 use Rattle.pli_headline.proofs.MainBody.{main_body_does}
 use Rattle.pli_headline.proofs.InitialNamed.{all_ready}
-use Rattle.pli_headline.proofs.MainRuns.{main_around, main_count, main_types, main_data, BodyDoes, main_runs}
+use Rattle.pli_headline.proofs.MainRuns.{main_around, main_count, main_types, main_data, main_sized, BodyDoes, main_runs}
 
 -- ---- the procedure of a program
 
@@ -87,9 +87,10 @@ body_done program is fits k few =
     (main_types program block) (sym (length_types (variables_of_block program block)))
     (λ j b. declared_at (variables_of_block program block) j (main_plain program block is.plain) b.1)
     (λ j below. main_data program block line is.body j is.plain alone below few)
+    (main_sized program block line is.body is.plain alone few)
     (links_of (code_of parts program)) (code_for program)
     (placed_for program is fits).routines (main_around program k line) refl
-    (labels_stand program block line is.body is.plain alone is.block.statements is.block.inside) is.block.statements is.block.jumps
+    (labels_stand program block line is.body is.plain alone is.block.statements is.block.inside is.block.jumps) is.block.statements is.block.jumps
     (le-max_right (variables_words (variables_of_block program block)) (stmts_words is.body))
     (let most = few_inner program is fits in omega (arith, most, few)) is.block.inside (record { enter = refl; turns = refl }) (blocks_known program block line is.body alone)
     (constant_stands (code_of parts program) fits)

@@ -1,9 +1,9 @@
 -- The programs for which the headline is proved so far: one procedure with scalars of FIXED BINARY and BIT(1), with or without
 -- INITIAL, and BEGIN blocks in it and in one another that declare nothing; expressions of numbers and bits; assignments of these, IF,
--- groups, DO WHILE, DO with a FIXED or BIT(1) variable, GOTO to a label of a list around it in its block, RETURN in the procedure, STOP,
+-- groups, DO WHILE, DO with a FIXED or BIT(1) variable, GOTO to a label of a list around it in its block or in the procedure, RETURN, STOP,
 -- SIGNAL, PUT EDIT of numbers, bits and texts, and GET EDIT of such scalars, by lists of F, A, X, SKIP and COLUMN items. Each form that is
 -- proved takes a line off.
-use Rattle.std.specs.Prelude.{◌≡◌, ℕ, suc, ◌<◌, ◌≤◌, ◌^◌, List, [], ◌∷◌, ◌++◌, length, map, slice_get, Bool, Option, None, Some, true, false, if◌then◌else◌, ⊤, ◌==◌, ◌&&◌}
+use Rattle.std.specs.Prelude.{◌≡◌, ℕ, suc, ◌<◌, ◌≤◌, ◌^◌, List, [], ◌∷◌, ◌++◌, length, map, slice_get, Bool, Option, None, Some, true, false, if◌then◌else◌, ⊤, ◌==◌, ◌&&◌, ◌⊎◌}
 use Rattle.pli_language.specs.Keywords.{same_bytes}
 use Rattle.pli_language.specs.Tree as T
 use Rattle.pli_language.specs.Formats.{formats_move_data}
@@ -313,25 +313,26 @@ abbrev mutual
   all_labels block (Y.EndOfList labels) = of_block block labels
   all_labels block (Y.StmtThen labels first rest) = of_block block labels ++ (inner_labels block first ++ all_labels block rest)
 
--- a GOTO names a label of a list around it in its block, which has a level, and the label stands once in the program's blocks of that
--- number; RETURN stands in the procedure, and begin blocks stand up to a hundred deep
+-- a GOTO names a label of a list around it in its block, which has a level, or in the procedure, and the label stands once in the
+-- program's blocks of that number; the blocks in the procedure have greater numbers; begin blocks stand up to a hundred deep
 abbrev mutual
-  pub JumpsAround : (block level : ℕ) → (all : List (ℕ × Label)) → (around : List Label) → Y.Stmt → Type 0
-  JumpsAround block level all around (Y.If condition unit line) = JumpsAround block level all around unit
-  JumpsAround block level all around (Y.IfElse condition unit otherwise line) = JumpsAround block level all around unit × JumpsAround block level all around otherwise
-  JumpsAround block level all around (Y.Do body line) = AllJumpAround block level all (labels_in body ++ around) body
-  JumpsAround block level all around (Y.DoWhile condition body line) = AllJumpAround block level all (labels_in body ++ around) body
-  JumpsAround block level all around (Y.DoOnce target start condition body line) = AllJumpAround block level all (labels_in body ++ around) body
-  JumpsAround block level all around (Y.DoCount counter start limit step condition body line) = AllJumpAround block level all (labels_in body ++ around) body
-  JumpsAround block level all around (Y.Begin (Y.BlockOf head body)) =
-      ((head.level ≡ suc level) × (head.level ≤ 100)) × AllJumpAround head.number head.level all (labels_in body) body
-  JumpsAround block level all around (Y.Goto to label line) = (to ≡ level) × ((is_among label around ≡ true) × (times block label all ≡ 1))
-  JumpsAround block level all around (Y.Return line) = level ≡ 0
-  JumpsAround block level all around _ = ⊤
+  pub JumpsAround : (block level : ℕ) → (all : List (ℕ × Label)) → (procedure : ℕ) → (outer around : List Label) → Y.Stmt → Type 0
+  JumpsAround block level all procedure outer around (Y.If condition unit line) = JumpsAround block level all procedure outer around unit
+  JumpsAround block level all procedure outer around (Y.IfElse condition unit otherwise line) = JumpsAround block level all procedure outer around unit × JumpsAround block level all procedure outer around otherwise
+  JumpsAround block level all procedure outer around (Y.Do body line) = AllJumpAround block level all procedure outer (labels_in body ++ around) body
+  JumpsAround block level all procedure outer around (Y.DoWhile condition body line) = AllJumpAround block level all procedure outer (labels_in body ++ around) body
+  JumpsAround block level all procedure outer around (Y.DoOnce target start condition body line) = AllJumpAround block level all procedure outer (labels_in body ++ around) body
+  JumpsAround block level all procedure outer around (Y.DoCount counter start limit step condition body line) = AllJumpAround block level all procedure outer (labels_in body ++ around) body
+  JumpsAround block level all procedure outer around (Y.Begin (Y.BlockOf head body)) =
+      ((head.level ≡ suc level) × (head.level ≤ 100)) × AllJumpAround head.number head.level all procedure (if 0 == level then around else outer) (labels_in body) body
+  JumpsAround block level all procedure outer around (Y.Goto to label line) =
+      ((to ≡ level) × ((is_among label around ≡ true) × (times block label all ≡ 1)))
+      ⊎ (((to ≡ 0) × ((0 == level) ≡ false)) × ((procedure ≤ block) × ((is_among label outer ≡ true) × (times procedure label all ≡ 1))))
+  JumpsAround block level all procedure outer around _ = ⊤
 
-  pub AllJumpAround : (block level : ℕ) → (all : List (ℕ × Label)) → (around : List Label) → Y.Stmts → Type 0
-  AllJumpAround block level all around (Y.EndOfList labels) = ⊤
-  AllJumpAround block level all around (Y.StmtThen labels first rest) = JumpsAround block level all around first × AllJumpAround block level all around rest
+  pub AllJumpAround : (block level : ℕ) → (all : List (ℕ × Label)) → (procedure : ℕ) → (outer around : List Label) → Y.Stmts → Type 0
+  AllJumpAround block level all procedure outer around (Y.EndOfList labels) = ⊤
+  AllJumpAround block level all procedure outer around (Y.StmtThen labels first rest) = JumpsAround block level all procedure outer around first × AllJumpAround block level all procedure outer around rest
 
 -- ---- blocks inside the procedure
 
@@ -363,7 +364,7 @@ pub record IsProvedBlock (program : Y.Program) (head : Y.BlockHead) (body : Y.St
   pub level : head.level ≡ 0
   pub line : IsLine head.line
   pub statements : AreProvedStatements head.number (types_of (variables_of_block program head.number)) body
-  pub jumps : AllJumpAround head.number 0 (all_labels head.number body) (labels_in body) body
+  pub jumps : AllJumpAround head.number 0 (all_labels head.number body) head.number [] (labels_in body) body
   pub inside : AreBare program body
 
 -- one procedure, without parameters and without a result
