@@ -117,7 +117,7 @@ ended_services v a rest =
       edits = K.oldest a.edits v.edits;
     }
 
-leave_answer : (code : List Instr) (v : Services) (m : List ℕ) (a : S.Activation) (rest : List S.Activation) (y : ℕ) → v.activations ≡ a ∷ rest → K.leave_served (call_at code v m) 0 y ≡ Done (ended_services v a rest) m 0 y
+pub leave_answer : (code : List Instr) (v : Services) (m : List ℕ) (a : S.Activation) (rest : List S.Activation) (y : ℕ) → v.activations ≡ a ∷ rest → K.leave_served (call_at code v m) 0 y ≡ Done (ended_services v a rest) m 0 y
 leave_answer code v m a rest y e = ap (λ u. K.left_by (call_at code v m) 0 y u) e
 
 -- the code at the end of the block

@@ -107,7 +107,8 @@ program_wider program is =
     record {
       head = is.head;
       body = is.body;
-      alone = is.alone;
+      others = [];
+      procedures = is.alone;
       plain = all_numbers_plain program.variables is.plain;
       block = record {
         kind = is.block.kind;
@@ -117,4 +118,5 @@ program_wider program is =
         jumps = statements_stay _ _ _ _ _ _ is.body is.block.statements;
         inside = statements_bare _ _ program is.body is.block.statements;
       };
+      inner = tt;
     }

@@ -83,12 +83,12 @@ program_named program block line body (Some d) alone named =
     let behind = stmts_code mine none_taken body ++ procedure_ended mine head words None in
     let begun = is_named_back d fb (ec ++ (vars ++ ac)) (is_named_back d ec (vars ++ ac) (is_named_front d vars ac named)) in
     let inside = inr (is_named_front d (fb ++ (ec ++ (vars ++ ac))) behind begun) in
-    let only = is_named_front d (procedure_in mine head body [] None) [] inside in
+    let only = is_named_front d (procedure_in mine head body [] None) (procedures_code e alone.others) inside in
     let procedures = procedures_code e program.procedures in
     let routines = routines_code e e.blocks in
     is_named_back d (start_code e) (raise_code ++ (routines ++ procedures))
     (is_named_back d raise_code (routines ++ procedures)
-    (is_named_back d routines procedures (subst (λ ps. IsNamedIf (Some d) (procedures_code e ps)) (sym alone) only)))
+    (is_named_back d routines procedures (subst (λ ps. IsNamedIf (Some d) (procedures_code e ps)) (sym alone.are) only)))
 
 -- ---- all variables
 

@@ -57,7 +57,7 @@ inner_ground {e} bl inner t0 n =
 
 -- ---- its temporaries
 
-inner_put : (q : Bool) (m : List ℕ) (t : ℕ → ℕ) (at i j x words : ℕ) → (i == j) ≡ q → length m ≡ memory_size → x < 2 ^ 32 → i < words → j < words → 4 * words ≤ at → at ≤ memory_size → cond q x (t i) < 2 ^ 32 → (t i < 2 ^ 32 → load 4 m (at - 4 * suc i) ≡ t i) → load 4 (store 4 m (at - 4 * suc j) x) (at - 4 * suc i) ≡ cond q x (t i)
+pub inner_put : (q : Bool) (m : List ℕ) (t : ℕ → ℕ) (at i j x words : ℕ) → (i == j) ≡ q → length m ≡ memory_size → x < 2 ^ 32 → i < words → j < words → 4 * words ≤ at → at ≤ memory_size → cond q x (t i) < 2 ^ 32 → (t i < 2 ^ 32 → load 4 m (at - 4 * suc i) ≡ t i) → load 4 (store 4 m (at - 4 * suc j) x) (at - 4 * suc i) ≡ cond q x (t i)
 inner_put true m t at i j x words e len fits h k r s known o =
     let same : i ≡ j = eqb-true i j e in
     ap (λ u. load 4 (store 4 m (at - 4 * suc j) x) (at - 4 * suc u)) same ∙ load-store_same 4 m (at - 4 * suc j) x fits (omega (arith, len, k, r, s))

@@ -2,6 +2,7 @@ pub mod Engine
 pub mod Showing
 pub mod Growing
 pub mod Reach
+pub mod Owing
 pub mod Promises
 pub mod Linking
 pub mod DataNamed
@@ -11,6 +12,7 @@ pub mod Bodies
 pub mod Jumps
 pub mod Temporaries
 pub mod Reaching
+pub mod SavedRegisters
 pub mod Activations
 pub mod Calls
 pub mod Raising
@@ -54,9 +56,14 @@ pub mod MainFlow
 pub mod Statements
 pub mod MainGround
 pub mod InnerFrames
+pub mod CalledFrames
 pub mod BeginDisplays
+pub mod CalledBegun
+pub mod CallEntry
 pub mod BeginFrames
 pub mod BeginEntered
+pub mod CalledEntered
+pub mod CalledLeft
 pub mod BeginMeant
 pub mod FormatData
 pub mod EditControls
@@ -119,6 +126,7 @@ pub mod SymbolsMarked
 pub mod PutMarks
 pub mod GetMarks
 pub mod StatementMarks
+pub mod ProcedureMarks
 pub mod LabelMarks
 pub mod Whole
 mod Rows

@@ -5,7 +5,7 @@ use Rattle.std.proofs.lemmas.Bool.{eq-eqb}
 use Rattle.pli_typing.specs.Signatures.{rounded_up}
 use Rattle.pli_language.specs.Tree as T
 use Rattle.pli_typing.specs.TypedTree as Y
-use Rattle.pli_meaning.specs.DeclaredShapes.{variables_of_block}
+use Rattle.pli_meaning.specs.DeclaredShapes.{variables_of_block, procedure_numbered}
 use Rattle.pli_meaning.specs.StorageState.{State}
 use Rattle.pli_meaning.specs.Making as K
 use Rattle.pli_coding.specs.Frames.{parameters_in, fixed_size, first_variable, variable_place, automatic_place, last_place, frame_bytes}
@@ -25,19 +25,24 @@ main_head block line = record { kind = Y.ProcedureBlock; number = block; level =
 abbrev pub main_procedure : (block line : ℕ) → Y.Stmts → Y.Procedure
 main_procedure block line body = record { block = Y.BlockOf (main_head block line) body; parameters = []; result = None }
 
--- the program is one procedure
-abbrev pub IsAlone : Y.Program → (block line : ℕ) → Y.Stmts → Type 0
-IsAlone program block line body = program.procedures ≡ main_procedure block line body ∷ []
+-- the program's first procedure, before others
+pub record IsAlone (program : Y.Program) (block line : ℕ) (body : Y.Stmts) : Type 0 where
+  pub others : List Y.Procedure
+  pub are : program.procedures ≡ main_procedure block line body ∷ others
 
-head_is : (h : Y.BlockHead) → h.kind ≡ Y.ProcedureBlock → h.level ≡ 0 → h ≡ main_head h.number h.line
+pub head_is : (h : Y.BlockHead) → h.kind ≡ Y.ProcedureBlock → h.level ≡ 0 → h ≡ main_head h.number h.line
 head_is h e f =
     ap (λ k. record { kind = k; number = h.number; level = h.level; line = h.line }) e
     ∙ ap (λ n. record { kind = Y.ProcedureBlock; number = h.number; level = n; line = h.line }) f
 
-pub alone_of : (program : Y.Program) (is : IsProvedSoFar program) → IsAlone program is.head.number is.head.line is.body
+abbrev pub alone_of : (program : Y.Program) (is : IsProvedSoFar program) → IsAlone program is.head.number is.head.line is.body
 alone_of program is =
-    is.alone
-    ∙ ap (λ h. record { block = Y.BlockOf h is.body; parameters = []; result = None } ∷ []) (head_is is.head is.block.kind is.block.level)
+    record {
+      others = is.others;
+      are =
+          is.procedures
+          ∙ ap (λ h. record { block = Y.BlockOf h is.body; parameters = []; result = None } ∷ is.others) (head_is is.head is.block.kind is.block.level);
+    }
 
 abbrev pub main_environment : Y.Program → (block : ℕ) → Environment
 main_environment program block = procedure_environment (main_head block 0) (environment_of parts program)
@@ -96,12 +101,12 @@ variable_place_plain at (d ∷ ds) (suc j) are h fits =
 
 main_first : (program : Y.Program) (block line : ℕ) (body : Y.Stmts) → IsAlone program block line body → first_variable program block 0 ≡ 144
 main_first program block line body alone =
-    by_procedures program.procedures alone (eq-eqb block block refl)
+    by_procedures program.procedures alone.are (eq-eqb block block refl)
   where
-    by_procedures : (ps : List Y.Procedure) → ps ≡ main_procedure block line body ∷ [] → (block == block) ≡ true → first_variable (record { variables = program.variables; procedures = ps }) block 0 ≡ 144
+    by_procedures : (ps : List Y.Procedure) → ps ≡ main_procedure block line body ∷ alone.others → (block == block) ≡ true → first_variable (record { variables = program.variables; procedures = ps }) block 0 ≡ 144
     by_procedures ps e t =
         ap (λ u. first_variable (record { variables = program.variables; procedures = u }) block 0) e
-        ∙ ap (λ u. fixed_size 0 (length (parameters_in (cond u (Some (main_procedure block line body)) None)))) t
+        ∙ ap (λ u. fixed_size 0 (length (parameters_in (cond u (Some (main_procedure block line body)) (procedure_numbered block alone.others))))) t
 
 -- the name of the jth variable, from the frame
 pub main_place : (program : Y.Program) (block line : ℕ) (body : Y.Stmts) (j : ℕ) → AllPlain program.variables → IsAlone program block line body → j ≤ length (variables_of_block program block) → 32 * j ≤ 2 ^ 20 → automatic_place parts program block 0 j ≡ 144 + 32 * j

@@ -80,7 +80,7 @@ AllReady links code first program block =
 run_meant : (program : Y.Program) (block line : ℕ) (body : Y.Stmts) (input : List ℕ) (k : ℕ) → AllPlain program.variables → IsAlone program block line body → M.run program (suc k) k (first_state input) ≡ flow_on k (left true newest_ended (flow_on k (K.variables_made (main_around program k line) 0 (variables_of_block program block) k (main_state (main_kind program block) input 0)) (λ u. main_body program k line body))) (λ u. finish E.Finished)
 unfolding M.run given M.entered M.block_run M.block_body M.block_variables_made K.parameters_bound leaving stored looked choose give ◌>>=◌ ◌>>◌
 run_meant program block line body input k all alone =
-    ap (λ ps. given (M.main_of ps) (λ main. stored (K.statics_from 0 program.variables) >> (M.entered program (suc k) (M.begun main.block 0) >> finish {R = Unit {0}} E.Finished)) stuck k (first_state input)) alone
+    ap (λ ps. given (M.main_of ps) (λ main. stored (K.statics_from 0 program.variables) >> (M.entered program (suc k) (M.begun main.block 0) >> finish {R = Unit {0}} E.Finished)) stuck k (first_state input)) alone.are
     ∙ ap (λ s. flow_on k (M.entered program (suc k) (M.begun (main_procedure block line body).block 0) k (with_world (first_state input).world s)) (λ u. finish {R = Unit {0}} E.Finished)) (statics_meant 0 program.variables (first_state input) all)
 
 -- ---- the block of the main procedure

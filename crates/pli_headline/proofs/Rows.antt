@@ -217,7 +217,8 @@ small_program =
     record {
       head = head;
       body = body;
-      alone = refl;
+      others = [];
+      procedures = refl;
       plain = (tt, ((record { type = Y.FixedLeaf 31; initial = []; scalar = (omega arith, omega arith); begins = tt; is = refl }, tt), tt));
       block = record {
         kind = refl;
@@ -230,6 +231,7 @@ small_program =
         jumps = (tt, (tt, tt));
         inside = (tt, (tt, tt));
       };
+      inner = tt;
     }
 
 -- T: PROC OPTIONS(MAIN); DECLARE I FIXED BINARY(31); BEGIN; I = 1; L: BEGIN; IF '0'B THEN GOTO M; M: END; END; END;
@@ -264,7 +266,8 @@ block_program =
     record {
       head = head;
       body = outer_body;
-      alone = refl;
+      others = [];
+      procedures = refl;
       plain = (tt, ((record { type = Y.FixedLeaf 31; initial = []; scalar = (omega arith, omega arith); begins = tt; is = refl }, tt), (tt, (tt, tt))));
       block = record {
         kind = refl;
@@ -277,4 +280,57 @@ block_program =
         jumps = (((refl, omega arith), (tt, (((refl, omega arith), ((refl, (refl, refl)), tt)), tt))), tt);
         inside = ((refl, (tt, ((refl, (tt, tt)), tt))), tt);
       };
+      inner = tt;
+    }
+
+-- T: PROC OPTIONS(MAIN); DECLARE I FIXED BINARY(31); L: GOTO L; P: PROC; M: I = 1; RETURN; END; END;
+abbrev resting_body : Y.Stmts
+resting_body = Y.StmtThen ((76 ∷ []) ∷ []) (Y.Goto 0 (76 ∷ []) 2) (Y.EndOfList [])
+
+abbrev procedure_head : Y.BlockHead
+procedure_head = record { kind = Y.ProcedureBlock; number = 2; level = 1; line = 3 }
+
+abbrev procedure_body : Y.Stmts
+procedure_body =
+    Y.StmtThen ((77 ∷ []) ∷ []) (Y.Assign whole_i (Y.StoredNumber 31 (Y.NumberConstant 1)) 3) (Y.StmtThen [] (Y.Return 3) (Y.EndOfList []))
+
+abbrev with_procedure : Y.Program
+with_procedure =
+    record {
+      variables = [] ∷ (plain_variable (Y.FixedLeaf 31) [] ∷ []) ∷ [] ∷ [];
+      procedures =
+          record { block = Y.BlockOf head resting_body; parameters = []; result = None }
+          ∷ record { block = Y.BlockOf procedure_head procedure_body; parameters = []; result = None }
+          ∷ [];
+    }
+
+procedure_program : IsProvedSoFar with_procedure
+procedure_program =
+    let i : IsOwn 1 (Y.FixedLeaf 31 ∷ []) (Y.FixedLeaf 31) whole_i = record { index = 0; declared = refl; is = refl } in
+    record {
+      head = head;
+      body = resting_body;
+      others = record { block = Y.BlockOf procedure_head procedure_body; parameters = []; result = None } ∷ [];
+      procedures = refl;
+      plain = (tt, ((record { type = Y.FixedLeaf 31; initial = []; scalar = (omega arith, omega arith); begins = tt; is = refl }, tt), (tt, tt)));
+      block = record {
+        kind = refl;
+        level = refl;
+        line = lit< tt;
+        statements = (lit< tt, tt);
+        jumps = ((refl, (refl, refl)), tt);
+        inside = (tt, tt);
+      };
+      inner = (
+        record {
+          head = procedure_head;
+          body = procedure_body;
+          is = refl;
+          apart = refl;
+          bare = refl;
+          statements = ((i, (lit< tt, lit< tt)), (lit< tt, tt));
+          inside = (tt, (tt, tt));
+        },
+        tt,
+      );
     }

@@ -68,7 +68,7 @@ copied_none n (suc left) =
     behind (load_word u1 a0 (display n)) (s ++ display_copied (suc n) left) [] (load_none u1 a0 (display n))
     (behind s (display_copied (suc n) left) [] (store_none frame_register u1 (display n)) (copied_none (suc n) left))
 
-display_none : (level : ℕ) → Marks (display_made level) []
+pub display_none : (level : ℕ) → Marks (display_made level) []
 display_none zero = refl
 display_none (suc outer) = copied_none 0 outer
 

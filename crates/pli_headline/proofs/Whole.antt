@@ -89,7 +89,7 @@ body_done program is fits k few =
     (λ j below. main_data program block line is.body j is.plain alone below few)
     (links_of (code_of parts program)) (code_for program)
     (placed_for program is fits).routines (main_around program k line) refl
-    (labels_stand program block line is.body is.plain alone is.block.statements is.block.inside) is.block.statements is.block.jumps
+    (labels_stand program block line is.body is.plain alone is.block.statements is.block.inside is.inner) is.block.statements is.block.jumps
     (le-max_right (variables_words (variables_of_block program block)) (stmts_words is.body))
     (let most = few_inner program is fits in omega (arith, most, few)) is.block.inside (record { enter = refl; turns = refl }) (blocks_known program block line is.body alone)
     (constant_stands (code_of parts program) fits)

@@ -1,5 +1,6 @@
--- The programs for which the headline is proved so far: one procedure with scalars of FIXED BINARY and BIT(1), with or without
--- INITIAL, and BEGIN blocks in it and in one another that declare nothing; expressions of numbers and bits; assignments of these, IF,
+-- The programs for which the headline is proved so far: a main procedure with scalars of FIXED BINARY and BIT(1), with or without
+-- INITIAL, procedures inside it that declare nothing and that nothing calls, and BEGIN blocks in these and in one another that declare
+-- nothing; expressions of numbers and bits; assignments of these, IF,
 -- groups, DO WHILE, DO with a FIXED or BIT(1) variable, GOTO to a label of a list around it in its block, RETURN in the procedure, STOP,
 -- SIGNAL, PUT EDIT of numbers, bits and texts, and GET EDIT of such scalars, by lists of F, A, X, SKIP and COLUMN items. Each form that is
 -- proved takes a line off.
@@ -358,18 +359,43 @@ abbrev pub AllPlain : List (List Y.DeclaredVariable) → Type 0
 AllPlain [] = ⊤
 AllPlain (ds ∷ rest) = ArePlain ds × AllPlain rest
 
-pub record IsProvedBlock (program : Y.Program) (head : Y.BlockHead) (body : Y.Stmts) : Type 0 where
+-- the labels of procedures
+abbrev pub block_labels : Y.Block → List (ℕ × Label)
+block_labels (Y.BlockOf head body) = all_labels head.number body
+
+abbrev pub procedure_labels : List Y.Procedure → List (ℕ × Label)
+procedure_labels [] = []
+procedure_labels (p ∷ ps) = block_labels p.block ++ procedure_labels ps
+
+-- a procedure inside the main one, whose number is the given block's: it declares nothing, and has no parameters and no result. Nothing
+-- calls it yet
+pub record IsInner (program : Y.Program) (block : ℕ) (p : Y.Procedure) : Type 0 where
+  pub head : Y.BlockHead
+  pub body : Y.Stmts
+  pub is : p ≡ record { block = Y.BlockOf head body; parameters = []; result = None }
+  pub apart : (block == head.number) ≡ false
+  pub bare : variables_of_block program head.number ≡ []
+  pub statements : AreProvedStatements block (types_of (variables_of_block program block)) body
+  pub inside : AreBare program body
+
+abbrev pub AreInner : Y.Program → (block : ℕ) → List Y.Procedure → Type 0
+AreInner program block [] = ⊤
+AreInner program block (p ∷ ps) = IsInner program block p × AreInner program block ps
+
+pub record IsProvedBlock (program : Y.Program) (head : Y.BlockHead) (body : Y.Stmts) (others : List Y.Procedure) : Type 0 where
   pub kind : head.kind ≡ Y.ProcedureBlock
   pub level : head.level ≡ 0
   pub line : IsLine head.line
   pub statements : AreProvedStatements head.number (types_of (variables_of_block program head.number)) body
-  pub jumps : AllJumpAround head.number 0 (all_labels head.number body) (labels_in body) body
+  pub jumps : AllJumpAround head.number 0 (all_labels head.number body ++ procedure_labels others) (labels_in body) body
   pub inside : AreBare program body
 
--- one procedure, without parameters and without a result
+-- the main procedure, without parameters and without a result, and procedures inside it
 pub record IsProvedSoFar (program : Y.Program) : Type 0 where
   pub head : Y.BlockHead
   pub body : Y.Stmts
-  pub alone : program.procedures ≡ record { block = Y.BlockOf head body; parameters = []; result = None } ∷ []
+  pub others : List Y.Procedure
+  pub procedures : program.procedures ≡ record { block = Y.BlockOf head body; parameters = []; result = None } ∷ others
   pub plain : AllPlain program.variables
-  pub block : IsProvedBlock program head body
+  pub block : IsProvedBlock program head body others
+  pub inner : AreInner program head.number others
