@@ -1,4 +1,5 @@
 pub mod Fitting
+pub mod Halts
 pub mod Legs
 pub mod Lending
 pub mod Loading

@@ -5,6 +5,7 @@ pub mod arithmetic;
 pub mod base;
 mod bytes;
 mod execute;
+mod halt;
 mod leg;
 mod loading;
 pub mod machine;
