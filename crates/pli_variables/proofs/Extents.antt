@@ -1,7 +1,7 @@
 -- The steps of the loops that gather extents and put them in order.
 use Rattle.std.proofs.Common.{◌≡◌, ◌<◌, ◌+◌, ℕ, take, drop, length, get_or, Bool, true, false, List, [], ◌∷◌, ◌++◌, map, refl, sym, ap, ◌∙◌, append_assoc, append-nil}
 use Rattle.std.specs.Prelude.{if◌then◌else◌}
-use Rattle.std.proofs.lemmas.List.{drop_all, map-append, take-map, drop-map, take-append-drop, length-map}
+use Rattle.std.proofs.lemmas.List.{drop_all, map-append, take-map, drop-map, take-append-drop}
 use Rattle.std.proofs.lemmas.List.Concat.{flat_map-append}
 use Rattle.pli_declare.proofs.Chains.{drop_here}
 use Rattle.pli_typing.specs.Variables.{WrittenExtent, with_extent, in_order}
@@ -11,8 +11,6 @@ use Rattle.pli_variables.specs.declared.extent.WrittenExtent.{WrittenExtent as W
 
 -- a loop over a list
 pub ruleset gathered = (drop_here, drop_all, append_assoc, append-nil, map-append, flat_map-append)
-
-pub ruleset counted = (length-map, refl)
 
 -- one extent more, the last of those that are left
 pub ordered_last : (ws : List WrittenExtent) (w : WrittenExtent) (done : List WrittenExtent) → ordered_on (ws ++ w ∷ []) done ≡ ordered_on ws (with_extent w done)

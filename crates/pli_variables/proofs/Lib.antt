@@ -1,3 +1,4 @@
+pub mod Dimensions
 pub mod Grouping
 pub mod Extents
 pub mod Amounts

@@ -16,7 +16,7 @@ use crate::extent::WrittenExtent;
 use crate::meant::Meant;
 use crate::members::is_leaf;
 use pli_declare::scope::{Held, Variable};
-use pli_declaring::held::own_attributes;
+use pli_declaring::held::{all_dimensions, own_attributes};
 use pli_language::declaration::{Attribute, Bound, InitialItem};
 use pli_typing::typed::{Bounds, Leaf};
 use std::alloc::{AllocError, Global};
@@ -79,12 +79,15 @@ fn all_bounds(
     Ok(out)
 }
 
-/// How many dimensions an element of a variable has.
-#[tactic(auto, using(crate::proofs::Extents::counted))]
-pub fn count_of_dimensions(alloc: Global, held: &Held) -> Result<usize, AllocError>
+/// How many dimensions an element of a variable has. More than a number holds are want of memory.
+pub fn count_of_dimensions(held: &Held) -> Result<usize, AllocError>
     ensures { IfOk result (λ n. n ≡ length (all_dimensions (held_of held.now))) }
 {
-    Ok(all_bounds(alloc, &[], held)?.len())
+    let count = all_dimensions(held);
+    if count == usize::MAX {
+        return Err(AllocError);
+    }
+    Ok(count)
 }
 
 /// These values.

@@ -53,7 +53,7 @@ fn shape_with<'a>(
 {
     let members = with_members(from_place(held.variable.declared.name.place, all));
     let leaves = leaves_among(alloc, meant, variable.block, written, members)?;
-    let dimensions = count_of_dimensions(alloc, held)?;
+    let dimensions = count_of_dimensions(held)?;
     Ok(Shape {
         variable,
         part: part_of(all, held),

@@ -1,0 +1,21 @@
+-- How many dimensions an element of a variable has.
+use Rattle.std.proofs.Common.{◌≡◌, ◌≢◌, ◌+◌, ℕ, List, [], ◌∷◌, length, refl, sym, ap, ◌∙◌, arith}
+use Rattle.std.specs.Prelude.{min}
+use Rattle.std.specs.List.{flat_map, sum_by}
+use Rattle.std.proofs.lemmas.List.{length-append}
+use Rattle.std.proofs.lemmas.List.Sums.{sum_by-cons}
+use Rattle.pli_language.specs.Declarations.{Held, dimensions_of}
+use Rattle.pli_language.specs.Declaring.{own_dimensions, inherited_dimensions}
+use Rattle.pli_typing.specs.Variables.{all_dimensions}
+
+length_of_all : {X Y : Type 0} (f : X → List Y) (xs : List X) → length (flat_map f xs) ≡ sum_by (λ x. length (f x)) xs
+length_of_all f [] = refl
+length_of_all f (x ∷ xs) =
+    length-append (f x) (flat_map f xs) ∙ ap (λ n. length (f x) + n) (length_of_all f xs) ∙ sym (sum_by-cons (λ x. length (f x)) x xs)
+
+-- a number that isn't the greatest is that of all dimensions
+pub counted : (h : Held) (n : ℕ) → n ≡ min (own_dimensions h + inherited_dimensions h) 18446744073709551615 → n ≢ 18446744073709551615 → n ≡ length (all_dimensions h)
+counted h n is other =
+    let all = length-append (flat_map dimensions_of h.above) (dimensions_of h.variable) in
+    let above = length_of_all dimensions_of h.above in
+    grind (arith, is, other, all, above)
