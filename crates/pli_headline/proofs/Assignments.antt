@@ -27,7 +27,7 @@ use Rattle.pli_coding.specs.Locating as L
 use Rattle.pli_coding.specs.Storing.{word_stored}
 use Rattle.pli_coding.specs.Temporaries.{number_words, bit_words}
 use Rattle.pli_coding.specs.Linking.{Links}
-use Rattle.pli_headline.specs.ProvedSoFar.{Types, IsProvedNumber, IsProvedBit}
+use Rattle.pli_headline.specs.ProvedSoFar.{Types, IsProvedNumber, IsProvedBit, alone}
 use Rattle.pli_headline.proofs.Engine.{Base, address}
 use Rattle.pli_headline.proofs.Linking.{size_append}
 use Rattle.pli_headline.proofs.Items.{Linked, At}
@@ -38,7 +38,7 @@ use Rattle.pli_headline.proofs.Temporaries.{Temporaries, Stays, stays_saved, not
 use Rattle.pli_headline.proofs.Reaching.{write_based}
 use Rattle.pli_headline.proofs.Operators.{valued}
 use Rattle.pli_headline.proofs.Precisions.{fitted_piece}
-use Rattle.pli_headline.proofs.Scalars.{IsNumeric, value_as, Fits, fits_wide, fits_numeric, bit_back, bit_fits, bit_word, store_kind}
+use Rattle.pli_headline.proofs.Scalars.{IsNumeric, Values, value_as, Fits, fits_wide, fits_numeric, bit_back, bit_fits, bit_word, store_kind}
 use Rattle.pli_headline.proofs.Variables.{HoldsScalar, whole, own, data_place, designated_scalar, designated_gives, base_found, scalar_stored, scalar_found, scalar_kept}
 use Rattle.pli_headline.proofs.Expressions.{Scope, Setting, number_does, bit_does}
 use Rattle.pli_headline.proofs.Reach.{Family, Aims, Comes, Closed, before_closed, comes_on, onward}
@@ -61,7 +61,7 @@ assigned_gives around s j block type old z k h =
 pub record Stores (links : Links) (code : List Instr) (g : Ground) (v : Services) (s : State) (k : ℕ) (words : ℕ) (type : Y.LeafType) (part : Taken → Code) (meaning : Meaning BasicValue) : Type 1 where
   pub does : {i : ℕ} {h t : ℕ → ℕ} {aims : Aims BasicValue} (closed : Closed code aims) (f : Family) (taken : Taken) → taken.words + words ≤ g.words → Linked links code i (part taken) → ((b : Base) → At b i (Known g v h t nothing b) (f b)) → ((z : ℤ) (f' : Family) (h' t' : ℕ → ℕ) → Fits type z → Stays taken h t h' t' → ((b : Base) → At b (i + size_of (part taken)) (Known g v h' t' (valued (word z)) b) (f' b)) → aims.done (i + size_of (part taken)) f' v (value_as type z) s) → Comes code i f v aims (meaning k s)
 
-pub number_stores : {links : Links} {code : List Instr} {g : Ground} {v : Services} {s : State} {k : ℕ} {e : Environment} {block : ℕ} {types : Types} {numbers : ℕ → ℤ} {around : Around} (p : ℕ) (x : Y.Number) → p ≤ 31 → Setting links code g v s k e block types numbers around → IsProvedNumber block types x → Stores links code g v s k (max 1 (number_words x)) (Y.FixedLeaf p) (λ taken. stored_code e taken (Y.StoredNumber p x)) (V.stored_value around (Y.StoredNumber p x))
+pub number_stores : {links : Links} {code : List Instr} {g : Ground} {v : Services} {s : State} {k : ℕ} {e : Environment} {block : ℕ} {types : Types} {held : Values} {around : Around} (p : ℕ) (x : Y.Number) → p ≤ 31 → Setting links code g v s k e block types held around → IsProvedNumber block types x → Stores links code g v s k (max 1 (number_words x)) (Y.FixedLeaf p) (λ taken. stored_code e taken (Y.StoredNumber p x)) (V.stored_value around (Y.StoredNumber p x))
 unfolding V.stored_value ◌>>=◌ give
 number_stores {code = code} {v = v} {s = s} {k = k} {e = e} {around = around} p x few st is =
     record {
@@ -86,7 +86,7 @@ number_stores {code = code} {v = v} {s = s} {k = k} {e = e} {around = around} p 
           }))));
     }
 
-pub bit_stores : {links : Links} {code : List Instr} {g : Ground} {v : Services} {s : State} {k : ℕ} {e : Environment} {block : ℕ} {types : Types} {numbers : ℕ → ℤ} {around : Around} (x : Y.Bit) → Setting links code g v s k e block types numbers around → IsProvedBit block types x → Stores links code g v s k (bit_words x) Y.BitLeaf (λ taken. stored_code e taken (Y.StoredBit x)) (V.stored_value around (Y.StoredBit x))
+pub bit_stores : {links : Links} {code : List Instr} {g : Ground} {v : Services} {s : State} {k : ℕ} {e : Environment} {block : ℕ} {types : Types} {held : Values} {around : Around} (x : Y.Bit) → Setting links code g v s k e block types held around → IsProvedBit block types x → Stores links code g v s k (bit_words x) Y.BitLeaf (λ taken. stored_code e taken (Y.StoredBit x)) (V.stored_value around (Y.StoredBit x))
 unfolding V.stored_value ◌>>=◌ give
 bit_stores {v = v} {s = s} {k = k} {e = e} {around = around} x st is =
     record {
@@ -103,7 +103,7 @@ bit_stores {v = v} {s = s} {k = k} {e = e} {around = around} x st is =
 
 -- ---- the store
 
-stored_is : {g : Ground} {s : State} {numbers : ℕ → ℤ} (e : Environment) (taken : Taken) (block : ℕ) (types : Types) (j : ℕ) {type : Y.LeafType} → slice_get types j ≡ Some type → IsNumeric type → Scope g e block types s numbers → word_stored e taken (whole (own block j)) ≡ save a0 taken ++ (base_found e ++ (fetch a0 taken ++ scalar_stored type e (data_place e block j)))
+stored_is : {g : Ground} {s : State} {held : Values} (e : Environment) (taken : Taken) (block : ℕ) (types : Types) (j : ℕ) {type : Y.LeafType} → slice_get types j ≡ Some (alone type) → IsNumeric type → Scope g e block types s held → word_stored e taken (whole (own block j)) ≡ save a0 taken ++ (base_found e ++ (fetch a0 taken ++ scalar_stored type e (data_place e block j)))
 stored_is e taken block types j {type} below scalar scope =
     let d = scope.declared j below in
     let written = L.stored (type_in e (whole (own block j))) a0 (address_in e (whole (own block j))) in
@@ -111,10 +111,10 @@ stored_is e taken block types j {type} below scalar scope =
     ∙ ap (λ c. save a0 taken ++ (base_found e ++ (fetch a0 taken ++ c))) (scalar_kept e block j type scalar d)
 
 -- a value in a0 is assigned to a variable, with whatever credits there are
-pub stored_piece : {links : Links} {code : List Instr} {i : ℕ} {g : Ground} (g' : Ground) {v : Services} {h t : ℕ → ℕ} {s : State} {aims : Aims (Unit {0})} (closed : Closed code aims) (temps : Temporaries g) (credits : ℕ) (e : Environment) (block : ℕ) (types : Types) (numbers : ℕ → ℤ) (f : Family) (around : Around) (taken : Taken) (j : ℕ) {type : Y.LeafType} (z : ℤ) (k : ℕ) (below : slice_get types j ≡ Some type) → Fits type z → (is_register_left taken ≡ false → taken.words < g.words) → (scope : Scope g e block types s numbers) → ((b : Base) (h' : ℕ → ℕ) → reserved_are b g h' ≡ reserved_are b g' h') → ((t' : ℕ → ℕ) (b : Base) (m : List ℕ) → length m ≡ memory_size → g.memory t' b m → g'.memory t' b (store (store_width (store_kind type)) m (scope.base + data_place e block j) (word z))) → Linked links code i (word_stored e taken (whole (own block j))) → ((b : Base) → At b i (Known g v h t (valued (word z)) b) (f b)) → ((f' : Family) (h' t' : ℕ → ℕ) → Stays taken h t h' t' → ((b : Base) → At b (i + size_of (word_stored e taken (whole (own block j)))) (Known g' v h' t' nothing b) (f' b)) → aims.done (credits + size_of (word_stored e taken (whole (own block j)))) f' v tt (assigned_state s type (scope.holds j below).serial (scope.holds j below).values z)) → Comes code credits f v aims (M.assigned around (whole (own block j)) (value_as type z) k s)
-stored_piece {links = links} {code = code} {i = i} {g = g} g' {v = v} {h = h} {t = t} {s = s} {aims = aims} closed temps credits e block types numbers f around taken j {type} z k below fits left scope same writes l at goal =
+pub stored_piece : {links : Links} {code : List Instr} {i : ℕ} {g : Ground} (g' : Ground) {v : Services} {h t : ℕ → ℕ} {s : State} {aims : Aims (Unit {0})} (closed : Closed code aims) (temps : Temporaries g) (credits : ℕ) (e : Environment) (block : ℕ) (types : Types) (held : Values) (f : Family) (around : Around) (taken : Taken) (j : ℕ) {type : Y.LeafType} (z : ℤ) (k : ℕ) (below : slice_get types j ≡ Some (alone type)) → (fits : Fits type z) → (is_register_left taken ≡ false → taken.words < g.words) → (scope : Scope g e block types s held) → ((b : Base) (h' : ℕ → ℕ) → reserved_are b g h' ≡ reserved_are b g' h') → ((t' : ℕ → ℕ) (b : Base) (m : List ℕ) → length m ≡ memory_size → g.memory t' b m → g'.memory t' b (store (store_width (store_kind type)) m (scope.base + data_place e block j) (word z))) → Linked links code i (word_stored e taken (whole (own block j))) → ((b : Base) → At b i (Known g v h t (valued (word z)) b) (f b)) → ((f' : Family) (h' t' : ℕ → ℕ) → Stays taken h t h' t' → ((b : Base) → At b (i + size_of (word_stored e taken (whole (own block j)))) (Known g' v h' t' nothing b) (f' b)) → aims.done (credits + size_of (word_stored e taken (whole (own block j)))) f' v tt (assigned_state s type (scope.holds j below (fits_numeric type z fits)).serial (scope.holds j below (fits_numeric type z fits)).values z)) → Comes code credits f v aims (M.assigned around (whole (own block j)) (value_as type z) k s)
+stored_piece {links = links} {code = code} {i = i} {g = g} g' {v = v} {h = h} {t = t} {s = s} {aims = aims} closed temps credits e block types held f around taken j {type} z k below fits left scope same writes l at goal =
     let target = whole (own block j) in
-    let holds = scope.holds j below in
+    let holds = scope.holds j below (fits_numeric type z fits) in
     let wide = fits_wide type z fits in
     let place = data_place e block j in
     let put' = save a0 taken in
@@ -130,7 +130,7 @@ stored_piece {links = links} {code = code} {i = i} {g = g} g' {v = v} {h = h} {t
     let paid : credits + size_of put' + size_of written ≡ credits + size_of (word_stored e taken target) = omega (arith, whole_size, e1) in
     let h1 = held_with taken (word z) h in
     let t1 = words_with taken (word z) t in
-    subst (Comes code credits f v aims) (sym (assigned_gives around s j block type (numbers j) z k holds))
+    subst (Comes code credits f v aims) (sym (assigned_gives around s j block type (held.numbers j) z k holds))
     (onward closed (save_piece temps credits f a0 taken (word z) left (word_small z wide) (λ y u. refl) (λ b w' o. o.regs.0) (record { reserved_stay = λ y u. refl; known_stay = λ b y u q. q; set = λ y u. refl }) (front_of put' written l1) at)
     (λ f1 at1.
     onward closed (write_based (0 == e.level) g' temps (credits + size_of put') f1 taken scope.base (store_kind type) (pos place) (scope.base + place) (word z) scope.reach scope.within (scope.places j below) left (word_small z wide) (waiting_saved taken h t (word z)) (λ b. same b h1) (λ b m len o. writes t1 b m len o) l2 at1)

@@ -1,20 +1,19 @@
 -- The frame of a block inside another: its place, the frame below it and its display.
-use Rattle.std.proofs.Common.{◌≡◌, ℕ, zero, suc, ◌+◌, ◌*◌, ◌%◌, ◌^◌, ◌≤◌, inl, List, [], ◌∷◌, ◌++◌, length, false, refl, ap, ◌∙◌, subst, arith}
-use Rattle.std.specs.Prelude.{ℤ, pos, ◌==◌}
-use Rattle.rv_meaning.specs.declared.instr.Instr.TheVariants as I
-use Rattle.rv_meaning.specs.declared.instr.LoadKind.TheVariants as Load
-use Rattle.rv_meaning.specs.declared.instr.StoreKind.TheVariants as Store
+use Rattle.std.proofs.Common.{◌≡◌, ℕ, zero, suc, ◌+◌, ◌*◌, ◌%◌, ◌^◌, ◌<◌, ◌≤◌, inl, List, [], ◌∷◌, ◌++◌, length, Bool, true, false, refl, sym, ap, ◌∙◌, arith}
+use Rattle.std.specs.Prelude.{pos, cond, ◌==◌}
 use Rattle.rv_meaning.specs.declared.instr.Register.{Register}
+use Rattle.std.proofs.lemmas.Bool.{eq-eqb, eqb-true}
 use Rattle.std.proofs.lemmas.Bool.Decides.{nat_tests}
 use Rattle.rv_meaning.specs.declared.instr.Instr.{Instr}
 use Rattle.rv_meaning.specs.declared.instr.RegisterOp.TheVariants as Op
 use Rattle.rv_meaning.specs.Words.{word, sum, operated}
 use Rattle.rv_meaning.specs.Memory.{load, store}
+use Rattle.rv_meaning.specs.Machine.{memory_size}
 use Rattle.rv_meaning.proofs.MemoryLaws.{length-store, load-store_same, load-store_other}
 use Rattle.pli_serving.specs.ServiceState.{Services}
 use Rattle.pli_coding.specs.Registers.{frame_register, a0, u0, u1}
 use Rattle.pli_coding.specs.Assembly.{Code, size_of}
-use Rattle.pli_coding.specs.Instructions.{move, load_word, store_word, is_immediate}
+use Rattle.pli_coding.specs.Instructions.{move, load_word, store_word}
 use Rattle.pli_coding.specs.Frames.{frame_below, lower_top, display}
 use Rattle.pli_coding.specs.Entries.{display_copied}
 use Rattle.pli_coding.specs.Environments.{Environment}
@@ -25,12 +24,13 @@ use Rattle.pli_headline.proofs.Engine.{Base, most_code, WordAt}
 use Rattle.pli_headline.proofs.Linking.{size_append}
 use Rattle.pli_headline.proofs.Items.{Linked, At, Items}
 use Rattle.pli_headline.proofs.Numbers.{above_sum, above_small}
-use Rattle.pli_headline.proofs.Bodies.{Ground, Known, Free, IsNear, PlaceFrom, at_place, nth, frame_is, lose_known, displaced_by, stored_body, load_from, store_piece}
+use Rattle.pli_headline.proofs.Bodies.{Ground, Known, with', Free, IsNear, PlaceFrom, nth, frame_is, load_from, store_piece}
 use Rattle.pli_headline.proofs.Jumps.{front_of, back_of}
-use Rattle.pli_headline.proofs.Reaching.{Reaches, reach_moved}
+use Rattle.pli_headline.proofs.Reaching.{reach_moved}
 use Rattle.pli_headline.proofs.Statements.{Block}
-use Rattle.pli_headline.proofs.InnerFrames.{Inner, Inside, inner_whole, inner_above}
+use Rattle.pli_headline.proofs.InnerFrames.{Inner, Inside, inner_levels, inner_whole, inner_above}
 use Rattle.pli_headline.proofs.Reach.{Family, Reach, reach_then, reach_map, reached, reached_holds}
+use Rattle.pli_headline.proofs.Scalars.{Values}
 
 -- ---- places
 
@@ -74,17 +74,17 @@ without_two _ = []
 abbrev pub unknown : ℕ → ℕ
 unknown j = 2 ^ 32
 
--- the frame below, and then the frame of level 0
+-- the frame below, and then the frames of so many levels
 pub record Begun (around : Base → List ℕ → Type 0) (outer at : ℕ) (b : Base) (m : List ℕ) : Type 0 where
   pub kept : around b m
   pub below : load 4 m (at + 4) ≡ b.at + outer
 
-pub record Displayed (around : Base → List ℕ → Type 0) (outer base at : ℕ) (b : Base) (m : List ℕ) : Type 0 where
+pub record Displayed (around : Base → List ℕ → Type 0) (outer count : ℕ) (levels : ℕ → ℕ) (at : ℕ) (b : Base) (m : List ℕ) : Type 0 where
   pub begun : Begun around outer at b m
-  pub shown : load 4 m (at + 144) ≡ b.at + base
+  pub shown : (j : ℕ) → j < count → load 4 m (at + (144 + 4 * j)) ≡ b.at + levels j
 
 -- the frame's register is set, but the stack's isn't yet
-abbrev pub middle_ground : {e : Environment} {block : ℕ} {types : Types} (bl : Block e block types) → Inner bl → (ℕ → ℤ) → (Base → List ℕ → Type 0) → Ground
+abbrev pub middle_ground : {e : Environment} {block : ℕ} {types : Types} (bl : Block e block types) → Inner bl → Values → (Base → List ℕ → Type 0) → Ground
 middle_ground bl inner n memory =
     record {
       frame = inner.at;
@@ -96,16 +96,16 @@ middle_ground bl inner n memory =
       inside = let r = inner.room in omega (arith, r);
     }
 
-abbrev pub begun_ground : {e : Environment} {block : ℕ} {types : Types} (bl : Block e block types) → Inner bl → (t0 : ℕ → ℕ) → (ℕ → ℤ) → Ground
+abbrev pub begun_ground : {e : Environment} {block : ℕ} {types : Types} (bl : Block e block types) → Inner bl → (t0 : ℕ → ℕ) → Values → Ground
 begun_ground bl inner t0 n = middle_ground bl inner n (Begun ((bl.ground n).memory t0) bl.stack.frame inner.at)
 
-abbrev pub displayed_ground : {e : Environment} {block : ℕ} {types : Types} (bl : Block e block types) → Inner bl → (t0 : ℕ → ℕ) → (ℕ → ℤ) → Ground
-displayed_ground bl inner t0 n =
-    middle_ground bl inner n (Displayed ((bl.ground n).memory t0) bl.stack.frame bl.base inner.at)
+abbrev pub displayed_ground : {e : Environment} {block : ℕ} {types : Types} (bl : Block e block types) → Inner bl → (t0 : ℕ → ℕ) → (count : ℕ) → Values → Ground
+displayed_ground bl inner t0 count n =
+    middle_ground bl inner n (Displayed ((bl.ground n).memory t0) bl.stack.frame count (inner_levels bl) inner.at)
 
-abbrev pub owned_ground : {e : Environment} {block : ℕ} {types : Types} (bl : Block e block types) → Inner bl → (t0 : ℕ → ℕ) → (ℕ → ℤ) → Ground
-owned_ground bl inner t0 n =
-    middle_ground bl inner n (λ b m. Inside ((bl.ground n).memory t0) bl.stack.frame bl.base inner.at inner.words unknown b m)
+abbrev pub owned_ground : {e : Environment} {block : ℕ} {types : Types} (bl : Block e block types) → Inner bl → (t0 : ℕ → ℕ) → Values → Ground
+owned_ground {e} bl inner t0 n =
+    middle_ground bl inner n (λ b m. Inside ((bl.ground n).memory t0) bl.stack.frame (suc e.level) (inner_levels bl) inner.at inner.words unknown b m)
 
 -- ---- the frame below
 
@@ -120,7 +120,7 @@ outer_regs at b = (10, b.at + at) ∷ []
 abbrev pub both_regs : (at outer : ℕ) → Base → List (ℕ × ℕ)
 both_regs at outer b = (5, b.at + at) ∷ (10, b.at + outer) ∷ []
 
-pub begun_path : {e : Environment} {block : ℕ} {types : Types} (bl : Block e block types) (inner : Inner bl) (n : ℕ → ℤ) (links : Links) (code : List Instr) (i : ℕ) (v : Services) (h t0 : ℕ → ℕ) (b : Base) (w : Whole) → length code ≤ most_code → Known (bl.ground n) v h t0 (both_regs inner.at (bl.ground n).frame) b w → Items links code b i begun_code w (Known (begun_ground bl inner t0 n) v h unknown (outer_regs (bl.ground n).frame) b)
+pub begun_path : {e : Environment} {block : ℕ} {types : Types} (bl : Block e block types) (inner : Inner bl) (n : Values) (links : Links) (code : List Instr) (i : ℕ) (v : Services) (h t0 : ℕ → ℕ) (b : Base) (w : Whole) → length code ≤ most_code → Known (bl.ground n) v h t0 (both_regs inner.at (bl.ground n).frame) b w → Items links code b i begun_code w (Known (begun_ground bl inner t0 n) v h unknown (outer_regs (bl.ground n).frame) b)
 begun_path bl inner n links code i v h t0 b w small' k =
     let g = bl.ground n in
     let x = w.machine.registers in
@@ -181,139 +181,110 @@ display_place at n whole high room few =
       above_code = omega (arith, high);
     }
 
-displayed_keeps : {e : Environment} {block : ℕ} {types : Types} (bl : Block e block types) (inner : Inner bl) (t0 : ℕ → ℕ) (n : ℕ → ℤ) (b : Base) (m : List ℕ) (p x : ℕ) → inner.at + 148 ≤ p → Displayed ((bl.ground n).memory t0) bl.stack.frame bl.base inner.at b m → Displayed ((bl.ground n).memory t0) bl.stack.frame bl.base inner.at b (store 4 m p x)
-displayed_keeps bl inner t0 n b m p x over o =
-    let above = inner_above inner.at bl.stack.free inner.words inner.place in
+pub outer_place : (at j : ℕ) → at % 4 ≡ 0 → 2 ^ 22 ≤ at → at ≤ 14 * 2 ^ 20 → j ≤ 100 → PlaceFrom at (display j) (at + (144 + 4 * j))
+outer_place at j whole high room few =
     record {
-      begun = record {
-        kept = bl.stack.keeps n t0 b m p x (omega (arith, above, over)) o.begun.kept;
-        below = load-store_other 4 4 m p x (inner.at + 4) (inl (omega (arith, over))) ∙ o.begun.below;
-      };
-      shown = load-store_other 4 4 m p x (inner.at + 144) (inl (omega (arith, over))) ∙ o.shown;
+      small' = above_small (144 + 4 * j) (omega (arith, few));
+      sums = λ b. above_sum b.at at (144 + 4 * j) b.valid.1 (omega (arith, room, few));
+      aligned = omega (arith, whole);
+      inside = omega (arith, room, few);
+      above_code = omega (arith, high);
     }
 
--- some word of the display of the frame around comes into a register, and goes into this frame's
-word_loaded : {e : Environment} {block : ℕ} {types : Types} (bl : Block e block types) (inner : Inner bl) (n : ℕ → ℤ) {links : Links} {code : List Instr} {i : ℕ} {v : Services} {h t0 : ℕ → ℕ} (c : ℕ) (f : Family) (j : ℕ) → j ≤ 100 → Linked links code i (load_word u1 a0 (display j)) → ((b : Base) → At b i (Known (displayed_ground bl inner t0 n) v h unknown (outer_regs (bl.ground n).frame) b) (f b)) → Reach code c f v (c + size_of (load_word u1 a0 (display j))) v (λ b w. At b (i + size_of (load_word u1 a0 (display j))) (Known (displayed_ground bl inner t0 n) v h unknown (outer_regs (bl.ground n).frame) b) w)
-word_loaded bl inner n {v = v} {h = h} {t0 = t0} c f j few l at =
+-- a word of the display of the frame around comes into a register
+word_loaded : {e : Environment} {block : ℕ} {types : Types} (bl : Block e block types) (inner : Inner bl) (n : Values) {links : Links} {code : List Instr} {i : ℕ} {v : Services} {h t0 : ℕ → ℕ} (c : ℕ) (f : Family) (j : ℕ) → j < e.level → e.level ≤ 100 → Linked links code i (load_word u1 a0 (display j)) → ((b : Base) → At b i (Known (displayed_ground bl inner t0 j n) v h unknown (outer_regs (bl.ground n).frame) b) (f b)) → Reach code c f v (c + size_of (load_word u1 a0 (display j))) v (λ b w. At b (i + size_of (load_word u1 a0 (display j))) (Known (displayed_ground bl inner t0 j n) v h unknown (with' 6 (λ b'. b'.at + bl.levels j) (outer_regs (bl.ground n).frame)) b) w)
+word_loaded bl inner n {t0 = t0} c f j below few l at =
     let g = bl.ground n in
-    let P : Base → Whole → Type 0 = Known (displayed_ground bl inner t0 n) v h unknown (outer_regs g.frame) in
     let above = inner_above inner.at bl.stack.free inner.words inner.place in
     let room = inner.room in
     let over = bl.stack.above in
     let same = bl.stack.frame_is n in
     let high = g.above_code in
-    let place = outer_place g.frame j g.whole (omega (arith, high)) (omega (arith, above, room, over, same)) few in
-    displaced_by (is_immediate (display j)) c f (λ s d. I.Load Load.Word u1 s d) a0 (display j) (λ b. b.at + g.frame) P P place.small'
-    (λ b. let v' = b.valid.1 in omega (arith, v', above, room, over, same))
-    (λ y u. refl)
-    (λ b. (at b).holds.regs.0)
-    (omega arith)
-    (record {
-      does = λ b i' w s d k e'. (at_place b place _ e', lose_known w 6 _ _ (record { reserved_stay = λ y u. refl; known_stay = λ b' y u q. (q.0, tt); set = λ y u. refl }) k);
-      lost = λ b w u i' k. lose_known w 31 u i' (record { reserved_stay = λ y u'. refl; known_stay = λ b' y u' q. (q.0, tt); set = λ y u'. refl }) k;
-    })
+    load_from c f u1 a0 (display j) g.frame (g.frame + (144 + 4 * j)) (λ b. b.at + bl.levels j)
+    (outer_place g.frame j g.whole (omega (arith, high)) (omega (arith, above, room, over, same)) (omega (arith, below, few)))
+    (let o = g.inside in omega (arith, o)) (λ y u. refl) (λ b w k. k.regs.0)
+    (λ b m k. ap (λ u. load 4 m (u + (144 + 4 * j))) same ∙ bl.displays n t0 b m j below k.begun.kept)
+    (record { reserved_stay = λ y u. refl; known_stay = λ b y u q. (q.0, tt); set = λ y u. refl })
+    (record { reserved_stay = λ y u. refl; known_stay = λ b y u q. (q.0, tt); set = λ y u. refl })
     l at
-  where
-    outer_place : (at j : ℕ) → at % 4 ≡ 0 → 2 ^ 22 ≤ at → at ≤ 14 * 2 ^ 20 → j ≤ 100 → PlaceFrom at (display j) (at + (144 + 4 * j))
-    outer_place at j whole high room few =
-        record {
-          small' = above_small (144 + 4 * j) (omega (arith, few));
-          sums = λ b. above_sum b.at at (144 + 4 * j) b.valid.1 (omega (arith, room, few));
-          aligned = omega (arith, whole);
-          inside = omega (arith, room, few);
-          above_code = omega (arith, high);
-        }
 
-word_stored : {e : Environment} {block : ℕ} {types : Types} (bl : Block e block types) (inner : Inner bl) (n : ℕ → ℤ) {links : Links} {code : List Instr} {i : ℕ} {v : Services} {h t0 : ℕ → ℕ} (c : ℕ) (f : Family) (r : Register) (j : ℕ) → 1 ≤ j → j ≤ 100 → Linked links code i (store_word frame_register r (display j)) → ((b : Base) → At b i (Known (displayed_ground bl inner t0 n) v h unknown (outer_regs (bl.ground n).frame) b) (f b)) → Reach code c f v (c + size_of (store_word frame_register r (display j))) v (λ b w. At b (i + size_of (store_word frame_register r (display j))) (Known (displayed_ground bl inner t0 n) v h unknown (outer_regs (bl.ground n).frame) b) w)
-word_stored bl inner n {v = v} {h = h} {t0 = t0} c f r j some few l at =
-    let ground = displayed_ground bl inner t0 n in
-    let P : Base → Whole → Type 0 = Known ground v h unknown (outer_regs (bl.ground n).frame) in
+shown_by : (q : Bool) (m : List ℕ) (at i j : ℕ) (y : ℕ → ℕ) → (i == j) ≡ q → i < suc j → y j < 2 ^ 32 → at + (148 + 4 * j) ≤ length m → (i < j → load 4 m (at + (144 + 4 * i)) ≡ y i) → load 4 (store 4 m (at + (144 + 4 * j)) (y j)) (at + (144 + 4 * i)) ≡ y i
+shown_by true m at i j y e below fits room known =
+    let same : i ≡ j = eqb-true i j e in
+    ap (λ u. load 4 (store 4 m (at + (144 + 4 * j)) (y j)) (at + (144 + 4 * u))) same ∙ load-store_same 4 m (at + (144 + 4 * j)) (y j) fits (omega (arith, room)) ∙ ap y (sym same)
+shown_by false m at i j y e below fits room known =
+    let under : i < j = grind (arith, nat_tests) in
+    load-store_other 4 4 m (at + (144 + 4 * j)) (y j) (at + (144 + 4 * i)) (inl (omega (arith, under))) ∙ known under
+
+-- a register goes into the word of a level
+word_stored : {e : Environment} {block : ℕ} {types : Types} (bl : Block e block types) (inner : Inner bl) (n : Values) {links : Links} {code : List Instr} {i : ℕ} {v : Services} {h t0 : ℕ → ℕ} {rs : Base → List (ℕ × ℕ)} (c : ℕ) (f : Family) (r : Register) (j : ℕ) → j ≤ 100 → inner_levels bl j < memory_size → IsNear r.index → ((b : Base) (w : Whole) → Known (displayed_ground bl inner t0 j n) v h unknown rs b w → w.machine.registers r.index ≡ b.at + inner_levels bl j) → Free rs 31 → Linked links code i (store_word frame_register r (display j)) → ((b : Base) → At b i (Known (displayed_ground bl inner t0 j n) v h unknown rs b) (f b)) → Reach code c f v (c + size_of (store_word frame_register r (display j))) v (λ b w. At b (i + size_of (store_word frame_register r (display j))) (Known (displayed_ground bl inner t0 (suc j) n) v h unknown rs b) w)
+word_stored bl inner n {t0 = t0} c f r j few small' near value free l at =
     let above = inner_above inner.at bl.stack.free inner.words inner.place in
     let whole = inner_whole inner.at bl.stack.free inner.words inner.place bl.stack.aligned in
     let room = inner.room in
     let high = bl.stack.high in
-    let place = display_place inner.at j whole (omega (arith, above, high)) (omega (arith, room)) few in
-    displaced_by (is_immediate (display j)) c f (λ s d. I.Store Store.Word s r d) frame_register (display j) (λ b. b.at + inner.at) P P place.small'
-    (λ b. let v' = b.valid.1 in omega (arith, v', room))
-    (λ y u. refl)
-    (λ b. frame_is (at b).holds.body)
-    (omega arith)
-    (record {
-      does = λ b i' w s d k e'. (
-        at_place b place _ e',
-        let small' = l.small' in omega (arith, small', above, high),
-        record {
-          body = stored_body ground unknown Store.Word w (inner.at + (144 + 4 * j)) (w.machine.registers r.index) _ refl (displayed_keeps bl inner t0 n b w.machine.memory (inner.at + (144 + 4 * j)) (w.machine.registers r.index) (omega (arith, some)) k.body.memory) k.body;
-          regs = k.regs;
-        },
-      );
-      lost = λ b w u i' k. lose_known w 31 u i' (record { reserved_stay = λ y u'. refl; known_stay = λ b' y u' q. (q.0, tt); set = λ y u'. refl }) k;
+    store_piece (displayed_ground bl inner t0 (suc j) n) unknown c f r (display j) (inner.at + (144 + 4 * j)) (λ b. b.at + inner_levels bl j)
+    (display_place inner.at j whole (omega (arith, above, high)) (omega (arith, room)) few)
+    near value (λ b. refl)
+    (λ b m len o. record {
+      begun = record {
+        kept = bl.stack.keeps n t0 b m (inner.at + (144 + 4 * j)) (b.at + inner_levels bl j) (omega (arith, above)) o.begun.kept;
+        below = load-store_other 4 4 m (inner.at + (144 + 4 * j)) (b.at + inner_levels bl j) (inner.at + 4) (inl (omega arith)) ∙ o.begun.below;
+      };
+      shown = λ i h. shown_by (i == j) m inner.at i j (λ u. b.at + inner_levels bl u) refl h (let v' = b.valid.1 in omega (arith, v', small')) (omega (arith, len, room, few)) (λ under. o.shown i under);
     })
-    l at
+    free l at
 
-more_copied : {e : Environment} {block : ℕ} {types : Types} (bl : Block e block types) (inner : Inner bl) (n : ℕ → ℤ) (left j : ℕ) {links : Links} {code : List Instr} {i : ℕ} {v : Services} {h t0 : ℕ → ℕ} (c : ℕ) (f : Family) → 1 ≤ j → j + left ≤ 100 → Linked links code i (display_copied j left) → ((b : Base) → At b i (Known (displayed_ground bl inner t0 n) v h unknown (outer_regs (bl.ground n).frame) b) (f b)) → Reach code c f v (c + size_of (display_copied j left)) v (λ b w. At b (i + size_of (display_copied j left)) (Known (displayed_ground bl inner t0 n) v h unknown (outer_regs (bl.ground n).frame) b) w)
-more_copied bl inner n zero j c f some few l at = word_stored bl inner n c f a0 j some (omega (arith, few)) l at
-more_copied bl inner n (suc left) j c f some few l at =
+own_level : {e : Environment} {block : ℕ} {types : Types} (bl : Block e block types) (j : ℕ) → j ≡ e.level → inner_levels bl j ≡ bl.stack.frame
+own_level {e} bl j same = ap (λ q. cond q bl.stack.frame (bl.levels j)) (eq-eqb j e.level same)
+
+outer_level : {e : Environment} {block : ℕ} {types : Types} (bl : Block e block types) (j : ℕ) → j < e.level → inner_levels bl j ≡ bl.levels j
+outer_level {e} bl j below =
+    let other : (j == e.level) ≡ false = grind (arith, nat_tests) in
+    ap (λ q. cond q bl.stack.frame (bl.levels j)) other
+
+copied : {e : Environment} {block : ℕ} {types : Types} (bl : Block e block types) (inner : Inner bl) (n : Values) (left j : ℕ) {links : Links} {code : List Instr} {i : ℕ} {v : Services} {h t0 : ℕ → ℕ} (c : ℕ) (f : Family) → j + left ≡ e.level → e.level ≤ 100 → Linked links code i (display_copied j left) → ((b : Base) → At b i (Known (displayed_ground bl inner t0 j n) v h unknown (outer_regs (bl.ground n).frame) b) (f b)) → Reach code c f v (c + size_of (display_copied j left)) v (λ b w. At b (i + size_of (display_copied j left)) (Known (displayed_ground bl inner t0 (suc e.level) n) v h unknown (outer_regs (bl.ground n).frame) b) w)
+copied {e} bl inner n zero j {i = i} {v = v} {h = h} {t0 = t0} c f total few l at =
+    let g = bl.ground n in
+    let same : j ≡ e.level = omega (arith, total) in
+    let own = own_level bl j same in
+    let room = inner.room in
+    let above = inner_above inner.at bl.stack.free inner.words inner.place in
+    let over = bl.stack.above in
+    reach_map (λ b w. At b (i + size_of (display_copied j zero)) (Known (displayed_ground bl inner t0 (suc e.level) n) v h unknown (outer_regs g.frame) b) w)
+    (word_stored bl inner n c f a0 j (omega (arith, same, few)) (omega (arith, own, room, above, over)) (λ y u. refl) (λ b w k. k.regs.0 ∙ ap (λ u. b.at + u) (bl.stack.frame_is n ∙ sym own)) (record { reserved_stay = λ y u. refl; known_stay = λ b y u q. (q.0, tt); set = λ y u. refl }) l at)
+    (λ b w o. let m = o.holds.body.memory in record {
+      pc = o.pc;
+      holds = record {
+        body = record { services = o.holds.body.services; registers = o.holds.body.registers; bytes = o.holds.body.bytes; memory = record { begun = m.begun; shown = λ u below. m.shown u (omega (arith, below, same)) } };
+        regs = o.holds.regs;
+      };
+    })
+copied {e} bl inner n (suc left) j {i = i} {v = v} {h = h} {t0 = t0} c f total few l at =
+    let g = bl.ground n in
     let a = load_word u1 a0 (display j) in
     let s = store_word frame_register u1 (display j) in
     let rest = display_copied (suc j) left in
     let l2 = back_of a (s ++ rest) l in
     let n1 = size_append a (s ++ rest) in
     let n2 = size_append s rest in
-    let r1 = word_loaded bl inner n c f j (omega (arith, few)) (front_of a (s ++ rest) l) at in
-    let r2 = word_stored bl inner n (c + size_of a) (reached r1) u1 j some (omega (arith, few)) (front_of s rest l2) (reached_holds r1) in
-    let r3 = more_copied bl inner n left (suc j) (c + size_of a + size_of s) (reached r2) (omega arith) (omega (arith, few)) (back_of s rest l2) (reached_holds r2) in
-    reach_moved (omega (arith, n1, n2)) (omega (arith, n1, n2)) (reach_then r1 (reach_then r2 r3))
-
--- the first word
-first_stored : {e : Environment} {block : ℕ} {types : Types} (bl : Block e block types) (inner : Inner bl) (n : ℕ → ℤ) {links : Links} {code : List Instr} {i : ℕ} {v : Services} {h t0 : ℕ → ℕ} {rs : Base → List (ℕ × ℕ)} (c : ℕ) (f : Family) (r : Register) → IsNear r.index → ((b : Base) (w : Whole) → Known (begun_ground bl inner t0 n) v h unknown rs b w → w.machine.registers r.index ≡ b.at + bl.base) → Free rs 31 → Linked links code i (store_word frame_register r (display 0)) → ((b : Base) → At b i (Known (begun_ground bl inner t0 n) v h unknown rs b) (f b)) → Reach code c f v (c + size_of (store_word frame_register r (display 0))) v (λ b w. At b (i + size_of (store_word frame_register r (display 0))) (Known (displayed_ground bl inner t0 n) v h unknown rs b) w)
-first_stored bl inner n {t0 = t0} c f r near value free l at =
-    let above = inner_above inner.at bl.stack.free inner.words inner.place in
-    let whole = inner_whole inner.at bl.stack.free inner.words inner.place bl.stack.aligned in
-    let room = inner.room in
-    let high = bl.stack.high in
-    let within = bl.within in
-    store_piece (displayed_ground bl inner t0 n) unknown c f r (display 0) (inner.at + 144) (λ b. b.at + bl.base)
-    (record {
-      small' = above_small 144 (omega arith);
-      sums = λ b. above_sum b.at inner.at 144 b.valid.1 (omega (arith, room));
-      aligned = omega (arith, whole);
-      inside = omega (arith, room);
-      above_code = omega (arith, above, high);
-    })
-    near value (λ b. refl)
-    (λ b m len o. record {
-      begun = record {
-        kept = bl.stack.keeps n t0 b m (inner.at + 144) (b.at + bl.base) (omega (arith, above)) o.kept;
-        below = load-store_other 4 4 m (inner.at + 144) (b.at + bl.base) (inner.at + 4) (inl (omega arith)) ∙ o.below;
-      };
-      shown = load-store_same 4 m (inner.at + 144) (b.at + bl.base) (let v' = b.valid.1 in omega (arith, v', within)) (omega (arith, len, room));
-    })
-    free l at
-
--- the whole display, from that of a frame of some level
-pub display_piece : {e : Environment} {block : ℕ} {types : Types} (bl : Block e block types) (inner : Inner bl) (n : ℕ → ℤ) (level : ℕ) {links : Links} {code : List Instr} {i : ℕ} {v : Services} {h t0 : ℕ → ℕ} (c : ℕ) (f : Family) → level ≤ 100 → Reaches (0 == level) (bl.ground n) bl.base → Linked links code i (display_copied 0 level) → ((b : Base) → At b i (Known (begun_ground bl inner t0 n) v h unknown (outer_regs (bl.ground n).frame) b) (f b)) → Reach code c f v (c + size_of (display_copied 0 level)) v (λ b w. At b (i + size_of (display_copied 0 level)) (Known (displayed_ground bl inner t0 n) v h unknown (outer_regs (bl.ground n).frame) b) w)
-display_piece bl inner n zero c f few reach l at =
-    first_stored bl inner n c f a0 (λ y u. refl) (λ b w k. k.regs.0 ∙ ap (λ u. b.at + u) reach) (record { reserved_stay = λ y u. refl; known_stay = λ b y u q. (q.0, tt); set = λ y u. refl }) l at
-display_piece bl inner n (suc level) {i = i} {v = v} {h = h} {t0 = t0} c f few reach l at =
-    let g = bl.ground n in
-    let known = further_level level in
-    let shown = subst (λ q. Reaches q g bl.base) known reach in
-    let place = shown.0 in
-    let a = load_word u1 a0 (display 0) in
-    let s = store_word frame_register u1 (display 0) in
-    let rest = display_copied 1 level in
-    let l2 = back_of a (s ++ rest) l in
-    let n1 = size_append a (s ++ rest) in
-    let n2 = size_append s rest in
-    let r1 = load_from c f u1 a0 (display 0) g.frame (g.frame + 144) (λ b. b.at + bl.base) place (let o = g.inside in omega (arith, o)) (λ y u. refl) (λ b w k. k.regs.0) (λ b m k. shown.1 t0 b m k.kept)
-    (record { reserved_stay = λ y u. refl; known_stay = λ b y u q. (q.0, tt); set = λ y u. refl })
-    (record { reserved_stay = λ y u. refl; known_stay = λ b y u q. (q.0, tt); set = λ y u. refl })
-    (front_of a (s ++ rest) l) at in
-    let r2 = first_stored bl inner n (c + size_of a) (reached r1) u1 (λ y u. refl) (λ b w k. k.regs.0) (record { reserved_stay = λ y u. refl; known_stay = λ b y u q. (q.0, (q.1.0, tt)); set = λ y u. refl }) (front_of s rest l2) (reached_holds r1) in
-    let r2' = reach_map (λ b w. At b (i + size_of a + size_of s) (Known (displayed_ground bl inner t0 n) v h unknown (outer_regs g.frame) b) w) r2 (λ b w o. record { pc = o.pc; holds = record { body = o.holds.body; regs = (o.holds.regs.1.0, tt) } }) in
-    let r3 = more_copied bl inner n level 1 (c + size_of a + size_of s) (reached r2') (omega arith) (omega (arith, few)) (back_of s rest l2) (reached_holds r2') in
+    let under : j < e.level = omega (arith, total) in
+    let level = outer_level bl j under in
+    let room = bl.level_room j under in
+    let r1 = word_loaded bl inner n c f j under few (front_of a (s ++ rest) l) at in
+    let r2 = word_stored bl inner n (c + size_of a) (reached r1) u1 j (omega (arith, under, few)) (omega (arith, level, room)) (λ y u. refl) (λ b w k. k.regs.0 ∙ ap (λ u. b.at + u) (sym level)) (record { reserved_stay = λ y u. refl; known_stay = λ b y u q. (q.0, (q.1.0, tt)); set = λ y u. refl }) (front_of s rest l2) (reached_holds r1) in
+    let r2' = reach_map (λ b w. At b (i + size_of a + size_of s) (Known (displayed_ground bl inner t0 (suc j) n) v h unknown (outer_regs g.frame) b) w) r2 (λ b w o. record { pc = o.pc; holds = record { body = o.holds.body; regs = (o.holds.regs.1.0, tt) } }) in
+    let r3 = copied bl inner n left (suc j) (c + size_of a + size_of s) (reached r2') (omega (arith, total)) few (back_of s rest l2) (reached_holds r2') in
     reach_moved (omega (arith, n1, n2)) (omega (arith, n1, n2)) (reach_then r1 (reach_then r2' r3))
-  where
-    further_level : (level : ℕ) → (0 == suc level) ≡ false
-    further_level level = grind (arith, nat_tests)
+
+-- the whole display, from that of the frame around
+pub display_piece : {e : Environment} {block : ℕ} {types : Types} (bl : Block e block types) (inner : Inner bl) (n : Values) {links : Links} {code : List Instr} {i : ℕ} {v : Services} {h t0 : ℕ → ℕ} (c : ℕ) (f : Family) → e.level ≤ 100 → Linked links code i (display_copied 0 e.level) → ((b : Base) → At b i (Known (begun_ground bl inner t0 n) v h unknown (outer_regs (bl.ground n).frame) b) (f b)) → Reach code c f v (c + size_of (display_copied 0 e.level)) v (λ b w. At b (i + size_of (display_copied 0 e.level)) (Known (displayed_ground bl inner t0 (suc e.level) n) v h unknown (outer_regs (bl.ground n).frame) b) w)
+display_piece {e} bl inner n c f few l at =
+    copied bl inner n e.level 0 c f (omega arith) few l
+    (λ b. let o = (at b).holds in record {
+      pc = (at b).pc;
+      holds = record {
+        body = record { services = o.body.services; registers = o.body.registers; bytes = o.body.bytes; memory = record { begun = o.body.memory; shown = λ j below. absurd (omega (arith, below)) } };
+        regs = o.regs;
+      };
+    })

@@ -1,15 +1,18 @@
--- A block inside another is entered (service 4) and left (service 5), in its frame.
-use Rattle.std.proofs.Common.{◌≡◌, ℕ, ◌+◌, ◌^◌, ◌<◌, List, [], ◌∷◌, ◌++◌, length, None, true, refl, sym, ap, ◌∙◌, arith, lit<}
-use Rattle.std.specs.Prelude.{ℤ, pos, neg_ℤ, cond, filter, nat_le, nat_lt, if◌then◌else◌}
+-- A block inside another is entered (service 4) and left (service 5), in its frame; past the limit on active blocks the run ends.
+use Rattle.std.proofs.Common.{◌≡◌, ℕ, ◌+◌, ◌^◌, ◌<◌, List, [], ◌∷◌, ◌++◌, length, None, true, refl, sym, ap, ◌∙◌, arith, lit<, false, add-one}
+use Rattle.std.specs.Prelude.{pos, neg_ℤ, cond, filter, nat_le, nat_lt, if◌then◌else◌}
 use Rattle.rv_meaning.specs.declared.instr.Instr.{Instr}
 use Rattle.rv_meaning.specs.declared.instr.Instr.TheVariants as I
 use Rattle.rv_meaning.specs.declared.instr.ImmediateOp.TheVariants as Imm
 use Rattle.pli_meaning.specs.declared.outcome.End.TheVariants as E
 use Rattle.pli_meaning.specs.declared.outcome.Limit.TheVariants as L
-use Rattle.pli_meaning.specs.StorageState.{most_activations}
+use Rattle.pli_meaning.specs.StorageState.{most_activations, State}
+use Rattle.pli_meaning.specs.World.{ending}
+use Rattle.pli_meaning.specs.Control.{finish}
 use Rattle.pli_serving.specs.ServiceState as S
 use Rattle.pli_serving.specs.ServiceState.{Services}
-use Rattle.pli_serving.specs.Answers.{Answer, Done}
+use Rattle.pli_serving.specs.Answers as N
+use Rattle.pli_serving.specs.Answers.{Answer, Done, Ends}
 use Rattle.pli_serving.specs.Outcomes.{or_bad, bad_unless}
 use Rattle.pli_serving.specs.ActsAndEnds.{run_ended}
 use Rattle.pli_serving.specs.Blocks as K
@@ -30,13 +33,14 @@ use Rattle.pli_headline.proofs.Bodies.{Known, nth, reserved, zero_is, frame_is, 
 use Rattle.pli_headline.proofs.Jumps.{front_of, back_of}
 use Rattle.pli_headline.proofs.Temporaries.{nothing}
 use Rattle.pli_headline.proofs.Reaching.{reach_moved}
-use Rattle.pli_headline.proofs.Calls.{called, Calling, call_done}
+use Rattle.pli_headline.proofs.Calls.{called, Calling, call_done, Serving, comes_finish, end_pauses, call_ends, acts}
 use Rattle.pli_headline.proofs.Raising.{small_is}
 use Rattle.pli_headline.proofs.Acts.{word_is, word_fits}
 use Rattle.pli_headline.proofs.Statements.{Block}
 use Rattle.pli_headline.proofs.InnerFrames.{Inner, inner_whole, inner_ground}
 use Rattle.pli_headline.proofs.BeginDisplays.{frame_word, moved_reserved, without_two}
-use Rattle.pli_headline.proofs.Reach.{Family, Reach, reach_then, reached, reached_holds}
+use Rattle.pli_headline.proofs.Reach.{Family, Reach, reach_then, reached, reached_holds, Aims, Comes, Closed, cost, onward}
+use Rattle.pli_headline.proofs.Scalars.{Values}
 
 -- ---- service 4
 
@@ -67,15 +71,14 @@ enter_front = small a3 0 ∷ (load_word a1 frame_register own_offset ++ small a0
 abbrev enter_regs : (at : ℕ) → Base → List (ℕ × ℕ)
 enter_regs at b = (10, 1) ∷ (11, at) ∷ (13, 0) ∷ []
 
-pub inner_entered : {e : Environment} {block : ℕ} {types : Types} (bl : Block e block types) (inner : Inner bl) (n : ℕ → ℤ) {links : Links} {code : List Instr} {i : ℕ} {v : Services} {h t0 t : ℕ → ℕ} (c : ℕ) (f : Family) (line : ℕ) → line < 2 ^ 31 → v.waiting ≡ None → nat_lt (length v.activations) most_activations ≡ true → Linked links code i (entered_without_texts 1 line) → ((b : Base) → At b i (Known (inner_ground bl inner t0 n) v h t nothing b) (f b)) → Reach code c f v (c + size_of (entered_without_texts 1 line)) (entered_services v inner.at line) (λ b w. At b (i + size_of (entered_without_texts 1 line)) (Known (inner_ground bl inner t0 n) (entered_services v inner.at line) h t nothing b) w)
-inner_entered bl inner n {links} {code} {i} {v} {h} {t0} {t} c f line fits none few l at =
+-- up to the call
+asked_call : {e : Environment} {block : ℕ} {types : Types} (bl : Block e block types) (inner : Inner bl) (n : Values) {links : Links} {code : List Instr} {i : ℕ} {v : Services} {h t0 t : ℕ → ℕ} (c : ℕ) (f : Family) (line : ℕ) → line < 2 ^ 31 → Linked links code i (entered_without_texts 1 line) → ((b : Base) → At b i (Known (inner_ground bl inner t0 n) v h t nothing b) (f b)) → Reach code c f v (c + 3 + size_of (number a2 line) + 1) v (λ b w. At b (i + 3 + size_of (number a2 line) + 1) (Known (inner_ground bl inner t0 n) v h t (λ b'. (17, 4) ∷ (12, line) ∷ enter_regs inner.at b') b) w)
+asked_call bl inner n {links} {code} {i} {v} {h} {t0} {t} c f line fits l at =
     let ground = inner_ground bl inner t0 n in
-    let v' = entered_services v inner.at line in
     let m = number a2 line in
     let last = small a7 4 ∷ Plain I.Ecall ∷ [] in
     let l1 = back_of enter_front (m ++ last) l in
     let l2 = back_of m last l1 in
-    let total = size_append m last in
     let room = inner.room in
     let whole = inner_whole inner.at bl.stack.free inner.words inner.place bl.stack.aligned in
     let r1 = straight c f v v (λ b w. Known ground v h t (enter_regs inner.at) b w) (front_of enter_front (m ++ last) l) (omega arith) (λ b. (at b).pc)
@@ -92,6 +95,17 @@ inner_entered bl inner n {links} {code} {i} {v} {h} {t0} {t} c f line fits none 
       body = record { services = o.body.services; registers = o.body.registers; bytes = o.body.bytes; memory = o.body.memory };
       regs = (small_is _ 4 (zero_is o.body) (lit< tt), (o.regs.0 ∙ word_is line fits, o.regs.1));
     }) in
+    reach_then r1 (reach_then r2 r3)
+
+pub inner_entered : {e : Environment} {block : ℕ} {types : Types} (bl : Block e block types) (inner : Inner bl) (n : Values) {links : Links} {code : List Instr} {i : ℕ} {v : Services} {h t0 t : ℕ → ℕ} (c : ℕ) (f : Family) (line : ℕ) → line < 2 ^ 31 → v.waiting ≡ None → nat_lt (length v.activations) most_activations ≡ true → Linked links code i (entered_without_texts 1 line) → ((b : Base) → At b i (Known (inner_ground bl inner t0 n) v h t nothing b) (f b)) → Reach code c f v (c + size_of (entered_without_texts 1 line)) (entered_services v inner.at line) (λ b w. At b (i + size_of (entered_without_texts 1 line)) (Known (inner_ground bl inner t0 n) (entered_services v inner.at line) h t nothing b) w)
+inner_entered bl inner n {links} {code} {i} {v} {h} {t0} {t} c f line fits none few l at =
+    let ground = inner_ground bl inner t0 n in
+    let v' = entered_services v inner.at line in
+    let m = number a2 line in
+    let last = small a7 4 ∷ Plain I.Ecall ∷ [] in
+    let l2 = back_of m last (back_of enter_front (m ++ last) l) in
+    let total = size_append m last in
+    let r3 = asked_call bl inner n c f line fits l at in
     let calling : Calling _ code (i + 3 + size_of m + 1) (reached r3) (λ b. Done v' (reached r3 b).machine.memory 1 inner.at) = record {
       linked = back_of (small a7 4 ∷ []) (Plain I.Ecall ∷ []) l2;
       pc = λ b. (reached_holds r3 b).pc;
@@ -102,7 +116,39 @@ inner_entered bl inner n {links} {code} {i} {v} {h} {t0} {t} c f line fits none 
     } in
     let r4 = call_done (c + 3 + size_of m + 1) (reached r3) v v' (λ b. (reached r3 b).machine.memory) (λ b. 1) (λ b. inner.at) (λ b. Known ground v' h t nothing b) (omega arith) calling
     (λ b. let o = (reached_holds r3 b).holds.body in record { body = record { services = refl; registers = o.registers; bytes = o.bytes; memory = o.memory }; regs = tt }) in
-    reach_moved (omega (arith, total)) (omega (arith, total)) (reach_then r1 (reach_then r2 (reach_then r3 r4)))
+    reach_moved (omega (arith, total)) (omega (arith, total)) (reach_then r3 r4)
+
+-- where too many blocks are entered the run ends
+enter_limited : (code : List Instr) (v : Services) (m : List ℕ) (at line : ℕ) → v.waiting ≡ None → nat_lt (length v.activations) most_activations ≡ false → K.enter_served (call_at code v m) 1 at line 0 ≡ run_ended (E.Limit L.Depth) v
+enter_limited code v m at line none many =
+    let next : K.Entered → Answer = λ entered.
+    bad_unless (K.are_texts 0 v.entries)
+    (if nat_lt (S.height v) most_activations
+    then Done (record v { activations = K.activation_of v entered at 0 ∷ v.activations; waiting = None; line = line }) m 1 at
+    else run_ended (E.Limit L.Depth) v) in
+    ap (λ w. or_bad (K.entered_of 1 v.line w) next) none
+    ∙ ap (λ q. cond q (Done (entered_services v at line) m 1 at) (run_ended (E.Limit L.Depth) v)) many
+
+pub inner_limited : {e : Environment} {block : ℕ} {types : Types} (bl : Block e block types) (inner : Inner bl) (n : Values) {X : Type 0} {links : Links} {code : List Instr} {i : ℕ} {s : State} {v : Services} {h t0 t : ℕ → ℕ} {aims : Aims X} (c : ℕ) (f : Family) (closed : Closed code aims) (k line old : ℕ) → line < 2 ^ 31 → c + 3 + size_of (number a2 line) + 1 < cost code → nat_lt (length v.activations) most_activations ≡ false → Linked links code i (entered_without_texts 1 line) → Serving k s v old → ((b : Base) → At b i (Known (inner_ground bl inner t0 n) v h t nothing b) (f b)) → Comes code c f v aims (finish {R = X} (E.Limit L.Depth) k s)
+inner_limited bl inner n {code = code} {i = i} {s = s} {v = v} c f closed k line old fits few many l serving at =
+    let m = number a2 line in
+    let last = small a7 4 ∷ Plain I.Ecall ∷ [] in
+    let l2 = back_of m last (back_of enter_front (m ++ last) l) in
+    let v' = N.with_world (ending (E.Limit L.Depth) v.world) v in
+    onward closed (asked_call bl inner n c f line fits l at)
+    (λ f' at'.
+    let calling : Calling _ code (i + 3 + size_of m + 1) f' (λ b. Ends v') = record {
+      linked = back_of (small a7 4 ∷ []) (Plain I.Ecall ∷ []) l2;
+      pc = λ b. (at' b).pc;
+      answers = λ b.
+          let o = (at' b).holds in
+          called code (f' b) v 4 1 inner.at line 0 _ (λ call x0 x1 x2 x3 x4. K.enter_served call x0 x1 x2 x3) o.body.services o.regs.0 o.regs.1.1.0 o.regs.1.1.1.0 o.regs.1.0 o.regs.1.1.1.1.0 refl (λ call x. refl)
+          ∙ enter_limited code v (f' b).machine.memory inner.at line serving.waiting many
+          ∙ acts v k (Ends v') serving.allowed serving.fits;
+    } in
+    comes_finish v' (E.Limit L.Depth) k s serving.world (ap (ending (E.Limit L.Depth)) serving.world)
+    (end_pauses (c + 3 + size_of m + 1) f' v v' few serving.running (λ b. (at' b).holds.body.services) (add-one v.world.acts) calling)
+    (call_ends (c + 3 + size_of m + 1) f' v v' (λ e. cc e) calling))
 
 -- ---- service 5
 
@@ -117,14 +163,14 @@ ended_services v a rest =
       edits = K.oldest a.edits v.edits;
     }
 
-leave_answer : (code : List Instr) (v : Services) (m : List ℕ) (a : S.Activation) (rest : List S.Activation) (y : ℕ) → v.activations ≡ a ∷ rest → K.leave_served (call_at code v m) 0 y ≡ Done (ended_services v a rest) m 0 y
+pub leave_answer : (code : List Instr) (v : Services) (m : List ℕ) (a : S.Activation) (rest : List S.Activation) (y : ℕ) → v.activations ≡ a ∷ rest → K.leave_served (call_at code v m) 0 y ≡ Done (ended_services v a rest) m 0 y
 leave_answer code v m a rest y e = ap (λ u. K.left_by (call_at code v m) 0 y u) e
 
 -- the code at the end of the block
 abbrev pub inner_ended : (words : ℕ) → Code
 inner_ended words = block_left 0 ++ frame_ended words
 
-pub inner_left : {e : Environment} {block : ℕ} {types : Types} (bl : Block e block types) (inner : Inner bl) (n : ℕ → ℤ) {links : Links} {code : List Instr} {i : ℕ} {v : Services} {h t0 t : ℕ → ℕ} (c : ℕ) (f : Family) (a : S.Activation) (rest : List S.Activation) → v.activations ≡ a ∷ rest → Linked links code i (inner_ended inner.words) → ((b : Base) → At b i (Known (inner_ground bl inner t0 n) v h t nothing b) (f b)) → Reach code c f v (c + size_of (inner_ended inner.words)) (ended_services v a rest) (λ b w. At b (i + size_of (inner_ended inner.words)) (Known (bl.ground n) (ended_services v a rest) h t0 nothing b) w)
+pub inner_left : {e : Environment} {block : ℕ} {types : Types} (bl : Block e block types) (inner : Inner bl) (n : Values) {links : Links} {code : List Instr} {i : ℕ} {v : Services} {h t0 t : ℕ → ℕ} (c : ℕ) (f : Family) (a : S.Activation) (rest : List S.Activation) → v.activations ≡ a ∷ rest → Linked links code i (inner_ended inner.words) → ((b : Base) → At b i (Known (inner_ground bl inner t0 n) v h t nothing b) (f b)) → Reach code c f v (c + size_of (inner_ended inner.words)) (ended_services v a rest) (λ b w. At b (i + size_of (inner_ended inner.words)) (Known (bl.ground n) (ended_services v a rest) h t0 nothing b) w)
 inner_left bl inner n {links} {code} {i} {v} {h} {t0} {t} c f a rest e l at =
     let ground = inner_ground bl inner t0 n in
     let outer = bl.ground n in

@@ -1,6 +1,6 @@
 -- A block inside another one begins: its frame is filled, above the temporaries of its own.
-use Rattle.std.proofs.Common.{◌≡◌, ℕ, suc, ◌+◌, ◌<◌, ◌≤◌, inl, inr, List, [], ◌∷◌, ◌++◌, length, false, refl, ap, ◌∙◌, arith}
-use Rattle.std.specs.Prelude.{ℤ, pos}
+use Rattle.std.proofs.Common.{◌≡◌, ℕ, suc, ◌+◌, ◌*◌, ◌<◌, ◌≤◌, inl, inr, List, [], ◌∷◌, ◌++◌, length, false, refl, ap, ◌∙◌, arith}
+use Rattle.std.specs.Prelude.{pos}
 use Rattle.rv_meaning.specs.declared.instr.Instr.TheVariants as I
 use Rattle.rv_meaning.specs.declared.instr.ImmediateOp.TheVariants as Imm
 use Rattle.rv_meaning.specs.declared.instr.Instr.{Instr}
@@ -29,14 +29,15 @@ use Rattle.pli_headline.proofs.Statements.{Block}
 use Rattle.pli_headline.proofs.InnerFrames.{Inner, inner_whole, inner_above, inner_ground}
 use Rattle.pli_headline.proofs.Reach.{Family, Reach, reach_then, reached, reached_holds}
 use Rattle.pli_headline.proofs.BeginDisplays.{frame_word, own_is, unmoved, moved_reserved, without_two, unknown, begun_ground, displayed_ground, owned_ground, begun_code, outer_regs, begun_path, display_piece}
+use Rattle.pli_headline.proofs.Scalars.{Values}
 
 -- ---- the frame's own offset, and the stack's register
 
 abbrev owned_code : Code
 owned_code = BaseIn u1 ∷ subtract u1 frame_register u1 ∷ store_word frame_register u1 own_offset
 
-owned_path : {e : Environment} {block : ℕ} {types : Types} (bl : Block e block types) (inner : Inner bl) (n : ℕ → ℤ) (links : Links) (code : List Instr) (i : ℕ) (v : Services) (h t0 : ℕ → ℕ) (b : Base) (w : Whole) → 0 < i → length code ≤ most_code → Known (displayed_ground bl inner t0 n) v h unknown (outer_regs (bl.ground n).frame) b w → Items links code b i owned_code w (Known (owned_ground bl inner t0 n) v h unknown nothing b)
-owned_path bl inner n links code i v h t0 b w later small' k =
+owned_path : {e : Environment} {block : ℕ} {types : Types} (bl : Block e block types) (inner : Inner bl) (n : Values) (links : Links) (code : List Instr) (i : ℕ) (v : Services) (h t0 : ℕ → ℕ) (b : Base) (w : Whole) → length code ≤ most_code → Known (displayed_ground bl inner t0 (suc e.level) n) v h unknown (outer_regs (bl.ground n).frame) b w → Items links code b i owned_code w (Known (owned_ground bl inner t0 n) v h unknown nothing b)
+owned_path {e} bl inner n links code i v h t0 b w small' k =
     let x = w.machine.registers in
     let m = w.machine.memory in
     let at = inner.at in
@@ -48,7 +49,6 @@ owned_path bl inner n links code i v h t0 b w later small' k =
     let own = operated Op.Subtract (x 8) b.at in
     let mine = own_is b at (x 8) (omega (arith, room)) fp in
     let o = k.body.memory in (
-      omega (arith, later),
       refl,
       (
         frame_word b at (x 8) 36 (omega (arith, room)) whole refl (omega arith) fp,
@@ -62,7 +62,7 @@ owned_path bl inner n links code i v h t0 b w later small' k =
               kept = bl.stack.keeps n t0 b m (at + 36) own (omega (arith, above)) o.begun.kept;
               below = load-store_other 4 4 m (at + 36) own (at + 4) (inl (omega arith)) ∙ o.begun.below;
               own = load-store_same 4 m (at + 36) own (omega (arith, mine, room)) (let q = k.body.bytes in omega (arith, q, room)) ∙ mine;
-              shown = load-store_other 4 4 m (at + 36) own (at + 144) (inr (omega arith)) ∙ o.shown;
+              shown = λ j h. load-store_other 4 4 m (at + 36) own (at + (144 + 4 * j)) (inr (omega arith)) ∙ o.shown j h;
               temporaries = λ j below known. absurd (omega (arith, known));
             };
           };
@@ -71,7 +71,7 @@ owned_path bl inner n links code i v h t0 b w later small' k =
       ),
     )
 
-raised_piece : {e : Environment} {block : ℕ} {types : Types} (bl : Block e block types) (inner : Inner bl) (n : ℕ → ℤ) {links : Links} {code : List Instr} {i : ℕ} {v : Services} {h t0 : ℕ → ℕ} (c : ℕ) (f : Family) → Linked links code i (plus stack_register frame_register (pos (fixed_size (suc e.level) 0))) → ((b : Base) → At b i (Known (owned_ground bl inner t0 n) v h unknown nothing b) (f b)) → Reach code c f v (c + size_of (plus stack_register frame_register (pos (fixed_size (suc e.level) 0)))) v (λ b w. At b (i + size_of (plus stack_register frame_register (pos (fixed_size (suc e.level) 0)))) (Known (inner_ground bl inner t0 n) v h unknown nothing b) w)
+raised_piece : {e : Environment} {block : ℕ} {types : Types} (bl : Block e block types) (inner : Inner bl) (n : Values) {links : Links} {code : List Instr} {i : ℕ} {v : Services} {h t0 : ℕ → ℕ} (c : ℕ) (f : Family) → Linked links code i (plus stack_register frame_register (pos (fixed_size (suc e.level) 0))) → ((b : Base) → At b i (Known (owned_ground bl inner t0 n) v h unknown nothing b) (f b)) → Reach code c f v (c + size_of (plus stack_register frame_register (pos (fixed_size (suc e.level) 0)))) v (λ b w. At b (i + size_of (plus stack_register frame_register (pos (fixed_size (suc e.level) 0)))) (Known (inner_ground bl inner t0 n) v h unknown nothing b) w)
 raised_piece {e} bl inner n {v = v} {h = h} {t0 = t0} c f l at =
     let size = fixed_size (suc e.level) 0 in
     let room = inner.room in
@@ -99,7 +99,7 @@ raised_piece {e} bl inner n {v = v} {h = h} {t0 = t0} c f l at =
 abbrev pub inner_begun : (words level : ℕ) → Code
 inner_begun words level = move a0 frame_register ∷ frame_begun words level 0 false
 
-pub inner_frame : {e : Environment} {block : ℕ} {types : Types} (bl : Block e block types) (inner : Inner bl) (n : ℕ → ℤ) {links : Links} {code : List Instr} {i : ℕ} {v : Services} {h t0 : ℕ → ℕ} (c : ℕ) (f : Family) → e.level < 100 → 0 < i → Linked links code i (inner_begun inner.words (suc e.level)) → ((b : Base) → At b i (Known (bl.ground n) v h t0 nothing b) (f b)) → Reach code c f v (c + size_of (inner_begun inner.words (suc e.level))) v (λ b w. At b (i + size_of (inner_begun inner.words (suc e.level))) (Known (inner_ground bl inner t0 n) v h unknown nothing b) w)
+pub inner_frame : {e : Environment} {block : ℕ} {types : Types} (bl : Block e block types) (inner : Inner bl) (n : Values) {links : Links} {code : List Instr} {i : ℕ} {v : Services} {h t0 : ℕ → ℕ} (c : ℕ) (f : Family) → e.level < 100 → 0 < i → Linked links code i (inner_begun inner.words (suc e.level)) → ((b : Base) → At b i (Known (bl.ground n) v h t0 nothing b) (f b)) → Reach code c f v (c + size_of (inner_begun inner.words (suc e.level))) v (λ b w. At b (i + size_of (inner_begun inner.words (suc e.level))) (Known (inner_ground bl inner t0 n) v h unknown nothing b) w)
 inner_frame {e} bl inner n {links} {code} {i} {v} {h} {t0} c f few later l at =
     let g = bl.ground n in
     let size = temporary_bytes inner.words in
@@ -138,9 +138,9 @@ inner_frame {e} bl inner n {links} {code} {i} {v} {h} {t0} c f few later l at =
     let c2 = c + 1 + size_of up in
     let s3 = straight c2 (reached s2) v v (λ b w. Known (begun_ground bl inner t0 n) v h unknown (outer_regs g.frame) b w) (front_of begun_code r4 l3) (omega arith) (λ b. (reached_holds s2 b).pc)
     (λ b. begun_path bl inner n links code (i + 1 + size_of up) v h t0 b (reached s2 b) l.small' (reached_holds s2 b).holds) in
-    let s4 = display_piece bl inner n e.level (c2 + 4) (reached s3) (omega (arith, few)) (bl.reach n) (front_of copied r5 l4) (reached_holds s3) in
+    let s4 = display_piece bl inner n (c2 + 4) (reached s3) (omega (arith, few)) (front_of copied r5 l4) (reached_holds s3) in
     let c4 = c2 + 4 + size_of copied in
     let s5 = straight c4 (reached s4) v v (λ b w. Known (owned_ground bl inner t0 n) v h unknown nothing b w) (front_of owned_code raised l5) (omega arith) (λ b. (reached_holds s4 b).pc)
-    (λ b. owned_path bl inner n links code (i + 1 + size_of up + 4 + size_of copied) v h t0 b (reached s4 b) (omega (arith, later)) l.small' (reached_holds s4 b).holds) in
+    (λ b. owned_path bl inner n links code (i + 1 + size_of up + 4 + size_of copied) v h t0 b (reached s4 b) l.small' (reached_holds s4 b).holds) in
     let s6 = raised_piece bl inner n (c4 + 4) (reached s5) (back_of owned_code raised l5) (reached_holds s5) in
     reach_moved (omega (arith, n1, n2)) (omega (arith, n1, n2)) (reach_then s1 (reach_then s2 (reach_then s3 (reach_then s4 (reach_then s5 s6)))))

@@ -1,27 +1,30 @@
 -- BEGIN blocks that declare nothing, in the main procedure and in one another.
-use Rattle.std.proofs.Common.{◌≡◌, ℕ, zero, suc, ◌+◌, ◌*◌, ◌^◌, ◌<◌, ◌≤◌, List, [], ◌∷◌, ◌++◌, length, None, Option, true, false, refl, sym, ap, ◌∙◌, subst, arith}
-use Rattle.std.proofs.lemmas.Bool.{lt-ltb}
-use Rattle.std.specs.Prelude.{ℤ, max, nat_lt}
+use Rattle.std.proofs.Common.{◌≡◌, ℕ, zero, suc, ◌+◌, ◌*◌, ◌^◌, ◌<◌, ◌≤◌, List, [], ◌∷◌, ◌++◌, length, None, Option, Bool, true, false, refl, sym, ap, ◌∙◌, subst, arith}
+use Rattle.std.proofs.lemmas.Bool.{eqb-true, ltb-true}
+use Rattle.std.specs.Prelude.{cond, max, nat_lt, ◌==◌}
 use Rattle.rv_meaning.specs.declared.instr.Instr.{Instr}
 use Rattle.pli_typing.specs.TypedTree as Y
+use Rattle.pli_meaning.specs.declared.outcome.End.TheVariants as E
+use Rattle.pli_meaning.specs.declared.outcome.Limit.TheVariants as L
+use Rattle.rv_meaning.specs.declared.instr.Instr.TheVariants as I
 use Rattle.pli_meaning.specs.World.{counted}
 use Rattle.pli_meaning.specs.BasicValues.{BasicValue}
 use Rattle.pli_meaning.specs.DeclaredShapes.{variables_of_block}
-use Rattle.pli_meaning.specs.StorageState.{State, with_world, newest_ended, most_activations}
+use Rattle.pli_meaning.specs.StorageState.{State, with_world, newest_ended, most_activations, newest_height}
 use Rattle.pli_meaning.specs.Control as F
-use Rattle.pli_meaning.specs.Control.{Flow, Normal, Jump, Return, Paused, Stuck, Meaning, flow_on, left, give, act, ◌>>◌}
+use Rattle.pli_meaning.specs.Control.{Label, is_among, Flow, Normal, Jump, Return, Paused, Stuck, Meaning, left, give, act, ◌>>◌, finish}
 use Rattle.pli_meaning.specs.Raising.{Around}
 use Rattle.pli_meaning.specs.Executing as M
 use Rattle.pli_serving.specs.ServiceState.{Services}
-use Rattle.pli_coding.specs.Registers.{frame_register, a0}
-use Rattle.pli_coding.specs.Assembly.{Code, size_of}
-use Rattle.pli_coding.specs.Instructions.{move}
+use Rattle.pli_coding.specs.Registers.{frame_register, a0, a2, a7}
+use Rattle.pli_coding.specs.Assembly.{LabelPlace, Code, size_of, Plain}
+use Rattle.pli_coding.specs.Instructions.{move, small, number}
 use Rattle.pli_coding.specs.Allocating.{act_code}
 use Rattle.pli_coding.specs.Entries.{frame_begun, entered_without_texts, variables_made, variables_words}
-use Rattle.pli_coding.specs.Environments.{Environment, none_taken}
+use Rattle.pli_coding.specs.Environments.{BlockOwner, Environment, none_taken}
 use Rattle.pli_coding.specs.Frames.{fixed_size, temporary_bytes}
 use Rattle.pli_coding.specs.Statements.{begin_environment, begin_code, block_words, stmts_words, stmt_code, stmts_code}
-use Rattle.pli_coding.specs.Linking.{Links}
+use Rattle.pli_coding.specs.Linking.{Links, place_of}
 use Rattle.pli_headline.specs.ProvedSoFar.{Types}
 use Rattle.pli_headline.proofs.Engine.{Base, address}
 use Rattle.pli_headline.proofs.Linking.{size_append}
@@ -29,15 +32,16 @@ use Rattle.pli_headline.proofs.Items.{Linked, At}
 use Rattle.pli_headline.proofs.Bodies.{Known}
 use Rattle.pli_headline.proofs.Jumps.{front_of, back_of}
 use Rattle.pli_headline.proofs.Temporaries.{nothing}
-use Rattle.pli_headline.proofs.Activations.{same_length}
+use Rattle.pli_headline.proofs.Activations.{same_length, newest_is, entered_length}
 use Rattle.pli_headline.proofs.Calls.{Serving}
-use Rattle.pli_headline.proofs.Acts.{act_piece}
-use Rattle.pli_headline.proofs.Statements.{Block, AllHold, counted_all, Does}
-use Rattle.pli_headline.proofs.InnerFrames.{Inner, inner_block}
+use Rattle.pli_headline.proofs.Acts.{act_piece, acted}
+use Rattle.pli_headline.proofs.Statements.{owner_level, Block, AllHold, counted_all, ended_times, Outlet, IsMarkedOnce, Enough, Does}
+use Rattle.pli_headline.proofs.InnerFrames.{Inner, inner_outside, inner_block}
 use Rattle.pli_headline.proofs.BeginFrames.{inner_begun, inner_frame}
-use Rattle.pli_headline.proofs.BeginEntered.{entered_activation, entered_services, ended_services, inner_ended, inner_entered, inner_left}
-use Rattle.pli_headline.proofs.BeginMeant.{Entering, inner_around, begin_part, inner_part, begin_meant, entered_state, entered_nested, entered_all, ended_input, left_all}
+use Rattle.pli_headline.proofs.BeginEntered.{entered_activation, entered_services, ended_services, inner_ended, inner_entered, inner_left, inner_limited}
+use Rattle.pli_headline.proofs.BeginMeant.{Entering, inner_around, begin_part, inner_part, begin_meant, entered_state, entered_nested, entered_all, ended_input, left_all, begin_limited}
 use Rattle.pli_headline.proofs.Reach.{Family, Aims, Comes, Closed, before_closed, comes_on, onward}
+use Rattle.pli_headline.proofs.Scalars.{Values}
 
 -- ---- the end of the block
 
@@ -87,6 +91,10 @@ inner_code_is e head body next none =
 
 -- ---- what it does
 
+pub by_test : {A : Type 0} (q : Bool) → (q ≡ false → A) → (q ≡ true → A) → A
+by_test true other same = same refl
+by_test false other same = other refl
+
 -- where its frame lies, and how much more the frame takes
 pub inner_room : (free words level : ℕ) → level < 100 → free + 4 * words + 700 ≤ 14 * 2 ^ 20 → free + temporary_bytes words + fixed_size (suc level) 0 + 4 ≤ 14 * 2 ^ 20
 inner_room free words level few room = omega (arith, few, room)
@@ -95,13 +103,46 @@ abbrev pub inner_of : {e : Environment} {block : ℕ} {types : Types} (bl : Bloc
 inner_of {e} bl words few room =
     record { words = words; at = bl.stack.free + temporary_bytes words; place = refl; room = inner_room bl.stack.free words e.level few room }
 
-few_entered : (n level : ℕ) → level < 100 → n ≡ suc level → nat_lt n most_activations ≡ true
-few_entered n level few e = lt-ltb n most_activations (omega (arith, few, e))
+-- a jump out of it goes on at the block around, or further out
+abbrev ended_jump : (ℕ → Family → Services → ℕ → Label → State → Type 0) → ℕ → Family → Services → ℕ → Label → State → Type 0
+ended_jump jumped i f v height label s = jumped i f v height label (with_world s.world (newest_ended s))
+
+outlet_by : {e : Environment} {block : ℕ} {types : Types} (bl : Block e block types) (inner : Inner bl) {links : Links} {k turns i : ℕ} {h : ℕ → ℕ} (t : ℕ → ℕ) {acts acts' : ℕ} {jumped : ℕ → Family → Services → ℕ → Label → State → Type 0} {returned : ℕ → Family → Services → Option BasicValue → State → Type 0} (q : Bool) (known : (0 == e.level) ≡ q) → ((number : ℕ) → e.owner ≡ BlockOwner (record { number = number; level = 0 }) → (0 == e.level) ≡ true → number ≡ e.block) → Enough bl links k turns i h t acts jumped returned → (number : ℕ) → e.owner ≡ BlockOwner (record { number = number; level = 0 }) → (label : Label) → is_among label (cond q bl.labels bl.outer) ≡ true → IsMarkedOnce links number label → acts ≤ acts' → Outlet number (suc (length bl.depths)) bl.base block types (inner_outside bl inner t q known).its (inner_outside bl inner t q known).waits links k acts' (ended_jump jumped) label
+outlet_by {e} {block} {types} bl inner {links} {k} {h = h} t {acts' = acts'} {jumped = jumped} true known main ready number owned label among once less =
+    let same : number ≡ e.block = main number owned known in
+    let o = ready.jumps label among (subst (λ u. IsMarkedOnce links u label) same once) in
+    let zero' : e.level ≡ 0 = sym (eqb-true 0 e.level known) in
+    let none = bl.shallow known in
+    record {
+      at = o.at;
+      place = subst (λ u. place_of links (LabelPlace u label) ≡ 4 * o.at) (sym same) o.place;
+      near = o.near;
+      later = o.later;
+      lands = λ s v line n h' f serving all acted' at'.
+          let s1 = with_world s.world (newest_ended s) in
+          let all0 : AllHold (bl.base ∷ []) v.activations (0 ∷ []) s1 block types n = subst (λ (ds : List ℕ). AllHold (bl.base ∷ []) v.activations (0 ∷ []) (ended_times (length ds) s1) block types n) none all in
+          let all1 : AllHold bl.frames v.activations (0 ∷ []) s1 block types n = subst (λ fs. AllHold fs v.activations (0 ∷ []) s1 block types n) (sym (bl.alone known).frames_are) all0 in
+          subst (λ (ds : List ℕ). jumped o.at f v (suc (length ds)) label s1) none
+          (o.lands s1 v line n h' t f
+          (subst (λ (ds : List ℕ). Serving k (ended_times (length ds) s1) v line) none serving)
+          (subst (λ ds. AllHold bl.frames v.activations (e.level ∷ ds) s1 block types n) (sym none) (subst (λ m. AllHold bl.frames v.activations (m ∷ []) s1 block types n) (sym zero') all1))
+          (record { registers = λ r below. absurd (let held = bl.held in omega (arith, held, below)); words = λ j below. refl })
+          (omega (arith, less, acted')) at');
+    }
+outlet_by bl inner t false known main ready number owned label among once less =
+    let o = ready.outs known number owned label among once in
+    record {
+      at = o.at;
+      place = o.place;
+      near = o.near;
+      later = o.later;
+      lands = λ s v line n h' f serving all acted' at'. o.lands (with_world s.world (newest_ended s)) v line n h' f serving all (omega (arith, less, acted')) at';
+    }
 
 -- behind its act
-inner_piece : {e : Environment} {block : ℕ} {types : Types} (bl : Block e block types) {links : Links} {code : List Instr} (around : Around) (more : ℕ) (head : Y.BlockHead) (body : Y.Stmts) (inner : Inner bl) → e.level < 100 → (next : head.level ≡ suc e.level) → head.kind ≡ Y.BeginBlock → head.line < 2 ^ 31 → variables_of_block e.program head.number ≡ [] → around.enter ≡ M.entered e.program (suc more) → ((t0 : ℕ → ℕ) → Does (inner_block bl inner t0 head.number head.level next) links code (suc more) (stmts_code (begin_environment head e) none_taken body) (M.list (inner_around e.program more head.line) body)) → {i : ℕ} {s : State} {v : Services} {h t : ℕ → ℕ} {aims : Aims (Unit {0})} (closed : Closed code aims) (n : ℕ → ℤ) (f : Family) (k line : ℕ) → k < suc more + v.world.acts → 2 ≤ i → Linked links code i (inner_code e head inner.words body) → Serving k s v line → AllHold (suc e.level) s block types n → ((b : Base) → At b i (Known (bl.ground n) v h t nothing b) (f b)) → ((s' : State) (v' : Services) (line' : ℕ) (n' : ℕ → ℤ) (h' : ℕ → ℕ) (f' : Family) → Serving k s' v' line' → AllHold (suc e.level) s' block types n' → ((b : Base) → At b (i + size_of (inner_code e head inner.words body)) (Known (bl.ground n') v' h' t nothing b) (f' b)) → aims.done (i + size_of (inner_code e head inner.words body)) f' v' tt s') → Comes code i f v aims (begin_part around head body k s)
+inner_piece : {e : Environment} {block : ℕ} {types : Types} (bl : Block e block types) {links : Links} {code : List Instr} (around : Around) (more : ℕ) (head : Y.BlockHead) (body : Y.Stmts) (inner : Inner bl) → (main : (number : ℕ) → e.owner ≡ BlockOwner (record { number = number; level = 0 }) → (0 == e.level) ≡ true → number ≡ e.block) → owner_level e.owner ≤ e.level → e.level < 100 → (next : head.level ≡ suc e.level) → head.kind ≡ Y.BeginBlock → head.line < 2 ^ 31 → variables_of_block e.program head.number ≡ [] → around.enter ≡ M.entered e.program (suc more) → ((t0 : ℕ → ℕ) → Does (inner_block bl inner t0 head.number head.level next) links code (suc more) (stmts_code (begin_environment head e) none_taken body) (M.list (inner_around e.program more head.line) body)) → {i : ℕ} {s : State} {v : Services} {h t : ℕ → ℕ} {aims : Aims (Unit {0})} (closed : Closed code aims) (n : Values) (f : Family) (k line : ℕ) → k < suc more + v.world.acts → 10 ≤ i → {turns0 i0 acts0 : ℕ} → Enough bl links k turns0 i0 h t acts0 aims.jumped aims.returned → acts0 ≤ v.world.acts → Linked links code i (inner_code e head inner.words body) → nat_lt (length s.activations) most_activations ≡ true → Serving k s v line → AllHold bl.frames v.activations (e.level ∷ bl.depths) s block types n → ((b : Base) → At b i (Known (bl.ground n) v h t nothing b) (f b)) → ((s' : State) (v' : Services) (line' : ℕ) (n' : Values) (h' : ℕ → ℕ) (f' : Family) → Serving k s' v' line' → AllHold bl.frames v'.activations (e.level ∷ bl.depths) s' block types n' → ((b : Base) → At b (i + size_of (inner_code e head inner.words body)) (Known (bl.ground n') v' h' t nothing b) (f' b)) → aims.done (i + size_of (inner_code e head inner.words body)) f' v' tt s') → Comes code i f v aims (begin_part around head body k s)
 unfolding M.end_reached give ◌>>◌
-inner_piece {e} {block} {types} bl {links} {code} around more head body inner shallow next kind fits none enter does' {i} {s} {v} {h} {t} {aims} closed n f k line enough later l serving all at goal =
+inner_piece {e} {block} {types} bl {links} {code} around more head body inner main lower shallow next kind fits none enter does' {i} {s} {v} {h} {t} {aims} closed n f k line enough later ready less l few serving all at goal =
     let program = e.program in
     let here = inner_around program more head.line in
     let c1 = inner_begun inner.words (suc e.level) in
@@ -119,8 +160,12 @@ inner_piece {e} {block} {types} bl {links} {code} around more head body inner sh
     let place : i4 + size_of c4 ≡ i + size_of (c1 ++ (c2 ++ (c3 ++ c4))) = omega (arith, n1, n2, n3) in
     let s2 = entered_state head body s in
     let v2 = entered_services v inner.at head.line in
-    let few = few_entered (length s.activations) e.level shallow all.entered in
-    let few' = few_entered (length v.activations) e.level shallow (same_length s.activations v.activations serving.nested ∙ all.entered) in
+    let same = same_length s.activations v.activations serving.nested in
+    let few' : nat_lt (length v.activations) most_activations ≡ true = ap (λ m. nat_lt m most_activations) same ∙ few in
+    let long = entered_length s.activations (e.level ∷ bl.depths) all.entered in
+    let newest = newest_is s.activations v.activations (length bl.depths) serving.nested long in
+    let parent = newest_height s.activations in
+    let some : 0 < head.level = omega (arith, next) in
     let last : Option BasicValue → Meaning (Unit {0}) = λ u. give tt in
     let behind : Unit {0} → Meaning (Unit {0}) = λ u. M.end_reached here false in
     let part = inner_part program more head body in
@@ -143,13 +188,13 @@ inner_piece {e} {block} {types} bl {links} {code} around more head body inner sh
       input = serving.input;
       allowed = serving.allowed;
       fits = serving.fits;
-      nested = entered_nested head body s v.activations (entered_activation v inner.at) e.level next all.entered refl serving.nested;
+      nested = entered_nested head body s v.activations (entered_activation v inner.at) parent some (omega (arith, long)) (omega (arith, newest)) (omega (arith, newest, long)) (record { kind = λ further. refl; units = tt }) serving.nested;
       waiting = refl;
     })
-    (subst (λ m. AllHold (suc m) s2 block types n) (sym next) (entered_all head body s v.activations e.level next serving.nested all))
+    (entered_all head body s v.activations (entered_activation v inner.at) parent some (omega (arith, newest)) (omega (arith, newest, long)) (record { kind = λ further. refl; units = tt }) serving.nested all)
     at2
     (λ s3 v3 line3 n3' h3 t3 f3 serving3 all3 stays3 at3.
-    let o = left_all s3 v3.activations e.level serving3.nested (subst (λ m. AllHold (suc m) s3 block types n3') next all3) in
+    let o = left_all s3 v3.activations serving3.nested all3 in
     let v4 = ended_services v3 o.newest o.rest in
     record {
       to =
@@ -177,12 +222,40 @@ inner_piece {e} {block} {types} bl {links} {code} around more head body inner sh
       enough = omega (arith, enough);
       later = omega (arith, later);
       jumps = λ label among once. let no : false ≡ true = among in absurd (cc no);
-      returns = λ outer once. absurd (omega (arith, next, outer));
+      outs = λ inside number owned label among once.
+          outlet_by bl inner t (0 == e.level) refl main ready number owned label among once (omega (arith, less));
+      own = λ deep owned once. let no : owner_level e.owner ≡ head.level = ap owner_level owned in absurd (omega (arith, no, lower, next));
+      returns = λ number owned once.
+          let o = ready.returns number owned once in
+          record {
+            at = o.at;
+            place = o.place;
+            near = o.near;
+            later = o.later;
+            leaves = λ s' v' f' a world running allowed fits' alone at'. o.leaves (with_world s'.world (newest_ended s')) v' f' a world running allowed fits' alone at';
+          };
     })))))))
 
-own_begin_does : {e : Environment} {block : ℕ} {types : Types} (bl : Block e block types) (links : Links) (code : List Instr) (around : Around) (more : ℕ) (head : Y.BlockHead) (body : Y.Stmts) (inner : Inner bl) → e.level < 100 → (next : head.level ≡ suc e.level) → head.kind ≡ Y.BeginBlock → head.line < 2 ^ 31 → variables_of_block e.program head.number ≡ [] → Entering e.program around more → ((more' : ℕ) (t0 : ℕ → ℕ) → Does (inner_block bl inner t0 head.number head.level next) links code (suc more') (stmts_code (begin_environment head e) none_taken body) (M.list (inner_around e.program more' head.line) body)) → Does bl links code around.turns (act_code head.line ++ inner_code e head inner.words body) (M.statement around (Y.Begin (Y.BlockOf head body)))
+-- where too many blocks are entered the run ends
+limited_piece : {e : Environment} {block : ℕ} {types : Types} (bl : Block e block types) {links : Links} {code : List Instr} (head : Y.BlockHead) (words : ℕ) (body : Y.Stmts) (inner : Inner bl) → inner.words ≡ words → e.level < 100 → head.line < 2 ^ 31 → {X : Type 0} {i : ℕ} {s : State} {v : Services} {h t : ℕ → ℕ} {aims : Aims X} (closed : Closed code aims) (n : Values) (f : Family) (k line : ℕ) → 0 < i → Linked links code i (inner_code e head words body) → nat_lt (length s.activations) most_activations ≡ false → Serving k s v line → ((b : Base) → At b i (Known (bl.ground n) v h t nothing b) (f b)) → Comes code i f v aims (finish {R = X} (E.Limit L.Depth) k s)
+limited_piece {e} bl {links} {code} head words body inner same shallow fits {i = i} {s = s} {v = v} {h = h} {t = t} {aims = aims} closed n f k line later l many serving at =
+    let c1 = inner_begun inner.words (suc e.level) in
+    let c2 = entered_without_texts 1 head.line in
+    let c3 = stmts_code (begin_environment head e) none_taken body ++ inner_ended inner.words in
+    let l' : Linked links code i (c1 ++ (c2 ++ c3)) = subst (λ w. Linked links code i (inner_code e head w body)) (sym same) l in
+    let l2 = front_of c2 c3 (back_of c1 (c2 ++ c3) l') in
+    let inside = l2.inside in
+    let m = number a2 head.line in
+    let last = small a7 4 ∷ Plain I.Ecall ∷ [] in
+    let size = size_append m last in
+    let many' : nat_lt (length v.activations) most_activations ≡ false = ap (λ u. nat_lt u most_activations) (same_length s.activations v.activations serving.nested) ∙ many in
+    onward closed (inner_frame bl inner n i f shallow later (front_of c1 (c2 ++ c3) l') at)
+    (λ f1 at1.
+    inner_limited bl inner n (i + size_of c1) f1 closed k head.line line fits (omega (arith, inside, size)) many' l2 serving at1)
+
+own_begin_does : {e : Environment} {block : ℕ} {types : Types} (bl : Block e block types) (links : Links) (code : List Instr) (around : Around) (more : ℕ) (head : Y.BlockHead) (body : Y.Stmts) (inner : Inner bl) → (main : (number : ℕ) → e.owner ≡ BlockOwner (record { number = number; level = 0 }) → (0 == e.level) ≡ true → number ≡ e.block) → owner_level e.owner ≤ e.level → e.level < 100 → (next : head.level ≡ suc e.level) → head.kind ≡ Y.BeginBlock → head.line < 2 ^ 31 → variables_of_block e.program head.number ≡ [] → Entering e.program around more → ((more' : ℕ) → more ≡ suc more' → suc (length bl.depths) < most_activations → (t0 : ℕ → ℕ) → Does (inner_block bl inner t0 head.number head.level next) links code (suc more') (stmts_code (begin_environment head e) none_taken body) (M.list (inner_around e.program more' head.line) body)) → Does bl links code around.turns (act_code head.line ++ inner_code e head inner.words body) (M.statement around (Y.Begin (Y.BlockOf head body)))
 unfolding M.statement ◌>>◌
-own_begin_does {e} {block} {types} bl links code around zero head body inner shallow next kind fits none entering does' =
+own_begin_does {e} {block} {types} bl links code around zero head body inner main lower shallow next kind fits none entering does' =
     record {
       does = λ {i} {s} {v} {h} {t} {aims} closed old n f k l serving all at goal more'.
           let next' : Unit {0} → Meaning (Unit {0}) = λ u. begin_part around head body in
@@ -191,7 +264,7 @@ own_begin_does {e} {block} {types} bl links code around zero head body inner sha
           (λ f1 serving1 at1.
           absurd (let e1 = more'.enough in let e2 = entering.turns in let e3 = serving1.allowed in omega (arith, e1, e2, e3))));
     }
-own_begin_does {e} {block} {types} bl links code around (suc more) head body inner shallow next kind fits none entering does' =
+own_begin_does {e} {block} {types} bl links code around (suc more) head body inner main lower shallow next kind fits none entering does' =
     record {
       does = λ {i} {s} {v} {h} {t} {aims} closed old n f k l serving all at goal more'.
           let a = act_code head.line in
@@ -205,7 +278,16 @@ own_begin_does {e} {block} {types} bl links code around (suc more) head body inn
           comes_on k (act counted k s) next'
           (act_piece (before_closed k next' closed) f head.line old k fits (front_of a c l) serving at
           (λ f1 serving1 at1.
-          inner_piece bl around more head body inner shallow next kind fits none entering.enter (does' more) closed n f1 k head.line (omega (arith, e1, e2)) (omega (arith, later)) (back_of a c l) serving1
+          let s1 = with_world (counted s.world) s in
+          by_test (nat_lt (length s.activations) most_activations)
+          (λ many.
+          let last : Option BasicValue → Meaning (Unit {0}) = λ u. give tt in
+          subst (Comes code (i + size_of a) f1 (acted head.line v) aims) (sym (begin_limited around e.program more head body k s1 entering.enter many))
+          (comes_on k (finish {R = Option BasicValue} (E.Limit L.Depth) k s1) last
+          (limited_piece bl head inner.words body inner refl shallow fits (before_closed k last closed) n f1 k head.line (omega (arith, later)) (back_of a c l) many serving1 at1)))
+          (λ few.
+          let deep : suc (length bl.depths) < most_activations = (let below = ltb-true (length s.activations) most_activations few in let long = entered_length s.activations (e.level ∷ bl.depths) all.entered in omega (arith, below, long)) in
+          inner_piece bl around more head body inner main lower shallow next kind fits none entering.enter (does' more refl deep) closed n f1 k head.line (omega (arith, e1, e2)) (omega (arith, later)) more' (omega arith) (back_of a c l) few serving1
           (counted_all (counted s.world) all)
           at1
           (λ s4 v4 line4 n4 h4 f4 serving4 all4 at4.
@@ -213,10 +295,10 @@ own_begin_does {e} {block} {types} bl links code around (suc more) head body inn
           (goal s4 v4 line4 n4 h4 t f4 serving4
           all4
           (record { registers = λ r below. absurd (let held = bl.held in omega (arith, held, below)); words = λ j below. refl })
-          (λ b. record { pc = (at4 b).pc ∙ ap (address b) place; holds = (at4 b).holds })))));
+          (λ b. record { pc = (at4 b).pc ∙ ap (address b) place; holds = (at4 b).holds }))))));
     }
 
-pub begin_does : {e : Environment} {block : ℕ} {types : Types} (bl : Block e block types) (links : Links) (code : List Instr) (around : Around) (more : ℕ) (head : Y.BlockHead) (body : Y.Stmts) (inner : Inner bl) → inner.words ≡ max 0 (stmts_words body) → e.level < 100 → (next : head.level ≡ suc e.level) → head.kind ≡ Y.BeginBlock → head.line < 2 ^ 31 → variables_of_block e.program head.number ≡ [] → Entering e.program around more → ((more' : ℕ) (t0 : ℕ → ℕ) → Does (inner_block bl inner t0 head.number head.level next) links code (suc more') (stmts_code (begin_environment head e) none_taken body) (M.list (inner_around e.program more' head.line) body)) → Does bl links code around.turns (stmt_code e bl.taken (Y.Begin (Y.BlockOf head body))) (M.statement around (Y.Begin (Y.BlockOf head body)))
-begin_does {e} bl links code around more head body inner same shallow next kind fits none entering does' =
+pub begin_does : {e : Environment} {block : ℕ} {types : Types} (bl : Block e block types) (links : Links) (code : List Instr) (around : Around) (more : ℕ) (head : Y.BlockHead) (body : Y.Stmts) (inner : Inner bl) → (main : (number : ℕ) → e.owner ≡ BlockOwner (record { number = number; level = 0 }) → (0 == e.level) ≡ true → number ≡ e.block) → owner_level e.owner ≤ e.level → inner.words ≡ max 0 (stmts_words body) → e.level < 100 → (next : head.level ≡ suc e.level) → head.kind ≡ Y.BeginBlock → head.line < 2 ^ 31 → variables_of_block e.program head.number ≡ [] → Entering e.program around more → ((more' : ℕ) → more ≡ suc more' → suc (length bl.depths) < most_activations → (t0 : ℕ → ℕ) → Does (inner_block bl inner t0 head.number head.level next) links code (suc more') (stmts_code (begin_environment head e) none_taken body) (M.list (inner_around e.program more' head.line) body)) → Does bl links code around.turns (stmt_code e bl.taken (Y.Begin (Y.BlockOf head body))) (M.statement around (Y.Begin (Y.BlockOf head body)))
+begin_does {e} bl links code around more head body inner main lower same shallow next kind fits none entering does' =
     subst (λ c. Does bl links code around.turns (act_code head.line ++ c) (M.statement around (Y.Begin (Y.BlockOf head body)))) (ap (λ w. inner_code e head w body) same ∙ sym (inner_code_is e head body next none))
-    (own_begin_does bl links code around more head body inner shallow next kind fits none entering does')
+    (own_begin_does bl links code around more head body inner main lower shallow next kind fits none entering does')

@@ -1,8 +1,9 @@
 -- A list catches jumps to its own labels, and goes on at the statement behind the label; a jump to a label of a list around it goes
 -- on there. Each jump makes an act, so the turns that the meaning allows are enough.
-use Rattle.std.proofs.Common.{◌≡◌, ℕ, zero, suc, ◌+◌, ◌*◌, ◌<◌, ◌≤◌, List, [], ◌∷◌, ◌++◌, ◌⊎◌, inl, inr, Option, None, Some, Bool, true, false, refl, sym, ap, ◌∙◌, subst, arith}
-use Rattle.std.specs.Prelude.{ℤ, cond, ◌||◌, ◌&&◌, ◌==◌}
+use Rattle.std.proofs.Common.{◌≡◌, ℕ, zero, suc, ◌+◌, ◌*◌, ◌<◌, ◌≤◌, List, [], ◌∷◌, ◌++◌, ◌⊎◌, inl, inr, Option, None, Some, Bool, true, false, refl, sym, ap, ◌∙◌, subst, arith, length}
+use Rattle.std.specs.Prelude.{cond, ◌||◌, ◌&&◌, ◌==◌}
 use Rattle.std.proofs.lemmas.Bool.{eq-eqb, and_from, or_cases}
+use Rattle.std.proofs.lemmas.Bool.Decides.{nat_tests}
 use Rattle.std.proofs.lemmas.List.Folds.{list_any-append}
 use Rattle.rv_meaning.specs.declared.instr.Instr.{Instr}
 use Rattle.pli_language.specs.Keywords.{same_bytes}
@@ -24,11 +25,12 @@ use Rattle.pli_headline.proofs.Items.{Linked, At}
 use Rattle.pli_headline.proofs.Bodies.{Known}
 use Rattle.pli_headline.proofs.Jumps.{front_of, back_of, rest_of, linked_at}
 use Rattle.pli_headline.proofs.Temporaries.{nothing, stays_then}
-use Rattle.pli_headline.proofs.Activations.{newest_is}
+use Rattle.pli_headline.proofs.Activations.{newest_is, entered_length}
 use Rattle.pli_headline.proofs.Calls.{Serving}
 use Rattle.pli_headline.proofs.Statements.{Block, AllHold, Behind, IsMarkedOnce, Landing, Enough, Does, EachDoes, list_does}
 use Rattle.pli_headline.proofs.MainFlow.{catching, catching_closed, comes_caught}
 use Rattle.pli_headline.proofs.Reach.{Family, Aims, Comes, Closed}
+use Rattle.pli_headline.proofs.Scalars.{Values}
 
 -- the block while a list with these labels is carried out
 abbrev pub within : {e : Environment} {block : ℕ} {types : Types} → List Label → Block e block types → Block e block types
@@ -49,7 +51,24 @@ within labels bl =
       reads = bl.reads;
       writes = bl.writes;
       held = bl.held;
+      frames = bl.frames;
+      bottom = bl.bottom;
+      size = bl.size;
+      ends = bl.ends;
+      sized = bl.sized;
+      depths = bl.depths;
+      shallow = bl.shallow;
+      deep = bl.deep;
+      outer = bl.outer;
+      alone = bl.alone;
+      outside = bl.outside;
       stack = bl.stack;
+      levels = bl.levels;
+      level_room = bl.level_room;
+      outermost_level = bl.outermost_level;
+      displays = bl.displays;
+      texts = bl.texts;
+      arrays = bl.arrays;
     }
 
 -- ---- where a label stands
@@ -143,42 +162,42 @@ resumed bl around (Y.StmtThen labels first rest) label among each l =
 -- ---- the turns
 
 -- a jump is caught, or goes on outside
-landing_by : {e : Environment} {block : ℕ} {types : Types} (bl : Block e block types) {links : Links} {code : List Instr} {k : ℕ} {h t : ℕ → ℕ} {acts : ℕ} {aims : Aims (Unit {0})} (labels : List Label) (next : Label → Meaning (Unit {0})) (label : Label) (q : Bool) → is_among label labels ≡ q → (q ≡ true → Landing bl links k h t acts (λ i f v height l s. Comes code i f v aims (next l k s)) label) → (q ≡ false → Landing bl links k h t acts aims.jumped label) → Landing bl links k h t acts (catching code k (suc e.level) labels next aims).jumped label
+landing_by : {e : Environment} {block : ℕ} {types : Types} (bl : Block e block types) {links : Links} {code : List Instr} {k : ℕ} {h t : ℕ → ℕ} {acts : ℕ} {aims : Aims (Unit {0})} (labels : List Label) (next : Label → Meaning (Unit {0})) (label : Label) (q : Bool) → is_among label labels ≡ q → (q ≡ true → Landing bl links k h t acts (λ i f v height l s. Comes code i f v aims (next l k s)) label) → (q ≡ false → Landing bl links k h t acts aims.jumped label) → Landing bl links k h t acts (catching code k (suc (length bl.depths)) labels next aims).jumped label
 landing_by {e} bl {code = code} {k = k} {aims = aims} labels next label true among own outer =
     let o = own refl in
-    let here : ((suc e.level == suc e.level) && is_among label labels) ≡ true = ap (λ u. u && is_among label labels) (eq-eqb (suc e.level) (suc e.level) refl) ∙ among in
+    let here : ((suc (length bl.depths) == suc (length bl.depths)) && is_among label labels) ≡ true = ap (λ u. u && is_among label labels) (eq-eqb (suc (length bl.depths)) (suc (length bl.depths)) refl) ∙ among in
     record {
       at = o.at;
       place = o.place;
       near = o.near;
       later = o.later;
       lands = λ s v line n h t f serving all stays acted' at'.
-          subst (λ q. Comes code o.at f v aims (cond q (next label k s) (Jump (suc e.level) label s))) (sym here) (o.lands s v line n h t f serving all stays acted' at');
+          subst (λ q. Comes code o.at f v aims (cond q (next label k s) (Jump (suc (length bl.depths)) label s))) (sym here) (o.lands s v line n h t f serving all stays acted' at');
     }
 landing_by {e} bl {code = code} {k = k} {aims = aims} labels next label false among own outer =
     let o = outer refl in
-    let here : ((suc e.level == suc e.level) && is_among label labels) ≡ false = ap (λ u. u && is_among label labels) (eq-eqb (suc e.level) (suc e.level) refl) ∙ among in
+    let here : ((suc (length bl.depths) == suc (length bl.depths)) && is_among label labels) ≡ false = ap (λ u. u && is_among label labels) (eq-eqb (suc (length bl.depths)) (suc (length bl.depths)) refl) ∙ among in
     record {
       at = o.at;
       place = o.place;
       near = o.near;
       later = o.later;
       lands = λ s v line n h t f serving all stays acted' at'.
-          subst (λ q. Comes code o.at f v aims (cond q (next label k s) (Jump (suc e.level) label s))) (sym here) (record { to = o.lands s v line n h t f serving all stays acted' at' });
+          subst (λ q. Comes code o.at f v aims (cond q (next label k s) (Jump (suc (length bl.depths)) label s))) (sym here) (record { to = o.lands s v line n h t f serving all stays acted' at' });
     }
 
 -- a list from its start, or from a label on
-catch_piece : {e : Environment} {block : ℕ} {types : Types} (bl : Block e block types) {links : Links} {code : List Instr} (around : Around) (body : Y.Stmts) → EachDoes (within (M.labels_in body) bl) links code around body → (start : ℕ) → 2 ≤ start → Linked links code start (stmts_code e bl.taken body) → (turns : ℕ) {i : ℕ} {s : State} {v : Services} {h t : ℕ → ℕ} {aims : Aims (Unit {0})} (from : Option Label) (rest : Y.Stmts) (closed : Closed code aims) (line : ℕ) (n : ℕ → ℤ) (f : Family) (k : ℕ) → k < turns + v.world.acts → ((k' : ℕ) (s' : State) → M.statements around body from k' s' ≡ M.statements around rest None k' s') → EachDoes (within (M.labels_in body) bl) links code around rest → Linked links code i (stmts_code e bl.taken rest) → i + size_of (stmts_code e bl.taken rest) ≡ start + size_of (stmts_code e bl.taken body) → Serving k s v line → AllHold (suc e.level) s block types n → ((b : Base) → At b i (Known (bl.ground n) v h t nothing b) (f b)) → Behind bl k h t (start + size_of (stmts_code e bl.taken body)) aims → Enough bl links k around.turns i h t v.world.acts aims.jumped aims.returned → Comes code i f v aims (list_from turns (suc e.level) (M.labels_in body) (M.statements around body) from k s)
+catch_piece : {e : Environment} {block : ℕ} {types : Types} (bl : Block e block types) {links : Links} {code : List Instr} (around : Around) (body : Y.Stmts) → EachDoes (within (M.labels_in body) bl) links code around body → (start : ℕ) → 10 ≤ start → Linked links code start (stmts_code e bl.taken body) → (turns : ℕ) {i : ℕ} {s : State} {v : Services} {h t : ℕ → ℕ} {aims : Aims (Unit {0})} (from : Option Label) (rest : Y.Stmts) (closed : Closed code aims) (line : ℕ) (n : Values) (f : Family) (k : ℕ) → k < turns + v.world.acts → ((k' : ℕ) (s' : State) → M.statements around body from k' s' ≡ M.statements around rest None k' s') → EachDoes (within (M.labels_in body) bl) links code around rest → Linked links code i (stmts_code e bl.taken rest) → i + size_of (stmts_code e bl.taken rest) ≡ start + size_of (stmts_code e bl.taken body) → Serving k s v line → AllHold bl.frames v.activations (e.level ∷ bl.depths) s block types n → ((b : Base) → At b i (Known (bl.ground n) v h t nothing b) (f b)) → Behind bl k h t (start + size_of (stmts_code e bl.taken body)) aims → Enough bl links k around.turns i h t v.world.acts aims.jumped aims.returned → Comes code i f v aims (list_from turns (suc (length bl.depths)) (M.labels_in body) (M.statements around body) from k s)
 unfolding list_from
 catch_piece bl around body every start behind whole zero from rest closed line n f k enough means each l ends serving all at goal more =
     absurd (let a = serving.allowed in omega (arith, a, enough))
 catch_piece {e} {block} {types} bl {links} {code} around body every start behind whole (suc turns) {i} {s} {v} {h} {t} {aims} from rest closed line n f k enough means each l ends serving all at goal more =
     let labels = M.labels_in body in
     let inner = within labels bl in
-    let next' : Label → Meaning (Unit {0}) = λ label. list_from turns (suc e.level) labels (M.statements around body) (Some label) in
-    comes_caught k (suc e.level) labels next' (M.statements around body from k s)
-    (subst (Comes code i f v (catching code k (suc e.level) labels next' aims)) (sym (means k s))
-    ((list_does inner links code around rest each).does (catching_closed k (suc e.level) labels next' closed) line n f k l serving all at
+    let next' : Label → Meaning (Unit {0}) = λ label. list_from turns (suc (length bl.depths)) labels (M.statements around body) (Some label) in
+    comes_caught k (suc (length bl.depths)) labels next' (M.statements around body from k s)
+    (subst (Comes code i f v (catching code k (suc (length bl.depths)) labels next' aims)) (sym (means k s))
+    ((list_does inner links code around rest each).does (catching_closed k (suc (length bl.depths)) labels next' closed) line n f k l serving all at
     (λ s2 v2 line2 n2 h2 t2 f2 serving2 all2 stays2 at2.
     subst (λ u. aims.done u f2 v2 tt s2) (sym ends)
     (goal s2 v2 line2 n2 h2 t2 f2 serving2 all2 stays2 (λ b. record { pc = (at2 b).pc ∙ ap (address b) ends; holds = (at2 b).holds })))
@@ -212,13 +231,37 @@ catch_piece {e} {block} {types} bl {links} {code} around body every start behind
                         later = p.later;
                         lands = λ s3 v3 line3 n3 h3 t3 f3 serving3 all3 stays3 acted3 at3. p.lands s3 v3 line3 n3 h3 t3 f3 serving3 all3 (stays_then stays2 stays3) (omega (arith, grown, acted3)) at3;
                       };
+                  outs = λ inside number owned label3 among3 once3.
+                      let p = more.outs inside number owned label3 among3 once3 in
+                      record {
+                        at = p.at;
+                        place = p.place;
+                        near = p.near;
+                        later = p.later;
+                        lands = λ s3 v3 line3 n3 h3 f3 serving3 all3 acted3 at3. p.lands s3 v3 line3 n3 h3 f3 serving3 all3 (omega (arith, grown, acted3)) at3;
+                      };
                   returns = more.returns;
+                  own = more.own;
                 });
           })
           (λ none.
           let o = more.jumps label (sym (ap (λ q. q || is_among label bl.labels) none) ∙ sym (list_any-append (same_bytes label) labels bl.labels) ∙ among) once in
           record { at = o.at; place = o.place; near = o.near; later = o.later; lands = o.lands });
+      outs = λ inside number owned label among once.
+          let o = more.outs inside number owned label among once in
+          let some = bl.deep inside in
+          let other : (1 == suc (length bl.depths)) ≡ false = grind (arith, nat_tests) in
+          let past : ((1 == suc (length bl.depths)) && is_among label labels) ≡ false = ap (λ q. q && is_among label labels) other in
+          record {
+            at = o.at;
+            place = o.place;
+            near = o.near;
+            later = o.later;
+            lands = λ s2 v2 line2 n2 h2 f2 serving2 all2 acted2 at2.
+                subst (λ q. Comes code o.at f2 v2 aims (cond q (next' label k s2) (Jump 1 label s2))) (sym past) (record { to = o.lands s2 v2 line2 n2 h2 f2 serving2 all2 acted2 at2 });
+          };
       returns = more.returns;
+      own = more.own;
     })))
 
 -- a list of statements, of which each does what it means while the list catches
@@ -227,6 +270,6 @@ unfolding M.list M.list_with looked ◌>>=◌
 listed {e} bl {code = code} around body each =
     record {
       does = λ {i} {s} {v} {h} {t} {aims} closed line n f k l serving all at goal more.
-          subst (λ height. Comes code i f v aims (list_from around.turns height (M.labels_in body) (M.statements around body) None k s)) (sym (newest_is s.activations v.activations e.level serving.nested all.entered))
+          subst (λ height. Comes code i f v aims (list_from around.turns height (M.labels_in body) (M.statements around body) None k s)) (sym (newest_is s.activations v.activations (length bl.depths) serving.nested (entered_length s.activations (e.level ∷ bl.depths) all.entered)))
           (catch_piece bl around body each i more.later l around.turns None body closed line n f k (let u = more.enough in omega (arith, u)) (λ k' s'. refl) each l refl serving all at goal more);
     }

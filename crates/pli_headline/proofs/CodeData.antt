@@ -30,7 +30,7 @@ use Rattle.pli_coding.specs.Images.{raise_code, code_of}
 use Rattle.pli_headline.specs.Headline.{parts}
 use Rattle.pli_headline.specs.FirstForms.{plain_number, AreNumbers, AllNumbers, IsFirstReference, IsFirstOperator, IsFirstNumber, IsFirstItem, AreFirstItems, AreFirstPairs, IsFirstStatement, AreFirstStatements}
 use Rattle.pli_headline.proofs.FirstFrame.{start_of}
-use Rattle.pli_headline.proofs.Marks.{code_is}
+use Rattle.pli_headline.proofs.Marks.{code_is, only_main}
 use Rattle.pli_headline.proofs.MainProcedure.{IsAlone, main_head, main_environment}
 use Rattle.pli_headline.proofs.FirstForms.{all_numbers_plain, block_numbers}
 use Rattle.pli_headline.proofs.Variables.{outermost, own, whole, data_place, number_loaded, scalar_found, scalar_kept}
@@ -263,8 +263,8 @@ prologue_none e block line words plain =
 
 -- ---- the whole
 
-pub program_names : (program : Y.Program) (block line : ℕ) (body : Y.Stmts) → AllNumbers program.variables → IsAlone program block line body → AreFirstStatements block (length (variables_of_block program block)) body → data_named (code_of parts program) ≡ stmts_data body
-program_names program block line body plain alone are =
+pub program_names : (program : Y.Program) (block line : ℕ) (body : Y.Stmts) → AllNumbers program.variables → (alone : IsAlone program block line body) → alone.others ≡ [] → AreFirstStatements block (length (variables_of_block program block)) body → data_named (code_of parts program) ≡ stmts_data body
+program_names program block line body plain alone none are =
     let e = main_environment program block in
     let words = block_words e block (stmts_words body) in
     let begun = procedure_begun e (main_head block line) words [] in
@@ -274,6 +274,6 @@ program_names program block line body plain alone are =
     behind begun (code ++ ended) (stmts_data body) (prologue_none e block line words (block_numbers program.variables block plain))
     (then_names code ended (stmts_data body) [] (statements_name e none_taken block (length (variables_of_block program block)) body (block_numbers program.variables block plain, refl) are) (ended_none e (main_head block line) words)
     ∙ append-nil (stmts_data body)) in
-    ap data_named (code_is program block line body (all_numbers_plain program.variables plain) alone)
+    ap data_named (code_is program block line body (all_numbers_plain program.variables plain) alone ∙ only_main program block line body alone.others none)
     ∙ behind (start_of block) (raise_code ++ procedure_in e (main_head block line) body [] None) (stmts_data body) refl
     (behind raise_code (procedure_in e (main_head block line) body [] None) (stmts_data body) refl inside)

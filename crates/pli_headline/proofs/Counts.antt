@@ -1,5 +1,6 @@
--- DO with a variable that counts: start, limit and step are evaluated, and each turn begins with an assignment and an act.
-use Rattle.std.proofs.Common.{◌≡◌, ℕ, zero, suc, ◌+◌, ◌^◌, ◌<◌, ◌≤◌, List, [], ◌∷◌, ◌++◌, Option, None, Some, Bool, false, refl, sym, ap, ◌∙◌, subst, arith}
+-- The turns of DO with a variable that counts, each of which begins with an assignment and an act; before them limit and step come to
+-- wait in words.
+use Rattle.std.proofs.Common.{◌≡◌, ℕ, zero, suc, ◌+◌, ◌^◌, ◌<◌, ◌≤◌, List, [], ◌∷◌, ◌++◌, Option, None, Some, Bool, false, refl, sym, ap, ◌∙◌, subst, arith, inl}
 use Rattle.std.specs.Prelude.{ℤ, ◌+ℤ◌, cond, ◌==◌, slice_get}
 use Rattle.std.proofs.lemmas.Bool.Decides.{nat_tests}
 use Rattle.std.proofs.lemmas.List.{append_assoc}
@@ -21,14 +22,14 @@ use Rattle.pli_coding.specs.Assembly.{JumpBack, Code, size_of}
 use Rattle.pli_coding.specs.Instructions.{small, number, move, load_word, store_word, service}
 use Rattle.pli_coding.specs.Allocating.{act_code}
 use Rattle.pli_coding.specs.Arithmetic.{sum_code, fitted_code}
-use Rattle.pli_coding.specs.Environments.{Environment}
+use Rattle.pli_coding.specs.Environments.{Environment, Taken}
 use Rattle.pli_coding.specs.Expressions.{number_code}
 use Rattle.pli_coding.specs.Storing.{word_stored}
 use Rattle.pli_coding.specs.Frames.{words_place}
 use Rattle.pli_coding.specs.Temporaries.{number_words}
-use Rattle.pli_coding.specs.Statements.{step_place, in_turns, before_turns, start_code, limit_code, step_code, start_loaded, number_if, stmt_code, stmts_code, limit_kept, while_kept, stepped_code, turn_of, words_behind_condition, words_behind_limit, words_back, turns_code, bit_if}
+use Rattle.pli_coding.specs.Statements.{step_place, in_turns, before_turns, limit_code, step_code, number_if, limit_kept, while_kept, stepped_code, turn_of, words_behind_condition, words_behind_limit, words_back, turns_code, bit_if}
 use Rattle.pli_coding.specs.Linking.{Links}
-use Rattle.pli_headline.specs.ProvedSoFar.{Types, IsOwnNumber, IsProvedNumber, IsProvedNumberIf, IsProvedBitIf}
+use Rattle.pli_headline.specs.ProvedSoFar.{Types, IsProvedNumber, IsProvedNumberIf, IsProvedBitIf, alone}
 use Rattle.pli_headline.proofs.Engine.{Base, address}
 use Rattle.pli_headline.proofs.Linking.{size_append}
 use Rattle.pli_headline.proofs.Items.{Linked, At, straight}
@@ -37,11 +38,11 @@ use Rattle.pli_headline.proofs.Bodies.{Known}
 use Rattle.pli_headline.proofs.Jumps.{front_of, back_of, linked_at}
 use Rattle.pli_headline.proofs.Temporaries.{Stays, stays_same, stays_then, put, put_other, put_same, nothing}
 use Rattle.pli_headline.proofs.Calls.{Serving}
-use Rattle.pli_headline.proofs.Acts.{acted, act_from, act_piece}
+use Rattle.pli_headline.proofs.Acts.{acted, act_from}
 use Rattle.pli_headline.proofs.Variables.{whole, own}
 use Rattle.pli_headline.proofs.Operators.{valued, sum_piece, sum_zero}
 use Rattle.pli_headline.proofs.Expressions.{number_does}
-use Rattle.pli_headline.proofs.Scalars.{Fits}
+use Rattle.pli_headline.proofs.Scalars.{Fits, Values}
 use Rattle.pli_headline.proofs.Precisions.{fitted_piece}
 use Rattle.pli_headline.proofs.States.{with_number_at}
 use Rattle.pli_headline.proofs.Statements.{Standing, Block, AllHold, counted_all, assigned_all, Behind, Enough, further, Does}
@@ -52,6 +53,7 @@ use Rattle.pli_headline.proofs.Turnings.{counting, LimitWaits, limit_size, condi
 use Rattle.pli_headline.proofs.Loops.{back_piece}
 use Rattle.pli_headline.proofs.Since.{since_closed, comes_since}
 use Rattle.pli_headline.proofs.Reach.{Family, cost, Aims, Comes, Closed, before_closed, comes_on, onward, reached, reached_holds}
+use Rattle.pli_headline.proofs.Evaluations.{Evaluates, Kind, number_kind}
 
 -- the block while limit and step wait
 abbrev pub turning : {e : Environment} {block : ℕ} {types : Types} → Block e block types → Block e block types
@@ -72,7 +74,24 @@ turning bl =
       reads = bl.reads;
       writes = bl.writes;
       held = bl.held;
+      frames = bl.frames;
+      bottom = bl.bottom;
+      size = bl.size;
+      ends = bl.ends;
+      sized = bl.sized;
+      depths = bl.depths;
+      shallow = bl.shallow;
+      deep = bl.deep;
+      outer = bl.outer;
+      alone = bl.alone;
+      outside = bl.outside;
       stack = bl.stack;
+      levels = bl.levels;
+      level_room = bl.level_room;
+      outermost_level = bl.outermost_level;
+      displays = bl.displays;
+      texts = bl.texts;
+      arrays = bl.arrays;
     }
 
 pub standing_turning : {e : Environment} {block : ℕ} {types : Types} {bl : Block e block types} {links : Links} {code : List Instr} → Standing bl links code → Standing (turning bl) links code
@@ -93,7 +112,9 @@ turning_enough bl more =
             later = o.later;
             lands = λ s v line n h' t' f serving all stays acted' at'. o.lands s v line n h' t' f serving all (stays_fewer 2 stays) acted' at';
           };
+      outs = more.outs;
       returns = more.returns;
+      own = more.own;
     }
 
 -- ---- the next value
@@ -102,13 +123,13 @@ turning_enough bl more =
 abbrev lefted : ℕ → Base → List (ℕ × ℕ)
 lefted x b = (6, x) ∷ []
 
-pub stepping_piece : {links : Links} {code : List Instr} {i : ℕ} {v : Services} {h t : ℕ → ℕ} {s : State} {aims : Aims (Unit {0})} {e : Environment} {block : ℕ} {types : Types} (bl : Block e block types) (routines : Standing bl links code) (around : Around) (line : ℕ) (j p : ℕ) (step : ℤ) (closed : Closed code aims) (n : ℕ → ℤ) (f : Family) (old k : ℕ) → line < 2 ^ 31 → p ≤ 31 → slice_get types j ≡ Some (Y.FixedLeaf p) → IsWide step → t (bl.taken.words + 1) ≡ word step → bl.taken.words + 3 ≤ bl.words → Linked links code i (stepped_code e bl.taken (counting block j p) line) → Serving k s v old → AllHold (suc e.level) s block types n → ((b : Base) → At b i (Known (bl.ground n) v h t nothing b) (f b)) → ((z : ℤ) (f' : Family) (h' t' : ℕ → ℕ) → Fits (Y.FixedLeaf p) z → Stays (in_turns bl.taken) h t h' t' → Serving k s (on_line line v) line → ((b : Base) → At b (i + size_of (stepped_code e bl.taken (counting block j p) line)) (Known (bl.ground n) (on_line line v) h' t' (valued (word z)) b) (f' b)) → Comes code (i + size_of (stepped_code e bl.taken (counting block j p) line)) f' (on_line line v) aims (M.assigned (at_line around line) (whole (own block j)) (BasicNumber z) k s)) → Comes code i f v aims (M.stepped (at_line around line) (counting block j p) step k s)
+pub stepping_piece : {links : Links} {code : List Instr} {i : ℕ} {v : Services} {h t : ℕ → ℕ} {s : State} {aims : Aims (Unit {0})} {e : Environment} {block : ℕ} {types : Types} (bl : Block e block types) (routines : Standing bl links code) (around : Around) (line : ℕ) (j p : ℕ) (step : ℤ) (closed : Closed code aims) (n : Values) (f : Family) (old k : ℕ) → line < 2 ^ 31 → p ≤ 31 → slice_get types j ≡ Some (alone (Y.FixedLeaf p)) → IsWide step → t (bl.taken.words + 1) ≡ word step → bl.taken.words + 3 ≤ bl.words → Linked links code i (stepped_code e bl.taken (counting block j p) line) → Serving k s v old → AllHold bl.frames v.activations (e.level ∷ bl.depths) s block types n → ((b : Base) → At b i (Known (bl.ground n) v h t nothing b) (f b)) → ((z : ℤ) (f' : Family) (h' t' : ℕ → ℕ) → Fits (Y.FixedLeaf p) z → Stays (in_turns bl.taken) h t h' t' → Serving k s (on_line line v) line → ((b : Base) → At b (i + size_of (stepped_code e bl.taken (counting block j p) line)) (Known (bl.ground n) (on_line line v) h' t' (valued (word z)) b) (f' b)) → Comes code (i + size_of (stepped_code e bl.taken (counting block j p) line)) f' (on_line line v) aims (M.assigned (at_line around line) (whole (own block j)) (BasicNumber z) k s)) → Comes code i f v aims (M.stepped (at_line around line) (counting block j p) step k s)
 unfolding M.stepped M.counter_number M.counter_value V.number ◌>>=◌ give
 stepping_piece {links = links} {code = code} {i = i} {v = v} {h = h} {t = t} {s = s} {aims = aims} {e = e} {block = block} {types = types} bl routines around line j p step closed n f old k fits few below ws at_step room l serving all at goal =
     let here = at_line around line in
     let target = whole (own block j) in
     let taken = in_turns bl.taken in
-    let mine : IsOwnNumber block types target = record { precision = p; own = record { index = j; declared = below; is = refl } } in
+    let mine : IsProvedNumber block types (Y.NumberIn target) = (record { precision = p; part = inl (record { index = j; declared = below; is = refl }) }, tt) in
     let first = number a0 line in
     let second = small a1 1 ∷ service 1 in
     let a = number_code e taken (Y.NumberIn target) in
@@ -173,14 +194,14 @@ turn_rest {e} {block} bl j p limit condition line c =
 abbrev pub turns_of : {e : Environment} {block : ℕ} {types : Types} → Block e block types → (j p : ℕ) → Option Y.Number → Option Y.Bit → (line : ℕ) → Code → Code
 turns_of {e} {block} bl j p limit condition line c = turns_code (turn_of e bl.taken (counting block j p) limit condition line c)
 
-limit_stays : (limit : Option Y.Number) (most : Option ℤ) (t t' : ℕ → ℕ) (j : ℕ) → t' j ≡ t j → LimitWaits limit most t j → LimitWaits limit most t' j
+pub limit_stays : (limit : Option Y.Number) (most : Option ℤ) (t t' : ℕ → ℕ) (j : ℕ) → t' j ≡ t j → LimitWaits limit most t j → LimitWaits limit most t' j
 limit_stays None None t t' j e waits = tt
 limit_stays None (Some m) t t' j e waits = absurd waits
 limit_stays (Some x) None t t' j e waits = absurd waits
 limit_stays (Some x) (Some m) t t' j e waits = (waits.0, e ∙ waits.1)
 
 -- from the act of a turn on, with credits enough for it
-head_piece : {e : Environment} {block : ℕ} {types : Types} (bl : Block e block types) {links : Links} {code : List Instr} (routines : Standing bl links code) (around : Around) (j p : ℕ) (limit : Option Y.Number) (most : Option ℤ) (step : ℤ) (condition : Option Y.Bit) (line : ℕ) (c : Code) (part : Meaning (Unit {0})) → slice_get types j ≡ Some (Y.FixedLeaf p) → IsWide step → IsProvedBitIf block types condition → bl.taken.words + 3 ≤ bl.words → bl.taken.words + 2 + bit_if condition ≤ bl.words → line < 2 ^ 31 → Does (turning bl) links code around.turns c part → (turns : ℕ) {i : ℕ} {s : State} {v : Services} {h t : ℕ → ℕ} {aims : Aims (Unit {0})} (closed : Closed code aims) (credits old : ℕ) (n : ℕ → ℤ) (f : Family) (k : ℕ) → k < turns + v.world.acts → credits + size_of (act_code line) ≤ cost code → Linked links code i (turns_of bl j p limit condition line c) → LimitWaits limit most t bl.taken.words → t (bl.taken.words + 1) ≡ word step → Serving k s v old → AllHold (suc e.level) s block types n → ((b : Base) → At b (i + size_of (word_stored e (in_turns bl.taken) (whole (own block j)))) (Known (bl.ground n) v h t nothing b) (f b)) → Behind bl k h t (i + size_of (turns_of bl j p limit condition line c)) aims → Enough bl links k around.turns i h t v.world.acts aims.jumped aims.returned → Comes code credits f v aims (repeated_while turns (M.turn_due (at_line around line) (counting block j p) most step condition) (part >> (M.stepped (at_line around line) (counting block j p) step)) k s)
+pub head_piece : {e : Environment} {block : ℕ} {types : Types} (bl : Block e block types) {links : Links} {code : List Instr} (routines : Standing bl links code) (around : Around) (j p : ℕ) (limit : Option Y.Number) (most : Option ℤ) (step : ℤ) (condition : Option Y.Bit) (line : ℕ) (c : Code) (part : Meaning (Unit {0})) → slice_get types j ≡ Some (alone (Y.FixedLeaf p)) → IsWide step → IsProvedBitIf block types condition → bl.taken.words + 3 ≤ bl.words → bl.taken.words + 2 + bit_if condition ≤ bl.words → line < 2 ^ 31 → Does (turning bl) links code around.turns c part → (turns : ℕ) {i : ℕ} {s : State} {v : Services} {h t : ℕ → ℕ} {aims : Aims (Unit {0})} (closed : Closed code aims) (credits old : ℕ) (n : Values) (f : Family) (k : ℕ) → k < turns + v.world.acts → credits + size_of (act_code line) ≤ cost code → Linked links code i (turns_of bl j p limit condition line c) → LimitWaits limit most t bl.taken.words → t (bl.taken.words + 1) ≡ word step → Serving k s v old → AllHold bl.frames v.activations (e.level ∷ bl.depths) s block types n → ((b : Base) → At b (i + size_of (word_stored e (in_turns bl.taken) (whole (own block j)))) (Known (bl.ground n) v h t nothing b) (f b)) → Behind bl k h t (i + size_of (turns_of bl j p limit condition line c)) aims → Enough bl links k around.turns i h t v.world.acts aims.jumped aims.returned → Comes code credits f v aims (repeated_while turns (M.turn_due (at_line around line) (counting block j p) most step condition) (part >> (M.stepped (at_line around line) (counting block j p) step)) k s)
 unfolding repeated_while M.turn_due ◌>>=◌ ◌>>◌ give stuck choose
 head_piece bl routines around j p limit most step condition line c part below ws is room room' fits inner zero closed credits old n f k enough paid l waits at_step serving all at goal more =
     absurd (let a = serving.allowed in omega (arith, a, enough))
@@ -234,7 +255,7 @@ head_piece {e} {block} {types} bl {links} {code} routines around j p limit most 
     (λ f1 serving1 at1.
     let s' = with_world (counted s.world) s in
     let v' = acted line v in
-    let all1 : AllHold (suc e.level) s' block types n = counted_all _ all in
+    let all1 : AllHold bl.frames v.activations (e.level ∷ bl.depths) s' block types n = counted_all _ all in
     comes_on k (M.within_limit here (counting block j p) most step k s') conditions
     (within_piece bl routines here j p limit most step (words_behind_limit u) (before_closed k conditions (before_closed k branch closed)) n f1 k below waits ws at_step (omega (arith, room)) (omega (arith, inside, over1)) (front_of lim (con ++ (c ++ (sp ++ jump))) l1) serving1 all1 at1 (
       (λ f2 h2 t2 stays2 at2.
@@ -246,7 +267,7 @@ head_piece {e} {block} {types} bl {links} {code} routines around j p limit most 
                 (inner.does (since_closed acts1 (before_closed k steps (before_closed k goes closed))) line n f3 k (front_of c (sp ++ jump) l3) serving1 all1 at3
                 (λ s4' v4 line4 n4 h4 t4 f4 serving4 all4 stays4 at4 grown.
                 let stays04 = stays_then stays2 (stays_then stays3 stays4) in
-                stepping_piece bl routines around line j p step (before_closed k goes closed) n4 f4 line4 k fits (all4.numbers j (Y.FixedLeaf p, below)).fits.0 below ws (stays04.words (w + 1) (omega arith) ∙ at_step) room (front_of sp jump l4) serving4 all4 at4
+                stepping_piece bl routines around line j p step (before_closed k goes closed) n4 f4 line4 k fits (all4.numbers j (Y.FixedLeaf p, below) tt).fits.0 below ws (stays04.words (w + 1) (omega arith) ∙ at_step) room (front_of sp jump l4) serving4 all4 at4
                 (λ z f5 h5 t5 wz stays5 serving5 at5.
                 onward (before_closed k goes closed) (back_piece i5 f5 (words_back u) i back (record { reserved_stay = λ y x. refl; known_stay = λ b y x q. q; set = λ y x. refl }) (back_of sp jump l4) at5)
                 (λ f6 at6.
@@ -285,22 +306,26 @@ put_apart xs k x i e = ap (λ u. cond u x (xs i)) e
 other_place : (i k : ℕ) → k < i → (i == k) ≡ false
 other_place i k h = grind (arith, nat_tests)
 
--- a number is evaluated while three words may wait, and kept in one of them
-number_kept : {links : Links} {code : List Instr} {i : ℕ} {v : Services} {h t : ℕ → ℕ} {s : State} {aims : Aims ℤ} {e : Environment} {block : ℕ} {types : Types} (bl : Block e block types) (routines : Standing bl links code) (around : Around) (x : Y.Number) (n : ℕ → ℤ) (j : ℕ) (closed : Closed code aims) (f : Family) (k : ℕ) → IsProvedNumber block types x → bl.taken.words + 3 + number_words x ≤ bl.words → j < bl.words → Linked links code i (number_code e (before_turns bl.taken) x ++ store_word frame_register a0 (words_place j 1)) → Serving k s v around.line → AllHold (suc e.level) s block types n → ((b : Base) → At b i (Known (bl.ground n) v h t nothing b) (f b)) → ((z : ℤ) (f' : Family) (h' t' : ℕ → ℕ) → IsWide z → Stays (before_turns bl.taken) h t h' t' → ((b : Base) → At b (i + size_of (number_code e (before_turns bl.taken) x ++ store_word frame_register a0 (words_place j 1))) (Known (bl.ground n) v h' (put t' j (word z)) nothing b) (f' b)) → aims.done (i + size_of (number_code e (before_turns bl.taken) x ++ store_word frame_register a0 (words_place j 1))) f' v z s) → Comes code i f v aims (V.number around x k s)
-number_kept {i = i} {v = v} {s = s} {aims = aims} {e = e} bl routines around x n j closed f k is room inside l serving all at goal =
-    let a = number_code e (before_turns bl.taken) x in
+-- a value is evaluated while three words may wait, and kept in one of them
+pub word_kept : {X : Type 0} (kind : Kind X) {words : ℕ} {part : Taken → Code} {meaning : Meaning X} {links : Links} {code : List Instr} {i : ℕ} {v : Services} {h t : ℕ → ℕ} {s : State} {aims : Aims X} {e : Environment} {block : ℕ} {types : Types} (bl : Block e block types) (n : Values) (j : ℕ) (closed : Closed code aims) (f : Family) (k : ℕ) → Evaluates kind links code (bl.ground n) v s k words part meaning → bl.taken.words + 3 + words ≤ bl.words → j < bl.words → Linked links code i (part (before_turns bl.taken) ++ store_word frame_register a0 (words_place j 1)) → ((b : Base) → At b i (Known (bl.ground n) v h t nothing b) (f b)) → ((x : X) (f' : Family) (h' t' : ℕ → ℕ) → kind.Fits x → Stays (before_turns bl.taken) h t h' t' → ((b : Base) → At b (i + size_of (part (before_turns bl.taken) ++ store_word frame_register a0 (words_place j 1))) (Known (bl.ground n) v h' (put t' j (kind.word_of x)) nothing b) (f' b)) → aims.done (i + size_of (part (before_turns bl.taken) ++ store_word frame_register a0 (words_place j 1))) f' v x s) → Comes code i f v aims (meaning k s)
+word_kept kind {part = part} {i = i} {v = v} {s = s} {aims = aims} bl n j closed f k x room inside l at goal =
+    let a = part (before_turns bl.taken) in
     let c = store_word frame_register a0 (words_place j 1) in
     let size = size_append a c in
     let place : i + size_of a + size_of c ≡ i + size_of (a ++ c) = omega (arith, size) in
     let w = bl.words_are n in
-    (number_does x {e = e} {around = around} (setting bl routines n all serving) is).does closed f (before_turns bl.taken) (omega (arith, room, w)) (front_of a c l) at
-    (λ z f1 h1 t1 wz stays at1.
-    let r = kept_piece (bl.temps n) (i + size_of a) f1 j (word z) (omega (arith, inside, w)) (word_small z wz) (back_of a c l) at1 in
+    x.does closed f (before_turns bl.taken) (omega (arith, room, w)) (front_of a c l) at
+    (λ z f1 h1 t1 fits stays at1.
+    let r = kept_piece (bl.temps n) (i + size_of a) f1 j (kind.word_of z) (omega (arith, inside, w)) (kind.small' z fits) (back_of a c l) at1 in
     closed.done r z s
     (subst (λ u. aims.done u (reached r) v z s) (sym place)
-    (goal z (reached r) h1 t1 wz stays (λ b. record { pc = (reached_holds r b).pc ∙ ap (address b) place; holds = (reached_holds r b).holds }))))
+    (goal z (reached r) h1 t1 fits stays (λ b. record { pc = (reached_holds r b).pc ∙ ap (address b) place; holds = (reached_holds r b).holds }))))
 
-limit_kept_piece : {links : Links} {code : List Instr} {i : ℕ} {v : Services} {h t : ℕ → ℕ} {s : State} {aims : Aims (Option ℤ)} {e : Environment} {block : ℕ} {types : Types} (bl : Block e block types) (routines : Standing bl links code) (around : Around) (limit : Option Y.Number) (n : ℕ → ℤ) (closed : Closed code aims) (f : Family) (k : ℕ) → IsProvedNumberIf block types limit → bl.taken.words + 3 + number_if limit ≤ bl.words → Linked links code i (limit_code e bl.taken limit) → Serving k s v around.line → AllHold (suc e.level) s block types n → ((b : Base) → At b i (Known (bl.ground n) v h t nothing b) (f b)) → ((most : Option ℤ) (f' : Family) (h' t' : ℕ → ℕ) → LimitWaits limit most t' bl.taken.words → Stays bl.taken h t h' t' → t' (bl.taken.words + 2) ≡ t (bl.taken.words + 2) → ((b : Base) → At b (i + size_of (limit_code e bl.taken limit)) (Known (bl.ground n) v h' t' nothing b) (f' b)) → aims.done (i + size_of (limit_code e bl.taken limit)) f' v most s) → Comes code i f v aims (M.limit_of around limit k s)
+number_kept : {links : Links} {code : List Instr} {i : ℕ} {v : Services} {h t : ℕ → ℕ} {s : State} {aims : Aims ℤ} {e : Environment} {block : ℕ} {types : Types} (bl : Block e block types) (routines : Standing bl links code) (around : Around) (x : Y.Number) (n : Values) (j : ℕ) (closed : Closed code aims) (f : Family) (k : ℕ) → IsProvedNumber block types x → bl.taken.words + 3 + number_words x ≤ bl.words → j < bl.words → Linked links code i (number_code e (before_turns bl.taken) x ++ store_word frame_register a0 (words_place j 1)) → Serving k s v around.line → AllHold bl.frames v.activations (e.level ∷ bl.depths) s block types n → ((b : Base) → At b i (Known (bl.ground n) v h t nothing b) (f b)) → ((z : ℤ) (f' : Family) (h' t' : ℕ → ℕ) → IsWide z → Stays (before_turns bl.taken) h t h' t' → ((b : Base) → At b (i + size_of (number_code e (before_turns bl.taken) x ++ store_word frame_register a0 (words_place j 1))) (Known (bl.ground n) v h' (put t' j (word z)) nothing b) (f' b)) → aims.done (i + size_of (number_code e (before_turns bl.taken) x ++ store_word frame_register a0 (words_place j 1))) f' v z s) → Comes code i f v aims (V.number around x k s)
+number_kept {e = e} bl routines around x n j closed f k is room inside l serving all at goal =
+    word_kept number_kind bl n j closed f k (number_does x {e = e} {around = around} (setting bl routines n all serving) is) room inside l at goal
+
+limit_kept_piece : {links : Links} {code : List Instr} {i : ℕ} {v : Services} {h t : ℕ → ℕ} {s : State} {aims : Aims (Option ℤ)} {e : Environment} {block : ℕ} {types : Types} (bl : Block e block types) (routines : Standing bl links code) (around : Around) (limit : Option Y.Number) (n : Values) (closed : Closed code aims) (f : Family) (k : ℕ) → IsProvedNumberIf block types limit → bl.taken.words + 3 + number_if limit ≤ bl.words → Linked links code i (limit_code e bl.taken limit) → Serving k s v around.line → AllHold bl.frames v.activations (e.level ∷ bl.depths) s block types n → ((b : Base) → At b i (Known (bl.ground n) v h t nothing b) (f b)) → ((most : Option ℤ) (f' : Family) (h' t' : ℕ → ℕ) → LimitWaits limit most t' bl.taken.words → Stays bl.taken h t h' t' → t' (bl.taken.words + 2) ≡ t (bl.taken.words + 2) → ((b : Base) → At b (i + size_of (limit_code e bl.taken limit)) (Known (bl.ground n) v h' t' nothing b) (f' b)) → aims.done (i + size_of (limit_code e bl.taken limit)) f' v most s) → Comes code i f v aims (M.limit_of around limit k s)
 unfolding M.limit_of ◌>>=◌ give
 limit_kept_piece {i = i} {v = v} {h = h} {t = t} {s = s} {aims = aims} bl routines around None n closed f k is room l serving all at goal =
     let same : i ≡ i + 0 = omega arith in
@@ -317,111 +342,21 @@ limit_kept_piece {h = h} {t = t} {s = s} bl routines around (Some x) n closed f 
           (put_apart t1 w (word z) (w + 2) (other_place (w + 2) w (omega arith)) ∙ stays.words (w + 2) (omega arith)) at1;
     }))
 
--- ---- the statement
-
--- its meaning behind its act
-abbrev count_rest : Around → (line : ℕ) → Y.Counter → Option Y.Number → Y.Number → Option Y.Bit → Meaning (Unit {0}) → V.Computational → Meaning (Unit {0})
-count_rest around line counter limit step condition part value =
-    (M.limit_of (at_line around line) limit) >>= (λ most. (V.number (at_line around line) step) >>= (λ by. (M.counter_started (at_line around line) counter value) >>= (λ first. (M.assigned (at_line around line) (M.reference_of counter) first) >> (repeated_while around.turns (M.turn_due (at_line around line) counter most by condition) (part >> (M.stepped (at_line around line) counter by))))))
-
-pub count_does : {e : Environment} {block : ℕ} {types : Types} (bl : Block e block types) (links : Links) (code : List Instr) (routines : Standing bl links code) (around : Around) (j precision p : ℕ) (x : Y.Number) (limit : Option Y.Number) (step : Y.Number) (condition : Option Y.Bit) (body : Y.Stmts) (line : ℕ) → slice_get types j ≡ Some (Y.FixedLeaf precision) → IsProvedNumber block types x → IsProvedNumberIf block types limit → IsProvedNumber block types step → IsProvedBitIf block types condition → bl.taken.words + 3 + number_words x ≤ bl.words → bl.taken.words + 3 + number_if limit ≤ bl.words → bl.taken.words + 3 + number_words step ≤ bl.words → bl.taken.words + 2 + bit_if condition ≤ bl.words → line < 2 ^ 31 → Does (turning bl) links code around.turns (stmts_code e (in_turns bl.taken) body) (M.list around body) → Does bl links code around.turns (stmt_code e bl.taken (Y.DoCount (counting block j precision) (Y.NumberValue p x) limit step condition body line)) (M.statement around (Y.DoCount (counting block j precision) (Y.NumberValue p x) limit step condition body line))
-unfolding M.statement M.list V.computational M.counter_started M.counter_value R.or_error ◌>>=◌ ◌>>◌ give
-count_does {e} {block} {types} bl links code routines around j precision p x limit step condition body line below isx isl iss isc roomx rooml rooms roomc fits inner =
-    record {
-      does = λ {i} {s} {v} {h} {t} {aims} closed old n f k l serving all at goal more.
-          let here = at_line around line in
-          let target = whole (own block j) in
-          let counter = counting block j precision in
-          let w = bl.taken.words in
-          let a = act_code line in
-          let c0 = start_code e bl.taken (Y.NumberValue p x) in
-          let c1 = limit_code e bl.taken limit in
-          let c2 = step_code e bl.taken step in
-          let c3 = start_loaded bl.taken in
-          let c = stmts_code e (in_turns bl.taken) body in
-          let turns' = turns_of bl j precision limit condition line c in
-          let c4 = fitted_code (in_turns bl.taken) precision in
-          let ahead = c0 ++ (c1 ++ (c2 ++ (c3 ++ c4))) in
-          let l0 = back_of a (ahead ++ turns') l in
-          let lc = front_of ahead turns' l0 in
-          let l1 = back_of c0 (c1 ++ (c2 ++ (c3 ++ c4))) lc in
-          let l2 = back_of c1 (c2 ++ (c3 ++ c4)) l1 in
-          let l3 = back_of c2 (c3 ++ c4) l2 in
-          let s0 = size_append a (ahead ++ turns') in
-          let s1 = size_append ahead turns' in
-          let s2 = size_append c0 (c1 ++ (c2 ++ (c3 ++ c4))) in
-          let s3 = size_append c1 (c2 ++ (c3 ++ c4)) in
-          let s4 = size_append c2 (c3 ++ c4) in
-          let s5 = size_append c3 c4 in
-          let i0 = i + size_of a in
-          let i4 = i0 + size_of c0 + size_of c1 + size_of c2 + size_of c3 + size_of c4 in
-          let begins : i0 + size_of ahead ≡ i4 = omega (arith, s2, s3, s4, s5) in
-          let lt = linked_at i4 turns' begins (back_of ahead turns' l0) in
-          let place : i4 + size_of turns' ≡ i + size_of (a ++ (ahead ++ turns')) = omega (arith, s0, s1, begins) in
-          let st = word_stored e (in_turns bl.taken) target in
-          let u = turn_of e bl.taken counter limit condition line c in
-          let begun = st ++ act_code line in
-          let rest = turn_rest bl j precision limit condition line c in
-          let lst = front_of st (act_code line) (front_of begun rest lt) in
-          let s6 = size_append begun rest in
-          let s7 = size_append st (act_code line) in
-          let inside = lt.inside in
-          let words = bl.words_are n in
-          let part = M.list_with around (M.labels_in body) (M.statements around body) in
-          let behind' = count_rest around line counter limit step condition part in
-          let next' : Unit {0} → Meaning (Unit {0}) = λ q. (V.computational here (Y.NumberValue p x)) >>= behind' in
-          let as_stored : ℤ → Meaning BasicValue = λ z. give (BasicNumber z) in
-          let few : precision ≤ 31 = (all.numbers j (Y.FixedLeaf precision, below)).fits.0 in
-          let as_value : ℤ → Meaning V.Computational = λ z. give (V.ComputationalNumber p z) in
-          comes_on k (act counted k s) next'
-          (act_piece (before_closed k next' closed) f line old k fits (front_of a (ahead ++ turns') l) serving at
-          (λ f1 serving1 at1.
-          let s' = with_world (counted s.world) s in
-          let v' = acted line v in
-          let all1 : AllHold (suc e.level) s' block types n = counted_all _ all in
-          comes_on k (V.computational here (Y.NumberValue p x) k s') behind'
-          (comes_on k (V.number here x k s') as_value
-          (number_kept bl routines here x n (w + 2) (before_closed k as_value (before_closed k behind' closed)) f1 k isx roomx (omega (arith, roomx)) (front_of c0 (c1 ++ (c2 ++ (c3 ++ c4))) lc) serving1 all1 at1
-          (λ z0 f2 h2 t2 wz0 stays2 at2.
-          let t2' = put t2 (w + 2) (word z0) in
-          let steps : Option ℤ → Meaning (Unit {0}) = λ most. (V.number here step) >>= (λ by. (M.counter_started here counter (V.ComputationalNumber p z0)) >>= (λ first. (M.assigned here target first) >> (repeated_while around.turns (M.turn_due here counter most by condition) (part >> (M.stepped here counter by))))) in
-          record {
-            to =
-                comes_on k (M.limit_of here limit k s') steps
-                (limit_kept_piece bl routines here limit n (before_closed k steps closed) f2 k isl rooml (front_of c1 (c2 ++ (c3 ++ c4)) l1) serving1 all1 at2
-                (λ most f3 h3 t3 waits stays3 start3 at3.
-                let starts : ℤ → Meaning (Unit {0}) = λ by. (M.counter_started here counter (V.ComputationalNumber p z0)) >>= (λ first. (M.assigned here target first) >> (repeated_while around.turns (M.turn_due here counter most by condition) (part >> (M.stepped here counter by)))) in
-                comes_on k (V.number here step k s') starts
-                (number_kept bl routines here step n (w + 1) (before_closed k starts closed) f3 k iss rooms (omega (arith, rooms)) (front_of c2 (c3 ++ c4) l2) serving1 all1 at3
-                (λ by f4 h4 t4 wby stays4 at4.
-                let t5 = put t4 (w + 1) (word by) in
-                let start5 : t5 (w + 2) ≡ word z0 = put_apart t4 (w + 1) (word by) (w + 2) (other_place (w + 2) (w + 1) (omega arith)) ∙ stays4.words (w + 2) (omega arith) ∙ start3 ∙ put_same t2 (w + 2) (word z0) in
-                let loop = repeated_while around.turns (M.turn_due here counter most by condition) (part >> (M.stepped here counter by)) in
-                let goes : Unit {0} → Meaning (Unit {0}) = λ q. loop in
-                let store : BasicValue → Meaning (Unit {0}) = λ first. (M.assigned here target first) >> loop in
-                onward closed (read_piece (bl.temps n) (i0 + size_of c0 + size_of c1 + size_of c2) f4 a0 (w + 2) (word z0) (omega (arith, roomx, words)) (word_small z0 wz0) start5 (record { reserved_stay = λ y q. refl; known_stay = λ b y q o. o; set = λ y q. refl }) (record { reserved_stay = λ y q. refl; known_stay = λ b y q o. o; set = λ y q. refl }) (front_of c3 c4 l3) at4)
-                (λ f5 at5.
-                comes_on k (M.counter_started here counter (V.ComputationalNumber p z0) k s') store
-                (comes_on k (R.value_of here (checked precision z0) k s') as_stored
-                (fitted_piece (before_closed k as_stored (before_closed k store closed)) routines.raises (bl.temps n) f5 here (in_turns bl.taken) precision z0 k few wz0 (λ none. omega (arith, roomx, words)) (back_of c3 c4 l3) serving1 at5
-                (λ f5' fits5 at5'.
-                record {
-                  to =
-                      comes_on k (M.assigned here target (BasicNumber z0) k s') goes
-                      (counter_piece bl n (before_closed k goes closed) i4 f5' here (in_turns bl.taken) j precision z0 k below (few, fits5) (λ none. omega (arith, roomx)) all1 lst at5'
-                      (λ f6 h6 t6 stays6 at6.
-                      let before2 = stays_then (stays_fewer 3 stays2) (stays_kept bl.taken h2 t2 (w + 2) (word z0) (omega arith)) in
-                      let before4 = stays_then (stays_fewer 3 stays4) (stays_kept bl.taken h4 t4 (w + 1) (word by) (omega arith)) in
-                      let before6 = stays_then before2 (stays_then stays3 (stays_then before4 (stays_fewer 2 stays6))) in
-                      head_piece bl routines around j precision limit most by condition line c part below wby isc (omega (arith, roomx)) roomc fits inner around.turns closed (i4 + size_of st) line (with_number_at n j z0) f6 k (let q = more.enough in omega (arith, q)) (omega (arith, inside, s6, s7)) lt
-                      (limit_stays limit most t3 t6 w (stays6.words w (omega arith) ∙ put_other t4 (w + 1) (word by) w (omega arith) ∙ stays4.words w (omega arith)) waits)
-                      (stays6.words (w + 1) (omega arith) ∙ put_same t4 (w + 1) (word by))
-                      (record { world = serving1.world; running = serving1.running; line_is = serving1.line_is; input = serving1.input; allowed = serving1.allowed; fits = serving1.fits; nested = serving1.nested; waiting = serving1.waiting })
-                      (assigned_all j z0 below (few, fits5) all1) at6
-                      (λ s7' v7 line7 n7 h7 t7 f7 serving7 all7 stays7 at7.
-                      subst (λ q. aims.done q f7 v7 tt s7') (sym place)
-                      (goal s7' v7 line7 n7 h7 t7 f7 serving7 all7 (stays_then before6 stays7) (λ b. record { pc = (at7 b).pc ∙ ap (address b) place; holds = (at7 b).holds })))
-                      (further more (omega arith) (omega arith) before6)));
-                }))))))));
-          })))));
-    }
+-- limit and step are evaluated, and wait in their words
+pub limits_piece : {links : Links} {code : List Instr} {i : ℕ} {v : Services} {h t : ℕ → ℕ} {s : State} {aims : Aims (Unit {0})} {e : Environment} {block : ℕ} {types : Types} (bl : Block e block types) (routines : Standing bl links code) (around : Around) (limit : Option Y.Number) (step : Y.Number) (n : Values) (next' : Option ℤ → ℤ → Meaning (Unit {0})) (closed : Closed code aims) (f : Family) (k : ℕ) → IsProvedNumberIf block types limit → IsProvedNumber block types step → bl.taken.words + 3 + number_if limit ≤ bl.words → bl.taken.words + 3 + number_words step ≤ bl.words → Linked links code i (limit_code e bl.taken limit) → Linked links code (i + size_of (limit_code e bl.taken limit)) (step_code e bl.taken step) → Serving k s v around.line → AllHold bl.frames v.activations (e.level ∷ bl.depths) s block types n → ((b : Base) → At b i (Known (bl.ground n) v h t nothing b) (f b)) → ((most : Option ℤ) (by : ℤ) (f' : Family) (h' t' : ℕ → ℕ) → IsWide by → LimitWaits limit most t' bl.taken.words → t' (bl.taken.words + 1) ≡ word by → t' (bl.taken.words + 2) ≡ t (bl.taken.words + 2) → Stays bl.taken h t h' t' → ((b : Base) → At b (i + size_of (limit_code e bl.taken limit) + size_of (step_code e bl.taken step)) (Known (bl.ground n) v h' t' nothing b) (f' b)) → Comes code (i + size_of (limit_code e bl.taken limit) + size_of (step_code e bl.taken step)) f' v aims (next' most by k s)) → Comes code i f v aims (((M.limit_of around limit) >>= (λ most. (V.number around step) >>= (λ by. next' most by))) k s)
+unfolding ◌>>=◌
+limits_piece {s = s} bl routines around limit step n next' closed f k isl iss rooml rooms l1 l2 serving all at goal =
+    let w = bl.taken.words in
+    let steps : Option ℤ → Meaning (Unit {0}) = λ most. (V.number around step) >>= (λ by. next' most by) in
+    comes_on k (M.limit_of around limit k s) steps
+    (limit_kept_piece bl routines around limit n (before_closed k steps closed) f k isl rooml l1 serving all at
+    (λ most f1 h1 t1 waits stays1 start1 at1.
+    comes_on k (V.number around step k s) (λ by. next' most by)
+    (number_kept bl routines around step n (w + 1) (before_closed k (λ by. next' most by) closed) f1 k iss rooms (omega (arith, rooms)) l2 serving all at1
+    (λ by f2 h2 t2 wide stays2 at2.
+    let t3 = put t2 (w + 1) (word by) in
+    goal most by f2 h2 t3 wide
+    (limit_stays limit most t1 t3 w (put_other t2 (w + 1) (word by) w (omega arith) ∙ stays2.words w (omega arith)) waits)
+    (put_same t2 (w + 1) (word by))
+    (put_apart t2 (w + 1) (word by) (w + 2) (other_place (w + 2) (w + 1) (omega arith)) ∙ stays2.words (w + 2) (omega arith) ∙ start1)
+    (stays_then stays1 (stays_then (stays_fewer 3 stays2) (stays_kept bl.taken h2 t2 (w + 1) (word by) (omega arith)))) at2))))

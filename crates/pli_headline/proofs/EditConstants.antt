@@ -41,7 +41,7 @@ front_bytes (a ∷ m) (b ∷ bytes) h same =
     ap (λ u. u ∷ take (length bytes) m) (same 0 (omega arith))
     ∙ ap (λ u. b ∷ u) (front_bytes m bytes (omega (arith, h)) (λ k below. same (suc k) (omega (arith, below))))
 
-bytes_there : (code : List Instr) (m : List ℕ) (at : ℕ) (bytes : List ℕ) → length m ≡ memory_size → BytesStand code m at bytes → bytes_at (length bytes) at m ≡ bytes
+pub bytes_there : (code : List Instr) (m : List ℕ) (at : ℕ) (bytes : List ℕ) → length m ≡ memory_size → BytesStand code m at bytes → bytes_at (length bytes) at m ≡ bytes
 bytes_there code m at bytes size stands =
     let inside = stands.inside in
     let rest = length-drop at m in

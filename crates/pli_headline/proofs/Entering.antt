@@ -1,6 +1,6 @@
 -- The main procedure is entered: behind its frame a block is entered, and at the end of its prologue an act is made.
 use Rattle.std.proofs.Common.{◌≡◌, ℕ, ◌+◌, ◌^◌, ◌<◌, List, [], ◌∷◌, ◌++◌, refl, ap, ◌∙◌, subst, arith, lit<}
-use Rattle.std.specs.Prelude.{ℤ, pos}
+use Rattle.std.specs.Prelude.{pos}
 use Rattle.rv_meaning.specs.declared.instr.Instr.{Instr}
 use Rattle.rv_meaning.specs.declared.instr.Instr.TheVariants as I
 use Rattle.rv_meaning.specs.Words.{word, sum}
@@ -15,7 +15,7 @@ use Rattle.pli_coding.specs.Frames.{own_offset}
 use Rattle.pli_coding.specs.Entries.{block_entered}
 use Rattle.pli_coding.specs.Linking.{Links}
 use Rattle.image_runs.specs.Runs.{Whole}
-use Rattle.pli_headline.proofs.Scalars.{Scalar}
+use Rattle.pli_headline.proofs.Scalars.{Declared}
 use Rattle.pli_headline.proofs.Engine.{Base, address, call_at}
 use Rattle.pli_headline.proofs.Linking.{size_append}
 use Rattle.pli_headline.proofs.Items.{Linked, At, straight}
@@ -26,6 +26,7 @@ use Rattle.pli_headline.proofs.Calls.{called, Calling, call_done}
 use Rattle.pli_headline.proofs.Raising.{small_is}
 use Rattle.pli_headline.proofs.Acts.{word_is, word_fits}
 use Rattle.pli_headline.proofs.Reach.{Family, Reach, reach_then, reach_map, reached, reached_holds}
+use Rattle.pli_headline.proofs.Holdings.{Content}
 use Rattle.pli_headline.proofs.MainGround.{Frame, ground_of}
 use Rattle.pli_headline.proofs.FirstFrame.{no_texts}
 use Rattle.pli_headline.proofs.MainStates.{main_services}
@@ -43,7 +44,7 @@ entry_code line = move u5 a1 ∷ move a3 a2 ∷ block_entered 0 line
 
 -- ---- what service 4 answers at the start of the run
 
-enter_answer : (code : List Instr) (table : List TableSignature) (kind : ℕ → Scalar) (input m : List ℕ) (at line : ℕ) → K.enter_served (call_at code (first_services table input) m) 0 at line 0 ≡ Done (main_services table kind input at line 0) m 0 at
+enter_answer : (code : List Instr) (table : List TableSignature) (kind : ℕ → Declared) (input m : List ℕ) (at line : ℕ) → K.enter_served (call_at code (first_services table input) m) 0 at line 0 ≡ Done (main_services table kind input at line 0) m 0 at
 enter_answer code table kind input m at line = refl
 
 moved_zero : (x : ℕ) → x ≡ 0 → sum x (word (pos 0)) ≡ 0
@@ -54,7 +55,7 @@ moved_zero x e = omega (arith, e)
 abbrev entry_regs : (at : ℕ) → Base → List (ℕ × ℕ)
 entry_regs at b = (10, 0) ∷ (11, at) ∷ (13, 0) ∷ []
 
-pub entered_piece : {links : Links} {code : List Instr} {i : ℕ} {h t : ℕ → ℕ} (c : ℕ) (f : Frame) (first : List ℕ) (numbers : ℕ → ℤ) (table : List TableSignature) (kind : ℕ → Scalar) (input : List ℕ) (line : ℕ) (g : Family) → line < 2 ^ 31 → Linked links code i (entry_code line) → ((b : Base) → At b i (Known (ground_of f first numbers) (first_services table input) h t no_texts b) (g b)) → Reach code c g (first_services table input) (c + size_of (entry_code line)) (main_services table kind input f.at line 0) (λ b w. At b (i + size_of (entry_code line)) (Known (ground_of f first numbers) (main_services table kind input f.at line 0) h t nothing b) w)
+pub entered_piece : {links : Links} {code : List Instr} {i : ℕ} {h t : ℕ → ℕ} (c : ℕ) (f : Frame) (first : List ℕ) (numbers : ℕ → Content) (table : List TableSignature) (kind : ℕ → Declared) (input : List ℕ) (line : ℕ) (g : Family) → line < 2 ^ 31 → Linked links code i (entry_code line) → ((b : Base) → At b i (Known (ground_of f first numbers) (first_services table input) h t no_texts b) (g b)) → Reach code c g (first_services table input) (c + size_of (entry_code line)) (main_services table kind input f.at line 0) (λ b w. At b (i + size_of (entry_code line)) (Known (ground_of f first numbers) (main_services table kind input f.at line 0) h t nothing b) w)
 entered_piece {code = code} {i = i} {h = h} {t = t} c f first numbers table kind input line g fits l at =
     let ground = ground_of f first numbers in
     let v = first_services table input in

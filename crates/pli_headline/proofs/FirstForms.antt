@@ -1,18 +1,20 @@
 -- The forms of the first path's programs are among those for which the headline is proved.
-use Rattle.std.proofs.Common.{◌≡◌, ℕ, zero, suc, ◌<◌, List, [], ◌∷◌, length, Some, None, true, sym, ap, subst, arith, unwrap_or}
+use Rattle.std.proofs.Common.{◌≡◌, ℕ, zero, suc, ◌<◌, List, [], ◌∷◌, length, Some, None, true, sym, ap, subst, arith, unwrap_or, inl, ◌++◌, ◌≤◌, false}
 use Rattle.std.specs.Prelude.{slice_get}
 use Rattle.pli_typing.specs.TypedTree as Y
 use Rattle.pli_meaning.specs.Control.{Label}
 use Rattle.pli_meaning.specs.DeclaredShapes.{variables_of_block}
+use Rattle.std.specs.List.{flat_map}
+use Rattle.pli_coding.specs.SignatureTable.{signature_of, with_signature, with_signatures}
 use Rattle.pli_coding.specs.Streams.{has_text}
-use Rattle.pli_headline.specs.ProvedSoFar.{IsPlain, ArePlain, AllPlain, Types, type_of, types_of, IsOwn, HavePrecisions, IsProvedNumber, IsProvedItem, AreProvedItems, AreProvedPairs, IsProvedStatement, AreProvedStatements, JumpsAround, AllJumpAround, IsBare, AreBare, IsProvedSoFar}
+use Rattle.pli_headline.specs.ProvedSoFar.{IsPlain, ArePlain, AllPlain, Types, types_of, IsOwn, HavePrecisions, IsProvedNumber, IsProvedItem, AreProvedItems, AreProvedPairs, IsProvedStatement, AreProvedStatements, JumpsAround, AllJumpAround, IsBare, AreBare, IsProvedSoFar, alone, AreSubscripts, declared_kind, CallsAmong, AllCallAmong}
 use Rattle.pli_headline.proofs.FormatData.{true_false}
 use Rattle.pli_headline.specs.FirstForms.{plain_number, AreNumbers, AllNumbers, IsFirstReference, IsFirstNumber, IsFirstItem, AreFirstItems, AreFirstPairs, IsFirstStatement, AreFirstStatements, IsFirstProgram}
 
 -- ---- declarations
 
 number_plain : (d : Y.DeclaredVariable) → d ≡ plain_number → IsPlain d
-number_plain d e = record { type = Y.FixedLeaf 31; initial = []; scalar = (omega arith, omega arith); begins = tt; is = e }
+number_plain d e = record { type = Y.FixedLeaf 31; bounds = []; initial = []; held = (omega arith, omega arith); begins = tt; is = e }
 
 pub numbers_plain : (ds : List Y.DeclaredVariable) → AreNumbers ds → ArePlain ds
 numbers_plain [] are = tt
@@ -32,13 +34,33 @@ block_numbers [] block all = tt
 block_numbers (ds ∷ rest) zero all = all.0
 block_numbers (ds ∷ rest) (suc block) all = block_numbers rest block all.1
 
+-- they have one signature
+numbers_append : (ds es : List Y.DeclaredVariable) → AreNumbers ds → AreNumbers es → AreNumbers (ds ++ es)
+numbers_append [] es are more = more
+numbers_append (d ∷ ds) es are more = (are.0, numbers_append ds es are.1 more)
+
+pub flat_numbers : (rows : List (List Y.DeclaredVariable)) → AllNumbers rows → AreNumbers (flat_map (λ ds. ds) rows)
+flat_numbers [] all = tt
+flat_numbers (ds ∷ rest) all = numbers_append ds (flat_map (λ es. es) rest) all.0 (flat_numbers rest all.1)
+
+stays_one : (ds : List Y.DeclaredVariable) → AreNumbers ds → length (with_signatures ds (signature_of plain_number ∷ [])) ≤ 1
+stays_one [] are = omega arith
+stays_one (d ∷ ds) are =
+    let T : Y.DeclaredVariable → Type 0 = λ u. length (with_signatures ds (with_signature (signature_of u) (signature_of plain_number ∷ []))) ≤ 1 in
+    subst T (sym are.0) (stays_one ds are.1)
+
+pub one_signature : (ds : List Y.DeclaredVariable) → AreNumbers ds → length (with_signatures ds []) ≤ 1
+one_signature [] are = omega arith
+one_signature (d ∷ ds) are =
+    subst (λ u. length (with_signatures ds (signature_of u ∷ [])) ≤ 1) (sym are.0) (stays_one ds are.1)
+
 -- so many variables of FIXED BINARY(31)
 abbrev pub Hold : (count : ℕ) → Types → Type 0
-Hold count types = (j : ℕ) → j < count → slice_get types j ≡ Some (Y.FixedLeaf 31)
+Hold count types = (j : ℕ) → j < count → slice_get types j ≡ Some (alone (Y.FixedLeaf 31))
 
 pub numbers_typed : (ds : List Y.DeclaredVariable) → AreNumbers ds → Hold (length ds) (types_of ds)
 numbers_typed [] are j below = absurd (omega (arith, below))
-numbers_typed (d ∷ ds) are zero below = ap (λ u. Some (type_of u)) are.0
+numbers_typed (d ∷ ds) are zero below = ap (λ u. Some (declared_kind u)) are.0
 numbers_typed (d ∷ ds) are (suc j) below = numbers_typed ds are.1 j (omega (arith, below))
 
 -- ---- forms
@@ -46,9 +68,15 @@ numbers_typed (d ∷ ds) are (suc j) below = numbers_typed ds are.1 j (omega (ar
 own_wider : (block count : ℕ) (types : Types) (r : Y.Reference) → Hold count types → IsFirstReference block count r → IsOwn block types (Y.FixedLeaf 31) r
 own_wider block count types r all h = record { index = h.index; declared = all h.index h.declared; is = h.is }
 
+-- without subscripts
+none_given : (block count : ℕ) (types : Types) (r : Y.Reference) → IsFirstReference block count r → AreSubscripts block types r
+none_given block count types r h = subst (AreSubscripts block types) (sym h.is) tt
+
 number_wider : (block count : ℕ) (types : Types) (x : Y.Number) → Hold count types → IsFirstNumber block count x → IsProvedNumber block types x
 number_wider block count types (Y.NumberConstant n) all h = h
-number_wider block count types (Y.NumberIn r) all h = record { precision = 31; own = own_wider block count types r all h }
+number_wider block count types (Y.NumberIn (Y.Referring v locator part subscripts)) all h =
+    let r = Y.Referring v locator part subscripts in
+    (record { precision = 31; part = inl (own_wider block count types r all h) }, none_given block count types r h)
 number_wider block count types (Y.Signed sign x) all h = number_wider block count types x all h
 number_wider block count types (Y.Calculated operator left right) all h = (number_wider block count types left all h.1.0, number_wider block count types right all h.1.1)
 number_wider block count types _ all h = absurd h
@@ -70,7 +98,7 @@ pairs_wider block count types (p ∷ ps) all h =
 
 statement_wider : (block count : ℕ) (types : Types) (x : Y.Stmt) → Hold count types → IsFirstStatement block count x → IsProvedStatement block types x
 statement_wider block count types (Y.Null line) all h = h
-statement_wider block count types (Y.Assign target (Y.StoredNumber precision x) line) all h = (subst (λ p. IsOwn block types (Y.FixedLeaf p) target) (sym h.0) (own_wider block count types target all h.1.0), (number_wider block count types x all h.1.1.0, h.1.1.1))
+statement_wider block count types (Y.Assign target (Y.StoredNumber precision x) line) all h = ((inl (subst (λ p. IsOwn block types (Y.FixedLeaf p) target) (sym h.0) (own_wider block count types target all h.1.0)), none_given block count types target h.1.0), (number_wider block count types x all h.1.1.0, h.1.1.1))
 statement_wider block count types (Y.Put None pairs line) all h = (pairs_wider block count types pairs all h.0, h.1)
 statement_wider block count types _ all h = absurd h
 
@@ -79,16 +107,28 @@ statements_wider block count types (Y.EndOfList labels) all h = tt
 statements_wider block count types (Y.StmtThen labels first rest) all h = (statement_wider block count types first all h.0, statements_wider block count types rest all h.1)
 
 -- none of them jumps
-statement_stays : (block count number level : ℕ) (all : List (ℕ × Label)) (around : List Label) (x : Y.Stmt) → IsFirstStatement block count x → JumpsAround number level all around x
-statement_stays block count number level all around (Y.Null line) h = tt
-statement_stays block count number level all around (Y.Assign target (Y.StoredNumber precision x) line) h = tt
-statement_stays block count number level all around (Y.Put None pairs line) h = tt
-statement_stays block count number level all around _ h = absurd h
+statement_stays : (block count number level : ℕ) (all : List (ℕ × Label)) (procedure : ℕ) (outer around : List Label) (x : Y.Stmt) → IsFirstStatement block count x → JumpsAround number level all procedure outer around x
+statement_stays block count number level all procedure outer around (Y.Null line) h = tt
+statement_stays block count number level all procedure outer around (Y.Assign target (Y.StoredNumber precision x) line) h = tt
+statement_stays block count number level all procedure outer around (Y.Put None pairs line) h = tt
+statement_stays block count number level all procedure outer around _ h = absurd h
 
-pub statements_stay : (block count number level : ℕ) (all : List (ℕ × Label)) (around : List Label) (body : Y.Stmts) → AreFirstStatements block count body → AllJumpAround number level all around body
-statements_stay block count number level all around (Y.EndOfList labels) h = tt
-statements_stay block count number level all around (Y.StmtThen labels first rest) h =
-    (statement_stays block count number level all around first h.0, statements_stay block count number level all around rest h.1)
+pub statements_stay : (block count number level : ℕ) (all : List (ℕ × Label)) (procedure : ℕ) (outer around : List Label) (body : Y.Stmts) → AreFirstStatements block count body → AllJumpAround number level all procedure outer around body
+statements_stay block count number level all procedure outer around (Y.EndOfList labels) h = tt
+statements_stay block count number level all procedure outer around (Y.StmtThen labels first rest) h =
+    (statement_stays block count number level all procedure outer around first h.0, statements_stay block count number level all procedure outer around rest h.1)
+
+-- nor calls
+statement_calls : (block count : ℕ) (may : List ℕ) (x : Y.Stmt) → IsFirstStatement block count x → CallsAmong may true false x
+statement_calls block count may (Y.Null line) h = tt
+statement_calls block count may (Y.Assign target (Y.StoredNumber precision x) line) h = tt
+statement_calls block count may (Y.Put None pairs line) h = tt
+statement_calls block count may _ h = absurd h
+
+pub statements_call : (block count : ℕ) (may : List ℕ) (body : Y.Stmts) → AreFirstStatements block count body → AllCallAmong may true false body
+statements_call block count may (Y.EndOfList labels) h = tt
+statements_call block count may (Y.StmtThen labels first rest) h =
+    (statement_calls block count may first h.0, statements_call block count may rest h.1)
 
 -- and none is a block
 statement_bare : (block count : ℕ) (program : Y.Program) (x : Y.Stmt) → IsFirstStatement block count x → IsBare program x
@@ -107,14 +147,20 @@ program_wider program is =
     record {
       head = is.head;
       body = is.body;
-      alone = is.alone;
+      others = [];
+      called = [];
+      procedures = is.alone;
       plain = all_numbers_plain program.variables is.plain;
+      few = let one = one_signature (flat_map (λ ds. ds) program.variables) (flat_numbers program.variables is.plain) in omega (arith, one);
       block = record {
         kind = is.block.kind;
         level = is.block.level;
         line = is.block.line;
         statements = statements_wider is.head.number (length (variables_of_block program is.head.number)) (types_of (variables_of_block program is.head.number)) is.body (numbers_typed (variables_of_block program is.head.number) (block_numbers program.variables is.head.number is.plain)) is.block.statements;
-        jumps = statements_stay _ _ _ _ _ _ is.body is.block.statements;
+        jumps = statements_stay _ _ _ _ _ _ _ _ is.body is.block.statements;
+        calls = statements_call _ _ [] is.body is.block.statements;
         inside = statements_bare _ _ program is.body is.block.statements;
       };
+      inner = tt;
+      once = tt;
     }

@@ -45,7 +45,7 @@ start_of block = BaseIn u0 ∷ (frame_rest ++ (CallTo (ProcedureEntry block) ∷
 pub start_is : (program : Y.Program) (block line : ℕ) (body : Y.Stmts) → AllPlain program.variables → IsAlone program block line body → start_code (environment_of parts program) ≡ start_of block
 start_is program block line body all alone =
     ap (λ c. first_frame parts ++ (c ++ (main_called program.procedures ++ finish_code))) (no_statics (environment_of parts program) 0 program.variables all)
-    ∙ ap (λ ps. first_frame parts ++ (main_called ps ++ finish_code)) alone
+    ∙ ap (λ ps. first_frame parts ++ (main_called ps ++ finish_code)) alone.are
 
 -- the place at which the start goes on
 abbrev pub start_resume : ℕ

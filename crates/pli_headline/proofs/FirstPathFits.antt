@@ -1,5 +1,5 @@
 -- The image of a program of the first path fits a machine's memory, and keeps the headline with a step cost in the number of its tokens.
-use Rattle.std.proofs.Common.{◌≡◌, ℕ, zero, suc, ◌+◌, ◌*◌, ◌<◌, ◌≤◌, ◌^◌, List, [], ◌∷◌, ◌++◌, length, Some, None, sym, subst, arith}
+use Rattle.std.proofs.Common.{◌≡◌, ℕ, zero, suc, ◌+◌, ◌*◌, ◌<◌, ◌≤◌, ◌^◌, List, [], ◌∷◌, ◌++◌, length, Some, None, sym, subst, arith, refl}
 use Rattle.pli_language.specs.declared.expr.Place.{Place}
 use Rattle.pli_language.specs.Tree as T
 use Rattle.pli_language.specs.Declarations.{blocks_in_stmt}
@@ -91,7 +91,7 @@ program_data label place body b line l =
     let program = main_program label place b.names body in
     let is = program_proved label place b.names body b.statements line l in
     let d = body_data label place b.names (labels_in body) 2 body b.statements in
-    let n = statics_most (code_of parts program) (stmts_data is.body) (program_names program is.head.number is.head.line is.body is.plain (alone_of program (program_wider program is)) is.block.statements) d.0 in
+    let n = statics_most (code_of parts program) (stmts_data is.body) (program_names program is.head.number is.head.line is.body is.plain (alone_of program (program_wider program is)) refl is.block.statements) d.0 in
     let m = d.1 in
     omega (arith, n, m)
 

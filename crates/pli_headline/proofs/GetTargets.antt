@@ -1,12 +1,12 @@
--- An item of GET: the next data item is found, a field is taken for a number or a bit, and it is stored in a variable of the block.
-use Rattle.std.proofs.Common.{◌≡◌, ℕ, suc, ◌+◌, ◌≤◌, List, [], ◌∷◌, ◌++◌, Option, Some, None, Bool, true, refl, sym, ap, ◌∙◌, subst, arith, lit<}
-use Rattle.std.specs.Prelude.{ℤ, slice_get, unwrap_or}
+-- An item of GET: the next data item is found, a field is taken for a number, a bit or a text, and it is stored in a variable of the block.
+use Rattle.std.proofs.Common.{◌≡◌, ℕ, suc, ◌+◌, ◌≤◌, List, [], ◌∷◌, ◌++◌, Option, Some, None, Bool, true, false, refl, sym, ap, ◌∙◌, subst, arith, lit<, ◌⊎◌, inl, inr, length}
+use Rattle.std.specs.Prelude.{ℤ, pos, slice_get}
 use Rattle.rv_meaning.specs.declared.instr.Instr.{Instr}
 use Rattle.rv_meaning.specs.Words.{word, flag}
 use Rattle.pli_language.specs.Tree as T
-use Rattle.pli_typing.specs.Signatures.{Bit}
+use Rattle.pli_typing.specs.Signatures.{Bit, Bounds}
 use Rattle.pli_typing.specs.TypedTree as Y
-use Rattle.pli_meaning.specs.BasicValues.{BasicValue, BasicNumber, BasicBit}
+use Rattle.pli_meaning.specs.BasicValues.{BasicValue, BasicNumber, BasicBit, BasicText}
 use Rattle.pli_meaning.specs.Codes.{conversion_code}
 use Rattle.pli_meaning.specs.Numbers.{checked}
 use Rattle.pli_meaning.specs.Texts.{bit_number, bit_in_text}
@@ -18,7 +18,7 @@ use Rattle.pli_meaning.specs.Raising as R
 use Rattle.pli_meaning.specs.Raising.{Around}
 use Rattle.pli_meaning.specs.Streaming as P
 use Rattle.pli_meaning.specs.Streaming.{FormatItem, DataFormat, DataItem, FixedItem, TextItem, Field, TextField, format_items}
-use Rattle.pli_serving.specs.ServiceState.{Services, EditPlace, TextEntry}
+use Rattle.pli_serving.specs.ServiceState.{Services, Activation, EditPlace, TextEntry}
 use Rattle.pli_serving.specs.Outcomes.{pushed, with_entries}
 use Rattle.pli_serving.specs.Edits as E
 use Rattle.pli_serving.specs.TextServices as X
@@ -26,30 +26,31 @@ use Rattle.pli_coding.specs.Registers.{a0}
 use Rattle.pli_coding.specs.Assembly.{size_of}
 use Rattle.pli_coding.specs.Instructions.{small, service, tested_service}
 use Rattle.pli_coding.specs.Arithmetic.{fitted_code}
-use Rattle.pli_coding.specs.Environments.{Environment, no_declaration}
-use Rattle.pli_coding.specs.Expressions.{type_in}
-use Rattle.pli_coding.specs.Locating.{no_leaf}
-use Rattle.pli_coding.specs.Storing.{word_stored}
+use Rattle.pli_coding.specs.Environments.{Environment}
+use Rattle.pli_coding.specs.Expressions.{type_in, given_in}
+use Rattle.pli_coding.specs.Storing.{word_stored, top_stored}
 use Rattle.pli_coding.specs.Streams as C
-use Rattle.pli_coding.specs.Streams.{has_fixed, has_text, controls_carried_out, awaited_before, field_awaited, field_stored, bit_got}
+use Rattle.pli_coding.specs.Streams.{has_fixed, has_text, controls_carried_out, awaited_before, field_awaited, field_stored, bit_got, text_got, get_item_words}
 use Rattle.pli_coding.specs.Linking.{Links}
-use Rattle.pli_headline.specs.ProvedSoFar.{Types, IsReadBy, IsProvedGetItem, AreProvedFormats, HasData, HaveWidths}
+use Rattle.pli_headline.specs.ProvedSoFar.{Types, IsReadBy, IsProvedGetItem, AreProvedFormats, HasData, HaveWidths, text_leaf, alone, IsOwn, IsElement, IsElementType, IsTarget, AreSubscripts, AreProvedNumbers}
 use Rattle.pli_headline.proofs.Engine.{Base, address}
 use Rattle.pli_headline.proofs.Linking.{size_append}
 use Rattle.pli_headline.proofs.Items.{Linked, At, straight}
 use Rattle.pli_headline.proofs.Numbers as N
-use Rattle.pli_headline.proofs.Scalars.{value_as, Fits, bit_back, bit_fits, bit_word}
+use Rattle.pli_headline.proofs.Scalars.{value_as, Fits, bit_back, bit_fits, bit_word, Values}
 use Rattle.pli_headline.proofs.Bodies.{Known, zero_is}
 use Rattle.pli_headline.proofs.Jumps.{front_of, back_of}
-use Rattle.pli_headline.proofs.Temporaries.{nothing, Stays}
+use Rattle.pli_headline.proofs.Temporaries.{nothing, Stays, stays_same}
 use Rattle.pli_headline.proofs.Calls.{Serving}
 use Rattle.pli_headline.proofs.Raising.{Routines, small_is}
 use Rattle.pli_headline.proofs.Operators.{valued}
 use Rattle.pli_headline.proofs.Precisions.{fitted_piece}
 use Rattle.pli_headline.proofs.Variables.{IsDeclared, whole_part, whole, own}
-use Rattle.pli_headline.proofs.Assignments.{assigned_state, stored_piece}
-use Rattle.pli_headline.proofs.States.{Holds, with_number_at}
-use Rattle.pli_headline.proofs.Statements.{Block, AllHold, assigned_all, scope_of}
+use Rattle.pli_headline.proofs.States.{Holds, with_text_at}
+use Rattle.pli_headline.proofs.TextStates.{KeepsText}
+use Rattle.pli_headline.proofs.Statements.{Block, AllHold, Standing}
+use Rattle.pli_headline.proofs.TextVariables.{text_state}
+use Rattle.pli_headline.proofs.TextAssignments.{assigned_piece, text_assigned_all}
 use Rattle.pli_headline.proofs.FormatData.{items_data, true_false}
 use Rattle.pli_headline.proofs.EditTexts.{at_other_texts}
 use Rattle.pli_headline.proofs.EditChoices.{by_kinds}
@@ -60,15 +61,19 @@ use Rattle.pli_headline.proofs.GetControls.{Kept, next_piece}
 use Rattle.pli_headline.proofs.GetWidths.{Suits, formats_suited}
 use Rattle.pli_headline.proofs.GetPieces.{endfile_tested, awaited_piece}
 use Rattle.pli_headline.proofs.GetNumbers.{stored_value, rest_given, converting, converting_closed, got_and_stored, fixed_as_number, text_as_number, number_got, text_taken}
+use Rattle.pli_headline.proofs.GetTexts.{number_as_text, field_as_text}
 use Rattle.pli_headline.proofs.Reach.{Family, Aims, Comes, Closed, before, before_closed, comes_on, onward}
+use Rattle.pli_headline.proofs.TextScopes.{IsTextAt}
+use Rattle.pli_headline.proofs.TextsKept.{text_kept_as}
+use Rattle.pli_headline.proofs.ArrayMeant.{HoldsArray, element}
+use Rattle.pli_headline.proofs.Targets.{Takes, scalar_takes, element_takes, own_type, element_type, element_target}
+use Rattle.pli_headline.proofs.ArrayScopes.{IsArrayAt}
+use Rattle.pli_coding.specs.Temporaries.{reference_words, subscripts_words}
+use Rattle.std.proofs.Math.Nat.{le-max_right}
 
 -- ---- what is declared
 
--- the type of a variable in the code, and in the meaning
-pub type_is : (e : Environment) (block j : ℕ) (type : Y.LeafType) → IsDeclared e block j type → type_in e (whole (own block j)) ≡ type
-type_is e block j type declared =
-    ap (λ o. (unwrap_or (slice_get (unwrap_or o no_declaration).leaves 0) no_leaf).type) declared.1
-
+-- the type of a variable in the meaning
 target_is : (e : Environment) (around : Around) (block j : ℕ) (type : Y.LeafType) → around.program ≡ e.program → IsDeclared e block j type → P.target_type around (whole (own block j)) ≡ Some type
 target_is e around block j type same declared =
     ap (λ q. P.type_of_first whole_part (slice_get (variables_of_block q block) j)) same
@@ -79,66 +84,58 @@ target_is e around block j type same declared =
 -- with what is left of the format list, and other numbers in the variables
 abbrev pub ItemBehind : {e : Environment} {block : ℕ} {types : Types} → Block e block types → (k line : ℕ) → (h t : ℕ → ℕ) → (i : ℕ) → (fixed text : Bool) → (whole : List FormatItem) → (below : List EditPlace) → Aims (Option (List FormatItem)) → Type 0
 ItemBehind {e = e} {block = block} {types = types} bl k line h0 t0 i fixed text whole below aims =
-    (s : State) (v : Services) (rest : List FormatItem) (n : ℕ → ℤ) (h t : ℕ → ℕ) (f : Family) → Serving k s v line → AllHold (suc e.level) s block types n → Suits fixed text rest → v.edits ≡ getting whole rest ∷ below → Stays bl.taken h0 t0 h t → ((b : Base) → At b i (Known (bl.ground n) v h t nothing b) (f b)) → aims.done i f v (Some rest) s
+    (s : State) (v : Services) (rest : List FormatItem) (n : Values) (h t : ℕ → ℕ) (f : Family) → Serving k s v line → AllHold bl.frames v.activations (e.level ∷ bl.depths) s block types n → Suits fixed text rest → v.edits ≡ getting whole rest ∷ below → Stays bl.taken h0 t0 h t → ((b : Base) → At b i (Known (bl.ground n) v h t nothing b) (f b)) → aims.done i f v (Some rest) s
 
 -- acts that read leave what the variables hold
 read_holds : {s : State} {block j : ℕ} {type : Y.LeafType} {z : ℤ} (change : Input → Input) → Holds s block j type z → Holds (read_state change s) block j type z
 read_holds change h = record { values = h.values; stands = h.stands; lives = h.lives; value = h.value; fits = h.fits }
 
-pub read_all : {height : ℕ} {s : State} {block : ℕ} {types : Types} {n : ℕ → ℤ} (change : Input → Input) → AllHold height s block types n → AllHold height (read_state change s) block types n
+read_keeps : {s : State} {block j : ℕ} {varying : Bool} {most : ℕ} {text : List ℕ} (change : Input → Input) → KeepsText s block j varying most text → KeepsText (read_state change s) block j varying most text
+read_keeps change h = record { values = h.values; stands = h.stands; lives = h.lives; value = h.value; short = h.short }
+
+read_array : {s : State} {block j : ℕ} {type : Y.LeafType} {bs : List Bounds} {n : ℕ → ℤ} (change : Input → Input) → HoldsArray s block j type bs n → HoldsArray (read_state change s) block j type bs n
+read_array change h = record { values = h.values; numeric = h.numeric; stands = h.stands; lives = h.lives; value = h.value; fits = h.fits }
+
+pub read_all : {frames : List ℕ} {xs : List Activation} {levels : List ℕ} {s : State} {block : ℕ} {types : Types} {n : Values} (change : Input → Input) → AllHold frames xs levels s block types n → AllHold frames xs levels (read_state change s) block types n
 read_all change all =
-    record { numbers = λ j b. read_holds change (all.numbers j b); entered = all.entered; owned = all.owned }
-
-all_kept : (height block : ℕ) (types : Types) (n : ℕ → ℤ) → Kept (λ s. AllHold height s block types n)
-all_kept height block types n = record { keeps = λ change s all. read_all change all }
-
-stored_serving : {k : ℕ} {s : State} {v : Services} {line : ℕ} (type : Y.LeafType) (serial : ℕ) (values : ℕ → List ℤ → BasicValue) (z : ℤ) → Serving k s v line → Serving k (assigned_state s type serial values z) v line
-stored_serving type serial values z o =
     record {
-      world = o.world;
-      running = o.running;
-      line_is = o.line_is;
-      input = o.input;
-      allowed = o.allowed;
-      fits = o.fits;
-      nested = o.nested;
-      waiting = o.waiting;
+      numbers = λ j b numeric. read_holds change (all.numbers j b numeric);
+      texts = λ j varying most at. read_keeps change (all.texts j varying most at);
+      arrays = λ j type b bs at. read_array change (all.arrays j type b bs at);
+      entered = all.entered;
+      framed = all.framed;
+      owned = all.owned;
     }
 
+all_kept : (frames levels : List ℕ) (block : ℕ) (types : Types) (n : Values) → Kept (λ xs s. AllHold frames xs levels s block types n)
+all_kept frames levels block types n = record { keeps = λ xs change s all. read_all change all }
+
 -- a value in a0 is stored
-value_stored : {e : Environment} {block : ℕ} {types : Types} (bl : Block e block types) {links : Links} {code : List Instr} {i : ℕ} {v : Services} {h t : ℕ → ℕ} {s : State} {aims : Aims (Option (List FormatItem))} (closed : Closed code aims) (f : Family) (around : Around) (j : ℕ) {type : Y.LeafType} (z : ℤ) (n : ℕ → ℤ) (fixed text : Bool) (all left : List FormatItem) (below : List EditPlace) (k : ℕ) (at_place : slice_get types j ≡ Some type) → Fits type z → bl.taken.words + 1 ≤ bl.words → Suits fixed text left → v.edits ≡ getting all left ∷ below → Linked links code i (word_stored e bl.taken (whole (own block j))) → Serving k s v around.line → AllHold (suc e.level) s block types n → ((b : Base) → At b i (Known (bl.ground n) v h t (valued (word z)) b) (f b)) → ItemBehind bl k around.line h t (i + size_of (word_stored e bl.taken (whole (own block j)))) fixed text all below aims → Comes code i f v (before code aims k (rest_given left)) (stored_value around (whole (own block j)) (value_as type z) k s)
+value_stored : {e : Environment} {block : ℕ} {types : Types} (bl : Block e block types) {links : Links} {code : List Instr} {i : ℕ} {v : Services} {h t : ℕ → ℕ} {s : State} {aims : Aims (Option (List FormatItem))} (closed : Closed code aims) (f : Family) (around : Around) (r : Y.Reference) {type : Y.LeafType} (takes : Takes bl links code r type) (z : ℤ) (n : Values) (fixed text : Bool) (all left : List FormatItem) (below : List EditPlace) (k : ℕ) → Fits type z → Suits fixed text left → v.edits ≡ getting all left ∷ below → Linked links code i (word_stored e bl.taken r) → Serving k s v around.line → AllHold bl.frames v.activations (e.level ∷ bl.depths) s block types n → ((b : Base) → At b i (Known (bl.ground n) v h t (valued (word z)) b) (f b)) → ItemBehind bl k around.line h t (i + size_of (word_stored e bl.taken r)) fixed text all below aims → Comes code i f v (before code aims k (rest_given left)) (stored_value around r (value_as type z) k s)
 unfolding give
-value_stored {e} {block} {types} bl {i = i} {v = v} {s = s} closed f around j {type} z n fixed text all left below k at_place fits room suits edits l serving hold at goal =
-    let w = bl.words_are n in
-    let values = (hold.numbers j (type, at_place)).values in
-    stored_piece (bl.ground (with_number_at n j z)) (before_closed k (rest_given left) closed) (bl.temps n) i e block types n f around bl.taken j z k at_place fits (λ none. omega (arith, room, w)) (scope_of bl n hold)
-    (λ b h'. bl.same n (with_number_at n j z) b h') (λ t' b m len o. bl.writes n j z at_place (hold.numbers j (type, at_place)).fits fits t' b m len o) l at
-    (λ f1 h1 t1 stays1 at1.
-    record {
-      to =
-          goal _ v left (with_number_at n j z) h1 t1 f1 (stored_serving type _ values z serving) (assigned_all j z at_place fits hold) suits edits stays1 at1;
-    })
+value_stored bl {v = v} closed f around r takes z n fixed text all left below k fits suits edits l serving hold at goal =
+    takes.does (before_closed k (rest_given left) closed) f around z n k fits l serving hold at
+    (λ s1 n1 h1 t1 f1 serving1 hold1 stays1 at1. record { to = goal s1 v left n1 h1 t1 f1 serving1 hold1 suits edits stays1 at1 })
 
 -- ---- numbers
 
 -- a number in a0 is stored where it fits
-number_stored : {e : Environment} {block : ℕ} {types : Types} (bl : Block e block types) {links : Links} {code : List Instr} {i : ℕ} {v : Services} {h t : ℕ → ℕ} {s : State} {aims : Aims (Option (List FormatItem))} (closed : Closed code aims) (routines : Routines links code) (f : Family) (around : Around) (j p : ℕ) (z : ℤ) (n : ℕ → ℤ) (fixed text : Bool) (all left : List FormatItem) (below : List EditPlace) (k : ℕ) → slice_get types j ≡ Some (Y.FixedLeaf p) → N.IsWide z → bl.taken.words + 1 ≤ bl.words → Suits fixed text left → v.edits ≡ getting all left ∷ below → Linked links code i (fitted_code bl.taken p ++ word_stored e bl.taken (whole (own block j))) → Serving k s v around.line → AllHold (suc e.level) s block types n → ((b : Base) → At b i (Known (bl.ground n) v h t (valued (word z)) b) (f b)) → ItemBehind bl k around.line h t (i + size_of (fitted_code bl.taken p ++ word_stored e bl.taken (whole (own block j)))) fixed text all below aims → Comes code i f v (converting code aims k around (whole (own block j)) left) (P.number_kept around p z k s)
+number_stored : {e : Environment} {block : ℕ} {types : Types} (bl : Block e block types) {links : Links} {code : List Instr} {i : ℕ} {v : Services} {h t : ℕ → ℕ} {s : State} {aims : Aims (Option (List FormatItem))} (closed : Closed code aims) (routines : Routines links code) (f : Family) (around : Around) (r : Y.Reference) (p : ℕ) (takes : Takes bl links code r (Y.FixedLeaf p)) (z : ℤ) (n : Values) (fixed text : Bool) (all left : List FormatItem) (below : List EditPlace) (k : ℕ) → N.IsWide z → bl.taken.words + 1 ≤ bl.words → Suits fixed text left → v.edits ≡ getting all left ∷ below → Linked links code i (fitted_code bl.taken p ++ word_stored e bl.taken r) → Serving k s v around.line → AllHold bl.frames v.activations (e.level ∷ bl.depths) s block types n → ((b : Base) → At b i (Known (bl.ground n) v h t (valued (word z)) b) (f b)) → ItemBehind bl k around.line h t (i + size_of (fitted_code bl.taken p ++ word_stored e bl.taken r)) fixed text all below aims → Comes code i f v (converting code aims k around r left) (P.number_kept around p z k s)
 unfolding P.number_kept ◌>>=◌ give
-number_stored {e} {block} {types} bl {code = code} {i = i} {v = v} {s = s} {aims = aims} closed routines f around j p z n fixed text all left below k at_place wide room suits edits l serving hold at goal =
-    let r = whole (own block j) in
+number_stored {e} {block} {types} bl {code = code} {i = i} {v = v} {s = s} {aims = aims} closed routines f around r p takes z n fixed text all left below k wide room suits edits l serving hold at goal =
     let fit = fitted_code bl.taken p in
     let last = word_stored e bl.taken r in
     let size = size_append fit last in
     let place : i + size_of fit + size_of last ≡ i + size_of (fit ++ last) = omega (arith, size) in
     let w = bl.words_are n in
-    let few = (hold.numbers j (Y.FixedLeaf p, at_place)).fits.0 in
+    let few = (takes.old s v.activations n hold).1.0 in
     let next' : ℤ → Meaning BasicValue = λ q. give (BasicNumber q) in
     comes_on k (R.value_of around (checked p z) k s) next'
     (fitted_piece (before_closed k next' (converting_closed k around r left closed)) routines (bl.temps n) f around bl.taken p z k few wide (λ none. omega (arith, room, w)) (front_of fit last l) serving at
     (λ f1 fits at1.
     record {
       to =
-          value_stored bl closed f1 around j z n fixed text all left below k at_place (few, fits) room suits edits (back_of fit last l) serving hold at1
+          value_stored bl closed f1 around r takes z n fixed text all left below k (few, fits) suits edits (back_of fit last l) serving hold at1
           (λ s2 v2 rest2 n2 h2 t2 f2 serving2 hold2 suits2 edits2 stays2 at2.
           subst (λ u. aims.done u f2 v2 (Some rest2) s2) (sym place)
           (goal s2 v2 rest2 n2 h2 t2 f2 serving2 hold2 suits2 edits2 stays2 (λ b. record { pc = (at2 b).pc ∙ ap (address b) place; holds = (at2 b).holds })));
@@ -147,10 +144,9 @@ number_stored {e} {block} {types} bl {code = code} {i = i} {v = v} {s = s} {aims
 -- ---- bits
 
 -- a text that waits is stored as a bit
-bit_stored : {e : Environment} {block : ℕ} {types : Types} (bl : Block e block types) {links : Links} {code : List Instr} {i : ℕ} {v : Services} {h t : ℕ → ℕ} {s : State} {aims : Aims (Option (List FormatItem))} (closed : Closed code aims) (routines : Routines links code) (f : Family) (around : Around) (j : ℕ) (field : List ℕ) (n : ℕ → ℤ) (fixed text : Bool) (all left : List FormatItem) (below : List EditPlace) (k : ℕ) → slice_get types j ≡ Some Y.BitLeaf → bl.taken.words + 1 ≤ bl.words → Suits fixed text left → v.edits ≡ getting all left ∷ below → Linked links code i (small a0 1 ∷ (tested_service 26 ++ word_stored e bl.taken (whole (own block j)))) → Serving k s v around.line → AllHold (suc e.level) s block types n → ((b : Base) → At b i (Known (bl.ground n) (pushed (TextEntry field) v) h t nothing b) (f b)) → ItemBehind bl k around.line h t (i + 6 + size_of (word_stored e bl.taken (whole (own block j)))) fixed text all below aims → Comes code i f (pushed (TextEntry field) v) (converting code aims k around (whole (own block j)) left) (P.field_converted around Bit (TextField field) k s)
+bit_stored : {e : Environment} {block : ℕ} {types : Types} (bl : Block e block types) {links : Links} {code : List Instr} {i : ℕ} {v : Services} {h t : ℕ → ℕ} {s : State} {aims : Aims (Option (List FormatItem))} (closed : Closed code aims) (routines : Routines links code) (f : Family) (around : Around) (r : Y.Reference) (takes : Takes bl links code r Y.BitLeaf) (field : List ℕ) (n : Values) (fixed text : Bool) (all left : List FormatItem) (below : List EditPlace) (k : ℕ) → Suits fixed text left → v.edits ≡ getting all left ∷ below → Linked links code i (small a0 1 ∷ (tested_service 26 ++ word_stored e bl.taken r)) → Serving k s v around.line → AllHold bl.frames v.activations (e.level ∷ bl.depths) s block types n → ((b : Base) → At b i (Known (bl.ground n) (pushed (TextEntry field) v) h t nothing b) (f b)) → ItemBehind bl k around.line h t (i + 6 + size_of (word_stored e bl.taken r)) fixed text all below aims → Comes code i f (pushed (TextEntry field) v) (converting code aims k around r left) (P.field_converted around Bit (TextField field) k s)
 unfolding P.field_converted ◌>>=◌ give
-bit_stored {e} {block} {types} bl {links} {code} {i} {v} {h} {t} {s} {aims} closed routines f around j field n fixed text all left below k at_place room suits edits l serving hold at goal =
-    let r = whole (own block j) in
+bit_stored {e} {block} {types} bl {links} {code} {i} {v} {h} {t} {s} {aims} closed routines f around r takes field n fixed text all left below k suits edits l serving hold at goal =
     let next' : Bool → Meaning BasicValue = λ b. give (BasicBit b) in
     let o = bit_in_text field in
     let w = pushed (TextEntry field) v in
@@ -176,51 +172,147 @@ bit_stored {e} {block} {types} bl {links} {code} {i} {v} {h} {t} {s} {aims} clos
     record {
       to =
           subst (λ u. Comes code (i + 1 + 5) f2 v' (before code aims k (rest_given left)) (stored_value around r (BasicBit u) k s)) (bit_back q)
-          (value_stored bl closed f2 around j (bit_number q) n fixed text all left below k at_place (bit_fits q) room suits edits (back_of call last l1) (at_other_texts v.entries serving) hold
+          (value_stored bl closed f2 around r takes (bit_number q) n fixed text all left below k (bit_fits q) suits edits (back_of call last l1) (at_other_texts v.entries serving) hold
           (λ b. record { pc = (at2 b).pc; holds = record { body = (at2 b).holds.body; regs = ((at2 b).holds.regs.0 ∙ bit_word q, tt) } })
           (λ s3 v3 rest3 n3 h3 t3 f3 serving3 hold3 suits3 edits3 stays3 at3.
           subst (λ u. aims.done u f3 v3 (Some rest3) s3) (sym e1)
           (goal s3 v3 rest3 n3 h3 t3 f3 serving3 hold3 suits3 edits3 stays3 (λ b. record { pc = (at3 b).pc ∙ ap (address b) e1; holds = (at3 b).holds }))));
     })))
 
+-- ---- texts
+
+-- a text that waits is stored in a variable that holds texts
+text_kept_piece : {e : Environment} {block : ℕ} {types : Types} (bl : Block e block types) {links : Links} {code : List Instr} {i : ℕ} {v : Services} {h t : ℕ → ℕ} {s : State} {aims : Aims (Option (List FormatItem))} (closed : Closed code aims) (f : Family) (around : Around) (j : ℕ) (varying : Bool) (most : ℕ) (field : List ℕ) (n : Values) (fixed text : Bool) (all left : List FormatItem) (below : List EditPlace) (k : ℕ) → IsTextAt types j varying most → Suits fixed text left → v.edits ≡ getting all left ∷ below → Linked links code i (top_stored e bl.taken (whole (own block j))) → Serving k s v around.line → AllHold bl.frames v.activations (e.level ∷ bl.depths) s block types n → ((b : Base) → At b i (Known (bl.ground n) (pushed (TextEntry field) v) h t nothing b) (f b)) → ItemBehind bl k around.line h t (i + size_of (top_stored e bl.taken (whole (own block j)))) fixed text all below aims → Comes code i f (pushed (TextEntry field) v) (converting code aims k around (whole (own block j)) left) (give (BasicText field) k s)
+unfolding give
+text_kept_piece {e} {block} {types} bl {i = i} {v = v} {h = h} {t = t} {s = s} closed f around j varying most field n fixed text all left below k at_place suits edits l serving hold at goal =
+    record {
+      to =
+          let values = (hold.texts j varying most at_place).values in
+          assigned_piece bl (before_closed k (rest_given left) closed) f around j varying most field n k at_place l hold at
+          (λ f1 at1.
+          record {
+            to =
+                goal (text_state s (text_leaf varying most) (suc j) values field) v left (with_text_at n j (text_kept_as varying most field)) h t f1
+                (record { world = serving.world; running = serving.running; line_is = serving.line_is; input = serving.input; allowed = serving.allowed; fits = serving.fits; nested = serving.nested; waiting = serving.waiting })
+                (text_assigned_all j varying most field at_place (bl.texts.room.short j varying most at_place) hold) suits edits (stays_same bl.taken h t) at1;
+          });
+    }
+
+-- a field is read into it
+text_target : {e : Environment} {block : ℕ} {types : Types} (bl : Block e block types) {links : Links} {code : List Instr} {i : ℕ} {v : Services} {h t : ℕ → ℕ} {s : State} {aims : Aims (Option (List FormatItem))} (closed : Closed code aims) (routines : Routines links code) (f : Family) (around : Around) (same : around.program ≡ e.program) (j : ℕ) (varying : Bool) (most : ℕ) (fs : T.Formats) (d : DataItem) (n : Values) (all left : List FormatItem) (below : List EditPlace) (k : ℕ) → IsTextAt types j varying most → Suits (has_fixed fs) (has_text fs) (DataFormat d ∷ left) → Gets v.edits (DataFormat d) all left below → has_character v.input.marks ≡ true → Linked links code i (text_got fs ++ top_stored e bl.taken (whole (own block j))) → Serving k s v around.line → AllHold bl.frames v.activations (e.level ∷ bl.depths) s block types n → ((b : Base) → At b i (Known (bl.ground n) v h t (valued (E.data_number d)) b) (f b)) → ItemBehind bl k around.line h t (i + size_of (text_got fs ++ top_stored e bl.taken (whole (own block j)))) (has_fixed fs) (has_text fs) all below aims → Comes code i f v aims (got_and_stored around (whole (own block j)) left d k s)
+text_target {e} {block} {types} bl {links} {code} {i} {v} {h} {t} {s} {aims} closed routines f around same j varying most fs d n all left below k at_place suits found has l serving hold at goal =
+    let r = whole (own block j) in
+    let got = by_kinds (has_fixed fs) (has_text fs) number_as_text (service 37) in
+    let last = top_stored e bl.taken r in
+    let size = size_append got last in
+    let place : i + size_of got + size_of last ≡ i + size_of (got ++ last) = omega (arith, size) in
+    field_as_text (all_kept bl.frames (e.level ∷ bl.depths) block types n) closed routines f around r varying most (has_fixed fs) (has_text fs) d all left below k (target_is e around block j (text_leaf varying most) same (bl.declared j at_place)) suits.0.0 suits.1.0 found has (front_of got last l) (record { serving = serving; holds = hold }) at
+    (λ text s1 v1 f1 o at1.
+    let K : Services → Type 0 = λ w. ((b : Base) → At b (i + size_of got) (Known (bl.ground n) w h t nothing b) (f1 b)) → Comes code (i + size_of got) f1 w (converting code aims k around r left) (give (BasicText text) k s1) in
+    let stores : K (pushed (TextEntry text) o.0) = λ at2.
+    text_kept_piece bl closed f1 around j varying most text n (has_fixed fs) (has_text fs) all left below k at_place (suits.0.1, suits.1.1) o.1.1.1 (back_of got last l) o.1.1.0.serving o.1.1.0.holds at2
+    (λ s2 v2 rest2 n2 h2 t2 f2 serving2 hold2 suits2 edits2 stays2 at3.
+    subst (λ u. aims.done u f2 v2 (Some rest2) s2) (sym place)
+    (goal s2 v2 rest2 n2 h2 t2 f2 serving2 hold2 suits2 edits2 stays2 (λ b. record { pc = (at3 b).pc ∙ ap (address b) place; holds = (at3 b).holds }))) in
+    subst K (sym o.1.0) stores at1)
+
 -- ---- behind the test of the end
 
--- a field is read into a variable of a type
-target_piece : {e : Environment} {block : ℕ} {types : Types} (bl : Block e block types) {links : Links} {code : List Instr} {i : ℕ} {v : Services} {h t : ℕ → ℕ} {s : State} {aims : Aims (Option (List FormatItem))} (closed : Closed code aims) (routines : Routines links code) (f : Family) (around : Around) (same : around.program ≡ e.program) (j : ℕ) (type : Y.LeafType) (fs : T.Formats) (d : DataItem) (n : ℕ → ℤ) (all left : List FormatItem) (below : List EditPlace) (k : ℕ) → slice_get types j ≡ Some type → IsReadBy (has_fixed fs) type → bl.taken.words + 1 ≤ bl.words → Suits (has_fixed fs) (has_text fs) (DataFormat d ∷ left) → Gets v.edits (DataFormat d) all left below → has_character v.input.marks ≡ true → Linked links code i (field_stored e bl.taken fs (whole (own block j)) type) → Serving k s v around.line → AllHold (suc e.level) s block types n → ((b : Base) → At b i (Known (bl.ground n) v h t (valued (E.data_number d)) b) (f b)) → ItemBehind bl k around.line h t (i + size_of (field_stored e bl.taken fs (whole (own block j)) type)) (has_fixed fs) (has_text fs) all below aims → Comes code i f v aims (got_and_stored around (whole (own block j)) left d k s)
-target_piece {e} {block} {types} bl {i = i} {aims = aims} closed routines f around same j (Y.FixedLeaf p) fs d n all left below k at_place read room suits found has l serving hold at goal =
-    let r = whole (own block j) in
-    let got = by_kinds (has_fixed fs) (has_text fs) fixed_as_number text_as_number in
-    let store = fitted_code bl.taken p ++ word_stored e bl.taken r in
-    let size = size_append got store in
-    let place : i + size_of got + size_of store ≡ i + size_of (got ++ store) = omega (arith, size) in
-    number_got (all_kept (suc e.level) block types n) closed routines f around r (has_fixed fs) (has_text fs) p d all left below k (target_is e around block j (Y.FixedLeaf p) same (bl.declared j at_place)) suits.0.0 suits.1.0 found has (front_of got store l) (record { serving = serving; holds = hold }) at
-    (λ z s1 v1 f1 o at1.
-    number_stored bl closed routines f1 around j p z n (has_fixed fs) (has_text fs) all left below k at_place o.0 room (suits.0.1, suits.1.1) o.1.1 (back_of got store l) o.1.0.serving o.1.0.holds at1
-    (λ s2 v2 rest2 n2 h2 t2 f2 serving2 hold2 suits2 edits2 stays2 at2.
-    subst (λ u. aims.done u f2 v2 (Some rest2) s2) (sym place)
-    (goal s2 v2 rest2 n2 h2 t2 f2 serving2 hold2 suits2 edits2 stays2 (λ b. record { pc = (at2 b).pc ∙ ap (address b) place; holds = (at2 b).holds }))))
-target_piece {e} {block} {types} bl {i = i} {v = v} {aims = aims} closed routines f around same j Y.BitLeaf fs (TextItem (Some width)) n all left below k at_place read room suits found has l serving hold at goal =
-    let r = whole (own block j) in
+-- a field is read into what a reference designates
+pub record Reads {e : Environment} {block : ℕ} {types : Types} (bl : Block e block types) (links : Links) (code : List Instr) (around : Around) (r : Y.Reference) (type : Y.LeafType) (fs : T.Formats) : Type 1 where
+  pub does : {i : ℕ} {v : Services} {h t : ℕ → ℕ} {s : State} {aims : Aims (Option (List FormatItem))} (closed : Closed code aims) (f : Family) (d : DataItem) (n : Values) (all left : List FormatItem) (below : List EditPlace) (k : ℕ) → Suits (has_fixed fs) (has_text fs) (DataFormat d ∷ left) → Gets v.edits (DataFormat d) all left below → has_character v.input.marks ≡ true → Linked links code i (field_stored e bl.taken fs r type) → Serving k s v around.line → AllHold bl.frames v.activations (e.level ∷ bl.depths) s block types n → ((b : Base) → At b i (Known (bl.ground n) v h t (valued (E.data_number d)) b) (f b)) → ItemBehind bl k around.line h t (i + size_of (field_stored e bl.taken fs r type)) (has_fixed fs) (has_text fs) all below aims → Comes code i f v aims (got_and_stored around r left d k s)
+
+number_reads : {e : Environment} {block : ℕ} {types : Types} (bl : Block e block types) {links : Links} {code : List Instr} (routines : Routines links code) (around : Around) (r : Y.Reference) (p : ℕ) (fs : T.Formats) → Takes bl links code r (Y.FixedLeaf p) → P.target_type around r ≡ Some (Y.FixedLeaf p) → bl.taken.words + 1 ≤ bl.words → Reads bl links code around r (Y.FixedLeaf p) fs
+number_reads {e} {block} {types} bl routines around r p fs takes target room =
+    record {
+      does = λ {i} {v} {h} {t} {s} {aims} closed f d n all left below k suits found has l serving hold at goal.
+          let got = by_kinds (has_fixed fs) (has_text fs) fixed_as_number text_as_number in
+          let store = fitted_code bl.taken p ++ word_stored e bl.taken r in
+          let size = size_append got store in
+          let place : i + size_of got + size_of store ≡ i + size_of (got ++ store) = omega (arith, size) in
+          number_got (all_kept bl.frames (e.level ∷ bl.depths) block types n) closed routines f around r (has_fixed fs) (has_text fs) p d all left below k target suits.0.0 suits.1.0 found has (front_of got store l) (record { serving = serving; holds = hold }) at
+          (λ z s1 v1 f1 o at1.
+          number_stored bl closed routines f1 around r p takes z n (has_fixed fs) (has_text fs) all left below k o.0 room (suits.0.1, suits.1.1) o.1.1 (back_of got store l) o.1.0.serving o.1.0.holds at1
+          (λ s2 v2 rest2 n2 h2 t2 f2 serving2 hold2 suits2 edits2 stays2 at2.
+          subst (λ u. aims.done u f2 v2 (Some rest2) s2) (sym place)
+          (goal s2 v2 rest2 n2 h2 t2 f2 serving2 hold2 suits2 edits2 stays2 (λ b. record { pc = (at2 b).pc ∙ ap (address b) place; holds = (at2 b).holds }))));
+    }
+
+-- a bit, by an item that shows text
+bit_target : {e : Environment} {block : ℕ} {types : Types} (bl : Block e block types) {links : Links} {code : List Instr} {i : ℕ} {v : Services} {h t : ℕ → ℕ} {s : State} {aims : Aims (Option (List FormatItem))} (closed : Closed code aims) (routines : Routines links code) (f : Family) (around : Around) (r : Y.Reference) (takes : Takes bl links code r Y.BitLeaf) (fs : T.Formats) (d : DataItem) (n : Values) (all left : List FormatItem) (below : List EditPlace) (k : ℕ) → P.target_type around r ≡ Some Y.BitLeaf → has_fixed fs ≡ false → Suits (has_fixed fs) (has_text fs) (DataFormat d ∷ left) → Gets v.edits (DataFormat d) all left below → has_character v.input.marks ≡ true → Linked links code i (field_stored e bl.taken fs r Y.BitLeaf) → Serving k s v around.line → AllHold bl.frames v.activations (e.level ∷ bl.depths) s block types n → ((b : Base) → At b i (Known (bl.ground n) v h t (valued (E.data_number d)) b) (f b)) → ItemBehind bl k around.line h t (i + size_of (field_stored e bl.taken fs r Y.BitLeaf)) (has_fixed fs) (has_text fs) all below aims → Comes code i f v aims (got_and_stored around r left d k s)
+bit_target {e} {block} {types} bl {i = i} {v = v} {aims = aims} closed routines f around r takes fs (TextItem (Some width)) n all left below k target read suits found has l serving hold at goal =
     let last = word_stored e bl.taken r in
     let place : i + 2 + 6 + size_of last ≡ i + size_of (bit_got ++ last) = omega arith in
-    text_taken (all_kept (suc e.level) block types n) closed f around r Y.BitLeaf width all left below k (target_is e around block j Y.BitLeaf same (bl.declared j at_place)) found has (front_of (service 37) (small a0 1 ∷ (tested_service 26 ++ last)) l) (record { serving = serving; holds = hold }) (λ b. record { pc = (at b).pc; holds = record { body = (at b).holds.body; regs = tt } })
+    text_taken (all_kept bl.frames (e.level ∷ bl.depths) block types n) closed f around r Y.BitLeaf width all left below k target found has (front_of (service 37) (small a0 1 ∷ (tested_service 26 ++ last)) l) (record { serving = serving; holds = hold }) (λ b. record { pc = (at b).pc; holds = record { body = (at b).holds.body; regs = tt } })
     (λ f1 under1 at1.
-    bit_stored bl closed routines f1 around j (field_of width v.input) n (has_fixed fs) (has_text fs) all left below k at_place room (suits.0.1, suits.1.1) refl (back_of (service 37) (small a0 1 ∷ (tested_service 26 ++ last)) l) under1.serving under1.holds at1
+    bit_stored bl closed routines f1 around r takes (field_of width v.input) n (has_fixed fs) (has_text fs) all left below k (suits.0.1, suits.1.1) refl (back_of (service 37) (small a0 1 ∷ (tested_service 26 ++ last)) l) under1.serving under1.holds at1
     (λ s2 v2 rest2 n2 h2 t2 f2 serving2 hold2 suits2 edits2 stays2 at2.
     subst (λ u. aims.done u f2 v2 (Some rest2) s2) (sym place)
     (goal s2 v2 rest2 n2 h2 t2 f2 serving2 hold2 suits2 edits2 stays2 (λ b. record { pc = (at2 b).pc ∙ ap (address b) place; holds = (at2 b).holds }))))
-target_piece bl closed routines f around same j Y.BitLeaf fs (TextItem None) n all left below k at_place read room suits found has l serving hold at goal = absurd suits.1.0
-target_piece bl closed routines f around same j Y.BitLeaf fs (FixedItem width) n all left below k at_place read room suits found has l serving hold at goal =
+bit_target bl closed routines f around r takes fs (TextItem None) n all left below k target read suits found has l serving hold at goal = absurd suits.1.0
+bit_target bl closed routines f around r takes fs (FixedItem width) n all left below k target read suits found has l serving hold at goal =
     true_false (has_fixed fs) suits.0.0 read
-target_piece bl closed routines f around same j _ fs d n all left below k at_place read room suits found has l serving hold at goal = absurd read
+
+bit_reads : {e : Environment} {block : ℕ} {types : Types} (bl : Block e block types) {links : Links} {code : List Instr} (routines : Routines links code) (around : Around) (r : Y.Reference) (fs : T.Formats) → Takes bl links code r Y.BitLeaf → P.target_type around r ≡ Some Y.BitLeaf → has_fixed fs ≡ false → Reads bl links code around r Y.BitLeaf fs
+bit_reads bl routines around r fs takes target read =
+    record { does = λ closed f d n all left below k suits found has l serving hold at goal. bit_target bl closed routines f around r takes fs d n all left below k target read suits found has l serving hold at goal }
+
+text_reads : {e : Environment} {block : ℕ} {types : Types} (bl : Block e block types) {links : Links} {code : List Instr} (routines : Routines links code) (around : Around) (same : around.program ≡ e.program) (j : ℕ) (varying : Bool) (most : ℕ) (fs : T.Formats) → IsTextAt types j varying most → Reads bl links code around (whole (own block j)) (text_leaf varying most) fs
+text_reads bl routines around same j false most fs at_place =
+    record { does = λ closed f d n all left below k suits found has l serving hold at goal. text_target bl closed routines f around same j false most fs d n all left below k at_place suits found has l serving hold at goal }
+text_reads bl routines around same j true most fs at_place =
+    record { does = λ closed f d n all left below k suits found has l serving hold at goal. text_target bl closed routines f around same j true most fs d n all left below k at_place suits found has l serving hold at goal }
+
+-- a variable
+own_reads : {e : Environment} {block : ℕ} {types : Types} (bl : Block e block types) {links : Links} {code : List Instr} (routines : Routines links code) (around : Around) (same : around.program ≡ e.program) (j : ℕ) (type : Y.LeafType) (fs : T.Formats) → slice_get types j ≡ Some (alone type) → IsReadBy (has_fixed fs) type → bl.taken.words + 1 ≤ bl.words → Reads bl links code around (whole (own block j)) type fs
+own_reads {e} {block} bl {links} {code} routines around same j (Y.FixedLeaf p) fs below read room =
+    number_reads bl routines around (whole (own block j)) p fs (scalar_takes bl links code j below tt room) (target_is e around block j (Y.FixedLeaf p) same (bl.declared j below)) room
+own_reads {e} {block} bl {links} {code} routines around same j Y.BitLeaf fs below read room =
+    bit_reads bl routines around (whole (own block j)) fs (scalar_takes bl links code j below tt room) (target_is e around block j Y.BitLeaf same (bl.declared j below)) read
+own_reads bl routines around same j (Y.CharacterLeaf (Y.ConstantExtent (pos most))) fs below read room = text_reads bl routines around same j false most fs below
+own_reads bl routines around same j (Y.VaryingLeaf (Y.ConstantExtent (pos most))) fs below read room = text_reads bl routines around same j true most fs below
+own_reads bl routines around same j _ fs below read room = absurd read
+
+-- an element
+element_reads : {e : Environment} {block : ℕ} {types : Types} (bl : Block e block types) {links : Links} {code : List Instr} (routines : Standing bl links code) (around : Around) (same : around.program ≡ e.program) (j : ℕ) (type : Y.LeafType) (b : Bounds) (bs : List Bounds) (first : Y.Number) (rest : Y.Numbers) (fs : T.Formats) → IsElementType type → IsArrayAt types j type b bs → given_in rest ≡ length bs → AreProvedNumbers block types (Y.NumberThen first rest) → IsReadBy (has_fixed fs) type → bl.taken.words + suc (subscripts_words (Y.NumberThen first rest)) ≤ bl.words → Reads bl links code around (element block j first rest) type fs
+element_reads {e} {block} bl {links} {code} routines around same j (Y.FixedLeaf p) b bs first rest fs is below many are read room =
+    number_reads bl routines.raises around (element block j first rest) p fs (element_takes bl links code routines j b bs first rest below many are room) (element_target e around block j (Y.FixedLeaf p) (b ∷ bs) first rest same (bl.arrays j (Y.FixedLeaf p) b bs below).declared) (omega (arith, room))
+element_reads {e} {block} bl {links} {code} routines around same j Y.BitLeaf b bs first rest fs is below many are read room =
+    bit_reads bl routines.raises around (element block j first rest) fs (element_takes bl links code routines j b bs first rest below many are room) (element_target e around block j Y.BitLeaf (b ∷ bs) first rest same (bl.arrays j Y.BitLeaf b bs below).declared) read
+element_reads bl routines around same j _ b bs first rest fs is below many are read room = absurd is
+
+-- what a reference takes is enough for its subscripts
+subscripts_few : (block j : ℕ) (first : Y.Number) (rest : Y.Numbers) (r : Y.Reference) (taken words : ℕ) → r ≡ element block j first rest → taken + suc (reference_words r) ≤ words → taken + suc (subscripts_words (Y.NumberThen first rest)) ≤ words
+subscripts_few block j first rest r taken words e room =
+    let most = le-max_right 0 (0 + subscripts_words (Y.NumberThen first rest)) in
+    let same = ap reference_words e in
+    omega (arith, room, most, same)
+
+-- its type in the code
+block_type : {e : Environment} {block : ℕ} {types : Types} (bl : Block e block types) {fixed : Bool} (r : Y.Reference) (is : IsTarget block types fixed r) → type_in e r ≡ is.type
+block_type {e} {block} {types} bl r is = by_part is.part
+  where
+    by_part : IsOwn block types is.type r ⊎ (IsElement block types is.type r × IsElementType is.type) → type_in e r ≡ is.type
+    by_part (inl o) = ap (type_in e) o.is ∙ own_type e block o.index is.type (bl.declared o.index o.declared)
+    by_part (inr (o, element)) =
+        ap (type_in e) o.is ∙ element_type e block o.index is.type (o.bound ∷ o.bounds) o.first o.rest (bl.arrays o.index is.type o.bound o.bounds o.declared).declared
+
+part_reads : {e : Environment} {block : ℕ} {types : Types} (bl : Block e block types) {links : Links} {code : List Instr} (routines : Standing bl links code) (around : Around) (same : around.program ≡ e.program) (r : Y.Reference) (fs : T.Formats) (is : IsTarget block types (has_fixed fs) r) → bl.taken.words + suc (reference_words r) ≤ bl.words → Reads bl links code around r is.type fs
+part_reads {block = block} {types} bl {links} {code} routines around same r fs is room = by_part is.part
+  where
+    by_part : IsOwn block types is.type r ⊎ (IsElement block types is.type r × IsElementType is.type) → Reads bl links code around r is.type fs
+    by_part (inl o) =
+        subst (λ q. Reads bl links code around q is.type fs) (sym o.is) (own_reads bl routines.raises around same o.index is.type fs o.declared is.read (omega (arith, room)))
+    by_part (inr (o, element)) =
+        let are = subst (AreSubscripts block types) o.is is.subscripts in
+        subst (λ q. Reads bl links code around q is.type fs) (sym o.is)
+        (element_reads bl routines around same o.index is.type o.bound o.bounds o.first o.rest fs element o.declared o.many are is.read (subscripts_few block o.index o.first o.rest r bl.taken.words bl.words o.is room))
 
 -- ---- the whole item
 
--- into all of a variable
-own_piece : {e : Environment} {block : ℕ} {types : Types} (bl : Block e block types) {links : Links} {code : List Instr} {i : ℕ} {v : Services} {h t : ℕ → ℕ} {s : State} {aims : Aims (Option (List FormatItem))} (closed : Closed code aims) (routines : Routines links code) (f : Family) (around : Around) (same : around.program ≡ e.program) (j : ℕ) (type : Y.LeafType) (fs : T.Formats) (n : ℕ → ℤ) (rest : List FormatItem) (below : List EditPlace) (behind k : ℕ) → slice_get types j ≡ Some type → IsReadBy (has_fixed fs) type → bl.taken.words + 1 ≤ bl.words → AreProvedFormats fs → HasData fs → HaveWidths fs → Suits (has_fixed fs) (has_text fs) rest → v.edits ≡ getting (format_items fs) rest ∷ below → Linked links code i (awaited_before (field_stored e bl.taken fs (whole (own block j)) type) behind) → Serving k s v around.line → AllHold (suc e.level) s block types n → ((b : Base) → At b i (Known (bl.ground n) v h t nothing b) (f b)) → ItemBehind bl k around.line h t (i + size_of (awaited_before (field_stored e bl.taken fs (whole (own block j)) type) behind)) (has_fixed fs) (has_text fs) (format_items fs) below aims → Comes code i f v aims (P.item_got around (format_items fs) rest (Y.GetScalar (whole (own block j))) k s)
+reference_piece : {e : Environment} {block : ℕ} {types : Types} (bl : Block e block types) {links : Links} {code : List Instr} {i : ℕ} {v : Services} {h t : ℕ → ℕ} {s : State} {aims : Aims (Option (List FormatItem))} (closed : Closed code aims) (routines : Routines links code) (f : Family) (around : Around) (r : Y.Reference) (type : Y.LeafType) (fs : T.Formats) (reads : Reads bl links code around r type fs) (n : Values) (rest : List FormatItem) (below : List EditPlace) (behind k : ℕ) → AreProvedFormats fs → HasData fs → HaveWidths fs → Suits (has_fixed fs) (has_text fs) rest → v.edits ≡ getting (format_items fs) rest ∷ below → Linked links code i (awaited_before (field_stored e bl.taken fs r type) behind) → Serving k s v around.line → AllHold bl.frames v.activations (e.level ∷ bl.depths) s block types n → ((b : Base) → At b i (Known (bl.ground n) v h t nothing b) (f b)) → ItemBehind bl k around.line h t (i + size_of (awaited_before (field_stored e bl.taken fs r type) behind)) (has_fixed fs) (has_text fs) (format_items fs) below aims → Comes code i f v aims (P.item_got around (format_items fs) rest (Y.GetScalar r) k s)
 unfolding P.item_got ◌>>=◌
-own_piece {e} {block} {types} bl {links} {code} {i} {v} {h} {t} {s} {aims} closed routines f around same j type fs n rest below behind k at_place read room are has wide suits edits l serving hold at goal =
-    let r = whole (own block j) in
+reference_piece {e} {block} {types} bl {links} {code} {i} {v} {h} {t} {s} {aims} closed routines f around r type fs reads n rest below behind k are has wide suits edits l serving hold at goal =
     let all = format_items fs in
     let c = field_stored e bl.taken fs r type in
     let b0 = size_of c + behind in
@@ -233,23 +325,19 @@ own_piece {e} {block} {types} bl {links} {code} {i} {v} {h} {t} {s} {aims} close
     let next1 : Option Field → List FormatItem → Meaning (Option (List FormatItem)) = λ u left. P.scalar_if_got around r left u in
     let nextn : DataItem × List FormatItem → Meaning (Option (List FormatItem)) = λ next. (P.field_got around next.0) >>= (λ u. next1 u next.1) in
     comes_on k (P.next_item P.control_got all rest k s) nextn
-    (next_piece (all_kept (suc e.level) block types n) (before_closed k nextn closed) (has_fixed fs) (has_text fs) f all rest below k (items_data fs are has) (formats_suited fs wide) suits edits (front_of controls_carried_out (endfile_tested b0) l1) (record { serving = serving; holds = hold }) at
+    (next_piece (all_kept bl.frames (e.level ∷ bl.depths) block types n) (before_closed k nextn closed) (has_fixed fs) (has_text fs) f all rest below k (items_data fs are has) (formats_suited fs wide) suits edits (front_of controls_carried_out (endfile_tested b0) l1) (record { serving = serving; holds = hold }) at
     (λ s1 v1 f1 d left under1 found1 suits1 at1.
     awaited_piece (λ u. next1 u left) closed routines f1 around d b0 k suits1.1.0 (back_of controls_carried_out (endfile_tested b0) l1) under1.serving at1
     (λ some f2 at2.
-    target_piece bl closed routines f2 around same j type fs d n all left below k at_place read room suits1 found1 some l2 under1.serving under1.holds at2
+    reads.does closed f2 d n all left below k suits1 found1 some l2 under1.serving under1.holds at2
     (λ s3 v3 rest3 n3 h3 t3 f3 serving3 hold3 suits3 edits3 stays3 at3.
     subst (λ u. aims.done u f3 v3 (Some rest3) s3) (sym place)
     (goal s3 v3 rest3 n3 h3 t3 f3 serving3 hold3 suits3 edits3 stays3 (λ b. record { pc = (at3 b).pc ∙ ap (address b) place; holds = (at3 b).holds }))))))
 
-pub item_piece : {e : Environment} {block : ℕ} {types : Types} (bl : Block e block types) {links : Links} {code : List Instr} (item : Y.GetItem) {i : ℕ} {v : Services} {h t : ℕ → ℕ} {s : State} {aims : Aims (Option (List FormatItem))} (closed : Closed code aims) (routines : Routines links code) (f : Family) (around : Around) (same : around.program ≡ e.program) (fs : T.Formats) (n : ℕ → ℤ) (rest : List FormatItem) (below : List EditPlace) (behind k : ℕ) → IsProvedGetItem block types (has_fixed fs) item → bl.taken.words + 1 ≤ bl.words → AreProvedFormats fs → HasData fs → HaveWidths fs → Suits (has_fixed fs) (has_text fs) rest → v.edits ≡ getting (format_items fs) rest ∷ below → Linked links code i (C.item_got e bl.taken fs item behind) → Serving k s v around.line → AllHold (suc e.level) s block types n → ((b : Base) → At b i (Known (bl.ground n) v h t nothing b) (f b)) → ItemBehind bl k around.line h t (i + size_of (C.item_got e bl.taken fs item behind)) (has_fixed fs) (has_text fs) (format_items fs) below aims → Comes code i f v aims (P.item_got around (format_items fs) rest item k s)
+pub item_piece : {e : Environment} {block : ℕ} {types : Types} (bl : Block e block types) {links : Links} {code : List Instr} (item : Y.GetItem) {i : ℕ} {v : Services} {h t : ℕ → ℕ} {s : State} {aims : Aims (Option (List FormatItem))} (closed : Closed code aims) (routines : Standing bl links code) (f : Family) (around : Around) (same : around.program ≡ e.program) (fs : T.Formats) (n : Values) (rest : List FormatItem) (below : List EditPlace) (behind k : ℕ) → IsProvedGetItem block types (has_fixed fs) item → bl.taken.words + get_item_words item ≤ bl.words → AreProvedFormats fs → HasData fs → HaveWidths fs → Suits (has_fixed fs) (has_text fs) rest → v.edits ≡ getting (format_items fs) rest ∷ below → Linked links code i (C.item_got e bl.taken fs item behind) → Serving k s v around.line → AllHold bl.frames v.activations (e.level ∷ bl.depths) s block types n → ((b : Base) → At b i (Known (bl.ground n) v h t nothing b) (f b)) → ItemBehind bl k around.line h t (i + size_of (C.item_got e bl.taken fs item behind)) (has_fixed fs) (has_text fs) (format_items fs) below aims → Comes code i f v aims (P.item_got around (format_items fs) rest item k s)
 item_piece {e} {block} {types} bl {links} {code} (Y.GetScalar r) {i} {v} {h} {t} {s} {aims} closed routines f around same fs n rest below behind k is room are has wide suits edits l serving hold at goal =
-    let j = is.own.index in
-    let q = whole (own block j) in
-    let code_is : C.item_got e bl.taken fs (Y.GetScalar r) behind ≡ awaited_before (field_stored e bl.taken fs q is.type) behind =
-    ap (λ u. C.item_got e bl.taken fs (Y.GetScalar u) behind) is.own.is
-    ∙ ap (λ u. awaited_before (field_stored e bl.taken fs q u) behind) (type_is e block j is.type (bl.declared j is.own.declared)) in
-    subst (λ u. Comes code i f v aims (P.item_got around (format_items fs) rest (Y.GetScalar u) k s)) (sym is.own.is)
-    (own_piece bl closed routines f around same j is.type fs n rest below behind k is.own.declared is.read room are has wide suits edits (subst (Linked links code i) code_is l) serving hold at
-    (subst (λ c. ItemBehind bl k around.line h t (i + size_of c) (has_fixed fs) (has_text fs) (format_items fs) below aims) code_is goal))
+    let code_is : C.item_got e bl.taken fs (Y.GetScalar r) behind ≡ awaited_before (field_stored e bl.taken fs r is.type) behind =
+    ap (λ u. awaited_before (field_stored e bl.taken fs r u) behind) (block_type bl r is) in
+    reference_piece bl closed routines.raises f around r is.type fs (part_reads bl routines around same r fs is room) n rest below behind k are has wide suits edits (subst (Linked links code i) code_is l) serving hold at
+    (subst (λ c. ItemBehind bl k around.line h t (i + size_of c) (has_fixed fs) (has_text fs) (format_items fs) below aims) code_is goal)
 item_piece bl (Y.GetAggregate r) closed routines f around same fs n rest below behind k is room are has wide suits edits l serving hold at goal = absurd is

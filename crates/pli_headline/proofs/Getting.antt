@@ -1,6 +1,6 @@
 -- GET EDIT: items one behind the other, pairs, the SKIP option, and the statement.
 use Rattle.std.proofs.Common.{◌≡◌, ℕ, suc, ◌+◌, ◌^◌, ◌<◌, ◌≤◌, inl, List, [], ◌∷◌, ◌++◌, length, Option, Some, None, Bool, true, false, refl, sym, ap, ◌∙◌, subst, arith, lit<, add-one}
-use Rattle.std.specs.Prelude.{ℤ, pos}
+use Rattle.std.specs.Prelude.{pos}
 use Rattle.std.proofs.Math.Nat.{le-max_left, le-max_right}
 use Rattle.rv_meaning.specs.declared.instr.Instr.{Instr}
 use Rattle.rv_meaning.specs.declared.instr.Instr.TheVariants as I
@@ -28,7 +28,7 @@ use Rattle.pli_coding.specs.Streams as C
 use Rattle.pli_coding.specs.Streams.{has_fixed, has_text, edit_begun, edit_ended, skip_option, get_pair, get_pairs, get_item_words, get_items_words, get_words}
 use Rattle.pli_coding.specs.Statements.{stmt_code}
 use Rattle.pli_coding.specs.Linking.{Links}
-use Rattle.pli_headline.specs.ProvedSoFar.{Types, AreProvedFormats, HasData, HaveWidths, IsProvedGetItem, AreProvedGetItems, AreProvedGetPairs}
+use Rattle.pli_headline.specs.ProvedSoFar.{Types, AreProvedFormats, HasData, HaveWidths, AreProvedGetItems, AreProvedGetPairs}
 use Rattle.pli_headline.proofs.Engine.{Base, address, call_at}
 use Rattle.pli_headline.proofs.Linking.{size_append}
 use Rattle.pli_headline.proofs.Items.{Linked, At, straight}
@@ -36,7 +36,7 @@ use Rattle.pli_headline.proofs.Bodies.{Ground, Known, zero_is, constant_piece}
 use Rattle.pli_headline.proofs.Jumps.{front_of, back_of, ahead_piece}
 use Rattle.pli_headline.proofs.Temporaries.{nothing, Stays, stays_same, stays_then}
 use Rattle.pli_headline.proofs.Calls.{Serving, called, Calling, call_acts, call_pauses, acts}
-use Rattle.pli_headline.proofs.Raising.{Routines, small_is}
+use Rattle.pli_headline.proofs.Raising.{small_is}
 use Rattle.pli_headline.proofs.Acts.{word_is, act_piece}
 use Rattle.pli_headline.proofs.Ifs.{free_far}
 use Rattle.pli_headline.proofs.Statements.{Standing, Block, AllHold, counted_all, Behind, Does}
@@ -49,19 +49,16 @@ use Rattle.pli_headline.proofs.GetWidths.{Suits, formats_suited}
 use Rattle.pli_headline.proofs.GetPieces.{begin_piece}
 use Rattle.pli_headline.proofs.GetTargets.{item_piece, read_all}
 use Rattle.pli_headline.proofs.Reach.{Family, Aims, Comes, Closed, cost, before_closed, comes_on, onward, reached, reached_holds}
+use Rattle.pli_headline.proofs.Scalars.{Values}
 
 -- ---- items one behind the other
 
 -- behind items, for which the input lasted
 abbrev pub ItemsBehind : {e : Environment} {block : ℕ} {types : Types} → Block e block types → (k line : ℕ) → (h t : ℕ → ℕ) → (i : ℕ) → (whole : List FormatItem) → (below : List EditPlace) → Aims Bool → Type 0
 ItemsBehind {e = e} {block = block} {types = types} bl k line h0 t0 i whole below aims =
-    (s : State) (v : Services) (rest : List FormatItem) (n : ℕ → ℤ) (h t : ℕ → ℕ) (f : Family) → Serving k s v line → AllHold (suc e.level) s block types n → v.edits ≡ getting whole rest ∷ below → Stays bl.taken h0 t0 h t → ((b : Base) → At b i (Known (bl.ground n) v h t nothing b) (f b)) → aims.done i f v true s
+    (s : State) (v : Services) (rest : List FormatItem) (n : Values) (h t : ℕ → ℕ) (f : Family) → Serving k s v line → AllHold bl.frames v.activations (e.level ∷ bl.depths) s block types n → v.edits ≡ getting whole rest ∷ below → Stays bl.taken h0 t0 h t → ((b : Base) → At b i (Known (bl.ground n) v h t nothing b) (f b)) → aims.done i f v true s
 
-one_word : (item : Y.GetItem) (block : ℕ) (types : Types) (fixed : Bool) → IsProvedGetItem block types fixed item → 1 ≤ get_item_words item
-one_word (Y.GetScalar r) block types fixed is = omega arith
-one_word (Y.GetAggregate r) block types fixed is = absurd is
-
-items_piece : {e : Environment} {block : ℕ} {types : Types} (bl : Block e block types) {links : Links} {code : List Instr} (items : List Y.GetItem) {i : ℕ} {v : Services} {h t : ℕ → ℕ} {s : State} {aims : Aims Bool} (closed : Closed code aims) (routines : Routines links code) (f : Family) (around : Around) (same : around.program ≡ e.program) (fs : T.Formats) (n : ℕ → ℤ) (rest : List FormatItem) (below : List EditPlace) (behind k : ℕ) → AreProvedGetItems block types (has_fixed fs) items → bl.taken.words + get_items_words items ≤ bl.words → AreProvedFormats fs → HasData fs → HaveWidths fs → Suits (has_fixed fs) (has_text fs) rest → v.edits ≡ getting (format_items fs) rest ∷ below → Linked links code i (C.items_got e bl.taken fs behind items) → Serving k s v around.line → AllHold (suc e.level) s block types n → ((b : Base) → At b i (Known (bl.ground n) v h t nothing b) (f b)) → ItemsBehind bl k around.line h t (i + size_of (C.items_got e bl.taken fs behind items)) (format_items fs) below aims → Comes code i f v aims (P.items_got around (format_items fs) rest items k s)
+items_piece : {e : Environment} {block : ℕ} {types : Types} (bl : Block e block types) {links : Links} {code : List Instr} (items : List Y.GetItem) {i : ℕ} {v : Services} {h t : ℕ → ℕ} {s : State} {aims : Aims Bool} (closed : Closed code aims) (routines : Standing bl links code) (f : Family) (around : Around) (same : around.program ≡ e.program) (fs : T.Formats) (n : Values) (rest : List FormatItem) (below : List EditPlace) (behind k : ℕ) → AreProvedGetItems block types (has_fixed fs) items → bl.taken.words + get_items_words items ≤ bl.words → AreProvedFormats fs → HasData fs → HaveWidths fs → Suits (has_fixed fs) (has_text fs) rest → v.edits ≡ getting (format_items fs) rest ∷ below → Linked links code i (C.items_got e bl.taken fs behind items) → Serving k s v around.line → AllHold bl.frames v.activations (e.level ∷ bl.depths) s block types n → ((b : Base) → At b i (Known (bl.ground n) v h t nothing b) (f b)) → ItemsBehind bl k around.line h t (i + size_of (C.items_got e bl.taken fs behind items)) (format_items fs) below aims → Comes code i f v aims (P.items_got around (format_items fs) rest items k s)
 unfolding P.items_got ◌>>=◌ give given
 items_piece bl [] {i = i} {v = v} {h = h} {t = t} {s = s} {aims = aims} closed routines f around same fs n rest below behind k is room are has wide suits edits l serving all at goal =
     let e : i ≡ i + 0 = omega arith in
@@ -74,11 +71,10 @@ items_piece {e} {block} {types} bl {links} {code} (item ∷ items) {i} {v} {h} {
     let next' : Option (List FormatItem) → Meaning Bool = λ o. given o (λ left. P.items_got around (format_items fs) left items) (give false) in
     let m1 = le-max_left (get_item_words item) (get_items_words items) in
     let m2 = le-max_right (get_item_words item) (get_items_words items) in
-    let some = one_word item block types (has_fixed fs) is.0 in
     let size = size_append a c in
     let place : i + size_of a + size_of c ≡ i + size_of (a ++ c) = omega (arith, size) in
     comes_on k (P.item_got around (format_items fs) rest item k s) next'
-    (item_piece bl item (before_closed k next' closed) routines f around same fs n rest below (size_of c + behind) k is.0 (omega (arith, m1, some, room)) are has wide suits edits (front_of a c l) serving all at
+    (item_piece bl item (before_closed k next' closed) routines f around same fs n rest below (size_of c + behind) k is.0 (omega (arith, m1, room)) are has wide suits edits (front_of a c l) serving all at
     (λ s2 v2 rest2 n2 h2 t2 f2 serving2 all2 suits2 edits2 stays2 at2.
     items_piece bl items closed routines f2 around same fs n2 rest2 below behind k is.1 (omega (arith, m2, room)) are has wide suits2 edits2 (back_of a c l) serving2 all2 at2
     (λ s3 v3 rest3 n3 h3 t3 f3 serving3 all3 edits3 stays3 at3.
@@ -88,7 +84,7 @@ items_piece {e} {block} {types} bl {links} {code} (item ∷ items) {i} {v} {h} {
 -- ---- pairs
 
 -- pairs, and the way past the exit
-pairs_piece : {e : Environment} {block : ℕ} {types : Types} (bl : Block e block types) {links : Links} {code : List Instr} (pairs : List Y.GetPair) {i : ℕ} {v : Services} {h t : ℕ → ℕ} {s : State} {aims : Aims (Unit {0})} (closed : Closed code aims) (routines : Standing bl links code) (f : Family) (around : Around) (same : around.program ≡ e.program) (n : ℕ → ℤ) (k : ℕ) → AreProvedGetPairs block types pairs → bl.taken.words + get_words pairs ≤ bl.words → Linked links code i (get_pairs e bl.taken pairs) → i + size_of (get_pairs e bl.taken pairs) + 2 ≤ length code → Serving k s v around.line → AllHold (suc e.level) s block types n → ((b : Base) → At b i (Known (bl.ground n) v h t nothing b) (f b)) → Behind bl k h t (i + size_of (get_pairs e bl.taken pairs) + 2) aims → Comes code i f v aims (P.pairs_got around pairs k s)
+pairs_piece : {e : Environment} {block : ℕ} {types : Types} (bl : Block e block types) {links : Links} {code : List Instr} (pairs : List Y.GetPair) {i : ℕ} {v : Services} {h t : ℕ → ℕ} {s : State} {aims : Aims (Unit {0})} (closed : Closed code aims) (routines : Standing bl links code) (f : Family) (around : Around) (same : around.program ≡ e.program) (n : Values) (k : ℕ) → AreProvedGetPairs block types pairs → bl.taken.words + get_words pairs ≤ bl.words → Linked links code i (get_pairs e bl.taken pairs) → i + size_of (get_pairs e bl.taken pairs) + 2 ≤ length code → Serving k s v around.line → AllHold bl.frames v.activations (e.level ∷ bl.depths) s block types n → ((b : Base) → At b i (Known (bl.ground n) v h t nothing b) (f b)) → Behind bl k h t (i + size_of (get_pairs e bl.taken pairs) + 2) aims → Comes code i f v aims (P.pairs_got around pairs k s)
 unfolding P.pairs_got ◌>>=◌ choose give
 pairs_piece bl [] {i = i} {v = v} {h = h} {t = t} {s = s} {aims = aims} closed routines f around same n k is room l inside serving all at goal =
     let e : i + (2 + 2) ≡ i + 2 + 2 = omega arith in
@@ -124,7 +120,7 @@ pairs_piece {e} {block} {types} bl {links} {code} (p ∷ pairs) {i} {v} {h} {t} 
     begin_piece {links = links} {code = code} {i = i} {g = bl.ground n} {v = v} {h = h} {t = t} {aims = aims} closed f fs whole (λ b m o. formats_found fs code v m _ are has ((routines.constants n).stand bytes placed t b m o)) (front_of begun (items ++ edit_ended) lp) at
     (λ f1 at1.
     comes_on k (P.items_got around whole whole p.items k s) next'
-    (items_piece bl p.items (before_closed k next' closed) routines.raises f1 around same fs n whole v.edits (2 + behind) k is.0 (omega (arith, m1, room)) are has wide (formats_suited fs wide) refl (front_of items edit_ended l2) (at_other_places _ serving) all at1
+    (items_piece bl p.items (before_closed k next' closed) routines f1 around same fs n whole v.edits (2 + behind) k is.0 (omega (arith, m1, room)) are has wide (formats_suited fs wide) refl (front_of items edit_ended l2) (at_other_places _ serving) all at1
     (λ s2 v2 rest2 n2 h2 t2 f2 serving2 all2 edits2 stays2 at2.
     end_piece closed f2 (getting whole rest2) v.edits edits2 l3 at2
     (λ f3 at3.

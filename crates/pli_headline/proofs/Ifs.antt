@@ -1,6 +1,6 @@
 -- IF, with and without ELSE.
-use Rattle.std.proofs.Common.{◌≡◌, ℕ, suc, ◌+◌, ◌^◌, ◌<◌, ◌≤◌, List, [], ◌∷◌, ◌++◌, Bool, true, false, refl, sym, ap, ◌∙◌, subst, arith}
-use Rattle.std.specs.Prelude.{ℤ, ◌==◌, if◌then◌else◌}
+use Rattle.std.proofs.Common.{◌≡◌, ℕ, ◌+◌, ◌^◌, ◌<◌, ◌≤◌, List, [], ◌∷◌, ◌++◌, Bool, true, false, refl, sym, ap, ◌∙◌, subst, arith}
+use Rattle.std.specs.Prelude.{◌==◌, if◌then◌else◌}
 use Rattle.rv_meaning.specs.declared.instr.Instr.{Instr}
 use Rattle.rv_meaning.specs.declared.instr.BranchTest.TheVariants as Test
 use Rattle.rv_meaning.specs.Words.{flag}
@@ -34,6 +34,7 @@ use Rattle.pli_headline.proofs.Operators.{valued}
 use Rattle.pli_headline.proofs.Expressions.{Setting, bit_does}
 use Rattle.pli_headline.proofs.Statements.{Standing, Block, AllHold, further, scope_of, counted_all, Does}
 use Rattle.pli_headline.proofs.Reach.{Family, Aims, Comes, Closed, before_closed, comes_on, onward, reached, reached_holds}
+use Rattle.pli_headline.proofs.Scalars.{Values}
 
 -- ---- what a test chooses
 
@@ -69,7 +70,7 @@ chosen_piece {links = links} {code = code} {i = i} {g = g} {v = v} {h = h} {t = 
     (λ f2 at2. subst (λ n. Comes code n f2 v aims (other k s)) (sym there) (otherwise f2 (λ b. record { pc = (at2 b).pc ∙ ap (address b) there; holds = (at2 b).holds }))))
 
 -- what stands around an expression of a block
-abbrev pub setting : {e : Environment} {block : ℕ} {types : Types} (bl : Block e block types) {links : Links} {code : List Instr} {v : Services} {s : State} {k : ℕ} {around : Around} → Standing bl links code → (n : ℕ → ℤ) → AllHold (suc e.level) s block types n → Serving k s v around.line → Setting links code (bl.ground n) v s k e block types n around
+abbrev pub setting : {e : Environment} {block : ℕ} {types : Types} (bl : Block e block types) {links : Links} {code : List Instr} {v : Services} {s : State} {k : ℕ} {around : Around} → Standing bl links code → (n : Values) → AllHold bl.frames v.activations (e.level ∷ bl.depths) s block types n → Serving k s v around.line → Setting links code (bl.ground n) v s k e block types n around
 setting bl routines n all serving =
     record { routines = routines.raises; constants = routines.constants n; temps = bl.temps n; scope = scope_of bl n all; serving = serving }
 
@@ -99,7 +100,7 @@ tested_does {e} {block} {types} bl links code turns routines around condition li
           (act_piece (before_closed k next' closed) f line old k fits (front_of a (test ++ if_met c) l) serving at
           (λ f1 serving1 at1.
           let s1 = with_world (counted s.world) s in
-          let all1 : AllHold (suc e.level) s1 block types n = counted_all _ all in
+          let all1 : AllHold bl.frames v.activations (e.level ∷ bl.depths) s1 block types n = counted_all _ all in
           comes_on k (V.bit here condition k s1) branch
           ((bit_does condition {e = e} {around = here} (setting bl routines n all1 serving1) is).does (before_closed k branch closed) f1 bl.taken (omega (arith, room, w)) (front_of test (if_met c) l1) at1
           (λ met f2 h2 t2 one stays at2.
@@ -155,7 +156,7 @@ if_else_does {e} {block} {types} bl links code routines around condition unit ot
           (act_piece (before_closed k next' closed) f line old k fits (front_of a (test ++ (both ++ d)) l) serving at
           (λ f1 serving1 at1.
           let s1 = with_world (counted s.world) s in
-          let all1 : AllHold (suc e.level) s1 block types n = counted_all _ all in
+          let all1 : AllHold bl.frames v.activations (e.level ∷ bl.depths) s1 block types n = counted_all _ all in
           comes_on k (V.bit here condition k s1) branch
           ((bit_does condition {e = e} {around = here} (setting bl routines n all1 serving1) is).does (before_closed k branch closed) f1 bl.taken (omega (arith, room, w)) (front_of test (both ++ d) l1) at1
           (λ met f2 h2 t2 one stays at2.

@@ -1,6 +1,6 @@
 -- The frame of a block inside another: what stands in memory while it runs, above what stands for the block around it.
-use Rattle.std.proofs.Common.{◌≡◌, ℕ, suc, ◌+◌, ◌-◌, ◌*◌, ◌%◌, ◌^◌, ◌<◌, ◌≤◌, inl, inr, List, [], length, Some, Bool, true, false, refl, sym, ap, ◌∙◌, subst, arith}
-use Rattle.std.specs.Prelude.{ℤ, cond, slice_get, ◌==◌}
+use Rattle.std.proofs.Common.{◌≡◌, ℕ, suc, ◌+◌, ◌-◌, ◌*◌, ◌%◌, ◌^◌, ◌<◌, ◌≤◌, inl, inr, List, [], ◌∷◌, length, Some, Bool, true, false, refl, sym, ap, ◌∙◌, subst, arith}
+use Rattle.std.specs.Prelude.{ℤ, pos, cond, slice_get, ◌==◌}
 use Rattle.std.proofs.lemmas.Bool.{eqb-true}
 use Rattle.std.proofs.lemmas.Bool.Decides.{nat_tests}
 use Rattle.rv_meaning.specs.Words.{word}
@@ -10,17 +10,44 @@ use Rattle.rv_meaning.proofs.MemoryLaws.{load-store_same, load-store_other}
 use Rattle.pli_typing.specs.TypedTree as Y
 use Rattle.pli_coding.specs.Frames.{display, fixed_size, temporary_bytes}
 use Rattle.pli_coding.specs.Environments.{Environment, none_taken, in_frame}
-use Rattle.pli_headline.specs.ProvedSoFar.{Types}
+use Rattle.pli_headline.specs.ProvedSoFar.{Types, alone}
 use Rattle.pli_headline.proofs.Engine.{Base}
 use Rattle.pli_headline.proofs.Numbers.{above_sum, above_small}
-use Rattle.pli_headline.proofs.Scalars.{Fits, store_kind}
+use Rattle.pli_headline.proofs.Scalars.{Fits, store_kind, Values}
 use Rattle.pli_headline.proofs.Bodies.{Ground, PlaceOf}
+use Rattle.pli_headline.proofs.Activations.{rest_more}
 use Rattle.pli_headline.proofs.Reaching.{Reaches}
 use Rattle.pli_headline.proofs.Temporaries.{Temporaries}
 use Rattle.pli_headline.proofs.Variables.{data_place}
-use Rattle.pli_headline.proofs.States.{with_number_at}
+use Rattle.pli_headline.proofs.States.{with_number_at, with_text_at}
 use Rattle.pli_headline.proofs.MainGround.{apart_words, width_few}
-use Rattle.pli_headline.proofs.Statements.{Block}
+use Rattle.pli_meaning.specs.BasicValues.{BasicText}
+use Rattle.pli_serving.specs.Bytes.{with_bytes}
+use Rattle.pli_serving.specs.Stored.{kept_bytes}
+use Rattle.pli_headline.proofs.WrittenBytes.{load-with_other}
+use Rattle.pli_headline.proofs.TextPlaces.{text_kind_of}
+use Rattle.pli_headline.proofs.TextsKept.{kept_length, text_kept_as}
+use Rattle.pli_headline.proofs.Statements.{Block, Enclosing}
+use Rattle.pli_headline.proofs.TextScopes.{IsTextAt}
+use Rattle.pli_typing.specs.Signatures.{Bounds, element_count}
+use Rattle.pli_headline.proofs.ArrayScopes.{with_element_of, ArrayOn}
+
+-- the frames of the levels around it, of which the last is that of the block around
+abbrev pub inner_levels : {e : Environment} {block : ℕ} {types : Types} → Block e block types → ℕ → ℕ
+inner_levels {e} bl j = cond (j == e.level) bl.stack.frame (bl.levels j)
+
+-- nothing but zeros
+abbrev zeros : Values
+zeros = record { numbers = λ j. pos 0; texts = λ j. []; arrays = λ j p. pos 0 }
+
+pub outermost_inner : {e : Environment} {block : ℕ} {types : Types} (bl : Block e block types) (q : Bool) → (0 == e.level) ≡ q → cond q bl.stack.frame (bl.levels 0) ≡ bl.base
+outermost_inner bl true known = sym (bl.stack.frame_is zeros) ∙ (bl.alone known).frame_is zeros
+outermost_inner bl false known = bl.outermost_level known
+
+pub inner_level_room : {e : Environment} {block : ℕ} {types : Types} (bl : Block e block types) (q : Bool) (j : ℕ) → (j == e.level) ≡ q → bl.stack.free ≤ 14 * 2 ^ 20 → j < suc e.level → cond q bl.stack.frame (bl.levels j) < memory_size
+inner_level_room bl true j known room below = let over = bl.stack.above in omega (arith, over, room)
+inner_level_room {e} bl false j known room below =
+    bl.level_room j (grind (arith, nat_tests))
 
 -- where it lies, and its words for temporaries
 pub record Inner {e : Environment} {block : ℕ} {types : Types} (bl : Block e block types) : Type 0 where
@@ -29,11 +56,11 @@ pub record Inner {e : Environment} {block : ℕ} {types : Types} (bl : Block e b
   pub place : at ≡ bl.stack.free + temporary_bytes words
   pub room : at + fixed_size (suc e.level) 0 + 4 ≤ 14 * 2 ^ 20
 
-pub record Inside (around : Base → List ℕ → Type 0) (outer base at words : ℕ) (t : ℕ → ℕ) (b : Base) (m : List ℕ) : Type 0 where
+pub record Inside (around : Base → List ℕ → Type 0) (outer level : ℕ) (levels : ℕ → ℕ) (at words : ℕ) (t : ℕ → ℕ) (b : Base) (m : List ℕ) : Type 0 where
   pub kept : around b m
   pub below : load 4 m (at + 4) ≡ b.at + outer
   pub own : load 4 m (at + 36) ≡ at
-  pub shown : load 4 m (at + 144) ≡ b.at + base
+  pub shown : (j : ℕ) → j < level → load 4 m (at + (144 + 4 * j)) ≡ b.at + levels j
   pub temporaries : (j : ℕ) → j < words → t j < 2 ^ 32 → load 4 m (at - 4 * suc j) ≡ t j
 
 pub inner_whole : (at free words : ℕ) → at ≡ free + temporary_bytes words → free % 4 ≡ 0 → at % 4 ≡ 0
@@ -43,13 +70,13 @@ pub inner_above : (at free words : ℕ) → at ≡ free + temporary_bytes words 
 inner_above at free words e = omega (arith, e)
 
 -- on the ground of the block around, where these temporaries wait
-abbrev pub inner_ground : {e : Environment} {block : ℕ} {types : Types} (bl : Block e block types) → Inner bl → (t0 : ℕ → ℕ) → (ℕ → ℤ) → Ground
+abbrev pub inner_ground : {e : Environment} {block : ℕ} {types : Types} (bl : Block e block types) → Inner bl → (t0 : ℕ → ℕ) → Values → Ground
 inner_ground {e} bl inner t0 n =
     record {
       frame = inner.at;
       free = inner.at + fixed_size (suc e.level) 0;
       words = inner.words;
-      memory = Inside ((bl.ground n).memory t0) bl.stack.frame bl.base inner.at inner.words;
+      memory = Inside ((bl.ground n).memory t0) bl.stack.frame (suc e.level) (inner_levels bl) inner.at inner.words;
       whole = inner_whole inner.at bl.stack.free inner.words inner.place bl.stack.aligned;
       above_code = let a = inner_above inner.at bl.stack.free inner.words inner.place in let h = bl.stack.high in omega (arith, a, h);
       inside = let r = inner.room in omega (arith, r);
@@ -57,14 +84,14 @@ inner_ground {e} bl inner t0 n =
 
 -- ---- its temporaries
 
-inner_put : (q : Bool) (m : List ℕ) (t : ℕ → ℕ) (at i j x words : ℕ) → (i == j) ≡ q → length m ≡ memory_size → x < 2 ^ 32 → i < words → j < words → 4 * words ≤ at → at ≤ memory_size → cond q x (t i) < 2 ^ 32 → (t i < 2 ^ 32 → load 4 m (at - 4 * suc i) ≡ t i) → load 4 (store 4 m (at - 4 * suc j) x) (at - 4 * suc i) ≡ cond q x (t i)
+pub inner_put : (q : Bool) (m : List ℕ) (t : ℕ → ℕ) (at i j x words : ℕ) → (i == j) ≡ q → length m ≡ memory_size → x < 2 ^ 32 → i < words → j < words → 4 * words ≤ at → at ≤ memory_size → cond q x (t i) < 2 ^ 32 → (t i < 2 ^ 32 → load 4 m (at - 4 * suc i) ≡ t i) → load 4 (store 4 m (at - 4 * suc j) x) (at - 4 * suc i) ≡ cond q x (t i)
 inner_put true m t at i j x words e len fits h k r s known o =
     let same : i ≡ j = eqb-true i j e in
     ap (λ u. load 4 (store 4 m (at - 4 * suc j) x) (at - 4 * suc u)) same ∙ load-store_same 4 m (at - 4 * suc j) x fits (omega (arith, len, k, r, s))
 inner_put false m t at i j x words e len fits h k r s known o =
     load-store_other 4 4 m (at - 4 * suc j) x (at - 4 * suc i) (apart_words at i j words e h k r) ∙ o known
 
-pub inner_temporaries : {e : Environment} {block : ℕ} {types : Types} (bl : Block e block types) (inner : Inner bl) (t0 : ℕ → ℕ) (n : ℕ → ℤ) → Temporaries (inner_ground bl inner t0 n)
+pub inner_temporaries : {e : Environment} {block : ℕ} {types : Types} (bl : Block e block types) (inner : Inner bl) (t0 : ℕ → ℕ) (n : Values) → Temporaries (inner_ground bl inner t0 n)
 inner_temporaries bl inner t0 n =
     let above = inner_above inner.at bl.stack.free inner.words inner.place in
     let room = inner.room in
@@ -75,7 +102,7 @@ inner_temporaries bl inner t0 n =
             kept = bl.stack.keeps n t0 b m p x (omega (arith, above, below)) o.kept;
             below = load-store_other 4 4 m p x (inner.at + 4) (inr (omega (arith, above, below))) ∙ o.below;
             own = load-store_other 4 4 m p x (inner.at + 36) (inr (omega (arith, above, below))) ∙ o.own;
-            shown = load-store_other 4 4 m p x (inner.at + 144) (inr (omega (arith, above, below))) ∙ o.shown;
+            shown = λ i h. load-store_other 4 4 m p x (inner.at + (144 + 4 * i)) (inr (omega (arith, above, below))) ∙ o.shown i h;
             temporaries = λ i h known. inner_put (i == j) m t inner.at i j x inner.words refl len fits h below (omega (arith, above)) (omega (arith, room)) known (o.temporaries i h);
           };
       found = λ t b m j below known o. o.temporaries j below known;
@@ -83,7 +110,7 @@ inner_temporaries bl inner t0 n =
 
 -- ---- variables of the block around
 
-pub inner_writes : {e : Environment} {block : ℕ} {types : Types} (bl : Block e block types) (inner : Inner bl) (t0 : ℕ → ℕ) (n : ℕ → ℤ) (j : ℕ) (z : ℤ) {type : Y.LeafType} → slice_get types j ≡ Some type → Fits type (n j) → Fits type z → (t : ℕ → ℕ) (b : Base) (m : List ℕ) → length m ≡ memory_size → (inner_ground bl inner t0 n).memory t b m → (inner_ground bl inner t0 (with_number_at n j z)).memory t b (store (store_width (store_kind type)) m (bl.base + data_place e block j) (word z))
+pub inner_writes : {e : Environment} {block : ℕ} {types : Types} (bl : Block e block types) (inner : Inner bl) (t0 : ℕ → ℕ) (n : Values) (j : ℕ) (z : ℤ) {type : Y.LeafType} → slice_get types j ≡ Some (alone type) → Fits type (n.numbers j) → Fits type z → (t : ℕ → ℕ) (b : Base) (m : List ℕ) → length m ≡ memory_size → (inner_ground bl inner t0 n).memory t b m → (inner_ground bl inner t0 (with_number_at n j z)).memory t b (store (store_width (store_kind type)) m (bl.base + data_place e block j) (word z))
 inner_writes {e} {block} bl inner t0 n j z {type} below old fits t b m len o =
     let p = bl.base + data_place e block j in
     let w = store_width (store_kind type) in
@@ -94,8 +121,58 @@ inner_writes {e} {block} bl inner t0 n j z {type} below old fits t b m len o =
       kept = bl.writes n j z below old fits t0 b m len o.kept;
       below = load-store_other w 4 m p (word z) (inner.at + 4) (inr (omega (arith, above, under, few))) ∙ o.below;
       own = load-store_other w 4 m p (word z) (inner.at + 36) (inr (omega (arith, above, under, few))) ∙ o.own;
-      shown = load-store_other w 4 m p (word z) (inner.at + 144) (inr (omega (arith, above, under, few))) ∙ o.shown;
+      shown = λ i h. load-store_other w 4 m p (word z) (inner.at + (144 + 4 * i)) (inr (omega (arith, above, under, few))) ∙ o.shown i h;
       temporaries = λ i h known. load-store_other w 4 m p (word z) (inner.at - 4 * suc i) (inr (omega (arith, above, under, h, few))) ∙ o.temporaries i h known;
+    }
+
+-- a text is stored
+pub inner_text_writes : {e : Environment} {block : ℕ} {types : Types} (bl : Block e block types) (inner : Inner bl) (t0 : ℕ → ℕ) (n : Values) (j : ℕ) (varying : Bool) (most : ℕ) (text : List ℕ) → IsTextAt types j varying most → (t : ℕ → ℕ) (b : Base) (m : List ℕ) → length m ≡ memory_size → (inner_ground bl inner t0 n).memory t b m → (inner_ground bl inner t0 (with_text_at n j (text_kept_as varying most text))).memory t b (with_bytes (kept_bytes (text_kind_of varying most) (BasicText text)) (bl.base + data_place e block j) m)
+inner_text_writes {e} {block} bl inner t0 n j varying most text at t b m len o =
+    let p = bl.base + data_place e block j in
+    let bytes = kept_bytes (text_kind_of varying most) (BasicText text) in
+    let long = kept_length varying most text in
+    let above = inner_above inner.at bl.stack.free inner.words inner.place in
+    let under = bl.texts.under j varying most at in
+    let inside = bl.texts.room.inside j varying most at in
+    let room : p + length bytes ≤ length m = omega (arith, inside, long, len) in
+    record {
+      kept = bl.texts.writes n j varying most text at t0 b m len o.kept;
+      below = load-with_other 4 bytes m p (inner.at + 4) room (inr (omega (arith, above, under, long))) ∙ o.below;
+      own = load-with_other 4 bytes m p (inner.at + 36) room (inr (omega (arith, above, under, long))) ∙ o.own;
+      shown = λ i h. load-with_other 4 bytes m p (inner.at + (144 + 4 * i)) room (inr (omega (arith, above, under, long))) ∙ o.shown i h;
+      temporaries = λ i h known. load-with_other 4 bytes m p (inner.at - 4 * suc i) room (inr (omega (arith, above, under, long, h))) ∙ o.temporaries i h known;
+    }
+
+-- an element is stored
+inner_element_stored : {e : Environment} {block : ℕ} {types : Types} (bl : Block e block types) (inner : Inner bl) (t0 : ℕ → ℕ) {j : ℕ} {type : Y.LeafType} {bs : List Bounds} (on : ArrayOn e block bl.base bl.stack.free bl.ground j type bs) → (n : Values) (p : ℕ) (z : ℤ) → p < element_count bs → Fits type (n.arrays j p) → Fits type z → (t : ℕ → ℕ) (b : Base) (m : List ℕ) → length m ≡ memory_size → (inner_ground bl inner t0 n).memory t b m → (inner_ground bl inner t0 (with_element_of n j p z)).memory t b (store (store_width (store_kind type)) m (bl.base + 4 * p + data_place e block j) (word z))
+inner_element_stored {e} {block} bl inner t0 {j} {type} {bs} on n p z inside old fits t b m len o =
+    let q = bl.base + 4 * p + data_place e block j in
+    let w = store_width (store_kind type) in
+    let few = width_few (store_kind type) in
+    let under = on.under in
+    let above = inner_above inner.at bl.stack.free inner.words inner.place in
+    record {
+      kept = on.writes n p z inside old fits t0 b m len o.kept;
+      below = load-store_other w 4 m q (word z) (inner.at + 4) (inr (omega (arith, above, under, few, inside))) ∙ o.below;
+      own = load-store_other w 4 m q (word z) (inner.at + 36) (inr (omega (arith, above, under, few, inside))) ∙ o.own;
+      shown = λ i h. load-store_other w 4 m q (word z) (inner.at + (144 + 4 * i)) (inr (omega (arith, above, under, few, inside))) ∙ o.shown i h;
+      temporaries = λ i h known. load-store_other w 4 m q (word z) (inner.at - 4 * suc i) (inr (omega (arith, above, under, h, few, inside))) ∙ o.temporaries i h known;
+    }
+
+-- an array of the block around
+pub inner_array : {e : Environment} {block : ℕ} {types : Types} (bl : Block e block types) (inner : Inner bl) (t0 : ℕ → ℕ) (number level free : ℕ) → inner.at + 144 ≤ free → {j : ℕ} {type : Y.LeafType} {bs : List Bounds} (on : ArrayOn e block bl.base bl.stack.free bl.ground j type bs) → ArrayOn (in_frame number level e) block bl.base free (inner_ground bl inner t0) j type bs
+inner_array bl inner t0 number level free over on =
+    let above = inner_above inner.at bl.stack.free inner.words inner.place in
+    let under = on.under in
+    record {
+      declared = on.declared;
+      bounds = on.bounds;
+      few = on.few;
+      within = on.within;
+      under = omega (arith, above, under, over);
+      places = on.places;
+      reads = λ n p inside fits t b m o. on.reads n p inside fits t0 b m o.kept;
+      writes = λ n p z inside old fits t b m len o. inner_element_stored bl inner t0 on n p z inside old fits t b m len o;
     }
 
 pub inner_place : (g : Ground) → g.frame + 148 ≤ 14 * 2 ^ 20 → 7 * 2 ^ 20 ≤ g.frame → PlaceOf g (display 0) (g.frame + 144)
@@ -112,11 +189,21 @@ inner_place g room high =
 pub other_level : (level outer : ℕ) → level ≡ suc outer → (0 == level) ≡ false
 other_level level outer e = grind (arith, nat_tests)
 
+-- the main procedure around it
+abbrev pub inner_outside : {e : Environment} {block : ℕ} {types : Types} (bl : Block e block types) (inner : Inner bl) (t0 : ℕ → ℕ) (q : Bool) → (0 == e.level) ≡ q → Enclosing bl.base bl.size (inner_ground bl inner t0)
+inner_outside bl inner t0 true outermost =
+    let o = bl.alone outermost in
+    record { its = bl.ground; waits = t0; frame_is = o.frame_is; free_is = o.free_is; kept = λ n t b m x. x.kept }
+inner_outside bl inner t0 false inside =
+    let o = bl.outside inside in
+    record { its = o.its; waits = o.waits; frame_is = o.frame_is; free_is = o.free_is; kept = λ n t b m x. o.kept n t0 b m x.kept }
+
 -- the block inside, in a frame of the next level
 abbrev pub inner_block : {e : Environment} {block : ℕ} {types : Types} (bl : Block e block types) (inner : Inner bl) (t0 : ℕ → ℕ) (number level : ℕ) → level ≡ suc e.level → Block (in_frame number level e) block types
 inner_block {e} bl inner t0 number level next =
     let above = inner_above inner.at bl.stack.free inner.words inner.place in
     let high = bl.stack.high in
+    let over = bl.stack.over in
     record {
       ground = inner_ground bl inner t0;
       words = inner.words;
@@ -128,11 +215,29 @@ inner_block {e} bl inner t0 number level next =
       same = λ n n' b h. refl;
       temps = inner_temporaries bl inner t0;
       declared = λ j below. bl.declared j below;
-      reach = λ n. subst (λ q. Reaches q (inner_ground bl inner t0 n) bl.base) (sym (other_level level e.level next)) (inner_place (inner_ground bl inner t0 n) (let room = inner.room in omega (arith, room)) (omega (arith, above, high)), λ t b m o. o.shown);
+      reach = λ n. subst (λ q. Reaches q (inner_ground bl inner t0 n) bl.base) (sym (other_level level e.level next)) (inner_place (inner_ground bl inner t0 n) (let room = inner.room in omega (arith, room)) (omega (arith, above, high)), λ t b m o. o.shown 0 (omega arith) ∙ ap (λ u. b.at + u) (outermost_inner bl (0 == e.level) refl));
       places = λ j below. bl.places j below;
       reads = λ n j below fits t b m o. bl.reads n j below fits t0 b m o.kept;
       writes = λ n j z below old fits t b m len o. inner_writes bl inner t0 n j z below old fits t b m len o;
       held = refl;
+      frames = inner.at ∷ bl.frames;
+      bottom = record {
+        holds = bl.bottom.holds;
+        aligned = bl.bottom.aligned;
+        room = bl.bottom.room;
+        own = bl.bottom.own;
+        kept = λ n t b m o. bl.bottom.kept n t0 b m o.kept;
+        rest = rest_more bl.base inner.at bl.frames (omega (arith, over, above)) bl.bottom.rest;
+      };
+      size = bl.size;
+      ends = bl.ends;
+      sized = bl.sized;
+      depths = e.level ∷ bl.depths;
+      shallow = λ same. let no : true ≡ false = sym same ∙ other_level level e.level next in absurd (cc no);
+      deep = λ inside. omega arith;
+      outer = cond (0 == e.level) bl.labels bl.outer;
+      alone = λ same. let no : true ≡ false = sym same ∙ other_level level e.level next in absurd (cc no);
+      outside = λ inside. inner_outside bl inner t0 (0 == e.level) refl;
       stack = record {
         frame = inner.at;
         free = inner.at + fixed_size (suc e.level) 0;
@@ -141,13 +246,29 @@ inner_block {e} bl inner t0 number level next =
         aligned = let w = inner_whole inner.at bl.stack.free inner.words inner.place bl.stack.aligned in omega (arith, w);
         high = omega (arith, above, high);
         above = omega arith;
+        over = omega (arith, over, above);
         keeps = λ n t b m p x over o. record {
           kept = bl.stack.keeps n t0 b m p x (omega (arith, above, over)) o.kept;
           below = load-store_other 4 4 m p x (inner.at + 4) (inl (omega (arith, over))) ∙ o.below;
           own = load-store_other 4 4 m p x (inner.at + 36) (inl (omega (arith, over))) ∙ o.own;
-          shown = load-store_other 4 4 m p x (inner.at + 144) (inl (omega (arith, over))) ∙ o.shown;
+          shown = λ i h. load-store_other 4 4 m p x (inner.at + (144 + 4 * i)) (inl (omega (arith, over, h))) ∙ o.shown i h;
           temporaries = λ i h known. load-store_other 4 4 m p x (inner.at - 4 * suc i) (inl (omega (arith, over, above, h))) ∙ o.temporaries i h known;
         };
         under = λ j below. let u = bl.stack.under j below in omega (arith, u, above);
       };
+      levels = inner_levels bl;
+      level_room = λ j below. let room = inner.room in inner_level_room bl (j == e.level) j refl (omega (arith, room, above)) (omega (arith, below, next));
+      outermost_level = λ inside. outermost_inner bl (0 == e.level) refl;
+      displays = λ n t b m j below o. o.shown j (omega (arith, below, next));
+      texts = record {
+        room = record {
+          high = bl.texts.room.high;
+          short = λ j varying most at. bl.texts.room.short j varying most at;
+          inside = λ j varying most at. bl.texts.room.inside j varying most at;
+        };
+        under = λ j varying most at. let u = bl.texts.under j varying most at in omega (arith, u, above);
+        reads = λ n j varying most at t b m o. bl.texts.reads n j varying most at t0 b m o.kept;
+        writes = λ n j varying most text at t b m len o. inner_text_writes bl inner t0 n j varying most text at t b m len o;
+      };
+      arrays = λ j type b bs at. inner_array bl inner t0 number level (inner.at + fixed_size (suc e.level) 0) (omega arith) (bl.arrays j type b bs at);
     }

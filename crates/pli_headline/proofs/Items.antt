@@ -22,8 +22,9 @@ pub parts_sum : (w : ℕ) → w < 2 ^ 32 → sum (upper_part w * 2 ^ 12) (word (
 parts_sum w h = omega (arith, ints)
 
 -- the base, from a place of the code
-pub base_sum : (base i : ℕ) → 0 < i → 4 * i < 2 ^ 24 → base + 2 ^ 24 ≤ 2 ^ 32 → sum (sum (base + 4 * i) (upper_part (distance (4 * i) 0) * 2 ^ 12)) (word (lower_part (distance (4 * i) 0))) ≡ base
-base_sum base i p h valid = omega (arith, ints)
+pub base_sum : (base i : ℕ) → 4 * i < 2 ^ 24 → base + 2 ^ 24 ≤ 2 ^ 32 → sum (sum (base + 4 * i) (upper_part (distance (4 * i) 0) * 2 ^ 12)) (word (lower_part (distance (4 * i) 0))) ≡ base
+base_sum base zero h valid = omega (arith, valid)
+base_sum base (suc i) h valid = omega (arith, ints)
 
 -- ---- one item
 
@@ -45,7 +46,7 @@ upper_base b i = sum (address b i) (upper_part (distance (4 * i) 0) * 2 ^ 12)
 -- what has to hold where an item runs, and what then holds
 abbrev pub ItemSteps : Links → List Instr → Base → ℕ → Item → Whole → (Whole → Type 0) → Type 0
 ItemSteps links code b i (Plain x) w Q = Steps code b i x w Q
-ItemSteps links code b i (BaseIn r) w Q = (0 < i) × IsSet r.index × Q (with_both b i w r.index (upper_base b i) b.at)
+ItemSteps links code b i (BaseIn r) w Q = IsSet r.index × Q (with_both b i w r.index (upper_base b i) b.at)
 ItemSteps links code b i (OffsetOf r s) w Q =
     (place_of links s < 2 ^ 32) × IsSet r.index × Q (with_both b i w r.index (upper_part (place_of links s) * 2 ^ 12) (place_of links s))
 ItemSteps links code b i (Mark s) w Q = Q w
@@ -91,7 +92,7 @@ item_walked links code b i (Plain x) w Q h here has s = walked 1 refl (passes co
 item_walked links code b i (BaseIn r) w Q h here has s =
     let d = distance (4 * i) 0 in
     walked 2 refl (passes code b i (item_code links (4 * i) (BaseIn r)) w (λ j w'. Q w') h here has
-    (both b i w r.index (upper_base b i) (word (lower_part d)) b.at Q s.1 (base_sum b.at i s.0 (omega (arith, h)) b.valid.1) s.2))
+    (both b i w r.index (upper_base b i) (word (lower_part d)) b.at Q s.0 (base_sum b.at i (omega (arith, h)) b.valid.1) s.1))
 item_walked links code b i (OffsetOf r y) w Q h here has s =
     let p = place_of links y in
     walked 2 refl (passes code b i (item_code links (4 * i) (OffsetOf r y)) w (λ j w'. Q w') h here has

@@ -125,6 +125,21 @@ jumped code b i j link through w inside small' target here has set =
 
 -- ---- jumps to symbols
 
+-- to the place of a symbol, with what scratch registers leave as it is; the credits may grow
+pub jump_with : {links : Links} {code : List Instr} {i : ℕ} {v : Services} (c c' : ℕ) (f : Family) (s : Symbol) (j : ℕ) (P : Base → Whole → Type 0) → c + 2 ≤ c' → place_of links s ≡ 4 * j → j ≤ most_code → ((b : Base) (w : Whole) (u i' : ℕ) → P b w → P b (record { machine = record { registers = written w.machine.registers 31 u; memory = w.machine.memory; pc = i' }; services = w.services })) → Linked links code i (JumpTo s ∷ []) → ((b : Base) → At b i (P b) (f b)) → Reach code c f v c' v (λ b w. At b j (P b) w)
+jump_with {links = links} {code = code} {i = i} c c' f s j P paid target near lost l at =
+    let has = subst (λ n. HasAt code i (jump_code zero_register far_register (distance (4 * i) n))) target l.has.0 in
+    record {
+      count = 2;
+      paid = omega (arith, paid);
+      grows = omega arith;
+      goes = λ b. record {
+        after = _;
+        ran = jumped code b i j zero_register far_register (f b) (let n = l.inside in omega (arith, n)) l.small' near (at b).pc has (λ x u. refl);
+        holds = record { pc = refl; holds = lost b (f b) _ _ (at b).holds };
+      };
+    }
+
 -- to the place of a symbol, with what is known; the credits may grow
 pub jump_piece : {links : Links} {code : List Instr} {i : ℕ} {g : Ground} {v : Services} {h t : ℕ → ℕ} {rs : Base → List (ℕ × ℕ)} (c c' : ℕ) (f : Family) (s : Symbol) (j : ℕ) → c + 2 ≤ c' → place_of links s ≡ 4 * j → j ≤ most_code → Free rs 31 → Linked links code i (JumpTo s ∷ []) → ((b : Base) → At b i (Known g v h t rs b) (f b)) → Reach code c f v c' v (λ b w. At b j (Known g v h t rs b) w)
 jump_piece {links = links} {code = code} {i = i} c c' f s j paid target near free l at =

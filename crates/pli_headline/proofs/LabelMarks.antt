@@ -1,40 +1,43 @@
 -- The labels of the main procedure: each that stands once among them is marked once in the program's code.
-use Rattle.std.proofs.Common.{◌≡◌, ℕ, suc, ◌+◌, ◌*◌, List, [], ◌∷◌, ◌++◌, Option, None, Some, true, inl, refl, sym, ap, ◌∙◌, subst}
-use Rattle.std.specs.Prelude.{ℤ, pos, neg_ℤ, cond, ◌==◌, ◌&&◌, if◌then◌else◌}
+use Rattle.std.proofs.Common.{◌≡◌, ℕ, suc, ◌+◌, List, [], ◌∷◌, ◌++◌, Option, None, Some, true, false, inl, inr, ◌≤◌, refl, sym, ap, ◌∙◌, subst, arith}
+use Rattle.std.specs.Prelude.{ℤ, pos, cond, ◌==◌, if◌then◌else◌}
 use Rattle.std.proofs.lemmas.Bool.{eq-eqb}
 use Rattle.rv_meaning.specs.declared.instr.Register.{Register}
-use Rattle.rv_meaning.specs.declared.instr.Instr.TheVariants as I
-use Rattle.pli_language.specs.Keywords.{same_bytes}
 use Rattle.pli_typing.specs.TypedTree as Y
 use Rattle.pli_meaning.specs.Control.{Label}
+use Rattle.pli_meaning.specs.Executing.{labels_in}
 use Rattle.pli_meaning.specs.DeclaredShapes.{variables_of_block}
-use Rattle.pli_coding.specs.Registers.{zero_register, return_register, frame_register, stack_register, a0, a1, a2, a3, a4, u0, u5}
-use Rattle.pli_coding.specs.Assembly.{Datum, Symbol, ProcedureEntry, ReturnPlace, LabelPlace, RaiseCondition, RaiseError, ErrorEnd, same_symbol, Plain, BaseIn, OffsetOf, OffsetAhead, JumpTo, CallTo, JumpAhead, JumpBack, Mark, Code, item_size}
+use Rattle.pli_coding.specs.Registers.{frame_register, stack_register, a0, a1, a2, a3, a4, u0, u5}
+use Rattle.pli_coding.specs.Assembly.{Datum, Symbol, ProcedureEntry, ReturnPlace, LabelPlace, RaiseCondition, RaiseError, ErrorEnd}
 use Rattle.pli_coding.specs.Instructions.{move, small, number, plus, load_word, service}
-use Rattle.pli_coding.specs.Frames.{frame_below, own_offset, temporary_bytes, name_bytes, frame_bytes, automatic_place}
+use Rattle.pli_coding.specs.Frames.{own_offset, temporary_bytes, name_bytes, frame_bytes, automatic_place}
 use Rattle.pli_coding.specs.Environments.{BlockPlace, Environment, none_taken, last_of_level}
 use Rattle.pli_coding.specs.Locating.{own_place, table_number}
 use Rattle.pli_coding.specs.StaticForms.{initial_datum}
 use Rattle.pli_coding.specs.Extents.{initial_given, initial_code}
 use Rattle.pli_coding.specs.Allocating.{act_code}
-use Rattle.pli_coding.specs.Entries.{frame_begun, block_entered, constant_made, variables_made, variables_code}
+use Rattle.pli_coding.specs.Entries.{frame_begun, block_entered, constant_made, variables_made, variables_code, adjustable_made}
 use Rattle.pli_coding.specs.Statements.{stmts_code, stmts_words, block_words}
 use Rattle.pli_coding.specs.Procedures.{procedure_begun, procedure_ended, procedure_in}
-use Rattle.pli_coding.specs.Images.{blocks_among, with_blocks, blocks_of, raise_code, code_of}
-use Rattle.pli_coding.specs.Linking.{marks_from, links_of}
+use Rattle.pli_coding.specs.Images.{blocks_among, blocks_of_procedure, with_block, with_blocks, blocks_of, environment_of, raise_code, code_of}
+use Rattle.pli_coding.specs.Linking.{links_of}
 use Rattle.pli_headline.specs.Headline.{parts}
-use Rattle.pli_headline.specs.ProvedSoFar.{plain_variable, ArePlain, AllPlain, types_of, AreProvedStatements, AreBare, times, all_labels}
+use Rattle.pli_headline.specs.ProvedSoFar.{plain_variable, ArePlain, AllPlain, types_of, AreProvedStatements, AreBare, all_labels, array_variable, Types, AllJumpAround, number_times, AreInner, procedure_labels}
 use Rattle.pli_headline.proofs.Linking.{times_marked}
 use Rattle.pli_headline.proofs.FirstFrame.{start_of}
-use Rattle.pli_headline.proofs.Marks.{code_is}
+use Rattle.pli_headline.proofs.Marks.{others_code, code_is}
 use Rattle.pli_headline.proofs.MainProcedure.{IsAlone, main_head, main_environment, main_plain, declared_at}
-use Rattle.pli_headline.proofs.Scalars.{by_plain}
-use Rattle.pli_headline.proofs.Variables.{outermost}
+use Rattle.pli_headline.proofs.Scalars.{by_plain, character, varying, element_numeric}
+use Rattle.pli_headline.proofs.Variables.{outermost, HasTypes}
 use Rattle.pli_headline.proofs.Gotos.{LabelsStand}
 use Rattle.pli_headline.proofs.ProgramSizes.{frame_filled}
 use Rattle.pli_headline.proofs.SymbolsMarked.{symbols_marked, Marks, both_mark, behind, constant_none, load_none, plus_none, act_none}
 use Rattle.pli_headline.proofs.InnerLevels.{IsAmong, InOrder, among_all, among_with, in_order, last_is}
+use Rattle.pli_headline.proofs.OutermostBlock.{lower_with, all_lower, all_deeper, others_lower, first_of_level}
 use Rattle.pli_headline.proofs.StatementMarks.{places_of, statements_mark}
+use Rattle.pli_headline.proofs.ArrayElements.{size_constant}
+use Rattle.pli_headline.proofs.ProcedurePlaces.{entry_behind, entry_times, ends_behind, ends_times}
+use Rattle.pli_headline.proofs.ProcedureMarks.{ended_marks, procedure_symbols, procedures_mark, symbol_times, times_are, labels_before, procedure_times, end_times, others_end}
 
 -- ---- the procedure
 
@@ -66,7 +69,10 @@ variables_none e line index (d ∷ ds) are =
     let rest = variables_made (outermost e) line (suc index) ds in
     let here : (u : Y.DeclaredVariable) → Marks (constant_made (outermost e) place u ++ rest) [] = λ u.
     behind (constant_made (outermost e) place u) rest [] (made_none e place u) (variables_none e line (suc index) ds are.1) in
-    by_plain (λ u. Marks (variables_made (outermost e) line index (u ∷ ds)) []) (λ p i. here (plain_variable (Y.FixedLeaf p) i)) (λ i. here (plain_variable Y.BitLeaf i)) d are.0
+    by_plain (λ u. Marks (variables_made (outermost e) line index (u ∷ ds)) []) (λ p i. here (plain_variable (Y.FixedLeaf p) i)) (λ i. here (plain_variable Y.BitLeaf i)) (λ n i. here (plain_variable (character n) i)) (λ n i. here (plain_variable (varying n) i))
+    (λ type b bs i element are'.
+    let u = array_variable type (b ∷ bs) i in
+    subst (λ q. Marks ((if q then constant_made (outermost e) place u else adjustable_made (outermost e) line place u) ++ rest) []) (sym (size_constant type (element_numeric type element) (b ∷ bs) i)) (here u)) d are.0
 
 begun_none : (words : ℕ) → Marks (frame_begun words 0 0 true) []
 begun_none words =
@@ -81,99 +87,118 @@ prologue_none e block line words plain =
     (behind entered (made ++ act) [] (behind (number a2 line) (service 4) [] (constant_none a2 (pos line)) refl)
     (behind made act [] (variables_none e line 0 (variables_of_block e.program e.block) plain) (act_none line)))
 
-ended_marks : (e : Environment) (head : Y.BlockHead) (words : ℕ) → Marks (procedure_ended e head words None) (ReturnPlace head.number ∷ [])
-ended_marks e head words =
-    let z : ℤ = neg_ℤ (pos (temporary_bytes words)) in
-    let up = plus stack_register frame_register z in
-    let below = load_word frame_register frame_register frame_below in
-    let last = Plain (I.JumpRegister zero_register return_register (pos 0)) ∷ [] in
-    ap (λ ss. ReturnPlace head.number ∷ ss) (behind (up ++ below) last [] (behind up below [] (plus_none stack_register frame_register z) refl) refl)
-
 -- the symbols of the whole program
-abbrev program_symbols : (block : ℕ) → List (ℕ × Label) → List Symbol
-program_symbols block labels =
-    RaiseCondition ∷ RaiseError ∷ ErrorEnd ∷ ProcedureEntry block ∷ (places_of labels ++ ReturnPlace block ∷ [])
+abbrev program_symbols : (block : ℕ) → List (ℕ × Label) → List Y.Procedure → List Symbol
+program_symbols block labels others =
+    RaiseCondition
+    ∷ RaiseError
+    ∷ ErrorEnd
+    ∷ ProcedureEntry block
+    ∷ ((places_of labels ++ ReturnPlace block ∷ []) ++ procedure_symbols others)
 
-program_marks : (program : Y.Program) (block line : ℕ) (body : Y.Stmts) → AllPlain program.variables → IsAlone program block line body → AreProvedStatements block (types_of (variables_of_block program block)) body → AreBare program body → Marks (code_of parts program) (program_symbols block (all_labels block body))
-program_marks program block line body plain alone are bare =
+program_marks : (program : Y.Program) (block line : ℕ) (body : Y.Stmts) → AllPlain program.variables → (all : List (ℕ × Label)) (called : List ℕ) (alone : IsAlone program block line body) → AreProvedStatements block (types_of (variables_of_block program block)) body → AreBare program body → AreInner program block all called alone.others → Marks (code_of parts program) (program_symbols block (all_labels block body) alone.others)
+program_marks program block line body plain all called alone are bare others =
     let e = main_environment program block in
     let words = block_words e block (stmts_words body) in
     let begun = procedure_begun e (main_head block line) words [] in
     let code = stmts_code e none_taken body in
     let ended = procedure_ended e (main_head block line) words None in
-    let inner = procedure_in e (main_head block line) body [] None in
+    let main = procedure_in e (main_head block line) body [] None in
+    let rest = others_code program alone.others in
+    let has : HasTypes e block (types_of (variables_of_block program block)) = λ j kind at. declared_at (variables_of_block program block) j (main_plain program block plain) at in
     let ss = places_of (all_labels block body) ++ ReturnPlace block ∷ [] in
     let inside : Marks (begun ++ (code ++ ended)) ss =
     behind begun (code ++ ended) ss (prologue_none e block line words (main_plain program block plain))
-    (both_mark code ended (places_of (all_labels block body)) (ReturnPlace block ∷ []) (statements_mark e none_taken block (types_of (variables_of_block program block)) body (λ j b. declared_at (variables_of_block program block) j (main_plain program block plain) b.1) are bare) (ended_marks e (main_head block line) words)) in
+    (both_mark code ended (places_of (all_labels block body)) (ReturnPlace block ∷ []) (statements_mark e none_taken block (types_of (variables_of_block program block)) body has are bare) (ended_marks e (main_head block line) words)) in
     ap symbols_marked (code_is program block line body plain alone)
-    ∙ behind (start_of block) (raise_code ++ inner) (program_symbols block (all_labels block body)) refl
-    (both_mark raise_code inner (RaiseCondition ∷ RaiseError ∷ ErrorEnd ∷ []) (ProcedureEntry block ∷ ss) refl (ap (λ us. ProcedureEntry block ∷ us) inside))
-
--- ---- how often a label is marked
-
-abbrev symbol_times : Symbol → List Symbol → ℕ
-symbol_times s [] = 0
-symbol_times s (m ∷ ms) = if same_symbol s m then suc (symbol_times s ms) else symbol_times s ms
-
-times_are : (s : Symbol) (at : ℕ) (c : Code) → times_marked s (marks_from at c) ≡ symbol_times s (symbols_marked c)
-times_are s at [] = refl
-times_are s at (Plain i ∷ xs) = times_are s (at + 4 * item_size (Plain i)) xs
-times_are s at (BaseIn r ∷ xs) = times_are s (at + 4 * item_size (BaseIn r)) xs
-times_are s at (OffsetOf r y ∷ xs) = times_are s (at + 4 * item_size (OffsetOf r y)) xs
-times_are s at (OffsetAhead r words ∷ xs) = times_are s (at + 4 * item_size (OffsetAhead r words)) xs
-times_are s at (JumpTo y ∷ xs) = times_are s (at + 4 * item_size (JumpTo y)) xs
-times_are s at (CallTo y ∷ xs) = times_are s (at + 4 * item_size (CallTo y)) xs
-times_are s at (JumpAhead words ∷ xs) = times_are s (at + 4 * item_size (JumpAhead words)) xs
-times_are s at (JumpBack words ∷ xs) = times_are s (at + 4 * item_size (JumpBack words)) xs
-times_are s at (Mark y ∷ xs) = ap (λ n. cond (same_symbol s y) (suc n) n) (times_are s at xs)
-
-label_times : (main block : ℕ) (label : Label) (ps : List (ℕ × Label)) → symbol_times (LabelPlace block label) (places_of ps ++ ReturnPlace main ∷ []) ≡ times block label ps
-label_times main block label [] = refl
-label_times main block label (p ∷ ps) =
-    ap (λ n. cond ((block == p.0) && same_bytes label p.1) (suc n) n) (label_times main block label ps)
-
-end_times : (block : ℕ) (ps : List (ℕ × Label)) → (block == block) ≡ true → symbol_times (ReturnPlace block) (places_of ps ++ ReturnPlace block ∷ []) ≡ 1
-end_times block [] same = ap (λ q. cond q 1 0) same
-end_times block (p ∷ ps) same = end_times block ps same
+    ∙ behind (start_of block) (raise_code ++ (main ++ rest)) (program_symbols block (all_labels block body) alone.others) refl
+    (both_mark raise_code (main ++ rest) (RaiseCondition ∷ RaiseError ∷ ErrorEnd ∷ []) (ProcedureEntry block ∷ (ss ++ procedure_symbols alone.others)) refl
+    (both_mark main rest (ProcedureEntry block ∷ ss) (procedure_symbols alone.others) (ap (λ us. ProcedureEntry block ∷ us) inside)
+    (procedures_mark (environment_of parts program) block all called alone.others has others)))
 
 -- ---- its blocks
 
 abbrev main_place : (block : ℕ) → BlockPlace
 main_place block = record { number = block; level = 0 }
 
-pub blocks_are : (program : Y.Program) (block line : ℕ) (body : Y.Stmts) → IsAlone program block line body → blocks_of program.procedures ≡ with_blocks (blocks_among body) (main_place block ∷ [])
-blocks_are program block line body alone = ap blocks_of alone
+in_order_all : (ps : List Y.Procedure) → InOrder (blocks_of ps)
+in_order_all [] = tt
+in_order_all (p ∷ ps) = in_order (blocks_of_procedure p.block) (blocks_of ps) (in_order_all ps)
+
+-- those of the main procedure, before the others'
+blocks_are : (program : Y.Program) (block line : ℕ) (body : Y.Stmts) → (alone : IsAlone program block line body) → blocks_of program.procedures ≡ with_blocks (main_place block ∷ blocks_among body) (blocks_of alone.others)
+blocks_are program block line body alone = ap blocks_of alone.are
+
+main_among : (program : Y.Program) (block line : ℕ) (body : Y.Stmts) → IsAlone program block line body → (b : BlockPlace) → IsAmong b (main_place block ∷ blocks_among body) → IsAmong b (blocks_of program.procedures)
+main_among program block line body alone b h =
+    subst (IsAmong b) (sym (blocks_are program block line body alone)) (among_with b (main_place block ∷ blocks_among body) (blocks_of alone.others) h)
 
 pub blocks_known : (program : Y.Program) (block line : ℕ) (body : Y.Stmts) → IsAlone program block line body → (b : BlockPlace) → IsAmong b (blocks_among body) → IsAmong b (blocks_of program.procedures)
-blocks_known program block line body alone b h =
-    subst (IsAmong b) (sym (blocks_are program block line body alone)) (among_with b (blocks_among body) (main_place block ∷ []) h)
+blocks_known program block line body alone b h = main_among program block line body alone b (inr h)
 
-blocks_found : (program : Y.Program) (block line : ℕ) (body : Y.Stmts) → IsAlone program block line body → (b : BlockPlace) → IsAmong b (blocks_of program.procedures) → last_of_level b.number b.level 0 (blocks_of program.procedures) ≡ b.number
-blocks_found program block line body alone b h =
-    let order : InOrder (blocks_of program.procedures) = subst InOrder (sym (blocks_are program block line body alone)) (in_order (blocks_among body) (main_place block ∷ []) (tt, tt)) in
-    last_is b 0 (blocks_of program.procedures) order h
+pub others_known : (program : Y.Program) (block line : ℕ) (body : Y.Stmts) (alone : IsAlone program block line body) (b : BlockPlace) → IsAmong b (blocks_of alone.others) → IsAmong b (blocks_of program.procedures)
+others_known program block line body alone b h =
+    subst (IsAmong b) (sym (blocks_are program block line body alone)) (among_all b (main_place block ∷ blocks_among body) (blocks_of alone.others) h)
+
+blocks_found : (program : Y.Program) (b : BlockPlace) → IsAmong b (blocks_of program.procedures) → last_of_level b.number b.level 0 (blocks_of program.procedures) ≡ b.number
+blocks_found program b h = last_is b 0 (blocks_of program.procedures) (in_order_all program.procedures) h
 
 own_block : (program : Y.Program) (block line : ℕ) (body : Y.Stmts) → IsAlone program block line body → last_of_level block 0 0 (blocks_of program.procedures) ≡ block
 own_block program block line body alone =
-    blocks_found program block line body alone (main_place block)
-    (subst (IsAmong (main_place block)) (sym (blocks_are program block line body alone)) (among_all (main_place block) (blocks_among body) (main_place block ∷ []) (inl refl)))
+    blocks_found program (main_place block) (main_among program block line body alone (main_place block) (inl refl))
+
+-- a block of level 0 is the procedure
+outermost_found : (program : Y.Program) (block line : ℕ) (body : Y.Stmts) (types : Types) (all : List (ℕ × Label)) (procedure : ℕ) (outer around : List Label) (every : List (ℕ × Label)) (called : List ℕ) (alone : IsAlone program block line body) → AreProvedStatements block types body → AllJumpAround block 0 all procedure outer around body → AreInner program block every called alone.others → (number : ℕ) → block ≤ number → last_of_level number 0 0 (blocks_of program.procedures) ≡ block
+outermost_found program block line body types all procedure outer around every called alone are jumps inner number above =
+    let others = blocks_of alone.others in
+    let front = with_block (main_place block) others in
+    subst (λ bs. last_of_level number 0 0 bs ≡ block) (sym (blocks_are program block line body alone))
+    (first_of_level block number 0 (with_blocks (blocks_among body) front) above
+    (all_lower block (blocks_among body) front (all_deeper all procedure block types block 0 outer around body are jumps)
+    (lower_with block (main_place block) others (inr refl) (others_lower program block every called alone.others inner)))
+    (inr (among_with (main_place block) (main_place block ∷ blocks_among body) others (inl refl))))
 
 -- ---- the labels
 
-pub labels_stand : (program : Y.Program) (block line : ℕ) (body : Y.Stmts) → AllPlain program.variables → IsAlone program block line body → AreProvedStatements block (types_of (variables_of_block program block)) body → AreBare program body → LabelsStand (main_environment program block) (links_of (code_of parts program)) (all_labels block body)
-labels_stand program block line body plain alone are bare =
+pub labels_stand : (program : Y.Program) (block line : ℕ) (body : Y.Stmts) (called : List ℕ) → AllPlain program.variables → (alone : IsAlone program block line body) → AreProvedStatements block (types_of (variables_of_block program block)) body → AreBare program body → AllJumpAround block 0 (all_labels block body ++ procedure_labels alone.others) block [] (labels_in body) body → AreInner program block (all_labels block body ++ procedure_labels alone.others) called alone.others → LabelsStand (main_environment program block) (links_of (code_of parts program)) (all_labels block body ++ procedure_labels alone.others) block true
+labels_stand program block line body called plain alone are bare jumps inner =
     record {
       own = own_block program block line body alone;
-      found = blocks_found program block line body alone;
+      found = blocks_found program;
       once = λ number label h.
           times_are (LabelPlace number label) 0 (code_of parts program)
-          ∙ ap (symbol_times (LabelPlace number label)) (program_marks program block line body plain alone are bare)
-          ∙ label_times block number label (all_labels block body)
+          ∙ ap (symbol_times (LabelPlace number label)) (program_marks program block line body plain _ _ alone are bare inner)
+          ∙ labels_before block number label (all_labels block body) (procedure_labels alone.others) (procedure_symbols alone.others) (procedure_times number label alone.others)
           ∙ h;
-      owner = λ outermost. refl;
-      ended = λ outermost.
+      owner = λ q. refl;
+      ended = λ q.
           times_are (ReturnPlace block) 0 (code_of parts program)
-          ∙ ap (symbol_times (ReturnPlace block)) (program_marks program block line body plain alone are bare)
-          ∙ end_times block (all_labels block body) (eq-eqb block block refl);
+          ∙ ap (symbol_times (ReturnPlace block)) (program_marks program block line body plain _ _ alone are bare inner)
+          ∙ end_times block (all_labels block body) (procedure_symbols alone.others) (eq-eqb block block refl) (others_end program block _ _ alone.others inner);
+      outermost = λ number above. outermost_found program block line body _ _ _ _ _ _ _ alone are jumps inner number above;
+      outer = λ q. refl;
+      lower = omega arith;
+      inside = λ no. let apart : true ≡ false = no in absurd (cc apart);
     }
+
+-- the entry of a procedure inside it is marked once
+pub entry_stands : (program : Y.Program) (block line : ℕ) (body : Y.Stmts) (called : List ℕ) → AllPlain program.variables → (alone : IsAlone program block line body) → AreProvedStatements block (types_of (variables_of_block program block)) body → AreBare program body → AreInner program block (all_labels block body ++ procedure_labels alone.others) called alone.others → (number : ℕ) → (number == block) ≡ false → number_times number alone.others ≡ 1 → times_marked (ProcedureEntry number) (links_of (code_of parts program)).marks ≡ 1
+entry_stands program block line body called plain alone are bare inner number apart once =
+    let rest = symbol_times (ProcedureEntry number) ((places_of (all_labels block body) ++ ReturnPlace block ∷ []) ++ procedure_symbols alone.others) in
+    times_are (ProcedureEntry number) 0 (code_of parts program)
+    ∙ ap (symbol_times (ProcedureEntry number)) (program_marks program block line body plain _ _ alone are bare inner)
+    ∙ ap (λ q. cond q (suc rest) rest) apart
+    ∙ entry_behind number block (all_labels block body) (procedure_symbols alone.others)
+    ∙ entry_times number alone.others
+    ∙ once
+
+-- and its end
+pub end_stands : (program : Y.Program) (block line : ℕ) (body : Y.Stmts) (called : List ℕ) → AllPlain program.variables → (alone : IsAlone program block line body) → AreProvedStatements block (types_of (variables_of_block program block)) body → AreBare program body → AreInner program block (all_labels block body ++ procedure_labels alone.others) called alone.others → (number : ℕ) → (number == block) ≡ false → number_times number alone.others ≡ 1 → times_marked (ReturnPlace number) (links_of (code_of parts program)).marks ≡ 1
+end_stands program block line body called plain alone are bare inner number apart once =
+    let rest = symbol_times (ReturnPlace number) (procedure_symbols alone.others) in
+    times_are (ReturnPlace number) 0 (code_of parts program)
+    ∙ ap (symbol_times (ReturnPlace number)) (program_marks program block line body plain _ _ alone are bare inner)
+    ∙ ends_behind number block (all_labels block body) (procedure_symbols alone.others)
+    ∙ ap (λ q. cond q (suc rest) rest) apart
+    ∙ ends_times number alone.others
+    ∙ once

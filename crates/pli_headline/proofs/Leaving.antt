@@ -1,13 +1,13 @@
 -- The main procedure is left: its activation ends, the registers are restored, and the start finishes the run.
-use Rattle.std.proofs.Common.{◌≡◌, ℕ, ◌+◌, ◌^◌, ◌<◌, ◌≤◌, List, [], ◌∷◌, ◌++◌, length, None, refl, sym, ap, ◌∙◌, arith, lit<}
-use Rattle.std.specs.Prelude.{ℤ, pos, neg_ℤ, filter, nat_le}
+use Rattle.std.proofs.Common.{◌≡◌, ℕ, ◌+◌, ◌^◌, ◌<◌, ◌≤◌, List, [], ◌∷◌, ◌++◌, None, refl, ap, ◌∙◌, arith, lit<}
+use Rattle.std.specs.Prelude.{pos, neg_ℤ, filter, nat_le}
 use Rattle.rv_meaning.specs.declared.instr.Instr.{Instr}
 use Rattle.rv_meaning.specs.declared.instr.Instr.TheVariants as I
 use Rattle.rv_meaning.specs.declared.instr.ImmediateOp.TheVariants as Imm
 use Rattle.rv_meaning.specs.Words.{word, sum}
 use Rattle.rv_meaning.specs.Memory.{load}
 use Rattle.pli_meaning.specs.declared.outcome.End.TheVariants as E
-use Rattle.pli_meaning.specs.StorageState.{State, Activation}
+use Rattle.pli_meaning.specs.StorageState.{State}
 use Rattle.pli_meaning.specs.Control.{finish}
 use Rattle.pli_serving.specs.ServiceState as S
 use Rattle.pli_serving.specs.ServiceState.{Services}
@@ -26,15 +26,14 @@ use Rattle.pli_headline.proofs.Engine.{Base, address, most_code, call_at}
 use Rattle.pli_headline.proofs.Linking.{size_append}
 use Rattle.pli_headline.proofs.Items.{Linked, At, straight}
 use Rattle.pli_headline.proofs.Numbers.{below_small}
-use Rattle.pli_headline.proofs.Bodies.{Known, Regs, zero_is, frame_is, displaced_by}
+use Rattle.pli_headline.proofs.Bodies.{Regs, displaced_by}
 use Rattle.pli_headline.proofs.Jumps.{front_of, back_of, first_of, hop, jump_register}
-use Rattle.pli_headline.proofs.Temporaries.{nothing}
-use Rattle.pli_headline.proofs.Activations.{Nested}
-use Rattle.pli_headline.proofs.Calls.{Serving, called, Calling, call_done}
+use Rattle.pli_headline.proofs.Statements.{Unwound}
+use Rattle.pli_headline.proofs.Calls.{called, Calling, call_done}
 use Rattle.pli_headline.proofs.Raising.{small_is}
 use Rattle.pli_headline.proofs.Finishing.{Bare, finish_piece}
 use Rattle.pli_headline.proofs.Reach.{Family, Reach, Aims, Comes, Closed, onward}
-use Rattle.pli_headline.proofs.MainGround.{Frame, ground_of}
+use Rattle.pli_headline.proofs.MainGround.{Frame, lowest_holds}
 use Rattle.pli_headline.proofs.MainProcedure.{main_head}
 use Rattle.pli_headline.proofs.Prologue.{over_word}
 
@@ -77,19 +76,19 @@ jump_back = Plain (I.JumpRegister zero_register return_register (pos 0)) ∷ []
 abbrev last_part : (words : ℕ) → Code
 last_part words = load_word frame_register frame_register frame_below ++ jump_back
 
-left_piece : {links : Links} {code : List Instr} {i : ℕ} {v : Services} {h t : ℕ → ℕ} (c : ℕ) (f : Frame) (first : List ℕ) (numbers : ℕ → ℤ) (a : S.Activation) (g : Family) → v.activations ≡ a ∷ [] → Linked links code i (Plain I.Ecall ∷ []) → ((b : Base) → At b i (Known (ground_of f first numbers) v h t (λ b'. (17, 5) ∷ (10, 0) ∷ []) b) (g b)) → Reach code c g v (c + 1) (left_services v a) (λ b w. At b (i + 1) (Returning f (left_services v a) (in_frame f) b) w)
-left_piece {code = code} {i = i} {v = v} c f first numbers a g e l at =
+left_piece : {links : Links} {code : List Instr} {i : ℕ} {v : Services} (c : ℕ) (f : Frame) (a : S.Activation) (g : Family) → v.activations ≡ a ∷ [] → Linked links code i (Plain I.Ecall ∷ []) → ((b : Base) → At b i (Returning f v (λ b'. (17, 5) ∷ (10, 0) ∷ in_frame f b') b) (g b)) → Reach code c g v (c + 1) (left_services v a) (λ b w. At b (i + 1) (Returning f (left_services v a) (in_frame f) b) w)
+left_piece {code = code} {i = i} {v = v} c f a g e l at =
     let v' = left_services v a in
     let calling : Calling _ code i g (λ b. Done v' (g b).machine.memory 0 ((g b).machine.registers 11)) = record {
       linked = l;
       pc = λ b. (at b).pc;
       answers = λ b.
           let o = (at b).holds in
-          called code (g b) v 5 0 ((g b).machine.registers 11) _ _ _ (λ call x0 x1 x2 x3 x4. K.leave_served call x0 x1) o.body.services o.regs.0 o.regs.1.0 refl refl refl refl (λ call x. refl)
+          called code (g b) v 5 0 ((g b).machine.registers 11) _ _ _ (λ call x0 x1 x2 x3 x4. K.leave_served call x0 x1) o.services o.regs.0 o.regs.1.0 refl refl refl refl (λ call x. refl)
           ∙ leave_answer code v (g b).machine.memory a ((g b).machine.registers 11) e;
     } in
     call_done c g v v' (λ b. (g b).machine.memory) (λ b. 0) (λ b. (g b).machine.registers 11) (λ b. Returning f v' (in_frame f) b) (omega arith) calling
-    (λ b. let o = (at b).holds.body in record { services = refl; regs = (frame_is o, (zero_is o, tt)); resumes = o.memory.resumes })
+    (λ b. let o = (at b).holds in record { services = refl; regs = o.regs.1.1; resumes = o.resumes })
 
 restored_piece : {links : Links} {code : List Instr} {i : ℕ} {v : Services} (c : ℕ) (f : Frame) (g : Family) → Linked links code i all_restored → ((b : Base) → At b i (Returning f v (in_frame f) b) (g b)) → Reach code c g v (c + 8) v (λ b w. At b (i + 8) (Returning f v (restored_in f) b) w)
 restored_piece {v = v} c f g l at =
@@ -153,17 +152,8 @@ returned_piece {code = code} {i = i} {v = v} c f g near l at =
 
 -- ---- from the end of the statements to the end of the run
 
-only_activation : (as' : List Activation) (xs : List S.Activation) → Nested as' xs → length as' ≡ 1 → (a : S.Activation) × (xs ≡ a ∷ [])
-only_activation [] xs h e = absurd (cc e)
-only_activation (a ∷ as') [] h e = absurd h
-only_activation (a ∷ []) (x ∷ []) h e = (x, refl)
-only_activation (a ∷ []) (x ∷ y ∷ xs) h e = absurd h.1.1
-only_activation (a ∷ a' ∷ as') (x ∷ xs) h e = absurd (omega (arith, e))
-
-pub leaving_piece : {X : Type 0} {links : Links} {code : List Instr} {i : ℕ} {v : Services} {h t : ℕ → ℕ} {aims : Aims X} (closed : Closed code aims) (e : Environment) (block line words : ℕ) (f : Frame) (first : List ℕ) (numbers : ℕ → ℤ) (g : Family) (s s' : State) (current k : ℕ) → temporary_bytes words < 2 ^ 24 → f.resume ≤ most_code → Linked links code i (procedure_ended e (main_head block line) words None) → Linked links code f.resume finish_code → Serving k s v current → length s.activations ≡ 1 → s'.world ≡ s.world → ((b : Base) → At b i (Known (ground_of f first numbers) v h t nothing b) (g b)) → Comes code i g v aims (finish {R = X} E.Finished k s')
-leaving_piece {code = code} {i = i} {v = v} {h = h} {t = t} closed e block line words f first numbers g s s' current k few near l finish' serving entered same at =
-    let only = only_activation s.activations v.activations serving.nested entered in
-    let a = only.0 in
+pub leaving_piece : {X : Type 0} {links : Links} {code : List Instr} {i : ℕ} {v : Services} {aims : Aims X} (closed : Closed code aims) (e : Environment) (block line words : ℕ) (f : Frame) (g : Family) (s : State) (k : ℕ) (a : S.Activation) → temporary_bytes words < 2 ^ 24 → f.resume ≤ most_code → Linked links code i (procedure_ended e (main_head block line) words None) → Linked links code f.resume finish_code → v.world ≡ s.world → v.world.end ≡ E.Running → v.world.acts ≤ k → k + 1 < 2 ^ 64 → v.activations ≡ a ∷ [] → ((b : Base) → At b i (Unwound f.at (lowest_holds f) v b) (g b)) → Comes code i g v aims (finish {R = X} E.Finished k s)
+leaving_piece {code = code} {i = i} {v = v} closed e block line words f g s k a few near l finish' same running allowed fits only at =
     let v' = left_services v a in
     let ps = plus stack_register frame_register (neg_ℤ (pos (temporary_bytes words))) in
     let ended = frame_ended words ++ jump_back in
@@ -177,13 +167,14 @@ leaving_piece {code = code} {i = i} {v = v} {h = h} {t = t} closed e block line 
     let size = size_append ps (load_word frame_register frame_register frame_below) in
     let here : i + 2 + 1 + 8 + size_of ps + 1 ≡ i + 2 + 1 + 8 + size_of (frame_ended words) = omega (arith, size) in
     let room = l6.inside in
-    let r1 = straight i g v v (λ b w. Known (ground_of f first numbers) v h t (λ b'. (17, 5) ∷ (10, 0) ∷ []) b w) (front_of asked (Plain I.Ecall ∷ (all_restored ++ ended)) l) (omega arith) (λ b. (at b).pc)
-    (λ b. let o = (at b).holds in let z = zero_is o.body in record {
-      body = record { services = o.body.services; registers = o.body.registers; bytes = o.body.bytes; memory = o.body.memory };
-      regs = (small_is _ 5 z (lit< tt), (small_is _ 0 z (lit< tt), tt));
+    let r1 = straight i g v v (λ b w. Returning f v (λ b'. (17, 5) ∷ (10, 0) ∷ in_frame f b') b w) (front_of asked (Plain I.Ecall ∷ (all_restored ++ ended)) l) (omega arith) (λ b. (at b).pc)
+    (λ b. let o = (at b).holds in let z = o.regs.1.0 in record {
+      services = o.services;
+      regs = (small_is _ 5 z (lit< tt), (small_is _ 0 z (lit< tt), o.regs));
+      resumes = o.memory.0;
     }) in
     onward closed r1 (λ g1 at1.
-    onward closed (left_piece (i + 2) f first numbers a g1 only.1 (first_of (Plain I.Ecall) (all_restored ++ ended) l1) at1) (λ g2 at2.
+    onward closed (left_piece (i + 2) f a g1 only (first_of (Plain I.Ecall) (all_restored ++ ended) l1) at1) (λ g2 at2.
     onward closed (restored_piece (i + 2 + 1) f g2 (front_of all_restored ended l2) at2) (λ g3 at3.
     onward closed (lowered_piece (i + 2 + 1 + 8) f (temporary_bytes words) g3 few (front_of ps (load_word frame_register frame_register frame_below) l4) at3) (λ g4 at4.
     let r5 = straight (i + 2 + 1 + 8 + size_of ps) g4 v' v' (λ b w. Bare v' ((1, address b f.resume) ∷ (0, 0) ∷ []) w) l5 (omega arith) (λ b. (at4 b).pc)
@@ -193,4 +184,4 @@ leaving_piece {code = code} {i = i} {v = v} {h = h} {t = t} closed e block line 
     )) in
     onward closed r5 (λ g5 at5.
     onward closed (returned_piece (i + 2 + 1 + 8 + size_of ps + 1) f g5 near l6 (λ b. record { pc = (at5 b).pc ∙ ap (address b) here; holds = (at5 b).holds })) (λ g6 at6.
-    finish_piece closed (i + 2 + 1 + 8 + size_of ps + 1 + 1) g6 s' k (omega (arith, room, size)) finish' (serving.world ∙ sym same) serving.running serving.allowed serving.fits at6))))))
+    finish_piece closed (i + 2 + 1 + 8 + size_of ps + 1 + 1) g6 s k (omega (arith, room, size)) finish' same running allowed fits at6))))))

@@ -6,6 +6,8 @@ use Rattle.rv_meaning.specs.Machine.{memory_size}
 use Rattle.rv_meaning.proofs.MemoryLaws.{length-store, byte-store_below, load-same, load-store_same, load-store_other}
 use Rattle.pli_coding.specs.Frames.{temporary_bytes}
 use Rattle.pli_headline.proofs.Engine.{Base, address, most_code}
+use Rattle.pli_headline.proofs.Holdings.{Counted}
+use Rattle.pli_headline.proofs.VariablePlaces.{Sizes, room_of}
 use Rattle.pli_headline.proofs.MainGround.{Frame, Stands, statics_end}
 use Rattle.pli_headline.proofs.FirstFrame.{start_memory, start_length, start_resume}
 
@@ -21,20 +23,21 @@ frame_whole words = omega arith
 pub frame_above : (words : ℕ) → 7 * 2 ^ 20 + 48 + 4 * words ≤ frame_place words
 frame_above words = omega arith
 
-pub frame_inside : (words count : ℕ) → words ≤ most_code → 32 * count ≤ 2 ^ 20 → frame_place words + 160 + 32 * count ≤ 14 * 2 ^ 20
-frame_inside words count small' few = omega (arith, small', few)
+pub frame_inside : (words : ℕ) (sizes : Sizes) (count : ℕ) → words ≤ most_code → room_of sizes count ≤ 2 ^ 20 → frame_place words + 160 + room_of sizes count ≤ 14 * 2 ^ 20
+frame_inside words sizes count small' few = omega (arith, small', few)
 
 -- the frame with so many variables
-abbrev pub main_frame : (words count : ℕ) → words ≤ most_code → 32 * count ≤ 2 ^ 20 → Frame
-main_frame words count small' few =
+abbrev pub main_frame : (words : ℕ) (sizes : Sizes) (count : ℕ) → words ≤ most_code → room_of sizes count ≤ 2 ^ 20 → Frame
+main_frame words sizes count small' few =
     record {
       at = frame_place words;
       words = words;
       count = count;
+      sizes = sizes;
       resume = start_resume;
       whole = frame_whole words;
       above_statics = frame_above words;
-      inside = frame_inside words count small' few;
+      inside = frame_inside words sizes count small' few;
     }
 
 -- ---- stores from a place on
@@ -138,7 +141,7 @@ start_words first q above =
     ∙ load-store_other 4 4 first (statics_end + 36) statics_end q (inr (omega (arith, above)))
 
 -- a frame without variables, where the registers hold what they do at the entry
-pub frame_stands : (f : Frame) (first : List ℕ) (b : Base) (x : ℕ → ℕ) (top own : ℕ) → f.count ≡ 0 → f.resume ≤ most_code → length first ≡ memory_size → x 1 ≡ address b f.resume → x 8 ≡ b.at + statics_end → own ≡ f.at → Stands f first (λ j. pos 0) (first_words first f.at) b (filled_in (start_memory first) f.at x top own)
+pub frame_stands : (f : Frame) (first : List ℕ) (b : Base) (x : ℕ → ℕ) (top own : ℕ) → f.count ≡ 0 → f.resume ≤ most_code → length first ≡ memory_size → x 1 ≡ address b f.resume → x 8 ≡ b.at + statics_end → own ≡ f.at → Stands f first (λ j. Counted (pos 0)) (first_words first f.at) b (filled_in (start_memory first) f.at x top own)
 frame_stands f first b x top own none near len ra below mine =
     let m = start_memory first in
     let above = f.above_statics in
@@ -154,5 +157,6 @@ frame_stands f first b x top own none near len ra below mine =
       below = (filled_below m f.at x top own (omega (arith, below, v)) (omega (arith, saved, inside))).is ∙ below;
       own = filled_own m f.at x top own (omega (arith, mine, inside)) (omega (arith, last, inside)) ∙ mine;
       variables = λ j h. absurd (omega (arith, none, h));
+      fits = λ j h. absurd (omega (arith, none, h));
       temporaries = λ j h. load-same 4 (filled_in m f.at x top own) m (f.at - 4 * suc j) (λ k a c. keeps.under k (omega (arith, above, h, c))) ∙ start_words first (f.at - 4 * suc j) (omega (arith, above, h));
     }

@@ -1,6 +1,6 @@
 -- What stands in memory while the main procedure runs: its frame, its variables, its temporaries and the static data.
-use Rattle.std.proofs.Common.{◌≡◌, ℕ, suc, ◌+◌, ◌-◌, ◌*◌, ◌%◌, ◌^◌, ◌<◌, ◌≤◌, ◌⊎◌, inl, inr, List, [], length, Some, Bool, true, false, refl, sym, ap, ◌∙◌, subst, arith}
-use Rattle.std.specs.Prelude.{ℤ, pos, cond, ◌==◌, slice_get, slice_index}
+use Rattle.std.proofs.Common.{◌≡◌, ℕ, suc, ◌+◌, ◌-◌, ◌*◌, ◌%◌, ◌^◌, ◌<◌, ◌≤◌, ◌⊎◌, inl, inr, List, length, Bool, true, false, refl, sym, ap, ◌∙◌, subst, arith}
+use Rattle.std.specs.Prelude.{ℤ, pos, cond, ◌==◌, slice_index}
 use Rattle.std.proofs.lemmas.Bool.{eqb-true}
 use Rattle.std.proofs.lemmas.Bool.Decides.{nat_tests}
 use Rattle.rv_meaning.specs.declared.instr.StoreKind.{StoreKind}
@@ -10,55 +10,55 @@ use Rattle.rv_meaning.specs.Memory.{load, store}
 use Rattle.rv_meaning.specs.Machine.{memory_size, load_width, extended, store_width}
 use Rattle.rv_meaning.proofs.MemoryLaws.{byte-store_below, load-store_same, load-store_other}
 use Rattle.pli_typing.specs.TypedTree as Y
-use Rattle.pli_coding.specs.Environments.{Environment, none_taken}
-use Rattle.pli_headline.specs.ProvedSoFar.{Types}
+use Rattle.pli_headline.specs.ProvedSoFar.{Kind, alone}
 use Rattle.pli_headline.proofs.Engine.{Base, address}
 use Rattle.pli_headline.proofs.Numbers.{above_sum, above_small, word_small}
-use Rattle.pli_headline.proofs.Scalars.{Fits, fits_wide, load_kind, store_kind, Typed, kind_at, kind_is, place_below}
-use Rattle.pli_headline.proofs.Cells.{Cell, kept_by, content, content_word, cell_other, cell_stored, cell_found}
+use Rattle.pli_headline.proofs.Scalars.{Fits, fits_wide, load_kind, store_kind, Values}
+use Rattle.pli_headline.proofs.VariablePlaces.{Sizes, room_of, number_place, room_before, room_next, room_even, apart_places}
+use Rattle.pli_headline.proofs.Cells.{Cell, kept_by, content, content_word, cell_stored, cell_found}
+use Rattle.pli_headline.proofs.Holdings.{Content, Counted, There, size_in, there_other, content_numeric, content_for, sizes_same}
 use Rattle.pli_headline.proofs.Bodies.{Ground, PlaceFrom}
-use Rattle.pli_headline.proofs.Reaching.{Reaches}
 use Rattle.pli_headline.proofs.Temporaries.{Temporaries}
-use Rattle.pli_headline.proofs.Variables.{IsDeclared, data_place}
 use Rattle.pli_headline.proofs.States.{with_number_at}
-use Rattle.pli_headline.proofs.Statements.{Stack, Block}
 
--- where the frame lies, its words for temporaries, how many variables stand in it, and the index at which its caller goes on
+-- where the frame lies, its words for temporaries, how many variables stand in it and what they take, and the index at which its caller goes on
 pub record Frame : Type 0 where
   pub at : ℕ
   pub words : ℕ
   pub count : ℕ
+  pub sizes : Sizes
   pub resume : ℕ
   pub whole : at % 4 ≡ 0
   pub above_statics : 7 * 2 ^ 20 + 48 + 4 * words ≤ at
-  pub inside : at + 160 + 32 * count ≤ 14 * 2 ^ 20
+  pub inside : at + 160 + room_of sizes count ≤ 14 * 2 ^ 20
 
 abbrev pub statics_end : ℕ
 statics_end = 7 * 2 ^ 20
 
--- the data of the jth variable, from the frame
-abbrev pub number_place : ℕ → ℕ
-number_place j = 160 + 32 * j
-
-pub record Stands (f : Frame) (first : List ℕ) (numbers : ℕ → ℤ) (t : ℕ → ℕ) (b : Base) (m : List ℕ) : Type 0 where
+pub record Stands (f : Frame) (first : List ℕ) (held : ℕ → Content) (t : ℕ → ℕ) (b : Base) (m : List ℕ) : Type 0 where
   pub statics : (k : ℕ) → k < statics_end → slice_index m k ≡ slice_index first k
   pub resumes : load 4 m f.at ≡ address b f.resume
   pub below : load 4 m (f.at + 4) ≡ b.at + statics_end
   pub own : load 4 m (f.at + 36) ≡ f.at
-  pub variables : (j : ℕ) → j < f.count → Cell m (f.at + number_place j) (word (numbers j))
+  pub variables : (j : ℕ) → j < f.count → There m (f.at + number_place f.sizes j) (held j)
+  pub fits : (j : ℕ) → j < f.count → 16 + size_in (held j) ≤ f.sizes.of j
   pub temporaries : (j : ℕ) → j < f.words → load 4 m (f.at - 4 * suc j) ≡ t j
 
-abbrev pub ground_of : Frame → List ℕ → (ℕ → ℤ) → Ground
-ground_of f first numbers =
+abbrev pub ground_of : Frame → List ℕ → (ℕ → Content) → Ground
+ground_of f first held =
     record {
       frame = f.at;
-      free = f.at + 144 + 32 * f.count;
+      free = f.at + 144 + room_of f.sizes f.count;
       words = f.words;
-      memory = Stands f first numbers;
+      memory = Stands f first held;
       whole = f.whole;
       above_code = let h = f.above_statics in omega (arith, h);
       inside = let h = f.inside in omega (arith, h);
     }
+
+-- where its caller goes on, and the frame's own offset
+abbrev pub lowest_holds : Frame → Base → List ℕ → Type 0
+lowest_holds f b m = (load 4 m f.at ≡ address b f.resume) × (load 4 m (f.at + 36) ≡ f.at)
 
 -- ---- temporaries
 
@@ -72,8 +72,8 @@ word_put true m t at i j x words e len fits h k r s o =
 word_put false m t at i j x words e len fits h k r s o =
     load-store_other 4 4 m (at - 4 * suc j) x (at - 4 * suc i) (apart_words at i j words e h k r) ∙ o
 
-pub main_temporaries : (f : Frame) (first : List ℕ) (numbers : ℕ → ℤ) → Temporaries (ground_of f first numbers)
-main_temporaries f first numbers =
+pub main_temporaries : (f : Frame) (first : List ℕ) (held : ℕ → Content) → Temporaries (ground_of f first held)
+main_temporaries f first held =
     let above = f.above_statics in
     let inside = f.inside in
     record {
@@ -84,7 +84,8 @@ main_temporaries f first numbers =
             resumes = load-store_other 4 4 m p x f.at (inr (omega (arith, above, below))) ∙ o.resumes;
             below = load-store_other 4 4 m p x (f.at + 4) (inr (omega (arith, above, below))) ∙ o.below;
             own = load-store_other 4 4 m p x (f.at + 36) (inr (omega (arith, above, below))) ∙ o.own;
-            variables = λ i h. cell_other 4 m p x (f.at + number_place i) (word (numbers i)) (inr (omega (arith, above, below))) (o.variables i h);
+            variables = λ i h. there_other 4 m p x (f.at + number_place f.sizes i) (held i) (inr (omega (arith, above, below))) (o.variables i h);
+            fits = o.fits;
             temporaries = λ i h. word_put (i == j) m t f.at i j x f.words refl len fits h below (omega (arith, above)) (omega (arith, inside)) (o.temporaries i h);
           };
       found = λ t b m j below known o. o.temporaries j below;
@@ -92,128 +93,94 @@ main_temporaries f first numbers =
 
 -- ---- variables
 
-apart_numbers : (n at i j : ℕ) → n ≤ 4 → (i == j) ≡ false → (at + number_place i + 4 ≤ at + number_place j) ⊎ (at + number_place j + n ≤ at + number_place i)
-apart_numbers n at i j few e = grind (arith, nat_tests)
-
 pub width_few : (kind : StoreKind) → store_width kind ≤ 4
 width_few Store.Byte = omega arith
 width_few Store.Half = omega arith
 width_few Store.Word = omega arith
 
--- what stands where the variables hold these numbers
-abbrev pub contents : (ℕ → Y.LeafType) → (ℕ → ℤ) → ℕ → ℤ
-contents kind numbers j = content (kind j) (numbers j)
+-- what stands where the variables hold these numbers and texts
+abbrev pub contents : (ℕ → Kind) → Values → ℕ → Content
+contents kind held j = content_for (kind j) (held.numbers j) (held.texts j) (held.arrays j)
 
-number_put : (q : Bool) (kind : ℕ → Y.LeafType) (m : List ℕ) (numbers : ℕ → ℤ) (at i j : ℕ) (z : ℤ) → (i == j) ≡ q → length m ≡ memory_size → Fits (kind j) (numbers j) → Fits (kind j) z → at + number_place j + 4 ≤ memory_size → Cell m (at + number_place i) (word (contents kind numbers i)) → Cell (store (store_width (store_kind (kind j))) m (at + number_place j) (word z)) (at + number_place i) (word (content (kind i) (cond q z (numbers i))))
-number_put true kind m numbers at i j z e len old fits h o =
+number_put : (s : Sizes) (q : Bool) (kind : ℕ → Kind) (type : Y.LeafType) (m : List ℕ) (held : Values) (at i j : ℕ) (z : ℤ) → (i == j) ≡ q → kind j ≡ alone type → length m ≡ memory_size → Fits type (held.numbers j) → Fits type z → at + number_place s j + 4 ≤ memory_size → 16 + size_in (contents kind held i) ≤ s.of i → There m (at + number_place s i) (contents kind held i) → There (store (store_width (store_kind type)) m (at + number_place s j) (word z)) (at + number_place s i) (content_for (kind i) (cond q z (held.numbers i)) (held.texts i) (held.arrays i))
+number_put s true kind type m held at i j z e is len old fits h size o =
     let same : i ≡ j = eqb-true i j e in
-    let type = kind j in
+    let p = at + number_place s j in
     let wide = fits_wide type z fits in
-    let here : Cell m (at + number_place j) (kept_by (store_kind type) (word (numbers j))) =
-    subst (Cell m (at + number_place j)) (content_word type (numbers j) (fits_wide type (numbers j) old)) (subst (λ u. Cell m (at + number_place u) (word (contents kind numbers u))) same o) in
-    subst (λ u. Cell (store (store_width (store_kind type)) m (at + number_place j) (word z)) (at + number_place u) (word (content (kind u) z))) (sym same)
-    (subst (Cell (store (store_width (store_kind type)) m (at + number_place j) (word z)) (at + number_place j)) (sym (content_word type z wide))
-    (cell_stored (store_kind type) m (at + number_place j) (word (numbers j)) (word z) (word_small z wide) (omega (arith, len, h)) here))
-number_put false kind m numbers at i j z e len old fits h o =
-    cell_other (store_width (store_kind (kind j))) m (at + number_place j) (word z) (at + number_place i) (word (contents kind numbers i)) (apart_numbers (store_width (store_kind (kind j))) at i j (width_few (store_kind (kind j))) e) o
+    let whole : There m p (content_for (kind j) (held.numbers j) (held.texts j) (held.arrays j)) = subst (λ u. There m (at + number_place s u) (contents kind held u)) same o in
+    let mine : There m p (Counted (content type (held.numbers j))) =
+    subst (There m p) (content_numeric type (held.numbers j) (held.texts j) old) (subst (λ k. There m p (content_for k (held.numbers j) (held.texts j) (held.arrays j))) is whole) in
+    let here : Cell m p (kept_by (store_kind type) (word (held.numbers j))) = subst (Cell m p) (content_word type (held.numbers j) (fits_wide type (held.numbers j) old)) mine in
+    let m' = store (store_width (store_kind type)) m p (word z) in
+    let there : Cell m' p (word (content type z)) =
+    subst (Cell m' p) (sym (content_word type z wide)) (cell_stored (store_kind type) m p (word (held.numbers j)) (word z) (word_small z wide) (omega (arith, len, h)) here) in
+    subst (λ u. There m' (at + number_place s u) (content_for (kind u) z (held.texts u) (held.arrays u))) (sym same)
+    (subst (λ k. There m' p (content_for k z (held.texts j) (held.arrays j))) (sym is)
+    (subst (There m' p) (sym (content_numeric type z (held.texts j) fits)) there))
+number_put s false kind type m held at i j z e is len old fits h size o =
+    there_other (store_width (store_kind type)) m (at + number_place s j) (word z) (at + number_place s i) (contents kind held i) (apart_places s (store_width (store_kind type)) (size_in (contents kind held i)) at i j (width_few (store_kind type)) size e) o
 
-pub main_writes : (f : Frame) (first : List ℕ) (kind : ℕ → Y.LeafType) (numbers : ℕ → ℤ) (j : ℕ) (z : ℤ) → j < f.count → Fits (kind j) (numbers j) → Fits (kind j) z → (t : ℕ → ℕ) (b : Base) (m : List ℕ) → length m ≡ memory_size → Stands f first (contents kind numbers) t b m → Stands f first (contents kind (with_number_at numbers j z)) t b (store (store_width (store_kind (kind j))) m (f.at + number_place j) (word z))
-main_writes f first kind numbers j z below old fits t b m len o =
+pub main_writes : (f : Frame) (first : List ℕ) (kind : ℕ → Kind) (held : Values) (j : ℕ) (type : Y.LeafType) (z : ℤ) → j < f.count → kind j ≡ alone type → Fits type (held.numbers j) → Fits type z → (t : ℕ → ℕ) (b : Base) (m : List ℕ) → length m ≡ memory_size → Stands f first (contents kind held) t b m → Stands f first (contents kind (with_number_at held j z)) t b (store (store_width (store_kind type)) m (f.at + number_place f.sizes j) (word z))
+main_writes f first kind held j type z below is old fits t b m len o =
     let above = f.above_statics in
     let inside = f.inside in
-    let p = f.at + number_place j in
-    let n = store_width (store_kind (kind j)) in
+    let p = f.at + number_place f.sizes j in
+    let n = store_width (store_kind type) in
     record {
       statics = λ k h. byte-store_below n m p (word z) k (omega (arith, above, h)) ∙ o.statics k h;
       resumes = load-store_other n 4 m p (word z) f.at (inl (omega arith)) ∙ o.resumes;
       below = load-store_other n 4 m p (word z) (f.at + 4) (inl (omega arith)) ∙ o.below;
       own = load-store_other n 4 m p (word z) (f.at + 36) (inl (omega arith)) ∙ o.own;
-      variables = λ i h. number_put (i == j) kind m numbers f.at i j z refl len old fits (omega (arith, inside, below)) (o.variables i h);
+      variables = λ i h. number_put f.sizes (i == j) kind type m held f.at i j z refl is len old fits (let r = room_before f.sizes j f.count below in omega (arith, inside, r)) (o.fits i h) (o.variables i h);
+      fits = λ i h. subst (λ u. 16 + u ≤ f.sizes.of i) (sizes_same (kind i) (held.numbers i) ((with_number_at held j z).numbers i) (held.texts i) (held.texts i) (held.arrays i) (held.arrays i)) (o.fits i h);
       temporaries = λ i h. load-store_other n 4 m p (word z) (f.at - 4 * suc i) (inl (omega (arith, above, h))) ∙ o.temporaries i h;
     }
 
 -- without variables there is nothing to hold
-pub no_contents : (f : Frame) (first : List ℕ) (numbers others : ℕ → ℤ) (t : ℕ → ℕ) (b : Base) (m : List ℕ) → f.count ≡ 0 → Stands f first numbers t b m → Stands f first others t b m
-no_contents f first numbers others t b m none o =
+pub no_contents : (f : Frame) (first : List ℕ) (held others : ℕ → Content) (t : ℕ → ℕ) (b : Base) (m : List ℕ) → f.count ≡ 0 → Stands f first held t b m → Stands f first others t b m
+no_contents f first held others t b m none o =
     record {
       statics = o.statics;
       resumes = o.resumes;
       below = o.below;
       own = o.own;
       variables = λ j h. absurd (omega (arith, none, h));
+      fits = λ j h. absurd (omega (arith, none, h));
       temporaries = o.temporaries;
     }
 
-pub place_at : (f : Frame) (j n : ℕ) → j < f.count → n ≡ number_place j → PlaceFrom f.at (pos n) (f.at + n)
+pub place_at : (f : Frame) (j n : ℕ) → j < f.count → n ≡ number_place f.sizes j → PlaceFrom f.at (pos n) (f.at + n)
 place_at f j n below e =
     let above = f.above_statics in
     let inside = f.inside in
     let whole = f.whole in
+    let even = room_even f.sizes j in
+    let under = room_before f.sizes j f.count below in
     record {
-      small' = above_small n (omega (arith, e, inside, below));
-      sums = λ b. above_sum b.at f.at n b.valid.1 (omega (arith, e, inside, below));
-      aligned = omega (arith, e, whole);
-      inside = omega (arith, e, inside, below);
+      small' = above_small n (omega (arith, e, inside, under));
+      sums = λ b. above_sum b.at f.at n b.valid.1 (omega (arith, e, inside, under));
+      aligned = omega (arith, e, whole, even);
+      inside = omega (arith, e, inside, under);
       above_code = omega (arith, above);
     }
 
-pub reads_by : (f : Frame) (first : List ℕ) (kind : ℕ → Y.LeafType) (numbers : ℕ → ℤ) (j : ℕ) (type : Y.LeafType) → j < f.count → kind j ≡ type → Fits type (numbers j) → (t : ℕ → ℕ) (b : Base) (m : List ℕ) → Stands f first (contents kind numbers) t b m → extended (load_kind type) (load (load_width (load_kind type)) m (f.at + number_place j)) ≡ word (numbers j)
-reads_by f first kind numbers j type below e fits t b m o =
-    let found : Cell m (f.at + number_place j) (word (content type (numbers j))) = subst (λ u. Cell m (f.at + number_place j) (word (content u (numbers j)))) e (o.variables j below) in
-    cell_found type (numbers j) m (f.at + number_place j) fits (subst (Cell m (f.at + number_place j)) (content_word type (numbers j) (fits_wide type (numbers j) fits)) found)
+pub reads_by : (f : Frame) (first : List ℕ) (kind : ℕ → Kind) (held : Values) (j : ℕ) (type : Y.LeafType) → j < f.count → kind j ≡ alone type → Fits type (held.numbers j) → (t : ℕ → ℕ) (b : Base) (m : List ℕ) → Stands f first (contents kind held) t b m → extended (load_kind type) (load (load_width (load_kind type)) m (f.at + number_place f.sizes j)) ≡ word (held.numbers j)
+reads_by f first kind held j type below e fits t b m o =
+    let p = f.at + number_place f.sizes j in
+    let found : There m p (Counted (content type (held.numbers j))) =
+    subst (There m p) (content_numeric type (held.numbers j) (held.texts j) fits) (subst (λ u. There m p (content_for u (held.numbers j) (held.texts j) (held.arrays j))) e (o.variables j below)) in
+    cell_found type (held.numbers j) m (f.at + number_place f.sizes j) fits (subst (Cell m (f.at + number_place f.sizes j)) (content_word type (held.numbers j) (fits_wide type (held.numbers j) fits)) found)
 
 -- what lies above the frame may change
-pub main_keeps : (f : Frame) (first : List ℕ) (numbers : ℕ → ℤ) (t : ℕ → ℕ) (b : Base) (m : List ℕ) (p x : ℕ) → f.at + 144 + 32 * f.count ≤ p → Stands f first numbers t b m → Stands f first numbers t b (store 4 m p x)
-main_keeps f first numbers t b m p x over o =
+pub main_keeps : (f : Frame) (first : List ℕ) (held : ℕ → Content) (t : ℕ → ℕ) (b : Base) (m : List ℕ) (p x : ℕ) → f.at + 144 + room_of f.sizes f.count ≤ p → Stands f first held t b m → Stands f first held t b (store 4 m p x)
+main_keeps f first held t b m p x over o =
     let above = f.above_statics in
     record {
       statics = λ k h. byte-store_below 4 m p x k (omega (arith, above, over, h)) ∙ o.statics k h;
       resumes = load-store_other 4 4 m p x f.at (inl (omega (arith, over))) ∙ o.resumes;
       below = load-store_other 4 4 m p x (f.at + 4) (inl (omega (arith, over))) ∙ o.below;
       own = load-store_other 4 4 m p x (f.at + 36) (inl (omega (arith, over))) ∙ o.own;
-      variables = λ j h. cell_other 4 m p x (f.at + number_place j) (word (numbers j)) (inl (omega (arith, over, h))) (o.variables j h);
+      variables = λ j h. there_other 4 m p x (f.at + number_place f.sizes j) (held j) (inl (let r = room_next f.sizes j f.count h in let size = o.fits j h in omega (arith, over, r, size))) (o.variables j h);
+      fits = o.fits;
       temporaries = λ j h. load-store_other 4 4 m p x (f.at - 4 * suc j) (inl (omega (arith, over))) ∙ o.temporaries j h;
-    }
-
-abbrev main_stack : (f : Frame) (first : List ℕ) (e : Environment) (block : ℕ) (types : Types) → ((j : ℕ) (type : Y.LeafType) → slice_get types j ≡ Some type → j < f.count) → ((j : ℕ) → j < f.count → data_place e block j ≡ number_place j) → Stack e block types f.at (λ n. ground_of f first (contents (kind_at types) n))
-main_stack f first e block types inside placed =
-    let above = f.above_statics in
-    let whole = f.whole in
-    record {
-      frame = f.at;
-      free = f.at + 144 + 32 * f.count;
-      frame_is = λ n. refl;
-      free_is = λ n. refl;
-      aligned = omega (arith, whole);
-      high = omega (arith, above);
-      above = omega arith;
-      keeps = λ n. main_keeps f first (contents (kind_at types) n);
-      under = λ j {type} below. let h = inside j type below in let e' = placed j h in omega (arith, e', h);
-    }
-
--- the main procedure's block, where its variables are scalars and stand one behind the other
-unfoldable pub main_block : (f : Frame) (first : List ℕ) (e : Environment) (block : ℕ) (types : Types) → e.level ≡ 0 → f.count ≡ length types → ((j : ℕ) (b : Typed types j) → IsDeclared e block j b.0) → ((j : ℕ) → j < f.count → data_place e block j ≡ number_place j) → Block e block types
-main_block f first e block types outermost count declared placed =
-    let inside : (j : ℕ) (type : Y.LeafType) → slice_get types j ≡ Some type → j < f.count = λ j type h. let n = place_below types j type h in omega (arith, n, count) in
-    record {
-      ground = λ n. ground_of f first (contents (kind_at types) n);
-      words = f.words;
-      taken = none_taken;
-      labels = [];
-      base = f.at;
-      within = let i = f.inside in omega (arith, i);
-      words_are = λ n. refl;
-      same = λ n n' b h. refl;
-      temps = λ n. main_temporaries f first (contents (kind_at types) n);
-      declared = λ j {type} below. declared j (type, below);
-      reach = λ n. subst (λ l. Reaches (0 == l) (ground_of f first (contents (kind_at types) n)) f.at) (sym outermost) refl;
-      places = λ j {type} below. place_at f j (data_place e block j) (inside j type below) (placed j (inside j type below));
-      reads = λ n j {type} below fits t b m o. ap (λ u. extended (load_kind type) (load (load_width (load_kind type)) m (f.at + u))) (placed j (inside j type below)) ∙ reads_by f first (kind_at types) n j type (inside j type below) (kind_is types j below) fits t b m o;
-      writes = λ n j z {type} below old fits t b m len o.
-          let k = kind_is types j below in
-          let T : Y.LeafType → ℕ → Type 0 = λ w u. Stands f first (contents (kind_at types) (with_number_at n j z)) t b (store (store_width (store_kind w)) m (f.at + u) (word z)) in
-          let d = main_writes f first (kind_at types) n j z (inside j type below) (subst (λ w. Fits w (n j)) (sym k) old) (subst (λ w. Fits w z) (sym k) fits) t b m len o in
-          subst (λ w. T w (data_place e block j)) k (subst (T (kind_at types j)) (sym (placed j (inside j type below))) d);
-      held = refl;
-      stack = main_stack f first e block types inside placed;
     }

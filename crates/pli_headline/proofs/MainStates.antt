@@ -1,48 +1,67 @@
 -- The state of the main procedure when so many of its variables are made, and the services beside it.
-use Rattle.std.proofs.Common.{◌≡◌, ℕ, zero, suc, ◌+◌, ◌*◌, ◌<◌, List, [], ◌∷◌, map, Some, None, Bool, true, false, refl, sym, ap, ◌∙◌, subst, arith}
-use Rattle.std.specs.Prelude.{ℤ, pos, cond, nat_le, ◌==◌}
+use Rattle.std.proofs.Common.{◌≡◌, ℕ, zero, suc, ◌+◌, ◌*◌, ◌<◌, List, [], ◌∷◌, map, Some, None, Bool, true, false, refl, sym, ap, ◌∙◌, subst, arith, ◌≤◌}
+use Rattle.std.specs.Prelude.{ℤ, pos, cond, nat_le, ◌==◌, nat_lt, ◌-◌}
 use Rattle.std.proofs.lemmas.Bool.{eqb-true}
+use Rattle.std.proofs.lemmas.List.{length-replicate}
 use Rattle.std.proofs.lemmas.Bool.Decides.{nat_tests}
 use Rattle.rv_meaning.specs.Tables.{TableSignature}
 use Rattle.pli_meaning.specs.World.{first_world}
 use Rattle.pli_meaning.specs.InputLines.{first_input}
-use Rattle.pli_typing.specs.Signatures.{rounded_up, footprint}
+use Rattle.pli_typing.specs.Signatures.{rounded_up, footprint, Bounds, element_count}
 use Rattle.pli_language.specs.Tree as T
 use Rattle.pli_typing.specs.TypedTree as Y
-use Rattle.pli_meaning.specs.Contents.{Generation, footprint_of, fresh}
-use Rattle.pli_meaning.specs.BasicValues.{BasicBit}
+use Rattle.pli_meaning.specs.Contents.{Generation, footprint_of, fresh, seen, Shape}
+use Rattle.pli_meaning.specs.BasicValues.{BasicBit, BasicText, VariableName}
+use Rattle.pli_meaning.specs.Contents as K
 use Rattle.pli_meaning.specs.StorageState.{State, Living, Binding, Activation, generation_of, living_of, binding_of, automatic_in_use}
 use Rattle.pli_serving.specs.Templates.{template_of}
 use Rattle.pli_serving.specs.ServiceState as S
 use Rattle.pli_serving.specs.ServiceState.{Services}
 use Rattle.pli_serving.specs.Making as G
-use Rattle.pli_headline.specs.ProvedSoFar.{IsScalar, IsConstantOf, IsInitial}
-use Rattle.pli_headline.proofs.Scalars.{Scalar, IsNumeric, by_type, is_numeric, value_as, bit_back, constant_number, begin_of, begin_fits}
-use Rattle.pli_headline.proofs.MainGround.{number_place, contents}
+use Rattle.pli_headline.specs.ProvedSoFar.{IsConstantOf, IsInitial, IsScalar, text_leaf, IsHeld, Kind, alone, IsElementType, AreConstants, IsConstantIf}
+use Rattle.pli_headline.proofs.Scalars.{Declared, IsNumeric, by_type, is_numeric, by_held, value_as, bit_back, constant_number, constant_text, begin_text, begin_of, begin_fits, IsLimited, Values, by_shape, element_numeric, constant_if}
+use Rattle.pli_headline.proofs.VariablePlaces.{room_of, number_place, frame_size, sizes_of, text_print, scalar_size, size_for, many_is}
+use Rattle.pli_headline.proofs.Holdings.{Content}
+use Rattle.pli_headline.proofs.MainGround.{contents}
 use Rattle.pli_headline.proofs.InitialRead.{once_only}
 use Rattle.pli_headline.proofs.PlainNumbers.{number_for, Numbered, numbered_shape}
+use Rattle.pli_headline.proofs.TextLengths.{IsShort}
+use Rattle.pli_headline.proofs.TextPlaces.{text_kind_of}
+use Rattle.pli_headline.proofs.TextsKept.{blanks_taken, kept_seen, kept_short}
+use Rattle.pli_headline.proofs.TextStates.{KeepsText}
 use Rattle.pli_headline.proofs.Activations.{Nested}
 use Rattle.pli_headline.proofs.States.{Holds, NoneOwned}
-use Rattle.pli_headline.proofs.Variables.{scalar_shape, scalar_binding}
+use Rattle.pli_headline.proofs.ArrayPlaces.{count_some}
+use Rattle.pli_headline.proofs.ArrayMeant.{array_shape, HoldsArray}
+use Rattle.pli_headline.proofs.ArraysMade.{size_by, array_room}
+use Rattle.pli_headline.proofs.ArrayInitial.{numbers_of, numbers_fit, begun_array, array_begun, all_given}
+use Rattle.pli_meaning.specs.DeclaredShapes.{kind_of}
 
 -- ---- in the meaning
 
+-- the shape of a variable, and what it stands for
+abbrev pub kind_shape : Kind → Shape
+kind_shape k = array_shape k.type k.bounds
+
+abbrev pub kind_binding : Kind → (index serial : ℕ) → Binding
+kind_binding k index serial = record { variable = index; name = VariableName serial; shape = kind_shape k }
+
 -- how a variable begins
-abbrev pub fresh_scalar : Scalar → Generation
-fresh_scalar s = fresh (scalar_shape s.type) (pos 0) (s.initial ∷ [])
+abbrev pub fresh_scalar : Declared → Generation
+fresh_scalar s = fresh (kind_shape s.kind) (pos 0) (s.initial ∷ [])
 
-abbrev pub scalars_bound : (kind : ℕ → Scalar) → (count : ℕ) → List Binding
+abbrev pub scalars_bound : (kind : ℕ → Declared) → (count : ℕ) → List Binding
 scalars_bound kind zero = []
-scalars_bound kind (suc j) = scalar_binding (kind j).type j (suc j) ∷ scalars_bound kind j
+scalars_bound kind (suc j) = kind_binding (kind j).kind j (suc j) ∷ scalars_bound kind j
 
-abbrev pub scalars_living : (kind : ℕ → Scalar) → (count : ℕ) → List Living
+abbrev pub scalars_living : (kind : ℕ → Declared) → (count : ℕ) → List Living
 scalars_living kind zero = []
 scalars_living kind (suc j) = record { serial = suc j; owner = 1; generation = fresh_scalar (kind j); placed = [] } ∷ scalars_living kind j
 
-abbrev pub main_active : (kind : ℕ → Scalar) → (count : ℕ) → Activation
+abbrev pub main_active : (kind : ℕ → Declared) → (count : ℕ) → Activation
 main_active kind count = record { height = 1; level = 0; parent = 0; oncode = 0; bindings = scalars_bound kind count; units = [] }
 
-abbrev pub main_state : (kind : ℕ → Scalar) → (input : List ℕ) → (count : ℕ) → State
+abbrev pub main_state : (kind : ℕ → Declared) → (input : List ℕ) → (count : ℕ) → State
 main_state kind input count =
     record {
       world = first_world;
@@ -59,81 +78,164 @@ print_by : (q : Bool) → footprint (rounded_up 4 (cond q 2 4) * 1 + 0) ≡ 32
 print_by true = refl
 print_by false = refl
 
--- each counts for 32 bytes
-pub scalar_print : (s : Scalar) → IsNumeric s.type → footprint_of (fresh_scalar s) ≡ 32
-scalar_print s is =
-    by_type (λ t. footprint_of (fresh_scalar (record { type = t; initial = s.initial })) ≡ 32) (λ p. print_by (nat_le p 15)) refl s.type is
+-- each counts for what it takes in the frame
+alone_print : (items : List T.InitialItem) (type : Y.LeafType) → IsScalar type → footprint_of (fresh_scalar (record { kind = alone type; initial = items })) ≡ scalar_size type
+alone_print items type is =
+    by_held (λ t. footprint_of (fresh_scalar (record { kind = alone t; initial = items })) ≡ scalar_size t) (λ p. print_by (nat_le p 15)) refl (λ n few. text_print (suc n)) (λ n few. text_print (2 + suc n)) type is
 
-pub scalars_in_use : (kind : ℕ → Scalar) (count : ℕ) → ((i : ℕ) → i < count → IsNumeric (kind i).type) → automatic_in_use (scalars_living kind count) ≡ 32 * count
+many_print : (items : List T.InitialItem) (type : Y.LeafType) → IsNumeric type → (bs : List Bounds) → footprint_of (fresh_scalar (record { kind = record { type = type; bounds = bs }; initial = items })) ≡ array_room bs
+many_print items type is bs =
+    by_type (λ t. footprint_of (fresh_scalar (record { kind = record { type = t; bounds = bs }; initial = items })) ≡ array_room bs) (λ p. ap (λ n. 16 + rounded_up 16 n) (size_by (nat_le p 15) (element_count bs))) (ap (λ n. 16 + rounded_up 16 n) (size_by false (element_count bs))) type is
+
+pub scalar_print : (s : Declared) → IsHeld s.kind.type s.kind.bounds → footprint_of (fresh_scalar s) ≡ frame_size s.kind
+scalar_print s is =
+    by_shape (λ t bs. footprint_of (fresh_scalar (record { kind = record { type = t; bounds = bs }; initial = s.initial })) ≡ size_for t bs) (alone_print s.initial)
+    (λ t b bs element are few. many_print s.initial t (element_numeric t element) (b ∷ bs) ∙ sym (many_is (element_count (b ∷ bs)) (count_some (b ∷ bs) are)))
+    s.kind.type s.kind.bounds is
+
+pub scalars_in_use : (kind : ℕ → Declared) (count : ℕ) → ((i : ℕ) → i < count → IsHeld (kind i).kind.type (kind i).kind.bounds) → automatic_in_use (scalars_living kind count) ≡ room_of (sizes_of kind) count
 scalars_in_use kind zero are = refl
 scalars_in_use kind (suc j) are =
     let one = scalar_print (kind j) (are j (omega arith)) in
     let e = scalars_in_use kind j (λ i h. are i (omega (arith, h))) in
     omega (arith, one, e)
 
-bound_by : (kind : ℕ → Scalar) (q : Bool) (n j : ℕ) → (n == j) ≡ q → j < suc n → (j < n → binding_of (scalars_bound kind n) j ≡ Some (scalar_binding (kind j).type j (suc j))) → cond q (Some (scalar_binding (kind n).type n (suc n))) (binding_of (scalars_bound kind n) j) ≡ Some (scalar_binding (kind j).type j (suc j))
-bound_by kind true n j e below ih = ap (λ u. Some (scalar_binding (kind u).type u (suc u))) (eqb-true n j e)
+bound_by : (kind : ℕ → Declared) (q : Bool) (n j : ℕ) → (n == j) ≡ q → j < suc n → (j < n → binding_of (scalars_bound kind n) j ≡ Some (kind_binding (kind j).kind j (suc j))) → cond q (Some (kind_binding (kind n).kind n (suc n))) (binding_of (scalars_bound kind n) j) ≡ Some (kind_binding (kind j).kind j (suc j))
+bound_by kind true n j e below ih = ap (λ u. Some (kind_binding (kind u).kind u (suc u))) (eqb-true n j e)
 bound_by kind false n j e below ih = ih (grind (arith, nat_tests))
 
-scalars_stand : (kind : ℕ → Scalar) (n j : ℕ) → j < n → binding_of (scalars_bound kind n) j ≡ Some (scalar_binding (kind j).type j (suc j))
+scalars_stand : (kind : ℕ → Declared) (n j : ℕ) → j < n → binding_of (scalars_bound kind n) j ≡ Some (kind_binding (kind j).kind j (suc j))
 scalars_stand kind zero j below = absurd (omega (arith, below))
 scalars_stand kind (suc n) j below = bound_by kind (n == j) n j refl below (scalars_stand kind n j)
 
-lives_by : (kind : ℕ → Scalar) (q : Bool) (n j : ℕ) → (suc n == suc j) ≡ q → j < suc n → (j < n → generation_of (living_of (scalars_living kind n) (suc j)) ≡ Some (fresh_scalar (kind j))) → generation_of (cond q (Some (record { serial = suc n; owner = 1; generation = fresh_scalar (kind n); placed = [] })) (living_of (scalars_living kind n) (suc j))) ≡ Some (fresh_scalar (kind j))
+lives_by : (kind : ℕ → Declared) (q : Bool) (n j : ℕ) → (suc n == suc j) ≡ q → j < suc n → (j < n → generation_of (living_of (scalars_living kind n) (suc j)) ≡ Some (fresh_scalar (kind j))) → generation_of (cond q (Some (record { serial = suc n; owner = 1; generation = fresh_scalar (kind n); placed = [] })) (living_of (scalars_living kind n) (suc j))) ≡ Some (fresh_scalar (kind j))
 lives_by kind true n j e below ih =
     let same : n ≡ j = let f = eqb-true (suc n) (suc j) e in omega (arith, f) in
     ap (λ u. Some (fresh_scalar (kind u))) same
 lives_by kind false n j e below ih = ih (grind (arith, nat_tests))
 
-scalars_live : (kind : ℕ → Scalar) (n j : ℕ) → j < n → generation_of (living_of (scalars_living kind n) (suc j)) ≡ Some (fresh_scalar (kind j))
+scalars_live : (kind : ℕ → Declared) (n j : ℕ) → j < n → generation_of (living_of (scalars_living kind n) (suc j)) ≡ Some (fresh_scalar (kind j))
 scalars_live kind zero j below = absurd (omega (arith, below))
 scalars_live kind (suc n) j below = lives_by kind (suc n == suc j) n j refl below (scalars_live kind n j)
 
-constant_begins : (type : Y.LeafType) (v : T.InitialValue) → IsConstantOf type v → (fresh_scalar (record { type = type; initial = once_only v ∷ [] })).values 0 [] ≡ value_as type (constant_number v)
-constant_begins (Y.FixedLeaf p) (T.InitialNumber z) h = refl
-constant_begins Y.BitLeaf (T.InitialBit b) h = ap BasicBit (sym (bit_back b))
-constant_begins _ _ h = absurd h
+constant_begins : (type : Y.LeafType) (v : T.InitialValue) → IsNumeric type → IsConstantOf type v → K.initial_of (kind_of [] type) v ≡ value_as type (constant_number v)
+constant_begins (Y.FixedLeaf p) (T.InitialNumber z) is h = refl
+constant_begins (Y.FixedLeaf p) T.InitialSkip is h = refl
+constant_begins Y.BitLeaf (T.InitialBit b) is h = ap BasicBit (sym (bit_back b))
+constant_begins Y.BitLeaf T.InitialSkip is h = refl
+constant_begins (Y.CharacterLeaf x) v is h = absurd is
+constant_begins (Y.VaryingLeaf x) v is h = absurd is
+constant_begins _ _ is h = absurd h
 
-pub begins_as : (type : Y.LeafType) (items : List T.InitialItem) → IsNumeric type → IsInitial type items → (fresh_scalar (record { type = type; initial = items })).values 0 [] ≡ value_as type (begin_of items)
-begins_as type [] is h =
-    by_type (λ t. (fresh_scalar (record { type = t; initial = [] })).values 0 [] ≡ value_as t (pos 0)) (λ p. refl) refl type is
-begins_as type (i ∷ []) is h =
-    subst (λ (q : T.InitialItem). (fresh_scalar (record { type = type; initial = q ∷ [] })).values 0 [] ≡ value_as type (constant_number q.value)) (sym (ap (λ n. record { repetition = n; value = i.value }) h.0)) (constant_begins type i.value h.1)
-begins_as type _ is h = absurd h
+either_begins : (type : Y.LeafType) (q : Bool) (v w : T.InitialValue) (x y : ℤ) → K.initial_of (kind_of [] type) v ≡ value_as type x → K.initial_of (kind_of [] type) w ≡ value_as type y → K.initial_of (kind_of [] type) (cond q v w) ≡ value_as type (cond q x y)
+either_begins type true v w x y e f = e
+either_begins type false v w x y e f = f
+
+-- the first item that is repeated at all
+first_begins : (type : Y.LeafType) (items : List T.InitialItem) → IsNumeric type → AreConstants type items → K.initial_of (kind_of [] type) (K.initial_at items 0) ≡ value_as type (begin_of items)
+first_begins type [] is h =
+    by_type (λ t. K.initial_of (kind_of [] t) T.InitialSkip ≡ value_as t (pos 0)) (λ p. refl) refl type is
+first_begins type (i ∷ more) is h =
+    let none : 0 - i.repetition ≡ 0 = omega arith in
+    ap (λ n. K.initial_of (kind_of [] type) (cond (nat_lt 0 i.repetition) i.value (K.initial_at more n))) none
+    ∙ either_begins type (nat_lt 0 i.repetition) i.value (K.initial_at more 0) (constant_number i.value) (begin_of more) (constant_begins type i.value is h.1.0) (first_begins type more is h.1.1)
+
+numeric_constants : (type : Y.LeafType) (items : List T.InitialItem) → IsNumeric type → IsInitial type items → AreConstants type items
+numeric_constants (Y.FixedLeaf p) items is h = h
+numeric_constants Y.BitLeaf items is h = h
+numeric_constants _ items is h = absurd is
+
+pub begins_as : (type : Y.LeafType) (items : List T.InitialItem) → IsNumeric type → IsInitial type items → (fresh_scalar (record { kind = alone type; initial = items })).values 0 [] ≡ value_as type (begin_of items)
+begins_as type items is h =
+    by_type (λ t. (fresh_scalar (record { kind = alone t; initial = items })).values 0 [] ≡ K.initial_of (kind_of [] t) (K.initial_at items 0)) (λ p. refl) refl type is
+    ∙ first_begins type items is (numeric_constants type items is h)
 
 -- the numbers with which they begin
-abbrev pub begin_numbers : (kind : ℕ → Scalar) → ℕ → ℤ
+abbrev pub begin_numbers : (kind : ℕ → Declared) → ℕ → ℤ
 begin_numbers kind j = begin_of (kind j).initial
 
+-- with the texts
+abbrev pub begin_values : (kind : ℕ → Declared) → Values
+begin_values kind =
+    record { numbers = begin_numbers kind; texts = λ j. begin_text (kind j).kind.type (kind j).initial; arrays = λ j. numbers_of (kind j).initial }
+
 -- and what then stands in memory
-abbrev pub begin_contents : (kind : ℕ → Scalar) → ℕ → ℤ
-begin_contents kind = contents (λ j. (kind j).type) (begin_numbers kind)
+abbrev pub begin_contents : (kind : ℕ → Declared) → ℕ → Content
+begin_contents kind = contents (λ j. (kind j).kind) (begin_values kind)
 
 -- all variables hold what they begin with
-pub scalars_hold : (kind : ℕ → Scalar) (input : List ℕ) (block count j : ℕ) → j < count → IsScalar (kind j).type → IsInitial (kind j).type (kind j).initial → Holds (main_state kind input count) block j (kind j).type (begin_numbers kind j)
-scalars_hold kind input block count j below is begins =
+pub scalars_hold : (kind : ℕ → Declared) (input : List ℕ) (block count j : ℕ) (type : Y.LeafType) → j < count → (kind j).kind ≡ alone type → IsLimited type → IsInitial type (kind j).initial → Holds (main_state kind input count) block j type (begin_numbers kind j)
+scalars_hold kind input block count j type below alike is begins =
+    let items = (kind j).initial in
     record {
-      values = (fresh_scalar (kind j)).values;
-      stands = scalars_stand kind count j below;
-      lives = scalars_live kind count j below;
-      value = begins_as (kind j).type (kind j).initial (is_numeric (kind j).type is) begins;
-      fits = begin_fits (kind j).type (kind j).initial is begins;
+      values = (fresh_scalar (record { kind = alone type; initial = items })).values;
+      stands = scalars_stand kind count j below ∙ ap (λ k. Some (kind_binding k j (suc j))) alike;
+      lives = scalars_live kind count j below ∙ ap (λ k. Some (fresh_scalar (record { kind = k; initial = items }))) alike;
+      value = begins_as type items (is_numeric type is) begins;
+      fits = begin_fits type items is begins;
     }
+
+-- and the elements of arrays
+pub arrays_hold : (kind : ℕ → Declared) (input : List ℕ) (block count j : ℕ) (type : Y.LeafType) (bs : List Bounds) → j < count → (kind j).kind ≡ record { type = type; bounds = bs } → IsElementType type → AreConstants type (kind j).initial → HoldsArray (main_state kind input count) block j type bs (numbers_of (kind j).initial)
+arrays_hold kind input block count j type bs below alike is are =
+    let items = (kind j).initial in
+    record {
+      values = (begun_array type bs items).values;
+      numeric = element_numeric type is;
+      stands = scalars_stand kind count j below ∙ ap (λ k. Some (kind_binding k j (suc j))) alike;
+      lives = scalars_live kind count j below ∙ ap (λ k. Some (fresh_scalar (record { kind = k; initial = items }))) alike;
+      value = λ js inside. array_begun type bs items js is (all_given type items is are).0;
+      fits = λ p inside. numbers_fit type items p is (all_given type items is are).0;
+    }
+
+-- what a constant text comes to
+text_given : (varying : Bool) (most : ℕ) (v : T.InitialValue) → IsConstantOf (text_leaf varying most) v → seen (text_kind_of varying most) ((fresh_scalar (record { kind = alone (text_leaf varying most); initial = once_only v ∷ [] })).values 0 []) ≡ BasicText (begin_text (text_leaf varying most) (once_only v ∷ []))
+text_given false most (T.InitialText t) h = kept_seen false most (BasicText []) t
+text_given true most (T.InitialText t) h = kept_seen true most (BasicText []) t
+text_given false most _ h = absurd h
+text_given true most _ h = absurd h
+
+text_begins : (varying : Bool) (most : ℕ) (items : List T.InitialItem) → IsConstantIf (text_leaf varying most) items → seen (text_kind_of varying most) ((fresh_scalar (record { kind = alone (text_leaf varying most); initial = items })).values 0 []) ≡ BasicText (begin_text (text_leaf varying most) items)
+text_begins false most [] h = ap BasicText (blanks_taken most)
+text_begins true most [] h = refl
+text_begins varying most (i ∷ []) h =
+    subst (λ (q : T.InitialItem). seen (text_kind_of varying most) ((fresh_scalar (record { kind = alone (text_leaf varying most); initial = q ∷ [] })).values 0 []) ≡ BasicText (begin_text (text_leaf varying most) (q ∷ []))) (sym (ap (λ n. record { repetition = n; value = i.value }) h.0)) (text_given varying most i.value h.1)
+text_begins varying most (i ∷ j ∷ more) h = absurd h
+
+text_short : (varying : Bool) (most : ℕ) (items : List T.InitialItem) → most ≤ 1024 → IsShort (begin_text (text_leaf varying most) items)
+text_short false most [] few = let e = length-replicate {A = ℕ} most 32 in omega (arith, e, few)
+text_short false most (i ∷ is) few = kept_short false most (constant_text i.value) few
+text_short true most [] few = omega arith
+text_short true most (i ∷ is) few = kept_short true most (constant_text i.value) few
+
+-- blank, or empty where they vary, without INITIAL
+pub texts_hold : (kind : ℕ → Declared) (input : List ℕ) (block count j : ℕ) (varying : Bool) (most : ℕ) → j < count → (kind j).kind ≡ alone (text_leaf varying most) → most ≤ 1024 → IsInitial (text_leaf varying most) (kind j).initial → KeepsText (main_state kind input count) block j varying most (begin_text (kind j).kind.type (kind j).initial)
+texts_hold kind input block count j varying most below is few begins =
+    let items = (kind j).initial in
+    let type = text_leaf varying most in
+    let fresh' : Kind → Generation = λ k. fresh_scalar (record { kind = k; initial = items }) in
+    subst (λ (k : Kind). KeepsText (main_state kind input count) block j varying most (begin_text k.type items)) (sym is) (record {
+      values = (fresh' (alone type)).values;
+      stands = scalars_stand kind count j below ∙ ap (λ k. Some (kind_binding k j (suc j))) is;
+      lives = scalars_live kind count j below ∙ ap (λ k. Some (fresh' k)) is;
+      value = text_begins varying most items (constant_if varying most items begins);
+      short = text_short varying most items few;
+    })
 
 other_height : (height : ℕ) → 1 < height → (1 == height) ≡ false
 other_height height above = grind (arith, nat_tests)
 
 -- all that lives is of the first height
-pub scalars_owned : (kind : ℕ → Scalar) (count height : ℕ) → 1 < height → NoneOwned height (scalars_living kind count)
+pub scalars_owned : (kind : ℕ → Declared) (count height : ℕ) → 1 < height → NoneOwned height (scalars_living kind count)
 scalars_owned kind zero height above = tt
 scalars_owned kind (suc j) height above = (other_height height above, scalars_owned kind j height above)
 
 -- ---- in the services
 
-abbrev pub served_scalar : List TableSignature → (kind : ℕ → Scalar) → (frame j : ℕ) → S.Living
-served_scalar table kind frame j = record { serial = suc j; owner = 1; signature = number_for table (kind j).type; at = frame + number_place j }
+abbrev pub served_scalar : List TableSignature → (kind : ℕ → Declared) → (frame j : ℕ) → S.Living
+served_scalar table kind frame j = record { serial = suc j; owner = 1; signature = number_for table (kind j).kind; at = frame + number_place (sizes_of kind) j }
 
-abbrev pub scalars_served : List TableSignature → (kind : ℕ → Scalar) → (frame count : ℕ) → List S.Living
+abbrev pub scalars_served : List TableSignature → (kind : ℕ → Declared) → (frame count : ℕ) → List S.Living
 scalars_served table kind frame zero = []
 scalars_served table kind frame (suc j) = served_scalar table kind frame j ∷ scalars_served table kind frame j
 
@@ -141,7 +243,7 @@ abbrev pub main_activation : (frame : ℕ) → S.Activation
 main_activation frame =
     record { kind = S.ProcedureBlock; frame = frame; texts = 0; edits = 0; line = 0; units = [] }
 
-abbrev pub main_services : List TableSignature → (kind : ℕ → Scalar) → (input : List ℕ) → (frame line count : ℕ) → Services
+abbrev pub main_services : List TableSignature → (kind : ℕ → Declared) → (input : List ℕ) → (frame line count : ℕ) → Services
 main_services table kind input frame line count =
     record {
       world = first_world;
@@ -158,18 +260,28 @@ main_services table kind input frame line count =
       edits = [];
     }
 
-shape_print : (type : Y.LeafType) → IsNumeric type → G.footprint_of_shape (Some (scalar_shape type)) ≡ 32
-shape_print type is =
-    by_type (λ t. G.footprint_of_shape (Some (scalar_shape t)) ≡ 32) (λ p. print_by (nat_le p 15)) refl type is
+alone_shape_print : (type : Y.LeafType) → IsScalar type → G.footprint_of_shape (Some (kind_shape (alone type))) ≡ scalar_size type
+alone_shape_print type is =
+    by_held (λ t. G.footprint_of_shape (Some (kind_shape (alone t))) ≡ scalar_size t) (λ p. print_by (nat_le p 15)) refl (λ n few. text_print (suc n)) (λ n few. text_print (2 + suc n)) type is
 
-pub served_in_use : (table : List TableSignature) (kind : ℕ → Scalar) (frame count : ℕ) → ((i : ℕ) → i < count → Numbered table (kind i).type) → G.automatic_in_use (map template_of table) (scalars_served table kind frame count) ≡ 32 * count
+many_shape_print : (type : Y.LeafType) → IsNumeric type → (bs : List Bounds) → G.footprint_of_shape (Some (array_shape type bs)) ≡ array_room bs
+many_shape_print type is bs =
+    by_type (λ t. G.footprint_of_shape (Some (array_shape t bs)) ≡ array_room bs) (λ p. ap (λ n. 16 + rounded_up 16 n) (size_by (nat_le p 15) (element_count bs))) (ap (λ n. 16 + rounded_up 16 n) (size_by false (element_count bs))) type is
+
+shape_print : (k : Kind) → IsHeld k.type k.bounds → G.footprint_of_shape (Some (kind_shape k)) ≡ frame_size k
+shape_print k is =
+    by_shape (λ t bs. G.footprint_of_shape (Some (array_shape t bs)) ≡ size_for t bs) alone_shape_print
+    (λ t b bs element are few. many_shape_print t (element_numeric t element) (b ∷ bs) ∙ sym (many_is (element_count (b ∷ bs)) (count_some (b ∷ bs) are)))
+    k.type k.bounds is
+
+pub served_in_use : (table : List TableSignature) (kind : ℕ → Declared) (frame count : ℕ) → ((i : ℕ) → i < count → Numbered table (kind i).kind) → G.automatic_in_use (map template_of table) (scalars_served table kind frame count) ≡ room_of (sizes_of kind) count
 served_in_use table kind frame zero are = refl
 served_in_use table kind frame (suc j) are =
     let o = are j (omega arith) in
-    let shape = ap G.footprint_of_shape (numbered_shape table (kind j).type o) ∙ shape_print (kind j).type (is_numeric (kind j).type o.scalar) in
+    let shape = ap G.footprint_of_shape (numbered_shape table (kind j).kind o) ∙ shape_print (kind j).kind o.held in
     let rest = served_in_use table kind frame j (λ i h. are i (omega (arith, h))) in
     omega (arith, shape, rest)
 
-pub main_nested : (table : List TableSignature) (kind : ℕ → Scalar) (input : List ℕ) (frame line count : ℕ) → Nested (main_state kind input count).activations (main_services table kind input frame line count).activations
+pub main_nested : (table : List TableSignature) (kind : ℕ → Declared) (input : List ℕ) (frame line count : ℕ) → Nested (main_state kind input count).activations (main_services table kind input frame line count).activations
 main_nested table kind input frame line count =
-    (record { height = refl; level = refl; parent = refl; units = refl }, (refl, tt))
+    (record { height = refl; first = λ none. refl; inside = λ some. absurd (omega (arith, some)); oncode = refl; units = tt }, (record { kind = λ further. refl; units = tt }, tt))

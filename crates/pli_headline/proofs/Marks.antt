@@ -28,7 +28,7 @@ use Rattle.pli_headline.proofs.FirstFrame.{start_of, start_is, start_resume}
 no_routines_of_block : (e : Environment) (index : ℕ) (ds : List Y.DeclaredVariable) → ArePlain ds → routines_of_block e index ds ≡ []
 no_routines_of_block e index [] are = refl
 no_routines_of_block e index (d ∷ ds) are =
-    by_plain (λ u. routines_of_block e index (u ∷ ds) ≡ routines_of_block e (suc index) ds) (λ p i. refl) (λ i. refl) d are.0
+    by_plain (λ u. routines_of_block e index (u ∷ ds) ≡ routines_of_block e (suc index) ds) (λ p i. refl) (λ i. refl) (λ n i. refl) (λ n i. refl) (λ type b bs i element are'. refl) d are.0
     ∙ no_routines_of_block e (suc index) ds are.1
 
 no_routines : (e : Environment) (bs : List BlockPlace) → AllPlain e.program.variables → routines_code e bs ≡ []
@@ -44,16 +44,25 @@ behind_entry program block line body =
     ++ (stmts_code (main_environment program block) none_taken body
     ++ procedure_ended (main_environment program block) (main_head block line) (main_words program block body) None)
 
-abbrev pub main_code : Y.Program → (block line : ℕ) → Y.Stmts → Code
-main_code program block line body =
-    start_of block ++ (raise_code ++ (Mark (ProcedureEntry block) ∷ behind_entry program block line body))
+-- that of the other procedures, in the environment of the whole program
+abbrev pub others_code : Y.Program → List Y.Procedure → Code
+others_code program others = procedures_code (environment_of parts program) others
 
-pub code_is : (program : Y.Program) (block line : ℕ) (body : Y.Stmts) → AllPlain program.variables → IsAlone program block line body → code_of parts program ≡ main_code program block line body
+abbrev pub main_code : Y.Program → (block line : ℕ) → Y.Stmts → List Y.Procedure → Code
+main_code program block line body others =
+    start_of block ++ (raise_code ++ ((Mark (ProcedureEntry block) ∷ behind_entry program block line body) ++ others_code program others))
+
+pub code_is : (program : Y.Program) (block line : ℕ) (body : Y.Stmts) → AllPlain program.variables → (alone : IsAlone program block line body) → code_of parts program ≡ main_code program block line body alone.others
 code_is program block line body all alone =
     let e = environment_of parts program in
     ap (λ u. u ++ (raise_code ++ (routines_code e e.blocks ++ procedures_code e program.procedures))) (start_is program block line body all alone)
     ∙ ap (λ u. start_of block ++ (raise_code ++ (u ++ procedures_code e program.procedures))) (no_routines e e.blocks all)
-    ∙ ap (λ ps. start_of block ++ (raise_code ++ procedures_code e ps)) alone
+    ∙ ap (λ ps. start_of block ++ (raise_code ++ procedures_code e ps)) alone.are
+
+-- without others that is all
+pub only_main : (program : Y.Program) (block line : ℕ) (body : Y.Stmts) (others : List Y.Procedure) → others ≡ [] → main_code program block line body others ≡ start_of block ++ (raise_code ++ (Mark (ProcedureEntry block) ∷ behind_entry program block line body))
+only_main program block line body others none =
+    ap (main_code program block line body) none
     ∙ ap (λ u. start_of block ++ (raise_code ++ u)) (append-nil (Mark (ProcedureEntry block) ∷ behind_entry program block line body))
 
 -- ---- what is marked
@@ -77,7 +86,12 @@ marked block rest =
 
 -- ---- the whole
 
--- where the parts of the code of a program with one procedure stand
+-- the procedures behind the first
+abbrev pub others_of : List Y.Procedure → List Y.Procedure
+others_of [] = []
+others_of (p ∷ ps) = ps
+
+-- where the parts of a program's code stand
 pub record Placed (program : Y.Program) (block line : ℕ) (body : Y.Stmts) (links : Links) (code : List Instr) : Type 0 where
   pub start : Linked links code 0 (start_of block)
   pub routines : Routines links code
@@ -85,6 +99,7 @@ pub record Placed (program : Y.Program) (block line : ℕ) (body : Y.Stmts) (lin
   pub entry_is : place_of links (ProcedureEntry block) ≡ 4 * entry
   pub procedure : Linked links code entry (procedure_in (main_environment program block) (main_head block line) body [] None)
   pub behind : start_resume ≤ entry
+  pub others : Linked links code (entry + size_of (procedure_in (main_environment program block) (main_head block line) body [] None)) (others_code program (others_of program.procedures))
 
 whole_linked : (c : Code) → length (linked_code c) ≤ most_code → Linked (links_of c) (linked_code c) 0 c
 whole_linked c h =
@@ -97,10 +112,12 @@ placed program block line body all alone small' =
     let links = links_of c in
     let code = linked_code c in
     let same = code_is program block line body all alone in
-    let p = Mark (ProcedureEntry block) ∷ behind_entry program block line body in
+    let main = Mark (ProcedureEntry block) ∷ behind_entry program block line body in
+    let others = others_code program alone.others in
+    let p = main ++ others in
     let l : Linked links code 0 (start_of block ++ (raise_code ++ p)) = subst (Linked links code 0) same (whole_linked c small') in
     let l2 = back_of (start_of block) (raise_code ++ p) l in
-    let m : Marked links.marks block = subst (λ u. Marked (marks_from 0 u) block) (sym same) (marked block (behind_entry program block line body)) in
+    let m : Marked links.marks block = subst (λ u. Marked (marks_from 0 u) block) (sym same) (marked block (behind_entry program block line body ++ others)) in
     let end = m.end in
     record {
       start = front_of (start_of block) (raise_code ++ p) l;
@@ -114,6 +131,7 @@ placed program block line body all alone small' =
       };
       entry = entry_index;
       entry_is = m.entry;
-      procedure = back_of raise_code p l2;
+      procedure = front_of main others (back_of raise_code p l2);
       behind = omega arith;
+      others = subst (λ ps. Linked links code (entry_index + size_of main) (others_code program (others_of ps))) (sym alone.are) (back_of main others (back_of raise_code p l2));
     }

@@ -1,39 +1,44 @@
 -- Code that asks for one variable to be made: its name, its signature's number and its place come into registers.
-use Rattle.std.proofs.Common.{◌≡◌, ℕ, suc, ◌+◌, ◌*◌, ◌^◌, ◌<◌, ◌≤◌, List, [], ◌∷◌, ◌++◌, Option, Some, None, inl, refl, ap, ◌∙◌, arith, lit<}
-use Rattle.std.specs.Prelude.{ℤ, pos, if◌then◌else◌}
+use Rattle.std.proofs.Common.{◌≡◌, ℕ, suc, ◌+◌, ◌*◌, ◌^◌, ◌<◌, ◌≤◌, List, [], ◌∷◌, ◌++◌, Option, Some, None, inl, refl, ap, ◌∙◌, arith, lit<, length}
+use Rattle.std.specs.Prelude.{pos, if◌then◌else◌}
 use Rattle.std.proofs.lemmas.Int.{ints}
 use Rattle.rv_meaning.specs.declared.instr.Instr.{Instr}
 use Rattle.rv_meaning.specs.declared.instr.Instr.TheVariants as I
-use Rattle.rv_meaning.specs.declared.instr.ImmediateOp.TheVariants as Imm
 use Rattle.rv_meaning.specs.declared.instr.Register.{Register}
 use Rattle.rv_meaning.specs.Words.{word, sum}
 use Rattle.pli_typing.specs.TypedTree as Y
+use Rattle.pli_language.specs.Tree as T
 use Rattle.pli_serving.specs.ServiceState.{Services}
 use Rattle.pli_coding.specs.Registers.{stack_register, frame_register, a0, a1, a2, a3, a4, a7}
 use Rattle.pli_coding.specs.Assembly.{Datum, DataPlace, Plain, Code, size_of}
-use Rattle.pli_coding.specs.Instructions.{small, number, plus, load_word, is_immediate}
+use Rattle.pli_coding.specs.Instructions.{small, number, plus, load_word}
 use Rattle.pli_coding.specs.Frames.{own_offset, is_automatic, automatic_place, name_bytes}
 use Rattle.pli_coding.specs.SignatureTable.{table_of}
-use Rattle.pli_coding.specs.Entries.{automatic_made, variables_made}
+use Rattle.pli_coding.specs.Entries.{automatic_made, variables_made, constant_made, adjustable_made}
 use Rattle.pli_coding.specs.Extents.{initial_given}
 use Rattle.pli_coding.specs.Linking.{Links, place_of}
 use Rattle.pli_headline.specs.Headline.{parts}
-use Rattle.pli_headline.specs.ProvedSoFar.{plain_variable}
-use Rattle.pli_headline.proofs.Scalars.{Scalar, IsNumeric, by_type}
+use Rattle.pli_headline.specs.ProvedSoFar.{plain_variable, IsScalar, array_variable, IsHeld, IsElementType, AreBounds, alone}
+use Rattle.pli_headline.proofs.Scalars.{Declared, by_held, character, varying, by_shape, element_numeric}
 use Rattle.pli_headline.proofs.DataNamed.{is_named_back}
 use Rattle.pli_headline.proofs.InitialRead.{start_datum, start_of, IsNamedIf}
 use Rattle.pli_headline.proofs.Engine.{Base}
 use Rattle.pli_headline.proofs.Linking.{size_append}
 use Rattle.pli_headline.proofs.Items.{Linked, At, straight}
 use Rattle.pli_headline.proofs.Numbers.{above_sum, above_small}
-use Rattle.pli_headline.proofs.Bodies.{Ground, Known, Free, IsNear, PlaceOf, with', at_place, zero_is, frame_is, set_known, lose_known, displaced_by, constant_piece, load_piece}
+use Rattle.pli_headline.proofs.Bodies.{Ground, Known, PlaceOf, with', at_place, zero_is, frame_is, constant_piece, load_piece}
+use Rattle.pli_headline.proofs.Increments.{plus_own}
 use Rattle.pli_headline.proofs.Jumps.{front_of, back_of}
 use Rattle.pli_headline.proofs.Temporaries.{nothing}
 use Rattle.pli_headline.proofs.Raising.{small_is}
 use Rattle.pli_headline.proofs.Reach.{Family, Reach, reach_then, reached, reached_holds}
+use Rattle.pli_headline.proofs.VariablePlaces.{frame_size, text_print, scalar_size, size_for}
+use Rattle.pli_headline.proofs.Holdings.{Content}
 use Rattle.pli_headline.proofs.MainGround.{Frame, ground_of}
-use Rattle.pli_headline.proofs.MainProcedure.{main_environment, frame_fixed}
+use Rattle.pli_headline.proofs.MainProcedure.{main_environment, frame_fixed, frame_many}
 use Rattle.pli_headline.proofs.PlainNumbers.{number_for}
+use Rattle.pli_typing.specs.Signatures.{Bounds}
+use Rattle.pli_headline.proofs.ArrayElements.{size_constant}
 
 -- ---- the code of one variable
 
@@ -46,56 +51,50 @@ make_asked = small a4 0 ∷ small a7 7 ∷ Plain I.Ecall ∷ []
 abbrev pub start_given : Option Datum → Code
 start_given start = initial_given a2 start
 
--- with the number of a signature, and with what INITIAL gives
-abbrev pub made_code : (place n : ℕ) → Option Datum → Code
-made_code place n start =
+-- with so many bytes of the frame, the number of a signature, and what INITIAL gives
+abbrev pub made_code : (size place n : ℕ) → Option Datum → Code
+made_code size place n start =
     own_loaded a0
     ++ (plus a0 a0 (pos place)
     ++ (number a1 n
     ++ (start_given start
     ++ (own_loaded a3
-    ++ (plus a3 a3 (pos (place + name_bytes)) ++ (make_asked ++ plus stack_register frame_register (pos (place + 32))))))))
+    ++ (plus a3 a3 (pos (place + name_bytes)) ++ (make_asked ++ plus stack_register frame_register (pos (place + size))))))))
 
--- with so many bytes of the frame
-abbrev made_with : (bytes place n : ℕ) → Option Datum → Code
-made_with bytes place n start =
-    own_loaded a0
-    ++ (plus a0 a0 (pos place)
-    ++ (number a1 n
-    ++ (start_given start
-    ++ (own_loaded a3
-    ++ (plus a3 a3 (pos (place + name_bytes)) ++ (make_asked ++ plus stack_register frame_register (pos (place + bytes))))))))
+alone_is : (program : Y.Program) (block line place : ℕ) (items : List T.InitialItem) (type : Y.LeafType) → IsScalar type → automatic_made (main_environment program block) line place (plain_variable type items) ≡ made_code (scalar_size type) place (number_for (table_of program) (alone type)) (start_datum items)
+alone_is program block line place items type is =
+    by_held (λ t. automatic_made (main_environment program block) line place (plain_variable t items) ≡ made_code (scalar_size t) place (number_for (table_of program) (alone t)) (start_datum items))
+    (λ p. ap (λ n. made_code n place (number_for (table_of program) (alone (Y.FixedLeaf p))) (start_datum items)) (frame_fixed p items))
+    refl
+    (λ n few. ap (λ m. made_code m place (number_for (table_of program) (alone (character n))) (start_datum items)) (text_print (suc n)))
+    (λ n few. ap (λ m. made_code m place (number_for (table_of program) (alone (varying n))) (start_datum items)) (text_print (2 + suc n)))
+    type is
 
-made_is : (program : Y.Program) (block line place : ℕ) (s : Scalar) → IsNumeric s.type → automatic_made (main_environment program block) line place (plain_variable s.type s.initial) ≡ made_code place (number_for (table_of program) s.type) (start_datum s.initial)
+many_is : (program : Y.Program) (block line place : ℕ) (items : List T.InitialItem) (type : Y.LeafType) (b : Bounds) (bs : List Bounds) → IsElementType type → AreBounds (b ∷ bs) → length (b ∷ bs) ≤ 8 → automatic_made (main_environment program block) line place (array_variable type (b ∷ bs) items) ≡ made_code (size_for type (b ∷ bs)) place (number_for (table_of program) (record { type = type; bounds = b ∷ bs })) (start_datum items)
+many_is program block line place items type b bs element are few =
+    let e = main_environment program block in
+    let d = array_variable type (b ∷ bs) items in
+    ap (λ q. if q then constant_made e place d else adjustable_made e line place d) (size_constant type (element_numeric type element) (b ∷ bs) items)
+    ∙ ap (λ n. made_code n place (number_for (table_of program) (record { type = type; bounds = b ∷ bs })) (start_datum items)) (frame_many type b bs items element are)
+
+made_is : (program : Y.Program) (block line place : ℕ) (s : Declared) → IsHeld s.kind.type s.kind.bounds → automatic_made (main_environment program block) line place (array_variable s.kind.type s.kind.bounds s.initial) ≡ made_code (frame_size s.kind) place (number_for (table_of program) s.kind) (start_datum s.initial)
 made_is program block line place s is =
-    by_type (λ t. automatic_made (main_environment program block) line place (plain_variable t s.initial) ≡ made_code place (number_for (table_of program) t) (start_datum s.initial))
-    (λ p. ap (λ n. made_with n place (number_for (table_of program) (Y.FixedLeaf p)) (start_datum s.initial)) (frame_fixed p s.initial))
-    refl s.type is
+    by_shape (λ t bs. automatic_made (main_environment program block) line place (array_variable t bs s.initial) ≡ made_code (size_for t bs) place (number_for (table_of program) (record { type = t; bounds = bs })) (start_datum s.initial))
+    (alone_is program block line place s.initial) (many_is program block line place s.initial) s.kind.type s.kind.bounds is
 
 -- what the variables' code begins with
-pub variables_are : (program : Y.Program) (block line j place : ℕ) (s : Scalar) (d : Y.DeclaredVariable) (ds : List Y.DeclaredVariable) → d ≡ plain_variable s.type s.initial → IsNumeric s.type → automatic_place parts program block 0 j ≡ place → variables_made (main_environment program block) line j (d ∷ ds) ≡ made_code place (number_for (table_of program) s.type) (start_datum s.initial) ++ variables_made (main_environment program block) line (suc j) ds
+pub variables_are : (program : Y.Program) (block line j place : ℕ) (s : Declared) (d : Y.DeclaredVariable) (ds : List Y.DeclaredVariable) → d ≡ array_variable s.kind.type s.kind.bounds s.initial → IsHeld s.kind.type s.kind.bounds → automatic_place parts program block 0 j ≡ place → variables_made (main_environment program block) line j (d ∷ ds) ≡ made_code (frame_size s.kind) place (number_for (table_of program) s.kind) (start_datum s.initial) ++ variables_made (main_environment program block) line (suc j) ds
 variables_are program block line j place s d ds is numeric at =
     let e = main_environment program block in
     let rest = variables_made e line (suc j) ds in
     let p = automatic_place parts program block 0 j in
     ap (λ u. (if is_automatic u.class then automatic_made e line p u else []) ++ rest) is
     ∙ ap (λ c. c ++ rest) (made_is program block line p s numeric)
-    ∙ ap (λ n. made_code n (number_for (table_of program) s.type) (start_datum s.initial) ++ rest) at
-
--- ---- a register goes on by a constant
-
-pub plus_own : {links : Links} {code : List Instr} {i : ℕ} {g : Ground} {v : Services} {h t : ℕ → ℕ} {rs : Base → List (ℕ × ℕ)} (c : ℕ) (f : Family) (r : Register) (z : ℤ) (y x : Base → ℕ) → word z < 2 ^ 32 → ((b : Base) → y b < 2 ^ 32) → IsNear r.index → ((b : Base) → sum (y b) (word z) ≡ x b) → Free rs r.index → Free (with' r.index y rs) 31 → Linked links code i (plus r r z) → ((b : Base) → At b i (Known g v h t (with' r.index y rs) b) (f b)) → Reach code c f v (c + size_of (plus r r z)) v (λ b w. At b (i + size_of (plus r r z)) (Known g v h t (with' r.index x rs) b) w)
-plus_own {links = links} {code = code} {g = g} {v = v} {h = h} {t = t} {rs = rs} c f r z y x small' fits near sums free far l at =
-    displaced_by (is_immediate z) c f (λ q d. I.Immediate Imm.Add r q d) r z y (Known g v h t (with' r.index y rs)) (Known g v h t (with' r.index x rs)) small' fits near (λ b. (at b).holds.regs.0) (omega arith)
-    (record {
-      does = λ b j w q d k e. set_known w r.index (sum (w.machine.registers q.index) (word d)) _ x free (e ∙ sums b) (record { body = k.body; regs = k.regs.1 });
-      lost = λ b w u i k. lose_known w 31 u i far k;
-    })
-    l at
+    ∙ ap (λ n. made_code (frame_size s.kind) n (number_for (table_of program) s.kind) (start_datum s.initial) ++ rest) at
 
 -- ---- the frame's own offset
 
-pub own_word : (f : Frame) (first : List ℕ) (numbers : ℕ → ℤ) → PlaceOf (ground_of f first numbers) (pos 36) (f.at + 36)
+pub own_word : (f : Frame) (first : List ℕ) (numbers : ℕ → Content) → PlaceOf (ground_of f first numbers) (pos 36) (f.at + 36)
 own_word f first numbers =
     let above = f.above_statics in
     let inside = f.inside in
@@ -124,10 +123,10 @@ abbrev pub asked_size : (place n : ℕ) → Option Datum → (i : ℕ) → ℕ
 asked_size place n start i =
     i + 1 + size_of (plus a0 a0 (pos place)) + size_of (number a1 n) + size_of (start_given start) + 1 + size_of (plus a3 a3 (pos (place + name_bytes))) + 2
 
-number_word : (n : ℕ) → n ≤ 32 → word (pos n) ≡ n
+number_word : (n : ℕ) → n < 2 ^ 24 → word (pos n) ≡ n
 number_word n few = omega (arith, ints, few)
 
-start_piece : {links : Links} {code : List Instr} {i : ℕ} {g : Ground} {v : Services} {h t : ℕ → ℕ} (c : ℕ) (f : Family) (n name : ℕ) (start : Option Datum) → start_of links start < 2 ^ 32 → n ≤ 32 → Linked links code i (start_given start) → ((b : Base) → At b i (Known g v h t (with' 11 (λ b'. word (pos n)) (λ b'. (10, name) ∷ [])) b) (f b)) → Reach code c f v (c + size_of (start_given start)) v (λ b w. At b (i + size_of (start_given start)) (Known g v h t (given_regs n name (start_of links start)) b) w)
+start_piece : {links : Links} {code : List Instr} {i : ℕ} {g : Ground} {v : Services} {h t : ℕ → ℕ} (c : ℕ) (f : Family) (n name : ℕ) (start : Option Datum) → start_of links start < 2 ^ 32 → n < 2 ^ 24 → Linked links code i (start_given start) → ((b : Base) → At b i (Known g v h t (with' 11 (λ b'. word (pos n)) (λ b'. (10, name) ∷ [])) b) (f b)) → Reach code c f v (c + size_of (start_given start)) v (λ b w. At b (i + size_of (start_given start)) (Known g v h t (given_regs n name (start_of links start)) b) w)
 start_piece {g = g} {v = v} {h = h} {t = t} c f n name None fits few l at =
     straight c f v v (λ b. Known g v h t (given_regs n name 0) b) l (omega arith) (λ b. (at b).pc)
     (λ b. let o = (at b).holds in record {
@@ -145,15 +144,15 @@ start_piece {links = links} {g = g} {v = v} {h = h} {t = t} c f n name (Some d) 
       },
     ))
 
-pub variable_asked : {links : Links} {code : List Instr} {i : ℕ} (c : ℕ) (f : Frame) (first : List ℕ) (numbers : ℕ → ℤ) (v : Services) (h t : ℕ → ℕ) (g : Family) (place n : ℕ) (start : Option Datum) → start_of links start < 2 ^ 32 → n ≤ 32 → f.at + place + 32 ≤ 14 * 2 ^ 20 → Linked links code i (made_code place n start) → ((b : Base) → At b i (Known (ground_of f first numbers) v h t nothing b) (g b)) → Reach code c g v (asked_size place n start c) v (λ b w. At b (asked_size place n start i) (Known (ground_of f first numbers) v h t (asked_regs (f.at + place) n (start_of links start) (f.at + (place + 16))) b) w)
-variable_asked {links} {code} {i} c f first numbers v h t g place n start fits few room l at =
+pub variable_asked : {links : Links} {code : List Instr} {i : ℕ} (c : ℕ) (f : Frame) (first : List ℕ) (numbers : ℕ → Content) (v : Services) (h t : ℕ → ℕ) (g : Family) (size place n : ℕ) (start : Option Datum) → start_of links start < 2 ^ 32 → n < 2 ^ 24 → f.at + place + 32 ≤ 14 * 2 ^ 20 → Linked links code i (made_code size place n start) → ((b : Base) → At b i (Known (ground_of f first numbers) v h t nothing b) (g b)) → Reach code c g v (asked_size place n start c) v (λ b w. At b (asked_size place n start i) (Known (ground_of f first numbers) v h t (asked_regs (f.at + place) n (start_of links start) (f.at + (place + 16))) b) w)
+variable_asked {links} {code} {i} c f first numbers v h t g size place n start fits few room l at =
     let ground = ground_of f first numbers in
     let inside = f.inside in
     let p0 = plus a0 a0 (pos place) in
     let p1 = number a1 n in
     let p2 = start_given start in
     let p3 = plus a3 a3 (pos (place + name_bytes)) in
-    let last = make_asked ++ plus stack_register frame_register (pos (place + 32)) in
+    let last = make_asked ++ plus stack_register frame_register (pos (place + size)) in
     let o3 = own_loaded a3 in
     let l1 = back_of (own_loaded a0) (p0 ++ (p1 ++ (p2 ++ (o3 ++ (p3 ++ last))))) l in
     let l2 = back_of p0 (p1 ++ (p2 ++ (o3 ++ (p3 ++ last)))) l1 in
@@ -162,7 +161,7 @@ variable_asked {links} {code} {i} c f first numbers v h t g place n start fits f
     let l5 = back_of o3 (p3 ++ last) l4 in
     let l6 = back_of p3 last l5 in
     let front = small a4 0 ∷ small a7 7 ∷ [] in
-    let behind = Plain I.Ecall ∷ plus stack_register frame_register (pos (place + 32)) in
+    let behind = Plain I.Ecall ∷ plus stack_register frame_register (pos (place + size)) in
     let r1 = load_piece c g a0 own_offset (f.at + 36) (λ b. f.at) (own_word f first numbers) (λ b m o. o.own)
     (record { reserved_stay = λ y u. refl; known_stay = λ b y u o. o; set = λ y u. refl })
     (record { reserved_stay = λ y u. refl; known_stay = λ b y u o. o; set = λ y u. refl })
@@ -208,13 +207,13 @@ variable_asked {links} {code} {i} c f first numbers v h t g place n start fits f
 
 -- ---- the call and what stands behind it
 
-pub made_size : (place n : ℕ) (start : Option Datum) → size_of (made_code place n start) ≡ 1 + size_of (plus a0 a0 (pos place)) + size_of (number a1 n) + size_of (start_given start) + 1 + size_of (plus a3 a3 (pos (place + name_bytes))) + 3 + size_of (plus stack_register frame_register (pos (place + 32)))
-made_size place n start =
+pub made_size : (size place n : ℕ) (start : Option Datum) → size_of (made_code size place n start) ≡ 1 + size_of (plus a0 a0 (pos place)) + size_of (number a1 n) + size_of (start_given start) + 1 + size_of (plus a3 a3 (pos (place + name_bytes))) + 3 + size_of (plus stack_register frame_register (pos (place + size)))
+made_size size place n start =
     let p0 = plus a0 a0 (pos place) in
     let p1 = number a1 n in
     let p2 = start_given start in
     let p3 = plus a3 a3 (pos (place + name_bytes)) in
-    let ps = plus stack_register frame_register (pos (place + 32)) in
+    let ps = plus stack_register frame_register (pos (place + size)) in
     let o3 = own_loaded a3 in
     let e0 = size_append p0 (p1 ++ (p2 ++ (o3 ++ (p3 ++ (make_asked ++ ps))))) in
     let e1 = size_append p1 (p2 ++ (o3 ++ (p3 ++ (make_asked ++ ps)))) in
@@ -222,13 +221,13 @@ made_size place n start =
     let e3 = size_append p3 (make_asked ++ ps) in
     omega (arith, e0, e1, e2, e3)
 
-pub call_linked : {links : Links} {code : List Instr} {i : ℕ} (place n : ℕ) (start : Option Datum) → Linked links code i (made_code place n start) → Linked links code (asked_size place n start i) (Plain I.Ecall ∷ plus stack_register frame_register (pos (place + 32)))
-call_linked place n start l =
+pub call_linked : {links : Links} {code : List Instr} {i : ℕ} (size place n : ℕ) (start : Option Datum) → Linked links code i (made_code size place n start) → Linked links code (asked_size place n start i) (Plain I.Ecall ∷ plus stack_register frame_register (pos (place + size)))
+call_linked size place n start l =
     let p0 = plus a0 a0 (pos place) in
     let p1 = number a1 n in
     let p2 = start_given start in
     let p3 = plus a3 a3 (pos (place + name_bytes)) in
-    let ps = plus stack_register frame_register (pos (place + 32)) in
+    let ps = plus stack_register frame_register (pos (place + size)) in
     let o3 = own_loaded a3 in
     let l1 = back_of (own_loaded a0) (p0 ++ (p1 ++ (p2 ++ (o3 ++ (p3 ++ (make_asked ++ ps)))))) l in
     let l2 = back_of p0 (p1 ++ (p2 ++ (o3 ++ (p3 ++ (make_asked ++ ps))))) l1 in
@@ -238,9 +237,9 @@ call_linked place n start l =
     let l6 = back_of p3 (make_asked ++ ps) l5 in
     back_of (small a4 0 ∷ small a7 7 ∷ []) (Plain I.Ecall ∷ ps) l6
 
-pub rest_linked : {links : Links} {code : List Instr} {i : ℕ} (place n : ℕ) (start : Option Datum) → Linked links code i (made_code place n start) → Linked links code (asked_size place n start i + 1) (plus stack_register frame_register (pos (place + 32)))
-rest_linked place n start l =
-    back_of (Plain I.Ecall ∷ []) (plus stack_register frame_register (pos (place + 32))) (call_linked place n start l)
+pub rest_linked : {links : Links} {code : List Instr} {i : ℕ} (size place n : ℕ) (start : Option Datum) → Linked links code i (made_code size place n start) → Linked links code (asked_size place n start i + 1) (plus stack_register frame_register (pos (place + size)))
+rest_linked size place n start l =
+    back_of (Plain I.Ecall ∷ []) (plus stack_register frame_register (pos (place + size))) (call_linked size place n start l)
 
 -- ---- what it names
 
@@ -252,12 +251,12 @@ named_behind : (start : Option Datum) (xs ys : Code) → IsNamedIf start ys → 
 named_behind None xs ys h = tt
 named_behind (Some d) xs ys h = is_named_back d xs ys h
 
-pub made_named : (place n : ℕ) (start : Option Datum) → IsNamedIf start (made_code place n start)
-made_named place n start =
+pub made_named : (size place n : ℕ) (start : Option Datum) → IsNamedIf start (made_code size place n start)
+made_named size place n start =
     let p0 = plus a0 a0 (pos place) in
     let p1 = number a1 n in
     let p3 = plus a3 a3 (pos (place + name_bytes)) in
-    let last = own_loaded a3 ++ (p3 ++ (make_asked ++ plus stack_register frame_register (pos (place + 32)))) in
+    let last = own_loaded a3 ++ (p3 ++ (make_asked ++ plus stack_register frame_register (pos (place + size)))) in
     let p2 = start_given start in
     named_behind start (own_loaded a0) (p0 ++ (p1 ++ (p2 ++ last)))
     (named_behind start p0 (p1 ++ (p2 ++ last)) (named_behind start p1 (p2 ++ last) (start_named start last)))

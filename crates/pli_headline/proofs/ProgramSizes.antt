@@ -21,7 +21,7 @@ use Rattle.pli_coding.specs.Linking.{links_of}
 use Rattle.pli_headline.specs.FirstForms.{plain_number, AreNumbers, AllNumbers, AreFirstStatements, IsFirstProgram}
 use Rattle.pli_headline.specs.Headline.{parts}
 use Rattle.pli_headline.proofs.Linking.{linked_length, size_append}
-use Rattle.pli_headline.proofs.Marks.{code_is}
+use Rattle.pli_headline.proofs.Marks.{code_is, only_main}
 use Rattle.pli_headline.proofs.FirstFrame.{start_of}
 use Rattle.pli_headline.proofs.FirstForms.{all_numbers_plain, block_numbers, program_wider}
 use Rattle.pli_headline.proofs.MainProcedure.{IsAlone, main_head, main_environment, alone_of}
@@ -139,20 +139,20 @@ procedure_most e block line count body at has are =
 -- ---- the whole
 
 -- with one procedure of plain numbers
-pub alone_most : (program : Y.Program) (block line : ℕ) (body : Y.Stmts) → AllNumbers program.variables → IsAlone program block line body → AreFirstStatements block (length (variables_of_block program block)) body → size_of (code_of parts program) ≤ 100 + (40 * length (variables_of_block program block) + 40 * stmts_nodes body)
-alone_most program block line body plain alone are =
+pub alone_most : (program : Y.Program) (block line : ℕ) (body : Y.Stmts) → AllNumbers program.variables → (alone : IsAlone program block line body) → alone.others ≡ [] → AreFirstStatements block (length (variables_of_block program block)) body → size_of (code_of parts program) ≤ 100 + (40 * length (variables_of_block program block) + 40 * stmts_nodes body)
+alone_most program block line body plain alone none are =
     let e = main_environment program block in
     let start = start_of block in
     let procedure = procedure_in e (main_head block line) body [] None in
     let a = procedure_most e block line (length (variables_of_block program block)) body refl (block_numbers program.variables block plain, refl) are in
     let s1 = size_append start (raise_code ++ procedure) in
     let s2 = size_append raise_code procedure in
-    let s3 : size_of (code_of parts program) ≡ size_of (start ++ (raise_code ++ procedure)) = ap size_of (code_is program block line body (all_numbers_plain program.variables plain) alone) in
+    let s3 : size_of (code_of parts program) ≡ size_of (start ++ (raise_code ++ procedure)) = ap size_of (code_is program block line body (all_numbers_plain program.variables plain) alone ∙ only_main program block line body alone.others none) in
     omega (arith, a, s1, s2, s3)
 
 pub program_most : (program : Y.Program) (is : IsFirstProgram program) → length (linked_code (code_of parts program)) ≤ 100 + (40 * length (variables_of_block program is.head.number) + 40 * stmts_nodes is.body)
 program_most program is =
     let code = code_of parts program in
     let n = linked_length (links_of code) 0 code in
-    let m = alone_most program is.head.number is.head.line is.body is.plain (alone_of program (program_wider program is)) is.block.statements in
+    let m = alone_most program is.head.number is.head.line is.body is.plain (alone_of program (program_wider program is)) refl is.block.statements in
     omega (arith, n, m)

@@ -21,6 +21,8 @@ use Rattle.pli_headline.proofs.Numbers.{above_sum, above_small}
 use Rattle.pli_headline.proofs.Bodies.{Known, with', nth, frame_is, plus_piece}
 use Rattle.pli_headline.proofs.Jumps.{front_of, back_of}
 use Rattle.pli_headline.proofs.Reach.{Family, Reach, reach_then, reach_map, reached, reached_holds}
+use Rattle.pli_headline.proofs.Holdings.{Counted}
+use Rattle.pli_headline.proofs.VariablePlaces.{room_of}
 use Rattle.pli_headline.proofs.MainGround.{Frame, Stands, ground_of, statics_end}
 use Rattle.pli_headline.proofs.FirstFrame.{start_ground, zeros, no_texts}
 use Rattle.pli_headline.proofs.MainFrame.{saved_in, filled_in, filled_keeps, first_words, frame_stands}
@@ -89,7 +91,7 @@ without_two _ = []
 abbrev with_frame : Frame → (ra : Base → ℕ) → Base → List (ℕ × ℕ)
 with_frame f ra b = (5, b.at + f.at) ∷ (1, ra b) ∷ (12, 0) ∷ []
 
-filled_path : (links : Links) (code : List Instr) (i : ℕ) (first : List ℕ) (v : Services) (f : Frame) (b : Base) (w : Whole) → 0 < i → f.count ≡ 0 → f.resume ≤ most_code → length first ≡ memory_size → length code ≤ most_code → Known (start_ground first) v zeros zeros (with_frame f (λ b'. address b' f.resume)) b w → Items links code b i frame_filled w (Known (ground_of f first (λ j. pos 0)) v zeros (first_words first f.at) no_texts b)
+filled_path : (links : Links) (code : List Instr) (i : ℕ) (first : List ℕ) (v : Services) (f : Frame) (b : Base) (w : Whole) → 0 < i → f.count ≡ 0 → f.resume ≤ most_code → length first ≡ memory_size → length code ≤ most_code → Known (start_ground first) v zeros zeros (with_frame f (λ b'. address b' f.resume)) b w → Items links code b i frame_filled w (Known (ground_of f first (λ j. Counted (pos 0))) v zeros (first_words first f.at) no_texts b)
 filled_path links code i first v f b w later none near len small' k =
     let x = w.machine.registers in
     let m = w.machine.memory in
@@ -99,6 +101,7 @@ filled_path links code i first v f b w later none near len small' k =
     let fp : x 8 ≡ b.at + statics_end = frame_is k.body in
     let e' = same_sum f b (x 5) e in
     let low : 4 * length code ≤ f.at = omega (arith, small', above) in
+    let empty : room_of f.sizes f.count ≡ 0 = ap (room_of f.sizes) none in
     let top = load 4 (store 4 (saved_in m f.at x) (f.at + 4) (x 8)) (statics_end + 40) in
     let own = operated Op.Subtract (sum (x 5) (word (pos 0))) b.at in
     let stands = frame_stands f first b x top own none near len k.regs.1.0 fp (own_is f b (sum (x 5) (word (pos 0))) e') in (
@@ -134,7 +137,6 @@ filled_path links code i first v f b w later none near len small' k =
                           over_word f b (sum (x 5) (word (pos 0))) 40 refl (omega arith) e',
                           omega (arith, low),
                           (
-                            omega (arith, later),
                             refl,
                             (
                               over_word f b (sum (x 5) (word (pos 0))) 36 refl (omega arith) e',
@@ -142,9 +144,9 @@ filled_path links code i first v f b w later none near len small' k =
                               record {
                                 body = record {
                                   services = k.body.services;
-                                  registers = begun_reserved (x 0) _ _ _ _ _ (ap without_two k.body.registers) (over_sum f b (sum (x 5) (word (pos 0))) 144 (omega arith) e' ∙ omega (arith, none)) e';
+                                  registers = begun_reserved (x 0) _ _ _ _ _ (ap without_two k.body.registers) (over_sum f b (sum (x 5) (word (pos 0))) 144 (omega arith) e' ∙ omega (arith, empty)) e';
                                   bytes = (filled_keeps m f.at x top own).bytes ∙ k.body.bytes;
-                                  memory = subst (λ u. Stands f first (λ j. pos 0) (first_words first f.at) b (filled_in u f.at x top own)) (sym k.body.memory) stands;
+                                  memory = subst (λ u. Stands f first (λ j. Counted (pos 0)) (first_words first f.at) b (filled_in u f.at x top own)) (sym k.body.memory) stands;
                                 };
                                 regs = (k.regs.1.1.0, tt);
                               },
@@ -164,7 +166,7 @@ filled_path links code i first v f b w later none near len small' k =
 
 -- ---- the frame is begun
 
-pub begun : {links : Links} {code : List Instr} {i : ℕ} (c : ℕ) (first : List ℕ) (v : Services) (f : Frame) (g : Family) → 0 < i → f.count ≡ 0 → f.resume ≤ most_code → f.at ≡ statics_end + 48 + temporary_bytes f.words → length first ≡ memory_size → Linked links code i (frame_begun f.words 0 0 true) → ((b : Base) → At b i (Known (start_ground first) v zeros zeros (with' 1 (λ b'. address b' f.resume) no_texts) b) (g b)) → Reach code c g v (c + size_of (frame_begun f.words 0 0 true)) v (λ b w. At b (i + size_of (frame_begun f.words 0 0 true)) (Known (ground_of f first (λ j. pos 0)) v zeros (first_words first f.at) no_texts b) w)
+pub begun : {links : Links} {code : List Instr} {i : ℕ} (c : ℕ) (first : List ℕ) (v : Services) (f : Frame) (g : Family) → 0 < i → f.count ≡ 0 → f.resume ≤ most_code → f.at ≡ statics_end + 48 + temporary_bytes f.words → length first ≡ memory_size → Linked links code i (frame_begun f.words 0 0 true) → ((b : Base) → At b i (Known (start_ground first) v zeros zeros (with' 1 (λ b'. address b' f.resume) no_texts) b) (g b)) → Reach code c g v (c + size_of (frame_begun f.words 0 0 true)) v (λ b w. At b (i + size_of (frame_begun f.words 0 0 true)) (Known (ground_of f first (λ j. Counted (pos 0))) v zeros (first_words first f.at) no_texts b) w)
 begun {links} {code} {i} c first v f g later none near place len l at =
     let n = temporary_bytes f.words in
     let inside = f.inside in
@@ -179,10 +181,10 @@ begun {links} {code} {i} c first v f g later none near place len l at =
     (record { reserved_stay = λ y u. refl; known_stay = λ b y u o. o; set = λ y u. refl })
     (record { reserved_stay = λ y u. refl; known_stay = λ b y u o. o; set = λ y u. refl })
     (front_of up frame_filled l) at in
-    let q = straight (c + size_of up) (reached r) v v (λ b w. Known (ground_of f first (λ j. pos 0)) v zeros (first_words first f.at) no_texts b w) (back_of up frame_filled l) (omega arith) (λ b. (reached_holds r b).pc)
+    let q = straight (c + size_of up) (reached r) v v (λ b w. Known (ground_of f first (λ j. Counted (pos 0))) v zeros (first_words first f.at) no_texts b w) (back_of up frame_filled l) (omega arith) (λ b. (reached_holds r b).pc)
     (λ b. filled_path links code (i + size_of up) first v f b (reached r b) (omega (arith, later)) none near len l.small' (reached_holds r b).holds) in
     let e : c + size_of up + size_of frame_filled ≡ c + size_of (up ++ frame_filled) = omega (arith, total) in
     let e' : i + size_of up + size_of frame_filled ≡ i + size_of (up ++ frame_filled) = omega (arith, total) in
     let whole' = reach_then r q in
-    let moved = reach_map (λ b w. At b (i + size_of (up ++ frame_filled)) (Known (ground_of f first (λ j. pos 0)) v zeros (first_words first f.at) no_texts b) w) whole' (λ b w o. record { pc = o.pc ∙ ap (address b) e'; holds = o.holds }) in
-    subst (λ n'. Reach code c g v n' v (λ b w. At b (i + size_of (up ++ frame_filled)) (Known (ground_of f first (λ j. pos 0)) v zeros (first_words first f.at) no_texts b) w)) e moved
+    let moved = reach_map (λ b w. At b (i + size_of (up ++ frame_filled)) (Known (ground_of f first (λ j. Counted (pos 0))) v zeros (first_words first f.at) no_texts b) w) whole' (λ b w o. record { pc = o.pc ∙ ap (address b) e'; holds = o.holds }) in
+    subst (λ n'. Reach code c g v n' v (λ b w. At b (i + size_of (up ++ frame_filled)) (Known (ground_of f first (λ j. Counted (pos 0))) v zeros (first_words first f.at) no_texts b) w)) e moved

@@ -12,7 +12,9 @@ use Rattle.pli_coding.specs.Expressions.{number_code, text_code, bit_code}
 use Rattle.pli_coding.specs.Streams.{has_fixed, has_text, number_written, text_written, number_put, text_put, as_text, item_put, items_put, edit_ended, put_pair, put_pairs, skip_option}
 use Rattle.pli_headline.specs.ProvedSoFar.{Types, IsProvedItem, AreProvedItems, AreProvedPairs}
 use Rattle.pli_headline.proofs.EditConversions.{text_by_fixed}
-use Rattle.pli_headline.proofs.SymbolsMarked.{text_none, HasTypes, Marks, behind, constant_none, saved_none, fetched_none, number_none, bit_none}
+use Rattle.pli_headline.proofs.SymbolsMarked.{Marks, behind, constant_none, saved_none, fetched_none}
+use Rattle.pli_headline.proofs.Variables.{HasTypes}
+use Rattle.pli_headline.proofs.ExpressionMarks.{number_none, bit_none, text_none}
 
 -- ---- PUT
 

@@ -1,6 +1,5 @@
 -- PUT EDIT: items one behind the other, pairs, and the statement.
-use Rattle.std.proofs.Common.{◌≡◌, ℕ, suc, ◌+◌, ◌^◌, ◌<◌, ◌≤◌, inl, List, [], ◌∷◌, ◌++◌, None, true, refl, sym, ap, ◌∙◌, subst, arith}
-use Rattle.std.specs.Prelude.{ℤ}
+use Rattle.std.proofs.Common.{◌≡◌, ℕ, ◌+◌, ◌^◌, ◌<◌, ◌≤◌, inl, List, [], ◌∷◌, ◌++◌, None, true, refl, sym, ap, ◌∙◌, subst, arith}
 use Rattle.std.proofs.Math.Nat.{le-max_left, le-max_right}
 use Rattle.rv_meaning.specs.declared.instr.Instr.{Instr}
 use Rattle.pli_language.specs.Tree as T
@@ -38,15 +37,16 @@ use Rattle.rv_meaning.specs.Memory.{bytes_of_words}
 use Rattle.pli_coding.specs.StaticForms.{formats_length, formats_words}
 use Rattle.pli_headline.proofs.StandingFormats.{formats_found}
 use Rattle.pli_headline.proofs.PutItems.{item_piece}
+use Rattle.pli_headline.proofs.Scalars.{Values}
 
 -- ---- items one behind the other
 
 -- behind items
-abbrev pub ItemsBehind : {e : Environment} {block : ℕ} {types : Types} → Block e block types → (k line : ℕ) → (h t : ℕ → ℕ) → (i : ℕ) → (ℕ → ℤ) → T.Formats → (below : List EditPlace) → Aims (Unit {0}) → Type 0
+abbrev pub ItemsBehind : {e : Environment} {block : ℕ} {types : Types} → Block e block types → (k line : ℕ) → (h t : ℕ → ℕ) → (i : ℕ) → Values → T.Formats → (below : List EditPlace) → Aims (Unit {0}) → Type 0
 ItemsBehind {e = e} {block = block} {types = types} bl k line h0 t0 i n fs below aims =
-    (s : State) (v : Services) (rest : List FormatItem) (h t : ℕ → ℕ) (f : Family) → Serving k s v line → AllHold (suc e.level) s block types n → Suit (has_fixed fs) (has_text fs) rest → v.edits ≡ putting (format_items fs) rest ∷ below → Stays bl.taken h0 t0 h t → ((b : Base) → At b i (Known (bl.ground n) v h t nothing b) (f b)) → aims.done i f v tt s
+    (s : State) (v : Services) (rest : List FormatItem) (h t : ℕ → ℕ) (f : Family) → Serving k s v line → AllHold bl.frames v.activations (e.level ∷ bl.depths) s block types n → Suit (has_fixed fs) (has_text fs) rest → v.edits ≡ putting (format_items fs) rest ∷ below → Stays bl.taken h0 t0 h t → ((b : Base) → At b i (Known (bl.ground n) v h t nothing b) (f b)) → aims.done i f v tt s
 
-items_piece : {e : Environment} {block : ℕ} {types : Types} (bl : Block e block types) {links : Links} {code : List Instr} (items : List Y.PutItem) {i : ℕ} {v : Services} {h t : ℕ → ℕ} {s : State} {aims : Aims (Unit {0})} (closed : Closed code aims) (routines : Standing bl links code) (f : Family) (around : Around) (fs : T.Formats) (n : ℕ → ℤ) (rest : List FormatItem) (below : List EditPlace) (k : ℕ) → AreProvedItems block types items → bl.taken.words + put_items_words items ≤ bl.words → AreProvedFormats fs → HasData fs → (has_text fs ≡ true → HavePrecisions items) → Suit (has_fixed fs) (has_text fs) rest → v.edits ≡ putting (format_items fs) rest ∷ below → Linked links code i (C.items_put e bl.taken fs items) → Serving k s v around.line → AllHold (suc e.level) s block types n → ((b : Base) → At b i (Known (bl.ground n) v h t nothing b) (f b)) → ItemsBehind bl k around.line h t (i + size_of (C.items_put e bl.taken fs items)) n fs below aims → Comes code i f v aims (P.items_put around (format_items fs) rest items k s)
+items_piece : {e : Environment} {block : ℕ} {types : Types} (bl : Block e block types) {links : Links} {code : List Instr} (items : List Y.PutItem) {i : ℕ} {v : Services} {h t : ℕ → ℕ} {s : State} {aims : Aims (Unit {0})} (closed : Closed code aims) (routines : Standing bl links code) (f : Family) (around : Around) (fs : T.Formats) (n : Values) (rest : List FormatItem) (below : List EditPlace) (k : ℕ) → AreProvedItems block types items → bl.taken.words + put_items_words items ≤ bl.words → AreProvedFormats fs → HasData fs → (has_text fs ≡ true → HavePrecisions items) → Suit (has_fixed fs) (has_text fs) rest → v.edits ≡ putting (format_items fs) rest ∷ below → Linked links code i (C.items_put e bl.taken fs items) → Serving k s v around.line → AllHold bl.frames v.activations (e.level ∷ bl.depths) s block types n → ((b : Base) → At b i (Known (bl.ground n) v h t nothing b) (f b)) → ItemsBehind bl k around.line h t (i + size_of (C.items_put e bl.taken fs items)) n fs below aims → Comes code i f v aims (P.items_put around (format_items fs) rest items k s)
 unfolding P.items_put ◌>>=◌ give
 items_piece bl [] {i = i} {v = v} {h = h} {t = t} {s = s} {aims = aims} closed routines f around fs n rest below k is room are has precise suits edits l serving all at goal =
     let e : i ≡ i + 0 = omega arith in
@@ -71,7 +71,7 @@ items_piece {e} bl {links} {code} (item ∷ items) {i} {v} {h} {t} {s} {aims} cl
 
 -- ---- pairs
 
-pub pairs_piece : {e : Environment} {block : ℕ} {types : Types} (bl : Block e block types) {links : Links} {code : List Instr} (pairs : List Y.PutPair) {i : ℕ} {v : Services} {h t : ℕ → ℕ} {s : State} {aims : Aims (Unit {0})} (closed : Closed code aims) (routines : Standing bl links code) (f : Family) (around : Around) (n : ℕ → ℤ) (k : ℕ) → AreProvedPairs block types pairs → bl.taken.words + put_words pairs ≤ bl.words → Linked links code i (put_pairs e bl.taken pairs) → Serving k s v around.line → AllHold (suc e.level) s block types n → ((b : Base) → At b i (Known (bl.ground n) v h t nothing b) (f b)) → Behind bl k h t (i + size_of (put_pairs e bl.taken pairs)) aims → Comes code i f v aims (P.pairs_put around pairs k s)
+pub pairs_piece : {e : Environment} {block : ℕ} {types : Types} (bl : Block e block types) {links : Links} {code : List Instr} (pairs : List Y.PutPair) {i : ℕ} {v : Services} {h t : ℕ → ℕ} {s : State} {aims : Aims (Unit {0})} (closed : Closed code aims) (routines : Standing bl links code) (f : Family) (around : Around) (n : Values) (k : ℕ) → AreProvedPairs block types pairs → bl.taken.words + put_words pairs ≤ bl.words → Linked links code i (put_pairs e bl.taken pairs) → Serving k s v around.line → AllHold bl.frames v.activations (e.level ∷ bl.depths) s block types n → ((b : Base) → At b i (Known (bl.ground n) v h t nothing b) (f b)) → Behind bl k h t (i + size_of (put_pairs e bl.taken pairs)) aims → Comes code i f v aims (P.pairs_put around pairs k s)
 unfolding P.pairs_put ◌>>◌ give
 pairs_piece bl [] {i = i} {v = v} {h = h} {t = t} {s = s} {aims = aims} closed routines f around n k is room l serving all at goal =
     let e : i ≡ i + 0 = omega arith in

@@ -1,4 +1,4 @@
--- Conditions are raised: without a unit in force the run ends.
+-- Conditions are raised: without a unit in force, or with one that leaves it to the system, the run ends.
 use Rattle.std.proofs.Common.{◌≡◌, ℕ, suc, ◌+◌, ◌*◌, ◌^◌, ◌<◌, ◌≤◌, List, [], ◌∷◌, ◌++◌, Some, None, true, refl, sym, ap, ◌∙◌, subst, arith, lit<, add-one}
 use Rattle.std.specs.Prelude.{cond, Option, ◌==◌}
 use Rattle.std.proofs.lemmas.Bool.{lt-ltb}
@@ -10,7 +10,7 @@ use Rattle.rv_meaning.specs.declared.instr.Instr.TheVariants as I
 use Rattle.rv_meaning.specs.declared.instr.BranchTest.TheVariants as Test
 use Rattle.rv_meaning.specs.Words.{sum}
 use Rattle.pli_meaning.specs.World.{World, raising, ending}
-use Rattle.pli_meaning.specs.StorageState.{State, with_world, force}
+use Rattle.pli_meaning.specs.StorageState.{OnUnit, SystemUnit, BlockUnit, Activation, State, with_world, force}
 use Rattle.pli_meaning.specs.Control.{act, looked, finish, ◌>>=◌, ◌>>◌}
 use Rattle.pli_meaning.specs.Raising as R
 use Rattle.pli_meaning.specs.Raising.{Around}
@@ -18,6 +18,7 @@ use Rattle.pli_serving.specs.ServiceState as S
 use Rattle.pli_serving.specs.ServiceState.{Services}
 use Rattle.pli_serving.specs.Answers as N
 use Rattle.pli_serving.specs.Answers.{Answer, Done, Ends, Bad, acting}
+use Rattle.pli_serving.specs.Finding.{Call}
 use Rattle.pli_serving.specs.OnUnits as U
 use Rattle.pli_serving.specs.ActsAndEnds as W
 use Rattle.pli_serving.specs.Outcomes.{or_bad, bad_unless}
@@ -30,7 +31,7 @@ use Rattle.pli_headline.proofs.Engine.{Base, address, call_at}
 use Rattle.pli_headline.proofs.Items.{Linked, At, straight}
 use Rattle.pli_headline.proofs.Bodies.{Ground, Known, zero_is}
 use Rattle.pli_headline.proofs.Jumps.{first_of, rest_of, front_of, back_of, skip_taken}
-use Rattle.pli_headline.proofs.Activations.{none_in_force, none_served}
+use Rattle.pli_headline.proofs.Activations.{OnlyIf, only_in_force, only_served}
 use Rattle.pli_headline.proofs.Calls.{Serving, comes_act, comes_finish, called, Calling, call_acts, call_pauses, end_pauses, call_ends, acts}
 use Rattle.pli_headline.proofs.Reach.{Family, cost, Aims, Comes, Closed, before_closed, comes_on, onward, reached, reached_holds}
 
@@ -70,13 +71,18 @@ with_act {v = v} change more same o below =
 abbrev pub raised_by : Condition → ℕ → Services → Services
 raised_by c code v = N.with_world (raising c code v.world) v
 
-raise_answer : (code : List Instr) (v : Services) (m : List ℕ) (c : Condition) (number n resume k : ℕ) → U.condition_of number ≡ Some c → n < 2 ^ 16 → U.force v.activations c ≡ None → v.world.acts ≤ k → k + 1 < 2 ^ 64 → U.raise_served (call_at code v m) number n resume ≡ Done (raised_by c n v) m 0 n
-raise_answer code v m c number n resume k e small' none h fits =
+answered_only : (call : Call) (v : Services) (n resume : ℕ) (o : Option (S.Activation × S.OnUnit)) → OnlyIf S.SystemUnit o → U.raise_answered call v n resume o ≡ Done v call.memory 0 n
+answered_only call v n resume None h = refl
+answered_only call v n resume (Some (a, S.SystemUnit)) h = refl
+answered_only call v n resume (Some (a, S.CodeUnit at)) h = absurd (cc h)
+
+raise_answer : (code : List Instr) (v : Services) (m : List ℕ) (c : Condition) (number n resume k : ℕ) → U.condition_of number ≡ Some c → n < 2 ^ 16 → OnlyIf S.SystemUnit (U.force v.activations c) → v.world.acts ≤ k → k + 1 < 2 ^ 64 → U.raise_served (call_at code v m) number n resume ≡ Done (raised_by c n v) m 0 n
+raise_answer code v m c number n resume k e small' only h fits =
     let t : W.is_code n ≡ true = lt-ltb n (2 ^ 16) small' in
     let call = call_at code v m in
     let found : Option (S.Activation × S.OnUnit) → Answer = λ o. U.raise_answered call (raised_by c n v) n resume o in
     let next : Condition → Answer = λ q. bad_unless (W.is_code n) (acting v (U.raise_answered call (raised_by q n v) n resume (U.force v.activations q))) in
-    ap (λ u. or_bad u next) e ∙ ap (λ u. cond u (acting v (found (U.force v.activations c))) Bad) t ∙ acts v k _ h fits ∙ ap found none
+    ap (λ u. or_bad u next) e ∙ ap (λ u. cond u (acting v (found (U.force v.activations c))) Bad) t ∙ acts v k _ h fits ∙ answered_only call (raised_by c n v) n resume (U.force v.activations c) only
 
 abbrev raising_regs : (number n : ℕ) → Base → List (ℕ × ℕ)
 raising_regs number n b = (10, number) ∷ (11, n) ∷ (17, 30) ∷ []
@@ -89,22 +95,22 @@ coded n b = (11, n) ∷ []
 abbrev pub conditioned : (number n : ℕ) → Base → List (ℕ × ℕ)
 conditioned number n b = (10, number) ∷ (11, n) ∷ []
 
-raise_calling : {links : Links} {code : List Instr} {i : ℕ} {g : Ground} {v : Services} {h t : ℕ → ℕ} (f : Family) (c : Condition) (number n k : ℕ) → Linked links code i (Plain I.Ecall ∷ []) → U.condition_of number ≡ Some c → n < 2 ^ 16 → U.force v.activations c ≡ None → v.world.acts ≤ k → k + 1 < 2 ^ 64 → ((b : Base) → At b i (Known g v h t (raising_regs number n) b) (f b)) → Calling links code i f (λ b. Done (raised_by c n v) (f b).machine.memory 0 n)
-raise_calling {code = code} {v = v} f c number n k l e small' none h fits at =
+raise_calling : {links : Links} {code : List Instr} {i : ℕ} {g : Ground} {v : Services} {h t : ℕ → ℕ} (f : Family) (c : Condition) (number n k : ℕ) → Linked links code i (Plain I.Ecall ∷ []) → U.condition_of number ≡ Some c → n < 2 ^ 16 → OnlyIf S.SystemUnit (U.force v.activations c) → v.world.acts ≤ k → k + 1 < 2 ^ 64 → ((b : Base) → At b i (Known g v h t (raising_regs number n) b) (f b)) → Calling links code i f (λ b. Done (raised_by c n v) (f b).machine.memory 0 n)
+raise_calling {code = code} {v = v} f c number n k l e small' only h fits at =
     record {
       linked = l;
       pc = λ b. (at b).pc;
       answers = λ b.
           let o = (at b).holds in
           called code (f b) v 30 number n _ _ _ (λ call x0 x1 x2 x3 x4. U.raise_served call x0 x1 x2) o.body.services o.regs.1.1.0 o.regs.0 o.regs.1.0 refl refl refl (λ call x. refl)
-          ∙ raise_answer code v (f b).machine.memory c number n _ k e small' none h fits;
+          ∙ raise_answer code v (f b).machine.memory c number n _ k e small' only h fits;
     }
 
--- a raise of a condition without a unit: an act, and 0 and the code come back
+-- a raise of a condition without a unit of the program: an act, and 0 and the code come back
 raised_here : {links : Links} {code : List Instr} {i : ℕ} {g : Ground} {v : Services} {h t : ℕ → ℕ} {s : State} {line : ℕ} {aims : Aims (Unit {0})} (closed : Closed code aims) (credits : ℕ) (f : Family) (c : Condition) (number n k : ℕ) → credits < cost code → Linked links code i (Plain I.Ecall ∷ []) → U.condition_of number ≡ Some c → n < 2 ^ 16 → Serving k s v line → ((b : Base) → At b i (Known g v h t (raising_regs number n) b) (f b)) → ((f' : Family) → Serving k (with_world (raising c n s.world) s) (raised_by c n v) line → ((b : Base) → At b (i + 1) (Known g (raised_by c n v) h t (conditioned 0 n) b) (f' b)) → aims.done 0 f' (raised_by c n v) tt (with_world (raising c n s.world) s)) → Comes code credits f v aims (act (raising c n) k s)
 raised_here {code = code} {i = i} {g = g} {v = v} {h = h} {t = t} {s = s} closed credits f c number n k few l e small' serving at next' =
     let v' = raised_by c n v in
-    let calling = raise_calling f c number n k l e small' (none_served s.activations v.activations serving.nested c) serving.allowed serving.fits at in
+    let calling = raise_calling f c number n k l e small' (only_served s.activations v.activations serving.nested c) serving.allowed serving.fits at in
     let more : v'.world.acts ≡ suc v.world.acts = add-one v.world.acts in
     let pauses = call_pauses credits f v v' (λ b. (f b).machine.memory) (λ b. 0) (λ b. n) few serving.running (λ b. (at b).holds.body.services) more calling in
     let r = call_acts credits 0 f v v' (λ b. (f b).machine.memory) (λ b. 0) (λ b. n) (λ b. Known g v' h t (conditioned 0 n) b) few more calling
@@ -147,9 +153,15 @@ error_ends {X = X} {code = code} {i = i} {g = g} {v = v} {h = h} {t = t} {s = s}
     (end_pauses (credits + 2) f' v v' few serving.running (λ b. (at' b).holds.body.services) (add-one v.world.acts) calling)
     (call_ends (credits + 2) f' v v' (λ e. cc e) calling))
 
-unit_of_error : (X : Type 0) (around : Around) (n k : ℕ) (s : State) → force s.activations C.Error ≡ None → ((looked >>= (λ u. R.error_unit_run {R = X} around n (force u.activations C.Error))) k s) ≡ finish {R = X} (E.Error n around.line) k s
-unfolding looked ◌>>=◌ R.error_unit_run
-unit_of_error X around n k s e = ap (λ o. R.error_unit_run around n o k s) e
+error_run_is : (X : Type 0) (around : Around) (n k : ℕ) (s : State) (o : Option (Activation × OnUnit)) → OnlyIf SystemUnit o → R.error_unit_run {R = X} around n o k s ≡ finish {R = X} (E.Error n around.line) k s
+unfolding R.error_unit_run
+error_run_is X around n k s None h = refl
+error_run_is X around n k s (Some (a, SystemUnit)) h = refl
+error_run_is X around n k s (Some (a, BlockUnit block)) h = absurd (cc h)
+
+unit_of_error : (X : Type 0) (around : Around) (n k : ℕ) (s : State) → OnlyIf SystemUnit (force s.activations C.Error) → ((looked >>= (λ u. R.error_unit_run {R = X} around n (force u.activations C.Error))) k s) ≡ finish {R = X} (E.Error n around.line) k s
+unfolding looked ◌>>=◌
+unit_of_error X around n k s only = error_run_is X around n k s (force s.activations C.Error) only
 
 -- ERROR is raised at its routine
 pub error_piece : {X : Type 0} {links : Links} {code : List Instr} {g : Ground} {v : Services} {h t : ℕ → ℕ} {s : State} {aims : Aims X} (closed : Closed code aims) (routines : Routines links code) (credits : ℕ) (f : Family) (around : Around) (n k : ℕ) → n < 2 ^ 16 → credits + 4 < cost code → Serving k s v around.line → ((b : Base) → At b (routines.at + 8) (Known g v h t (coded n) b) (f b)) → Comes code credits f v aims (R.error {R = X} around n k s)
@@ -179,26 +191,30 @@ error_piece {X = X} {links = links} {code = code} {g = g} {v = v} {h = h} {t = t
     (λ f2 serving2 at2.
     let s2 = with_world (raising C.Error n s.world) s in
     let q = skip_taken 0 f2 Test.Equal a0 zero_register (JumpAhead (size_of error_end) ∷ []) (front_of (to_unit (size_of error_end)) error_end at_test) at2 (λ b. zero_equal _ _ (at2 b).holds.regs.0 (zero_is (at2 b).holds.body)) in
-    subst (Comes code 0 f2 (raised_by C.Error n v) _) (sym (unit_of_error X around n k s2 (none_in_force s2.activations v.activations serving2.nested C.Error)))
+    subst (Comes code 0 f2 (raised_by C.Error n v) _) (sym (unit_of_error X around n k s2 (only_in_force s2.activations v.activations serving2.nested C.Error)))
     (onward closed q (λ f3 at3. error_ends closed 3 f3 n k around.line small' (let i = mine.inside in omega (arith, i)) (back_of (to_unit (size_of error_end)) error_end at_test) serving2 at3)))))
 
 -- ---- other conditions
 
-unit_of_raise : (around : Around) (c : Condition) (n k : ℕ) (s : State) → force s.activations c ≡ None → ((looked >>= (λ u. R.unit_run around n (force u.activations c))) k s) ≡ R.error around n k s
-unfolding looked ◌>>=◌ R.unit_run
-unit_of_raise around c n k s e = ap (λ o. R.unit_run around n o k s) e
+unit_run_is : (around : Around) (n k : ℕ) (s : State) (o : Option (Activation × OnUnit)) → OnlyIf SystemUnit o → R.unit_run around n o k s ≡ R.error around n k s
+unfolding R.unit_run
+unit_run_is around n k s None h = refl
+unit_run_is around n k s (Some (a, SystemUnit)) h = refl
+unit_run_is around n k s (Some (a, BlockUnit block)) h = absurd (cc h)
+
+unit_of_raise : (around : Around) (c : Condition) (n k : ℕ) (s : State) → OnlyIf SystemUnit (force s.activations c) → ((looked >>= (λ u. R.unit_run around n (force u.activations c))) k s) ≡ R.error around n k s
+unfolding looked ◌>>=◌
+unit_of_raise around c n k s only = unit_run_is around n k s (force s.activations c) only
 
 -- a condition is raised at its routine
 pub raise_piece : {links : Links} {code : List Instr} {g : Ground} {v : Services} {h t : ℕ → ℕ} {s : State} {aims : Aims (Unit {0})} (closed : Closed code aims) (routines : Routines links code) (credits : ℕ) (f : Family) (around : Around) (c : Condition) (number n k : ℕ) → U.condition_of number ≡ Some c → n < 2 ^ 16 → credits + 4 < cost code → Serving k s v around.line → ((b : Base) → At b routines.at (Known g v h t (conditioned number n) b) (f b)) → Comes code credits f v aims (R.raised around c n k s)
 unfolding R.raised ◌>>◌
 raise_piece {links = links} {code = code} {g = g} {v = v} {h = h} {t = t} {s = s} closed routines credits f around c number n k is small' few serving at =
-    let later = routines.later in
     let front = Mark RaiseCondition ∷ BaseIn u0 ∷ subtract a2 return_register u0 ∷ small a7 30 ∷ [] in
     let behind = to_unit (size_of error_code) ++ (error_code ++ unit_begun) in
     let mine = routines.linked in
     let r = straight credits f v v (λ b. Known g v h t (raising_regs number n) b) (front_of front (Plain I.Ecall ∷ behind) mine) (omega arith) (λ b. (at b).pc)
     (λ b. let o = (at b).holds in let z = zero_is o.body in (
-      omega (arith, later),
       refl,
       record {
         body = record { services = o.body.services; registers = o.body.registers; bytes = o.body.bytes; memory = o.body.memory };
@@ -214,6 +230,6 @@ raise_piece {links = links} {code = code} {g = g} {v = v} {h = h} {t = t} {s = s
     (λ f2 serving2 at2.
     let s2 = with_world (raising c n s.world) s in
     let q = skip_taken 0 f2 Test.Equal a0 zero_register (JumpAhead (size_of error_code) ∷ []) (front_of (to_unit (size_of error_code)) (error_code ++ unit_begun) at_test) at2 (λ b. zero_equal _ _ (at2 b).holds.regs.0 (zero_is (at2 b).holds.body)) in
-    subst (Comes code 0 f2 (raised_by c n v) _) (sym (unit_of_raise around c n k s2 (none_in_force s2.activations v.activations serving2.nested c)))
+    subst (Comes code 0 f2 (raised_by c n v) _) (sym (unit_of_raise around c n k s2 (only_in_force s2.activations v.activations serving2.nested c)))
     (onward closed q (λ f3 at3. error_piece closed routines 3 f3 around n k small' (let i = mine.inside in omega (arith, i)) serving2
     (λ b. let o = at3 b in record { pc = o.pc ∙ ap (address b) (omega arith); holds = record { body = o.holds.body; regs = (o.holds.regs.1.0, tt) } }))))))

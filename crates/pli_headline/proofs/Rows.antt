@@ -1,9 +1,10 @@
 -- The statement's definitions, computed.
-use Rattle.std.proofs.Common.{◌≡◌, ℕ, ◌+◌, ◌≤◌, List, [], ◌∷◌, None, Some, Bool, true, false, refl, arith, lit<}
-use Rattle.std.specs.Prelude.{negsuc}
+use Rattle.std.proofs.Common.{◌≡◌, ℕ, ◌+◌, ◌≤◌, List, [], ◌∷◌, None, Some, Bool, true, false, refl, arith, lit<, inl, inr}
+use Rattle.std.specs.Prelude.{negsuc, pos}
 use Rattle.rv_meaning.specs.declared.instr.Fault.TheVariants.{BadService}
 use Rattle.rv_meaning.specs.declared.instr.Instr.TheVariants as I
 use Rattle.area_keeper.specs.Chain.{chain}
+use Rattle.pli_language.specs.declared.condition.Condition.TheVariants as C
 use Rattle.pli_language.specs.Tree as T
 use Rattle.pli_language.specs.Formats.{format_moves_data, formats_move_data}
 use Rattle.pli_typing.specs.TypedTree as Y
@@ -11,7 +12,8 @@ use Rattle.image_runs.specs.Runs.{Stopped, layout_of, shown_by}
 use Rattle.pli_meaning.specs.Headline.{step_cost}
 use Rattle.pli_headline.specs.Headline.{parts}
 use Rattle.pli_meaning.specs.Executing.{labels_in}
-use Rattle.pli_headline.specs.ProvedSoFar.{IsProvedSoFar, ArePlain, Types, AreProvedStatements, AllJumpAround, all_labels, AreProvedFormats, AreProvedPairs, IsTimes, HasData, IsOwn, IsOwnNumber, IsTarget, plain_variable}
+use Rattle.pli_headline.specs.ProvedSoFar.{IsProvedSoFar, ArePlain, Types, AreProvedStatements, AllJumpAround, all_labels, AreProvedFormats, AreProvedPairs, IsTimes, HasData, IsOwn, IsOwnText, IsTarget, plain_variable, text_leaf, alone, array_variable, IsProvedNumber, IsElement, IsDimension}
+use Rattle.pli_typing.specs.Signatures.{Bounds}
 
 -- a fault is no world
 fault_shown : shown_by (Stopped BadService) ≡ None
@@ -51,11 +53,11 @@ loop =
     2)
     (Y.StmtThen [] (Y.Stop 4) (Y.EndOfList []))
 
-loop_proved : AreProvedStatements 1 (Y.FixedLeaf 31 ∷ []) loop
+loop_proved : AreProvedStatements 1 (alone (Y.FixedLeaf 31) ∷ []) loop
 loop_proved =
-    let o : IsOwn 1 (Y.FixedLeaf 31 ∷ []) (Y.FixedLeaf 31) whole_i = record { index = 0; declared = refl; is = refl } in
-    let i : IsOwnNumber 1 (Y.FixedLeaf 31 ∷ []) whole_i = record { precision = 31; own = o } in (
-      ((i, lit< tt), (((tt, ((o, ((i, lit< tt), lit< tt)), lit< tt)), tt), lit< tt)),
+    let o : IsOwn 1 (alone (Y.FixedLeaf 31) ∷ []) (Y.FixedLeaf 31) whole_i = record { index = 0; declared = refl; is = refl } in
+    let i : IsProvedNumber 1 (alone (Y.FixedLeaf 31) ∷ []) (Y.NumberIn whole_i) = (record { precision = 31; part = inl o }, tt) in (
+      ((i, lit< tt), (((tt, (((inl o, tt), ((i, lit< tt), lit< tt)), lit< tt)), tt), lit< tt)),
       (lit< tt, tt),
     )
 
@@ -66,10 +68,10 @@ count =
     (Y.DoCount (Y.NumberCounter 31 whole_i) (Y.NumberValue 31 (Y.NumberConstant 1)) (Some (Y.NumberConstant 5)) (Y.NumberConstant 1) None (Y.EndOfList []) 2)
     (Y.EndOfList [])
 
-count_proved : AreProvedStatements 1 (Y.FixedLeaf 31 ∷ []) count
+count_proved : AreProvedStatements 1 (alone (Y.FixedLeaf 31) ∷ []) count
 count_proved =
-    let o : IsOwn 1 (Y.FixedLeaf 31 ∷ []) (Y.FixedLeaf 31) whole_i = record { index = 0; declared = refl; is = refl } in
-    let i : IsOwnNumber 1 (Y.FixedLeaf 31 ∷ []) whole_i = record { precision = 31; own = o } in
+    let o : IsOwn 1 (alone (Y.FixedLeaf 31) ∷ []) (Y.FixedLeaf 31) whole_i = record { index = 0; declared = refl; is = refl } in
+    let i : IsProvedNumber 1 (alone (Y.FixedLeaf 31) ∷ []) (Y.NumberIn whole_i) = (record { precision = 31; part = inl o }, tt) in
     (((o, lit< tt), ((lit< tt, lit< tt), (tt, (tt, lit< tt)))), tt)
 
 -- DCL S FIXED BIN(15) INIT(-7), B BIT(1) INIT('1'B);
@@ -78,9 +80,48 @@ given_once v = record { repetition = 1; value = v } ∷ []
 
 begun_plain : ArePlain (plain_variable (Y.FixedLeaf 15) (given_once (T.InitialNumber (negsuc 6))) ∷ plain_variable Y.BitLeaf (given_once (T.InitialBit true)) ∷ [])
 begun_plain = (
-  record { type = Y.FixedLeaf 15; initial = given_once (T.InitialNumber (negsuc 6)); scalar = (omega arith, omega arith); begins = (refl, refl); is = refl },
-  (record { type = Y.BitLeaf; initial = given_once (T.InitialBit true); scalar = tt; begins = (refl, tt); is = refl }, tt),
+  record { type = Y.FixedLeaf 15; bounds = []; initial = given_once (T.InitialNumber (negsuc 6)); held = (omega arith, omega arith); begins = (lit< tt, (refl, tt)); is = refl },
+  (record { type = Y.BitLeaf; bounds = []; initial = given_once (T.InitialBit true); held = tt; begins = (lit< tt, (tt, tt)); is = refl }, tt),
 )
+
+-- DCL J FIXED BIN(31) INIT((2) *, 5);
+abbrev given_later : List T.InitialItem
+given_later = record { repetition = 2; value = T.InitialSkip } ∷ record { repetition = 1; value = T.InitialNumber (pos 5) } ∷ []
+
+later_plain : ArePlain (plain_variable (Y.FixedLeaf 31) given_later ∷ [])
+later_plain = (
+  record { type = Y.FixedLeaf 31; bounds = []; initial = given_later; held = (omega arith, omega arith); begins = (lit< tt, (tt, (lit< tt, (refl, tt)))); is = refl },
+  tt,
+)
+
+-- DO I = '2' TO 5; END; DO I = '1'B BY 2; END;
+abbrev starts : Y.Stmts
+starts =
+    Y.StmtThen []
+    (Y.DoCount (Y.NumberCounter 31 whole_i) (Y.TextValue (Y.TextConstant (50 ∷ []))) (Some (Y.NumberConstant 5)) (Y.NumberConstant 1) None (Y.EndOfList []) 2)
+    (Y.StmtThen []
+    (Y.DoCount (Y.NumberCounter 31 whole_i) (Y.BitValue (Y.BitConstant true)) None (Y.NumberConstant 2) None (Y.EndOfList []) 3)
+    (Y.EndOfList []))
+
+starts_proved : AreProvedStatements 1 (alone (Y.FixedLeaf 31) ∷ []) starts
+starts_proved =
+    let o : IsOwn 1 (alone (Y.FixedLeaf 31) ∷ []) (Y.FixedLeaf 31) whole_i = record { index = 0; declared = refl; is = refl } in (
+      ((o, omega arith), ((lit< tt, lit< tt), (tt, (tt, lit< tt)))),
+      (((o, tt), ((tt, lit< tt), (tt, (tt, lit< tt)))), tt),
+    )
+
+-- ON ZERODIVIDE SYSTEM; I = ONCODE(); REVERT ZERODIVIDE;
+abbrev units : Y.Stmts
+units =
+    Y.StmtThen [] (Y.OnSystem C.ZeroDivide 2)
+    (Y.StmtThen [] (Y.Assign whole_i (Y.StoredNumber 31 Y.OnCode) 3)
+    (Y.StmtThen [] (Y.Revert C.ZeroDivide 4)
+    (Y.EndOfList [])))
+
+units_proved : AreProvedStatements 1 (alone (Y.FixedLeaf 31) ∷ []) units
+units_proved =
+    let o : IsOwn 1 (alone (Y.FixedLeaf 31) ∷ []) (Y.FixedLeaf 31) whole_i = record { index = 0; declared = refl; is = refl } in
+    (lit< tt, (((inl o, tt), (tt, lit< tt)), (lit< tt, tt)))
 
 -- B = S > 100; IF B THEN S = S * 2;
 abbrev whole_of : ℕ → Y.Reference
@@ -93,13 +134,77 @@ kinds =
     (Y.StmtThen [] (Y.If (Y.BitIn (whole_of 1)) (Y.Assign (whole_of 0) (Y.StoredNumber 15 (Y.Calculated Y.Product (Y.NumberIn (whole_of 0)) (Y.NumberConstant 2))) 3) 3)
     (Y.EndOfList []))
 
-kinds_proved : AreProvedStatements 1 (Y.FixedLeaf 15 ∷ Y.BitLeaf ∷ []) kinds
+kinds_proved : AreProvedStatements 1 (alone (Y.FixedLeaf 15) ∷ alone Y.BitLeaf ∷ []) kinds
 kinds_proved =
-    let types : Types = Y.FixedLeaf 15 ∷ Y.BitLeaf ∷ [] in
+    let types : Types = alone (Y.FixedLeaf 15) ∷ alone Y.BitLeaf ∷ [] in
     let s : IsOwn 1 types (Y.FixedLeaf 15) (whole_of 0) = record { index = 0; declared = refl; is = refl } in
     let b : IsOwn 1 types Y.BitLeaf (whole_of 1) = record { index = 1; declared = refl; is = refl } in
-    let n : IsOwnNumber 1 types (whole_of 0) = record { precision = 15; own = s } in
-    ((b, ((n, lit< tt), lit< tt)), ((b, ((s, ((n, lit< tt), lit< tt)), lit< tt)), tt))
+    let n : IsProvedNumber 1 types (Y.NumberIn (whole_of 0)) = (record { precision = 15; part = inl s }, tt) in
+    (((inl b, tt), ((n, lit< tt), lit< tt)), (((inl b, tt), (((inl s, tt), ((n, lit< tt), lit< tt)), lit< tt)), tt))
+
+-- DCL C CHAR(5), V CHAR(8) VARYING INIT('AB');
+texts_plain : ArePlain (plain_variable (text_leaf false 5) [] ∷ plain_variable (text_leaf true 8) (given_once (T.InitialText (65 ∷ 66 ∷ []))) ∷ [])
+texts_plain = (
+  record { type = text_leaf false 5; bounds = []; initial = []; held = (omega arith, omega arith); begins = tt; is = refl },
+  (record { type = text_leaf true 8; bounds = []; initial = given_once (T.InitialText (65 ∷ 66 ∷ [])); held = (omega arith, omega arith); begins = (refl, omega arith); is = refl }, tt),
+)
+
+-- V = C || 'AB'; IF C = V THEN C = SUBSTR(V, LENGTH(C));
+abbrev texts : Y.Stmts
+texts =
+    Y.StmtThen [] (Y.Assign (whole_of 1) (Y.StoredText (Y.Joined (Y.TextIn (whole_of 0)) (Y.TextConstant (65 ∷ 66 ∷ [])))) 2)
+    (Y.StmtThen []
+    (Y.If (Y.TextsCompared Y.IsEqual (Y.TextIn (whole_of 0)) (Y.TextIn (whole_of 1))) (Y.Assign (whole_of 0) (Y.StoredText (Y.SubstringFrom (Y.TextIn (whole_of 1)) (Y.LengthOf (Y.TextIn (whole_of 0))))) 3) 3)
+    (Y.EndOfList []))
+
+texts_proved : AreProvedStatements 1 (alone (text_leaf false 5) ∷ alone (text_leaf true 8) ∷ []) texts
+texts_proved =
+    let types : Types = alone (text_leaf false 5) ∷ alone (text_leaf true 8) ∷ [] in
+    let c : IsOwnText 1 types (whole_of 0) = record { varying = false; most = 5; own = record { index = 0; declared = refl; is = refl } } in
+    let v : IsOwnText 1 types (whole_of 1) = record { varying = true; most = 8; own = record { index = 1; declared = refl; is = refl } } in
+    ((v, ((c, omega arith), lit< tt)), (((c, v), ((c, ((v, c), lit< tt)), lit< tt)), tt))
+
+-- DCL A(3, -1:1) FIXED BIN(31) INIT((4) 7, *, -7), I FIXED BIN(31);
+abbrev three : Bounds
+three = record { lower = pos 1; upper = pos 3 }
+
+abbrev around_zero : Bounds
+around_zero = record { lower = negsuc 0; upper = pos 1 }
+
+abbrev four_sevens : List T.InitialItem
+four_sevens =
+    record { repetition = 4; value = T.InitialNumber (pos 7) }
+    ∷ record { repetition = 1; value = T.InitialSkip }
+    ∷ record { repetition = 1; value = T.InitialNumber (negsuc 6) }
+    ∷ []
+
+array_plain : ArePlain (array_variable (Y.FixedLeaf 31) (three ∷ around_zero ∷ []) four_sevens ∷ plain_variable (Y.FixedLeaf 31) [] ∷ [])
+array_plain = (
+  record { type = Y.FixedLeaf 31; bounds = three ∷ around_zero ∷ []; initial = four_sevens; held = ((omega arith, omega arith), (((refl, (refl, refl)), ((refl, (refl, refl)), tt)), omega arith)); begins = (lit< tt, (refl, (lit< tt, (tt, (lit< tt, (refl, tt)))))); is = refl },
+  (record { type = Y.FixedLeaf 31; bounds = []; initial = []; held = (omega arith, omega arith); begins = tt; is = refl }, tt),
+)
+
+-- A(A(1, I), LBOUND(A, 2)) = I;
+abbrev element_at : Y.Number → Y.Number → Y.Reference
+element_at i j =
+    Y.Referring (record { class = Y.AutomaticClass; block = 1; level = 0; index = 0 }) Y.NotLocated (record { first = 0; count = 1 }) (Y.NumberThen i (Y.NumberThen j Y.NoNumber))
+
+abbrev elements : Y.Stmts
+elements =
+    Y.StmtThen []
+    (Y.Assign (element_at (Y.NumberIn (element_at (Y.NumberConstant 1) (Y.NumberIn (whole_of 1)))) (Y.LowerBound (whole_of 0) 2)) (Y.StoredNumber 31 (Y.NumberIn (whole_of 1))) 2)
+    (Y.EndOfList [])
+
+elements_proved : AreProvedStatements 1 (record { type = Y.FixedLeaf 31; bounds = three ∷ around_zero ∷ [] } ∷ alone (Y.FixedLeaf 31) ∷ []) elements
+elements_proved =
+    let types : Types = record { type = Y.FixedLeaf 31; bounds = three ∷ around_zero ∷ [] } ∷ alone (Y.FixedLeaf 31) ∷ [] in
+    let o : IsOwn 1 types (Y.FixedLeaf 31) (whole_of 1) = record { index = 1; declared = refl; is = refl } in
+    let n : IsProvedNumber 1 types (Y.NumberIn (whole_of 1)) = (record { precision = 31; part = inl o }, tt) in
+    let at : (i j : Y.Number) → IsElement 1 types (Y.FixedLeaf 31) (element_at i j) = λ i j.
+    record { index = 0; bound = three; bounds = around_zero ∷ []; first = i; rest = Y.NumberThen j Y.NoNumber; declared = refl; many = refl; is = refl } in
+    let inner : IsProvedNumber 1 types (Y.NumberIn (element_at (Y.NumberConstant 1) (Y.NumberIn (whole_of 1)))) = (record { precision = 31; part = inr (at (Y.NumberConstant 1) (Y.NumberIn (whole_of 1))) }, (lit< tt, (n, tt))) in
+    let lower : IsDimension 1 types (whole_of 0) 2 = record { index = 0; type = Y.FixedLeaf 31; element = (omega arith, omega arith); bound = three; bounds = around_zero ∷ []; declared = refl; place = 1; asked = around_zero; dimension_is = refl; among = refl; is = refl } in
+    (((inr (at (Y.NumberIn (element_at (Y.NumberConstant 1) (Y.NumberIn (whole_of 1)))) (Y.LowerBound (whole_of 0) 2)), (inner, (lower, tt))), (n, lit< tt)), tt)
 
 -- L: DO WHILE ('1'B); IF '0'B THEN GOTO L; M: GOTO M; END;
 abbrev jumping : Y.Stmts
@@ -113,8 +218,8 @@ jumping =
 jumping_proved : AreProvedStatements 1 [] jumping
 jumping_proved = ((tt, (((tt, (lit< tt, lit< tt)), (lit< tt, tt)), lit< tt)), tt)
 
-jumps_around : AllJumpAround 1 0 (all_labels 1 jumping) (labels_in jumping) jumping
-jumps_around = (((refl, (refl, refl)), ((refl, (refl, refl)), tt)), tt)
+jumps_around : AllJumpAround 1 0 (all_labels 1 jumping) 1 [] (labels_in jumping) jumping
+jumps_around = ((inl (refl, (refl, refl)), (inl (refl, (refl, refl)), tt)), tt)
 
 -- (X(1), 2 (COLUMN(3), F(5)), A)
 abbrev page : T.Formats
@@ -155,6 +260,28 @@ returning =
 returning_proved : AreProvedStatements 1 [] returning
 returning_proved = ((tt, (lit< tt, lit< tt)), (lit< tt, tt))
 
+-- GET EDIT (C, V) (F(5), A(3));
+abbrev texts_read : Y.Stmts
+texts_read =
+    Y.StmtThen []
+    (Y.Get None
+    (record {
+      items = Y.GetScalar (whole_of 0) ∷ Y.GetScalar (whole_of 1) ∷ [];
+      formats = T.FormatThen (record { line = 2; column = 17 }) 1 (T.FixedFormat 5) (T.FormatThen (record { line = 2; column = 23 }) 1 (T.TextFormat (Some 3)) T.NoFormat);
+    }
+    ∷ [])
+    2)
+    (Y.EndOfList [])
+
+texts_read_proved : AreProvedStatements 1 (alone (text_leaf false 5) ∷ alone (text_leaf true 8) ∷ []) texts_read
+unfolding formats_move_data format_moves_data
+texts_read_proved =
+    let types : Types = alone (text_leaf false 5) ∷ alone (text_leaf true 8) ∷ [] in
+    let c : IsTarget 1 types true (whole_of 0) = record { type = text_leaf false 5; part = inl (record { index = 0; declared = refl; is = refl }); read = tt; subscripts = tt } in
+    let v : IsTarget 1 types true (whole_of 1) = record { type = text_leaf true 8; part = inl (record { index = 1; declared = refl; is = refl }); read = tt; subscripts = tt } in
+    let once : IsTimes 1 = (omega arith, omega arith) in
+    ((((c, (v, tt)), (((once, ((omega arith, omega arith), (once, ((omega arith, omega arith), tt)))), (refl, (tt, (tt, tt)))), tt)), lit< tt), tt)
+
 -- GET SKIP(2) EDIT (B, S) (COLUMN(3), A(4)), (S) (2 (X(1), F(5)));
 abbrev inner : T.Formats
 inner =
@@ -173,15 +300,15 @@ reading =
     2)
     (Y.EndOfList [])
 
-reading_proved : AreProvedStatements 1 (Y.FixedLeaf 15 ∷ Y.BitLeaf ∷ []) reading
+reading_proved : AreProvedStatements 1 (alone (Y.FixedLeaf 15) ∷ alone Y.BitLeaf ∷ []) reading
 unfolding formats_move_data format_moves_data
 reading_proved =
-    let types : Types = Y.FixedLeaf 15 ∷ Y.BitLeaf ∷ [] in
+    let types : Types = alone (Y.FixedLeaf 15) ∷ alone Y.BitLeaf ∷ [] in
     let s : IsOwn 1 types (Y.FixedLeaf 15) (whole_of 0) = record { index = 0; declared = refl; is = refl } in
     let b : IsOwn 1 types Y.BitLeaf (whole_of 1) = record { index = 1; declared = refl; is = refl } in
     let once : IsTimes 1 = (omega arith, omega arith) in
-    let number_read : (fixed : Bool) → IsTarget 1 types fixed (whole_of 0) = λ fixed. record { type = Y.FixedLeaf 15; own = s; read = tt } in
-    let bit_read : IsTarget 1 types false (whole_of 1) = record { type = Y.BitLeaf; own = b; read = refl } in
+    let number_read : (fixed : Bool) → IsTarget 1 types fixed (whole_of 0) = λ fixed. record { type = Y.FixedLeaf 15; part = inl s; read = tt; subscripts = tt } in
+    let bit_read : IsTarget 1 types false (whole_of 1) = record { type = Y.BitLeaf; part = inl b; read = refl; subscripts = tt } in
     let line : AreProvedFormats inner = (once, (once, (once, ((omega arith, omega arith), tt)))) in (
       (
         (omega arith, omega arith),
@@ -212,27 +339,34 @@ program =
 small_program : IsProvedSoFar program
 unfolding formats_move_data format_moves_data
 small_program =
-    let o : IsOwn 1 (Y.FixedLeaf 31 ∷ []) (Y.FixedLeaf 31) whole_i = record { index = 0; declared = refl; is = refl } in
-    let i : IsOwnNumber 1 (Y.FixedLeaf 31 ∷ []) whole_i = record { precision = 31; own = o } in
+    let o : IsOwn 1 (alone (Y.FixedLeaf 31) ∷ []) (Y.FixedLeaf 31) whole_i = record { index = 0; declared = refl; is = refl } in
+    let i : IsProvedNumber 1 (alone (Y.FixedLeaf 31) ∷ []) (Y.NumberIn whole_i) = (record { precision = 31; part = inl o }, tt) in
     record {
       head = head;
       body = body;
-      alone = refl;
-      plain = (tt, ((record { type = Y.FixedLeaf 31; initial = []; scalar = (omega arith, omega arith); begins = tt; is = refl }, tt), tt));
+      others = [];
+      called = [];
+      procedures = refl;
+      plain = (tt, ((record { type = Y.FixedLeaf 31; bounds = []; initial = []; held = (omega arith, omega arith); begins = tt; is = refl }, tt), tt));
+      few = lit< tt;
       block = record {
         kind = refl;
         level = refl;
         line = lit< tt;
         statements = (
-          (o, ((lit< tt, i), lit< tt)),
+          ((inl o, tt), ((lit< tt, i), lit< tt)),
           (((((i, tt), ((((omega arith, omega arith), ((omega arith, omega arith), tt)), (refl, λ text. ((omega arith, omega arith), tt))), tt))), lit< tt), tt),
         );
         jumps = (tt, (tt, tt));
+        calls = (tt, (tt, tt));
         inside = (tt, (tt, tt));
       };
+      inner = tt;
+      once = tt;
     }
 
--- T: PROC OPTIONS(MAIN); DECLARE I FIXED BINARY(31); BEGIN; I = 1; L: BEGIN; IF '0'B THEN GOTO M; M: END; END; END;
+-- T: PROC OPTIONS(MAIN); DECLARE I FIXED BINARY(31);
+-- N: BEGIN; I = 1; L: BEGIN; IF '0'B THEN GOTO M; IF '0'B THEN GOTO N; RETURN; M: END; END; END;
 abbrev inner_head : Y.BlockHead
 inner_head = record { kind = Y.BeginBlock; number = 2; level = 1; line = 2 }
 
@@ -241,7 +375,8 @@ innermost_head = record { kind = Y.BeginBlock; number = 3; level = 2; line = 3 }
 
 abbrev innermost_body : Y.Stmts
 innermost_body =
-    Y.StmtThen [] (Y.If (Y.BitConstant false) (Y.Goto 2 (77 ∷ []) 4) 4) (Y.EndOfList ((77 ∷ []) ∷ []))
+    Y.StmtThen [] (Y.If (Y.BitConstant false) (Y.Goto 2 (77 ∷ []) 4) 4)
+    (Y.StmtThen [] (Y.If (Y.BitConstant false) (Y.Goto 0 (78 ∷ []) 5) 5) (Y.StmtThen [] (Y.Return 6) (Y.EndOfList ((77 ∷ []) ∷ []))))
 
 abbrev inner_body : Y.Stmts
 inner_body =
@@ -249,7 +384,7 @@ inner_body =
     (Y.StmtThen ((76 ∷ []) ∷ []) (Y.Begin (Y.BlockOf innermost_head innermost_body)) (Y.EndOfList []))
 
 abbrev outer_body : Y.Stmts
-outer_body = Y.StmtThen [] (Y.Begin (Y.BlockOf inner_head inner_body)) (Y.EndOfList [])
+outer_body = Y.StmtThen ((78 ∷ []) ∷ []) (Y.Begin (Y.BlockOf inner_head inner_body)) (Y.EndOfList [])
 
 abbrev with_block : Y.Program
 with_block =
@@ -260,21 +395,142 @@ with_block =
 
 block_program : IsProvedSoFar with_block
 block_program =
-    let i : IsOwn 1 (Y.FixedLeaf 31 ∷ []) (Y.FixedLeaf 31) whole_i = record { index = 0; declared = refl; is = refl } in
+    let i : IsOwn 1 (alone (Y.FixedLeaf 31) ∷ []) (Y.FixedLeaf 31) whole_i = record { index = 0; declared = refl; is = refl } in
     record {
       head = head;
       body = outer_body;
-      alone = refl;
-      plain = (tt, ((record { type = Y.FixedLeaf 31; initial = []; scalar = (omega arith, omega arith); begins = tt; is = refl }, tt), (tt, (tt, tt))));
+      others = [];
+      called = [];
+      procedures = refl;
+      plain = (tt, ((record { type = Y.FixedLeaf 31; bounds = []; initial = []; held = (omega arith, omega arith); begins = tt; is = refl }, tt), (tt, (tt, tt))));
+      few = lit< tt;
       block = record {
         kind = refl;
         level = refl;
         line = lit< tt;
         statements = (
-          (refl, (lit< tt, ((i, (lit< tt, lit< tt)), ((refl, (lit< tt, ((tt, (lit< tt, lit< tt)), tt))), tt)))),
+          (refl, (lit< tt, (((inl i, tt), (lit< tt, lit< tt)), ((refl, (lit< tt, ((tt, (lit< tt, lit< tt)), ((tt, (lit< tt, lit< tt)), (lit< tt, tt))))), tt)))),
           tt,
         );
-        jumps = (((refl, omega arith), (tt, (((refl, omega arith), ((refl, (refl, refl)), tt)), tt))), tt);
-        inside = ((refl, (tt, ((refl, (tt, tt)), tt))), tt);
+        jumps = (((refl, omega arith), (tt, (((refl, omega arith), (inl (refl, (refl, refl)), (inr ((refl, refl), (omega arith, (refl, refl))), (tt, tt)))), tt))), tt);
+        calls = ((tt, ((tt, (tt, (inl refl, tt))), tt)), tt);
+        inside = ((refl, (tt, ((refl, (tt, (tt, (tt, tt)))), tt))), tt);
       };
+      inner = tt;
+      once = tt;
+    }
+
+-- T: PROC OPTIONS(MAIN); DECLARE I FIXED BINARY(31); L: GOTO L; P: PROC; M: I = 1; RETURN; END; END;
+abbrev resting_body : Y.Stmts
+resting_body = Y.StmtThen ((76 ∷ []) ∷ []) (Y.Goto 0 (76 ∷ []) 2) (Y.EndOfList [])
+
+abbrev procedure_head : Y.BlockHead
+procedure_head = record { kind = Y.ProcedureBlock; number = 2; level = 1; line = 3 }
+
+abbrev procedure_body : Y.Stmts
+procedure_body =
+    Y.StmtThen ((77 ∷ []) ∷ []) (Y.Assign whole_i (Y.StoredNumber 31 (Y.NumberConstant 1)) 3) (Y.StmtThen [] (Y.Return 3) (Y.EndOfList []))
+
+abbrev with_procedure : Y.Program
+with_procedure =
+    record {
+      variables = [] ∷ (plain_variable (Y.FixedLeaf 31) [] ∷ []) ∷ [] ∷ [];
+      procedures =
+          record { block = Y.BlockOf head resting_body; parameters = []; result = None }
+          ∷ record { block = Y.BlockOf procedure_head procedure_body; parameters = []; result = None }
+          ∷ [];
+    }
+
+procedure_program : IsProvedSoFar with_procedure
+procedure_program =
+    let i : IsOwn 1 (alone (Y.FixedLeaf 31) ∷ []) (Y.FixedLeaf 31) whole_i = record { index = 0; declared = refl; is = refl } in
+    record {
+      head = head;
+      body = resting_body;
+      others = record { block = Y.BlockOf procedure_head procedure_body; parameters = []; result = None } ∷ [];
+      called = [];
+      procedures = refl;
+      plain = (tt, ((record { type = Y.FixedLeaf 31; bounds = []; initial = []; held = (omega arith, omega arith); begins = tt; is = refl }, tt), (tt, tt)));
+      few = lit< tt;
+      block = record {
+        kind = refl;
+        level = refl;
+        line = lit< tt;
+        statements = (lit< tt, tt);
+        jumps = (inl (refl, (refl, refl)), tt);
+        calls = (tt, tt);
+        inside = (tt, tt);
+      };
+      inner = (
+        record {
+          head = procedure_head;
+          body = procedure_body;
+          is = refl;
+          apart = refl;
+          level = refl;
+          bare = refl;
+          statements = (((inl i, tt), (lit< tt, lit< tt)), (lit< tt, tt));
+          jumps = (tt, (tt, tt));
+          inside = (tt, (tt, tt));
+          callable = λ h. let no : false ≡ true = h in absurd (cc no);
+        },
+        tt,
+      );
+      once = tt;
+    }
+
+-- T: PROC OPTIONS(MAIN); DECLARE I FIXED BINARY(31); CALL P; P: PROC; BEGIN; CALL P; END; RETURN; END; END;
+abbrev calling_body : Y.Stmts
+calling_body = Y.StmtThen [] (Y.CallProcedure (Y.Calling 2 0 Y.NoArgument) 2) (Y.EndOfList [])
+
+abbrev called_body : Y.Stmts
+called_body =
+    Y.StmtThen [] (Y.Begin (Y.BlockOf (record { kind = Y.BeginBlock; number = 3; level = 2; line = 3 }) (Y.StmtThen [] (Y.CallProcedure (Y.Calling 2 0 Y.NoArgument) 3) (Y.EndOfList []))))
+    (Y.StmtThen [] (Y.Return 3) (Y.EndOfList []))
+
+abbrev with_call : Y.Program
+with_call =
+    record {
+      variables = [] ∷ (plain_variable (Y.FixedLeaf 31) [] ∷ []) ∷ [] ∷ [] ∷ [];
+      procedures =
+          record { block = Y.BlockOf head calling_body; parameters = []; result = None }
+          ∷ record { block = Y.BlockOf procedure_head called_body; parameters = []; result = None }
+          ∷ [];
+    }
+
+call_program : IsProvedSoFar with_call
+call_program =
+    record {
+      head = head;
+      body = calling_body;
+      others = record { block = Y.BlockOf procedure_head called_body; parameters = []; result = None } ∷ [];
+      called = 2 ∷ [];
+      procedures = refl;
+      plain = (tt, ((record { type = Y.FixedLeaf 31; bounds = []; initial = []; held = (omega arith, omega arith); begins = tt; is = refl }, tt), (tt, (tt, tt))));
+      few = lit< tt;
+      block = record {
+        kind = refl;
+        level = refl;
+        line = lit< tt;
+        statements = ((refl, lit< tt), tt);
+        jumps = (tt, tt);
+        calls = (refl, tt);
+        inside = (tt, tt);
+      };
+      inner = (
+        record {
+          head = procedure_head;
+          body = called_body;
+          is = refl;
+          apart = refl;
+          level = refl;
+          bare = refl;
+          statements = ((refl, (lit< tt, ((refl, lit< tt), tt))), (lit< tt, tt));
+          jumps = (((refl, omega arith), (tt, tt)), (tt, tt));
+          inside = ((refl, (tt, tt)), (tt, tt));
+          callable = λ h. record { kind = refl; line = lit< tt; calls = ((refl, tt), (inr refl, tt)); few = omega arith };
+        },
+        tt,
+      );
+      once = (refl, tt);
     }

@@ -1,6 +1,6 @@
 -- Types of scalars: the numbers that variables of a type hold, a bit as 0 or 1, and how they stand in memory.
 use Rattle.std.proofs.Common.{◌≡◌, ℕ, zero, suc, ◌^◌, ◌<◌, ◌≤◌, List, [], ◌∷◌, length, Some, Bool, true, false, refl, sym, ap, ◌∙◌, subst, arith}
-use Rattle.std.specs.Prelude.{ℤ, pos, negsuc, nat_le, slice_get, unwrap_or, if◌then◌else◌}
+use Rattle.std.specs.Prelude.{ℤ, pos, negsuc, nat_le, slice_get, unwrap_or, if◌then◌else◌, cond, nat_lt, take}
 use Rattle.std.proofs.Math.Nat.{pow-le-pow_right}
 use Rattle.std.proofs.lemmas.Nat.{pow_pos}
 use Rattle.std.proofs.lemmas.Bool.Decides.{nat_tests}
@@ -10,11 +10,13 @@ use Rattle.rv_meaning.specs.declared.instr.StoreKind.{StoreKind}
 use Rattle.rv_meaning.specs.declared.instr.StoreKind.TheVariants as Store
 use Rattle.rv_meaning.specs.Words.{word, flag}
 use Rattle.pli_language.specs.Tree as T
+use Rattle.pli_typing.specs.Signatures.{Bounds}
 use Rattle.pli_typing.specs.TypedTree as Y
 use Rattle.pli_meaning.specs.BasicValues.{BasicValue, BasicNumber, BasicBit}
 use Rattle.pli_meaning.specs.Numbers.{is_of_precision}
-use Rattle.pli_meaning.specs.Texts.{bit_number}
-use Rattle.pli_headline.specs.ProvedSoFar.{plain_variable, IsScalar, IsConstantOf, IsInitial, IsPlain, Types}
+use Rattle.pli_meaning.specs.Stream.{blanks}
+use Rattle.pli_meaning.specs.Texts.{bit_number, fitted}
+use Rattle.pli_headline.specs.ProvedSoFar.{plain_variable, array_variable, AreBounds, IsElementType, IsScalar, IsHeld, IsConstantOf, IsInitial, IsPlain, Kind, Types, alone, AreConstants, IsConstantIf, text_leaf}
 use Rattle.pli_headline.proofs.Numbers.{IsWide}
 use Rattle.pli_headline.proofs.WordPrecisions.{below, below_is}
 
@@ -31,14 +33,59 @@ by_type P fixed bit (Y.FixedLeaf p) is = fixed p
 by_type P fixed bit Y.BitLeaf is = bit
 by_type P fixed bit _ is = absurd is
 
-pub is_numeric : (type : Y.LeafType) → IsScalar type → IsNumeric type
+-- such a type with its limits
+abbrev pub IsLimited : Y.LeafType → Type 0
+IsLimited (Y.FixedLeaf p) = (1 ≤ p) × (p ≤ 31)
+IsLimited Y.BitLeaf = Unit {0}
+IsLimited _ = ⊥
+
+pub is_numeric : (type : Y.LeafType) → IsLimited type → IsNumeric type
 is_numeric (Y.FixedLeaf p) is = tt
 is_numeric Y.BitLeaf is = tt
 is_numeric _ is = absurd is
 
-pub by_plain : (P : Y.DeclaredVariable → Type 0) → ((p : ℕ) (i : List T.InitialItem) → P (plain_variable (Y.FixedLeaf p) i)) → ((i : List T.InitialItem) → P (plain_variable Y.BitLeaf i)) → (d : Y.DeclaredVariable) → IsPlain d → P d
-by_plain P fixed bit d is =
-    subst P (sym is.is) (by_type (λ t. P (plain_variable t is.initial)) (λ p. fixed p is.initial) (bit is.initial) is.type (is_numeric is.type is.scalar))
+-- of the types that variables have
+pub scalar_limited : (type : Y.LeafType) → IsScalar type → IsNumeric type → IsLimited type
+scalar_limited (Y.FixedLeaf p) is numeric = is
+scalar_limited Y.BitLeaf is numeric = tt
+scalar_limited _ is numeric = absurd numeric
+
+-- texts of one byte more
+abbrev pub character : ℕ → Y.LeafType
+character n = Y.CharacterLeaf (Y.ConstantExtent (pos (suc n)))
+
+abbrev pub varying : ℕ → Y.LeafType
+varying n = Y.VaryingLeaf (Y.ConstantExtent (pos (suc n)))
+
+pub by_held : (P : Y.LeafType → Type 0) → ((p : ℕ) → P (Y.FixedLeaf p)) → P Y.BitLeaf → ((n : ℕ) → suc n ≤ 1024 → P (character n)) → ((n : ℕ) → suc n ≤ 1024 → P (varying n)) → (type : Y.LeafType) → IsScalar type → P type
+by_held P fixed bit padded cut (Y.FixedLeaf p) is = fixed p
+by_held P fixed bit padded cut Y.BitLeaf is = bit
+by_held P fixed bit padded cut (Y.CharacterLeaf (Y.ConstantExtent (pos (suc n)))) is = padded n is.1
+by_held P fixed bit padded cut (Y.CharacterLeaf (Y.ConstantExtent (pos zero))) is = let h = is.0 in absurd (omega (arith, h))
+by_held P fixed bit padded cut (Y.VaryingLeaf (Y.ConstantExtent (pos (suc n)))) is = cut n is.1
+by_held P fixed bit padded cut (Y.VaryingLeaf (Y.ConstantExtent (pos zero))) is = let h = is.0 in absurd (omega (arith, h))
+by_held P fixed bit padded cut _ is = absurd is
+
+-- a scalar or an array
+pub by_shape : (P : Y.LeafType → List Bounds → Type 0) → ((type : Y.LeafType) → IsScalar type → P type []) → ((type : Y.LeafType) (b : Bounds) (bs : List Bounds) → IsElementType type → AreBounds (b ∷ bs) → length (b ∷ bs) ≤ 8 → P type (b ∷ bs)) → (type : Y.LeafType) (bs : List Bounds) → IsHeld type bs → P type bs
+by_shape P scalar array type [] is = scalar type is
+by_shape P scalar array type (b ∷ bs) is =
+    let few = is.1.1 in
+    array type b bs is.0 is.1.0 (omega (arith, few))
+
+pub by_plain : (P : Y.DeclaredVariable → Type 0) → ((p : ℕ) (i : List T.InitialItem) → P (plain_variable (Y.FixedLeaf p) i)) → ((i : List T.InitialItem) → P (plain_variable Y.BitLeaf i)) → ((n : ℕ) (i : List T.InitialItem) → P (plain_variable (character n) i)) → ((n : ℕ) (i : List T.InitialItem) → P (plain_variable (varying n) i)) → ((type : Y.LeafType) (b : Bounds) (bs : List Bounds) (i : List T.InitialItem) → IsElementType type → AreBounds (b ∷ bs) → P (array_variable type (b ∷ bs) i)) → (d : Y.DeclaredVariable) → IsPlain d → P d
+by_plain P fixed bit padded cut many d is =
+    subst P (sym is.is)
+    (by_shape (λ t bs. P (array_variable t bs is.initial))
+    (λ t held. by_held (λ u. P (plain_variable u is.initial)) (λ p. fixed p is.initial) (bit is.initial) (λ n few. padded n is.initial) (λ n few. cut n is.initial) t held)
+    (λ t b bs element are few. many t b bs is.initial element are)
+    is.type is.bounds is.held)
+
+-- the type of an element is that of a number
+pub element_numeric : (type : Y.LeafType) → IsElementType type → IsNumeric type
+element_numeric (Y.FixedLeaf p) is = tt
+element_numeric Y.BitLeaf is = tt
+element_numeric _ is = absurd is
 
 -- ---- values
 
@@ -95,7 +142,7 @@ fits_numeric Y.BitLeaf z fits = tt
 fits_numeric _ z fits = absurd fits
 
 -- all scalars may hold 0
-pub zero_fits : (type : Y.LeafType) → IsScalar type → Fits type (pos 0)
+pub zero_fits : (type : Y.LeafType) → IsLimited type → Fits type (pos 0)
 zero_fits (Y.FixedLeaf p) is = (is.1, zero_precise p)
   where
     zero_precise : (p : ℕ) → is_of_precision p (pos 0) ≡ true
@@ -103,11 +150,27 @@ zero_fits (Y.FixedLeaf p) is = (is.1, zero_precise p)
 zero_fits Y.BitLeaf is = refl
 zero_fits _ is = absurd is
 
+-- what variables hold: the numbers of those that hold numbers, the texts of others, and the numbers of arrays by the places of elements
+pub record Values : Type 0 where
+  pub numbers : ℕ → ℤ
+  pub texts : ℕ → List ℕ
+  pub arrays : ℕ → ℕ → ℤ
+
 -- ---- INITIAL
 
--- a type, and what INITIAL gives
-pub record Scalar : Type 0 where
-  pub type : Y.LeafType
+-- INITIAL of numbers and bits, and of texts
+pub constants_of : (type : Y.LeafType) (items : List T.InitialItem) → IsLimited type → IsInitial type items → AreConstants type items
+constants_of (Y.FixedLeaf p) items is h = h
+constants_of Y.BitLeaf items is h = h
+constants_of _ items is h = absurd is
+
+pub constant_if : (varying : Bool) (most : ℕ) (items : List T.InitialItem) → IsInitial (text_leaf varying most) items → IsConstantIf (text_leaf varying most) items
+constant_if false most items h = h
+constant_if true most items h = h
+
+-- a type with bounds, and what INITIAL gives
+pub record Declared : Type 0 where
+  pub kind : Kind
   pub initial : List T.InitialItem
 
 abbrev pub constant_number : T.InitialValue → ℤ
@@ -115,20 +178,42 @@ constant_number (T.InitialNumber z) = z
 constant_number (T.InitialBit b) = bit_number b
 constant_number _ = pos 0
 
+-- the text of a constant
+abbrev pub constant_text : T.InitialValue → List ℕ
+constant_text (T.InitialText t) = t
+constant_text _ = []
+
+-- the text with which a variable that holds texts begins: blank, or empty where it varies, without INITIAL
+abbrev pub begin_text : Y.LeafType → List T.InitialItem → List ℕ
+begin_text (Y.CharacterLeaf (Y.ConstantExtent (pos n))) [] = blanks n
+begin_text (Y.CharacterLeaf (Y.ConstantExtent (pos n))) (i ∷ is) = fitted n (constant_text i.value)
+begin_text (Y.VaryingLeaf (Y.ConstantExtent (pos n))) (i ∷ is) = take n (constant_text i.value)
+begin_text _ _ = []
+
 -- the number with which a scalar begins
 abbrev pub begin_of : List T.InitialItem → ℤ
 begin_of [] = pos 0
-begin_of (i ∷ is) = constant_number i.value
+begin_of (i ∷ is) = if nat_lt 0 i.repetition then constant_number i.value else begin_of is
 
-constant_fits : (type : Y.LeafType) (v : T.InitialValue) → IsScalar type → IsConstantOf type v → Fits type (constant_number v)
+constant_fits : (type : Y.LeafType) (v : T.InitialValue) → IsLimited type → IsConstantOf type v → Fits type (constant_number v)
 constant_fits (Y.FixedLeaf p) (T.InitialNumber z) is h = (is.1, h)
+constant_fits (Y.FixedLeaf p) T.InitialSkip is h = zero_fits (Y.FixedLeaf p) is
 constant_fits Y.BitLeaf (T.InitialBit b) is h = bit_fits b
+constant_fits Y.BitLeaf T.InitialSkip is h = refl
+constant_fits (Y.CharacterLeaf x) v is h = absurd is
+constant_fits (Y.VaryingLeaf x) v is h = absurd is
 constant_fits _ _ is h = absurd h
 
-pub begin_fits : (type : Y.LeafType) (items : List T.InitialItem) → IsScalar type → IsInitial type items → Fits type (begin_of items)
-begin_fits type [] is h = zero_fits type is
-begin_fits type (i ∷ []) is h = constant_fits type i.value is h.1
-begin_fits type _ is h = absurd h
+either_fits : (type : Y.LeafType) (q : Bool) (x y : ℤ) → Fits type x → Fits type y → Fits type (cond q x y)
+either_fits type true x y f g = f
+either_fits type false x y f g = g
+
+first_fits : (type : Y.LeafType) (items : List T.InitialItem) → IsLimited type → AreConstants type items → Fits type (begin_of items)
+first_fits type [] is h = zero_fits type is
+first_fits type (i ∷ more) is h = either_fits type (nat_lt 0 i.repetition) _ _ (constant_fits type i.value is h.1.0) (first_fits type more is h.1.1)
+
+pub begin_fits : (type : Y.LeafType) (items : List T.InitialItem) → IsLimited type → IsInitial type items → Fits type (begin_of items)
+begin_fits type items is h = first_fits type items is (constants_of type items is h)
 
 -- ---- in memory
 
@@ -144,15 +229,15 @@ store_kind _ = Store.Word
 
 -- ---- the types as a function of places
 
-abbrev pub kind_at : Types → ℕ → Y.LeafType
-kind_at types j = unwrap_or (slice_get types j) Y.BitLeaf
+abbrev pub kind_at : Types → ℕ → Kind
+kind_at types j = unwrap_or (slice_get types j) (alone Y.BitLeaf)
 
--- a place that has a type
+-- a place of a scalar
 abbrev pub Typed : Types → ℕ → Type 0
-Typed types j = (type : Y.LeafType) × (slice_get types j ≡ Some type)
+Typed types j = (type : Y.LeafType) × (slice_get types j ≡ Some (alone type))
 
-pub kind_is : (types : Types) (j : ℕ) {type : Y.LeafType} → slice_get types j ≡ Some type → kind_at types j ≡ type
-kind_is types j h = ap (λ o. unwrap_or o Y.BitLeaf) h
+pub kind_is : (types : Types) (j : ℕ) {kind : Kind} → slice_get types j ≡ Some kind → kind_at types j ≡ kind
+kind_is types j h = ap (λ o. unwrap_or o (alone Y.BitLeaf)) h
 
 pub place_below : {A : Type 0} (xs : List A) (j : ℕ) (x : A) → slice_get xs j ≡ Some x → j < length xs
 place_below [] j x h = absurd (cc h)

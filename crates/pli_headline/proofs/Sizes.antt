@@ -1,6 +1,6 @@
 -- What is proved so far takes fewer words for temporaries than its code has; and the first memory has its full length.
-use Rattle.std.proofs.Common.{◌≡◌, ℕ, suc, ◌+◌, ◌-◌, ◌*◌, ◌^◌, ◌≤◌, List, [], ◌∷◌, ◌++◌, length, None, Bool, true, false, refl, ap, ◌∙◌, arith, length-append, Option, Some}
-use Rattle.std.specs.Prelude.{ℤ, pos, cond, max, map, replicate}
+use Rattle.std.proofs.Common.{◌≡◌, ℕ, suc, ◌+◌, ◌-◌, ◌*◌, ◌^◌, ◌≤◌, List, [], ◌∷◌, ◌++◌, length, None, Bool, true, false, refl, ap, ◌∙◌, arith, length-append, Option, Some, inl, inr, sym, subst, ◌⊎◌}
+use Rattle.std.specs.Prelude.{ℤ, pos, cond, max, map, replicate, if◌then◌else◌}
 use Rattle.std.proofs.lemmas.Bool.Decides.{nat_tests}
 use Rattle.std.proofs.lemmas.List.{length-map, length-replicate}
 use Rattle.rv_meaning.specs.declared.instr.Register.{Register}
@@ -20,18 +20,24 @@ use Rattle.pli_coding.specs.Instructions.{is_immediate, skip_where, small, const
 use Rattle.pli_coding.specs.Frames.{words_place}
 use Rattle.pli_coding.specs.Environments.{Environment, Taken, none_taken, is_register_left, with_number, save, fetch}
 use Rattle.pli_coding.specs.Arithmetic.{signed_code, absolute_code, sign_code, calculated_code, modulo_code, divided_code, extreme_code, negated_code, combined_code, compared_code, fitted_code}
-use Rattle.pli_coding.specs.Expressions.{number_code, extremes_code, bit_code, text_code}
-use Rattle.pli_coding.specs.Storing.{stored_into}
-use Rattle.pli_coding.specs.Streams.{has_fixed, get_item_words, get_items_words, get_words, value_put, number_put, text_put, as_text, item_put, items_put, edit_begun, edit_ended, put_pair, put_pairs, put_item_words, put_items_words, put_words, skip_option}
+use Rattle.pli_coding.specs.Expressions.{number_code, extremes_code, bit_code, text_code, reference_code, subscripts_code, given_in, type_in, address_in}
+use Rattle.pli_coding.specs.Storing.{stored_into, word_stored}
+use Rattle.pli_coding.specs.Streams.{has_fixed, get_item_words, get_items_words, get_words, value_put, number_put, text_put, as_text, item_put, items_put, edit_begun, edit_ended, put_pair, put_pairs, put_item_words, put_items_words, put_words, skip_option, field_stored, field_awaited, number_got, bit_got, item_got, items_got, get_pair, get_pairs, value_words}
 use Rattle.pli_coding.specs.Allocating.{act_code}
 use Rattle.pli_coding.specs.Statements.{if_met, while_met, block_words, stmt_code, stmts_code, stmt_words, stmts_words, marked, once_code, bit_if, in_turns, before_turns, number_if, start_code, limit_code, step_code, started_code, start_place, step_place, limit_place, turn_of, turns_code, words_back, words_behind_limit, words_behind_condition, limit_kept, while_kept, stepped_code}
-use Rattle.pli_coding.specs.Temporaries.{number_words, numbers_words, text_words, bit_words, reference_words}
-use Rattle.pli_headline.specs.ProvedSoFar.{ArePlain, Types, IsOwn, IsProvedNumber, AreProvedNumbers, IsProvedBit, IsProvedText, IsProvedItem, AreProvedItems, AreProvedPairs, IsProvedGetItem, AreProvedGetItems, AreProvedGetPairs, IsProvedStatement, AreProvedStatements, IsProvedBitIf, IsProvedNumberIf}
+use Rattle.pli_coding.specs.Temporaries.{number_words, numbers_words, text_words, bit_words, reference_words, subscripts_words}
+use Rattle.pli_headline.specs.ProvedSoFar.{ArePlain, Types, IsOwn, IsProvedNumber, AreProvedNumbers, IsProvedBit, IsProvedText, IsProvedItem, AreProvedItems, AreProvedPairs, IsProvedGetItem, AreProvedGetItems, AreProvedGetPairs, IsProvedStatement, AreProvedStatements, IsProvedBitIf, IsProvedNumberIf, text_leaf, IsPart, IsAssigned, AreSubscripts, array_variable, IsElement, IsElementType, IsDimension, IsProvedStart}
 use Rattle.pli_coding.specs.Entries.{variables_words}
 use Rattle.pli_coding.specs.Procedures.{procedure_begun, procedure_ended, procedure_in}
 use Rattle.pli_headline.specs.Headline.{FitsMemory}
-use Rattle.pli_headline.proofs.Scalars.{by_plain}
+use Rattle.pli_headline.proofs.Scalars.{by_plain, element_numeric}
 use Rattle.pli_headline.proofs.Linking.{size_append}
+use Rattle.pli_headline.proofs.Variables.{own, whole_part, HasTypes, subscripts_in}
+use Rattle.pli_headline.proofs.ArrayMeant.{element}
+use Rattle.pli_coding.specs.Locating.{loaded, stored, reached}
+use Rattle.pli_headline.proofs.ArrayElements.{size_constant}
+use Rattle.pli_coding.specs.Extents.{extents_words}
+use Rattle.pli_headline.proofs.Targets.{part_type}
 
 -- ---- words of expressions
 
@@ -40,6 +46,9 @@ most a b n h i = grind (arith, nat_tests)
 
 pub own_words : (block : ℕ) (types : Types) (type : Y.LeafType) (r : Y.Reference) → IsOwn block types type r → reference_words r ≡ 0
 own_words block types type r is = ap reference_words is.is
+
+asked_words : (block : ℕ) (types : Types) (r : Y.Reference) (dimension : ℕ) → IsDimension block types r dimension → reference_words r ≡ 0
+asked_words block types r dimension is = ap reference_words is.is
 
 displaced_by : (q : Bool) (x : Code) (y : Code) → 1 ≤ size_of x → 1 ≤ size_of y → 1 ≤ size_of (cond q x y)
 displaced_by true x y h i = h
@@ -66,10 +75,27 @@ two_size a c last m n h i =
     let s2 = size_append c last in
     most _ _ _ (omega (arith, h, s1)) (omega (arith, i, s1, s2))
 
+-- an element takes what its subscripts do
+element_size : (e : Environment) (t : Taken) (block index : ℕ) (first : Y.Number) (rest : Y.Numbers) → subscripts_words (Y.NumberThen first rest) ≤ size_of (subscripts_code e t (Y.NumberThen first rest)) → reference_words (element block index first rest) ≤ size_of (reference_code e t (element block index first rest))
+element_size e t block index first rest n =
+    let xs = Y.NumberThen first rest in
+    let s = size_append (subscripts_code e t xs) (reached e t t (own block index) whole_part (suc (given_in rest))) in
+    most 0 (0 + subscripts_words xs) (size_of (reference_code e t (element block index first rest))) (omega arith) (omega (arith, n, s))
+
+part_size : (e : Environment) (t : Taken) (block : ℕ) (types : Types) (type : Y.LeafType) (r : Y.Reference) (last : Code) → IsPart block types type r → subscripts_words (subscripts_in r) ≤ size_of (subscripts_code e t (subscripts_in r)) → reference_words r ≤ size_of (reference_code e t r ++ last) + 1
+part_size e t block types type r last (inl o) n = let z = own_words block types type r o in omega (arith, z)
+part_size e t block types type r last (inr o) n =
+    let n' = subst (λ q. subscripts_words (subscripts_in q) ≤ size_of (subscripts_code e t (subscripts_in q))) o.is n in
+    let m = subst (λ q. reference_words q ≤ size_of (reference_code e t q)) (sym o.is) (element_size e t block o.index o.first o.rest n') in
+    let s = size_append (reference_code e t r) last in
+    omega (arith, m, s)
+
 mutual
   pub number_size : (e : Environment) (t : Taken) (block : ℕ) (types : Types) (x : Y.Number) → IsProvedNumber block types x → number_words x ≤ size_of (number_code e t x) + 1
   number_size e t block types (Y.NumberConstant n) is = omega arith
-  number_size e t block types (Y.NumberIn r) is = let z = own_words block types (Y.FixedLeaf is.precision) r is.own in omega (arith, z)
+  number_size e t block types (Y.NumberIn (Y.Referring v locator part subscripts)) is =
+      let r = Y.Referring v locator part subscripts in
+      part_size e t block types (Y.FixedLeaf is.0.precision) r (loaded (type_in e r) a0 (address_in e r)) is.0.part (subscripts_size e t block types subscripts is.1)
   number_size e t block types (Y.NumberOfBit x) is = bit_size e t block types x is
   number_size e t block types (Y.Signed sign x) is =
       let n = number_size e t block types x is in
@@ -111,6 +137,10 @@ mutual
   number_size e t block types (Y.VerifyOf searched allowed) is =
       two_size (text_code e t searched) (text_code e t allowed) (small a0 1 ∷ service 25) (text_words searched) (text_words allowed)
       (text_size e t block types searched is.0) (text_size e t block types allowed is.1)
+  number_size e t block types (Y.LowerBound r dimension) is = let z = asked_words block types r dimension is in omega (arith, z)
+  number_size e t block types (Y.UpperBound r dimension) is = let z = asked_words block types r dimension is in omega (arith, z)
+  number_size e t block types (Y.ElementsOf r dimension) is = let z = asked_words block types r dimension is in omega (arith, z)
+  number_size e t block types Y.OnCode is = omega arith
   number_size e t block types _ is = absurd is
 
   numbers_size : (e : Environment) (t : Taken) (block : ℕ) (types : Types) (extremum : Y.Extremum) (xs : Y.Numbers) → AreProvedNumbers block types xs → numbers_words xs ≤ size_of (extremes_code e t extremum xs)
@@ -129,9 +159,22 @@ mutual
       let s4 = size_append further more in
       most _ _ _ (omega (arith, n, one, s1, s2)) (omega (arith, m, s1, s2, s3, s4))
 
+  subscripts_size : (e : Environment) (t : Taken) (block : ℕ) (types : Types) (xs : Y.Numbers) → AreProvedNumbers block types xs → subscripts_words xs ≤ size_of (subscripts_code e t xs)
+  subscripts_size e t block types Y.NoNumber are = omega arith
+  subscripts_size e t block types (Y.NumberThen first rest) are =
+      let c = subscripts_code e (with_number t) rest in
+      let n = number_size e t block types first are.0 in
+      let m = subscripts_size e (with_number t) block types rest are.1 in
+      let one = saved_size a0 t in
+      let s1 = size_append (number_code e t first) (save a0 t ++ c) in
+      let s2 = size_append (save a0 t) c in
+      most _ _ _ (omega (arith, n, one, s1, s2)) (omega (arith, m, one, s1, s2))
+
   pub bit_size : (e : Environment) (t : Taken) (block : ℕ) (types : Types) (x : Y.Bit) → IsProvedBit block types x → bit_words x ≤ size_of (bit_code e t x) + 1
   bit_size e t block types (Y.BitConstant b) is = omega arith
-  bit_size e t block types (Y.BitIn r) is = let z = own_words block types Y.BitLeaf r is in omega (arith, z)
+  bit_size e t block types (Y.BitIn (Y.Referring v locator part subscripts)) is =
+      let r = Y.Referring v locator part subscripts in
+      part_size e t block types Y.BitLeaf r (loaded (type_in e r) a0 (address_in e r)) is.0 (subscripts_size e t block types subscripts is.1)
   bit_size e t block types (Y.Negated x) is =
       let n = bit_size e t block types x is in
       let s = size_append (bit_code e t x) (negated_code ∷ []) in
@@ -155,8 +198,9 @@ mutual
   bit_size e t block types _ is = absurd is
 
   -- a text takes what its parts take
-  text_size : (e : Environment) (t : Taken) (block : ℕ) (types : Types) (x : Y.Text) → IsProvedText block types x → text_words x ≤ size_of (text_code e t x) + 1
+  pub text_size : (e : Environment) (t : Taken) (block : ℕ) (types : Types) (x : Y.Text) → IsProvedText block types x → text_words x ≤ size_of (text_code e t x) + 1
   text_size e t block types (Y.TextConstant bytes) is = omega arith
+  text_size e t block types (Y.TextIn r) is = let z = own_words block types (text_leaf is.varying is.most) r is.own in omega (arith, z)
   text_size e t block types (Y.TextOfNumber precision x) is =
       let n = number_size e t block types x is.1 in
       let s = size_append (number_code e t x) (as_text precision) in
@@ -229,21 +273,6 @@ pairs_size e t block types (p ∷ ps) are =
     let s3 = size_append items edit_ended in
     most _ _ _ (omega (arith, a, s1, s2, s3)) (omega (arith, c, s1))
 
--- fields take one word
-got_item_words : (block : ℕ) (types : Types) (fixed : Bool) (i : Y.GetItem) → IsProvedGetItem block types fixed i → get_item_words i ≤ 1
-got_item_words block types fixed (Y.GetScalar r) is =
-    let z = own_words block types is.type r is.own in
-    omega (arith, z)
-got_item_words block types fixed (Y.GetAggregate r) is = absurd is
-
-got_items_words : (block : ℕ) (types : Types) (fixed : Bool) (is : List Y.GetItem) → AreProvedGetItems block types fixed is → get_items_words is ≤ 1
-got_items_words block types fixed [] are = omega arith
-got_items_words block types fixed (i ∷ is) are = most _ _ _ (got_item_words block types fixed i are.0) (got_items_words block types fixed is are.1)
-
-got_words : (block : ℕ) (types : Types) (ps : List Y.GetPair) → AreProvedGetPairs block types ps → get_words ps ≤ 1
-got_words block types [] are = omega arith
-got_words block types (p ∷ ps) are = most _ _ _ (got_items_words block types (has_fixed p.formats) p.items are.0) (got_words block types ps are.1.1)
-
 constant_size : (r : Register) (z : ℤ) → 1 ≤ size_of (constant r z)
 constant_size r z = displaced_by (is_immediate z) _ _ (omega arith) (omega arith)
 
@@ -265,6 +294,18 @@ once_size e t block types (Some x) line c is =
     let s3 = met_size' c in
     (omega (arith, n, s1, s2), omega (arith, s1, s2, s3))
 
+pub start_words_size : (e : Environment) (t : Taken) (block : ℕ) (types : Types) (start : Y.Value) → IsProvedStart block types start → value_words start ≤ size_of (start_code e t start) + 1
+start_words_size e t block types (Y.NumberValue precision x) is =
+    let n = number_size e (before_turns t) block types x is in
+    let s = size_append (number_code e (before_turns t) x) (store_word frame_register a0 (start_place t)) in
+    most _ _ _ (omega arith) (omega (arith, n, s))
+start_words_size e t block types (Y.BitValue x) is =
+    let n = bit_size e (before_turns t) block types x is in
+    let s = size_append (bit_code e (before_turns t) x) (store_word frame_register a0 (start_place t)) in
+    most _ _ _ (omega arith) (omega (arith, n, s))
+start_words_size e t block types (Y.TextValue x) is = text_size e (before_turns t) block types x is
+start_words_size e t block types _ is = absurd is
+
 pub limit_words_size : (e : Environment) (t : Taken) (block : ℕ) (types : Types) (limit : Option Y.Number) → IsProvedNumberIf block types limit → number_if limit ≤ size_of (limit_code e t limit) + 1
 limit_words_size e t block types None is = omega arith
 limit_words_size e t block types (Some x) is =
@@ -279,11 +320,75 @@ condition_words_size e t block types (Some x) behind is =
     let s = size_append (bit_code e (in_turns t) x) (skip_where Test.NotEqual a0 zero_register (JumpAhead behind ∷ [])) in
     omega (arith, n, s)
 
+-- what is assigned to
+pub target_size : (e : Environment) (t : Taken) (block : ℕ) (types : Types) (type : Y.LeafType) (r : Y.Reference) → IsAssigned block types type r → reference_words r ≤ size_of (word_stored e t r)
+target_size e t block types type r is = by_part is.0
+  where
+    by_part : IsPart block types type r → reference_words r ≤ size_of (word_stored e t r)
+    by_part (inl o) = let z = own_words block types type r o in omega (arith, z)
+    by_part (inr o) =
+        let xs = Y.NumberThen o.first o.rest in
+        let are : AreProvedNumbers block types xs = subst (AreSubscripts block types) o.is is.1 in
+        let n = subscripts_size e (with_number t) block types xs are in
+        let m = subst (λ q. reference_words q ≤ size_of (reference_code e (with_number t) q)) (sym o.is) (element_size e (with_number t) block o.index o.first o.rest n) in
+        let last = fetch a0 t ++ stored (type_in e r) a0 (address_in e r) in
+        let s1 = size_append (save a0 t) (reference_code e (with_number t) r ++ last) in
+        let s2 = size_append (reference_code e (with_number t) r) last in
+        omega (arith, m, s1, s2)
+
+-- a field's target is stored in the code of the field
+field_size : (e : Environment) (t : Taken) (formats : T.Formats) (type : Y.LeafType) (r : Y.Reference) → IsElementType type → size_of (word_stored e t r) ≤ size_of (field_stored e t formats r type)
+field_size e t formats (Y.FixedLeaf p) r is =
+    let s1 = size_append (number_got formats) (fitted_code t p ++ word_stored e t r) in
+    let s2 = size_append (fitted_code t p) (word_stored e t r) in
+    omega (arith, s1, s2)
+field_size e t formats Y.BitLeaf r is = let s = size_append bit_got (word_stored e t r) in omega (arith, s)
+field_size e t formats _ r is = absurd is
+
+got_item_words : (e : Environment) (t : Taken) (block : ℕ) (types : Types) (has : HasTypes e block types) (formats : T.Formats) (after : ℕ) (i : Y.GetItem) → IsProvedGetItem block types (has_fixed formats) i → get_item_words i ≤ size_of (item_got e t formats i after)
+got_item_words e t block types has formats after (Y.GetScalar r) is = by_part is.part
+  where
+    by_part : IsOwn block types is.type r ⊎ (IsElement block types is.type r × IsElementType is.type) → suc (reference_words r) ≤ size_of (item_got e t formats (Y.GetScalar r) after)
+    by_part (inl o) =
+        let z = own_words block types is.type r o in
+        let c = field_stored e t formats r (type_in e r) in
+        let s = size_append (field_awaited (size_of c + after)) c in
+        omega (arith, z, s)
+    by_part (inr (o, element)) =
+        let type = part_type e block types is.type r has (inr (o, element)) in
+        let z = target_size e t block types is.type r (inr o, is.subscripts) in
+        let f = subst (λ u. size_of (word_stored e t r) ≤ size_of (field_stored e t formats r u)) (sym type) (field_size e t formats is.type r element) in
+        let c = field_stored e t formats r (type_in e r) in
+        let s = size_append (field_awaited (size_of c + after)) c in
+        omega (arith, z, f, s)
+got_item_words e t block types has formats after (Y.GetAggregate r) is = absurd is
+
+got_items_words : (e : Environment) (t : Taken) (block : ℕ) (types : Types) (has : HasTypes e block types) (formats : T.Formats) (after : ℕ) (is : List Y.GetItem) → AreProvedGetItems block types (has_fixed formats) is → get_items_words is ≤ size_of (items_got e t formats after is)
+got_items_words e t block types has formats after [] are = omega arith
+got_items_words e t block types has formats after (i ∷ is) are =
+    let rest = items_got e t formats after is in
+    let a = got_item_words e t block types has formats (size_of rest + after) i are.0 in
+    let c = got_items_words e t block types has formats after is are.1 in
+    let s = size_append (item_got e t formats i (size_of rest + after)) rest in
+    most _ _ _ (omega (arith, a, s)) (omega (arith, c, s))
+
+got_words : (e : Environment) (t : Taken) (block : ℕ) (types : Types) (has : HasTypes e block types) (ps : List Y.GetPair) → AreProvedGetPairs block types ps → get_words ps ≤ size_of (get_pairs e t ps)
+got_words e t block types has [] are = omega arith
+got_words e t block types has (p ∷ ps) are =
+    let rest = get_pairs e t ps in
+    let items = items_got e t p.formats (2 + size_of rest) p.items in
+    let a = got_items_words e t block types has p.formats (2 + size_of rest) p.items are.0 in
+    let c = got_words e t block types has ps are.1.1 in
+    let s1 = size_append (get_pair e t p (size_of rest)) rest in
+    let s2 = size_append (edit_begun p.formats 0) (items ++ edit_ended) in
+    let s3 = size_append items edit_ended in
+    most _ _ _ (omega (arith, a, s1, s2, s3)) (omega (arith, c, s1))
+
 mutual
-  pub statement_size : (e : Environment) (t : Taken) (block : ℕ) (types : Types) (x : Y.Stmt) → IsProvedStatement block types x → stmt_words x ≤ size_of (stmt_code e t x) + 1
-  statement_size e t block types (Y.Null line) is = omega arith
-  statement_size e t block types (Y.Assign target (Y.StoredNumber precision x) line) is =
-      let z = own_words block types (Y.FixedLeaf precision) target is.0 in
+  pub statement_size : (e : Environment) (t : Taken) (block : ℕ) (types : Types) (has : HasTypes e block types) (x : Y.Stmt) → IsProvedStatement block types x → stmt_words x ≤ size_of (stmt_code e t x) + 1
+  statement_size e t block types has (Y.Null line) is = omega arith
+  statement_size e t block types has (Y.Assign target (Y.StoredNumber precision x) line) is =
+      let z : reference_words target ≤ size_of (stored_into e t target (Y.StoredNumber precision x)) = target_size e t block types (Y.FixedLeaf precision) target is.0 in
       let n = number_size e t block types x is.1.0 in
       let four = act_size line in
       let code = number_code e t x in
@@ -292,60 +397,69 @@ mutual
       let s1 = size_append (act_code line) ((code ++ fitted) ++ into) in
       let s2 = size_append (code ++ fitted) into in
       let s3 = size_append code fitted in
-      most _ _ _ (most _ _ _ (omega arith) (omega (arith, n, s1, s2, s3))) (omega (arith, z, four, s1))
-  statement_size e t block types (Y.Assign target (Y.StoredBit x) line) is =
-      let z = own_words block types Y.BitLeaf target is.0 in
+      most _ _ _ (most _ _ _ (omega arith) (omega (arith, n, s1, s2, s3))) (omega (arith, z, four, s1, s2))
+  statement_size e t block types has (Y.Assign target (Y.StoredBit x) line) is =
+      let z : reference_words target ≤ size_of (stored_into e t target (Y.StoredBit x)) = target_size e t block types Y.BitLeaf target is.0 in
       let n = bit_size e t block types x is.1.0 in
       let four = act_size line in
       let code = bit_code e t x in
       let into = stored_into e t target (Y.StoredBit x) in
       let s1 = size_append (act_code line) (code ++ into) in
       let s2 = size_append code into in
+      most _ _ _ (omega (arith, n, s1, s2)) (omega (arith, z, four, s1, s2))
+  statement_size e t block types has (Y.Assign target (Y.StoredText x) line) is =
+      let z = own_words block types (text_leaf is.0.varying is.0.most) target is.0.own in
+      let n = text_size e t block types x is.1.0 in
+      let four = act_size line in
+      let code = text_code e t x in
+      let into = stored_into e t target (Y.StoredText x) in
+      let s1 = size_append (act_code line) (code ++ into) in
+      let s2 = size_append code into in
       most _ _ _ (omega (arith, n, s1, s2)) (omega (arith, z, four, s1))
-  statement_size e t block types (Y.If condition unit line) is =
+  statement_size e t block types has (Y.If condition unit line) is =
       let test = bit_code e t condition in
       let c = stmt_code e t unit in
       let n = bit_size e t block types condition is.0 in
-      let m = statement_size e t block types unit is.1.0 in
+      let m = statement_size e t block types has unit is.1.0 in
       let s1 = size_append (act_code line) (test ++ if_met c) in
       let s2 = size_append test (if_met c) in
       let s3 = met_size' c in
       most _ _ _ (omega (arith, n, s1, s2)) (omega (arith, m, s1, s2, s3))
-  statement_size e t block types (Y.IfElse condition unit otherwise line) is =
+  statement_size e t block types has (Y.IfElse condition unit otherwise line) is =
       let test = bit_code e t condition in
       let c = stmt_code e t unit in
       let d = stmt_code e t otherwise in
       let over = JumpAhead (size_of d) ∷ [] in
       let n = bit_size e t block types condition is.0 in
-      let m1 = statement_size e t block types unit is.1.0 in
-      let m2 = statement_size e t block types otherwise is.1.1.0 in
+      let m1 = statement_size e t block types has unit is.1.0 in
+      let m2 = statement_size e t block types has otherwise is.1.1.0 in
       let s1 = size_append (act_code line) (test ++ (if_met (c ++ over) ++ d)) in
       let s2 = size_append test (if_met (c ++ over) ++ d) in
       let s3 = size_append (if_met (c ++ over)) d in
       let s4 = met_size' (c ++ over) in
       let s5 = size_append c over in
       most _ _ _ (omega (arith, n, s1, s2)) (most _ _ _ (omega (arith, m1, s1, s2, s3, s4, s5)) (omega (arith, m2, s1, s2, s3)))
-  statement_size e t block types (Y.Do body line) is =
-      let m = statements_size e t block types body is.0 in
+  statement_size e t block types has (Y.Do body line) is =
+      let m = statements_size e t block types has body is.0 in
       let s = size_append (act_code line) (stmts_code e t body) in
       omega (arith, m, s)
-  statement_size e t block types (Y.DoWhile condition body line) is =
+  statement_size e t block types has (Y.DoWhile condition body line) is =
       let test = bit_code e t condition in
       let c = stmts_code e t body in
       let tested = act_code line ++ test in
       let back = JumpBack (size_of tested + (3 + size_of c)) ∷ [] in
       let n = bit_size e t block types condition is.0 in
-      let m = statements_size e t block types body is.1.0 in
+      let m = statements_size e t block types has body is.1.0 in
       let s1 = size_append (act_code line) (while_met tested c) in
       let s2 = size_append tested (if_met (c ++ back)) in
       let s3 = size_append (act_code line) test in
       let s4 = met_size' (c ++ back) in
       let s5 = size_append c back in
       most _ _ _ (omega (arith, n, s1, s2, s3)) (omega (arith, m, s1, s2, s4, s5))
-  statement_size e t block types (Y.DoOnce target (Y.StoredNumber precision x) condition body line) is =
-      let z = own_words block types (Y.FixedLeaf precision) target is.0.0 in
+  statement_size e t block types has (Y.DoOnce target (Y.StoredNumber precision x) condition body line) is =
+      let z : reference_words target ≤ size_of (stored_into e t target (Y.StoredNumber precision x)) = target_size e t block types (Y.FixedLeaf precision) target is.0.0 in
       let n = number_size e t block types x is.0.1 in
-      let m = statements_size e t block types body is.1.1.0 in
+      let m = statements_size e t block types has body is.1.1.0 in
       let o = once_size e t block types condition line (stmts_code e t body) is.1.0 in
       let four = act_size line in
       let code = number_code e t x in
@@ -357,12 +471,12 @@ mutual
       let s3 = size_append (code ++ fitted) into in
       let s4 = size_append code fitted in
       most _ _ _
-      (most _ _ _ (most _ _ _ (omega arith) (omega (arith, n, s1, s2, s3, s4))) (omega (arith, z, four, s1)))
+      (most _ _ _ (most _ _ _ (omega arith) (omega (arith, n, s1, s2, s3, s4))) (omega (arith, z, four, s1, s2, s3)))
       (most _ _ _ (let o0 = o.0 in omega (arith, o0, s1, s2)) (let o1 = o.1 in omega (arith, m, o1, s1, s2)))
-  statement_size e t block types (Y.DoOnce target (Y.StoredBit x) condition body line) is =
-      let z = own_words block types Y.BitLeaf target is.0.0 in
+  statement_size e t block types has (Y.DoOnce target (Y.StoredBit x) condition body line) is =
+      let z : reference_words target ≤ size_of (stored_into e t target (Y.StoredBit x)) = target_size e t block types Y.BitLeaf target is.0.0 in
       let n = bit_size e t block types x is.0.1 in
-      let m = statements_size e t block types body is.1.1.0 in
+      let m = statements_size e t block types has body is.1.1.0 in
       let o = once_size e t block types condition line (stmts_code e t body) is.1.0 in
       let four = act_size line in
       let code = bit_code e t x in
@@ -372,23 +486,38 @@ mutual
       let s2 = size_append (code ++ into) rest in
       let s3 = size_append code into in
       most _ _ _
+      (most _ _ _ (omega (arith, n, s1, s2, s3)) (omega (arith, z, four, s1, s2, s3)))
+      (most _ _ _ (let o0 = o.0 in omega (arith, o0, s1, s2)) (let o1 = o.1 in omega (arith, m, o1, s1, s2)))
+  statement_size e t block types has (Y.DoOnce target (Y.StoredText x) condition body line) is =
+      let z = own_words block types (text_leaf is.0.0.varying is.0.0.most) target is.0.0.own in
+      let n = text_size e t block types x is.0.1 in
+      let m = statements_size e t block types has body is.1.1.0 in
+      let o = once_size e t block types condition line (stmts_code e t body) is.1.0 in
+      let four = act_size line in
+      let code = text_code e t x in
+      let into = stored_into e t target (Y.StoredText x) in
+      let rest = once_code e t condition line (stmts_code e t body) in
+      let s1 = size_append (act_code line) ((code ++ into) ++ rest) in
+      let s2 = size_append (code ++ into) rest in
+      let s3 = size_append code into in
+      most _ _ _
       (most _ _ _ (omega (arith, n, s1, s2, s3)) (omega (arith, z, four, s1)))
       (most _ _ _ (let o0 = o.0 in omega (arith, o0, s1, s2)) (let o1 = o.1 in omega (arith, m, o1, s1, s2)))
-  statement_size e t block types (Y.DoCount (Y.NumberCounter precision target) (Y.NumberValue p x) limit step condition body line) is =
+  statement_size e t block types has (Y.DoCount (Y.NumberCounter precision target) start limit step condition body line) is =
       let counter = Y.NumberCounter precision target in
       let z = own_words block types (Y.FixedLeaf precision) target is.0.0 in
-      let n0 = number_size e (before_turns t) block types x is.0.1 in
+      let n0 = start_words_size e t block types start is.0.1 in
       let n1 = limit_words_size e t block types limit is.1.0.0 in
       let n2 = number_size e (before_turns t) block types step is.1.0.1 in
       let c = stmts_code e (in_turns t) body in
       let u = turn_of e t counter limit condition line c in
       let n3 = condition_words_size e t block types condition (words_behind_condition u) is.1.1.0 in
-      let n4 = statements_size e (in_turns t) block types body is.1.1.1.0 in
+      let n4 = statements_size e (in_turns t) block types has body is.1.1.1.0 in
       let four = act_size line in
-      let c0 = start_code e t (Y.NumberValue p x) in
+      let c0 = start_code e t start in
       let c1 = limit_code e t limit in
       let c2 = step_code e t step in
-      let c3 = started_code t counter (Y.NumberValue p x) in
+      let c3 = started_code t counter start in
       let lim = limit_kept e t counter limit (words_behind_limit u) in
       let con = while_kept e t condition (words_behind_condition u) in
       let rest = stepped_code e t counter line ++ JumpBack (words_back u) ∷ [] in
@@ -397,45 +526,53 @@ mutual
       let s3 = size_append c0 (c1 ++ (c2 ++ c3)) in
       let s4 = size_append c1 (c2 ++ c3) in
       let s5 = size_append c2 c3 in
-      let s6 = size_append (number_code e (before_turns t) x) (store_word frame_register a0 (start_place t)) in
       let s7 = size_append (number_code e (before_turns t) step) (store_word frame_register a0 (step_place t)) in
       let s8 = size_append u.begun (lim ++ (con ++ (c ++ rest))) in
       let s9 = size_append lim (con ++ (c ++ rest)) in
       let s10 = size_append con (c ++ rest) in
       let s11 = size_append c rest in
-      let total = size_of (stmt_code e t (Y.DoCount counter (Y.NumberValue p x) limit step condition body line)) in
-      let small1 : max (max 1 (number_words x)) (max (number_if limit) (number_words step)) ≤ total - 3 + 1 =
-      most _ _ _ (most _ _ _ (omega (arith, four, s1)) (omega (arith, n0, four, s1, s2, s3, s6))) (most _ _ _ (omega (arith, n1, four, s1, s2, s3, s4)) (omega (arith, n2, four, s1, s2, s3, s4, s5, s7))) in
+      let total = size_of (stmt_code e t (Y.DoCount counter start limit step condition body line)) in
+      let small1 : max (value_words start) (max (number_if limit) (number_words step)) ≤ total - 3 + 1 =
+      most _ _ _ (omega (arith, n0, four, s1, s2, s3)) (most _ _ _ (omega (arith, n1, four, s1, s2, s3, s4)) (omega (arith, n2, four, s1, s2, s3, s4, s5, s7))) in
       let small2 : max (suc (reference_words target)) (max (bit_if condition) (stmts_words body)) ≤ total - 2 + 1 =
       most _ _ _ (omega (arith, z, four, s1)) (most _ _ _ (omega (arith, n3, four, s1, s2, s8, s9, s10)) (omega (arith, n4, four, s1, s2, s8, s9, s10, s11))) in
       most _ _ _ (omega (arith, small1, four, s1)) (omega (arith, small2, four, s1))
-  statement_size e t block types (Y.Goto level label line) is = omega arith
-  statement_size e t block types (Y.Begin (Y.BlockOf head body)) is = omega arith
-  statement_size e t block types (Y.Return line) is = omega arith
-  statement_size e t block types (Y.Stop line) is = omega arith
-  statement_size e t block types (Y.Signal condition line) is = omega arith
-  statement_size e t block types (Y.Put None pairs line) is =
+  statement_size e t block types has (Y.Goto level label line) is = omega arith
+  statement_size e t block types has (Y.Begin (Y.BlockOf head body)) is = omega arith
+  statement_size e t block types has (Y.CallProcedure (Y.Calling procedure level Y.NoArgument) line) is = omega arith
+  statement_size e t block types has (Y.Return line) is = omega arith
+  statement_size e t block types has (Y.Stop line) is = omega arith
+  statement_size e t block types has (Y.Signal condition line) is = omega arith
+  statement_size e t block types has (Y.OnSystem condition line) is = omega arith
+  statement_size e t block types has (Y.Revert condition line) is = omega arith
+  statement_size e t block types has (Y.Put None pairs line) is =
       let n = pairs_size e t block types pairs is.0 in
       let s = size_append (act_code line) (put_pairs e t pairs) in
       omega (arith, n, s)
-  statement_size e t block types (Y.Put (Some n) pairs line) is =
+  statement_size e t block types has (Y.Put (Some n) pairs line) is =
       let m = pairs_size e t block types pairs is.1.0 in
       let s1 = size_append (act_code line) (skip_option 1 (Some n) ++ put_pairs e t pairs) in
       let s2 = size_append (skip_option 1 (Some n)) (put_pairs e t pairs) in
       omega (arith, m, s1, s2)
-  statement_size e t block types (Y.Get None pairs line) is =
-      let n = got_words block types pairs is.0 in
-      omega (arith, n)
-  statement_size e t block types (Y.Get (Some k) pairs line) is =
-      let n = got_words block types pairs is.1.0 in
-      omega (arith, n)
-  statement_size e t block types _ is = absurd is
+  statement_size e t block types has (Y.Get None pairs line) is =
+      let n = got_words e t block types has pairs is.0 in
+      let s1 = size_append (act_code line) (skip_option 0 None ++ (get_pairs e t pairs ++ edit_ended)) in
+      let s2 = size_append (skip_option 0 None) (get_pairs e t pairs ++ edit_ended) in
+      let s3 = size_append (get_pairs e t pairs) edit_ended in
+      omega (arith, n, s1, s2, s3)
+  statement_size e t block types has (Y.Get (Some k) pairs line) is =
+      let n = got_words e t block types has pairs is.1.0 in
+      let s1 = size_append (act_code line) (skip_option 0 (Some k) ++ (get_pairs e t pairs ++ edit_ended)) in
+      let s2 = size_append (skip_option 0 (Some k)) (get_pairs e t pairs ++ edit_ended) in
+      let s3 = size_append (get_pairs e t pairs) edit_ended in
+      omega (arith, n, s1, s2, s3)
+  statement_size e t block types has _ is = absurd is
 
-  pub statements_size : (e : Environment) (t : Taken) (block : ℕ) (types : Types) (body : Y.Stmts) → AreProvedStatements block types body → stmts_words body ≤ size_of (stmts_code e t body) + 1
-  statements_size e t block types (Y.EndOfList labels) are = omega arith
-  statements_size e t block types (Y.StmtThen labels first rest) are =
-      let a = statement_size e t block types first are.0 in
-      let c = statements_size e t block types rest are.1 in
+  pub statements_size : (e : Environment) (t : Taken) (block : ℕ) (types : Types) (has : HasTypes e block types) (body : Y.Stmts) → AreProvedStatements block types body → stmts_words body ≤ size_of (stmts_code e t body) + 1
+  statements_size e t block types has (Y.EndOfList labels) are = omega arith
+  statements_size e t block types has (Y.StmtThen labels first rest) are =
+      let a = statement_size e t block types has first are.0 in
+      let c = statements_size e t block types has rest are.1 in
       let s1 = size_append (marked e.block labels) (stmt_code e t first ++ stmts_code e t rest) in
       let s2 = size_append (stmt_code e t first) (stmts_code e t rest) in
       most _ _ _ (omega (arith, a, s1, s2)) (omega (arith, c, s1, s2))
@@ -445,17 +582,19 @@ mutual
 pub no_variable_words : (ds : List Y.DeclaredVariable) → ArePlain ds → variables_words ds ≡ 0
 no_variable_words [] are = refl
 no_variable_words (d ∷ ds) are =
-    by_plain (λ u. variables_words (u ∷ ds) ≡ max 0 (variables_words ds)) (λ p i. refl) (λ i. refl) d are.0 ∙ ap (λ n. max 0 n) (no_variable_words ds are.1)
+    by_plain (λ u. variables_words (u ∷ ds) ≡ max 0 (variables_words ds)) (λ p i. refl) (λ i. refl) (λ n i. refl) (λ n i. refl)
+    (λ type b bs i element are'. ap (λ q. max (if q then 0 else extents_words (array_variable type (b ∷ bs) i)) (variables_words ds)) (size_constant type (element_numeric type element) (b ∷ bs) i)) d are.0
+    ∙ ap (λ n. max 0 n) (no_variable_words ds are.1)
 
 -- they are fewer than the words of its code
-pub procedure_size : (e : Environment) (head : Y.BlockHead) (types : Types) (body : Y.Stmts) → ArePlain (variables_of_block e.program head.number) → AreProvedStatements head.number types body → block_words e head.number (stmts_words body) ≤ size_of (procedure_in e head body [] None)
-procedure_size e head types body plain are =
+pub procedure_size : (e : Environment) (head : Y.BlockHead) (types : Types) (body : Y.Stmts) → HasTypes e head.number types → ArePlain (variables_of_block e.program head.number) → AreProvedStatements head.number types body → block_words e head.number (stmts_words body) ≤ size_of (procedure_in e head body [] None)
+procedure_size e head types body has plain are =
     let words = block_words e head.number (stmts_words body) in
     let begun = procedure_begun e head words [] in
     let code = stmts_code e none_taken body in
     let ended = procedure_ended e head words None in
     let none = no_variable_words (variables_of_block e.program head.number) plain in
-    let n = statements_size e none_taken head.number types body are in
+    let n = statements_size e none_taken head.number types has body are in
     let s1 = size_append begun (code ++ ended) in
     let s2 = size_append code ended in
     let room : stmts_words body ≤ size_of (procedure_in e head body [] None) = omega (arith, n, s1, s2) in

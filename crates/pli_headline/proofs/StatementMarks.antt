@@ -7,22 +7,24 @@ use Rattle.pli_language.specs.declared.condition.Condition.TheVariants as C
 use Rattle.pli_typing.specs.TypedTree as Y
 use Rattle.pli_meaning.specs.Control.{Label}
 use Rattle.pli_coding.specs.Registers.{zero_register, stack_register, frame_register, a0, a1, a2, u0, u1, u2}
-use Rattle.pli_coding.specs.Assembly.{Symbol, BaseIn, LabelPlace, ReturnPlace, JumpTo, JumpAhead, JumpBack, Code, size_of}
-use Rattle.pli_coding.specs.Instructions.{move, subtract, small, number, plus, load_word, store_word, skip_where, service}
+use Rattle.pli_coding.specs.Assembly.{Symbol, BaseIn, ProcedureEntry, LabelPlace, ReturnPlace, JumpTo, CallTo, JumpAhead, JumpBack, Code, size_of}
+use Rattle.pli_coding.specs.Instructions.{move, subtract, small, number, plus, load_word, store_word, skip_where, service, tested_service}
 use Rattle.pli_coding.specs.Environments.{Owner, BlockOwner, UnitOwner, Environment, Taken, none_taken, block_around}
-use Rattle.pli_coding.specs.Frames.{frame_below, own_offset, lower_top, display, fixed_size, frame_end, temporary_bytes}
+use Rattle.pli_coding.specs.Frames.{frame_below, own_offset, lower_top, display, fixed_size, frame_end, temporary_bytes, words_place}
 use Rattle.pli_coding.specs.Entries.{display_copied, display_made, frame_begun, block_left, entered_without_texts, variables_made, variables_code}
 use Rattle.pli_meaning.specs.DeclaredShapes.{variables_of_block}
 use Rattle.pli_coding.specs.Arithmetic.{sum_code, fitted_code}
-use Rattle.pli_coding.specs.Expressions.{number_code, bit_code}
+use Rattle.pli_coding.specs.Expressions.{frame_given, number_code, bit_code, call_code}
 use Rattle.pli_coding.specs.Storing.{word_stored, assigned_code}
 use Rattle.pli_coding.specs.Streams.{put_pairs, get_pairs, edit_ended, skip_option}
 use Rattle.pli_coding.specs.Allocating.{act_code}
-use Rattle.pli_coding.specs.Statements.{if_met, while_met, once_code, in_turns, before_turns, limit_place, step_place, start_place, start_code, limit_code, step_code, start_loaded, started_code, count_begun, limit_tested, limit_kept, while_kept, stepped_code, turn_of, turns_code, words_behind_limit, words_behind_condition, words_back, signal_code, unwound_to, returned_by, goto_outer, goto_code, marked, stmt_code, stmts_code, stmts_words, block_words, begin_environment, begin_code}
-use Rattle.pli_headline.specs.ProvedSoFar.{Types, IsOwn, IsProvedNumber, IsProvedNumberIf, IsProvedBit, IsProvedBitIf, IsProvedStatement, AreProvedStatements, IsBare, AreBare, of_block, inner_labels, all_labels}
-use Rattle.pli_headline.proofs.SymbolsMarked.{HasTypes, symbols_marked, Marks, both_mark, behind, before, either, constant_none, load_none, store_none, plus_none, overflow_none, act_none, fitted_none, reference_none, number_none, bit_none, target_none, stored_none, bit_stored_none}
+use Rattle.pli_coding.specs.Statements.{if_met, while_met, once_code, in_turns, before_turns, limit_place, step_place, start_place, start_code, limit_code, step_code, start_loaded, started_code, count_begun, limit_tested, limit_kept, while_kept, stepped_code, turn_of, turns_code, words_behind_limit, words_behind_condition, words_back, signal_code, unwound_to, returned_by, goto_outer, goto_code, marked, stmt_code, stmts_code, stmts_words, block_words, begin_environment, begin_code, condition_given}
+use Rattle.pli_headline.specs.ProvedSoFar.{Types, IsOwn, IsProvedNumber, IsProvedNumberIf, IsProvedBit, IsProvedBitIf, IsProvedStatement, AreProvedStatements, IsBare, AreBare, of_block, inner_labels, all_labels, IsProvedStart}
+use Rattle.pli_headline.proofs.SymbolsMarked.{symbols_marked, Marks, both_mark, behind, before, either, constant_none, load_none, store_none, plus_none, overflow_none, act_none, fitted_none}
 use Rattle.pli_headline.proofs.PutMarks.{pairs_none, skip_none}
 use Rattle.pli_headline.proofs.GetMarks.{gets_none, get_skip_none}
+use Rattle.pli_headline.proofs.Variables.{HasTypes}
+use Rattle.pli_headline.proofs.ExpressionMarks.{reference_none, number_none, bit_none, target_none, text_stored_none, number_assigned_none, bit_assigned_none, text_none}
 
 -- the places of labels
 abbrev pub places_of : List (ℕ × Label) → List Symbol
@@ -60,6 +62,16 @@ return_none e UnitOwner = refl
 return_none e (BlockOwner o) =
     behind (cond (o.level == e.level) [] (unwound_to o.level 0)) (JumpTo (ReturnPlace o.number) ∷ []) [] (either (o.level == e.level) [] (unwound_to o.level 0) refl (unwound_none o.level 0)) refl
 
+-- a call without arguments marks none
+call_none : (e : Environment) (z : ℤ) (procedure level : ℕ) → Marks (plus a1 frame_register z ++ (number a2 0 ++ (frame_given e level ++ CallTo (ProcedureEntry procedure) ∷ []))) []
+call_none e z procedure level =
+    let call = CallTo (ProcedureEntry procedure) ∷ [] in
+    let found = cond (level == e.level) [] (load_word a0 frame_register (display level)) in
+    let given = move a0 (cond (level == e.level) frame_register a0) ∷ [] in
+    behind (plus a1 frame_register z) (number a2 0 ++ ((found ++ given) ++ call)) [] (plus_none a1 frame_register z)
+    (behind (number a2 0) ((found ++ given) ++ call) [] (constant_none a2 (pos 0))
+    (behind (found ++ given) call [] (behind found given [] (either (level == e.level) [] (load_word a0 frame_register (display level)) refl (load_none a0 frame_register (display level))) refl) refl))
+
 -- a block marks what its statements mark
 copied_none : (n left : ℕ) → Marks (display_copied n left) []
 copied_none n zero = store_none frame_register a0 (display n)
@@ -68,7 +80,7 @@ copied_none n (suc left) =
     behind (load_word u1 a0 (display n)) (s ++ display_copied (suc n) left) [] (load_none u1 a0 (display n))
     (behind s (display_copied (suc n) left) [] (store_none frame_register u1 (display n)) (copied_none (suc n) left))
 
-display_none : (level : ℕ) → Marks (display_made level) []
+pub display_none : (level : ℕ) → Marks (display_made level) []
 display_none zero = refl
 display_none (suc outer) = copied_none 0 outer
 
@@ -112,18 +124,33 @@ limit_none e t block types None has is = refl
 limit_none e t block types (Some x) has is =
     behind (number_code e (before_turns t) x) (store_word frame_register a0 (limit_place t)) [] (number_none e (before_turns t) block types x has is) (store_none frame_register a0 (limit_place t))
 
-begun_none : (e : Environment) (t : Taken) (block : ℕ) (types : Types) (precision p : ℕ) (r : Y.Reference) (x : Y.Number) (limit : Option Y.Number) (step : Y.Number) → HasTypes e block types → IsProvedNumber block types x → IsProvedNumberIf block types limit → IsProvedNumber block types step → Marks (count_begun e t (Y.NumberCounter precision r) (Y.NumberValue p x) limit step) []
-begun_none e t block types precision p r x limit step has isx isl iss =
-    let c0 = start_code e t (Y.NumberValue p x) in
+start_none : (e : Environment) (t : Taken) (block : ℕ) (types : Types) (precision : ℕ) (r : Y.Reference) (start : Y.Value) → HasTypes e block types → IsProvedStart block types start → Marks (start_code e t start) [] × Marks (started_code t (Y.NumberCounter precision r) start) []
+start_none e t block types precision r (Y.NumberValue p x) has is = (
+  behind (number_code e (before_turns t) x) (store_word frame_register a0 (start_place t)) [] (number_none e (before_turns t) block types x has is) (store_none frame_register a0 (start_place t)),
+  behind (start_loaded t) (fitted_code (in_turns t) precision) [] (load_none a0 frame_register (start_place t)) (fitted_none (in_turns t) precision),
+)
+start_none e t block types precision r (Y.BitValue x) has is = (
+  behind (bit_code e (before_turns t) x) (store_word frame_register a0 (start_place t)) [] (bit_none e (before_turns t) block types x has is) (store_none frame_register a0 (start_place t)),
+  behind (start_loaded t) (fitted_code (in_turns t) precision) [] (load_none a0 frame_register (start_place t)) (fitted_none (in_turns t) precision),
+)
+start_none e t block types precision r (Y.TextValue x) has is = (
+  text_none e (before_turns t) block types x has is,
+  behind (small a0 0 ∷ tested_service 26) (fitted_code (in_turns t) precision) [] refl (fitted_none (in_turns t) precision),
+)
+start_none e t block types precision r _ has is = absurd is
+
+begun_none : (e : Environment) (t : Taken) (block : ℕ) (types : Types) (precision : ℕ) (r : Y.Reference) (start : Y.Value) (limit : Option Y.Number) (step : Y.Number) → HasTypes e block types → IsProvedStart block types start → IsProvedNumberIf block types limit → IsProvedNumber block types step → Marks (count_begun e t (Y.NumberCounter precision r) start limit step) []
+begun_none e t block types precision r start limit step has is isl iss =
+    let c0 = start_code e t start in
     let c1 = limit_code e t limit in
     let c2 = step_code e t step in
-    let c3 = started_code t (Y.NumberCounter precision r) (Y.NumberValue p x) in
-    let s0 = store_word frame_register a0 (start_place t) in
+    let c3 = started_code t (Y.NumberCounter precision r) start in
     let s2 = store_word frame_register a0 (step_place t) in
-    behind c0 (c1 ++ (c2 ++ c3)) [] (behind (number_code e (before_turns t) x) s0 [] (number_none e (before_turns t) block types x has isx) (store_none frame_register a0 (start_place t)))
+    let starts = start_none e t block types precision r start has is in
+    behind c0 (c1 ++ (c2 ++ c3)) [] starts.0
     (behind c1 (c2 ++ c3) [] (limit_none e t block types limit has isl)
     (behind c2 c3 [] (behind (number_code e (before_turns t) step) s2 [] (number_none e (before_turns t) block types step has iss) (store_none frame_register a0 (step_place t)))
-    (behind (start_loaded t) (fitted_code (in_turns t) precision) [] (load_none a0 frame_register (start_place t)) (fitted_none (in_turns t) precision))))
+    starts.1))
 
 tested_none : (t : Taken) (words : ℕ) → Marks (limit_tested t words) []
 tested_none t words =
@@ -171,9 +198,11 @@ mutual
   pub statement_marks : (e : Environment) (t : Taken) (block : ℕ) (types : Types) (x : Y.Stmt) → HasTypes e block types → IsProvedStatement block types x → IsBare e.program x → Marks (stmt_code e t x) (places_of (inner_labels e.block x))
   statement_marks e t block types (Y.Null line) has is bare = act_none line
   statement_marks e t block types (Y.Assign target (Y.StoredNumber precision x) line) has is bare =
-      behind (act_code line) (assigned_code e t target (Y.StoredNumber precision x)) [] (act_none line) (stored_none e t block types precision target x has is.0 is.1.0)
+      behind (act_code line) (assigned_code e t target (Y.StoredNumber precision x)) [] (act_none line) (number_assigned_none e t block types precision target x has is.0 is.1.0)
   statement_marks e t block types (Y.Assign target (Y.StoredBit x) line) has is bare =
-      behind (act_code line) (assigned_code e t target (Y.StoredBit x)) [] (act_none line) (bit_stored_none e t block types target x has is.0 is.1.0)
+      behind (act_code line) (assigned_code e t target (Y.StoredBit x)) [] (act_none line) (bit_assigned_none e t block types target x has is.0 is.1.0)
+  statement_marks e t block types (Y.Assign target (Y.StoredText x) line) has is bare =
+      behind (act_code line) (assigned_code e t target (Y.StoredText x)) [] (act_none line) (text_stored_none e t block types target x has is.0 is.1.0)
   statement_marks e t block types (Y.If condition unit line) has is bare =
       tested_marks e t block types condition line (if_met (stmt_code e t unit)) (places_of (inner_labels e.block unit)) has is.0 (statement_marks e t block types unit has is.1.0 bare)
   statement_marks e t block types (Y.IfElse condition unit otherwise line) has is bare =
@@ -201,7 +230,7 @@ mutual
       let rest = once_code e t condition line c in
       let ls = places_of (all_labels e.block body) in
       behind (act_code line) (stored' ++ rest) ls (act_none line)
-      (behind stored' rest ls (stored_none e t block types precision target x has is.0.0 is.0.1)
+      (behind stored' rest ls (number_assigned_none e t block types precision target x has is.0.0 is.0.1)
       (once_marks e t block types condition line c ls has is.1.0 (statements_mark e t block types body has is.1.1.0 bare)))
   statement_marks e t block types (Y.DoOnce target (Y.StoredBit x) condition body line) has is bare =
       let stored' = assigned_code e t target (Y.StoredBit x) in
@@ -209,16 +238,24 @@ mutual
       let rest = once_code e t condition line c in
       let ls = places_of (all_labels e.block body) in
       behind (act_code line) (stored' ++ rest) ls (act_none line)
-      (behind stored' rest ls (bit_stored_none e t block types target x has is.0.0 is.0.1)
+      (behind stored' rest ls (bit_assigned_none e t block types target x has is.0.0 is.0.1)
       (once_marks e t block types condition line c ls has is.1.0 (statements_mark e t block types body has is.1.1.0 bare)))
-  statement_marks e t block types (Y.DoCount (Y.NumberCounter precision target) (Y.NumberValue p x) limit step condition body line) has is bare =
+  statement_marks e t block types (Y.DoOnce target (Y.StoredText x) condition body line) has is bare =
+      let stored' = assigned_code e t target (Y.StoredText x) in
+      let c = stmts_code e t body in
+      let rest = once_code e t condition line c in
+      let ls = places_of (all_labels e.block body) in
+      behind (act_code line) (stored' ++ rest) ls (act_none line)
+      (behind stored' rest ls (text_stored_none e t block types target x has is.0.0 is.0.1)
+      (once_marks e t block types condition line c ls has is.1.0 (statements_mark e t block types body has is.1.1.0 bare)))
+  statement_marks e t block types (Y.DoCount (Y.NumberCounter precision target) start limit step condition body line) has is bare =
       let counter = Y.NumberCounter precision target in
-      let ahead = count_begun e t counter (Y.NumberValue p x) limit step in
+      let ahead = count_begun e t counter start limit step in
       let c = stmts_code e (in_turns t) body in
       let turns' = turns_code (turn_of e t counter limit condition line c) in
       let ls = places_of (all_labels e.block body) in
       behind (act_code line) (ahead ++ turns') ls (act_none line)
-      (behind ahead turns' ls (begun_none e t block types precision p target x limit step has is.0.1 is.1.0.0 is.1.0.1)
+      (behind ahead turns' ls (begun_none e t block types precision target start limit step has is.0.1 is.1.0.0 is.1.0.1)
       (turns_mark e t block types precision target limit condition line c ls has is.0.0 is.1.1.0 (statements_mark e (in_turns t) block types body has is.1.1.1.0 bare)))
   statement_marks e t block types (Y.Begin (Y.BlockOf head body)) has is bare =
       let e' = begin_environment head e in
@@ -226,6 +263,8 @@ mutual
       let words = block_words e head.number (stmts_words body) in
       let ss = places_of (all_labels head.number body) in
       behind (act_code head.line) (begin_code e head words c) ss (act_none head.line) (begin_marks e head words c ss bare.0 (statements_mark e' none_taken block types body has is.1.1 bare.1))
+  statement_marks e t block types (Y.CallProcedure (Y.Calling procedure level Y.NoArgument) line) has is bare =
+      behind (act_code line) (call_code e t (Y.Calling procedure level Y.NoArgument)) [] (act_none line) (call_none e (words_place t.words 0) procedure level)
   statement_marks e t block types (Y.Return line) has is bare =
       behind (act_code line) (returned_by e 0 e.owner) [] (act_none line) (return_none e e.owner)
   statement_marks e t block types (Y.Goto level label line) has is bare =
@@ -234,6 +273,10 @@ mutual
       before (act_code line) (small a0 1 ∷ small a1 0 ∷ service 2) [] (act_none line) refl
   statement_marks e t block types (Y.Signal condition line) has is bare =
       behind (act_code line) (signal_code condition) [] (act_none line) (signal_none condition)
+  statement_marks e t block types (Y.OnSystem condition line) has is bare =
+      before (act_code line) (condition_given condition ∷ small a1 0 ∷ service 28) [] (act_none line) refl
+  statement_marks e t block types (Y.Revert condition line) has is bare =
+      before (act_code line) (condition_given condition ∷ service 29) [] (act_none line) refl
   statement_marks e t block types (Y.Put None pairs line) has is bare =
       behind (act_code line) (put_pairs e t pairs) [] (act_none line) (pairs_none e t block types pairs has is.0)
   statement_marks e t block types (Y.Put (Some n) pairs line) has is bare =

@@ -1,5 +1,5 @@
 -- Statements of a block whose variables are scalars, one behind the other.
-use Rattle.std.proofs.Common.{◌≡◌, ℕ, suc, ◌+◌, ◌*◌, ◌%◌, ◌^◌, ◌<◌, ◌≤◌, List, [], ◌∷◌, ◌++◌, length, Option, Some, None, true, refl, sym, ap, ◌∙◌, subst, arith}
+use Rattle.std.proofs.Common.{◌≡◌, ℕ, zero, suc, ◌+◌, ◌*◌, ◌%◌, ◌^◌, ◌<◌, ◌≤◌, List, [], ◌∷◌, ◌++◌, length, Option, Some, None, true, false, refl, sym, ap, ◌∙◌, subst, arith, Bool}
 use Rattle.std.specs.Prelude.{ℤ, pos, max, slice_get, ◌==◌}
 use Rattle.std.proofs.Math.Nat.{le-max_left}
 use Rattle.rv_meaning.specs.declared.instr.Instr.{Instr}
@@ -7,32 +7,35 @@ use Rattle.rv_meaning.specs.Words.{word}
 use Rattle.rv_meaning.specs.Memory.{load, store}
 use Rattle.rv_meaning.specs.Machine.{memory_size, load_width, extended, store_width}
 use Rattle.pli_typing.specs.TypedTree as Y
+use Rattle.pli_meaning.specs.declared.outcome.End.TheVariants as E
 use Rattle.pli_meaning.specs.World.{World, counted}
 use Rattle.pli_meaning.specs.BasicValues.{BasicValue}
-use Rattle.pli_meaning.specs.StorageState.{State, with_world}
+use Rattle.pli_meaning.specs.StorageState.{State, with_world, newest_ended}
 use Rattle.pli_meaning.specs.Control.{Label, Flow, Meaning, act, give, choose, is_among, ◌>>=◌, ◌>>◌}
 use Rattle.pli_meaning.specs.Raising.{Around, at_line}
 use Rattle.pli_meaning.specs.Evaluating as V
 use Rattle.pli_meaning.specs.Executing as M
-use Rattle.pli_serving.specs.ServiceState.{Services}
+use Rattle.pli_serving.specs.ServiceState.{Services, Activation}
 use Rattle.pli_coding.specs.Assembly.{LabelPlace, ReturnPlace, Code, size_of}
+use Rattle.pli_coding.specs.Frames.{frame_end}
 use Rattle.pli_coding.specs.Allocating.{act_code}
-use Rattle.pli_coding.specs.Environments.{Environment, Taken}
+use Rattle.pli_coding.specs.Environments.{Owner, BlockOwner, UnitOwner, Environment, Taken}
 use Rattle.pli_coding.specs.Expressions.{stored_code}
 use Rattle.pli_coding.specs.Storing.{word_stored, stored_into, assigned_code}
 use Rattle.pli_coding.specs.Statements.{stmt_code, stmts_code, marked}
 use Rattle.pli_coding.specs.Temporaries.{number_words, bit_words}
 use Rattle.pli_coding.specs.Linking.{Links, place_of}
-use Rattle.pli_headline.specs.ProvedSoFar.{Types, IsOwn, IsProvedNumber, IsProvedBit}
+use Rattle.pli_headline.specs.ProvedSoFar.{Types, IsOwn, IsProvedNumber, IsProvedBit, alone}
 use Rattle.image_runs.specs.Runs.{Whole}
 use Rattle.pli_headline.proofs.Engine.{Base, address, most_code}
 use Rattle.pli_headline.proofs.Linking.{times_marked, size_append}
 use Rattle.pli_headline.proofs.Items.{Linked, At, straight, Items}
-use Rattle.pli_headline.proofs.Scalars.{Typed, Fits, load_kind, store_kind}
-use Rattle.pli_headline.proofs.Bodies.{Ground, Known, PlaceFrom, reserved_are}
+use Rattle.pli_headline.proofs.Scalars.{Typed, Fits, load_kind, store_kind, IsNumeric, Values, fits_numeric}
+use Rattle.pli_headline.proofs.Bodies.{Ground, Known, PlaceFrom, Regs, reserved_are}
 use Rattle.pli_headline.proofs.Jumps.{front_of, back_of}
 use Rattle.pli_headline.proofs.Temporaries.{Temporaries, Stays, stays_same, stays_then, nothing}
 use Rattle.pli_headline.proofs.Reaching.{Reaches}
+use Rattle.pli_headline.proofs.Activations.{frames_of, RestOn, levels_of}
 use Rattle.pli_headline.proofs.Calls.{Serving}
 use Rattle.pli_headline.proofs.Raising.{Routines}
 use Rattle.pli_headline.proofs.StandingBytes.{ConstantsStand}
@@ -41,64 +44,126 @@ use Rattle.pli_headline.proofs.Variables.{IsDeclared, whole, own, data_place}
 use Rattle.pli_headline.proofs.Expressions.{Scope}
 use Rattle.pli_headline.proofs.Assignments.{assigned_state, Stores, number_stores, bit_stores, stored_piece}
 use Rattle.pli_headline.proofs.States.{Holds, holds_scalar, holds_assigned, with_number_at, NoneOwned, none_owned_changed}
+use Rattle.pli_headline.proofs.TextScopes.{IsTextAt}
+use Rattle.pli_headline.proofs.TextStates.{KeepsText, holds_text, keeps_beside}
+use Rattle.pli_headline.proofs.TextGrounds.{TextsStand}
 use Rattle.pli_headline.proofs.Since.{since_closed, comes_since}
 use Rattle.pli_headline.proofs.Reach.{Family, Aims, Comes, Closed, before_closed, comes_on, onward}
+use Rattle.pli_typing.specs.Signatures.{Bounds}
+use Rattle.pli_headline.proofs.ArrayMeant.{HoldsArray}
+use Rattle.pli_headline.proofs.ArrayScopes.{IsArrayAt, ArraysOn, array_scope}
+use Rattle.pli_headline.proofs.ArrayStates.{array_apart, arrays_beside}
 
 -- ---- a block
 
+abbrev pub owner_level : Owner → ℕ
+owner_level (BlockOwner b) = b.level
+owner_level UnitOwner = 0
+
 -- the stack above a block's frame, where blocks inside it have theirs
-pub record Stack (e : Environment) (block : ℕ) (types : Types) (base : ℕ) (ground : (ℕ → ℤ) → Ground) : Type 0 where
+pub record Stack (e : Environment) (block : ℕ) (types : Types) (base : ℕ) (ground : Values → Ground) : Type 0 where
   pub frame : ℕ
   pub free : ℕ
-  pub frame_is : (n : ℕ → ℤ) → (ground n).frame ≡ frame
-  pub free_is : (n : ℕ → ℤ) → (ground n).free ≡ free
+  pub frame_is : (n : Values) → (ground n).frame ≡ frame
+  pub free_is : (n : Values) → (ground n).free ≡ free
   pub aligned : free % 4 ≡ 0
   pub high : 7 * 2 ^ 20 ≤ free
   pub above : frame + 144 ≤ free
-  pub keeps : (n : ℕ → ℤ) (t : ℕ → ℕ) (b : Base) (m : List ℕ) (p x : ℕ) → free ≤ p → (ground n).memory t b m → (ground n).memory t b (store 4 m p x)
-  pub under : (j : ℕ) {type : Y.LeafType} → slice_get types j ≡ Some type → base + data_place e block j + 4 ≤ free
+  pub over : base < free
+  pub keeps : (n : Values) (t : ℕ → ℕ) (b : Base) (m : List ℕ) (p x : ℕ) → free ≤ p → (ground n).memory t b m → (ground n).memory t b (store 4 m p x)
+  pub under : (j : ℕ) {type : Y.LeafType} → slice_get types j ≡ Some (alone type) → base + data_place e block j + 4 ≤ free
 
--- the ground of a block by the numbers that variables hold, which stand in the main procedure's frame, the temporaries that are taken
--- while its statements run, and the labels that a GOTO there may name: those of the lists that are carried out around
+-- the frame of the main procedure, below all others, with what stands in it whatever a block does
+pub record Lowest (base : ℕ) (frames : List ℕ) (ground : Values → Ground) : Type 1 where
+  pub holds : Base → List ℕ → Type 0
+  pub aligned : base % 4 ≡ 0
+  pub room : base + 164 ≤ 15 * 2 ^ 20
+  pub own : (b : Base) (m : List ℕ) → holds b m → load 4 m (base + 36) ≡ base
+  pub kept : (n : Values) (t : ℕ → ℕ) (b : Base) (m : List ℕ) → (ground n).memory t b m → holds b m
+  pub rest : RestOn base frames
+
+-- a block that is the main procedure itself
+pub record Alone (base size : ℕ) (frames : List ℕ) (ground : Values → Ground) : Type 1 where
+  pub frames_are : frames ≡ base ∷ []
+  pub frame_is : (n : Values) → (ground n).frame ≡ base
+  pub free_is : (n : Values) → (ground n).free ≡ base + size
+
+-- the ground of the main procedure around a block, and the words that wait there
+pub record Enclosing (base size : ℕ) (ground : Values → Ground) : Type 1 where
+  pub its : Values → Ground
+  pub waits : ℕ → ℕ
+  pub frame_is : (n : Values) → (its n).frame ≡ base
+  pub free_is : (n : Values) → (its n).free ≡ base + size
+  pub kept : (n : Values) (t : ℕ → ℕ) (b : Base) (m : List ℕ) → (ground n).memory t b m → (its n).memory waits b m
+
+-- the ground of a block by what variables hold, which stand in the main procedure's frame, the temporaries that are taken
+-- while its statements run, the labels that a GOTO there may name: those of the lists that are carried out around, the frames of the
+-- blocks that are entered, the levels of those before it, and the frames of the levels around, which stand in its display
 pub record Block (e : Environment) (block : ℕ) (types : Types) : Type 1 where
-  pub ground : (ℕ → ℤ) → Ground
+  pub ground : Values → Ground
   pub words : ℕ
   pub taken : Taken
   pub labels : List Label
   pub base : ℕ
   pub within : base < memory_size
-  pub words_are : (n : ℕ → ℤ) → (ground n).words ≡ words
-  pub same : (n n' : ℕ → ℤ) (b : Base) (h : ℕ → ℕ) → reserved_are b (ground n) h ≡ reserved_are b (ground n') h
-  pub temps : (n : ℕ → ℤ) → Temporaries (ground n)
-  pub declared : (j : ℕ) {type : Y.LeafType} → slice_get types j ≡ Some type → IsDeclared e block j type
-  pub reach : (n : ℕ → ℤ) → Reaches (0 == e.level) (ground n) base
-  pub places : (j : ℕ) {type : Y.LeafType} → slice_get types j ≡ Some type → PlaceFrom base (pos (data_place e block j)) (base + data_place e block j)
-  pub reads : (n : ℕ → ℤ) (j : ℕ) {type : Y.LeafType} → slice_get types j ≡ Some type → Fits type (n j) → (t : ℕ → ℕ) (b : Base) (m : List ℕ) → (ground n).memory t b m → extended (load_kind type) (load (load_width (load_kind type)) m (base + data_place e block j)) ≡ word (n j)
-  pub writes : (n : ℕ → ℤ) (j : ℕ) (z : ℤ) {type : Y.LeafType} → slice_get types j ≡ Some type → Fits type (n j) → Fits type z → (t : ℕ → ℕ) (b : Base) (m : List ℕ) → length m ≡ memory_size → (ground n).memory t b m → (ground (with_number_at n j z)).memory t b (store (store_width (store_kind type)) m (base + data_place e block j) (word z))
+  pub words_are : (n : Values) → (ground n).words ≡ words
+  pub same : (n n' : Values) (b : Base) (h : ℕ → ℕ) → reserved_are b (ground n) h ≡ reserved_are b (ground n') h
+  pub temps : (n : Values) → Temporaries (ground n)
+  pub declared : (j : ℕ) {type : Y.LeafType} → slice_get types j ≡ Some (alone type) → IsDeclared e block j type
+  pub reach : (n : Values) → Reaches (0 == e.level) (ground n) base
+  pub places : (j : ℕ) {type : Y.LeafType} → slice_get types j ≡ Some (alone type) → PlaceFrom base (pos (data_place e block j)) (base + data_place e block j)
+  pub reads : (n : Values) (j : ℕ) {type : Y.LeafType} → slice_get types j ≡ Some (alone type) → Fits type (n.numbers j) → (t : ℕ → ℕ) (b : Base) (m : List ℕ) → (ground n).memory t b m → extended (load_kind type) (load (load_width (load_kind type)) m (base + data_place e block j)) ≡ word (n.numbers j)
+  pub writes : (n : Values) (j : ℕ) (z : ℤ) {type : Y.LeafType} → slice_get types j ≡ Some (alone type) → Fits type (n.numbers j) → Fits type z → (t : ℕ → ℕ) (b : Base) (m : List ℕ) → length m ≡ memory_size → (ground n).memory t b m → (ground (with_number_at n j z)).memory t b (store (store_width (store_kind type)) m (base + data_place e block j) (word z))
   pub held : taken.registers ≡ 0
+  pub frames : List ℕ
+  pub bottom : Lowest base frames ground
+  pub size : ℕ
+  pub ends : base + size ≤ 14 * 2 ^ 20
+  pub sized : (number : ℕ) → e.owner ≡ BlockOwner (record { number = number; level = 0 }) → frame_end e.parts e.program number 0 ≡ size
+  pub depths : List ℕ
+  pub shallow : (0 == e.level) ≡ true → depths ≡ []
+  pub deep : (0 == e.level) ≡ false → 0 < length depths
+  pub outer : List Label
+  pub alone : (0 == e.level) ≡ true → Alone base size frames ground
+  pub outside : (0 == e.level) ≡ false → Enclosing base size ground
   pub stack : Stack e block types base ground
+  pub levels : ℕ → ℕ
+  pub level_room : (j : ℕ) → j < e.level → levels j < memory_size
+  pub outermost_level : (0 == e.level) ≡ false → levels 0 ≡ base
+  pub displays : (n : Values) (t : ℕ → ℕ) (b : Base) (m : List ℕ) (j : ℕ) → j < e.level → (ground n).memory t b m → load 4 m (stack.frame + (144 + 4 * j)) ≡ b.at + levels j
+  pub texts : TextsStand e block types base stack.free ground
+  pub arrays : ArraysOn e block types base stack.free ground
 
 -- what stands beside it: the routines of raises, and constant bytes
 pub record Standing {e : Environment} {block : ℕ} {types : Types} (bl : Block e block types) (links : Links) (code : List Instr) : Type 0 where
   pub raises : Routines links code
-  pub constants : (n : ℕ → ℤ) → ConstantsStand links code (bl.ground n)
+  pub constants : (n : Values) → ConstantsStand links code (bl.ground n)
 
--- so many blocks are entered, variables hold these numbers, and all that lives is STATIC or the main procedure's
-pub record AllHold (height : ℕ) (s : State) (block : ℕ) (types : Types) (n : ℕ → ℤ) : Type 0 where
-  pub numbers : (j : ℕ) (b : Typed types j) → Holds s block j b.0 (n j)
-  pub entered : length s.activations ≡ height
+-- blocks of these levels are entered, which have these frames, variables hold these numbers and texts and arrays theirs, and all that lives is STATIC or the main procedure's
+pub record AllHold (frames : List ℕ) (xs : List Activation) (levels : List ℕ) (s : State) (block : ℕ) (types : Types) (n : Values) : Type 0 where
+  pub numbers : (j : ℕ) (b : Typed types j) → IsNumeric b.0 → Holds s block j b.0 (n.numbers j)
+  pub texts : (j : ℕ) (varying : Bool) (most : ℕ) → IsTextAt types j varying most → KeepsText s block j varying most (n.texts j)
+  pub arrays : (j : ℕ) (type : Y.LeafType) (b : Bounds) (bs : List Bounds) → IsArrayAt types j type b bs → HoldsArray s block j type (b ∷ bs) (n.arrays j)
+  pub entered : levels_of s.activations ≡ levels
+  pub framed : frames_of xs ≡ frames
   pub owned : (height' : ℕ) → 1 < height' → NoneOwned height' s.living
 
-abbrev pub scope_of : {e : Environment} {block : ℕ} {types : Types} (b : Block e block types) {s : State} (n : ℕ → ℤ) → AllHold (suc e.level) s block types n → Scope (b.ground n) e block types s n
+abbrev pub scope_of : {e : Environment} {block : ℕ} {types : Types} (b : Block e block types) {s : State} {xs : List Activation} (n : Values) → AllHold b.frames xs (e.level ∷ b.depths) s block types n → Scope (b.ground n) e block types s n
 scope_of b n all =
     record {
       declared = λ j below. b.declared j below;
-      holds = λ j {type} below. holds_scalar (all.numbers j (type, below));
+      holds = λ j {type} below numeric. holds_scalar (all.numbers j (type, below) numeric);
       base = b.base;
       within = b.within;
       reach = b.reach n;
       places = λ j below. b.places j below;
-      reads = λ j {type} below. b.reads n j below (all.numbers j (type, below)).fits;
+      reads = λ j {type} below numeric. b.reads n j below (all.numbers j (type, below) numeric).fits;
+      texts = record {
+        room = b.texts.room;
+        holds = λ j varying most at. holds_text (all.texts j varying most at);
+        reads = λ j varying most at. b.texts.reads n j varying most at;
+      };
+      arrays = λ j type c cs at. array_scope (b.arrays j type c cs at) n (all.arrays j type c cs at) (b.reach n);
     }
 
 -- ---- what a statement's code does
@@ -106,7 +171,7 @@ scope_of b n all =
 -- behind a statement: other services, a state and numbers that stand together, and what waited before it
 abbrev pub Behind : {e : Environment} {block : ℕ} {types : Types} → Block e block types → (k : ℕ) → (h t : ℕ → ℕ) → (i : ℕ) → Aims (Unit {0}) → Type 0
 Behind {e = e} {block = block} {types = types} bl k h0 t0 i aims =
-    (s : State) (v : Services) (line : ℕ) (n : ℕ → ℤ) (h t : ℕ → ℕ) (f : Family) → Serving k s v line → AllHold (suc e.level) s block types n → Stays bl.taken h0 t0 h t → ((b : Base) → At b i (Known (bl.ground n) v h t nothing b) (f b)) → aims.done i f v tt s
+    (s : State) (v : Services) (line : ℕ) (n : Values) (h t : ℕ → ℕ) (f : Family) → Serving k s v line → AllHold bl.frames v.activations (e.level ∷ bl.depths) s block types n → Stays bl.taken h0 t0 h t → ((b : Base) → At b i (Known (bl.ground n) v h t nothing b) (f b)) → aims.done i f v tt s
 
 -- a label is marked once
 abbrev pub IsMarkedOnce : Links → (block : ℕ) → Label → Type 0
@@ -117,28 +182,57 @@ pub record Landing {e : Environment} {block : ℕ} {types : Types} (bl : Block e
   pub at : ℕ
   pub place : place_of links (LabelPlace e.block label) ≡ 4 * at
   pub near : at ≤ most_code
-  pub later : 2 ≤ at
-  pub lands : (s : State) (v : Services) (line : ℕ) (n : ℕ → ℤ) (h t : ℕ → ℕ) (f : Family) → Serving k s v line → AllHold (suc e.level) s block types n → Stays bl.taken h0 t0 h t → acts < v.world.acts → ((b : Base) → At b at (Known (bl.ground n) v h t nothing b) (f b)) → jumped at f v (suc e.level) label s
+  pub later : 10 ≤ at
+  pub lands : (s : State) (v : Services) (line : ℕ) (n : Values) (h t : ℕ → ℕ) (f : Family) → Serving k s v line → AllHold bl.frames v.activations (e.level ∷ bl.depths) s block types n → Stays bl.taken h0 t0 h t → acts < v.world.acts → ((b : Base) → At b at (Known (bl.ground n) v h t nothing b) (f b)) → jumped at f v (suc (length bl.depths)) label s
 
 -- the end of a block is marked once
 abbrev pub IsEndMarkedOnce : Links → (block : ℕ) → Type 0
 IsEndMarkedOnce links block = times_marked (ReturnPlace block) links.marks ≡ 1
 
--- where a return of a procedure goes on: at the end of its block, whatever waited
-pub record Exit (e : Environment) (block : ℕ) (types : Types) (ground : (ℕ → ℤ) → Ground) (links : Links) (k : ℕ) (returned : ℕ → Family → Services → Option BasicValue → State → Type 0) : Type 0 where
+-- once so many blocks have ended
+abbrev pub ended_times : ℕ → State → State
+ended_times zero s = s
+ended_times (suc m) s = ended_times m (with_world s.world (newest_ended s))
+
+-- where a jump out of a block goes on: at a label of the main procedure, in its frame, once the blocks in it have ended
+pub record Outlet (number count base : ℕ) (block : ℕ) (types : Types) (its : Values → Ground) (waits : ℕ → ℕ) (links : Links) (k acts : ℕ) (jumped : ℕ → Family → Services → ℕ → Label → State → Type 0) (label : Label) : Type 0 where
+  pub at : ℕ
+  pub place : place_of links (LabelPlace number label) ≡ 4 * at
+  pub near : at ≤ most_code
+  pub later : 10 ≤ at
+  pub lands : (s : State) (v : Services) (line : ℕ) (n : Values) (h : ℕ → ℕ) (f : Family) → Serving k (ended_times count s) v line → AllHold (base ∷ []) v.activations (0 ∷ []) (ended_times count s) block types n → acts < v.world.acts → ((b : Base) → At b at (Known (its n) v h waits nothing b) (f b)) → jumped at f v 1 label s
+
+-- a machine in the frame of the main procedure, of which the stack isn't asked
+pub record Unwound (base : ℕ) (holds : Base → List ℕ → Type 0) (v : Services) (b : Base) (w : Whole) : Type 0 where
+  pub services : w.services ≡ v
+  pub regs : Regs ((8, b.at + base) ∷ (0, 0) ∷ []) w.machine.registers
+  pub memory : holds b w.machine.memory
+
+-- where a return goes on: at the end of the procedure, in its frame, once the blocks in it have ended among the services
+pub record Exit (number base : ℕ) (holds : Base → List ℕ → Type 0) (links : Links) (k : ℕ) (returned : ℕ → Family → Services → Option BasicValue → State → Type 0) : Type 0 where
+  pub at : ℕ
+  pub place : place_of links (ReturnPlace number) ≡ 4 * at
+  pub near : at ≤ most_code
+  pub later : 7 ≤ at
+  pub leaves : (s : State) (v : Services) (f : Family) (a : Activation) → v.world ≡ s.world → v.world.end ≡ E.Running → v.world.acts ≤ k → k + 1 < 2 ^ 64 → v.activations ≡ a ∷ [] → ((b : Base) → At b at (Unwound base holds v b) (f b)) → returned at f v None s
+
+-- where a return in a procedure's own block goes on: at the end of the procedure, in that block
+pub record OwnExit (e : Environment) (block : ℕ) (types : Types) (ground : Values → Ground) (frames depths : List ℕ) (links : Links) (k : ℕ) (returned : ℕ → Family → Services → Option BasicValue → State → Type 0) : Type 0 where
   pub at : ℕ
   pub place : place_of links (ReturnPlace e.block) ≡ 4 * at
   pub near : at ≤ most_code
-  pub later : 2 ≤ at
-  pub leaves : (s : State) (v : Services) (line : ℕ) (n : ℕ → ℤ) (h t : ℕ → ℕ) (f : Family) → Serving k s v line → AllHold (suc e.level) s block types n → ((b : Base) → At b at (Known (ground n) v h t nothing b) (f b)) → returned at f v None s
+  pub later : 10 ≤ at
+  pub leaves : (s : State) (v : Services) (line : ℕ) (n : Values) (h t : ℕ → ℕ) (f : Family) → Serving k s v line → AllHold frames v.activations (e.level ∷ depths) s block types n → ((b : Base) → At b at (Known (ground n) v h t nothing b) (f b)) → returned at f v None s
 
 -- what a part may count on where it begins: loops and jumps may make more turns than acts are allowed, the code stands behind the
 -- start, and jumps to the block's labels go on, and so does a return
 pub record Enough {e : Environment} {block : ℕ} {types : Types} (bl : Block e block types) (links : Links) (k turns i : ℕ) (h t : ℕ → ℕ) (acts : ℕ) (jumped : ℕ → Family → Services → ℕ → Label → State → Type 0) (returned : ℕ → Family → Services → Option BasicValue → State → Type 0) : Type 0 where
   pub enough : k < turns + acts
-  pub later : 2 ≤ i
+  pub later : 10 ≤ i
   pub jumps : (label : Label) → is_among label bl.labels ≡ true → IsMarkedOnce links e.block label → Landing bl links k h t acts jumped label
-  pub returns : e.level ≡ 0 → IsEndMarkedOnce links e.block → Exit e block types bl.ground links k returned
+  pub outs : (inside : (0 == e.level) ≡ false) (number : ℕ) → e.owner ≡ BlockOwner (record { number = number; level = 0 }) → (label : Label) → is_among label bl.outer ≡ true → IsMarkedOnce links number label → Outlet number (length bl.depths) bl.base block types (bl.outside inside).its (bl.outside inside).waits links k acts jumped label
+  pub returns : (number : ℕ) → e.owner ≡ BlockOwner (record { number = number; level = 0 }) → IsEndMarkedOnce links number → Exit number bl.base bl.bottom.holds links k returned
+  pub own : (0 == e.level) ≡ false → e.owner ≡ BlockOwner (record { number = e.block; level = e.level }) → IsEndMarkedOnce links e.block → OwnExit e block types bl.ground bl.frames bl.depths links k returned
 
 -- the same further on
 pub further : {e : Environment} {block : ℕ} {types : Types} {bl : Block e block types} {links : Links} {k turns i : ℕ} {h t : ℕ → ℕ} {acts : ℕ} {jumped : ℕ → Family → Services → ℕ → Label → State → Type 0} {returned : ℕ → Family → Services → Option BasicValue → State → Type 0} {i' : ℕ} {h' t' : ℕ → ℕ} {acts' : ℕ} → Enough bl links k turns i h t acts jumped returned → i ≤ i' → acts ≤ acts' → Stays bl.taken h t h' t' → Enough bl links k turns i' h' t' acts' jumped returned
@@ -155,26 +249,52 @@ further more behind grown stays =
             later = o.later;
             lands = λ s v line n h'' t'' f serving all stays' acted' at'. o.lands s v line n h'' t'' f serving all (stays_then stays stays') (omega (arith, grown, acted')) at';
           };
+      outs = λ inside number owned label among once.
+          let o = more.outs inside number owned label among once in
+          record {
+            at = o.at;
+            place = o.place;
+            near = o.near;
+            later = o.later;
+            lands = λ s v line n h'' f serving all acted' at'. o.lands s v line n h'' f serving all (omega (arith, grown, acted')) at';
+          };
       returns = more.returns;
+      own = more.own;
     }
 
 -- from wherever a block's variables stand, a part's code does what the part means
 pub record Does {e : Environment} {block : ℕ} {types : Types} (bl : Block e block types) (links : Links) (code : List Instr) (turns : ℕ) (part : Code) (meaning : Meaning (Unit {0})) : Type 1 where
-  pub does : {i : ℕ} {s : State} {v : Services} {h t : ℕ → ℕ} {aims : Aims (Unit {0})} (closed : Closed code aims) (line : ℕ) (n : ℕ → ℤ) (f : Family) (k : ℕ) → Linked links code i part → Serving k s v line → AllHold (suc e.level) s block types n → ((b : Base) → At b i (Known (bl.ground n) v h t nothing b) (f b)) → Behind bl k h t (i + size_of part) aims → Enough bl links k turns i h t v.world.acts aims.jumped aims.returned → Comes code i f v aims (meaning k s)
+  pub does : {i : ℕ} {s : State} {v : Services} {h t : ℕ → ℕ} {aims : Aims (Unit {0})} (closed : Closed code aims) (line : ℕ) (n : Values) (f : Family) (k : ℕ) → Linked links code i part → Serving k s v line → AllHold bl.frames v.activations (e.level ∷ bl.depths) s block types n → ((b : Base) → At b i (Known (bl.ground n) v h t nothing b) (f b)) → Behind bl k h t (i + size_of part) aims → Enough bl links k turns i h t v.world.acts aims.jumped aims.returned → Comes code i f v aims (meaning k s)
 
 counted_holds : {s : State} {block j : ℕ} {type : Y.LeafType} {z : ℤ} (w : World) → Holds s block j type z → Holds (with_world w s) block j type z
 counted_holds w h = record { values = h.values; stands = h.stands; lives = h.lives; value = h.value; fits = h.fits }
 
-pub counted_all : {height : ℕ} {s : State} {block : ℕ} {types : Types} {n : ℕ → ℤ} (w : World) → AllHold height s block types n → AllHold height (with_world w s) block types n
+counted_keeps : {s : State} {block j : ℕ} {varying : Bool} {most : ℕ} {text : List ℕ} (w : World) → KeepsText s block j varying most text → KeepsText (with_world w s) block j varying most text
+counted_keeps w h = record { values = h.values; stands = h.stands; lives = h.lives; value = h.value; short = h.short }
+
+counted_array : {s : State} {block j : ℕ} {type : Y.LeafType} {bs : List Bounds} {n : ℕ → ℤ} (w : World) → HoldsArray s block j type bs n → HoldsArray (with_world w s) block j type bs n
+counted_array w h = record { values = h.values; numeric = h.numeric; stands = h.stands; lives = h.lives; value = h.value; fits = h.fits }
+
+pub counted_all : {frames : List ℕ} {xs : List Activation} {levels : List ℕ} {s : State} {block : ℕ} {types : Types} {n : Values} (w : World) → AllHold frames xs levels s block types n → AllHold frames xs levels (with_world w s) block types n
 counted_all w all =
-    record { numbers = λ j below. counted_holds w (all.numbers j below); entered = all.entered; owned = all.owned }
+    record {
+      numbers = λ j b numeric. counted_holds w (all.numbers j b numeric);
+      texts = λ j varying most at. counted_keeps w (all.texts j varying most at);
+      arrays = λ j type b bs at. counted_array w (all.arrays j type b bs at);
+      entered = all.entered;
+      framed = all.framed;
+      owned = all.owned;
+    }
 
 -- the numbers after one is assigned
-pub assigned_all : {height : ℕ} {s : State} {block : ℕ} {types : Types} {n : ℕ → ℤ} (j : ℕ) {type : Y.LeafType} (z : ℤ) (below : slice_get types j ≡ Some type) → Fits type z → (all : AllHold height s block types n) → AllHold height (assigned_state s type (suc j) (all.numbers j (type, below)).values z) block types (with_number_at n j z)
+pub assigned_all : {frames : List ℕ} {xs : List Activation} {levels : List ℕ} {s : State} {block : ℕ} {types : Types} {n : Values} (j : ℕ) {type : Y.LeafType} (z : ℤ) (below : slice_get types j ≡ Some (alone type)) (fits : Fits type z) (all : AllHold frames xs levels s block types n) → AllHold frames xs levels (assigned_state s type (suc j) (all.numbers j (type, below) (fits_numeric type z fits)).values z) block types (with_number_at n j z)
 assigned_all {s = s} {types = types} {n = n} j {type} z below fits all =
     record {
-      numbers = λ i b. holds_assigned types n z below fits (all.numbers j (type, below)) all.numbers i b;
+      numbers = λ i b numeric. holds_assigned types n z below fits (all.numbers j (type, below) (fits_numeric type z fits)) all.numbers i b numeric;
+      texts = λ i varying most at. keeps_beside types z below (fits_numeric type z fits) (all.numbers j (type, below) (fits_numeric type z fits)) at (all.texts i varying most at);
+      arrays = λ i other b bs at. arrays_beside type j (all.numbers j (type, below) (fits_numeric type z fits)).values z (array_apart types i j type other b bs below at) (all.arrays i other b bs at);
       entered = all.entered;
+      framed = all.framed;
       owned = λ height' above. none_owned_changed height' (suc j) _ s.living (all.owned height' above);
     }
 
@@ -187,7 +307,7 @@ null_does bl links code around line fits =
     }
 
 -- an assignment of a value that fits its target, a variable of the block
-pub assign_does : {e : Environment} {block : ℕ} {types : Types} (bl : Block e block types) (links : Links) (code : List Instr) (routines : Standing bl links code) (around : Around) (j : ℕ) {type : Y.LeafType} (source : Y.Stored) (line words : ℕ) (below : slice_get types j ≡ Some type) → ((v : Services) (s : State) (k : ℕ) (n : ℕ → ℤ) → AllHold (suc e.level) s block types n → Serving k s v line → Stores links code (bl.ground n) v s k words type (λ taken. stored_code e taken source) (V.stored_value (at_line around line) source)) → stored_into e bl.taken (whole (own block j)) source ≡ word_stored e bl.taken (whole (own block j)) → bl.taken.words + 1 ≤ bl.words → bl.taken.words + words ≤ bl.words → line < 2 ^ 31 → Does bl links code around.turns (act_code line ++ assigned_code e bl.taken (whole (own block j)) source) (M.statement around (Y.Assign (whole (own block j)) source line))
+pub assign_does : {e : Environment} {block : ℕ} {types : Types} (bl : Block e block types) (links : Links) (code : List Instr) (routines : Standing bl links code) (around : Around) (j : ℕ) {type : Y.LeafType} (source : Y.Stored) (line words : ℕ) (below : slice_get types j ≡ Some (alone type)) → ((v : Services) (s : State) (k : ℕ) (n : Values) → AllHold bl.frames v.activations (e.level ∷ bl.depths) s block types n → Serving k s v line → Stores links code (bl.ground n) v s k words type (λ taken. stored_code e taken source) (V.stored_value (at_line around line) source)) → stored_into e bl.taken (whole (own block j)) source ≡ word_stored e bl.taken (whole (own block j)) → bl.taken.words + 1 ≤ bl.words → bl.taken.words + words ≤ bl.words → line < 2 ^ 31 → Does bl links code around.turns (act_code line ++ assigned_code e bl.taken (whole (own block j)) source) (M.statement around (Y.Assign (whole (own block j)) source line))
 unfolding M.statement ◌>>=◌ ◌>>◌
 assign_does {e} {block} {types} bl links code routines around j {type} source line words below stores into some room fits =
     record {
@@ -211,14 +331,14 @@ assign_does {e} {block} {types} bl links code routines around j {type} source li
           (act_piece (before_closed k next' closed) f line old k fits (front_of front rest l) serving at
           (λ f1 serving1 at1.
           let s1 = with_world (counted s.world) s in
-          let all1 : AllHold (suc e.level) s1 block types n = counted_all _ all in
+          let all1 : AllHold bl.frames v.activations (e.level ∷ bl.depths) s1 block types n = counted_all _ all in
           comes_on k (V.stored_value here source k s1) store
           ((stores _ s1 k n all1 serving1).does (before_closed k store closed) f1 bl.taken (omega (arith, room, w)) (front_of valued' (stored_into e bl.taken target source) l1) at1
           (λ z f2 h2 t2 fits2 stays2 at2.
           stored_piece (bl.ground (with_number_at n j z)) closed (bl.temps n) (i + size_of front + size_of valued') e block types n f2 here bl.taken j z k below fits2 (λ none. omega (arith, some, w)) (scope_of bl n all1)
-          (λ b h'. bl.same n (with_number_at n j z) b h') (λ t' b m len o. bl.writes n j z below (all1.numbers j (type, below)).fits fits2 t' b m len o) ll at2
+          (λ b h'. bl.same n (with_number_at n j z) b h') (λ t' b m len o. bl.writes n j z below (all1.numbers j (type, below) (fits_numeric type z fits2)).fits fits2 t' b m len o) ll at2
           (λ f3 h3 t3 stays3 at3.
-          let s2 = assigned_state s1 type (suc j) (all1.numbers j (type, below)).values z in
+          let s2 = assigned_state s1 type (suc j) (all1.numbers j (type, below) (fits_numeric type z fits2)).values z in
           subst (λ u. aims.done u f3 (acted line v) tt s2) (sym place)
           (goal s2 (acted line v) line (with_number_at n j z) h3 t3 f3
           (record { world = serving1.world; running = serving1.running; line_is = serving1.line_is; input = serving1.input; allowed = serving1.allowed; fits = serving1.fits; nested = serving1.nested; waiting = serving1.waiting })
@@ -232,14 +352,14 @@ assign_number_does {e} {block} {types} bl links code routines around r p x line 
     let least = le-max_left 1 (number_words x) in
     subst (λ q. Does bl links code around.turns (act_code line ++ assigned_code e bl.taken q (Y.StoredNumber p x)) (M.statement around (Y.Assign q (Y.StoredNumber p x) line))) (sym own'.is)
     (assign_does bl links code routines around own'.index (Y.StoredNumber p x) line (max 1 (number_words x)) own'.declared
-    (λ v s k n all serving. number_stores {e = e} {block = block} {types = types} {numbers = n} {around = at_line around line} p x (all.numbers own'.index (Y.FixedLeaf p, own'.declared)).fits.0 (record { routines = routines.raises; constants = routines.constants n; temps = bl.temps n; scope = scope_of bl n all; serving = serving }) is)
+    (λ v s k n all serving. number_stores {e = e} {block = block} {types = types} {held = n} {around = at_line around line} p x (all.numbers own'.index (Y.FixedLeaf p, own'.declared) tt).fits.0 (record { routines = routines.raises; constants = routines.constants n; temps = bl.temps n; scope = scope_of bl n all; serving = serving }) is)
     refl (omega (arith, room, least)) room fits)
 
 pub assign_bit_does : {e : Environment} {block : ℕ} {types : Types} (bl : Block e block types) (links : Links) (code : List Instr) (routines : Standing bl links code) (around : Around) (r : Y.Reference) (x : Y.Bit) (line : ℕ) → IsOwn block types Y.BitLeaf r → IsProvedBit block types x → bl.taken.words + 1 ≤ bl.words → bl.taken.words + bit_words x ≤ bl.words → line < 2 ^ 31 → Does bl links code around.turns (act_code line ++ assigned_code e bl.taken r (Y.StoredBit x)) (M.statement around (Y.Assign r (Y.StoredBit x) line))
 assign_bit_does {e} {block} {types} bl links code routines around r x line own' is some room fits =
     subst (λ q. Does bl links code around.turns (act_code line ++ assigned_code e bl.taken q (Y.StoredBit x)) (M.statement around (Y.Assign q (Y.StoredBit x) line))) (sym own'.is)
     (assign_does bl links code routines around own'.index (Y.StoredBit x) line (bit_words x) own'.declared
-    (λ v s k n all serving. bit_stores {e = e} {block = block} {types = types} {numbers = n} {around = at_line around line} x (record { routines = routines.raises; constants = routines.constants n; temps = bl.temps n; scope = scope_of bl n all; serving = serving }) is)
+    (λ v s k n all serving. bit_stores {e = e} {block = block} {types = types} {held = n} {around = at_line around line} x (record { routines = routines.raises; constants = routines.constants n; temps = bl.temps n; scope = scope_of bl n all; serving = serving }) is)
     refl some room fits)
 
 -- ---- labels stand in the code without a word

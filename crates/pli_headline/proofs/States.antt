@@ -8,12 +8,20 @@ use Rattle.pli_meaning.specs.BasicValues.{BasicValue}
 use Rattle.pli_meaning.specs.Contents.{Generation}
 use Rattle.pli_meaning.specs.StorageState.{State, Living, generation_of, living_of, living_changed, generation_changed, standing_for, if_same_shape}
 use Rattle.pli_meaning.specs.Placing as P
-use Rattle.pli_headline.proofs.Scalars.{IsNumeric, Typed, by_type, value_as, Fits, fits_numeric}
+use Rattle.pli_headline.specs.ProvedSoFar.{Types, Kind, alone}
+use Rattle.pli_headline.proofs.Changes.{changed_same, changed_other}
+use Rattle.pli_headline.proofs.Scalars.{IsNumeric, Values, Typed, by_type, value_as, Fits, fits_numeric}
 use Rattle.pli_headline.proofs.Variables.{HoldsScalar, own, scalar_binding, scalar_generation, scalar_shape, same_scalar, designated_scalar}
 use Rattle.pli_headline.proofs.Assignments.{assigned_state}
 
-abbrev pub with_number_at : (ℕ → ℤ) → ℕ → ℤ → ℕ → ℤ
-with_number_at numbers j z i = if i == j then z else numbers i
+-- what variables hold when one is assigned a number, or a text
+abbrev pub with_number_at : Values → ℕ → ℤ → Values
+with_number_at n j z =
+    record { numbers = λ i. if i == j then z else n.numbers i; texts = n.texts; arrays = n.arrays }
+
+abbrev pub with_text_at : Values → ℕ → List ℕ → Values
+with_text_at n j text =
+    record { numbers = n.numbers; texts = λ i. if i == j then text else n.texts i; arrays = n.arrays }
 
 -- a variable of the block stands for a generation that holds the value of a number
 pub record Holds (s : State) (block j : ℕ) (type : Y.LeafType) (z : ℤ) : Type 0 where
@@ -26,34 +34,6 @@ pub record Holds (s : State) (block j : ℕ) (type : Y.LeafType) (z : ℤ) : Typ
 abbrev pub holds_scalar : {s : State} {block j : ℕ} {type : Y.LeafType} {z : ℤ} → Holds s block j type z → HoldsScalar s (own block j) type z
 holds_scalar {j = j} {type = type} {z = z} h =
     record { serial = suc j; values = h.values; stands = h.stands; lives = ap (if_same_shape (scalar_shape type)) h.lives ∙ ap (λ t. cond t (Some (scalar_generation type h.values)) None) (same_scalar type (fits_numeric type z h.fits)); value = h.value; fits = h.fits }
-
--- ---- what lives after a change
-
-changed_same_by : (q : Bool) (l : Living) (ls : List Living) (n : ℕ) (change : Generation → Generation) (g : Generation) → (l.serial == n) ≡ q → generation_of (cond q (Some l) (living_of ls n)) ≡ Some g → (generation_of (living_of ls n) ≡ Some g → generation_of (living_of (living_changed n (generation_changed change) ls) n) ≡ Some (change g)) → generation_of (living_of (cond q (generation_changed change l ∷ ls) (l ∷ living_changed n (generation_changed change) ls)) n) ≡ Some (change g)
-changed_same_by true l ls n change g e h ih =
-    let f : l.generation ≡ g = cc h in
-    ap (λ u. generation_of (cond u (Some (generation_changed change l)) (living_of ls n))) e ∙ ap (λ u. Some (change u)) f
-changed_same_by false l ls n change g e h ih =
-    ap (λ u. generation_of (cond u (Some l) (living_of (living_changed n (generation_changed change) ls) n))) e ∙ ih h
-
-pub changed_same : (ls : List Living) (n : ℕ) (change : Generation → Generation) (g : Generation) → generation_of (living_of ls n) ≡ Some g → generation_of (living_of (living_changed n (generation_changed change) ls) n) ≡ Some (change g)
-changed_same [] n change g h = absurd (cc h)
-changed_same (l ∷ ls) n change g h = changed_same_by (l.serial == n) l ls n change g refl h (λ u. changed_same ls n change g u)
-
-changed_other_by : (q : Bool) (l : Living) (ls : List Living) (n m : ℕ) (change : Generation → Generation) → (n == m) ≡ false → (l.serial == n) ≡ q → generation_of (living_of (living_changed n (generation_changed change) ls) m) ≡ generation_of (living_of ls m) → generation_of (living_of (cond q (generation_changed change l ∷ ls) (l ∷ living_changed n (generation_changed change) ls)) m) ≡ generation_of (cond (l.serial == m) (Some l) (living_of ls m))
-changed_other_by true l ls n m change other e ih =
-    let same : l.serial ≡ n = eqb-true l.serial n e in
-    let f : (l.serial == m) ≡ false = ap (λ u. u == m) same ∙ other in
-    ap (λ u. generation_of (cond u (Some (generation_changed change l)) (living_of ls m))) f ∙ sym (ap (λ u. generation_of (cond u (Some l) (living_of ls m))) f)
-changed_other_by false l ls n m change other e ih = by_serial (l.serial == m)
-  where
-    by_serial : (p : Bool) → generation_of (cond p (Some l) (living_of (living_changed n (generation_changed change) ls) m)) ≡ generation_of (cond p (Some l) (living_of ls m))
-    by_serial true = refl
-    by_serial false = ih
-
-pub changed_other : (ls : List Living) (n m : ℕ) (change : Generation → Generation) → (n == m) ≡ false → generation_of (living_of (living_changed n (generation_changed change) ls) m) ≡ generation_of (living_of ls m)
-changed_other [] n m change other = refl
-changed_other (l ∷ ls) n m change other = changed_other_by (l.serial == n) l ls n m change other refl (changed_other ls n m change other)
 
 -- ---- owners
 
@@ -97,12 +77,16 @@ holds_by {s} {block} {j} {type} false i other x z e alike fits h y o =
     record { values = o.values; stands = o.stands; lives = changed_other s.living (suc j) (suc i) change apart ∙ o.lives; value = o.value; fits = o.fits }
 
 -- the types of a place are one
-pub one_type : (types : List Y.LeafType) (i j : ℕ) (type other : Y.LeafType) → slice_get types j ≡ Some type → slice_get types i ≡ Some other → i ≡ j → other ≡ type
+pub one_type : (types : Types) (i j : ℕ) (type other : Kind) → slice_get types j ≡ Some type → slice_get types i ≡ Some other → i ≡ j → other ≡ type
 one_type types i j type other h k e =
     let both : Some other ≡ Some type = sym k ∙ ap (λ n. slice_get types n) e ∙ h in
     cc both
 
+-- and so of two scalars
+pub one_alone : (types : Types) (i j : ℕ) (type other : Y.LeafType) → slice_get types j ≡ Some (alone type) → slice_get types i ≡ Some (alone other) → i ≡ j → other ≡ type
+one_alone types i j type other h k e = ap (λ (u : Kind). u.type) (one_type types i j (alone type) (alone other) h k e)
+
 -- the numbers after one is assigned
-pub holds_assigned : {s : State} {block j : ℕ} (types : List Y.LeafType) {type : Y.LeafType} (numbers : ℕ → ℤ) (z : ℤ) (below : slice_get types j ≡ Some type) → Fits type z → (h : Holds s block j type (numbers j)) → ((i : ℕ) (b : Typed types i) → Holds s block i b.0 (numbers i)) → (i : ℕ) (b : Typed types i) → Holds (assigned_state s type (suc j) h.values z) block i b.0 (with_number_at numbers j z i)
-holds_assigned {j = j} types {type} numbers z below fits h all i b =
-    holds_by (i == j) i b.0 (numbers j) z refl (one_type types i j type b.0 below b.1) fits h (numbers i) (all i b)
+pub holds_assigned : {s : State} {block j : ℕ} (types : Types) {type : Y.LeafType} (n : Values) (z : ℤ) (below : slice_get types j ≡ Some (alone type)) → Fits type z → (h : Holds s block j type (n.numbers j)) → ((i : ℕ) (b : Typed types i) → IsNumeric b.0 → Holds s block i b.0 (n.numbers i)) → (i : ℕ) (b : Typed types i) → IsNumeric b.0 → Holds (assigned_state s type (suc j) h.values z) block i b.0 ((with_number_at n j z).numbers i)
+holds_assigned {j = j} types {type} n z below fits h all i b numeric =
+    holds_by (i == j) i b.0 (n.numbers j) z refl (one_alone types i j type b.0 below b.1) fits h (n.numbers i) (all i b numeric)

@@ -99,7 +99,7 @@ replaced zero v (x ∷ xs) = v ∷ xs
 replaced (suc n) v (x ∷ xs) = x ∷ replaced n v xs
 
 -- a register that holds temporaries gets a value
-held_put : (n : ℕ) (g : Ground) (b : Base) (h x : ℕ → ℕ) (v : ℕ) → n < 7 → reserved x ≡ reserved_are b g h → reserved (written x (held n).index v) ≡ reserved_are b g (put h n v)
+pub held_put : (n : ℕ) (g : Ground) (b : Base) (h x : ℕ → ℕ) (v : ℕ) → n < 7 → reserved x ≡ reserved_are b g h → reserved (written x (held n).index v) ≡ reserved_are b g (put h n v)
 held_put (zero) g b h x v l e = ap (replaced 3 v) e
 held_put (suc zero) g b h x v l e = ap (replaced 4 v) e
 held_put (suc (suc zero)) g b h x v l e = ap (replaced 5 v) e
@@ -109,7 +109,7 @@ held_put (suc (suc (suc (suc (suc zero))))) g b h x v l e = ap (replaced 8 v) e
 held_put (suc (suc (suc (suc (suc (suc zero)))))) g b h x v l e = ap (replaced 9 v) e
 held_put (suc (suc (suc (suc (suc (suc (suc n))))))) g b h x v l e = absurd (omega (arith, l))
 
-held_is : (n : ℕ) (g : Ground) (b : Base) (h x : ℕ → ℕ) → n < 7 → reserved x ≡ reserved_are b g h → x (held n).index ≡ h n
+pub held_is : (n : ℕ) (g : Ground) (b : Base) (h x : ℕ → ℕ) → n < 7 → reserved x ≡ reserved_are b g h → x (held n).index ≡ h n
 held_is (zero) g b h x l e = ap (nth 3) e
 held_is (suc zero) g b h x l e = ap (nth 4) e
 held_is (suc (suc zero)) g b h x l e = ap (nth 5) e

@@ -1,5 +1,5 @@
 -- The tests of a turn of DO with a variable that counts: the limit, and then WHILE.
-use Rattle.std.proofs.Common.{◌≡◌, ℕ, suc, ◌+◌, ◌≤◌, List, [], ◌∷◌, ◌++◌, length, Option, None, Some, Bool, true, false, refl, sym, ap, ◌∙◌, subst, arith}
+use Rattle.std.proofs.Common.{◌≡◌, ℕ, ◌+◌, ◌≤◌, List, [], ◌∷◌, ◌++◌, length, Option, None, Some, Bool, true, false, refl, sym, ap, ◌∙◌, subst, arith, inl}
 use Rattle.std.specs.Prelude.{ℤ, ◌==◌, slice_get, if◌then◌else◌}
 use Rattle.rv_meaning.specs.declared.instr.Instr.{Instr}
 use Rattle.rv_meaning.specs.declared.instr.RegisterOp.TheVariants as Op
@@ -20,7 +20,7 @@ use Rattle.pli_coding.specs.Environments.{Environment, Taken}
 use Rattle.pli_coding.specs.Expressions.{number_code, bit_code}
 use Rattle.pli_coding.specs.Statements.{limit_place, step_place, in_turns, counter_read, limit_tested, limit_kept, while_kept, bit_if}
 use Rattle.pli_coding.specs.Linking.{Links}
-use Rattle.pli_headline.specs.ProvedSoFar.{Types, IsOwnNumber, IsProvedBitIf}
+use Rattle.pli_headline.specs.ProvedSoFar.{Types, IsProvedBitIf, alone, IsProvedNumber}
 use Rattle.pli_headline.proofs.Engine.{Base, address}
 use Rattle.pli_headline.proofs.Linking.{size_append}
 use Rattle.pli_headline.proofs.Items.{Linked, At}
@@ -36,13 +36,14 @@ use Rattle.pli_headline.proofs.Statements.{Standing, Block, AllHold}
 use Rattle.pli_headline.proofs.Ifs.{free_far, setting}
 use Rattle.pli_headline.proofs.Limits.{limit_piece}
 use Rattle.pli_headline.proofs.Reach.{Family, Aims, Comes, Closed, before_closed, comes_on, reached, reached_holds}
+use Rattle.pli_headline.proofs.Scalars.{Values}
 
 -- a variable of the block that counts
 abbrev pub counting : (block j p : ℕ) → Y.Counter
 counting block j p = Y.NumberCounter p (whole (own block j))
 
 -- what a test comes to: it is met behind its code, or the turns are over at a place
-abbrev pub Met : {e : Environment} {block : ℕ} {types : Types} → Block e block types → (ℕ → ℤ) → Services → State → (h t : ℕ → ℕ) → (met over : ℕ) → Aims Bool → Type 0
+abbrev pub Met : {e : Environment} {block : ℕ} {types : Types} → Block e block types → Values → Services → State → (h t : ℕ → ℕ) → (met over : ℕ) → Aims Bool → Type 0
 Met bl n v s h t met over aims =
     ((f : Family) (h' t' : ℕ → ℕ) → Stays (in_turns bl.taken) h t h' t' → ((b : Base) → At b met (Known (bl.ground n) v h' t' nothing b) (f b)) → aims.done met f v true s)
     × ((f : Family) (h' t' : ℕ → ℕ) → Stays (in_turns bl.taken) h t h' t' → ((b : Base) → At b over (Known (bl.ground n) v h' t' nothing b) (f b)) → aims.done over f v false s)
@@ -90,7 +91,7 @@ condition_size e taken (Some x) c d =
     size_append (bit_code e (in_turns taken) x) (skip_where Test.NotEqual a0 zero_register (JumpAhead c ∷ []))
     ∙ sym (size_append (bit_code e (in_turns taken) x) (skip_where Test.NotEqual a0 zero_register (JumpAhead d ∷ [])))
 
-pub within_piece : {links : Links} {code : List Instr} {i : ℕ} {v : Services} {h t : ℕ → ℕ} {s : State} {aims : Aims Bool} {e : Environment} {block : ℕ} {types : Types} (bl : Block e block types) (routines : Standing bl links code) (around : Around) (j p : ℕ) (limit : Option Y.Number) (most : Option ℤ) (step : ℤ) (behind : ℕ) (closed : Closed code aims) (n : ℕ → ℤ) (f : Family) (k : ℕ) → slice_get types j ≡ Some (Y.FixedLeaf p) → LimitWaits limit most t bl.taken.words → IsWide step → t (bl.taken.words + 1) ≡ word step → bl.taken.words + 2 ≤ bl.words → i + size_of (limit_kept e bl.taken (counting block j p) limit behind) + behind ≤ length code → Linked links code i (limit_kept e bl.taken (counting block j p) limit behind) → Serving k s v around.line → AllHold (suc e.level) s block types n → ((b : Base) → At b i (Known (bl.ground n) v h t nothing b) (f b)) → Met bl n v s h t (i + size_of (limit_kept e bl.taken (counting block j p) limit behind)) (i + size_of (limit_kept e bl.taken (counting block j p) limit behind) + behind) aims → Comes code i f v aims (M.within_limit around (counting block j p) most step k s)
+pub within_piece : {links : Links} {code : List Instr} {i : ℕ} {v : Services} {h t : ℕ → ℕ} {s : State} {aims : Aims Bool} {e : Environment} {block : ℕ} {types : Types} (bl : Block e block types) (routines : Standing bl links code) (around : Around) (j p : ℕ) (limit : Option Y.Number) (most : Option ℤ) (step : ℤ) (behind : ℕ) (closed : Closed code aims) (n : Values) (f : Family) (k : ℕ) → slice_get types j ≡ Some (alone (Y.FixedLeaf p)) → LimitWaits limit most t bl.taken.words → IsWide step → t (bl.taken.words + 1) ≡ word step → bl.taken.words + 2 ≤ bl.words → i + size_of (limit_kept e bl.taken (counting block j p) limit behind) + behind ≤ length code → Linked links code i (limit_kept e bl.taken (counting block j p) limit behind) → Serving k s v around.line → AllHold bl.frames v.activations (e.level ∷ bl.depths) s block types n → ((b : Base) → At b i (Known (bl.ground n) v h t nothing b) (f b)) → Met bl n v s h t (i + size_of (limit_kept e bl.taken (counting block j p) limit behind)) (i + size_of (limit_kept e bl.taken (counting block j p) limit behind) + behind) aims → Comes code i f v aims (M.within_limit around (counting block j p) most step k s)
 unfolding M.within_limit M.counter_number V.number ◌>>=◌ give
 within_piece {i = i} {v = v} {h = h} {t = t} {s = s} {aims = aims} bl routines around j p None None step behind closed n f k below waits ws at_step room inside l serving all at met =
     let same : i ≡ i + 0 = omega arith in
@@ -99,7 +100,7 @@ within_piece {code = code} {i = i} {v = v} {h = h} {t = t} {s = s} {aims = aims}
     let target = whole (own block j) in
     let a = number_code e (in_turns bl.taken) (Y.NumberIn target) in
     let c = limit_tested bl.taken behind in
-    let mine : IsOwnNumber block types target = record { precision = p; own = record { index = j; declared = below; is = refl } } in
+    let mine : IsProvedNumber block types (Y.NumberIn target) = (record { precision = p; part = inl (record { index = j; declared = below; is = refl }) }, tt) in
     let size = size_append a c in
     let place : i + size_of a + size_of c ≡ i + size_of (a ++ c) = omega (arith, size) in
     let place' : i + size_of a + size_of c + behind ≡ i + size_of (a ++ c) + behind = omega (arith, size) in
@@ -130,7 +131,7 @@ kept_by {i = i} {v = v} {aims = aims} s false closed f behind inside l at met ov
     let there : i + 1 + (2 + behind) ≡ i + 3 + behind = omega arith in
     closed.done r false s (closed.done q false s (subst (λ u. aims.done u (reached q) v false s) (sym there) (over (reached q) (λ b. let o = reached_holds q b in record { pc = o.pc ∙ ap (address b) there; holds = o.holds }))))
 
-pub condition_piece : {links : Links} {code : List Instr} {i : ℕ} {v : Services} {h t : ℕ → ℕ} {s : State} {aims : Aims Bool} {e : Environment} {block : ℕ} {types : Types} (bl : Block e block types) (routines : Standing bl links code) (around : Around) (condition : Option Y.Bit) (behind : ℕ) (closed : Closed code aims) (n : ℕ → ℤ) (f : Family) (k : ℕ) → IsProvedBitIf block types condition → bl.taken.words + 2 + bit_if condition ≤ bl.words → i + size_of (while_kept e bl.taken condition behind) + behind ≤ length code → Linked links code i (while_kept e bl.taken condition behind) → Serving k s v around.line → AllHold (suc e.level) s block types n → ((b : Base) → At b i (Known (bl.ground n) v h t nothing b) (f b)) → Met bl n v s h t (i + size_of (while_kept e bl.taken condition behind)) (i + size_of (while_kept e bl.taken condition behind) + behind) aims → Comes code i f v aims (M.condition_met around condition k s)
+pub condition_piece : {links : Links} {code : List Instr} {i : ℕ} {v : Services} {h t : ℕ → ℕ} {s : State} {aims : Aims Bool} {e : Environment} {block : ℕ} {types : Types} (bl : Block e block types) (routines : Standing bl links code) (around : Around) (condition : Option Y.Bit) (behind : ℕ) (closed : Closed code aims) (n : Values) (f : Family) (k : ℕ) → IsProvedBitIf block types condition → bl.taken.words + 2 + bit_if condition ≤ bl.words → i + size_of (while_kept e bl.taken condition behind) + behind ≤ length code → Linked links code i (while_kept e bl.taken condition behind) → Serving k s v around.line → AllHold bl.frames v.activations (e.level ∷ bl.depths) s block types n → ((b : Base) → At b i (Known (bl.ground n) v h t nothing b) (f b)) → Met bl n v s h t (i + size_of (while_kept e bl.taken condition behind)) (i + size_of (while_kept e bl.taken condition behind) + behind) aims → Comes code i f v aims (M.condition_met around condition k s)
 unfolding M.condition_met give
 condition_piece {i = i} {v = v} {h = h} {t = t} {s = s} {aims = aims} bl routines around None behind closed n f k is room inside l serving all at met =
     let same : i ≡ i + 0 = omega arith in

@@ -1,5 +1,5 @@
 -- Service 7 for a scalar: what it answers within the limit on automatic data and past it, and what stands in memory then.
-use Rattle.std.proofs.Common.{◌≡◌, ℕ, suc, ◌+◌, ◌-◌, ◌*◌, ◌%◌, ◌^◌, ◌<◌, ◌≤◌, inl, inr, List, [], ◌∷◌, ◌++◌, length, map, Bool, true, false, refl, sym, ap, ◌∙◌, subst, arith, add-one}
+use Rattle.std.proofs.Common.{◌≡◌, ℕ, suc, ◌+◌, ◌-◌, ◌*◌, ◌%◌, ◌^◌, ◌<◌, ◌≤◌, inl, inr, List, [], ◌∷◌, ◌++◌, length, map, Bool, true, false, refl, sym, ap, ◌∙◌, subst, arith, add-one, length-append}
 use Rattle.std.specs.Prelude.{ℤ, pos, cond, ◌==◌, ◌&&◌, nat_lt, nat_le, replicate, slice_index}
 use Rattle.std.proofs.lemmas.Bool.{lt-ltb, le-ltb, le-leb, eqb-true}
 use Rattle.std.proofs.lemmas.Bool.Decides.{nat_tests}
@@ -10,17 +10,20 @@ use Rattle.rv_meaning.specs.Tables.{TableSignature}
 use Rattle.pli_meaning.specs.declared.outcome.End.TheVariants as E
 use Rattle.pli_meaning.specs.declared.outcome.Limit.TheVariants as L
 use Rattle.pli_meaning.specs.World.{ending}
-use Rattle.pli_meaning.specs.BasicValues.{VariableName}
-use Rattle.pli_typing.specs.Signatures.{rounded_up}
+use Rattle.pli_meaning.specs.BasicValues.{VariableName, BasicText}
+use Rattle.pli_typing.specs.Signatures.{Character, Varying, rounded_up, Bounds, element_count}
+use Rattle.pli_language.specs.Tree as T
+use Rattle.pli_meaning.specs.Texts.{fitted}
+use Rattle.std.proofs.lemmas.List.{length-replicate}
 use Rattle.pli_typing.specs.TypedTree as Y
 use Rattle.pli_meaning.specs.Contents.{footprint_of, fresh}
 use Rattle.pli_meaning.specs.StorageState.{most_automatic}
 use Rattle.pli_serving.specs.Bytes.{is_data, with_bytes, number_bytes, name_bytes}
 use Rattle.pli_serving.specs.Templates.{template_of}
-use Rattle.pli_serving.specs.Values.{element_bytes}
+use Rattle.pli_serving.specs.Values.{value_bytes, element_bytes, generation_bytes}
 use Rattle.pli_meaning.specs.DeclaredShapes.{kind_of}
 use Rattle.pli_coding.specs.Linking.{Links}
-use Rattle.pli_headline.specs.ProvedSoFar.{IsScalar, IsInitial}
+use Rattle.pli_headline.specs.ProvedSoFar.{IsConstantOf, IsInitial, IsScalar, text_leaf, IsHeld, IsBegun, Kind, alone, IsConstantIf}
 use Rattle.rv_meaning.specs.declared.instr.StoreKind.TheVariants as Store
 use Rattle.rv_meaning.specs.Words.{word}
 use Rattle.pli_serving.specs.ServiceState.{Services}
@@ -33,83 +36,132 @@ use Rattle.pli_serving.specs.InitialValues.{initial_values}
 use Rattle.pli_serving.specs.Making as G
 use Rattle.pli_headline.proofs.Engine.{Base, most_code, call_at}
 use Rattle.pli_headline.proofs.Calls.{acts}
-use Rattle.pli_headline.proofs.MainGround.{Stands, number_place}
+use Rattle.pli_headline.proofs.VariablePlaces.{Sizes, room_of, number_place, room_next, room_counts, data_size, data_fits, element_alone, sizes_of, scalar_data_size, data_size_for}
+use Rattle.pli_headline.proofs.MainGround.{Stands}
 use Rattle.pli_headline.proofs.MainFrame.{main_frame}
-use Rattle.pli_headline.proofs.Scalars.{Scalar, IsNumeric, by_type, is_numeric, value_as, bit_of, bit_word, Fits, fits_wide, begin_of, begin_fits, store_kind}
+use Rattle.pli_headline.proofs.Scalars.{Declared, by_type, is_numeric, by_held, value_as, bit_of, bit_word, Fits, fits_wide, constant_text, begin_text, begin_of, begin_fits, store_kind, IsLimited, by_shape, element_numeric}
 use Rattle.pli_headline.proofs.Numbers.{word_small}
-use Rattle.pli_headline.proofs.InitialRead.{start_datum, start_of, Reads}
+use Rattle.pli_headline.proofs.InitialRead.{start_datum, start_of, Reads, once_only}
 use Rattle.pli_headline.proofs.Cells.{Cell, kept_by, kind_bytes, kind_length, cell_written, content, content_word}
+use Rattle.pli_headline.proofs.TextsKept.{fitted_length, taken_most, fitted_alone, padded_there, cut_there}
+use Rattle.pli_headline.proofs.TextPlaces.{TextThere}
+use Rattle.pli_headline.proofs.TextsStay.{text_beside}
+use Rattle.pli_headline.proofs.Holdings.{Content, Counted, Written, Many, There, size_in, content_of, content_numeric, content_fits, content_by}
+use Rattle.pli_headline.proofs.ElementsStay.{elements_beside, contents_of}
 use Rattle.pli_headline.proofs.PlainNumbers.{number_for, Numbered, numbered_shape}
 use Rattle.pli_headline.proofs.Variables.{scalar_shape}
-use Rattle.pli_headline.proofs.MainStates.{fresh_scalar, scalar_print, begins_as, begin_contents, scalars_served, main_services, served_in_use}
+use Rattle.pli_headline.proofs.MainStates.{fresh_scalar, scalar_print, begins_as, begin_numbers, begin_contents, scalars_served, main_services, served_in_use, kind_shape}
 use Rattle.pli_headline.proofs.WrittenBytes.{length-with_bytes, byte-with_below, load-with_other}
+use Rattle.pli_headline.proofs.ArrayMeant.{array_shape}
+use Rattle.pli_headline.proofs.ArraysMade.{array_size}
+use Rattle.pli_headline.proofs.ArrayOrder.{bytes_of, bytes_long, elements_written}
+use Rattle.pli_headline.proofs.ArrayInitial.{numbers_of, numbers_fit, begun_array, begun_bytes, all_given}
 
 -- ---- what the service answers
 
 -- a scalar of which all is known that it begins with
-pub record Ready (links : Links) (code : List Instr) (first : List ℕ) (table : List TableSignature) (s : Scalar) : Type 0 where
-  pub numbered : Numbered table s.type
-  pub begins : IsInitial s.type s.initial
-  pub reads : Reads links code first s.type s.initial
+pub record Ready (links : Links) (code : List Instr) (first : List ℕ) (table : List TableSignature) (s : Declared) : Type 0 where
+  pub numbered : Numbered table s.kind
+  pub begins : IsBegun s.kind.type s.kind.bounds s.initial
+  pub reads : Reads links code first s.kind s.initial
 
 -- where its INITIAL values stand
-abbrev pub start_at : Links → Scalar → ℕ
+abbrev pub start_at : Links → Declared → ℕ
 start_at links s = start_of links (start_datum s.initial)
 
 -- the static data is what it was at first
 abbrev pub KeepsFirst : (first m : List ℕ) → Type 0
 KeepsFirst first m = (k : ℕ) → k < 7 * 2 ^ 20 → slice_index m k ≡ slice_index first k
 
-make_limited : (links : Links) (code : List Instr) (first : List ℕ) (table : List TableSignature) (kind : ℕ → Scalar) (input : List ℕ) (at line j name place : ℕ) (m : List ℕ) → Ready links code first table (kind j) → KeepsFirst first m → G.make_served (call_at code (main_services table kind input at line j) m) name (number_for table (kind j).type) (start_at links (kind j)) place 0 ≡ G.limited (call_at code (main_services table kind input at line j) m) name (number_for table (kind j).type) place 1 (fresh_scalar (kind j))
-make_limited links code first table kind input at line j name place m ready keeps =
+make_limited : (links : Links) (code : List Instr) (first : List ℕ) (table : List TableSignature) (kind : ℕ → Declared) (input : List ℕ) (at line j name place : ℕ) (m : List ℕ) → Ready links code first table (kind j) → length m ≡ memory_size → KeepsFirst first m → G.make_served (call_at code (main_services table kind input at line j) m) name (number_for table (kind j).kind) (start_at links (kind j)) place 0 ≡ G.limited (call_at code (main_services table kind input at line j) m) name (number_for table (kind j).kind) place 1 (fresh_scalar (kind j))
+make_limited links code first table kind input at line j name place m ready len keeps =
     let v = main_services table kind input at line j in
     let c = call_at code v m in
-    let n = number_for table (kind j).type in
-    let shape = scalar_shape (kind j).type in
-    ap (λ o. or_bad o (λ s. or_bad (initial_values c s.signature.leaves (start_at links (kind j))) (λ values. G.limited c name n place 1 (fresh s (pos 0) values)))) (numbered_shape table (kind j).type ready.numbered)
-    ∙ ap (λ o. or_bad o (λ values. G.limited c name n place 1 (fresh shape (pos 0) values))) (ready.reads.read v m keeps)
+    let n = number_for table (kind j).kind in
+    let shape = kind_shape (kind j).kind in
+    ap (λ o. or_bad o (λ s. or_bad (initial_values c s.signature.leaves (start_at links (kind j))) (λ values. G.limited c name n place 1 (fresh s (pos 0) values)))) (numbered_shape table (kind j).kind ready.numbered)
+    ∙ ap (λ o. or_bad o (λ values. G.limited c name n place 1 (fresh shape (pos 0) values))) (ready.reads.read v m len keeps)
 
 -- past the limit the run ends
 abbrev pub past_limit : Services → Services
 past_limit v = N.with_world (ending (E.Limit L.Automatic) v.world) v
 
-pub make_ends : (links : Links) (code : List Instr) (first : List ℕ) (table : List TableSignature) (kind : ℕ → Scalar) (input : List ℕ) (at line j name place k : ℕ) (m : List ℕ) → ((i : ℕ) → i < suc j → Ready links code first table (kind i)) → KeepsFirst first m → 2 ^ 20 < 32 * j + 32 → k + 1 < 2 ^ 64 → G.make_served (call_at code (main_services table kind input at line j) m) name (number_for table (kind j).type) (start_at links (kind j)) place 0 ≡ Ends (past_limit (main_services table kind input at line j))
-make_ends links code first table kind input at line j name place k m signs keeps over fits =
+pub make_ends : (links : Links) (code : List Instr) (first : List ℕ) (table : List TableSignature) (kind : ℕ → Declared) (input : List ℕ) (at line j name place k : ℕ) (m : List ℕ) → ((i : ℕ) → i < suc j → Ready links code first table (kind i)) → length m ≡ memory_size → KeepsFirst first m → 2 ^ 20 < room_of (sizes_of kind) (suc j) → k + 1 < 2 ^ 64 → G.make_served (call_at code (main_services table kind input at line j) m) name (number_for table (kind j).kind) (start_at links (kind j)) place 0 ≡ Ends (past_limit (main_services table kind input at line j))
+make_ends links code first table kind input at line j name place k m signs len keeps over fits =
     let v = main_services table kind input at line j in
     let c = call_at code v m in
-    let n = number_for table (kind j).type in
+    let n = number_for table (kind j).kind in
     let mine = signs j (omega arith) in
     let use' = served_in_use table kind at j (λ i h. (signs i (omega (arith, h))).numbered) in
-    let print = scalar_print (kind j) (is_numeric (kind j).type mine.numbered.scalar) in
+    let print = scalar_print (kind j) mine.numbered.held in
     let t : nat_lt most_automatic (G.automatic_in_use (map template_of table) (scalars_served table kind at j) + footprint_of (fresh_scalar (kind j))) ≡ true = lt-ltb _ _ (omega (arith, use', over, print)) in
-    make_limited links code first table kind input at line j name place m mine keeps
+    make_limited links code first table kind input at line j name place m mine len keeps
     ∙ ap (λ u. cond u (N.acting v (Ends (past_limit v))) (G.variable_made c name n place 1 (j + 1) (fresh_scalar (kind j)))) t
     ∙ acts v k (Ends (past_limit v)) (omega arith) fits
 
--- the bytes of a scalar
-abbrev pub data_of : Scalar → List ℕ
-data_of s = kind_bytes (store_kind s.type) (word (begin_of s.initial))
+-- with which bytes a variable of a type begins, by its number or its text
+abbrev pub data_by : Y.LeafType → ℤ → List ℕ → List ℕ
+data_by (Y.CharacterLeaf (Y.ConstantExtent (pos n))) z text = (element_bytes (Character n) (BasicText text) ++ []) ++ []
+data_by (Y.VaryingLeaf (Y.ConstantExtent (pos n))) z text = (element_bytes (Varying n) (BasicText text) ++ []) ++ []
+data_by type z text = kind_bytes (store_kind type) (word z)
 
--- the memory with a scalar's bytes and its name
-abbrev pub with_number_made : List ℕ → (at j : ℕ) → List ℕ → List ℕ
-with_number_made m at j bytes =
-    with_bytes (name_bytes (VariableName (j + 1))) (at + (144 + 32 * j)) (with_bytes bytes (at + (144 + 32 * j + 16)) m)
+-- of an array, those of its elements
+abbrev pub data_for : Y.LeafType → List Bounds → List T.InitialItem → List ℕ
+data_for type [] items = data_by type (begin_of items) (begin_text type items)
+data_for type (b ∷ bs) items = bytes_of type (numbers_of items) (element_count (b ∷ bs))
 
-abbrev served_next : List TableSignature → (kind : ℕ → Scalar) → (input : List ℕ) → (at line j n p : ℕ) → Services
+abbrev pub data_of : Declared → List ℕ
+data_of s = data_for s.kind.type s.kind.bounds s.initial
+
+-- the memory with a scalar's bytes and its name, behind so many bytes of others
+abbrev pub with_number_made : List ℕ → (at o j : ℕ) → List ℕ → List ℕ
+with_number_made m at o j bytes =
+    with_bytes (name_bytes (VariableName (j + 1))) (at + (144 + o)) (with_bytes bytes (at + (144 + o + 16)) m)
+
+abbrev served_next : List TableSignature → (kind : ℕ → Declared) → (input : List ℕ) → (at line j n p : ℕ) → Services
 served_next table kind input at line j n p =
     record (main_services table kind input at line j) {
       serials = n;
-      living = record { serial = n; owner = 1; signature = number_for table (kind j).type; at = p } ∷ scalars_served table kind at j;
+      living = record { serial = n; owner = 1; signature = number_for table (kind j).kind; at = p } ∷ scalars_served table kind at j;
     }
 
--- what a scalar's data is: four bytes
+-- how many bytes a variable's data has
 size_by : (q : Bool) → rounded_up 4 (cond q 2 4) * 1 + 0 ≡ 4
 size_by true = refl
 size_by false = refl
 
-scalar_size : (c : Call) (type : Y.LeafType) → IsNumeric type → data_bytes c.keeper (scalar_shape type) ≡ 4
-scalar_size c type is =
-    by_type (λ t. data_bytes c.keeper (scalar_shape t) ≡ 4) (λ p. size_by (nat_le p 15)) refl type is
+alone_size : (c : Call) (type : Y.LeafType) → IsScalar type → data_bytes c.keeper (scalar_shape type) ≡ scalar_data_size type
+alone_size c type is =
+    by_held (λ t. data_bytes c.keeper (scalar_shape t) ≡ scalar_data_size t) (λ p. size_by (nat_le p 15)) refl (λ n few. element_alone (rounded_up 4 (suc n))) (λ n few. element_alone (rounded_up 4 (2 + suc n))) type is
+
+kind_size : (c : Call) (k : Kind) → IsHeld k.type k.bounds → data_bytes c.keeper (kind_shape k) ≡ data_size k
+kind_size c k is =
+    by_shape (λ t bs. data_bytes c.keeper (array_shape t bs) ≡ data_size_for t bs) (alone_size c) (λ t b bs element are few. array_size c t (element_numeric t element) (b ∷ bs)) k.type k.bounds is
+
+padded_length : (n : ℕ) (xs : List ℕ) → length xs ≡ n → length (((xs ++ replicate (rounded_up 4 n - n) 0) ++ []) ++ []) ≡ rounded_up 4 n
+padded_length n xs e =
+    let zeros = replicate (rounded_up 4 n - n) 0 in
+    let a = length-append ((xs ++ zeros) ++ []) [] in
+    let b = length-append (xs ++ zeros) [] in
+    let c = length-append xs zeros in
+    let d = length-replicate {A = ℕ} (rounded_up 4 n - n) 0 in
+    omega (arith, a, b, c, d, e)
+
+varying_length : (n : ℕ) (text : List ℕ) → length (value_bytes (Varying n) (BasicText text)) ≡ 2 + n
+varying_length n text = let e = fitted_length n text in omega (arith, e)
+
+alone_length : (type : Y.LeafType) (z : ℤ) (text : List ℕ) → IsScalar type → length (data_by type z text) ≡ scalar_data_size type
+alone_length type z text is =
+    by_held (λ t. length (data_by t z text) ≡ scalar_data_size t) (λ p. kind_length (store_kind (Y.FixedLeaf p)) (word z)) (kind_length (store_kind Y.BitLeaf) (word z))
+    (λ n few. padded_length (suc n) (fitted (suc n) text) (fitted_length (suc n) text))
+    (λ n few. padded_length (2 + suc n) (value_bytes (Varying (suc n)) (BasicText text)) (varying_length (suc n) text))
+    type is
+
+pub data_length : (s : Declared) → IsHeld s.kind.type s.kind.bounds → length (data_of s) ≡ data_size s.kind
+data_length s is =
+    by_shape (λ t bs. length (data_for t bs s.initial) ≡ data_size_for t bs) (λ t held. alone_length t (begin_of s.initial) (begin_text t s.initial) held)
+    (λ t b bs element are few. bytes_long t (numbers_of s.initial) (element_count (b ∷ bs)))
+    s.kind.type s.kind.bounds is
 
 bytes_by : (q : Bool) (w : ℕ) → ((number_bytes (cond q 2 4) w ++ replicate (rounded_up 4 (cond q 2 4) - cond q 2 4) 0) ++ []) ++ [] ≡ kind_bytes (cond q Store.Half Store.Word) w
 bytes_by true w = refl
@@ -121,11 +173,40 @@ value_written Y.BitLeaf z fits =
     ap (λ w. w % 256 ∷ 0 ∷ 0 ∷ 0 ∷ []) (bit_word (bit_of z) ∙ ap word (sym fits))
 value_written _ z fits = absurd fits
 
-scalar_bytes : (c : Call) (place : ℕ) (s : Scalar) → IsScalar s.type → IsInitial s.type s.initial → G.bytes_made c place (fresh_scalar s) (capacity_of (scalar_shape s.type)) ≡ data_of s
-scalar_bytes c place s is begins =
-    by_type (λ t. G.bytes_made c place (fresh_scalar (record { type = t; initial = s.initial })) (capacity_of (scalar_shape t)) ≡ (element_bytes (kind_of [] t) ((fresh_scalar (record { type = t; initial = s.initial })).values 0 []) ++ []) ++ []) (λ p. refl) refl s.type (is_numeric s.type is)
-    ∙ ap (λ v. (element_bytes (kind_of [] s.type) v ++ []) ++ []) (begins_as s.type s.initial (is_numeric s.type is) begins)
-    ∙ value_written s.type (begin_of s.initial) (begin_fits s.type s.initial is begins)
+scalar_bytes : (c : Call) (place : ℕ) (type : Y.LeafType) (items : List T.InitialItem) → IsLimited type → IsInitial type items → G.bytes_made c place (fresh_scalar (record { kind = alone type; initial = items })) (capacity_of (scalar_shape type)) ≡ kind_bytes (store_kind type) (word (begin_of items))
+scalar_bytes c place type items is begins =
+    by_type (λ t. G.bytes_made c place (fresh_scalar (record { kind = alone t; initial = items })) (capacity_of (scalar_shape t)) ≡ (element_bytes (kind_of [] t) ((fresh_scalar (record { kind = alone t; initial = items })).values 0 []) ++ []) ++ []) (λ p. refl) refl type (is_numeric type is)
+    ∙ ap (λ v. (element_bytes (kind_of [] type) v ++ []) ++ []) (begins_as type items (is_numeric type is) begins)
+    ∙ value_written type (begin_of items) (begin_fits type items is begins)
+
+-- a text that INITIAL gives
+given_bytes : (c : Call) (place : ℕ) (varying : Bool) (n : ℕ) (v : T.InitialValue) → IsConstantOf (text_leaf varying n) v → G.bytes_made c place (fresh_scalar (record { kind = alone (text_leaf varying n); initial = once_only v ∷ [] })) (capacity_of (scalar_shape (text_leaf varying n))) ≡ data_by (text_leaf varying n) (pos 0) (begin_text (text_leaf varying n) (once_only v ∷ []))
+given_bytes c place false n (T.InitialText t) h = ap (λ u. (element_bytes (Character n) (BasicText u) ++ []) ++ []) (fitted_alone n t)
+given_bytes c place true n (T.InitialText t) h = refl
+given_bytes c place false n _ h = absurd h
+given_bytes c place true n _ h = absurd h
+
+text_bytes_by : (c : Call) (place : ℕ) (varying : Bool) (n : ℕ) (items : List T.InitialItem) → IsConstantIf (text_leaf varying n) items → G.bytes_made c place (fresh_scalar (record { kind = alone (text_leaf varying n); initial = items })) (capacity_of (scalar_shape (text_leaf varying n))) ≡ data_by (text_leaf varying n) (pos 0) (begin_text (text_leaf varying n) items)
+text_bytes_by c place false n [] h = refl
+text_bytes_by c place true n [] h = refl
+text_bytes_by c place varying n (i ∷ []) h =
+    let type = text_leaf varying n in
+    subst (λ (q : T.InitialItem). G.bytes_made c place (fresh_scalar (record { kind = alone type; initial = q ∷ [] })) (capacity_of (scalar_shape type)) ≡ data_by type (pos 0) (begin_text type (q ∷ []))) (sym (ap (λ u. record { repetition = u; value = i.value }) h.0)) (given_bytes c place varying n i.value h.1)
+text_bytes_by c place varying n (i ∷ j ∷ more) h = absurd h
+
+held_bytes : (c : Call) (place : ℕ) (type : Y.LeafType) (items : List T.InitialItem) → IsScalar type → IsInitial type items → G.bytes_made c place (fresh_scalar (record { kind = alone type; initial = items })) (capacity_of (scalar_shape type)) ≡ data_by type (begin_of items) (begin_text type items)
+held_bytes c place (Y.FixedLeaf p) items is begins = scalar_bytes c place (Y.FixedLeaf p) items is begins
+held_bytes c place Y.BitLeaf items is begins = scalar_bytes c place Y.BitLeaf items tt begins
+held_bytes c place (Y.CharacterLeaf (Y.ConstantExtent (pos n))) items is begins = text_bytes_by c place false n items begins
+held_bytes c place (Y.VaryingLeaf (Y.ConstantExtent (pos n))) items is begins = text_bytes_by c place true n items begins
+held_bytes c place _ items is begins = absurd is
+
+-- the bytes with which a variable begins
+kind_bytes_made : (c : Call) (place : ℕ) (type : Y.LeafType) (bs : List Bounds) (items : List T.InitialItem) → IsHeld type bs → IsBegun type bs items → G.bytes_made c place (fresh_scalar (record { kind = record { type = type; bounds = bs }; initial = items })) (capacity_of (array_shape type bs)) ≡ data_for type bs items
+kind_bytes_made c place type [] items is begins = held_bytes c place type items is begins
+kind_bytes_made c place type (b ∷ bs) items is begins =
+    by_type (λ t. G.bytes_made c place (begun_array t (b ∷ bs) items) (capacity_of (array_shape t (b ∷ bs))) ≡ generation_bytes (begun_array t (b ∷ bs) items)) (λ p. refl) refl type (element_numeric type is.0)
+    ∙ begun_bytes type (b ∷ bs) items is.0 (all_given type items is.0 begins).0
 
 abbrev made_bytes : Call → (name n place serial size : ℕ) → List ℕ → Answer
 made_bytes c name n place serial size bytes =
@@ -135,107 +216,195 @@ made_bytes c name n place serial size bytes =
     (with_bytes (name_bytes (VariableName serial)) name (with_bytes bytes place c.memory))
     name n)
 
-scalar_made : (c : Call) (name n place serial : ℕ) (s : Scalar) → IsScalar s.type → IsInitial s.type s.initial → G.variable_made c name n place 1 serial (fresh_scalar s) ≡ made_bytes c name n place serial 4 (data_of s)
+scalar_made : (c : Call) (name n place serial : ℕ) (s : Declared) → IsHeld s.kind.type s.kind.bounds → IsBegun s.kind.type s.kind.bounds s.initial → G.variable_made c name n place 1 serial (fresh_scalar s) ≡ made_bytes c name n place serial (data_size s.kind) (data_of s)
 scalar_made c name n place serial s is begins =
-    ap (λ size. made_bytes c name n place serial size (G.bytes_made c place (fresh_scalar s) (capacity_of (scalar_shape s.type)))) (scalar_size c s.type (is_numeric s.type is))
-    ∙ ap (made_bytes c name n place serial 4) (scalar_bytes c place s is begins)
+    ap (λ size. made_bytes c name n place serial size (G.bytes_made c place (fresh_scalar s) (capacity_of (kind_shape s.kind)))) (kind_size c s.kind is)
+    ∙ ap (made_bytes c name n place serial (data_size s.kind)) (kind_bytes_made c place s.kind.type s.kind.bounds s.initial is begins)
 
-pub make_made : (links : Links) (code : List Instr) (first : List ℕ) (table : List TableSignature) (kind : ℕ → Scalar) (input : List ℕ) (at line j : ℕ) (m : List ℕ) → ((i : ℕ) → i < suc j → Ready links code first table (kind i)) → KeepsFirst first m → 32 * j + 32 ≤ 2 ^ 20 → 4 * length code ≤ at → at + 200 + 32 * j ≤ memory_size → G.make_served (call_at code (main_services table kind input at line j) m) (at + (144 + 32 * j)) (number_for table (kind j).type) (start_at links (kind j)) (at + (144 + 32 * j + 16)) 0 ≡ Done (main_services table kind input at line (suc j)) (with_number_made m at j (data_of (kind j))) (at + (144 + 32 * j)) (number_for table (kind j).type)
-make_made links code first table kind input at line j m signs keeps few low high =
+pub make_made : (links : Links) (code : List Instr) (first : List ℕ) (table : List TableSignature) (kind : ℕ → Declared) (input : List ℕ) (at line j : ℕ) (m : List ℕ) → ((i : ℕ) → i < suc j → Ready links code first table (kind i)) → length m ≡ memory_size → KeepsFirst first m → room_of (sizes_of kind) (suc j) ≤ 2 ^ 20 → 4 * length code ≤ at → at + 200 + room_of (sizes_of kind) (suc j) ≤ memory_size → G.make_served (call_at code (main_services table kind input at line j) m) (at + (144 + room_of (sizes_of kind) j)) (number_for table (kind j).kind) (start_at links (kind j)) (at + (144 + room_of (sizes_of kind) j + 16)) 0 ≡ Done (main_services table kind input at line (suc j)) (with_number_made m at (room_of (sizes_of kind) j) j (data_of (kind j))) (at + (144 + room_of (sizes_of kind) j)) (number_for table (kind j).kind)
+make_made links code first table kind input at line j m signs len keeps few low high =
     let v = main_services table kind input at line j in
     let c = call_at code v m in
-    let n = number_for table (kind j).type in
-    let name = at + (144 + 32 * j) in
-    let place = at + (144 + 32 * j + 16) in
+    let n = number_for table (kind j).kind in
+    let name = at + (144 + room_of (sizes_of kind) j) in
+    let place = at + (144 + room_of (sizes_of kind) j + 16) in
     let mine = signs j (omega arith) in
-    let numeric = is_numeric (kind j).type mine.numbered.scalar in
+    let held = mine.numbered.held in
+    let size = data_size (kind j).kind in
+    let all = data_fits (kind j).kind held in
     let use' = served_in_use table kind at j (λ i h. (signs i (omega (arith, h))).numbered) in
-    let print = scalar_print (kind j) numeric in
+    let print = scalar_print (kind j) held in
     let t : nat_lt most_automatic (G.automatic_in_use (map template_of table) (scalars_served table kind at j) + footprint_of (fresh_scalar (kind j))) ≡ false = le-ltb _ _ (omega (arith, use', few, print)) in
-    let t1 : nat_lt (j + 1) (2 ^ 64) ≡ true = lt-ltb _ _ (omega (arith, few)) in
+    let t1 : nat_lt (j + 1) (2 ^ 64) ≡ true = (let n = room_counts (sizes_of kind) (suc j) in lt-ltb _ _ (omega (arith, few, n))) in
     let t2 : nat_le (4 * length code) place ≡ true = le-leb _ _ (omega (arith, low)) in
-    let t3 : nat_le (place + 4) memory_size ≡ true = le-leb _ _ (omega (arith, high)) in
+    let t3 : nat_le (place + size) memory_size ≡ true = le-leb _ _ (omega (arith, high, all)) in
     let t4 : nat_le (4 * length code) name ≡ true = le-leb _ _ (omega (arith, low)) in
     let t5 : nat_le (name + 16) memory_size ≡ true = le-leb _ _ (omega (arith, high)) in
-    let here : place ≡ at + number_place j = omega arith in
-    make_limited links code first table kind input at line j name place m mine keeps
+    let here : place ≡ at + number_place (sizes_of kind) j = omega arith in
+    make_limited links code first table kind input at line j name place m mine len keeps
     ∙ ap (λ u. cond u (N.acting v (Ends (past_limit v))) (G.variable_made c name n place 1 (j + 1) (fresh_scalar (kind j)))) t
-    ∙ scalar_made c name n place (j + 1) (kind j) mine.numbered.scalar mine.begins
+    ∙ scalar_made c name n place (j + 1) (kind j) held mine.begins
     ∙ rw (t1, t2, t3, t4, t5) refl
-    ∙ ap (λ p. Done (served_next table kind input at line j (j + 1) p) (with_number_made m at j (data_of (kind j))) name n) here
-    ∙ ap (λ q. Done (served_next table kind input at line j q (at + number_place j)) (with_number_made m at j (data_of (kind j))) name n) (add-one j)
+    ∙ ap (λ p. Done (served_next table kind input at line j (j + 1) p) (with_number_made m at (room_of (sizes_of kind) j) j (data_of (kind j))) name n) here
+    ∙ ap (λ q. Done (served_next table kind input at line j q (at + number_place (sizes_of kind) j)) (with_number_made m at (room_of (sizes_of kind) j) j (data_of (kind j))) name n) (add-one j)
 
 -- ---- what stands then
 
--- behind four bytes
-pub made_length : (m bytes : List ℕ) (at j : ℕ) → length bytes ≡ 4 → at + 200 + 32 * j ≤ length m → length (with_number_made m at j bytes) ≡ length m
-made_length m bytes at j four room =
-    let one = length-with_bytes bytes m (at + (144 + 32 * j + 16)) (omega (arith, room, four)) in
-    length-with_bytes (name_bytes (VariableName (j + 1))) (with_bytes bytes (at + (144 + 32 * j + 16)) m) (at + (144 + 32 * j)) (omega (arith, room, one))
+-- behind the bytes
+pub made_length : (m bytes : List ℕ) (at o j : ℕ) → at + 200 + o + length bytes ≤ length m → length (with_number_made m at o j bytes) ≡ length m
+made_length m bytes at o j room =
+    let one = length-with_bytes bytes m (at + (144 + o + 16)) (omega (arith, room)) in
+    length-with_bytes (name_bytes (VariableName (j + 1))) (with_bytes bytes (at + (144 + o + 16)) m) (at + (144 + o)) (omega (arith, room, one))
     ∙ one
 
-made_below : (m bytes : List ℕ) (at j k : ℕ) → length bytes ≡ 4 → at + 200 + 32 * j ≤ length m → k < at + (144 + 32 * j) → slice_index (with_number_made m at j bytes) k ≡ slice_index m k
-made_below m bytes at j k four room below =
-    let one = length-with_bytes bytes m (at + (144 + 32 * j + 16)) (omega (arith, room, four)) in
-    byte-with_below (name_bytes (VariableName (j + 1))) (with_bytes bytes (at + (144 + 32 * j + 16)) m) (at + (144 + 32 * j)) k (omega (arith, room, one)) below
-    ∙ byte-with_below bytes m (at + (144 + 32 * j + 16)) k (omega (arith, room, four)) (omega (arith, below))
+made_below : (m bytes : List ℕ) (at o j k : ℕ) → at + 200 + o + length bytes ≤ length m → k < at + (144 + o) → slice_index (with_number_made m at o j bytes) k ≡ slice_index m k
+made_below m bytes at o j k room below =
+    let one = length-with_bytes bytes m (at + (144 + o + 16)) (omega (arith, room)) in
+    byte-with_below (name_bytes (VariableName (j + 1))) (with_bytes bytes (at + (144 + o + 16)) m) (at + (144 + o)) k (omega (arith, room, one)) below
+    ∙ byte-with_below bytes m (at + (144 + o + 16)) k (omega (arith, room)) (omega (arith, below))
 
-made_load : (n : ℕ) (m bytes : List ℕ) (at j q : ℕ) → length bytes ≡ 4 → at + 200 + 32 * j ≤ length m → q + n ≤ at + (144 + 32 * j) → load n (with_number_made m at j bytes) q ≡ load n m q
-made_load n m bytes at j q four room below =
-    let one = length-with_bytes bytes m (at + (144 + 32 * j + 16)) (omega (arith, room, four)) in
-    load-with_other n (name_bytes (VariableName (j + 1))) (with_bytes bytes (at + (144 + 32 * j + 16)) m) (at + (144 + 32 * j)) q (omega (arith, room, one)) (inl below)
-    ∙ load-with_other n bytes m (at + (144 + 32 * j + 16)) q (omega (arith, room, four)) (inl (omega (arith, below)))
+made_load : (n : ℕ) (m bytes : List ℕ) (at o j q : ℕ) → at + 200 + o + length bytes ≤ length m → q + n ≤ at + (144 + o) → load n (with_number_made m at o j bytes) q ≡ load n m q
+made_load n m bytes at o j q room below =
+    let one = length-with_bytes bytes m (at + (144 + o + 16)) (omega (arith, room)) in
+    load-with_other n (name_bytes (VariableName (j + 1))) (with_bytes bytes (at + (144 + o + 16)) m) (at + (144 + o)) q (omega (arith, room, one)) (inl below)
+    ∙ load-with_other n bytes m (at + (144 + o + 16)) q (omega (arith, room)) (inl (omega (arith, below)))
 
-made_loaded : (n : ℕ) (m bytes : List ℕ) (at j : ℕ) → length bytes ≡ 4 → at + 200 + 32 * j ≤ length m → load n (with_number_made m at j bytes) (at + (144 + 32 * j + 16)) ≡ load n (with_bytes bytes (at + (144 + 32 * j + 16)) m) (at + (144 + 32 * j + 16))
-made_loaded n m bytes at j four room =
-    let one = length-with_bytes bytes m (at + (144 + 32 * j + 16)) (omega (arith, room, four)) in
-    load-with_other n (name_bytes (VariableName (j + 1))) (with_bytes bytes (at + (144 + 32 * j + 16)) m) (at + (144 + 32 * j)) (at + (144 + 32 * j + 16)) (omega (arith, room, one)) (inr (omega arith))
+made_loaded : (n : ℕ) (m bytes : List ℕ) (at o j : ℕ) → at + 200 + o + length bytes ≤ length m → load n (with_number_made m at o j bytes) (at + (144 + o + 16)) ≡ load n (with_bytes bytes (at + (144 + o + 16)) m) (at + (144 + o + 16))
+made_loaded n m bytes at o j room =
+    let one = length-with_bytes bytes m (at + (144 + o + 16)) (omega (arith, room)) in
+    load-with_other n (name_bytes (VariableName (j + 1))) (with_bytes bytes (at + (144 + o + 16)) m) (at + (144 + o)) (at + (144 + o + 16)) (omega (arith, room, one)) (inr (omega arith))
 
 -- the scalar itself
-made_scalar : (m : List ℕ) (at j : ℕ) (s : Scalar) → IsScalar s.type → IsInitial s.type s.initial → at + 200 + 32 * j ≤ length m → Cell (with_number_made m at j (data_of s)) (at + number_place j) (word (content s.type (begin_of s.initial)))
-made_scalar m at j s is begins room =
-    let z = begin_of s.initial in
-    let wide = fits_wide s.type z (begin_fits s.type s.initial is begins) in
-    let kind = store_kind s.type in
-    let bytes = data_of s in
-    let place = at + (144 + 32 * j + 16) in
+made_cell : (m : List ℕ) (at o j : ℕ) (type : Y.LeafType) (items : List T.InitialItem) → IsLimited type → IsInitial type items → at + 204 + o ≤ length m → Cell (with_number_made m at o j (kind_bytes (store_kind type) (word (begin_of items)))) (at + (160 + o)) (word (content type (begin_of items)))
+made_cell m at o j type items is begins inside =
+    let z = begin_of items in
+    let wide = fits_wide type z (begin_fits type items is begins) in
+    let kind = store_kind type in
+    let bytes = kind_bytes kind (word z) in
+    let place = at + (144 + o + 16) in
     let four = kind_length kind (word z) in
-    let c = cell_written kind m place (word z) (word_small z wide) (omega (arith, room)) in
-    let there : Cell (with_number_made m at j bytes) place (kept_by kind (word z)) = record {
-      whole = made_loaded 4 m bytes at j four room ∙ c.whole;
-      half = made_loaded 2 m bytes at j four room ∙ c.half;
-      byte = made_loaded 1 m bytes at j four room ∙ c.byte;
+    let c = cell_written kind m place (word z) (word_small z wide) (omega (arith, inside)) in
+    let room : at + 200 + o + length bytes ≤ length m = omega (arith, inside, four) in
+    let there : Cell (with_number_made m at o j bytes) place (kept_by kind (word z)) = record {
+      whole = made_loaded 4 m bytes at o j room ∙ c.whole;
+      half = made_loaded 2 m bytes at o j room ∙ c.half;
+      byte = made_loaded 1 m bytes at o j room ∙ c.byte;
     } in
-    let here : place ≡ at + number_place j = omega arith in
-    subst (λ q. Cell (with_number_made m at j bytes) q (word (content s.type z))) here
-    (subst (Cell (with_number_made m at j bytes) place) (sym (content_word s.type z wide)) there)
+    let here : place ≡ at + (160 + o) = omega arith in
+    subst (λ q. Cell (with_number_made m at o j bytes) q (word (content type z))) here
+    (subst (Cell (with_number_made m at o j bytes) place) (sym (content_word type z wide)) there)
 
-variable_by : (q : Bool) (m bytes : List ℕ) (numbers : ℕ → ℤ) (at i j : ℕ) → (i == j) ≡ q → length bytes ≡ 4 → at + 200 + 32 * j ≤ length m → Cell (with_number_made m at j bytes) (at + number_place j) (word (numbers j)) → i < suc j → (i < j → Cell m (at + number_place i) (word (numbers i))) → Cell (with_number_made m at j bytes) (at + number_place i) (word (numbers i))
-variable_by true m bytes numbers at i j e four room mine below o =
-    subst (λ u. Cell (with_number_made m at j bytes) (at + number_place u) (word (numbers u))) (sym (eqb-true i j e)) mine
-variable_by false m bytes numbers at i j e four room mine below o =
-    let less : i < j = grind (arith, nat_tests) in
-    let c = o less in
+scalar_data : (type : Y.LeafType) (z : ℤ) (text : List ℕ) → IsLimited type → data_by type z text ≡ kind_bytes (store_kind type) (word z)
+scalar_data (Y.FixedLeaf p) z text is = refl
+scalar_data Y.BitLeaf z text is = refl
+scalar_data _ z text is = absurd is
+
+made_scalar : (m : List ℕ) (at o j : ℕ) (type : Y.LeafType) (items : List T.InitialItem) → IsLimited type → IsInitial type items → at + 204 + o ≤ length m → Cell (with_number_made m at o j (data_by type (begin_of items) (begin_text type items))) (at + (160 + o)) (word (content type (begin_of items)))
+made_scalar m at o j type items is begins inside =
+    subst (λ bytes. Cell (with_number_made m at o j bytes) (at + (160 + o)) (word (content type (begin_of items)))) (sym (scalar_data type (begin_of items) (begin_text type items) is)) (made_cell m at o j type items is begins inside)
+
+-- what stands below
+made_there : (m bytes : List ℕ) (at o j q : ℕ) (c : Content) → at + 200 + o + length bytes ≤ length m → q + size_in c ≤ at + (144 + o) → There m q c → There (with_number_made m at o j bytes) q c
+made_there m bytes at o j q (Counted z) room below c =
     record {
-      whole = made_load 4 m bytes at j (at + number_place i) four room (omega (arith, less)) ∙ c.whole;
-      half = made_load 2 m bytes at j (at + number_place i) four room (omega (arith, less)) ∙ c.half;
-      byte = made_load 1 m bytes at j (at + number_place i) four room (omega (arith, less)) ∙ c.byte;
+      whole = made_load 4 m bytes at o j q room below ∙ c.whole;
+      half = made_load 2 m bytes at o j q room (omega (arith, below)) ∙ c.half;
+      byte = made_load 1 m bytes at o j q room (omega (arith, below)) ∙ c.byte;
     }
+made_there m bytes at o j q (Written varying most text) room below c =
+    let one = length-with_bytes bytes m (at + (144 + o + 16)) (omega (arith, room)) in
+    text_beside varying most q (with_bytes bytes (at + (144 + o + 16)) m) text (name_bytes (VariableName (j + 1))) (at + (144 + o)) (omega (arith, room, one)) (inr below)
+    (text_beside varying most q m text bytes (at + (144 + o + 16)) (omega (arith, room)) (inr (omega (arith, below))) c)
+made_there m bytes at o j q (Many count z) room below c =
+    let one = length-with_bytes bytes m (at + (144 + o + 16)) (omega (arith, room)) in
+    elements_beside (name_bytes (VariableName (j + 1))) (with_bytes bytes (at + (144 + o + 16)) m) (at + (144 + o)) q count z (omega (arith, room, one)) (inl below)
+    (elements_beside bytes m (at + (144 + o + 16)) q count z (omega (arith, room)) (inl (omega (arith, below))) c)
+
+variable_by : (s : Sizes) (q : Bool) (m bytes : List ℕ) (held : ℕ → Content) (at i j : ℕ) → (i == j) ≡ q → at + 200 + room_of s j + length bytes ≤ length m → 16 + size_in (held i) ≤ s.of i → There (with_number_made m at (room_of s j) j bytes) (at + number_place s j) (held j) → i < suc j → (i < j → There m (at + number_place s i) (held i)) → There (with_number_made m at (room_of s j) j bytes) (at + number_place s i) (held i)
+variable_by s true m bytes held at i j e room size mine below o =
+    subst (λ u. There (with_number_made m at (room_of s j) j bytes) (at + number_place s u) (held u)) (sym (eqb-true i j e)) mine
+variable_by s false m bytes held at i j e room size mine below o =
+    let less : i < j = grind (arith, nat_tests) in
+    let r = room_next s i j less in
+    made_there m bytes at (room_of s j) j (at + number_place s i) (held i) room (omega (arith, r, size)) (o less)
+
+made_number : (m : List ℕ) (at o j : ℕ) (type : Y.LeafType) (items : List T.InitialItem) → IsLimited type → IsInitial type items → at + 204 + o ≤ length m → There (with_number_made m at o j (data_by type (begin_of items) (begin_text type items))) (at + (160 + o)) (content_of type (begin_of items) (begin_text type items))
+made_number m at o j type items is begins inside =
+    subst (There (with_number_made m at o j (data_by type (begin_of items) (begin_text type items))) (at + (160 + o))) (sym (content_numeric type (begin_of items) (begin_text type items) (begin_fits type items is begins))) (made_scalar m at o j type items is begins inside)
+
+-- a text
+text_made : (varying : Bool) (most : ℕ) (m bytes text : List ℕ) (at o j : ℕ) → at + 200 + o + length bytes ≤ length m → TextThere varying most (at + (144 + o + 16)) (with_bytes bytes (at + (144 + o + 16)) m) text → TextThere varying most (at + (160 + o)) (with_number_made m at o j bytes) text
+text_made varying most m bytes text at o j room there =
+    let place = at + (144 + o + 16) in
+    let one = length-with_bytes bytes m place (omega (arith, room)) in
+    let here : place ≡ at + (160 + o) = omega arith in
+    subst (λ q. TextThere varying most q (with_number_made m at o j bytes) text) here
+    (text_beside varying most place (with_bytes bytes place m) text (name_bytes (VariableName (j + 1))) (at + (144 + o)) (omega (arith, room, one)) (inl (omega arith)) there)
+
+begin_size : (n : ℕ) (items : List T.InitialItem) → length (begin_text (Y.CharacterLeaf (Y.ConstantExtent (pos n))) items) ≡ n
+begin_size n [] = length-replicate {A = ℕ} n 32
+begin_size n (i ∷ is) = fitted_length n (constant_text i.value)
+
+begin_few : (n : ℕ) (items : List T.InitialItem) → length (begin_text (Y.VaryingLeaf (Y.ConstantExtent (pos n))) items) ≤ n
+begin_few n [] = omega arith
+begin_few n (i ∷ is) = taken_most n (constant_text i.value)
+
+made_content : (m : List ℕ) (at o j : ℕ) (type : Y.LeafType) (items : List T.InitialItem) → IsScalar type → IsInitial type items → at + 200 + o + length (data_by type (begin_of items) (begin_text type items)) ≤ length m → There (with_number_made m at o j (data_by type (begin_of items) (begin_text type items))) (at + (160 + o)) (content_of type (begin_of items) (begin_text type items))
+made_content m at o j (Y.FixedLeaf p) items is begins room =
+    let four = kind_length (store_kind (Y.FixedLeaf p)) (word (begin_of items)) in
+    made_number m at o j (Y.FixedLeaf p) items is begins (omega (arith, room, four))
+made_content m at o j Y.BitLeaf items is begins room =
+    let four = kind_length (store_kind Y.BitLeaf) (word (begin_of items)) in
+    made_number m at o j Y.BitLeaf items tt begins (omega (arith, room, four))
+made_content m at o j (Y.CharacterLeaf (Y.ConstantExtent (pos n))) items is begins room =
+    let type = Y.CharacterLeaf (Y.ConstantExtent (pos n)) in
+    let text = begin_text type items in
+    text_made false n m (data_by type (begin_of items) text) text at o j room
+    (padded_there n text (replicate (rounded_up 4 n - n) 0) m (at + (144 + o + 16)) (begin_size n items) (omega (arith, room)))
+made_content m at o j (Y.VaryingLeaf (Y.ConstantExtent (pos n))) items is begins room =
+    let type = Y.VaryingLeaf (Y.ConstantExtent (pos n)) in
+    let text = begin_text type items in
+    text_made true n m (data_by type (begin_of items) text) text at o j room
+    (cut_there n text (replicate (rounded_up 4 (2 + n) - (2 + n)) 0) m (at + (144 + o + 16)) is.1 (begin_few n items) (omega (arith, room)))
+made_content m at o j _ items is begins room = absurd is
+
+-- the elements of an array
+array_there : (m : List ℕ) (at o j count : ℕ) (type : Y.LeafType) (z : ℕ → ℤ) → ((p : ℕ) → p < count → Fits type (z p)) → at + 200 + o + 4 * count ≤ length m → There (with_number_made m at o j (bytes_of type z count)) (at + (160 + o)) (Many count (contents_of type z))
+array_there m at o j count type z fits room =
+    let bytes = bytes_of type z count in
+    let long = bytes_long type z count in
+    let place = at + (144 + o + 16) in
+    let one = length-with_bytes bytes m place (omega (arith, room, long)) in
+    let here : place ≡ at + (160 + o) = omega arith in
+    subst (λ q. There (with_number_made m at o j bytes) q (Many count (contents_of type z))) here
+    (elements_beside (name_bytes (VariableName (j + 1))) (with_bytes bytes place m) (at + (144 + o)) place count (contents_of type z) (omega (arith, room, one)) (inr (omega arith)) (elements_written type z m place count (omega (arith, room)) fits))
+
+made_kind : (m : List ℕ) (at o j : ℕ) (type : Y.LeafType) (bs : List Bounds) (items : List T.InitialItem) → IsHeld type bs → IsBegun type bs items → at + 200 + o + length (data_for type bs items) ≤ length m → There (with_number_made m at o j (data_for type bs items)) (at + (160 + o)) (content_by type bs (begin_of items) (begin_text type items) (numbers_of items))
+made_kind m at o j type [] items is begins room = made_content m at o j type items is begins room
+made_kind m at o j type (b ∷ bs) items is begins room =
+    let count = element_count (b ∷ bs) in
+    let long = bytes_long type (numbers_of items) count in
+    array_there m at o j count type (numbers_of items) (λ p below. numbers_fit type items p is.0 (all_given type items is.0 begins).0) (omega (arith, room, long))
 
 -- the frame with one more variable
-pub more_stands : (kind : ℕ → Scalar) (words j : ℕ) (small' : words ≤ most_code) (few : 32 * j ≤ 2 ^ 20) (few' : 32 * suc j ≤ 2 ^ 20) (first : List ℕ) (t : ℕ → ℕ) (b : Base) (m : List ℕ) → IsScalar (kind j).type → IsInitial (kind j).type (kind j).initial → length m ≡ memory_size → Stands (main_frame words j small' few) first (begin_contents kind) t b m → Stands (main_frame words (suc j) small' few') first (begin_contents kind) t b (with_number_made m (main_frame words j small' few).at j (data_of (kind j)))
-more_stands kind words j small' few few' first t b m is begins len o =
-    let f = main_frame words j small' few in
+pub more_stands : (kind : ℕ → Declared) (words j : ℕ) (small' : words ≤ most_code) (few : room_of (sizes_of kind) j ≤ 2 ^ 20) (few' : room_of (sizes_of kind) (suc j) ≤ 2 ^ 20) (first : List ℕ) (t : ℕ → ℕ) (b : Base) (m : List ℕ) → ((i : ℕ) → i < suc j → IsHeld (kind i).kind.type (kind i).kind.bounds) → IsBegun (kind j).kind.type (kind j).kind.bounds (kind j).initial → length m ≡ memory_size → Stands (main_frame words (sizes_of kind) j small' few) first (begin_contents kind) t b m → Stands (main_frame words (sizes_of kind) (suc j) small' few') first (begin_contents kind) t b (with_number_made m (main_frame words (sizes_of kind) j small' few).at (room_of (sizes_of kind) j) j (data_of (kind j)))
+more_stands kind words j small' few few' first t b m held begins len o =
+    let f = main_frame words (sizes_of kind) j small' few in
     let above = f.above_statics in
     let inside = f.inside in
     let bytes = data_of (kind j) in
-    let four = kind_length (store_kind (kind j).type) (word (begin_of (kind j).initial)) in
-    let room : f.at + 200 + 32 * j ≤ length m = omega (arith, inside, len) in
+    let mine = held j (omega arith) in
+    let behind = (main_frame words (sizes_of kind) (suc j) small' few').inside in
+    let size = data_length (kind j) mine in
+    let all = data_fits (kind j).kind mine in
+    let room : f.at + 200 + room_of (sizes_of kind) j + length bytes ≤ length m = omega (arith, behind, len, size, all) in
+    let held_fits : (i : ℕ) → i < suc j → 16 + size_in (begin_contents kind i) ≤ (sizes_of kind).of i = λ i h. content_fits (kind i).kind (begin_numbers kind i) (begin_text (kind i).kind.type (kind i).initial) (numbers_of (kind i).initial) (held i h) in
     record {
-      statics = λ k h. made_below m bytes f.at j k four room (omega (arith, above, h)) ∙ o.statics k h;
-      resumes = made_load 4 m bytes f.at j f.at four room (omega arith) ∙ o.resumes;
-      below = made_load 4 m bytes f.at j (f.at + 4) four room (omega arith) ∙ o.below;
-      own = made_load 4 m bytes f.at j (f.at + 36) four room (omega arith) ∙ o.own;
-      variables = λ i h. variable_by (i == j) m bytes (begin_contents kind) f.at i j refl four room (made_scalar m f.at j (kind j) is begins room) h (o.variables i);
-      temporaries = λ i h. made_load 4 m bytes f.at j (f.at - 4 * suc i) four room (omega arith) ∙ o.temporaries i h;
+      statics = λ k h. made_below m bytes f.at (room_of (sizes_of kind) j) j k room (omega (arith, above, h)) ∙ o.statics k h;
+      resumes = made_load 4 m bytes f.at (room_of (sizes_of kind) j) j f.at room (omega arith) ∙ o.resumes;
+      below = made_load 4 m bytes f.at (room_of (sizes_of kind) j) j (f.at + 4) room (omega arith) ∙ o.below;
+      own = made_load 4 m bytes f.at (room_of (sizes_of kind) j) j (f.at + 36) room (omega arith) ∙ o.own;
+      variables = λ i h. variable_by (sizes_of kind) (i == j) m bytes (begin_contents kind) f.at i j refl room (held_fits i h) (made_kind m f.at (room_of (sizes_of kind) j) j (kind j).kind.type (kind j).kind.bounds (kind j).initial mine begins room) h (o.variables i);
+      fits = held_fits;
+      temporaries = λ i h. made_load 4 m bytes f.at (room_of (sizes_of kind) j) j (f.at - 4 * suc i) room (omega arith) ∙ o.temporaries i h;
     }

@@ -1,4 +1,4 @@
--- Scalar variables of the block of level 0: in the meaning, and the code that reaches them.
+-- Declared variables of the block of level 0: in the meaning, and the code that reaches them.
 use Rattle.std.proofs.Common.{◌≡◌, ℕ, ◌+◌, List, [], ◌++◌, Option, Some, true, refl, ap, ◌∙◌}
 use Rattle.std.specs.Prelude.{ℤ, pos, ◌&&◌, slice_get, take, unwrap_or, if◌then◌else◌}
 use Rattle.std.proofs.lemmas.Bool.{eq-eqb}
@@ -21,7 +21,7 @@ use Rattle.pli_coding.specs.Environments.{Environment, Taken, no_declaration}
 use Rattle.pli_coding.specs.Expressions.{number_code, bit_code, reference_code, type_in, address_in}
 use Rattle.pli_coding.specs.Locating.{Address, no_leaf, leaf_number, leaf_place, found_reached, frame_found, frame_in, loaded, stored}
 use Rattle.pli_coding.specs.Frames.{automatic_place, has_constant_size}
-use Rattle.pli_headline.specs.ProvedSoFar.{plain_variable}
+use Rattle.pli_headline.specs.ProvedSoFar.{plain_variable, array_variable, Kind, Types}
 use Rattle.pli_headline.proofs.Scalars.{IsNumeric, by_type, bit_of, value_as, Fits, load_kind, store_kind}
 
 -- ---- in the meaning
@@ -44,6 +44,9 @@ whole v = Y.Referring v Y.NotLocated whole_part Y.NoNumber
 abbrev pub own : (block index : ℕ) → Y.Variable
 own block index = record { class = Y.AutomaticClass; block = block; level = 0; index = index }
 
+abbrev pub subscripts_in : Y.Reference → Y.Numbers
+subscripts_in (Y.Referring v locator part subscripts) = subscripts
+
 abbrev pub scalar_binding : Y.LeafType → (index serial : ℕ) → Binding
 scalar_binding type index serial = record { variable = index; name = VariableName serial; shape = scalar_shape type }
 
@@ -64,11 +67,14 @@ abbrev pub designated_scalar : Y.LeafType → (serial : ℕ) → (ℕ → List �
 designated_scalar type serial values =
     record { name = VariableName serial; generation = scalar_generation type values; extent = pos 0; part = whole_part; subscripts = [] }
 
-pub designated_gives : (around : Around) (s : State) (v : Y.Variable) (type : Y.LeafType) (z : ℤ) (k : ℕ) (h : HoldsScalar s v type z) → V.designated around (whole v) k s ≡ give (designated_scalar type h.serial h.values) k s
+pub designated_by : (around : Around) (s : State) (v : Y.Variable) (type : Y.LeafType) (serial : ℕ) (values : ℕ → List ℤ → BasicValue) (k : ℕ) → standing_for s v ≡ Some (scalar_binding type v.index serial) → named s (VariableName serial) (scalar_shape type) ≡ Some (scalar_generation type values) → V.designated around (whole v) k s ≡ give (designated_scalar type serial values) k s
 unfolding V.designated V.located V.numbers V.variable_designated V.part_designated looked ◌>>=◌ ◌>>◌ R.or_error R.demanded choose give
-designated_gives around s v type z k h =
-    ap (λ o. flow_on k (R.or_error around 101 o k s) (λ b. V.part_designated around b.name b.shape whole_part [])) h.stands
-    ∙ ap (λ o. flow_on k (R.or_error around 101 o k s) (λ g. ◌>>=◌ (R.or_error around 107 (V.extent_in_force g whole_part)) (λ e. ◌>>◌ (R.demanded around 102 (is_within (take 0 (V.leaf_at (scalar_shape type) e 0).bounds) [])) (give (record { name = VariableName h.serial; generation = g; extent = e; part = whole_part; subscripts = [] }))))) h.lives
+designated_by around s v type serial values k stands lives =
+    ap (λ o. flow_on k (R.or_error around 101 o k s) (λ b. V.part_designated around b.name b.shape whole_part [])) stands
+    ∙ ap (λ o. flow_on k (R.or_error around 101 o k s) (λ g. ◌>>=◌ (R.or_error around 107 (V.extent_in_force g whole_part)) (λ e. ◌>>◌ (R.demanded around 102 (is_within (take 0 (V.leaf_at (scalar_shape type) e 0).bounds) [])) (give (record { name = VariableName serial; generation = g; extent = e; part = whole_part; subscripts = [] }))))) lives
+
+pub designated_gives : (around : Around) (s : State) (v : Y.Variable) (type : Y.LeafType) (z : ℤ) (k : ℕ) (h : HoldsScalar s v type z) → V.designated around (whole v) k s ≡ give (designated_scalar type h.serial h.values) k s
+designated_gives around s v type z k h = designated_by around s v type h.serial h.values k h.stands h.lives
 
 pub number_gives : (around : Around) (s : State) (v : Y.Variable) (p : ℕ) (z : ℤ) (k : ℕ) → HoldsScalar s v (Y.FixedLeaf p) z → V.number around (Y.NumberIn (whole v)) k s ≡ give z k s
 unfolding V.number ◌>>=◌ give
@@ -92,10 +98,10 @@ data_place e block index = automatic_place e.parts e.program block 0 index + 16 
 abbrev pub outermost : Environment → Environment
 outermost e = record e { level = 0 }
 
-abbrev declared_in : Option Y.DeclaredVariable → Y.DeclaredVariable
+abbrev pub declared_in : Option Y.DeclaredVariable → Y.DeclaredVariable
 declared_in o = unwrap_or o no_declaration
 
-abbrev type_by : Option Y.DeclaredVariable → Y.LeafType
+abbrev pub type_by : Option Y.DeclaredVariable → Y.LeafType
 type_by o = (unwrap_or (slice_get (declared_in o).leaves 0) no_leaf).type
 
 -- the frame of level 0 is found
@@ -105,14 +111,14 @@ base_found e = frame_found e 0 u3 ++ []
 abbrev pub base_register : Environment → Register
 base_register e = frame_in e 0 u3
 
-abbrev address_from : Environment → (block index : ℕ) → Option Y.DeclaredVariable → Address
+abbrev pub address_from : Environment → (block index : ℕ) → Option Y.DeclaredVariable → Address
 address_from e block index o =
     record {
       register = if has_constant_size (declared_in o) then base_register e else u3;
       displacement = pos (if has_constant_size (declared_in o) then automatic_place e.parts e.program block 0 index + 16 + leaf_place (declared_in o) 0 else 0);
     }
 
-abbrev reached_from : Environment → Taken → (block index : ℕ) → Option Y.DeclaredVariable → Code
+abbrev pub reached_from : Environment → Taken → (block index : ℕ) → Option Y.DeclaredVariable → Code
 reached_from e t block index o =
     let v = own block index in
     if has_constant_size (declared_in o) then base_found e else found_reached e t t v whole_part (leaf_number e v 0) 0
@@ -128,6 +134,15 @@ scalar_stored type e place = displaced (λ r z. I.Store (store_kind type) r a0 z
 abbrev pub IsDeclared : Environment → (block index : ℕ) → Y.LeafType → Type 0
 IsDeclared e block index type =
     (initial : List T.InitialItem) × (slice_get (variables_of_block e.program block) index ≡ Some (plain_variable type initial))
+
+-- a variable of a kind
+abbrev pub IsDeclaredAs : Environment → (block index : ℕ) → Kind → Type 0
+IsDeclaredAs e block index k =
+    (initial : List T.InitialItem) × (slice_get (variables_of_block e.program block) index ≡ Some (array_variable k.type k.bounds initial))
+
+-- all variables of a block
+abbrev pub HasTypes : Environment → (block : ℕ) → Types → Type 0
+HasTypes e block types = (j : ℕ) (kind : Kind) → slice_get types j ≡ Some kind → IsDeclaredAs e block j kind
 
 pub number_loaded : (e : Environment) (t : Taken) (block index p : ℕ) → IsDeclared e block index (Y.FixedLeaf p) → number_code e t (Y.NumberIn (whole (own block index))) ≡ scalar_loaded (Y.FixedLeaf p) e (data_place e block index)
 number_loaded e t block index p declared =

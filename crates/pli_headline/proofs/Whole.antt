@@ -1,5 +1,5 @@
 -- The headline of every program that is proved so far: its code does what it means at each number of acts.
-use Rattle.std.proofs.Common.{ℕ, suc, ◌+◌, ◌^◌, ◌<◌, ◌≤◌, List, length, refl, sym, arith}
+use Rattle.std.proofs.Common.{ℕ, suc, ◌+◌, ◌^◌, ◌<◌, ◌≤◌, List, [], ◌++◌, length, None, true, refl, sym, subst, arith, ◌*◌}
 use Rattle.std.proofs.Math.Nat.{le-max_right}
 use Rattle.rv_meaning.specs.declared.instr.Instr.{Instr}
 use Rattle.pli_typing.specs.TypedTree as Y
@@ -11,25 +11,31 @@ use Rattle.pli_serving.specs.ServiceState.{first_services}
 use Rattle.pli_coding.specs.SignatureTable.{table_of}
 use Rattle.pli_coding.specs.Entries.{variables_words}
 use Rattle.pli_coding.specs.Statements.{stmts_words}
+use Rattle.pli_coding.specs.Assembly.{size_of}
+use Rattle.pli_coding.specs.Procedures.{procedure_in}
 use Rattle.pli_coding.specs.Linking.{links_of}
 use Rattle.pli_coding.specs.Images.{code_of, linked_code, picture_of}
-use Rattle.pli_headline.specs.ProvedSoFar.{IsProvedSoFar}
+use Rattle.pli_headline.specs.ProvedSoFar.{all_labels, procedure_labels, IsProvedSoFar}
 use Rattle.pli_headline.specs.Headline.{parts, FitsMemory, HeadlineSoFar}
 use Rattle.pli_headline.proofs.Engine.{most_code}
+use Rattle.pli_headline.proofs.Items.{Linked}
 use Rattle.pli_headline.proofs.Promises.{Laws, Comes_at, from_flow, Works, promised}
 use Rattle.pli_headline.proofs.Statics.{constant_stands}
-use Rattle.pli_headline.proofs.Marks.{Placed, placed}
+use Rattle.pli_headline.proofs.Marks.{others_code, others_of, Placed, placed}
 use Rattle.pli_headline.proofs.Sizes.{procedure_size, first_length}
-use Rattle.pli_headline.proofs.InnerWords.{all_inner_words}
+use Rattle.pli_headline.specs.InnerWords.{all_inner_words}
 use Rattle.pli_headline.proofs.InnerSizes.{procedure_inner}
-use Rattle.pli_headline.proofs.MainProcedure.{main_head, alone_of, main_environment, main_words, main_plain, declared_at}
+use Rattle.pli_headline.proofs.MainProcedure.{main_head, alone_of, main_environment, main_words, main_sizes, main_plain, declared_at}
 use Rattle.pli_headline.proofs.PlainNumbers.{length_types}
 use Rattle.pli_headline.proofs.FirstFrame.{first_step_of}
 use Rattle.pli_headline.proofs.MainFrame.{main_frame}
-use Rattle.pli_headline.proofs.LabelMarks.{blocks_known, labels_stand}
+use Rattle.pli_headline.proofs.LabelMarks.{blocks_known, others_known, labels_stand, entry_stands, end_stands}
+use Rattle.pli_headline.proofs.Gotos.{LabelsStand}
+use Rattle.pli_headline.proofs.ProvedStatements.{Calls}
+use Rattle.pli_headline.proofs.InnerCalls.{inner_calls}
 use Rattle.pli_headline.proofs.MainBody.{main_body_does}
 use Rattle.pli_headline.proofs.InitialNamed.{all_ready}
-use Rattle.pli_headline.proofs.MainRuns.{main_around, main_count, main_types, main_data, BodyDoes, main_runs}
+use Rattle.pli_headline.proofs.MainRuns.{main_around, main_count, main_room, main_types, main_data, main_sized, BodyDoes, main_runs, main_fit}
 
 -- ---- the procedure of a program
 
@@ -54,15 +60,7 @@ few_words program is fits =
     let p = (placed_for program is fits).procedure in
     let inside = p.inside in
     let small' = p.small' in
-    let n = procedure_size (main_environment program (block_in is)) (main_head (block_in is) (line_in is)) (main_types program (block_in is)) is.body (main_plain program (block_in is) is.plain) is.block.statements in
-    omega (arith, inside, small', n)
-
-few_inner : (program : Y.Program) (is : IsProvedSoFar program) → FitsMemory (picture_of parts program) → main_words program (block_in is) is.body + all_inner_words is.body ≤ most_code
-few_inner program is fits =
-    let p = (placed_for program is fits).procedure in
-    let inside = p.inside in
-    let small' = p.small' in
-    let n = procedure_inner (main_environment program (block_in is)) (main_head (block_in is) (line_in is)) (main_types program (block_in is)) is.body (main_plain program (block_in is) is.plain) is.block.statements in
+    let n = procedure_size (main_environment program (block_in is)) (main_head (block_in is) (line_in is)) (main_types program (block_in is)) is.body (λ j kind at. declared_at (variables_of_block program (block_in is)) j (main_plain program (block_in is) is.plain) at) (main_plain program (block_in is) is.plain) is.block.statements in
     omega (arith, inside, small', n)
 
 -- there is some code
@@ -75,6 +73,40 @@ some_code program is fits =
 
 -- ---- its statements
 
+labels_of : (program : Y.Program) (is : IsProvedSoFar program) → LabelsStand (main_environment program (block_in is)) (links_of (code_of parts program)) (all_labels (block_in is) is.body ++ procedure_labels is.others) (block_in is) true
+labels_of program is =
+    labels_stand program (block_in is) (line_in is) is.body is.called is.plain (alone_of program is) is.block.statements is.block.inside is.block.jumps is.inner
+
+-- where the other procedures stand
+abbrev others_at : (program : Y.Program) (is : IsProvedSoFar program) → FitsMemory (picture_of parts program) → ℕ
+others_at program is fits =
+    (placed_for program is fits).entry + size_of (procedure_in (main_environment program (block_in is)) (main_head (block_in is) (line_in is)) is.body [] None)
+
+others_stand : (program : Y.Program) (is : IsProvedSoFar program) (fits : FitsMemory (picture_of parts program)) → Linked (links_of (code_of parts program)) (code_for program) (others_at program is fits) (others_code program is.others)
+others_stand program is fits =
+    subst (λ ps. Linked (links_of (code_of parts program)) (code_for program) (others_at program is fits) (others_code program (others_of ps))) (alone_of program is).are (placed_for program is fits).others
+
+-- calls in the main procedure
+calls_done : (program : Y.Program) (is : IsProvedSoFar program) (fits : FitsMemory (picture_of parts program)) (k : ℕ) → Calls (main_environment program (block_in is)) (block_in is) (main_types program (block_in is)) k (links_of (code_of parts program)) (code_for program) is.called
+calls_done program is fits k =
+    let block = block_in is in
+    let line = line_in is in
+    let alone = alone_of program is in
+    let behind = (placed_for program is fits).behind in
+    inner_calls program block line is.body is.called alone is.inner is.once (others_at program is fits) (others_stand program is fits) (omega (arith, behind))
+    (λ number apart once. entry_stands program block line is.body is.called is.plain alone is.block.statements is.block.inside is.inner number apart once)
+    (λ number apart once. end_stands program block line is.body is.called is.plain alone is.block.statements is.block.inside is.inner number apart once)
+    (labels_of program is)
+    (λ b h. others_known program block line is.body alone b h) k
+
+room_for : (program : Y.Program) (is : IsProvedSoFar program) (fits : FitsMemory (picture_of parts program)) (few : main_room program (block_in is) ≤ 2 ^ 20) → (main_frame (main_words program (block_in is) is.body) (main_sizes program (block_in is)) (main_count program (block_in is)) (few_words program is fits) few).at + 144 + main_room program (block_in is) + 4 * all_inner_words is.body + 700 * 101 + 2000000 ≤ 14 * 2 ^ 20
+room_for program is fits few =
+    let p = (placed_for program is fits).procedure in
+    let inside = p.inside in
+    let small' = p.small' in
+    let n = procedure_inner (main_environment program (block_in is)) (main_head (block_in is) (line_in is)) (block_in is) (main_types program (block_in is)) is.body (λ j kind at. declared_at (variables_of_block program (block_in is)) j (main_plain program (block_in is) is.plain) at) (main_plain program (block_in is) is.plain) is.block.statements in
+    omega (arith, inside, small', n, few)
+
 body_done : (program : Y.Program) (is : IsProvedSoFar program) (fits : FitsMemory (picture_of parts program)) (k : ℕ) → BodyDoes program (block_in is) (line_in is) is.body (memory_for program) is.plain (alone_of program is) (few_words program is fits) (links_of (code_of parts program)) (code_for program) k
 body_done program is fits k few =
     let block = block_in is in
@@ -82,16 +114,17 @@ body_done program is fits k few =
     let alone = alone_of program is in
     let small' = few_words program is fits in
     main_body_does program block line is.body alone
-    (main_frame (main_words program block is.body) (main_count program block) small' few)
+    (main_frame (main_words program block is.body) (main_sizes program block) (main_count program block) small' few)
     (memory_for program)
     (main_types program block) (sym (length_types (variables_of_block program block)))
-    (λ j b. declared_at (variables_of_block program block) j (main_plain program block is.plain) b.1)
+    (λ j kind at. declared_at (variables_of_block program block) j (main_plain program block is.plain) at)
     (λ j below. main_data program block line is.body j is.plain alone below few)
+    (main_sized program block line is.body is.plain alone few) (main_fit program block is.body is.plain small' few)
     (links_of (code_of parts program)) (code_for program)
-    (placed_for program is fits).routines (main_around program k line) refl
-    (labels_stand program block line is.body is.plain alone is.block.statements is.block.inside) is.block.statements is.block.jumps
+    (placed_for program is fits).routines (main_around program k line) refl is.called k
+    (labels_of program is) is.block.statements is.block.jumps
     (le-max_right (variables_words (variables_of_block program block)) (stmts_words is.body))
-    (let most = few_inner program is fits in omega (arith, most, few)) is.block.inside (record { enter = refl; turns = refl }) (blocks_known program block line is.body alone)
+    (room_for program is fits few) is.block.inside (record { enter = refl; turns = refl }) (omega arith) (blocks_known program block line is.body alone) is.block.calls (calls_done program is fits k)
     (constant_stands (code_of parts program) fits)
 
 -- ---- its runs
@@ -100,7 +133,7 @@ comes : (laws : Laws) (program : Y.Program) (is : IsProvedSoFar program) → Fit
 unfolding meaning
 comes laws program is fits input k room =
     from_flow laws (picture_of parts program) (table_of program) program input k (run program (suc k) k (first_state input)) refl
-    (main_runs program (block_in is) (line_in is) is.body (memory_for program) input is.plain (alone_of program is) (few_words program is fits) k (all_ready program (block_in is) (line_in is) is.body is.plain (alone_of program is) fits (some_code program is fits)) is.block.line room (first_length (picture_of parts program) fits) (placed_for program is fits) (body_done program is fits k))
+    (main_runs program (block_in is) (line_in is) is.body (memory_for program) input is.plain (alone_of program is) (few_words program is fits) k (all_ready program (block_in is) (line_in is) is.body is.plain is.few (alone_of program is) fits (some_code program is fits)) is.block.line room (first_length (picture_of parts program) fits) (placed_for program is fits) (body_done program is fits k))
 
 works : (laws : Laws) (program : Y.Program) (is : IsProvedSoFar program) → FitsMemory (picture_of parts program) → Works (picture_of parts program) (table_of program) program
 works laws program is fits =

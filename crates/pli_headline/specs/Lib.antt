@@ -1,3 +1,4 @@
+pub mod InnerWords
 pub mod ProvedSoFar
 pub mod Headline
 pub mod FirstForms

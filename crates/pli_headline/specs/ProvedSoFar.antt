@@ -1,18 +1,25 @@
--- The programs for which the headline is proved so far: one procedure with scalars of FIXED BINARY and BIT(1), with or without
--- INITIAL, and BEGIN blocks in it and in one another that declare nothing; expressions of numbers and bits; assignments of these, IF,
--- groups, DO WHILE, DO with a FIXED or BIT(1) variable, GOTO to a label of a list around it in its block, RETURN in the procedure, STOP,
--- SIGNAL, PUT EDIT of numbers, bits and texts, and GET EDIT of such scalars, by lists of F, A, X, SKIP and COLUMN items. Each form that is
--- proved takes a line off.
-use Rattle.std.specs.Prelude.{◌≡◌, ℕ, suc, ◌<◌, ◌≤◌, ◌^◌, List, [], ◌∷◌, ◌++◌, length, map, slice_get, Bool, Option, None, Some, true, false, if◌then◌else◌, ⊤, ◌==◌, ◌&&◌}
+-- The programs for which the headline is proved so far: a main procedure with scalars of FIXED BINARY, BIT(1) and CHARACTER of
+-- constant lengths, VARYING or not, with or without INITIAL, arrays of FIXED BINARY and BIT(1) with constant bounds, with or without
+-- INITIAL, procedures inside it that declare nothing, without parameters and results, and BEGIN blocks in these and in one another that
+-- declare nothing; expressions of numbers, bits and texts, and elements of arrays in them; assignments of these, CALL of these
+-- procedures, also by themselves, IF, groups, DO WHILE, DO with a variable, GOTO to a label of a list around it in its block or in the
+-- procedure, RETURN, STOP, SIGNAL, ON with SYSTEM, REVERT, PUT EDIT of numbers, bits and texts, and GET EDIT of such scalars and
+-- elements, by lists of F, A, X, SKIP and COLUMN items. Each form that is proved takes a line off.
+use Rattle.std.specs.Prelude.{◌≡◌, ℕ, suc, int_le, ◌<◌, ◌≤◌, ◌^◌, List, [], ◌∷◌, ◌++◌, length, map, slice_get, Bool, Option, None, Some, true, false, if◌then◌else◌, ⊤, ◌==◌, ◌&&◌, ◌⊎◌, pos, ◌+◌}
 use Rattle.pli_language.specs.Keywords.{same_bytes}
 use Rattle.pli_language.specs.Tree as T
 use Rattle.pli_language.specs.Formats.{formats_move_data}
+use Rattle.pli_typing.specs.Signatures.{Bounds}
 use Rattle.pli_typing.specs.TypedTree as Y
 use Rattle.pli_meaning.specs.Numbers.{is_of_precision}
 use Rattle.pli_meaning.specs.Control.{Label, is_among}
-use Rattle.pli_meaning.specs.DeclaredShapes.{variables_of_block}
+use Rattle.pli_meaning.specs.DeclaredShapes.{variables_of_block, bounds_of}
 use Rattle.pli_meaning.specs.Executing.{labels_in}
+use Rattle.pli_coding.specs.Expressions.{given_in}
+use Rattle.pli_coding.specs.SignatureTable.{table_of}
 use Rattle.pli_coding.specs.Streams.{has_fixed, has_text}
+use Rattle.pli_coding.specs.Statements.{stmts_words}
+use Rattle.pli_headline.specs.InnerWords.{all_inner_words}
 
 -- ---- declarations
 
@@ -27,61 +34,172 @@ plain_variable type initial =
       evaluations = [];
     }
 
--- FIXED BINARY of 1 to 31 bits, and BIT(1)
+-- FIXED BINARY of 1 to 31 bits, BIT(1), and CHARACTER of a constant length of 1,024 at most, which may be VARYING
 abbrev pub IsScalar : Y.LeafType → Type 0
 IsScalar (Y.FixedLeaf p) = (1 ≤ p) × (p ≤ 31)
 IsScalar Y.BitLeaf = ⊤
+IsScalar (Y.CharacterLeaf (Y.ConstantExtent (pos n))) = (1 ≤ n) × (n ≤ 1024)
+IsScalar (Y.VaryingLeaf (Y.ConstantExtent (pos n))) = (1 ≤ n) × (n ≤ 1024)
 IsScalar _ = ⊥
 
--- a constant of a type
+-- CHARACTER of a constant length, which may be VARYING
+abbrev pub text_leaf : (varying : Bool) → (most : ℕ) → Y.LeafType
+text_leaf false most = Y.CharacterLeaf (Y.ConstantExtent (pos most))
+text_leaf true most = Y.VaryingLeaf (Y.ConstantExtent (pos most))
+
+-- a constant of a type, or an asterisk, which leaves the variable as it begins
 abbrev pub IsConstantOf : Y.LeafType → T.InitialValue → Type 0
 IsConstantOf (Y.FixedLeaf p) (T.InitialNumber z) = is_of_precision p z ≡ true
+IsConstantOf (Y.FixedLeaf p) T.InitialSkip = ⊤
 IsConstantOf Y.BitLeaf (T.InitialBit b) = ⊤
+IsConstantOf Y.BitLeaf T.InitialSkip = ⊤
+IsConstantOf (Y.CharacterLeaf (Y.ConstantExtent (pos n))) (T.InitialText bytes) = length bytes ≤ 1024
+IsConstantOf (Y.VaryingLeaf (Y.ConstantExtent (pos n))) (T.InitialText bytes) = length bytes ≤ 1024
 IsConstantOf _ _ = ⊥
 
--- no INITIAL, or one constant
+-- any number of these, of which the first that is repeated at all is used
+abbrev pub AreConstants : Y.LeafType → List T.InitialItem → Type 0
+AreConstants type [] = ⊤
+AreConstants type (i ∷ is) = (i.repetition < 2 ^ 31) × (IsConstantOf type i.value × AreConstants type is)
+
+-- none, or one
+abbrev pub IsConstantIf : Y.LeafType → List T.InitialItem → Type 0
+IsConstantIf type [] = ⊤
+IsConstantIf type (i ∷ []) = (i.repetition ≡ 1) × IsConstantOf type i.value
+IsConstantIf type _ = ⊥
+
+-- INITIAL of numbers and bits, and of texts
 abbrev pub IsInitial : Y.LeafType → List T.InitialItem → Type 0
-IsInitial type [] = ⊤
-IsInitial type (i ∷ []) = (i.repetition ≡ 1) × IsConstantOf type i.value
-IsInitial type _ = ⊥
+IsInitial (Y.CharacterLeaf extent) items = IsConstantIf (Y.CharacterLeaf extent) items
+IsInitial (Y.VaryingLeaf extent) items = IsConstantIf (Y.VaryingLeaf extent) items
+IsInitial type items = AreConstants type items
+
+-- ---- arrays
+
+abbrev pub constant_bounds : Bounds → Y.Bounds
+constant_bounds b = record { lower = Y.ConstantExtent b.lower; upper = Y.ConstantExtent b.upper }
+
+-- an AUTOMATIC array of a type with constant bounds, with what INITIAL gives it; a scalar is one without bounds
+abbrev pub array_variable : Y.LeafType → List Bounds → List T.InitialItem → Y.DeclaredVariable
+array_variable type bs initial =
+    record {
+      class = Y.AutomaticClass;
+      members = record { depth = 0; dimensions = length bs } ∷ [];
+      leaves = record { type = type; bounds = map constant_bounds bs; initial = initial } ∷ [];
+      refer = None;
+      evaluations = [];
+    }
+
+-- numbers of 31 bits, in order
+abbrev pub IsBounds : Bounds → Type 0
+IsBounds b = (is_of_precision 31 b.lower ≡ true) × ((is_of_precision 31 b.upper ≡ true) × (int_le b.lower b.upper ≡ true))
+
+abbrev pub AreBounds : List Bounds → Type 0
+AreBounds [] = Unit {0}
+AreBounds (b ∷ bs) = IsBounds b × AreBounds bs
+
+-- FIXED BINARY of 1 to 31 bits, and BIT(1)
+abbrev pub IsElementType : Y.LeafType → Type 0
+IsElementType (Y.FixedLeaf p) = (1 ≤ p) × (p ≤ 31)
+IsElementType Y.BitLeaf = Unit {0}
+IsElementType _ = ⊥
+
+-- a scalar, or an array of up to eight dimensions
+abbrev pub IsHeld : Y.LeafType → List Bounds → Type 0
+IsHeld type [] = IsScalar type
+IsHeld type (b ∷ bs) = IsElementType type × ((IsBounds b × AreBounds bs) × (length bs ≤ 7))
+
+-- what INITIAL gives it: an array has any constants, or none
+abbrev pub IsBegun : Y.LeafType → List Bounds → List T.InitialItem → Type 0
+IsBegun type [] items = IsInitial type items
+IsBegun type (b ∷ bs) items = AreConstants type items
 
 pub record IsPlain (d : Y.DeclaredVariable) : Type 0 where
   pub type : Y.LeafType
+  pub bounds : List Bounds
   pub initial : List T.InitialItem
-  pub scalar : IsScalar type
-  pub begins : IsInitial type initial
-  pub is : d ≡ plain_variable type initial
+  pub held : IsHeld type bounds
+  pub begins : IsBegun type bounds initial
+  pub is : d ≡ array_variable type bounds initial
 
 abbrev pub ArePlain : List Y.DeclaredVariable → Type 0
 ArePlain [] = ⊤
 ArePlain (d ∷ ds) = IsPlain d × ArePlain ds
 
--- the types of a block's variables
-abbrev pub Types : Type 0
-Types = List Y.LeafType
+-- the type of a variable, and the bounds of an array
+pub record Kind : Type 0 where
+  pub type : Y.LeafType
+  pub bounds : List Bounds
 
-abbrev pub type_of : Y.DeclaredVariable → Y.LeafType
-type_of d = first_type d.leaves
-  where
-    first_type : List Y.Leaf → Y.LeafType
-    first_type [] = Y.BitLeaf
-    first_type (l ∷ ls) = l.type
+abbrev pub alone : Y.LeafType → Kind
+alone type = record { type = type; bounds = [] }
+
+-- those of a block's variables
+abbrev pub Types : Type 0
+Types = List Kind
+
+abbrev pub kind_in : List Y.Leaf → Kind
+kind_in [] = alone Y.BitLeaf
+kind_in (l ∷ ls) = record { type = l.type; bounds = map (bounds_of []) l.bounds }
+
+abbrev pub declared_kind : Y.DeclaredVariable → Kind
+declared_kind d = kind_in d.leaves
 
 abbrev pub types_of : List Y.DeclaredVariable → Types
-types_of ds = map type_of ds
+types_of ds = map declared_kind ds
 
 -- ---- expressions, in a block whose variables have these types
 
 -- a variable of the block itself of a type, all of it
 pub record IsOwn (block : ℕ) (types : Types) (type : Y.LeafType) (r : Y.Reference) : Type 0 where
   pub index : ℕ
-  pub declared : slice_get types index ≡ Some type
+  pub declared : slice_get types index ≡ Some (alone type)
   pub is : r ≡ Y.Referring (record { class = Y.AutomaticClass; block = block; level = 0; index = index }) Y.NotLocated (record { first = 0; count = 1 }) Y.NoNumber
 
+-- an element of an array of the block, with as many subscripts as it has bounds
+pub record IsElement (block : ℕ) (types : Types) (type : Y.LeafType) (r : Y.Reference) : Type 0 where
+  pub index : ℕ
+  pub bound : Bounds
+  pub bounds : List Bounds
+  pub first : Y.Number
+  pub rest : Y.Numbers
+  pub declared : slice_get types index ≡ Some (record { type = type; bounds = bound ∷ bounds })
+  pub many : given_in rest ≡ length bounds
+  pub is : r ≡ Y.Referring (record { class = Y.AutomaticClass; block = block; level = 0; index = index }) Y.NotLocated (record { first = 0; count = 1 }) (Y.NumberThen first rest)
+
+-- a scalar, or an element
+abbrev pub IsPart : (block : ℕ) (types : Types) (type : Y.LeafType) (r : Y.Reference) → Type 0
+IsPart block types type r = IsOwn block types type r ⊎ IsElement block types type r
+
 -- one that holds a number
+pub record IsPartNumber (block : ℕ) (types : Types) (r : Y.Reference) : Type 0 where
+  pub precision : ℕ
+  pub part : IsPart block types (Y.FixedLeaf precision) r
+
+-- a dimension of an array of the block, of which a bound or the number of its subscripts is asked
+pub record IsDimension (block : ℕ) (types : Types) (r : Y.Reference) (dimension : ℕ) : Type 0 where
+  pub index : ℕ
+  pub type : Y.LeafType
+  pub element : IsElementType type
+  pub bound : Bounds
+  pub bounds : List Bounds
+  pub declared : slice_get types index ≡ Some (record { type = type; bounds = bound ∷ bounds })
+  pub place : ℕ
+  pub asked : Bounds
+  pub dimension_is : dimension ≡ suc place
+  pub among : slice_get (bound ∷ bounds) place ≡ Some asked
+  pub is : r ≡ Y.Referring (record { class = Y.AutomaticClass; block = block; level = 0; index = index }) Y.NotLocated (record { first = 0; count = 1 }) Y.NoNumber
+
+-- a variable that holds a number
 pub record IsOwnNumber (block : ℕ) (types : Types) (r : Y.Reference) : Type 0 where
   pub precision : ℕ
   pub own : IsOwn block types (Y.FixedLeaf precision) r
+
+-- one that holds a text
+pub record IsOwnText (block : ℕ) (types : Types) (r : Y.Reference) : Type 0 where
+  pub varying : Bool
+  pub most : ℕ
+  pub own : IsOwn block types (text_leaf varying most) r
 
 -- the places of a number as a text go by its precision
 abbrev pub IsPrecision : ℕ → Type 0
@@ -90,7 +208,8 @@ IsPrecision precision = (1 ≤ precision) × (precision ≤ 31)
 abbrev mutual
   pub IsProvedNumber : (block : ℕ) (types : Types) → Y.Number → Type 0
   IsProvedNumber block types (Y.NumberConstant n) = n < 2 ^ 31
-  IsProvedNumber block types (Y.NumberIn r) = IsOwnNumber block types r
+  IsProvedNumber block types (Y.NumberIn (Y.Referring v locator part subscripts)) =
+      IsPartNumber block types (Y.Referring v locator part subscripts) × AreProvedNumbers block types subscripts
   IsProvedNumber block types (Y.NumberOfBit x) = IsProvedBit block types x
   IsProvedNumber block types (Y.NumberOfText x) = IsProvedText block types x
   IsProvedNumber block types (Y.Signed sign x) = IsProvedNumber block types x
@@ -104,6 +223,10 @@ abbrev mutual
   IsProvedNumber block types (Y.LengthOf x) = IsProvedText block types x
   IsProvedNumber block types (Y.IndexOf searched sought) = IsProvedText block types searched × IsProvedText block types sought
   IsProvedNumber block types (Y.VerifyOf searched allowed) = IsProvedText block types searched × IsProvedText block types allowed
+  IsProvedNumber block types (Y.LowerBound r dimension) = IsDimension block types r dimension
+  IsProvedNumber block types (Y.UpperBound r dimension) = IsDimension block types r dimension
+  IsProvedNumber block types (Y.ElementsOf r dimension) = IsDimension block types r dimension
+  IsProvedNumber block types Y.OnCode = ⊤
   IsProvedNumber block types _ = ⊥
 
   pub AreProvedNumbers : (block : ℕ) (types : Types) → Y.Numbers → Type 0
@@ -112,7 +235,8 @@ abbrev mutual
 
   pub IsProvedBit : (block : ℕ) (types : Types) → Y.Bit → Type 0
   IsProvedBit block types (Y.BitConstant b) = ⊤
-  IsProvedBit block types (Y.BitIn r) = IsOwn block types Y.BitLeaf r
+  IsProvedBit block types (Y.BitIn (Y.Referring v locator part subscripts)) =
+      IsPart block types Y.BitLeaf (Y.Referring v locator part subscripts) × AreProvedNumbers block types subscripts
   IsProvedBit block types (Y.Negated x) = IsProvedBit block types x
   IsProvedBit block types (Y.Combined operator left right) = IsProvedBit block types left × IsProvedBit block types right
   IsProvedBit block types (Y.NumbersCompared comparison left right) = IsProvedNumber block types left × IsProvedNumber block types right
@@ -121,9 +245,10 @@ abbrev mutual
   IsProvedBit block types (Y.BitsCompared comparison left right) = IsProvedBit block types left × IsProvedBit block types right
   IsProvedBit block types _ = ⊥
 
-  -- constants of 1,024 bytes at most, numbers and bits as texts, texts that are joined, and their parts
+  -- constants of 1,024 bytes at most, variables, numbers and bits as texts, texts that are joined, and their parts
   pub IsProvedText : (block : ℕ) (types : Types) → Y.Text → Type 0
   IsProvedText block types (Y.TextConstant bytes) = length bytes ≤ 1024
+  IsProvedText block types (Y.TextIn r) = IsOwnText block types r
   IsProvedText block types (Y.TextOfNumber precision x) = IsPrecision precision × IsProvedNumber block types x
   IsProvedText block types (Y.TextOfBit x) = IsProvedBit block types x
   IsProvedText block types (Y.Joined left right) = IsProvedText block types left × IsProvedText block types right
@@ -132,6 +257,13 @@ abbrev mutual
       IsProvedText block types x × (IsProvedNumber block types start × IsProvedNumber block types many)
   IsProvedText block types _ = ⊥
 
+-- what is assigned to: a scalar, or an element with proved subscripts
+abbrev pub AreSubscripts : (block : ℕ) (types : Types) → Y.Reference → Type 0
+AreSubscripts block types (Y.Referring v locator part subscripts) = AreProvedNumbers block types subscripts
+
+abbrev pub IsAssigned : (block : ℕ) (types : Types) → Y.LeafType → Y.Reference → Type 0
+IsAssigned block types type r = IsPart block types type r × AreSubscripts block types r
+
 abbrev pub IsProvedNumberIf : (block : ℕ) (types : Types) → Option Y.Number → Type 0
 IsProvedNumberIf block types None = ⊤
 IsProvedNumberIf block types (Some x) = IsProvedNumber block types x
@@ -139,6 +271,13 @@ IsProvedNumberIf block types (Some x) = IsProvedNumber block types x
 abbrev pub IsProvedBitIf : (block : ℕ) (types : Types) → Option Y.Bit → Type 0
 IsProvedBitIf block types None = ⊤
 IsProvedBitIf block types (Some x) = IsProvedBit block types x
+
+-- with what a variable that counts begins
+abbrev pub IsProvedStart : (block : ℕ) (types : Types) → Y.Value → Type 0
+IsProvedStart block types (Y.NumberValue precision x) = IsProvedNumber block types x
+IsProvedStart block types (Y.TextValue x) = IsProvedText block types x
+IsProvedStart block types (Y.BitValue x) = IsProvedBit block types x
+IsProvedStart block types _ = ⊥
 
 -- ---- PUT
 
@@ -215,17 +354,20 @@ abbrev mutual
   HaveWidths T.NoFormat = ⊤
   HaveWidths (T.FormatThen place repetition first rest) = HasWidths first × HaveWidths rest
 
--- numbers are read by any item, and bits by A items
+-- numbers and texts are read by any item, and bits by A items
 abbrev pub IsReadBy : (fixed : Bool) → Y.LeafType → Type 0
 IsReadBy fixed (Y.FixedLeaf p) = ⊤
 IsReadBy fixed Y.BitLeaf = fixed ≡ false
+IsReadBy fixed (Y.CharacterLeaf (Y.ConstantExtent (pos n))) = ⊤
+IsReadBy fixed (Y.VaryingLeaf (Y.ConstantExtent (pos n))) = ⊤
 IsReadBy fixed _ = ⊥
 
--- a variable of the block that is read by items of a list
+-- a variable of the block that is read by items of a list, or an element
 pub record IsTarget (block : ℕ) (types : Types) (fixed : Bool) (r : Y.Reference) : Type 0 where
   pub type : Y.LeafType
-  pub own : IsOwn block types type r
+  pub part : IsOwn block types type r ⊎ (IsElement block types type r × IsElementType type)
   pub read : IsReadBy fixed type
+  pub subscripts : AreSubscripts block types r
 
 abbrev pub IsProvedGetItem : (block : ℕ) (types : Types) (fixed : Bool) → Y.GetItem → Type 0
 IsProvedGetItem block types fixed (Y.GetScalar r) = IsTarget block types fixed r
@@ -252,9 +394,11 @@ abbrev mutual
   pub IsProvedStatement : (block : ℕ) (types : Types) → Y.Stmt → Type 0
   IsProvedStatement block types (Y.Null line) = IsLine line
   IsProvedStatement block types (Y.Assign target (Y.StoredNumber precision x) line) =
-      IsOwn block types (Y.FixedLeaf precision) target × (IsProvedNumber block types x × IsLine line)
+      IsAssigned block types (Y.FixedLeaf precision) target × (IsProvedNumber block types x × IsLine line)
   IsProvedStatement block types (Y.Assign target (Y.StoredBit x) line) =
-      IsOwn block types Y.BitLeaf target × (IsProvedBit block types x × IsLine line)
+      IsAssigned block types Y.BitLeaf target × (IsProvedBit block types x × IsLine line)
+  IsProvedStatement block types (Y.Assign target (Y.StoredText x) line) =
+      IsOwnText block types target × (IsProvedText block types x × IsLine line)
   IsProvedStatement block types (Y.If condition unit line) =
       IsProvedBit block types condition × (IsProvedStatement block types unit × IsLine line)
   IsProvedStatement block types (Y.IfElse condition unit otherwise line) =
@@ -263,18 +407,23 @@ abbrev mutual
   IsProvedStatement block types (Y.DoWhile condition body line) =
       IsProvedBit block types condition × (AreProvedStatements block types body × IsLine line)
   IsProvedStatement block types (Y.DoOnce target (Y.StoredNumber precision x) condition body line) =
-      (IsOwn block types (Y.FixedLeaf precision) target × IsProvedNumber block types x) × (IsProvedBitIf block types condition × (AreProvedStatements block types body × IsLine line))
+      (IsAssigned block types (Y.FixedLeaf precision) target × IsProvedNumber block types x) × (IsProvedBitIf block types condition × (AreProvedStatements block types body × IsLine line))
   IsProvedStatement block types (Y.DoOnce target (Y.StoredBit x) condition body line) =
-      (IsOwn block types Y.BitLeaf target × IsProvedBit block types x) × (IsProvedBitIf block types condition × (AreProvedStatements block types body × IsLine line))
-  IsProvedStatement block types (Y.DoCount (Y.NumberCounter precision target) (Y.NumberValue p x) limit step condition body line) =
-      (IsOwn block types (Y.FixedLeaf precision) target × IsProvedNumber block types x)
+      (IsAssigned block types Y.BitLeaf target × IsProvedBit block types x) × (IsProvedBitIf block types condition × (AreProvedStatements block types body × IsLine line))
+  IsProvedStatement block types (Y.DoOnce target (Y.StoredText x) condition body line) =
+      (IsOwnText block types target × IsProvedText block types x) × (IsProvedBitIf block types condition × (AreProvedStatements block types body × IsLine line))
+  IsProvedStatement block types (Y.DoCount (Y.NumberCounter precision target) start limit step condition body line) =
+      (IsOwn block types (Y.FixedLeaf precision) target × IsProvedStart block types start)
       × ((IsProvedNumberIf block types limit × IsProvedNumber block types step) × (IsProvedBitIf block types condition × (AreProvedStatements block types body × IsLine line)))
   IsProvedStatement block types (Y.Begin (Y.BlockOf head body)) =
       (head.kind ≡ Y.BeginBlock) × (IsLine head.line × AreProvedStatements block types body)
+  IsProvedStatement block types (Y.CallProcedure (Y.Calling procedure level Y.NoArgument) line) = (level ≡ 0) × IsLine line
   IsProvedStatement block types (Y.Return line) = IsLine line
   IsProvedStatement block types (Y.Goto level label line) = IsLine line
   IsProvedStatement block types (Y.Stop line) = IsLine line
   IsProvedStatement block types (Y.Signal condition line) = IsLine line
+  IsProvedStatement block types (Y.OnSystem condition line) = IsLine line
+  IsProvedStatement block types (Y.Revert condition line) = IsLine line
   IsProvedStatement block types (Y.Put None pairs line) = AreProvedPairs block types pairs × IsLine line
   IsProvedStatement block types (Y.Put (Some n) pairs line) = IsTimes n × (AreProvedPairs block types pairs × IsLine line)
   IsProvedStatement block types (Y.Get None pairs line) = AreProvedGetPairs block types pairs × IsLine line
@@ -313,25 +462,63 @@ abbrev mutual
   all_labels block (Y.EndOfList labels) = of_block block labels
   all_labels block (Y.StmtThen labels first rest) = of_block block labels ++ (inner_labels block first ++ all_labels block rest)
 
--- a GOTO names a label of a list around it in its block, which has a level, and the label stands once in the program's blocks of that
--- number; RETURN stands in the procedure, and begin blocks stand up to a hundred deep
+-- a GOTO names a label of a list around it in its block, which has a level, or in the procedure, and the label stands once in the
+-- program's blocks of that number; the blocks in the procedure have greater numbers; begin blocks stand up to a hundred deep
 abbrev mutual
-  pub JumpsAround : (block level : ℕ) → (all : List (ℕ × Label)) → (around : List Label) → Y.Stmt → Type 0
-  JumpsAround block level all around (Y.If condition unit line) = JumpsAround block level all around unit
-  JumpsAround block level all around (Y.IfElse condition unit otherwise line) = JumpsAround block level all around unit × JumpsAround block level all around otherwise
-  JumpsAround block level all around (Y.Do body line) = AllJumpAround block level all (labels_in body ++ around) body
-  JumpsAround block level all around (Y.DoWhile condition body line) = AllJumpAround block level all (labels_in body ++ around) body
-  JumpsAround block level all around (Y.DoOnce target start condition body line) = AllJumpAround block level all (labels_in body ++ around) body
-  JumpsAround block level all around (Y.DoCount counter start limit step condition body line) = AllJumpAround block level all (labels_in body ++ around) body
-  JumpsAround block level all around (Y.Begin (Y.BlockOf head body)) =
-      ((head.level ≡ suc level) × (head.level ≤ 100)) × AllJumpAround head.number head.level all (labels_in body) body
-  JumpsAround block level all around (Y.Goto to label line) = (to ≡ level) × ((is_among label around ≡ true) × (times block label all ≡ 1))
-  JumpsAround block level all around (Y.Return line) = level ≡ 0
-  JumpsAround block level all around _ = ⊤
+  pub JumpsAround : (block level : ℕ) → (all : List (ℕ × Label)) → (procedure : ℕ) → (outer around : List Label) → Y.Stmt → Type 0
+  JumpsAround block level all procedure outer around (Y.If condition unit line) = JumpsAround block level all procedure outer around unit
+  JumpsAround block level all procedure outer around (Y.IfElse condition unit otherwise line) = JumpsAround block level all procedure outer around unit × JumpsAround block level all procedure outer around otherwise
+  JumpsAround block level all procedure outer around (Y.Do body line) = AllJumpAround block level all procedure outer (labels_in body ++ around) body
+  JumpsAround block level all procedure outer around (Y.DoWhile condition body line) = AllJumpAround block level all procedure outer (labels_in body ++ around) body
+  JumpsAround block level all procedure outer around (Y.DoOnce target start condition body line) = AllJumpAround block level all procedure outer (labels_in body ++ around) body
+  JumpsAround block level all procedure outer around (Y.DoCount counter start limit step condition body line) = AllJumpAround block level all procedure outer (labels_in body ++ around) body
+  JumpsAround block level all procedure outer around (Y.Begin (Y.BlockOf head body)) =
+      ((head.level ≡ suc level) × (head.level ≤ 100)) × AllJumpAround head.number head.level all procedure (if 0 == level then around else outer) (labels_in body) body
+  JumpsAround block level all procedure outer around (Y.Goto to label line) =
+      ((to ≡ level) × ((is_among label around ≡ true) × (times block label all ≡ 1)))
+      ⊎ (((to ≡ 0) × ((0 == level) ≡ false)) × ((procedure ≤ block) × ((is_among label outer ≡ true) × (times procedure label all ≡ 1))))
+  JumpsAround block level all procedure outer around _ = ⊤
 
-  pub AllJumpAround : (block level : ℕ) → (all : List (ℕ × Label)) → (around : List Label) → Y.Stmts → Type 0
-  AllJumpAround block level all around (Y.EndOfList labels) = ⊤
-  AllJumpAround block level all around (Y.StmtThen labels first rest) = JumpsAround block level all around first × AllJumpAround block level all around rest
+  pub AllJumpAround : (block level : ℕ) → (all : List (ℕ × Label)) → (procedure : ℕ) → (outer around : List Label) → Y.Stmts → Type 0
+  AllJumpAround block level all procedure outer around (Y.EndOfList labels) = ⊤
+  AllJumpAround block level all procedure outer around (Y.StmtThen labels first rest) = JumpsAround block level all procedure outer around first × AllJumpAround block level all procedure outer around rest
+
+-- ---- calls
+
+abbrev pub is_number : ℕ → List ℕ → Bool
+is_number number [] = false
+is_number number (n ∷ ns) = if number == n then true else is_number number ns
+
+-- calls name one of some numbers, and a RETURN stands in the main procedure or in a procedure's own block
+abbrev mutual
+  pub CallsAmong : (may : List ℕ) → (main own : Bool) → Y.Stmt → Type 0
+  CallsAmong may main own (Y.If condition unit line) = CallsAmong may main own unit
+  CallsAmong may main own (Y.IfElse condition unit otherwise line) = CallsAmong may main own unit × CallsAmong may main own otherwise
+  CallsAmong may main own (Y.Do body line) = AllCallAmong may main own body
+  CallsAmong may main own (Y.DoWhile condition body line) = AllCallAmong may main own body
+  CallsAmong may main own (Y.DoOnce target start condition body line) = AllCallAmong may main own body
+  CallsAmong may main own (Y.DoCount counter start limit step condition body line) = AllCallAmong may main own body
+  CallsAmong may main own (Y.Begin (Y.BlockOf head body)) = AllCallAmong may main false body
+  CallsAmong may main own (Y.CallProcedure (Y.Calling procedure level _) line) = is_number procedure may ≡ true
+  CallsAmong may main own (Y.Return line) = (main ≡ true) ⊎ (own ≡ true)
+  CallsAmong may main own _ = ⊤
+
+  pub AllCallAmong : (may : List ℕ) → (main own : Bool) → Y.Stmts → Type 0
+  AllCallAmong may main own (Y.EndOfList labels) = ⊤
+  AllCallAmong may main own (Y.StmtThen labels first rest) = CallsAmong may main own first × AllCallAmong may main own rest
+
+-- how many procedures have a number
+abbrev pub number_of_block : Y.Block → ℕ
+number_of_block (Y.BlockOf head body) = head.number
+
+abbrev pub number_times : (number : ℕ) → List Y.Procedure → ℕ
+number_times number [] = 0
+number_times number (p ∷ ps) = if number == number_of_block p.block then suc (number_times number ps) else number_times number ps
+
+-- each number is that of one of them
+abbrev pub AllOnce : List ℕ → List Y.Procedure → Type 0
+AllOnce [] others = ⊤
+AllOnce (n ∷ ns) others = (number_times n others ≡ 1) × AllOnce ns others
 
 -- ---- blocks inside the procedure
 
@@ -358,18 +545,58 @@ abbrev pub AllPlain : List (List Y.DeclaredVariable) → Type 0
 AllPlain [] = ⊤
 AllPlain (ds ∷ rest) = ArePlain ds × AllPlain rest
 
-pub record IsProvedBlock (program : Y.Program) (head : Y.BlockHead) (body : Y.Stmts) : Type 0 where
+-- the labels of procedures
+abbrev pub block_labels : Y.Block → List (ℕ × Label)
+block_labels (Y.BlockOf head body) = all_labels head.number body
+
+abbrev pub procedure_labels : List Y.Procedure → List (ℕ × Label)
+procedure_labels [] = []
+procedure_labels (p ∷ ps) = block_labels p.block ++ procedure_labels ps
+
+-- a procedure that is called: it has no RETURN in BEGIN blocks, and few words for temporaries in its frame and those of BEGIN blocks in it,
+-- so that 500 frames fit the stacks
+pub record IsCallable (called : List ℕ) (head : Y.BlockHead) (body : Y.Stmts) : Type 0 where
+  pub kind : head.kind ≡ Y.ProcedureBlock
+  pub line : IsLine head.line
+  pub calls : AllCallAmong called false true body
+  pub few : stmts_words body + all_inner_words body ≤ 800
+
+-- a procedure inside the main one, whose number is the given block's: it declares nothing, and has no parameters and no result
+pub record IsInner (program : Y.Program) (block : ℕ) (all : List (ℕ × Label)) (called : List ℕ) (p : Y.Procedure) : Type 0 where
+  pub head : Y.BlockHead
+  pub body : Y.Stmts
+  pub is : p ≡ record { block = Y.BlockOf head body; parameters = []; result = None }
+  pub apart : (block == head.number) ≡ false
+  pub level : head.level ≡ 1
+  pub bare : variables_of_block program head.number ≡ []
+  pub statements : AreProvedStatements block (types_of (variables_of_block program block)) body
+  pub jumps : AllJumpAround head.number 1 all block [] (labels_in body) body
+  pub inside : AreBare program body
+  pub callable : is_number head.number called ≡ true → IsCallable called head body
+
+abbrev pub AreInner : Y.Program → (block : ℕ) → (all : List (ℕ × Label)) → (called : List ℕ) → List Y.Procedure → Type 0
+AreInner program block all called [] = ⊤
+AreInner program block all called (p ∷ ps) = IsInner program block all called p × AreInner program block all called ps
+
+pub record IsProvedBlock (program : Y.Program) (head : Y.BlockHead) (body : Y.Stmts) (others : List Y.Procedure) (called : List ℕ) : Type 0 where
   pub kind : head.kind ≡ Y.ProcedureBlock
   pub level : head.level ≡ 0
   pub line : IsLine head.line
   pub statements : AreProvedStatements head.number (types_of (variables_of_block program head.number)) body
-  pub jumps : AllJumpAround head.number 0 (all_labels head.number body) (labels_in body) body
+  pub jumps : AllJumpAround head.number 0 (all_labels head.number body ++ procedure_labels others) head.number [] (labels_in body) body
+  pub calls : AllCallAmong called true false body
   pub inside : AreBare program body
 
--- one procedure, without parameters and without a result
+-- the main procedure, without parameters and without a result, and procedures inside it, of which those of some numbers are called; the
+-- numbers of signatures fit what the code says
 pub record IsProvedSoFar (program : Y.Program) : Type 0 where
   pub head : Y.BlockHead
   pub body : Y.Stmts
-  pub alone : program.procedures ≡ record { block = Y.BlockOf head body; parameters = []; result = None } ∷ []
+  pub others : List Y.Procedure
+  pub called : List ℕ
+  pub procedures : program.procedures ≡ record { block = Y.BlockOf head body; parameters = []; result = None } ∷ others
   pub plain : AllPlain program.variables
-  pub block : IsProvedBlock program head body
+  pub few : length (table_of program) < 2 ^ 24
+  pub block : IsProvedBlock program head body others called
+  pub inner : AreInner program head.number (all_labels head.number body ++ procedure_labels others) called others
+  pub once : AllOnce called others

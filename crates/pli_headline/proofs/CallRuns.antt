@@ -1,0 +1,311 @@
+-- A call of a procedure inside the main one: up to its end and back, once its statements do what they mean, or up to the limit on active
+-- blocks.
+use Rattle.std.proofs.Common.{◌≡◌, ℕ, zero, suc, ◌+◌, ◌*◌, ◌^◌, ◌<◌, ◌≤◌, List, [], ◌∷◌, ◌++◌, length, None, Option, Some, Bool, true, false, refl, sym, ap, ◌∙◌, subst, arith}
+use Rattle.std.proofs.lemmas.Bool.{eq-eqb, ltb-true}
+use Rattle.std.specs.Prelude.{ℤ, pos, cond, max, ◌==◌, nat_lt}
+use Rattle.rv_meaning.specs.declared.instr.Instr.{Instr}
+use Rattle.rv_meaning.specs.declared.instr.Instr.TheVariants as I
+use Rattle.rv_meaning.specs.declared.instr.ImmediateOp.TheVariants as Imm
+use Rattle.rv_meaning.specs.Words.{word}
+use Rattle.pli_typing.specs.TypedTree as Y
+use Rattle.pli_meaning.specs.World.{counted}
+use Rattle.pli_meaning.specs.BasicValues.{BasicValue}
+use Rattle.pli_meaning.specs.DeclaredShapes.{procedure_numbered, variables_of_block}
+use Rattle.pli_meaning.specs.StorageState.{State, with_world, newest_ended, most_activations}
+use Rattle.pli_meaning.specs.declared.outcome.End.TheVariants as E
+use Rattle.pli_meaning.specs.declared.outcome.Limit.TheVariants as L
+use Rattle.pli_meaning.specs.Control.{Meaning, left, give, act, ◌>>◌, finish}
+use Rattle.pli_meaning.specs.Raising.{Around, at_line}
+use Rattle.pli_meaning.specs.Executing as M
+use Rattle.pli_serving.specs.ServiceState.{Services}
+use Rattle.pli_coding.specs.Registers.{zero_register, return_register, frame_register, a0, a1, a2, a3, u5, a7}
+use Rattle.pli_coding.specs.Assembly.{ProcedureEntry, ReturnPlace, Plain, CallTo, Mark, Code, size_of}
+use Rattle.pli_coding.specs.Instructions.{move, plus, number, load_word, is_immediate, small}
+use Rattle.pli_coding.specs.Frames.{display, own_offset}
+use Rattle.pli_coding.specs.Allocating.{act_code}
+use Rattle.pli_coding.specs.Entries.{all_restored, frame_begun, frame_ended, block_entered, block_left, variables_made, variables_words}
+use Rattle.pli_coding.specs.Environments.{Environment, none_taken}
+use Rattle.pli_coding.specs.Expressions.{frame_given}
+use Rattle.pli_coding.specs.Statements.{stmts_words, stmts_code}
+use Rattle.pli_coding.specs.Procedures.{procedure_environment, procedure_in}
+use Rattle.pli_coding.specs.Linking.{Links, place_of}
+use Rattle.pli_headline.specs.ProvedSoFar.{Types}
+use Rattle.pli_headline.proofs.Engine.{Base, address, most_code}
+use Rattle.pli_headline.proofs.Linking.{size_append}
+use Rattle.pli_headline.proofs.Items.{Linked, At}
+use Rattle.pli_headline.proofs.Bodies.{far_code, Known}
+use Rattle.pli_headline.proofs.Jumps.{front_of, back_of, rest_of, linked_at}
+use Rattle.pli_headline.proofs.Temporaries.{nothing}
+use Rattle.pli_headline.proofs.Activations.{same_length, entered_length, outermost_height}
+use Rattle.pli_headline.proofs.Calls.{Serving}
+use Rattle.pli_headline.proofs.Acts.{acted, act_to, act_piece}
+use Rattle.pli_headline.proofs.Statements.{owner_level, Block, AllHold, counted_all, Does}
+use Rattle.pli_headline.proofs.MainFlow.{inside_closed, comes_left}
+use Rattle.pli_headline.proofs.Owing.{owing, owing_closed, comes_owing, done_owing}
+use Rattle.pli_headline.proofs.SavedRegisters.{held_again}
+use Rattle.pli_headline.proofs.BeginEntered.{ended_services}
+use Rattle.pli_headline.proofs.BeginMeant.{Entering, inner_around, inner_part, entered_nested, entered_all, ended_input, left_all, entered_at}
+use Rattle.pli_headline.proofs.CallMeant.{plain_procedure, call_part, called_part, call_meant, call_limited}
+use Rattle.pli_headline.proofs.CallEntry.{call_of, call_back, call_entry}
+use Rattle.pli_headline.proofs.CalledFrames.{Callee, called_ground, called_block}
+use Rattle.pli_headline.proofs.CalledBegun.{called_frame}
+use Rattle.pli_headline.proofs.CalledEntered.{called_activation, called_services, called_entry, called_entered, called_limited}
+use Rattle.pli_headline.proofs.Begins.{by_test}
+use Rattle.pli_headline.proofs.CalledLeft.{called_ended, called_left}
+use Rattle.pli_headline.proofs.Reach.{Family, Aims, Comes, Closed, before_closed, comes_on, onward}
+use Rattle.pli_headline.proofs.Scalars.{Values}
+
+-- ---- the code of the procedure
+
+abbrev begun_with : (level words line : ℕ) → (made : Code) → Code
+begun_with level words line made =
+    frame_begun words level 0 true ++ (move u5 a1 ∷ move a3 a2 ∷ (block_entered 0 line ++ (made ++ act_code line)))
+
+abbrev called_begun : (words line : ℕ) → Code
+called_begun words line = frame_begun words 1 0 true ++ (called_entry line ++ act_code line)
+
+abbrev pub called_code : Environment → Y.BlockHead → (words : ℕ) → Y.Stmts → Code
+called_code e head words body =
+    Mark (ProcedureEntry head.number)
+    ∷ (called_begun words head.line
+    ++ (stmts_code (procedure_environment head e) none_taken body ++ (Mark (ReturnPlace head.number) ∷ called_ended words)))
+
+abbrev code_with : Environment → Y.BlockHead → Y.Stmts → (level : ℕ) → List Y.DeclaredVariable → Code
+code_with e head body level ds =
+    Mark (ProcedureEntry head.number)
+    ∷ (begun_with level (max (variables_words ds) (stmts_words body)) head.line (variables_made (procedure_environment head e) head.line 0 ds)
+    ++ (stmts_code (procedure_environment head e) none_taken body
+    ++ (Mark (ReturnPlace head.number) ∷ called_ended (max (variables_words ds) (stmts_words body)))))
+
+pub called_code_is : (e : Environment) (head : Y.BlockHead) (body : Y.Stmts) → head.level ≡ 1 → variables_of_block e.program head.number ≡ [] → procedure_in (procedure_environment head e) head body [] None ≡ called_code e head (max 0 (stmts_words body)) body
+called_code_is e head body next none =
+    ap (code_with e head body head.level) none ∙ ap (λ level. code_with e head body level []) next
+
+-- where it stands
+pub record StandsAt (links : Links) (code : List Instr) (e : Environment) (head : Y.BlockHead) (words : ℕ) (body : Y.Stmts) : Type 0 where
+  pub entry : ℕ
+  pub placed : place_of links (ProcedureEntry head.number) ≡ 4 * entry
+  pub behind : 10 ≤ entry
+  pub linked : Linked links code entry (called_code e head words body)
+
+-- ---- the call is short
+
+list_size : (list : ℤ) → size_of (plus a1 frame_register list) ≤ 3
+list_size list = by_near (is_immediate list)
+  where
+    by_near : (q : Bool) → size_of (far_code (λ r d. I.Immediate Imm.Add a1 r d) frame_register list q) ≤ 3
+    by_near true = omega arith
+    by_near false = omega arith
+
+call_size : (e : Environment) (list : ℤ) (procedure : ℕ) → size_of (call_of e list procedure) ≤ 10
+call_size e list procedure =
+    let rest = number a2 0 ++ (frame_given e 0 ++ CallTo (ProcedureEntry procedure) ∷ []) in
+    let few = list_size list in
+    let total = size_append (plus a1 frame_register list) rest in
+    let short : size_of rest ≤ 7 = by_level (0 == e.level) in
+    omega (arith, few, total, short)
+  where
+    by_level : (q : Bool) → size_of (number a2 0 ++ ((cond q [] (load_word a0 frame_register (display 0)) ++ move a0 (cond q frame_register a0) ∷ []) ++ CallTo (ProcedureEntry procedure) ∷ [])) ≤ 7
+    by_level true = omega arith
+    by_level false = omega arith
+
+-- ---- behind the statements of the procedure
+
+-- it is left, and the caller goes on with the credits of its place
+leave_piece : {e : Environment} {block : ℕ} {types : Types} (bl : Block e block types) {links : Links} {code : List Instr} {level : ℕ} (callee : Callee bl) (k i resume : ℕ) (h t : ℕ → ℕ) {aims : Aims (Unit {0})} (closed : Closed code aims) → resume ≤ most_code → i + 3 + size_of all_restored + size_of (frame_ended callee.words) + 1 ≤ resume + length code → Linked links code i (called_ended callee.words) → ((s' : State) (v' : Services) (line' : ℕ) (n' : Values) (h' : ℕ → ℕ) (f' : Family) → Serving k s' v' line' → AllHold bl.frames v'.activations (e.level ∷ bl.depths) s' block types n' → ((b : Base) → At b resume (Known (bl.ground n') v' h' t nothing b) (f' b)) → aims.done resume f' v' tt s') → (s : State) (v : Services) (line : ℕ) (n : Values) (h1 t1 : ℕ → ℕ) (f : Family) → Serving k s v line → AllHold (callee.at ∷ bl.frames) v.activations (level ∷ e.level ∷ bl.depths) s block types n → ((b : Base) → At b i (Known (called_ground bl callee (λ b'. address b' resume) h t n) v h1 t1 nothing b) (f b)) → (owing code (length code) aims).done i f v tt (with_world s.world (newest_ended s))
+leave_piece {e} {block} {types} bl {code = code} callee k i resume h t closed near few l goal s v line n h1 t1 f serving all at =
+    let o = left_all s v.activations serving.nested all in
+    let v' = ended_services v o.newest o.rest in
+    let s' = with_world s.world (newest_ended s) in
+    done_owing closed (length code) resume few (called_left bl callee resume n i f o.newest o.rest near o.are l at) tt s'
+    (λ f' at'.
+    goal s' v' o.newest.line n (held_again h 0 7 h1) f'
+    (record {
+      world = serving.world;
+      running = serving.running;
+      line_is = refl;
+      input = serving.input ∙ sym (ended_input s);
+      allowed = serving.allowed;
+      fits = serving.fits;
+      nested = o.nested;
+      waiting = serving.waiting;
+    })
+    o.all at')
+
+-- ---- behind its act
+
+call_piece : {e : Environment} {block : ℕ} {types : Types} (bl : Block e block types) {links : Links} {code : List Instr} (around : Around) (more : ℕ) (head : Y.BlockHead) (body : Y.Stmts) (callee : Callee bl) (stands : StandsAt links code e head callee.words body) (list : ℤ) → (next : head.level ≡ 1) → head.kind ≡ Y.ProcedureBlock → head.line < 2 ^ 31 → variables_of_block e.program head.number ≡ [] → around.program ≡ e.program → around.enter ≡ M.entered e.program (suc more) → procedure_numbered head.number e.program.procedures ≡ Some (plain_procedure head body) → word list < 2 ^ 32 → ((back : Base → ℕ) (h0 t0 : ℕ → ℕ) → Does (called_block bl callee back h0 t0 head next) links code (suc more) (stmts_code (procedure_environment head e) none_taken body) (M.list (inner_around e.program more head.line) body)) → {i : ℕ} {s : State} {v : Services} {h t : ℕ → ℕ} {aims : Aims (Unit {0})} (closed : Closed code aims) (n : Values) (f : Family) (k line : ℕ) → k < suc more + v.world.acts → Linked links code i (call_of e list head.number) → nat_lt (length s.activations) most_activations ≡ true → Serving k s v line → AllHold bl.frames v.activations (e.level ∷ bl.depths) s block types n → ((b : Base) → At b i (Known (bl.ground n) v h t nothing b) (f b)) → ((s' : State) (v' : Services) (line' : ℕ) (n' : Values) (h' : ℕ → ℕ) (f' : Family) → Serving k s' v' line' → AllHold bl.frames v'.activations (e.level ∷ bl.depths) s' block types n' → ((b : Base) → At b (call_back i e list head.number) (Known (bl.ground n') v' h' t nothing b) (f' b)) → aims.done (call_back i e list head.number) f' v' tt s') → Comes code 0 f v (owing code (length code) aims) (call_part around head.number k s)
+unfolding M.end_reached give ◌>>◌
+call_piece {e} {block} {types} bl {links} {code} around more head body callee stands list next kind fits none same enter found short does' {i} {s} {v} {h} {t} {aims} closed n f k line enough l few serving all at goal =
+    let program = e.program in
+    let here = inner_around program more head.line in
+    let debt = length code in
+    let resume = call_back i e list head.number in
+    let back : Base → ℕ = λ b. address b resume in
+    let i0 = stands.entry in
+    let st = stmts_code (procedure_environment head e) none_taken body in
+    let fb = frame_begun callee.words 1 0 true in
+    let ec = called_entry head.line in
+    let ac = act_code head.line in
+    let pb = called_begun callee.words head.line in
+    let ended = called_ended callee.words in
+    let en = Mark (ReturnPlace head.number) ∷ ended in
+    let mark : i0 + 0 ≡ i0 = omega arith in
+    let l0 = linked_at i0 (pb ++ (st ++ en)) mark (rest_of (Mark (ProcedureEntry head.number)) (pb ++ (st ++ en)) stands.linked) in
+    let lp = front_of pb (st ++ en) l0 in
+    let lf = front_of fb (ec ++ ac) lp in
+    let l2 = back_of fb (ec ++ ac) lp in
+    let le = front_of ec ac l2 in
+    let la = back_of ec ac l2 in
+    let e1 = size_append fb (ec ++ ac) in
+    let e2 = size_append ec ac in
+    let i1 = i0 + size_of fb in
+    let i2 = i1 + size_of ec in
+    let i3 = i2 + size_of ac in
+    let there : i0 + size_of pb ≡ i3 = omega (arith, e1, e2) in
+    let ls = linked_at i3 (st ++ en) there (back_of pb (st ++ en) l0) in
+    let i4 = i3 + size_of st in
+    let mark' : i4 + 0 ≡ i4 = omega arith in
+    let ll = linked_at i4 ended mark' (rest_of (Mark (ReturnPlace head.number)) ended (back_of st en ls)) in
+    let lower = frame_ended callee.words in
+    let jump = Plain (I.JumpRegister zero_register return_register (pos 0)) ∷ [] in
+    let n1 = size_append (block_left 0) (all_restored ++ (lower ++ jump)) in
+    let n2 = size_append all_restored (lower ++ jump) in
+    let n3 = size_append lower jump in
+    let room = ll.inside in
+    let small' = ll.small' in
+    let inside' = l.inside in
+    let behind = stands.behind in
+    let s2 = entered_at 1 head body s in
+    let v2 = called_services v callee.at head.line in
+    let long = entered_length s.activations (e.level ∷ bl.depths) all.entered in
+    let few' : nat_lt (length v.activations) most_activations ≡ true = ap (λ m. nat_lt m most_activations) (same_length s.activations v.activations serving.nested) ∙ few in
+    let parent = outermost_height s.activations v.activations (length bl.depths) serving.nested long in
+    let some : 0 < head.level = omega (arith, next) in
+    let last : Option BasicValue → Meaning (Unit {0}) = λ u. give tt in
+    let behind' : Unit {0} → Meaning (Unit {0}) = λ u. M.end_reached here false in
+    let statements : Unit {0} → Meaning (Unit {0}) = λ u. inner_part program more head body in
+    let leave = leave_piece bl callee k i4 resume h t closed (omega (arith, inside', small')) (omega (arith, room, n1, n2, n3)) ll goal in
+    let closed0 = owing_closed code debt aims in
+    let closed1 = inside_closed newest_ended (before_closed k last closed0) in
+    subst (Comes code 0 f v (owing code debt aims)) (sym (call_meant program around more head body head.number k s same enter found kind none parent few))
+    (onward closed0 (call_entry bl n 0 i0 f list head.number i0 short stands.placed (omega (arith, room, small')) (let size = call_size e list head.number in omega (arith, size, behind)) l at)
+    (λ f1 at1.
+    onward closed0 (called_frame bl callee back (λ b. let valid = b.valid.1 in omega (arith, valid, inside', small')) n i0 f1 (omega (arith, behind)) lf at1)
+    (λ f2 at2.
+    onward closed0 (called_entered bl callee back n i1 f2 head.line fits serving.waiting few' le at2)
+    (λ f3 at3.
+    comes_on k (left true newest_ended (called_part program more head body k s2)) last
+    (comes_left newest_ended (called_part program more head body k s2)
+    (comes_on k (act counted k s2) statements
+    (act_piece (before_closed k statements closed1) f3 head.line head.line k fits la
+    (record {
+      world = serving.world;
+      running = serving.running;
+      line_is = refl;
+      input = serving.input;
+      allowed = serving.allowed;
+      fits = serving.fits;
+      nested = entered_nested head body s v.activations (called_activation v callee.at) 1 some (omega (arith, long)) (omega arith) (omega (arith, long)) (record { kind = λ further. refl; units = tt }) serving.nested;
+      waiting = refl;
+    })
+    at3
+    (λ f4 serving4 at4.
+    let s3 = with_world (counted s2.world) s2 in
+    let v3 = acted head.line v2 in
+    comes_on k (M.list here body k s3) behind'
+    ((does' back h t).does (before_closed k behind' closed1) head.line n f4 k (front_of st en ls) serving4
+    (counted_all (counted s2.world) (entered_all head body s v.activations (called_activation v callee.at) 1 some (omega arith) (omega (arith, long)) (record { kind = λ further. refl; units = tt }) serving.nested all))
+    at4
+    (λ s5 v5 line5 n5 h5 t5 f5 serving5 all5 stays5 at5. record { to = record { to = leave s5 v5 line5 n5 h5 t5 f5 serving5 all5 at5 } })
+    (record {
+      enough = omega (arith, enough);
+      later = omega (arith, behind);
+      jumps = λ label among once. let no : false ≡ true = among in absurd (cc no);
+      outs = λ inside'' number owned label among once. let no : false ≡ true = among in absurd (cc no);
+      returns = λ number owned once. let no : head.level ≡ 0 = ap owner_level owned in absurd (omega (arith, no, next));
+      own = λ inner owned once. record {
+        at = i4;
+        place = (back_of st en ls).has.0 (eq-eqb head.number head.number refl) once;
+        near = omega (arith, room, small');
+        later = omega (arith, behind);
+        leaves = λ s5 v5 line5 n5 h5 t5 f5 serving5 all5 at5. record { to = leave s5 v5 line5 n5 h5 t5 f5 serving5 all5 at5 };
+      };
+    }))))))))))
+
+-- where too many blocks are entered the run ends
+limited_call : {e : Environment} {block : ℕ} {types : Types} (bl : Block e block types) {links : Links} {code : List Instr} (around : Around) (more : ℕ) (head : Y.BlockHead) (body : Y.Stmts) (callee : Callee bl) (stands : StandsAt links code e head callee.words body) (list : ℤ) → head.line < 2 ^ 31 → around.program ≡ e.program → around.enter ≡ M.entered e.program (suc more) → procedure_numbered head.number e.program.procedures ≡ Some (plain_procedure head body) → word list < 2 ^ 32 → {i : ℕ} {s : State} {v : Services} {h t : ℕ → ℕ} {aims : Aims (Unit {0})} (closed : Closed code aims) (n : Values) (f : Family) (k line : ℕ) → Linked links code i (call_of e list head.number) → nat_lt (length s.activations) most_activations ≡ false → Serving k s v line → ((b : Base) → At b i (Known (bl.ground n) v h t nothing b) (f b)) → Comes code 0 f v (owing code (length code) aims) (call_part around head.number k s)
+limited_call {e} bl {code = code} around more head body callee stands list fits same enter found short {i} {s} {v} {h} {t} {aims} closed n f k line l many serving at =
+    let debt = length code in
+    let resume = call_back i e list head.number in
+    let i0 = stands.entry in
+    let fb = frame_begun callee.words 1 0 true in
+    let ec = called_entry head.line in
+    let ac = act_code head.line in
+    let pb = called_begun callee.words head.line in
+    let behind = stmts_code (procedure_environment head e) none_taken body ++ (Mark (ReturnPlace head.number) ∷ called_ended callee.words) in
+    let mark : i0 + 0 ≡ i0 = omega arith in
+    let lp = front_of pb behind (linked_at i0 (pb ++ behind) mark (rest_of (Mark (ProcedureEntry head.number)) (pb ++ behind) stands.linked)) in
+    let le = front_of ec ac (back_of fb (ec ++ ac) lp) in
+    let room = le.inside in
+    let small' = le.small' in
+    let inside' = l.inside in
+    let later = stands.behind in
+    let m = number a2 head.line in
+    let front : Code = move u5 a1 ∷ move a3 a2 ∷ (load_word a1 frame_register own_offset ++ small a0 0 ∷ []) in
+    let calls = small a7 4 ∷ Plain I.Ecall ∷ [] in
+    let total = size_append front (m ++ calls) in
+    let total2 = size_append m calls in
+    let many' : nat_lt (length v.activations) most_activations ≡ false = ap (λ u. nat_lt u most_activations) (same_length s.activations v.activations serving.nested) ∙ many in
+    let last : Option BasicValue → Meaning (Unit {0}) = λ u. give tt in
+    let closed0 = owing_closed code debt aims in
+    subst (Comes code 0 f v (owing code debt aims)) (sym (call_limited e.program around more head body head.number k s same enter found many))
+    (onward closed0 (call_entry bl n 0 i0 f list head.number i0 short stands.placed (omega (arith, room, small')) (let size = call_size e list head.number in omega (arith, size, later)) l at)
+    (λ f1 at1.
+    onward closed0 (called_frame bl callee (λ b. address b resume) (λ b. let valid = b.valid.1 in omega (arith, valid, inside', small')) n i0 f1 (omega (arith, later)) (front_of fb (ec ++ ac) lp) at1)
+    (λ f2 at2.
+    comes_on k (finish {R = Option BasicValue} (E.Limit L.Depth) k s) last
+    (called_limited bl callee (λ b. address b resume) n (i0 + size_of fb) f2 (before_closed k last closed0) k head.line line fits (omega (arith, room, total, total2)) many' le serving at2))))
+
+-- ---- the statement
+
+pub own_call_does : {e : Environment} {block : ℕ} {types : Types} (bl : Block e block types) (links : Links) (code : List Instr) (around : Around) (more : ℕ) (head : Y.BlockHead) (body : Y.Stmts) (callee : Callee bl) (stands : StandsAt links code e head callee.words body) (list : ℤ) (line : ℕ) → (next : head.level ≡ 1) → head.kind ≡ Y.ProcedureBlock → head.line < 2 ^ 31 → variables_of_block e.program head.number ≡ [] → around.program ≡ e.program → Entering e.program around more → procedure_numbered head.number e.program.procedures ≡ Some (plain_procedure head body) → word list < 2 ^ 32 → line < 2 ^ 31 → ((more' : ℕ) → more ≡ suc more' → suc (length bl.depths) < most_activations → (back : Base → ℕ) (h0 t0 : ℕ → ℕ) → Does (called_block bl callee back h0 t0 head next) links code (suc more') (stmts_code (procedure_environment head e) none_taken body) (M.list (inner_around e.program more' head.line) body)) → Does bl links code around.turns (act_code line ++ call_of e list head.number) (M.statement around (Y.CallProcedure (Y.Calling head.number 0 Y.NoArgument) line))
+unfolding M.statement ◌>>◌
+own_call_does {e} {block} {types} bl links code around zero head body callee stands list line next kind fits none same entering found short low does' =
+    record {
+      does = λ {i} {s} {v} {h} {t} {aims} closed old n f k l serving all at goal more'.
+          let next' : Unit {0} → Meaning (Unit {0}) = λ u. call_part (at_line around line) head.number in
+          comes_on k (act counted k s) next'
+          (act_piece (before_closed k next' closed) f line old k low (front_of (act_code line) (call_of e list head.number) l) serving at
+          (λ f1 serving1 at1.
+          absurd (let e1 = more'.enough in let e2 = entering.turns in let e3 = serving1.allowed in omega (arith, e1, e2, e3))));
+    }
+own_call_does {e} {block} {types} bl links code around (suc more) head body callee stands list line next kind fits none same entering found short low does' =
+    record {
+      does = λ {i} {s} {v} {h} {t} {aims} closed old n f k l serving all at goal more'.
+          let a = act_code line in
+          let c = call_of e list head.number in
+          let size = size_append a c in
+          let place : call_back (i + size_of a) e list head.number ≡ i + size_of (a ++ c) = omega (arith, size) in
+          let e1 = more'.enough in
+          let e2 = entering.turns in
+          let inside' = l.inside in
+          let next' : Unit {0} → Meaning (Unit {0}) = λ u. call_part (at_line around line) head.number in
+          comes_owing (length code) (M.statement around (Y.CallProcedure (Y.Calling head.number 0 Y.NoArgument) line) k s)
+          (comes_on k (act counted k s) next'
+          (act_to (before_closed k next' (owing_closed code (length code) aims)) (i + length code) 0 f line old k low (omega (arith, inside', size)) (front_of a c l) serving at
+          (λ f1 serving1 at1.
+          let s1 = with_world (counted s.world) s in
+          by_test (nat_lt (length s.activations) most_activations)
+          (λ many. limited_call bl (at_line around line) more head body callee stands list fits same entering.enter found short closed n f1 k line (back_of a c l) many serving1 at1)
+          (λ few.
+          let deep : suc (length bl.depths) < most_activations = (let below = ltb-true (length s.activations) most_activations few in let long = entered_length s.activations (e.level ∷ bl.depths) all.entered in omega (arith, below, long)) in
+          call_piece bl (at_line around line) more head body callee stands list next kind fits none same entering.enter found short (does' more refl deep) closed n f1 k line (omega (arith, e1, e2)) (back_of a c l) few serving1
+          (counted_all (counted s.world) all)
+          at1
+          (λ s4 v4 line4 n4 h4 f4 serving4 all4 at4.
+          subst (λ u. aims.done u f4 v4 tt s4) (sym place)
+          (goal s4 v4 line4 n4 h4 t f4 serving4 all4
+          (record { registers = λ r below. absurd (let held = bl.held in omega (arith, held, below)); words = λ j below. refl })
+          (λ b. record { pc = (at4 b).pc ∙ ap (address b) place; holds = (at4 b).holds })))))));
+    }

@@ -1,0 +1,84 @@
+-- What stands in memory for a variable: a number in its cell, a text, or the numbers of an array.
+use Rattle.std.proofs.Common.{◌≡◌, ℕ, ◌+◌, ◌*◌, ◌≤◌, ◌⊎◌, inl, inr, List, [], ◌∷◌, Bool, true, false, refl, arith}
+use Rattle.std.specs.Prelude.{ℤ, pos}
+use Rattle.rv_meaning.specs.Words.{word}
+use Rattle.rv_meaning.specs.Memory.{store}
+use Rattle.pli_typing.specs.Signatures.{Bounds, element_count}
+use Rattle.pli_typing.specs.TypedTree as Y
+use Rattle.pli_headline.specs.ProvedSoFar.{IsScalar, IsHeld, Kind, text_leaf}
+use Rattle.pli_headline.proofs.Scalars.{Fits, by_held, by_shape}
+use Rattle.pli_headline.proofs.VariablePlaces.{scalar_size, size_for, frame_size, many_fits}
+use Rattle.pli_headline.proofs.Cells.{Cell, content, cell_other}
+use Rattle.pli_headline.proofs.ElementsStay.{ElementsThere, contents_of, elements_other}
+use Rattle.pli_headline.proofs.TextPlaces.{text_bytes, TextThere}
+use Rattle.pli_headline.proofs.TextsStay.{text_other}
+
+pub data Content : Type 0 where
+  Counted : ℤ → Content
+  Written : (varying : Bool) → (most : ℕ) → List ℕ → Content
+  Many : (count : ℕ) → (ℕ → ℤ) → Content
+
+abbrev pub size_in : Content → ℕ
+size_in (Counted z) = 4
+size_in (Written varying most text) = text_bytes varying most
+size_in (Many count z) = 4 * count
+
+abbrev pub There : List ℕ → (at : ℕ) → Content → Type 0
+There m at (Counted z) = Cell m at (word z)
+There m at (Written varying most text) = TextThere varying most at m text
+There m at (Many count z) = ElementsThere m at count z
+
+-- a store elsewhere
+pub there_other : (n : ℕ) (m : List ℕ) (p x at : ℕ) (c : Content) → (at + size_in c ≤ p) ⊎ (p + n ≤ at) → There m at c → There (store n m p x) at c
+there_other n m p x at (Counted z) apart o = cell_other n m p x at (word z) apart o
+there_other n m p x at (Written varying most text) (inl h) o = text_other n varying most at m text p x (inr h) o
+there_other n m p x at (Written varying most text) (inr h) o = text_other n varying most at m text p x (inl h) o
+there_other n m p x at (Many count z) apart o = elements_other n m p x at count z apart o
+
+-- ---- by the type
+
+-- a number or a text, as the type says
+abbrev pub content_of : Y.LeafType → ℤ → List ℕ → Content
+content_of (Y.CharacterLeaf (Y.ConstantExtent (pos n))) z text = Written false n text
+content_of (Y.VaryingLeaf (Y.ConstantExtent (pos n))) z text = Written true n text
+content_of type z text = Counted (content type z)
+
+pub content_numeric : (type : Y.LeafType) (z : ℤ) (text : List ℕ) → Fits type z → content_of type z text ≡ Counted (content type z)
+content_numeric (Y.FixedLeaf p) z text fits = refl
+content_numeric Y.BitLeaf z text fits = refl
+content_numeric _ z text fits = absurd fits
+
+pub content_text : (varying : Bool) (most : ℕ) (z : ℤ) (text : List ℕ) → content_of (text_leaf varying most) z text ≡ Written varying most text
+content_text false most z text = refl
+content_text true most z text = refl
+
+-- whatever it is, it takes as much
+pub size_same : (type : Y.LeafType) (z z' : ℤ) (text text' : List ℕ) → size_in (content_of type z text) ≡ size_in (content_of type z' text')
+size_same (Y.CharacterLeaf (Y.ConstantExtent (pos n))) z z' text text' = refl
+size_same (Y.VaryingLeaf (Y.ConstantExtent (pos n))) z z' text text' = refl
+size_same _ z z' text text' = refl
+
+scalar_fits : (type : Y.LeafType) (z : ℤ) (text : List ℕ) → IsScalar type → 16 + size_in (content_of type z text) ≤ scalar_size type
+scalar_fits type z text is =
+    by_held (λ t. 16 + size_in (content_of t z text) ≤ scalar_size t) (λ p. omega arith) (omega arith) (λ n few. omega arith) (λ n few. omega arith) type is
+
+-- ---- by the type and the bounds
+
+-- for an array, the numbers of its elements
+abbrev pub content_by : Y.LeafType → List Bounds → ℤ → List ℕ → (ℕ → ℤ) → Content
+content_by type [] z text n = content_of type z text
+content_by type (b ∷ bs) z text n = Many (element_count (b ∷ bs)) (contents_of type n)
+
+abbrev pub content_for : Kind → ℤ → List ℕ → (ℕ → ℤ) → Content
+content_for k z text n = content_by k.type k.bounds z text n
+
+same_by : (type : Y.LeafType) (bs : List Bounds) (z z' : ℤ) (text text' : List ℕ) (n n' : ℕ → ℤ) → size_in (content_by type bs z text n) ≡ size_in (content_by type bs z' text' n')
+same_by type [] z z' text text' n n' = size_same type z z' text text'
+same_by type (b ∷ bs) z z' text text' n n' = refl
+
+pub sizes_same : (k : Kind) (z z' : ℤ) (text text' : List ℕ) (n n' : ℕ → ℤ) → size_in (content_for k z text n) ≡ size_in (content_for k z' text' n')
+sizes_same k z z' text text' n n' = same_by k.type k.bounds z z' text text' n n'
+
+pub content_fits : (k : Kind) (z : ℤ) (text : List ℕ) (n : ℕ → ℤ) → IsHeld k.type k.bounds → 16 + size_in (content_for k z text n) ≤ frame_size k
+content_fits k z text n is =
+    by_shape (λ t bs. 16 + size_in (content_by t bs z text n) ≤ size_for t bs) (λ t held. scalar_fits t z text held) (λ t b bs element are few. many_fits (element_count (b ∷ bs))) k.type k.bounds is

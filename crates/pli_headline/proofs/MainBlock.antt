@@ -1,0 +1,164 @@
+-- The main procedure's block: its variables, numbers and texts, stand in its frame behind one another.
+use Rattle.std.proofs.Common.{◌≡◌, ℕ, ◌+◌, ◌<◌, ◌≤◌, List, [], length, Some, Bool, true, false, refl, sym, ap, ◌∙◌, subst, arith, ◌∷◌, ◌*◌, ◌^◌}
+use Rattle.std.specs.Prelude.{pos, ◌==◌, slice_get}
+use Rattle.rv_meaning.specs.Words.{word}
+use Rattle.rv_meaning.specs.Memory.{load, store}
+use Rattle.rv_meaning.specs.Machine.{load_width, extended, store_width}
+use Rattle.pli_typing.specs.TypedTree as Y
+use Rattle.pli_meaning.specs.BasicValues.{BasicText}
+use Rattle.pli_serving.specs.Bytes.{with_bytes}
+use Rattle.pli_serving.specs.Stored.{kept_bytes}
+use Rattle.pli_coding.specs.Environments.{Environment, none_taken, BlockOwner}
+use Rattle.pli_headline.specs.ProvedSoFar.{Types, text_leaf, IsScalar, alone, IsHeld, AreBounds, Kind}
+use Rattle.pli_headline.proofs.Scalars.{Values, load_kind, store_kind, kind_at, kind_is, place_below}
+use Rattle.pli_headline.proofs.VariablePlaces.{frame_size, room_of, number_place, room_before, room_next, room_even, data_fits}
+use Rattle.pli_headline.proofs.Reaching.{Reaches}
+use Rattle.pli_headline.proofs.Variables.{data_place, HasTypes}
+use Rattle.pli_headline.proofs.States.{with_number_at, with_text_at}
+use Rattle.pli_headline.proofs.TextPlaces.{text_kind_of, text_bytes, TextThere}
+use Rattle.pli_headline.proofs.TextsKept.{text_kept_as}
+use Rattle.pli_headline.proofs.Holdings.{There, size_in, content_text, content_fits, content_for}
+use Rattle.pli_headline.proofs.MainGround.{Frame, Stands, ground_of, main_temporaries, contents, main_writes, place_at, reads_by, main_keeps, lowest_holds}
+use Rattle.pli_headline.proofs.MainTexts.{text_writes}
+use Rattle.pli_headline.proofs.TextScopes.{IsTextAt}
+use Rattle.pli_headline.proofs.TextGrounds.{TextsStand}
+use Rattle.pli_headline.proofs.Statements.{Stack, Block}
+use Rattle.pli_typing.specs.Signatures.{Bounds, element_count}
+use Rattle.pli_headline.proofs.ArrayScopes.{IsArrayAt, ArraysOn}
+use Rattle.pli_headline.proofs.ArrayGrounds.{array_in, main_array}
+use Rattle.pli_coding.specs.Frames.{frame_end}
+
+-- the texts of a frame are short, and have room there, and so have arrays
+pub record VariablesFit (f : Frame) (types : Types) : Type 0 where
+  pub bounds : (j : ℕ) (type : Y.LeafType) (b : Bounds) (bs : List Bounds) → IsArrayAt types j type b bs → AreBounds (b ∷ bs)
+  pub size : (j : ℕ) (type : Y.LeafType) (b : Bounds) (bs : List Bounds) → IsArrayAt types j type b bs → 16 + 4 * element_count (b ∷ bs) ≤ f.sizes.of j
+  pub few : (j : ℕ) (type : Y.LeafType) (b : Bounds) (bs : List Bounds) → IsArrayAt types j type b bs → j < f.count → element_count (b ∷ bs) ≤ 2 ^ 20
+  pub short : (j : ℕ) (varying : Bool) (most : ℕ) → IsTextAt types j varying most → most ≤ 1024
+  pub room : (j : ℕ) (varying : Bool) (most : ℕ) → IsTextAt types j varying most → 16 + text_bytes varying most ≤ f.sizes.of j
+
+pub text_few : (varying : Bool) (most : ℕ) → IsScalar (text_leaf varying most) → most ≤ 1024
+text_few false most is = is.1
+text_few true most is = is.1
+
+text_fits : (varying : Bool) (most : ℕ) → IsScalar (text_leaf varying most) → 16 + text_bytes varying most ≤ frame_size (alone (text_leaf varying most))
+text_fits varying most is =
+    subst (λ c. 16 + size_in c ≤ frame_size (alone (text_leaf varying most))) (content_text varying most (pos 0) []) (content_fits (alone (text_leaf varying most)) (pos 0) [] (λ p. pos 0) is)
+
+-- where each variable has the bytes of its kind
+pub types_fit : (f : Frame) (types : Types) → ((j : ℕ) → f.sizes.of j ≡ frame_size (kind_at types j)) → room_of f.sizes f.count ≤ 2 ^ 20 → ((j : ℕ) (kind : Kind) → slice_get types j ≡ Some kind → IsHeld kind.type kind.bounds) → VariablesFit f types
+types_fit f types sized small' are =
+    let size : (j : ℕ) (type : Y.LeafType) (b : Bounds) (bs : List Bounds) → IsArrayAt types j type b bs → 16 + 4 * element_count (b ∷ bs) ≤ f.sizes.of j = λ j type b bs at.
+    let kind : Kind = record { type = type; bounds = b ∷ bs } in
+    subst (λ n. 16 + 4 * element_count (b ∷ bs) ≤ n) (sym (sized j ∙ ap frame_size (kind_is types j at))) (data_fits kind (are j kind at)) in
+    record {
+      bounds = λ j type b bs at. (are j (record { type = type; bounds = b ∷ bs }) at).1.0;
+      size = size;
+      few = λ j type b bs at below. let n = room_next f.sizes j f.count below in let s = size j type b bs at in omega (arith, n, s, small');
+      short = λ j varying most at. text_few varying most (are j (alone (text_leaf varying most)) at);
+      room = λ j varying most at. subst (λ n. 16 + text_bytes varying most ≤ n) (sym (sized j ∙ ap frame_size (kind_is types j at))) (text_fits varying most (are j (alone (text_leaf varying most)) at));
+    }
+
+-- what a text variable holds stands there
+pub text_stands : (types : Types) (n : Values) (m : List ℕ) (p j : ℕ) (varying : Bool) (most : ℕ) → IsTextAt types j varying most → There m p (contents (kind_at types) n j) → TextThere varying most p m (n.texts j)
+text_stands types n m p j varying most at o =
+    subst (There m p) (content_text varying most (n.numbers j) (n.texts j))
+    (subst (λ u. There m p (content_for u (n.numbers j) (n.texts j) (n.arrays j))) (kind_is types j at) o)
+
+abbrev main_texts : (f : Frame) (first : List ℕ) (e : Environment) (block : ℕ) (types : Types) → ((j : ℕ) (kind : Kind) → slice_get types j ≡ Some kind → j < f.count) → ((j : ℕ) → j < f.count → data_place e block j ≡ number_place f.sizes j) → VariablesFit f types → TextsStand e block types f.at (f.at + 144 + room_of f.sizes f.count) (λ n. ground_of f first (contents (kind_at types) n))
+main_texts f first e block types inside placed texts =
+    let above = f.above_statics in
+    let within = f.inside in
+    let kind = kind_at types in
+    record {
+      room = record {
+        high = omega (arith, above);
+        short = texts.short;
+        inside = λ j varying most at. let h = inside j (alone (text_leaf varying most)) at in let e' = placed j h in let r = room_next f.sizes j f.count h in let s = texts.room j varying most at in omega (arith, within, e', r, s);
+      };
+      under = λ j varying most at. let h = inside j (alone (text_leaf varying most)) at in let e' = placed j h in let r = room_next f.sizes j f.count h in let s = texts.room j varying most at in omega (arith, e', r, s);
+      reads = λ n j varying most at t b m o.
+          let h = inside j (alone (text_leaf varying most)) at in
+          subst (λ u. TextThere varying most (f.at + u) m (n.texts j)) (sym (placed j h)) (text_stands types n m (f.at + number_place f.sizes j) j varying most at (o.variables j h));
+      writes = λ n j varying most text at t b m len o.
+          let h = inside j (alone (text_leaf varying most)) at in
+          let T : ℕ → Type 0 = λ u. Stands f first (contents kind (with_text_at n j (text_kept_as varying most text))) t b (with_bytes (kept_bytes (text_kind_of varying most) (BasicText text)) (f.at + u) m) in
+          subst T (sym (placed j h)) (text_writes f first kind n j varying most text h (kind_is types j at) (texts.short j varying most at) t b m len o);
+    }
+
+abbrev main_stack : (f : Frame) (first : List ℕ) (e : Environment) (block : ℕ) (types : Types) → ((j : ℕ) (kind : Kind) → slice_get types j ≡ Some kind → j < f.count) → ((j : ℕ) → j < f.count → data_place e block j ≡ number_place f.sizes j) → Stack e block types f.at (λ n. ground_of f first (contents (kind_at types) n))
+main_stack f first e block types inside placed =
+    let above = f.above_statics in
+    let whole = f.whole in
+    record {
+      frame = f.at;
+      free = f.at + 144 + room_of f.sizes f.count;
+      frame_is = λ n. refl;
+      free_is = λ n. refl;
+      aligned = let even = room_even f.sizes f.count in omega (arith, whole, even);
+      high = omega (arith, above);
+      above = omega arith;
+      over = omega arith;
+      keeps = λ n. main_keeps f first (contents (kind_at types) n);
+      under = λ j {type} below. let h = inside j (alone type) below in let e' = placed j h in let r = room_before f.sizes j f.count h in omega (arith, e', r);
+    }
+
+pub outermost_is : (level : ℕ) → level ≡ 0 → (0 == level) ≡ false → ⊥
+outermost_is level e q = let no : true ≡ false = ap (λ u. 0 == u) (sym e) ∙ q in cc no
+
+abbrev main_arrays : (f : Frame) (first : List ℕ) (e : Environment) (block : ℕ) (types : Types) → ((j : ℕ) (kind : Kind) → slice_get types j ≡ Some kind → j < f.count) → HasTypes e block types → ((j : ℕ) → j < f.count → data_place e block j ≡ number_place f.sizes j) → VariablesFit f types → ArraysOn e block types f.at (f.at + 144 + room_of f.sizes f.count) (λ n. ground_of f first (contents (kind_at types) n))
+main_arrays f first e block types inside declared placed fit j type b bs at =
+    let kind : Kind = record { type = type; bounds = b ∷ bs } in
+    let here = inside j kind at in
+    main_array f first e block j type (b ∷ bs) (contents (kind_at types))
+    (array_in f (kind_at types) j type b bs here (kind_is types j at) (fit.size j type b bs at) (fit.few j type b bs at here))
+    (declared j kind at) (fit.bounds j type b bs at) (placed j here)
+
+-- the main procedure's block, where its variables stand one behind the other
+unfoldable pub main_block : (f : Frame) (first : List ℕ) (e : Environment) (block : ℕ) (types : Types) → e.level ≡ 0 → f.count ≡ length types → HasTypes e block types → ((j : ℕ) → j < f.count → data_place e block j ≡ number_place f.sizes j) → ((number : ℕ) → e.owner ≡ BlockOwner (record { number = number; level = 0 }) → frame_end e.parts e.program number 0 ≡ 144 + room_of f.sizes f.count) → VariablesFit f types → Block e block types
+main_block f first e block types outermost count declared placed sized texts =
+    let inside : (j : ℕ) (kind : Kind) → slice_get types j ≡ Some kind → j < f.count = λ j kind h. let n = place_below types j kind h in omega (arith, n, count) in
+    record {
+      ground = λ n. ground_of f first (contents (kind_at types) n);
+      words = f.words;
+      taken = none_taken;
+      labels = [];
+      base = f.at;
+      within = let i = f.inside in omega (arith, i);
+      words_are = λ n. refl;
+      same = λ n n' b h. refl;
+      temps = λ n. main_temporaries f first (contents (kind_at types) n);
+      declared = λ j {type} below. declared j (alone type) below;
+      reach = λ n. subst (λ l. Reaches (0 == l) (ground_of f first (contents (kind_at types) n)) f.at) (sym outermost) refl;
+      places = λ j {type} below. place_at f j (data_place e block j) (inside j (alone type) below) (placed j (inside j (alone type) below));
+      reads = λ n j {type} below fits t b m o. ap (λ u. extended (load_kind type) (load (load_width (load_kind type)) m (f.at + u))) (placed j (inside j (alone type) below)) ∙ reads_by f first (kind_at types) n j type (inside j (alone type) below) (kind_is types j below) fits t b m o;
+      writes = λ n j z {type} below old fits t b m len o.
+          let T : ℕ → Type 0 = λ u. Stands f first (contents (kind_at types) (with_number_at n j z)) t b (store (store_width (store_kind type)) m (f.at + u) (word z)) in
+          let here = inside j (alone type) below in
+          subst T (sym (placed j here)) (main_writes f first (kind_at types) n j type z here (kind_is types j below) old fits t b m len o);
+      held = refl;
+      frames = f.at ∷ [];
+      bottom = record {
+        holds = lowest_holds f;
+        aligned = f.whole;
+        room = let i = f.inside in omega (arith, i);
+        own = λ b m o. o.1;
+        kept = λ n t b m o. (o.resumes, o.own);
+        rest = refl;
+      };
+      size = 144 + room_of f.sizes f.count;
+      ends = let i = f.inside in omega (arith, i);
+      sized = sized;
+      depths = [];
+      shallow = λ q. refl;
+      deep = λ q. absurd (outermost_is e.level outermost q);
+      outer = [];
+      alone = λ q. record { frames_are = refl; frame_is = λ n. refl; free_is = λ n. omega arith };
+      outside = λ q. absurd (outermost_is e.level outermost q);
+      stack = main_stack f first e block types inside placed;
+      levels = λ j. f.at;
+      level_room = λ j below. absurd (omega (arith, outermost, below));
+      outermost_level = λ q. refl;
+      displays = λ n t b m j below o. absurd (omega (arith, outermost, below));
+      texts = main_texts f first e block types inside placed texts;
+      arrays = main_arrays f first e block types inside declared placed texts;
+    }

@@ -1,0 +1,136 @@
+-- The code of procedures inside the main one marks their entries, their labels and their ends; and how often a label or an end is marked.
+use Rattle.std.proofs.Common.{◌≡◌, ℕ, suc, ◌+◌, ◌*◌, List, [], ◌∷◌, ◌++◌, None, false, true, refl, sym, ap, ◌∙◌, subst}
+use Rattle.std.specs.Prelude.{ℤ, pos, neg_ℤ, cond, ◌==◌, ◌&&◌, if◌then◌else◌}
+use Rattle.rv_meaning.specs.declared.instr.Instr.TheVariants as I
+use Rattle.pli_language.specs.Keywords.{same_bytes}
+use Rattle.pli_typing.specs.TypedTree as Y
+use Rattle.pli_meaning.specs.Control.{Label}
+use Rattle.pli_meaning.specs.DeclaredShapes.{variables_of_block}
+use Rattle.pli_coding.specs.Registers.{zero_register, return_register, frame_register, stack_register, a1, a2, a3, u0, u1, u5}
+use Rattle.pli_coding.specs.Assembly.{Symbol, ProcedureEntry, ReturnPlace, LabelPlace, same_symbol, Plain, BaseIn, OffsetOf, OffsetAhead, JumpTo, CallTo, JumpAhead, JumpBack, Mark, Code, item_size}
+use Rattle.pli_coding.specs.Instructions.{move, subtract, number, plus, load_word, store_word, service}
+use Rattle.pli_coding.specs.Frames.{frame_below, lower_top, own_offset, temporary_bytes, fixed_size}
+use Rattle.pli_coding.specs.Environments.{Environment, none_taken}
+use Rattle.pli_coding.specs.Allocating.{act_code}
+use Rattle.pli_coding.specs.Entries.{all_saved, display_made, frame_begun, block_entered, variables_made, variables_code}
+use Rattle.pli_coding.specs.Statements.{stmts_code, stmts_words, block_words}
+use Rattle.pli_coding.specs.Procedures.{procedure_environment, procedure_begun, procedure_ended, procedure_in, procedures_code}
+use Rattle.pli_coding.specs.Linking.{marks_from}
+use Rattle.pli_headline.specs.ProvedSoFar.{Types, types_of, AreProvedStatements, AreBare, AreInner, times, all_labels, block_labels, procedure_labels}
+use Rattle.pli_headline.proofs.Linking.{times_marked}
+use Rattle.pli_headline.proofs.SymbolsMarked.{symbols_marked, Marks, both_mark, behind, constant_none, plus_none, act_none}
+use Rattle.pli_headline.proofs.StatementMarks.{places_of, display_none, statements_mark}
+use Rattle.pli_headline.proofs.Variables.{HasTypes}
+
+-- ---- the code of a procedure
+
+called_begun_none : (words level : ℕ) → Marks (frame_begun words level 0 true) []
+called_begun_none words level =
+    let up = plus u0 stack_register (pos (temporary_bytes words)) in
+    let first = all_saved u0 ++ (store_word u0 frame_register frame_below ++ (load_word u1 frame_register lower_top ++ (move frame_register u0 ∷ store_word frame_register u1 lower_top))) in
+    let made = display_made level in
+    let own = BaseIn u1 ∷ subtract u1 frame_register u1 ∷ store_word frame_register u1 own_offset in
+    let raised = plus stack_register frame_register (pos (fixed_size level 0)) in
+    behind up (first ++ (made ++ (own ++ raised))) [] (plus_none u0 stack_register (pos (temporary_bytes words)))
+    (behind first (made ++ (own ++ raised)) [] refl
+    (behind made (own ++ raised) [] (display_none level) (behind own raised [] refl (plus_none stack_register frame_register (pos (fixed_size level 0))))))
+
+begun_none : (e : Environment) (head : Y.BlockHead) (words : ℕ) → variables_of_block e.program e.block ≡ [] → Marks (procedure_begun e head words []) []
+begun_none e head words none =
+    let made = variables_code e head.line in
+    let act = act_code head.line in
+    let entered = block_entered 0 head.line in
+    let nothing : Marks made [] = ap (λ ds. symbols_marked (variables_made e head.line 0 ds)) none in
+    behind (frame_begun words head.level 0 true) (move u5 a1 ∷ move a3 a2 ∷ (entered ++ (made ++ act))) [] (called_begun_none words head.level)
+    (behind entered (made ++ act) [] (behind (number a2 head.line) (service 4) [] (constant_none a2 (pos head.line)) refl)
+    (behind made act [] nothing (act_none head.line)))
+
+pub ended_marks : (e : Environment) (head : Y.BlockHead) (words : ℕ) → Marks (procedure_ended e head words None) (ReturnPlace head.number ∷ [])
+ended_marks e head words =
+    let z : ℤ = neg_ℤ (pos (temporary_bytes words)) in
+    let up = plus stack_register frame_register z in
+    let below = load_word frame_register frame_register frame_below in
+    let last = Plain (I.JumpRegister zero_register return_register (pos 0)) ∷ [] in
+    ap (λ ss. ReturnPlace head.number ∷ ss) (behind (up ++ below) last [] (behind up below [] (plus_none stack_register frame_register z) refl) refl)
+
+abbrev pub block_symbols : Y.Block → List Symbol
+block_symbols (Y.BlockOf head body) =
+    ProcedureEntry head.number ∷ (places_of (all_labels head.number body) ++ ReturnPlace head.number ∷ [])
+
+abbrev pub procedure_symbols : List Y.Procedure → List Symbol
+procedure_symbols [] = []
+procedure_symbols (p ∷ ps) = block_symbols p.block ++ procedure_symbols ps
+
+procedure_marks : (e : Environment) (block : ℕ) (types : Types) (head : Y.BlockHead) (body : Y.Stmts) → HasTypes e block types → variables_of_block e.program head.number ≡ [] → AreProvedStatements block types body → AreBare e.program body → Marks (procedure_in (procedure_environment head e) head body [] None) (block_symbols (Y.BlockOf head body))
+procedure_marks e block types head body has none are bare =
+    let e' = procedure_environment head e in
+    let words = block_words e' head.number (stmts_words body) in
+    let begun = procedure_begun e' head words [] in
+    let code = stmts_code e' none_taken body in
+    let ended = procedure_ended e' head words None in
+    let ss = places_of (all_labels head.number body) in
+    ap (λ us. ProcedureEntry head.number ∷ us)
+    (behind begun (code ++ ended) (ss ++ ReturnPlace head.number ∷ []) (begun_none e' head words none)
+    (both_mark code ended ss (ReturnPlace head.number ∷ []) (statements_mark e' none_taken block types body has are bare) (ended_marks e' head words)))
+
+pub procedures_mark : (e : Environment) (block : ℕ) (all : List (ℕ × Label)) (called : List ℕ) (ps : List Y.Procedure) → HasTypes e block (types_of (variables_of_block e.program block)) → AreInner e.program block all called ps → Marks (procedures_code e ps) (procedure_symbols ps)
+procedures_mark e block all called [] has inner = refl
+procedures_mark e block all called (p ∷ ps) has inner =
+    let q = inner.0 in
+    let mine = procedure_in (procedure_environment q.head e) q.head q.body [] None in
+    let marks : Marks (mine ++ procedures_code e ps) (block_symbols (Y.BlockOf q.head q.body) ++ procedure_symbols ps) =
+    both_mark mine (procedures_code e ps) (block_symbols (Y.BlockOf q.head q.body)) (procedure_symbols ps)
+    (procedure_marks e block (types_of (variables_of_block e.program block)) q.head q.body has q.bare q.statements q.inside)
+    (procedures_mark e block all called ps has inner.1) in
+    subst (λ (r : Y.Procedure). Marks (procedures_code e (r ∷ ps)) (procedure_symbols (r ∷ ps))) (sym q.is) marks
+
+-- ---- how often a symbol is marked
+
+abbrev pub symbol_times : Symbol → List Symbol → ℕ
+symbol_times s [] = 0
+symbol_times s (m ∷ ms) = if same_symbol s m then suc (symbol_times s ms) else symbol_times s ms
+
+pub times_are : (s : Symbol) (at : ℕ) (c : Code) → times_marked s (marks_from at c) ≡ symbol_times s (symbols_marked c)
+times_are s at [] = refl
+times_are s at (Plain i ∷ xs) = times_are s (at + 4 * item_size (Plain i)) xs
+times_are s at (BaseIn r ∷ xs) = times_are s (at + 4 * item_size (BaseIn r)) xs
+times_are s at (OffsetOf r y ∷ xs) = times_are s (at + 4 * item_size (OffsetOf r y)) xs
+times_are s at (OffsetAhead r words ∷ xs) = times_are s (at + 4 * item_size (OffsetAhead r words)) xs
+times_are s at (JumpTo y ∷ xs) = times_are s (at + 4 * item_size (JumpTo y)) xs
+times_are s at (CallTo y ∷ xs) = times_are s (at + 4 * item_size (CallTo y)) xs
+times_are s at (JumpAhead words ∷ xs) = times_are s (at + 4 * item_size (JumpAhead words)) xs
+times_are s at (JumpBack words ∷ xs) = times_are s (at + 4 * item_size (JumpBack words)) xs
+times_are s at (Mark y ∷ xs) = ap (λ n. cond (same_symbol s y) (suc n) n) (times_are s at xs)
+
+-- the labels of a procedure, before others
+pub labels_before : (number block : ℕ) (label : Label) (ps qs : List (ℕ × Label)) (ss : List Symbol) → symbol_times (LabelPlace block label) ss ≡ times block label qs → symbol_times (LabelPlace block label) ((places_of ps ++ ReturnPlace number ∷ []) ++ ss) ≡ times block label (ps ++ qs)
+labels_before number block label [] qs ss h = h
+labels_before number block label (p ∷ ps) qs ss h =
+    ap (λ n. cond ((block == p.0) && same_bytes label p.1) (suc n) n) (labels_before number block label ps qs ss h)
+
+block_times : (block : ℕ) (label : Label) (b : Y.Block) (ps : List Y.Procedure) → symbol_times (LabelPlace block label) (procedure_symbols ps) ≡ times block label (procedure_labels ps) → symbol_times (LabelPlace block label) (block_symbols b ++ procedure_symbols ps) ≡ times block label (block_labels b ++ procedure_labels ps)
+block_times block label (Y.BlockOf head body) ps h =
+    labels_before head.number block label (all_labels head.number body) (procedure_labels ps) (procedure_symbols ps) h
+
+pub procedure_times : (block : ℕ) (label : Label) (ps : List Y.Procedure) → symbol_times (LabelPlace block label) (procedure_symbols ps) ≡ times block label (procedure_labels ps)
+procedure_times block label [] = refl
+procedure_times block label (p ∷ ps) = block_times block label p.block ps (procedure_times block label ps)
+
+-- the end of a procedure
+pub end_times : (block : ℕ) (ps : List (ℕ × Label)) (ss : List Symbol) → (block == block) ≡ true → symbol_times (ReturnPlace block) ss ≡ 0 → symbol_times (ReturnPlace block) ((places_of ps ++ ReturnPlace block ∷ []) ++ ss) ≡ 1
+end_times block [] ss same none =
+    ap (λ q. cond q (suc (symbol_times (ReturnPlace block) ss)) (symbol_times (ReturnPlace block) ss)) same ∙ ap (λ n. suc n) none
+end_times block (p ∷ ps) ss same none = end_times block ps ss same none
+
+other_end : (block number : ℕ) (ps : List (ℕ × Label)) (ss : List Symbol) → (block == number) ≡ false → symbol_times (ReturnPlace block) ss ≡ 0 → symbol_times (ReturnPlace block) ((places_of ps ++ ReturnPlace number ∷ []) ++ ss) ≡ 0
+other_end block number [] ss apart none =
+    ap (λ q. cond q (suc (symbol_times (ReturnPlace block) ss)) (symbol_times (ReturnPlace block) ss)) apart ∙ none
+other_end block number (p ∷ ps) ss apart none = other_end block number ps ss apart none
+
+-- which isn't that of the others
+pub others_end : (program : Y.Program) (block : ℕ) (all : List (ℕ × Label)) (called : List ℕ) (ps : List Y.Procedure) → AreInner program block all called ps → symbol_times (ReturnPlace block) (procedure_symbols ps) ≡ 0
+others_end program block all called [] inner = refl
+others_end program block all called (p ∷ ps) inner =
+    let q = inner.0 in
+    subst (λ (r : Y.Procedure). symbol_times (ReturnPlace block) (procedure_symbols (r ∷ ps)) ≡ 0) (sym q.is)
+    (other_end block q.head.number (all_labels q.head.number q.body) (procedure_symbols ps) q.apart (others_end program block all called ps inner.1))
