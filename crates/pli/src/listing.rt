@@ -1,6 +1,6 @@
 // The text of `pli list`: the code words, and beside them what a reader looks for: procedures, labels, source lines and services.
 
-use pli_compile::named::{NamedCode, ProcedureName};
+use pli_compile::named::NamedCode;
 use rv_assembly::item::{Item, Symbol};
 use rv_image::image::Image;
 use rv_isa::decode::decode;
@@ -75,13 +75,12 @@ fn later_duty(service: i32) -> &'static str {
     }
 }
 
-fn procedure_letters<'a>(procedures: &'a [ProcedureName], block: usize) -> &'a [u8] {
-    for procedure in procedures {
-        if procedure.block == block {
-            return &procedure.letters;
-        }
+// The letters of a block, which are known of procedures.
+fn block_letters<'a>(names: &'a [Vec<u8>], block: usize) -> &'a [u8] {
+    match names.get(block) {
+        Some(letters) => letters,
+        None => &[],
     }
-    &[]
 }
 
 // Letters of a source, which are ASCII.
@@ -98,7 +97,7 @@ fn place_name(alloc: Global, named: &NamedCode, symbol: &Symbol) -> Result<Strin
     match symbol {
         Symbol::ProcedureEntry { block } => {
             text.push_str("procedure ")?;
-            push_letters(&mut text, procedure_letters(&named.procedures, *block))?;
+            push_letters(&mut text, block_letters(&named.names, *block))?;
         }
         Symbol::LabelPlace { letters, .. } => {
             text.push_str("label ")?;

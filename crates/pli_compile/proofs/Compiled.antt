@@ -14,7 +14,7 @@ use Rattle.pli_language.specs.Refusals.{IsLeast, want_of_memory}
 use Rattle.pli_language.proofs.Least.{none_among}
 use Rattle.pli_language.proofs.UniqueSource.{never_both, spelled_once}
 use Rattle.pli_lex.proofs.Unique.{one_list, not_both}
-use Rattle.pli_typing.specs.Resolving.{typing_faults, typed_tree, IsMistyped, Resolves, resolves}
+use Rattle.pli_typing.specs.Resolving.{typing_faults, IsMistyped, Resolves, resolves}
 use Rattle.pli_typing.specs.TypedTree as Y
 use Rattle.pli_meaning.specs.Headline.{step_cost}
 use Rattle.pli_coding.specs.Images.{image_of, picture_of}
@@ -24,7 +24,7 @@ use Rattle.rv_program.specs.Generated.{IsCodeOf}
 use Rattle.pli_headline.specs.ProvedSoFar.{IsProvedSoFar}
 use Rattle.pli_headline.specs.Headline.{parts, FitsMemory, HeadlineSoFar}
 use Rattle.pli_headline.specs.FirstPath.{FirstPathProved, FirstPathSmall}
-use Rattle.pli_compile.specs.Compiling.{most_words, most_step_cost, FirstPathShort, IsFirstPath, IsImageFor, IsRefused, IsTreeCoded, out_of_memory, no_tokens, no_tree, bad_declarations, bad_types, RefusedNever}
+use Rattle.pli_compile.specs.Compiling.{most_words, most_step_cost, FirstPathShort, IsFirstPath, IsImageFor, IsParsed, IsProgramOf, IsRefused, IsTreeCoded, out_of_memory, no_tokens, no_tree, bad_declarations, bad_types, RefusedNever}
 use Rattle.pli_compile.proofs.Measures.{tree_weighs, lines_small, tokens_small}
 
 -- ---- images
@@ -57,25 +57,33 @@ first_path_short small s tokens tree program accepted (resolves kept) first =
 pub typed_faultless : {tree : T.Tree} {program : Y.Program} → Resolves tree program → typing_faults tree ≡ []
 typed_faultless (resolves kept) = kept
 
+-- the program of a source with this tree
+abbrev pub program_known : {s : List ℕ} {count : ℕ} {tree : T.Tree} {program : Y.Program} → IsParsed s count tree → declaring_faults tree ≡ [] → Resolves tree program → IsProgramOf s program
+program_known {tree = tree} parsed declares resolved =
+    record {
+      tokens = parsed.tokens;
+      tree = tree;
+      accepted = record { read = parsed.read; spelled = parsed.spelled; declares = declares; keeps_types = typed_faultless resolved };
+      resolved = resolved;
+    }
+
 -- the image of a source's tree, where it is short
-pub compiled : {s : List ℕ} {ts : List Token} {tree : T.Tree} {coded image : Images.Image} → HeadlineSoFar → FirstPathProved → Tokens s ts → Spells s ts tree → declaring_faults tree ≡ [] → IsTreeCoded tree coded
-    → (image ≡ coded) × (length image.code ≤ most_words (length ts)) → IsImageFor s image
-compiled {s = s} {ts = ts} {tree = tree} {coded = coded} {image = image} headline proved read spelled declares made short =
-    let code : IsCodeOf made.0 image = subst (λ (i : Images.Image). IsCodeOf made.0 i) (sym short.0) made.2 in
+pub compiled : {s : List ℕ} {count : ℕ} {tree : T.Tree} {coded image : Images.Image} → HeadlineSoFar → FirstPathProved → IsParsed s count tree → declaring_faults tree ≡ [] → IsTreeCoded tree coded
+    → (image ≡ coded) × (length image.code ≤ most_words count) → IsImageFor s image
+compiled {count = count} {coded = coded} {image = image} headline proved parsed declares made is =
+    let code : IsCodeOf made.0 image = subst (λ (i : Images.Image). IsCodeOf made.0 i) (sym is.0) made.2 in
+    let few = is.1 in
+    let counted = parsed.counted in
+    let short : length image.code ≤ most_words (length parsed.tokens) = omega (arith, few, counted) in
     record {
       program = made.0;
-      source =
-          record {
-            tokens = ts;
-            tree = tree;
-            accepted = record { read = read; spelled = spelled; declares = declares; keeps_types = typed_faultless made.1 };
-            resolved = made.1;
-          };
+      source = program_known parsed declares made.1;
       coded = code;
-      short = short.1;
-      cheap = costs made.0 image (length ts) code short.1;
-      keeps = λ h. headline made.0 h (fits made.0 coded made.2 made.3);
-      first_path = λ first. proved_of read spelled made.1 proved first;
+      short = short;
+      cheap = costs made.0 image (length parsed.tokens) code short;
+      small = made.3;
+      keeps = λ h. headline made.0 h (fits made.0 coded made.2 made.4);
+      first_path = λ first. proved_of parsed.read parsed.spelled made.1 proved first;
     }
 
 -- ---- refusals

@@ -6,3 +6,6 @@ pub mod WeighingNests
 pub mod Based
 pub mod Measures
 pub mod Compiled
+pub mod FramePlaces
+pub mod Names
+pub mod Stacks

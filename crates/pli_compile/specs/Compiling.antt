@@ -18,6 +18,7 @@ use Rattle.rv_meaning.specs.Images as Images
 use Rattle.rv_program.specs.Generated.{IsCodeOf}
 use Rattle.pli_headline.specs.ProvedSoFar.{IsProvedSoFar}
 use Rattle.pli_headline.specs.Headline.{parts, Headline}
+use Rattle.pli_compile.specs.Stacks.{HasSmallFrames}
 
 -- a source has these tokens, which spell a tree that breaks no rule of declarations and none of typing
 pub record IsAccepted (s : List ℕ) (tokens : List Token) (tree : T.Tree) : Type 0 where
@@ -33,11 +34,19 @@ pub record IsProgramOf (s : List ℕ) (program : Y.Program) : Type 0 where
   pub accepted : IsAccepted s tokens tree
   pub resolved : Resolves tree program
 
+-- a source has so many tokens, and they spell the tree
+pub record IsParsed (s : List ℕ) (count : ℕ) (tree : T.Tree) : Type 0 where
+  pub tokens : List Token
+  pub read : Tokens s tokens
+  pub spelled : Spells s tokens tree
+  pub counted : count ≡ length tokens
+
 -- ---- images
 
--- the image of a tree's program: just its code, which a machine loads
+-- the image of a tree's program: just its code, for small frames, which a machine loads
 abbrev pub IsTreeCoded : T.Tree → Images.Image → Type 0
-IsTreeCoded tree image = (program : Y.Program) × Resolves tree program × IsCodeOf program image × Images.IsLoadable image
+IsTreeCoded tree image =
+    (program : Y.Program) × Resolves tree program × IsCodeOf program image × HasSmallFrames program × Images.IsLoadable image
 
 -- a program of the first path of the language: one procedure with declarations of FIXED BINARY(31), assignments and PUT EDIT
 abbrev pub IsFirstPath : T.Tree → Type 0
@@ -50,14 +59,15 @@ most_words tokens = 4000 + 104 * tokens
 abbrev pub most_step_cost : ℕ → ℕ
 most_step_cost tokens = 8002 + 208 * tokens
 
--- the image of a source: just the code that the definitions have for its program, which is short. Where the headline is proved for the
--- program, the image keeps it; and so it is for each program of the first path
+-- the image of a source: just the code that the definitions have for its program, which is short and makes small frames. Where the headline
+-- is proved for the program, the image keeps it; and so it is for each program of the first path
 pub record IsImageFor (s : List ℕ) (image : Images.Image) : Type 0 where
   pub program : Y.Program
   pub source : IsProgramOf s program
   pub coded : IsCodeOf program image
   pub short : length image.code ≤ most_words (length source.tokens)
   pub cheap : step_cost (picture_of parts program) ≤ most_step_cost (length source.tokens)
+  pub small : HasSmallFrames program
   pub keeps : IsProvedSoFar program → Headline program (picture_of parts program) (table_of program)
   pub first_path : IsFirstPath source.tree → IsProvedSoFar program
 

@@ -1,1 +1,3 @@
 pub mod Compiling
+pub mod Naming
+pub mod Stacks

@@ -10,15 +10,16 @@ ghost use Rattle.pli_typing.specs.TypedStatementView.{program_of};
 ghost use Rattle.pli_declare.specs.ShownBlocks.{block_of};
 ghost use Rattle.rv_program.specs.Generated.{IsCodeOf};
 ghost use Rattle.pli_compile.specs.Compiling.{most_words, IsImageFor, IsRefused, IsTreeCoded};
+ghost use Rattle.pli_compile.specs.Stacks.{HasSmallFrames};
 
+use crate::frames::has_small_frames;
+use crate::parsed::parse_source;
 use pli_declare::Scopes;
 use pli_declaring::declare;
 use pli_headline::first_path::first_path_proved;
 use pli_headline::laws::headline_so_far;
 use pli_language::fault::{SourceFault, SourceKind};
 use pli_language::stmt::Tree;
-use pli_lex::tokens;
-use pli_parse::parse;
 use pli_tree::resolve;
 use pli_typing::statement::Typed;
 use rv_image::image::Image;
@@ -48,12 +49,22 @@ fn is_short(image: &Image, tokens: usize) -> bool
 
 /// An image that is short for so many tokens. No program is known whose image isn't: that is want of memory.
 fn short(image: Image, tokens: usize) -> Result<Image, SourceFault>
-    ensures { MatchResult result (λ i. (i ≡ image) × (length i.code ≤ most_words tokens)) (λ f. f ≡ want_of_memory) }
+    ensures { MatchResult result (λ i. (i ≡ image) × (length i.code ≤ most_words tokens)) (λ f. (f ≡ want_of_memory) × ¬ (length image.code ≤ most_words tokens)) }
 {
     if is_short(&image, tokens) {
         Ok(image)
     } else {
         Err(OUT_OF_MEMORY)
+    }
+}
+
+/// That the frames of a program are small. No program is known that has larger ones: that is want of memory.
+fn small(alloc: Global, typed: &Typed) -> Result<(), SourceFault>
+    ensures { MatchResult result (λ _. HasSmallFrames (program_of typed.now)) (λ f. f ≡ want_of_memory) }
+{
+    match has_small_frames(alloc, typed) {
+        Ok(true) => Ok(()),
+        _ => Err(OUT_OF_MEMORY),
     }
 }
 
@@ -73,6 +84,7 @@ fn tree_coded<'a>(alloc: Global, tree: &'a Tree, scopes: &Scopes<'a>) -> Result<
     ensures { MatchResult result (λ image. IsTreeCoded (tree_of tree.now) image) (λ f. (f ≡ want_of_memory) ⊎ IsMistyped (tree_of tree.now) f) }
 {
     let typed = resolve(alloc, tree, scopes)?;
+    small(alloc, &typed)?;
     let image = coded(alloc, &typed)?;
     loads(&image);
     Ok(image)
@@ -89,10 +101,9 @@ pub fn compile(alloc: Global, source: &[u8]) -> Result<Image, SourceFault>
 {
     headline_so_far();
     first_path_proved();
-    let tokens = tokens(alloc, source)?;
-    let tree = parse(alloc, source, &tokens)?;
-    let scopes = declare(alloc, &tree)?;
-    let coded = tree_coded(alloc, &tree, &scopes)?;
-    let image = short(coded, tokens.len())?;
+    let parsed = parse_source(alloc, source)?;
+    let scopes = declare(alloc, &parsed.tree)?;
+    let coded = tree_coded(alloc, &parsed.tree, &scopes)?;
+    let image = short(coded, parsed.tokens)?;
     Ok(image)
 }

@@ -1,6 +1,7 @@
 // Laws of refusals and of trees: each function's contract is one law, and calling it does nothing.
 
 ghost use Rattle.pli_compile.specs.Compiling.{FirstPathShort, ProcedureFound, RefusedNever};
+ghost use Rattle.pli_compile.specs.Stacks.{ParametersApart, PlacesApart, StacksFit};
 
 use pli_headline::first_path::first_path_small;
 
@@ -20,3 +21,18 @@ pub fn first_path_short()
 {
     first_path_small();
 }
+
+/// The frames of as many blocks as may be active fit the stacks, with all data that the limit on automatic data allows.
+pub fn stacks_fit()
+    ensures { StacksFit }
+{}
+
+/// What variables take in a frame is apart.
+pub fn places_apart()
+    ensures { PlacesApart }
+{}
+
+/// What parameters take in a frame is apart, and stands before the variables.
+pub fn parameters_apart()
+    ensures { ParametersApart }
+{}

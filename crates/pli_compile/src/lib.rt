@@ -2,5 +2,7 @@
 #![tactic(auto)]
 
 pub mod compile;
+mod frames;
 pub mod laws;
 pub mod named;
+mod parsed;

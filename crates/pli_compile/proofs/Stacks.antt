@@ -1,0 +1,90 @@
+-- Small frames of as many blocks as may be active fit the stacks, with all automatic data.
+use Rattle.std.proofs.Common.{◌≡◌, ℕ, ◌+◌, ◌*◌, ◌≤◌, Bool, true, false, List, [], ◌∷◌, length, refl, sym, subst, arith}
+use Rattle.std.specs.Prelude.{◌&&◌, nat_le, Some, None, Option}
+use Rattle.std.specs.List.{list_all, sum}
+use Rattle.std.proofs.lemmas.List.Sums.{sum_by-cons}
+use Rattle.std.proofs.lemmas.Bool.Decides.{nat_tests}
+use Rattle.area_keeper.specs.Chain.{chain}
+use Rattle.pli_typing.specs.Signatures.{footprint, data_size, rounded_up, leaf_bytes, leaves_size, element_count, LeafKind, Fixed, Character, Varying, Bit, Pointer, Offset, Area, Bounds, Leaf}
+use Rattle.pli_meaning.specs.Contents.{Shape}
+use Rattle.pli_frames.specs.Plans.{BlockFrame}
+use Rattle.pli_serving.specs.Arguments.{bytes_taken as data_taken_by, capacity_of_kind, capacity_of_leaves}
+use Rattle.pli_compile.specs.Stacks.{fixed_bytes, most_fixed_bytes, is_small, most_routine_bytes, are_at_most, all_fixed_bytes, IsOneArea, HasOneArea, HaveOneArea, bytes_taken, all_taken, all_counted, StacksFit}
+
+both : (a b : Bool) → (a && b) ≡ true → (a ≡ true) × (b ≡ true)
+both true b e = (refl, e)
+both false b e = absurd (cc e)
+
+small_is : (n : ℕ) → nat_le n most_fixed_bytes ≡ true → n ≤ 7800
+small_is n e = grind (arith, nat_tests, e)
+
+routine_is : (n : ℕ) → nat_le n most_routine_bytes ≡ true → n ≤ 2600
+routine_is n e = grind (arith, nat_tests, e)
+
+fixed_few : (frames : List BlockFrame) → list_all is_small frames ≡ true → all_fixed_bytes frames ≤ 7800 * length frames
+fixed_few [] small = omega arith
+fixed_few (f ∷ fs) small =
+    let s = both (is_small f) (list_all is_small fs) small in
+    let here = small_is (fixed_bytes f) s.0 in
+    let rest = fixed_few fs s.1 in
+    omega (arith, here, rest)
+
+routines_few : (ns : List ℕ) → are_at_most most_routine_bytes ns ≡ true → sum ns ≤ 2600 * length ns
+routines_few [] small = omega arith
+routines_few (n ∷ ns) small =
+    let s = both (nat_le n most_routine_bytes) (are_at_most most_routine_bytes ns) small in
+    let here = routine_is n s.0 in
+    let rest = routines_few ns s.1 in
+    let all = sum_by-cons (λ x. x) n ns in
+    omega (arith, here, rest, all)
+
+-- an area with its header
+area_twice : (n : ℕ) → 16 + rounded_up 16 (16 + n) ≤ 2 * (16 + rounded_up 16 (rounded_up 4 n * 1 + 0))
+area_twice n = omega arith
+
+-- what takes as much as it counts for
+plain_twice : (n : ℕ) → 16 + n ≤ 2 * (16 + n)
+plain_twice n = omega arith
+
+-- what data take, by the capacity of an area
+abbrev taken : (capacity : Option ℕ) (size : ℕ) → ℕ
+taken None size = size
+taken (Some capacity) size = 16 + capacity
+
+data_taken : (s : Shape) (o : Option ℕ) → data_taken_by chain s o ≡ taken o (data_size s.signature)
+data_taken s None = refl
+data_taken s (Some capacity) = refl
+
+by_kind : (k : LeafKind) (bs : List Bounds) → IsOneArea k bs
+    → 16 + rounded_up 16 (taken (capacity_of_kind k) (rounded_up 4 (leaf_bytes k) * element_count bs + 0)) ≤ 2 * (16 + rounded_up 16 (rounded_up 4 (leaf_bytes k) * element_count bs + 0))
+by_kind (Area n) bs one = subst (λ cs. 16 + rounded_up 16 (16 + n) ≤ 2 * (16 + rounded_up 16 (rounded_up 4 n * element_count cs + 0))) (sym one) (area_twice n)
+by_kind (Fixed p) bs one = plain_twice (rounded_up 16 (rounded_up 4 (leaf_bytes (Fixed p)) * element_count bs + 0))
+by_kind (Character n) bs one = plain_twice (rounded_up 16 (rounded_up 4 n * element_count bs + 0))
+by_kind (Varying n) bs one = plain_twice (rounded_up 16 (rounded_up 4 (2 + n) * element_count bs + 0))
+by_kind Bit bs one = plain_twice (rounded_up 16 (rounded_up 4 1 * element_count bs + 0))
+by_kind Pointer bs one = plain_twice (rounded_up 16 (rounded_up 4 16 * element_count bs + 0))
+by_kind Offset bs one = plain_twice (rounded_up 16 (rounded_up 4 4 * element_count bs + 0))
+
+by_leaves : (ls : List Leaf) → HasOneArea ls → 16 + rounded_up 16 (taken (capacity_of_leaves ls) (leaves_size ls)) ≤ 2 * (16 + rounded_up 16 (leaves_size ls))
+by_leaves [] one = plain_twice (rounded_up 16 0)
+by_leaves (l ∷ []) one = by_kind l.kind l.bounds one
+by_leaves (l ∷ m ∷ ls) one = plain_twice (rounded_up 16 (leaves_size (l ∷ m ∷ ls)))
+
+twice : (s : Shape) → HasOneArea s.signature.leaves → bytes_taken s ≤ 2 * footprint (data_size s.signature)
+twice s one =
+    subst (λ n. 16 + rounded_up 16 n ≤ 2 * footprint (data_size s.signature)) (sym (data_taken s (capacity_of_leaves s.signature.leaves)))
+    (by_leaves s.signature.leaves one)
+
+taken_few : (made : List Shape) → HaveOneArea made → all_taken made ≤ 2 * all_counted made
+taken_few [] one = omega arith
+taken_few (s ∷ ss) one =
+    let here = twice s one.0 in
+    let rest = taken_few ss one.1 in
+    omega (arith, here, rest)
+
+pub stacks_fit : StacksFit
+stacks_fit frames routines made few called_few small opened one counted =
+    let fixed = fixed_few frames small in
+    let called = routines_few routines opened in
+    let taken = taken_few made one in
+    omega (arith, fixed, called, taken, few, called_few, counted)
