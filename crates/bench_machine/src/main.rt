@@ -7,11 +7,11 @@ ghost use Rattle.std.specs.Prelude.{◌≡◌, ℕ, ◌^◌, ◌<◌, List, leng
 
 use anyhow::anyhow;
 use programs::{arithmetic_loop, memory_loop};
+use raw_storage::storage::Storage;
 use rv_image::image::{Image, is_loadable};
 use rv_isa::code::Code;
 use rv_machine::machine::{Machine, Step};
 use rv_machine::services::{Served, Services};
-use rv_machine::storage::Storage;
 use std::alloc::Global;
 use std::env;
 use std::time::Instant;

@@ -3,7 +3,6 @@
 #![tactic(auto)]
 
 mod images;
-mod memory;
 mod numbers;
 mod programs;
 mod runs;
@@ -39,6 +38,5 @@ fn main(rt: HostRuntime) -> Result<()> {
     }
     println!(rt; "== others")?;
     images::tell_small_tables(&rt)?;
-    runs::tell_other_notices(&rt)?;
-    memory::tell_memory(&rt)
+    runs::tell_other_notices(&rt)
 }

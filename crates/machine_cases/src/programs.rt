@@ -3,11 +3,11 @@
 use crate::images::made;
 use crate::numbers::numbers;
 use anyhow::{Context, Result};
+use raw_storage::storage::Storage;
 use rv_image::image::Image;
 use rv_machine::base::valid_base;
 use rv_machine::machine::{Machine, Step, Stretch};
 use rv_machine::services::{Served, Services};
-use rv_machine::storage::Storage;
 use std::alloc::Global;
 
 const BASE: u32 = 0x1_0000;

@@ -13,8 +13,8 @@ use pli_language::condition::Condition;
 use pli_meaning::outcome::{End, Outcome};
 use pli_runtime::runtime::Runtime;
 use pli_values::layout::Layout;
+use raw_storage::storage::Storage;
 use rv_machine::services::{Served, Services};
-use rv_machine::storage::Storage;
 use std::alloc::{AllocError, Global};
 use std::marker::Model;
 

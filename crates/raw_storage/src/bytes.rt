@@ -4,6 +4,14 @@ ghost use Rattle.std.specs.Prelude.{◌≡◌, ◌+◌, ◌<◌, ◌≤◌, leng
 ghost use Rattle.rv_meaning.specs.Memory.{load, store};
 
 #[inline(always)]
+pub fn load8(bytes: &[u8], at: usize) -> u8
+    requires { at < length bytes.now }
+    ensures { result ≡ load 1 bytes.now at }
+{
+    bytes[at]
+}
+
+#[inline(always)]
 pub fn load16(bytes: &[u8], at: usize) -> u16
     requires { at + 2 ≤ length bytes.now }
     ensures { result ≡ load 2 bytes.now at }
@@ -17,6 +25,14 @@ pub fn load32(bytes: &[u8], at: usize) -> u32
     ensures { result ≡ load 4 bytes.now at }
 {
     u32::from_le_bytes([bytes[at], bytes[at + 1], bytes[at + 2], bytes[at + 3]])
+}
+
+#[inline(always)]
+pub fn store8(bytes: &mut [u8], at: usize, value: u8)
+    requires { at < length bytes.old }
+    ensures { bytes.new ≡ store 1 bytes.old at value }
+{
+    bytes[at] = value;
 }
 
 #[inline(always)]

@@ -1,7 +1,7 @@
 // The bytes of a machine's memory, in three parts.
 #![tactic(auto)]
 
-mod bytes;
+pub mod bytes;
 pub mod storage;
 #[cfg(test)]
 mod tests;

@@ -4,7 +4,7 @@ ghost use Rattle.std.specs.Prelude.{◌≡◌, ◌+◌, ◌<◌, ◌≤◌, leng
 ghost use Rattle.std.specs.Borrow.{sem};
 ghost use Rattle.rv_meaning.specs.Memory.{load, store};
 ghost use Rattle.raw_storage.specs.Parts.{empty, with_bytes, moved, filled, range, static_part, stack_part, heap_part};
-ghost use Rattle.raw_storage.specs.Lending.{LendsRange};
+ghost use Rattle.raw_storage.specs.Lending.{LendsBytes, LendsRange};
 
 use crate::bytes;
 use std::alloc::{AllocError, Global};
@@ -83,7 +83,7 @@ impl Storage {
         requires { at < length self.now.bytes }
         ensures { result ≡ load 1 self.now.bytes at }
     {
-        self.bytes[at as usize]
+        bytes::load8(&self.bytes, at as usize)
     }
 
     #[inline(always)]
@@ -107,7 +107,7 @@ impl Storage {
         requires { at < length self.old.bytes }
         ensures { self.new ≡ with_bytes (store 1 self.old.bytes at value) self.old }
     {
-        self.bytes[at as usize] = value;
+        bytes::store8(&mut self.bytes, at as usize, value);
     }
 
     #[inline(always)]
@@ -155,6 +155,15 @@ impl Storage {
         let (statics, rest) = self.bytes.split_at_mut(self.stack_at);
         let (stack, heap) = rest.split_at_mut(stack_len);
         (statics, stack, heap)
+    }
+
+    /// All bytes, to be read and written in place.
+    #[inline(always)]
+    pub fn as_mut_slice(&mut self) -> &mut [u8]
+        ensures* writes_back { sem 𝓛 (LendsBytes self.entry result) }
+        ensures value { result.now ≡ self.old.bytes }
+    {
+        self.bytes.as_mut_slice()
     }
 
     /// So many bytes from a place on.

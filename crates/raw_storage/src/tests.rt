@@ -42,6 +42,8 @@ fn ranges_are_filled<R: Abort>(rt: &R, storage: &mut Storage) {
     expect(rt, storage, 12, 0x0409_0901);
     assert!(rt; storage.len() == 32);
     storage.range_mut(13, 2).fill(8);
+    assert!(rt; storage.len() == 32);
+    storage.as_mut_slice()[12] = 2;
 }
 
 #[test]
@@ -55,7 +57,7 @@ fn three_parts_are_read_and_written(rt: HostRuntime) {
             move_four(&rt, &mut storage, 13, 12);
             expect(&rt, &storage, 12, 0x0403_0201);
             ranges_are_filled(&rt, &mut storage);
-            expect(&rt, &storage, 12, 0x0408_0801);
+            expect(&rt, &storage, 12, 0x0408_0802);
             number_parts(&rt, &mut storage);
             expect(&rt, &storage, 6, 0x0202_0101);
             expect(&rt, &storage, 10, 0x0303_0202);

@@ -1,7 +1,6 @@
 pub mod Fitting
 pub mod Halts
 pub mod Legs
-pub mod Lending
 pub mod Loading
 pub mod Operations
 pub mod Outcomes

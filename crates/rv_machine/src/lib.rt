@@ -3,7 +3,6 @@
 
 pub mod arithmetic;
 pub mod base;
-mod bytes;
 mod execute;
 mod halt;
 mod leg;
@@ -11,4 +10,3 @@ mod loading;
 pub mod machine;
 mod operation;
 pub mod services;
-pub mod storage;

@@ -3,7 +3,7 @@
 ghost use Rattle.std.specs.Prelude.{◌≡◌, ℕ, List, length, slice_index};
 ghost use Rattle.rv_meaning.specs.Machine.{memory_size};
 
-use crate::storage::Storage;
+use raw_storage::storage::Storage;
 
 /// How the call of a service came out.
 #[derive(Clone, Copy, PartialEq, Eq, Debug)]
@@ -28,10 +28,10 @@ pub trait Services {
 
     /// Serves the call whose number is in register 17; `storage` is the machine's 16 MiB, code included.
     fn call(&mut self, registers: &mut [u32; 32], storage: &mut Storage) -> Served
-        requires { length storage.old ≡ memory_size }
-        ensures meaning { serves self.old (slice_index registers.old) storage.old result
-            self.new (slice_index registers.new) storage.new }
+        requires { length storage.old.bytes ≡ memory_size }
+        ensures meaning { serves self.old (slice_index registers.old) storage.old.bytes result
+            self.new (slice_index registers.new) storage.new.bytes }
         ensures zero { slice_index registers.new 0 ≡ slice_index registers.old 0 }
-        ensures sized { length storage.new ≡ length storage.old }
-        ensures refused { KeepsWhereRefused result registers.old storage.old registers.new storage.new };
+        ensures sized { length storage.new.bytes ≡ length storage.old.bytes }
+        ensures refused { KeepsWhereRefused result registers.old storage.old.bytes registers.new storage.new.bytes };
 }

@@ -1,10 +1,10 @@
 // The services that a run calls.
 
 use pli_environment::environment::Environment;
+use raw_storage::storage::Storage;
 use rv_image::image::Image;
 use rv_machine::machine::Machine;
 use rv_machine::services::{Served, Services};
-use rv_machine::storage::Storage;
 use std::io;
 
 /// One more than the greatest number of a service.

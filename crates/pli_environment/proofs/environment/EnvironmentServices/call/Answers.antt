@@ -13,5 +13,5 @@ returns-clause-meaning c =
       | in-Err-Memory w ↦ told_as _ _ _ _ _ _ (w.in-Err-Memory.is ∙ ap Err w.in-Err-Memory.field-0-is) (ap slice_index w.registers-is) (w.result-is, refl)
     ] in
     serves_lent c.args.self.now _ _ _ _ _ _ _ _ c.serve.result _ c.self.view_is c.as_mut_slice-memory.ensures.value
-    (refilled c.args.storage.now c.serve.new.memory (c.serve.auto.memory ∙ ap length c.as_mut_slice-memory.ensures.value))
+    (refilled c.args.storage.now.bytes c.serve.new.memory (c.serve.auto.memory ∙ ap length c.as_mut_slice-memory.ensures.value))
     c.serve.ensures.served c.serve.ensures.layout told
