@@ -1,10 +1,11 @@
 -- The blocks that are entered, in the meaning and among the services: procedures inside the main one, and begin blocks in procedures and
--- in one another, with no units but those that leave a condition to the system.
-use Rattle.std.proofs.Common.{◌≡◌, ℕ, suc, ◌<◌, List, [], ◌∷◌, length, Option, None, Some, Bool, true, false, refl, sym, ap, ◌∙◌, subst, arith, ◌≤◌}
+-- in one another; units of the program are for AREA alone.
+use Rattle.std.proofs.Common.{◌≡◌, ℕ, suc, ◌<◌, List, [], ◌∷◌, length, Option, None, Some, Bool, true, false, refl, sym, ap, ◌∙◌, subst, arith, ◌≤◌, ◌⊎◌, inl, inr, ◌^◌, lit<}
 use Rattle.std.specs.Prelude.{map, cond, ◌==◌}
 use Rattle.std.proofs.lemmas.Bool.{eq-eqb}
 use Rattle.std.proofs.lemmas.Bool.Decides.{nat_tests}
 use Rattle.pli_language.specs.declared.condition.Condition.{Condition}
+use Rattle.pli_language.specs.declared.condition.Condition.TheVariants as C
 use Rattle.pli_meaning.specs.StorageState.{Activation, SystemUnit, same_condition, force, first_unit, unit_for, oncode_of, newest_height, ancestor, height_of}
 use Rattle.pli_serving.specs.ServiceState as S
 use Rattle.pli_serving.specs.OnUnits as U
@@ -12,30 +13,43 @@ use Rattle.pli_serving.specs.ActsAndEnds as W
 use Rattle.pli_serving.specs.ActsAndEnds.{code_of_kind}
 use Rattle.pli_serving.specs.Blocks.{from_frame}
 
--- each unit is this one
+-- each unit is this one, or one for AREA
 abbrev pub AllUnits : {U : Type 0} → U → List (Condition × U) → Type 0
 AllUnits u [] = Unit {0}
-AllUnits u (p ∷ ps) = (p.1 ≡ u) × AllUnits u ps
+AllUnits u (p ∷ ps) = ((p.1 ≡ u) ⊎ (p.0 ≡ C.Area)) × AllUnits u ps
 
--- an activation above so many others, which is no on-unit: the lowest is that of the main procedure, and the others are inside one below them
-pub record IsNested (below : ℕ) (a : Activation) : Type 0 where
+abbrev pub levels_of : List Activation → List ℕ
+levels_of as' = map (λ (a : Activation). a.level) as'
+
+abbrev pub first_level : List ℕ → ℕ
+first_level [] = 0
+first_level (l ∷ ls) = l
+
+-- an activation above so many others, of which the newest has a level: the lowest is that of the main procedure, the others are inside
+-- one below them, and one of the next level is inside the newest
+pub record IsNested (below level : ℕ) (a : Activation) : Type 0 where
   pub height : a.height ≡ suc below
   pub first : below ≡ 0 → a.level ≡ 0
   pub inside : 0 < below → (0 < a.level) × ((1 ≤ a.parent) × (a.parent ≤ below))
-  pub oncode : a.oncode ≡ 0
+  pub direct : a.level ≡ suc level → a.parent ≡ below
+  pub oncode : a.oncode < 2 ^ 16
   pub units : AllUnits SystemUnit a.units
 
--- the same of the services
-pub record IsOrdinary (x : S.Activation) : Type 0 where
-  pub kind : (further : ℕ) → code_of_kind x.kind further ≡ further
+-- the same of the services, where it runs for the same code
+pub record IsOrdinary (oncode : ℕ) (x : S.Activation) : Type 0 where
+  pub kind : (further : ℕ) → code_of_kind x.kind further ≡ cond (oncode == 0) further oncode
   pub units : AllUnits S.SystemUnit x.units
 
 abbrev pub Nested : List Activation → List S.Activation → Type 0
 Nested [] [] = Unit {0}
-Nested (a ∷ as') (x ∷ xs) = IsNested (length as') a × (IsOrdinary x × Nested as' xs)
+Nested (a ∷ as') (x ∷ xs) = IsNested (length as') (first_level (levels_of as')) a × (IsOrdinary a.oncode x × Nested as' xs)
 Nested _ _ = ⊥
 
--- ---- no unit in force but the system's
+-- ---- for conditions other than AREA no unit is in force but the system's
+
+-- a condition that isn't AREA
+abbrev pub IsOther : Condition → Type 0
+IsOther c = same_condition C.Area c ≡ false
 
 abbrev pub IsIf : {U : Type 0} → U → Option U → Type 0
 IsIf u None = Unit {0}
@@ -45,45 +59,53 @@ abbrev pub OnlyIf : {A U : Type 0} → U → Option (A × U) → Type 0
 OnlyIf u None = Unit {0}
 OnlyIf u (Some p) = p.1 ≡ u
 
-unit_by : {U : Type 0} (q : Bool) (u x : U) (o : Option U) → x ≡ u → IsIf u o → IsIf u (cond q (Some x) o)
-unit_by true u x o e h = e
+unit_by : {U : Type 0} (q : Bool) (u x : U) (o : Option U) → (q ≡ true → x ≡ u) → IsIf u o → IsIf u (cond q (Some x) o)
+unit_by true u x o e h = e refl
 unit_by false u x o e h = h
 
-unit_for_all : {U : Type 0} (u : U) (ps : List (Condition × U)) (c : Condition) → AllUnits u ps → IsIf u (unit_for ps c)
-unit_for_all u [] c h = tt
-unit_for_all u (p ∷ ps) c h = unit_by (same_condition p.0 c) u p.1 (unit_for ps c) h.0 (unit_for_all u ps c h.1)
+is_unit : {U : Type 0} (u x : U) (d c : Condition) → IsOther c → (x ≡ u) ⊎ (d ≡ C.Area) → same_condition d c ≡ true → x ≡ u
+is_unit u x d c other (inl e) same = e
+is_unit u x d c other (inr e) same =
+    let no : true ≡ false = sym same ∙ ap (λ a. same_condition a c) e ∙ other in absurd (cc no)
+
+unit_for_all : {U : Type 0} (u : U) (ps : List (Condition × U)) (c : Condition) → IsOther c → AllUnits u ps → IsIf u (unit_for ps c)
+unit_for_all u [] c other h = tt
+unit_for_all u (p ∷ ps) c other h =
+    unit_by (same_condition p.0 c) u p.1 (unit_for ps c) (is_unit u p.1 p.0 c other h.0) (unit_for_all u ps c other h.1)
 
 first_unit_only : {A U : Type 0} (u : U) (a : A) (o : Option U) (further : Option (A × U)) → IsIf u o → OnlyIf u further → OnlyIf u (first_unit a o further)
 first_unit_only u a None further h rest = rest
 first_unit_only u a (Some x) further h rest = h
 
-pub only_in_force : (as' : List Activation) (xs : List S.Activation) → Nested as' xs → (c : Condition) → OnlyIf SystemUnit (force as' c)
-only_in_force [] xs h c = tt
-only_in_force (a ∷ as') [] h c = absurd h
-only_in_force (a ∷ as') (x ∷ xs) h c =
-    first_unit_only SystemUnit a (unit_for a.units c) (force as' c) (unit_for_all SystemUnit a.units c h.0.units) (only_in_force as' xs h.1.1 c)
+pub only_in_force : (as' : List Activation) (xs : List S.Activation) → Nested as' xs → (c : Condition) → IsOther c → OnlyIf SystemUnit (force as' c)
+only_in_force [] xs h c other = tt
+only_in_force (a ∷ as') [] h c other = absurd h
+only_in_force (a ∷ as') (x ∷ xs) h c other =
+    first_unit_only SystemUnit a (unit_for a.units c) (force as' c) (unit_for_all SystemUnit a.units c other h.0.units) (only_in_force as' xs h.1.1 c other)
 
-pub only_served : (as' : List Activation) (xs : List S.Activation) → Nested as' xs → (c : Condition) → OnlyIf S.SystemUnit (U.force xs c)
-only_served as' [] h c = tt
-only_served [] (x ∷ xs) h c = absurd h
-only_served (a ∷ as') (x ∷ xs) h c =
-    first_unit_only S.SystemUnit x (unit_for x.units c) (U.force xs c) (unit_for_all S.SystemUnit x.units c h.1.0.units) (only_served as' xs h.1.1 c)
+pub only_served : (as' : List Activation) (xs : List S.Activation) → Nested as' xs → (c : Condition) → IsOther c → OnlyIf S.SystemUnit (U.force xs c)
+only_served as' [] h c other = tt
+only_served [] (x ∷ xs) h c other = absurd h
+only_served (a ∷ as') (x ∷ xs) h c other =
+    first_unit_only S.SystemUnit x (unit_for x.units c) (U.force xs c) (unit_for_all S.SystemUnit x.units c other h.1.0.units) (only_served as' xs h.1.1 c other)
 
--- ---- no on-unit runs
+-- ---- the code of the newest on-unit that runs
 
-oncode_by : (q : Bool) (n further : ℕ) → (n == 0) ≡ q → n ≡ 0 → further ≡ 0 → cond q further n ≡ 0
-oncode_by true n further e h rest = rest
-oncode_by false n further e h rest = h
+oncode_by : (q : Bool) (n further : ℕ) → n < 2 ^ 16 → further < 2 ^ 16 → cond q further n < 2 ^ 16
+oncode_by true n further h rest = rest
+oncode_by false n further h rest = h
 
-pub no_oncode : (as' : List Activation) (xs : List S.Activation) → Nested as' xs → oncode_of as' ≡ 0
-no_oncode [] xs h = refl
-no_oncode (a ∷ as') [] h = absurd h
-no_oncode (a ∷ as') (x ∷ xs) h = oncode_by (a.oncode == 0) a.oncode (oncode_of as') refl h.0.oncode (no_oncode as' xs h.1.1)
+pub small_oncode : (as' : List Activation) (xs : List S.Activation) → Nested as' xs → oncode_of as' < 2 ^ 16
+small_oncode [] xs h = lit< tt
+small_oncode (a ∷ as') [] h = absurd h
+small_oncode (a ∷ as') (x ∷ xs) h = oncode_by (a.oncode == 0) a.oncode (oncode_of as') h.0.oncode (small_oncode as' xs h.1.1)
 
-pub no_oncode_served : (as' : List Activation) (xs : List S.Activation) → Nested as' xs → W.oncode_of xs ≡ 0
-no_oncode_served as' [] h = refl
-no_oncode_served [] (x ∷ xs) h = absurd h
-no_oncode_served (a ∷ as') (x ∷ xs) h = h.1.0.kind (W.oncode_of xs) ∙ no_oncode_served as' xs h.1.1
+pub same_oncode : (as' : List Activation) (xs : List S.Activation) → Nested as' xs → W.oncode_of xs ≡ oncode_of as'
+same_oncode [] [] h = refl
+same_oncode (a ∷ as') [] h = absurd h
+same_oncode [] (x ∷ xs) h = absurd h
+same_oncode (a ∷ as') (x ∷ xs) h =
+    h.1.0.kind (W.oncode_of xs) ∙ ap (λ n. cond (a.oncode == 0) n a.oncode) (same_oncode as' xs h.1.1)
 
 -- ---- heights
 
@@ -100,19 +122,12 @@ newest_is (a ∷ as') (x ∷ xs) n h e = h.0.height ∙ e
 
 -- ---- levels
 
-abbrev pub levels_of : List Activation → List ℕ
-levels_of as' = map (λ (a : Activation). a.level) as'
-
 levels_count : (as' : List Activation) → length (levels_of as') ≡ length as'
 levels_count [] = refl
 levels_count (a ∷ as') = ap (λ n. suc n) (levels_count as')
 
 pub entered_length : (as' : List Activation) (levels : List ℕ) → levels_of as' ≡ levels → length as' ≡ length levels
 entered_length as' levels e = sym (levels_count as') ∙ ap (λ (ls : List ℕ). length ls) e
-
-abbrev first_level : List ℕ → ℕ
-first_level [] = 0
-first_level (l ∷ ls) = l
 
 abbrev pub behind_level : List ℕ → List ℕ
 behind_level [] = []

@@ -1,5 +1,5 @@
 -- What a block without declarations of its own means inside the main procedure, and the states that it is entered and left with.
-use Rattle.std.proofs.Common.{◌≡◌, ℕ, suc, ◌+◌, ◌<◌, List, [], ◌∷◌, length, Option, Bool, true, false, refl, sym, ap, ◌∙◌, subst, arith, ◌≤◌}
+use Rattle.std.proofs.Common.{◌≡◌, ℕ, suc, ◌+◌, ◌<◌, List, [], ◌∷◌, length, Option, Bool, true, false, refl, sym, ap, ◌∙◌, subst, arith, ◌≤◌, ◌^◌, lit<}
 use Rattle.std.specs.Prelude.{cond, nat_lt, ◌==◌}
 use Rattle.pli_typing.specs.TypedTree as Y
 use Rattle.pli_meaning.specs.declared.outcome.End.TheVariants as E
@@ -13,7 +13,8 @@ use Rattle.pli_meaning.specs.Making as K
 use Rattle.pli_meaning.specs.Executing as M
 use Rattle.pli_serving.specs.ServiceState as S
 use Rattle.pli_headline.specs.ProvedSoFar.{Types}
-use Rattle.pli_headline.proofs.Activations.{IsNested, IsOrdinary, Nested, ancestor_inside, levels_of, behind_level, entered_length}
+use Rattle.pli_headline.proofs.Activations.{IsNested, IsOrdinary, Nested, ancestor_inside, first_level, levels_of, behind_level, entered_length, same_length}
+use Rattle.pli_headline.proofs.Entered.{Frames, atop, kinds_of, kinds_above, kinds_behind, behind_kind, first_kind, AreKnown, UnitsKnown}
 use Rattle.pli_headline.proofs.States.{NoneOwned}
 use Rattle.pli_headline.proofs.Statements.{AllHold}
 use Rattle.pli_headline.proofs.Scalars.{Values}
@@ -80,19 +81,28 @@ begin_meant program around more head body k s enter kind none few =
 
 -- ---- the state in which it is entered
 
-inner_nested : (head : Y.BlockHead) (body : Y.Stmts) (s : State) (parent : ℕ) → 0 < head.level → 0 < length s.activations → 1 ≤ parent → parent ≤ length s.activations → IsNested (length s.activations) (M.activation_of head (M.begun (Y.BlockOf head body) parent) (length s.activations + 1))
-inner_nested head body s parent level some low high =
-    record { height = omega arith; first = λ none. absurd (omega (arith, none, some)); inside = λ u. (level, (low, high)); oncode = refl; units = tt }
+-- with what its activation is given
+abbrev pub entered_by : Y.BlockHead → Entry → State → State
+entered_by head entry s = with_world s.world (M.with_activation head entry s)
 
-pub entered_nested : (head : Y.BlockHead) (body : Y.Stmts) (s : State) (xs : List S.Activation) (x : S.Activation) (parent : ℕ) → 0 < head.level → 0 < length s.activations → 1 ≤ parent → parent ≤ length s.activations → IsOrdinary x → Nested s.activations xs → Nested (entered_at parent head body s).activations (x ∷ xs)
-entered_nested head body s xs x parent level some low high ordinary nested =
-    (inner_nested head body s parent level some low high, (ordinary, nested))
+inner_nested : (head : Y.BlockHead) (entry : Entry) (s : State) → entry.oncode < 2 ^ 16 → 0 < head.level → 0 < length s.activations → 1 ≤ entry.parent → entry.parent ≤ length s.activations → (head.level ≡ suc (first_level (levels_of s.activations)) → entry.parent ≡ length s.activations) → IsNested (length s.activations) (first_level (levels_of s.activations)) (M.activation_of head entry (length s.activations + 1))
+inner_nested head entry s code level some low high direct =
+    record { height = omega arith; first = λ none. absurd (omega (arith, none, some)); inside = λ u. (level, (low, high)); direct = direct; oncode = code; units = tt }
 
-pub entered_all : (head : Y.BlockHead) (body : Y.Stmts) (s : State) (xs : List S.Activation) (x : S.Activation) (parent : ℕ) {frames : List ℕ} {outer : ℕ} {levels : List ℕ} {block : ℕ} {types : Types} {n : Values} → 0 < head.level → 1 ≤ parent → parent ≤ length s.activations → IsOrdinary x → Nested s.activations xs → AllHold frames xs (outer ∷ levels) s block types n → AllHold (x.frame ∷ frames) (x ∷ xs) (head.level ∷ outer ∷ levels) (entered_at parent head body s) block types n
-entered_all head body s xs x parent {outer = outer} {levels = levels} level low high units nested all =
+pub raised_nested : (head : Y.BlockHead) (entry : Entry) (s : State) (xs : List S.Activation) (x : S.Activation) → entry.oncode < 2 ^ 16 → 0 < head.level → 0 < length s.activations → 1 ≤ entry.parent → entry.parent ≤ length s.activations → (head.level ≡ suc (first_level (levels_of s.activations)) → entry.parent ≡ length s.activations) → IsOrdinary entry.oncode x → Nested s.activations xs → Nested (entered_by head entry s).activations (x ∷ xs)
+raised_nested head entry s xs x code level some low high direct ordinary nested =
+    (inner_nested head entry s code level some low high direct, (ordinary, nested))
+
+pub entered_nested : (head : Y.BlockHead) (body : Y.Stmts) (s : State) (xs : List S.Activation) (x : S.Activation) (parent : ℕ) → 0 < head.level → 0 < length s.activations → 1 ≤ parent → parent ≤ length s.activations → (head.level ≡ suc (first_level (levels_of s.activations)) → parent ≡ length s.activations) → IsOrdinary 0 x → Nested s.activations xs → Nested (entered_at parent head body s).activations (x ∷ xs)
+entered_nested head body s xs x parent level some low high direct ordinary nested =
+    raised_nested head (M.begun (Y.BlockOf head body) parent) s xs x (lit< tt) level some low high direct ordinary nested
+
+pub raised_all : (head : Y.BlockHead) (entry : Entry) (s : State) (xs : List S.Activation) (x : S.Activation) {frames : Frames} {outer : ℕ} {levels : List ℕ} {block : ℕ} {types : Types} {n : Values} → entry.oncode < 2 ^ 16 → 0 < head.level → 1 ≤ entry.parent → entry.parent ≤ length s.activations → (head.level ≡ suc (first_level (levels_of s.activations)) → entry.parent ≡ length s.activations) → IsOrdinary entry.oncode x → x.units ≡ [] → Nested s.activations xs → AllHold frames xs (outer ∷ levels) s block types n → AllHold (atop x.frame x.kind frames) (x ∷ xs) (head.level ∷ outer ∷ levels) (entered_by head entry s) block types n
+raised_all head entry s xs x {frames = frames} {outer = outer} {levels = levels} code level low high direct units none nested all =
     let long = entered_length s.activations (outer ∷ levels) all.entered in
-    let a = M.activation_of head (M.begun (Y.BlockOf head body) parent) (length s.activations + 1) in
-    let same = ancestor_inside a s.activations x xs (length levels) (entered_nested head body s xs x parent level (omega (arith, long)) low high units nested) long in
+    let served = same_length s.activations xs nested in
+    let a = M.activation_of head entry (length s.activations + 1) in
+    let same = ancestor_inside a s.activations x xs (length levels) (raised_nested head entry s xs x code level (omega (arith, long)) low high direct units nested) long in
     record {
       numbers = λ j b numeric.
           let h = all.numbers j b numeric in
@@ -105,8 +115,14 @@ entered_all head body s xs x parent {outer = outer} {levels = levels} level low 
           record { values = h.values; numeric = h.numeric; stands = ap (λ o. binding_in o j) same ∙ h.stands; lives = h.lives; value = h.value; fits = h.fits };
       entered = ap (λ ls. head.level ∷ ls) all.entered;
       framed = ap (λ fs. x.frame ∷ fs) all.framed;
+      kinds = kinds_above x xs (omega (arith, served, long)) ∙ ap (λ ks. x.kind ∷ ks) all.kinds;
+      units = (subst (AreKnown frames.known (length s.activations + 1) x.frame []) (sym none) tt, all.units);
       owned = all.owned;
     }
+
+pub entered_all : (head : Y.BlockHead) (body : Y.Stmts) (s : State) (xs : List S.Activation) (x : S.Activation) (parent : ℕ) {frames : Frames} {outer : ℕ} {levels : List ℕ} {block : ℕ} {types : Types} {n : Values} → 0 < head.level → 1 ≤ parent → parent ≤ length s.activations → (head.level ≡ suc (first_level (levels_of s.activations)) → parent ≡ length s.activations) → IsOrdinary 0 x → x.units ≡ [] → Nested s.activations xs → AllHold frames xs (outer ∷ levels) s block types n → AllHold (atop x.frame x.kind frames) (x ∷ xs) (head.level ∷ outer ∷ levels) (entered_at parent head body s) block types n
+entered_all head body s xs x parent level low high direct units none nested all =
+    raised_all head (M.begun (Y.BlockOf head body) parent) s xs x (lit< tt) level low high direct units none nested all
 
 -- ---- the state in which it is left
 
@@ -128,23 +144,24 @@ pub ended_input : (s : State) → (newest_ended s).input ≡ s.input
 ended_input s = without_newest_input s.activations s
 
 -- behind it
-pub record Left (frames : List ℕ) (s : State) (xs : List S.Activation) (block : ℕ) (types : Types) (n : Values) (levels : List ℕ) : Type 0 where
+pub record Left (frames : Frames) (s : State) (xs : List S.Activation) (block : ℕ) (types : Types) (n : Values) (levels : List ℕ) : Type 0 where
   pub newest : S.Activation
   pub rest : List S.Activation
   pub are : xs ≡ newest ∷ rest
+  pub some : 0 < length rest
   pub nested : Nested (with_world s.world (newest_ended s)).activations rest
   pub all : AllHold frames rest levels (with_world s.world (newest_ended s)) block types n
 
-abbrev behind_first : List ℕ → List ℕ
+abbrev pub behind_first : List ℕ → List ℕ
 behind_first [] = []
 behind_first (x ∷ xs) = xs
 
-left_by : (s : State) (as' : List Activation) (xs : List S.Activation) {top outer : ℕ} {levels : List ℕ} {at : ℕ} {frames : List ℕ} {block : ℕ} {types : Types} {n : Values} → s.activations ≡ as' → Nested as' xs → AllHold (at ∷ frames) xs (top ∷ outer ∷ levels) s block types n → Left frames s xs block types n (outer ∷ levels)
-left_by s [] xs {top} {outer} {levels} same nested all =
+left_by : (s : State) (as' : List Activation) (xs : List S.Activation) {top outer : ℕ} {levels : List ℕ} (from frames : Frames) {block : ℕ} {types : Types} {n : Values} → behind_first from.list ≡ frames.list → behind_kind from.kinds ≡ frames.kinds → ((us : List Activation) (vs : List S.Activation) → UnitsKnown from.known us vs → UnitsKnown frames.known us vs) → s.activations ≡ as' → Nested as' xs → AllHold from xs (top ∷ outer ∷ levels) s block types n → Left frames s xs block types n (outer ∷ levels)
+left_by s [] xs {top} {outer} {levels} from frames lists kinds known same nested all =
     let none : [] ≡ top ∷ outer ∷ levels = ap levels_of (sym same) ∙ all.entered in
     absurd (cc none)
-left_by s (a ∷ as') [] same nested all = absurd nested
-left_by s (a ∷ as') (x ∷ xs) {outer = outer} {levels = levels} {frames = frames} {block = block} {types = types} {n = n} same nested all =
+left_by s (a ∷ as') [] from frames lists kinds known same nested all = absurd nested
+left_by s (a ∷ as') (x ∷ xs) {outer = outer} {levels = levels} from frames {block = block} {types = types} {n = n} lists kinds known same nested all =
     let left' : levels_of as' ≡ outer ∷ levels = ap behind_level (ap levels_of (sym same) ∙ all.entered) in
     let long = entered_length as' (outer ∷ levels) left' in
     let inside = ancestor_inside a as' x xs (length levels) nested long in
@@ -184,12 +201,24 @@ left_by s (a ∷ as') (x ∷ xs) {outer = outer} {levels = levels} {frames = fra
               fits = h.fits;
             };
         entered = left';
-        framed = ap behind_first all.framed;
+        framed = ap behind_first all.framed ∙ lists;
+        kinds = kinds_behind x xs ∙ ap behind_kind all.kinds ∙ kinds;
+        units = known as' xs (subst (λ us. UnitsKnown from.known us (x ∷ xs)) same all.units).1;
         owned = λ height' above. subst (NoneOwned height') (sym kept) (all.owned height' above);
       },
     ) in
     let o = subst T (sym ended) done in
-    record { newest = x; rest = xs; are = refl; nested = o.0; all = o.1 }
+    record { newest = x; rest = xs; are = refl; some = (let served = same_length as' xs nested.1.1 in omega (arith, served, long)); nested = o.0; all = o.1 }
 
-pub left_all : (s : State) (xs : List S.Activation) {top outer : ℕ} {levels : List ℕ} {at : ℕ} {frames : List ℕ} {block : ℕ} {types : Types} {n : Values} → Nested s.activations xs → AllHold (at ∷ frames) xs (top ∷ outer ∷ levels) s block types n → Left frames s xs block types n (outer ∷ levels)
-left_all s xs nested all = left_by s s.activations xs refl nested all
+-- below the newest of some frames
+pub left_below : (s : State) (xs : List S.Activation) {top outer : ℕ} {levels : List ℕ} (from frames : Frames) {block : ℕ} {types : Types} {n : Values} → behind_first from.list ≡ frames.list → behind_kind from.kinds ≡ frames.kinds → ((us : List Activation) (vs : List S.Activation) → UnitsKnown from.known us vs → UnitsKnown frames.known us vs) → Nested s.activations xs → AllHold from xs (top ∷ outer ∷ levels) s block types n → Left frames s xs block types n (outer ∷ levels)
+left_below s xs from frames lists kinds known nested all = left_by s s.activations xs from frames lists kinds known refl nested all
+
+pub left_all : (s : State) (xs : List S.Activation) {top outer : ℕ} {levels : List ℕ} {at : ℕ} {kind : S.BlockKind} {frames : Frames} {block : ℕ} {types : Types} {n : Values} → Nested s.activations xs → AllHold (atop at kind frames) xs (top ∷ outer ∷ levels) s block types n → Left frames s xs block types n (outer ∷ levels)
+left_all s xs {at = at} {kind = kind} {frames = frames} nested all =
+    left_below s xs (atop at kind frames) frames refl refl (λ us vs o. o) nested all
+
+-- how the newest block was entered
+pub newest_kind : {s : State} {xs : List S.Activation} {levels : List ℕ} {at : ℕ} {kind : S.BlockKind} {frames : Frames} {block : ℕ} {types : Types} {n : Values} (x : S.Activation) (rest : List S.Activation) → xs ≡ x ∷ rest → 0 < length rest → AllHold (atop at kind frames) xs levels s block types n → x.kind ≡ kind
+newest_kind x rest are some all =
+    ap first_kind (sym (kinds_above x rest some) ∙ ap kinds_of (sym are) ∙ all.kinds)

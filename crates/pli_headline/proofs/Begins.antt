@@ -1,7 +1,7 @@
 -- BEGIN blocks that declare nothing, in the main procedure and in one another.
 use Rattle.std.proofs.Common.{◌≡◌, ℕ, zero, suc, ◌+◌, ◌*◌, ◌^◌, ◌<◌, ◌≤◌, List, [], ◌∷◌, ◌++◌, length, None, Option, Bool, true, false, refl, sym, ap, ◌∙◌, subst, arith}
-use Rattle.std.proofs.lemmas.Bool.{eqb-true, ltb-true}
-use Rattle.std.specs.Prelude.{cond, max, nat_lt, ◌==◌}
+use Rattle.std.proofs.lemmas.Bool.{ltb-true}
+use Rattle.std.specs.Prelude.{max, nat_lt}
 use Rattle.rv_meaning.specs.declared.instr.Instr.{Instr}
 use Rattle.pli_typing.specs.TypedTree as Y
 use Rattle.pli_meaning.specs.declared.outcome.End.TheVariants as E
@@ -15,17 +15,18 @@ use Rattle.pli_meaning.specs.Control as F
 use Rattle.pli_meaning.specs.Control.{Label, is_among, Flow, Normal, Jump, Return, Paused, Stuck, Meaning, left, give, act, ◌>>◌, finish}
 use Rattle.pli_meaning.specs.Raising.{Around}
 use Rattle.pli_meaning.specs.Executing as M
+use Rattle.pli_serving.specs.ServiceState as S
 use Rattle.pli_serving.specs.ServiceState.{Services}
 use Rattle.pli_coding.specs.Registers.{frame_register, a0, a2, a7}
-use Rattle.pli_coding.specs.Assembly.{LabelPlace, Code, size_of, Plain}
+use Rattle.pli_coding.specs.Assembly.{Code, size_of, Plain}
 use Rattle.pli_coding.specs.Instructions.{move, small, number}
 use Rattle.pli_coding.specs.Allocating.{act_code}
 use Rattle.pli_coding.specs.Entries.{frame_begun, entered_without_texts, variables_made, variables_words}
-use Rattle.pli_coding.specs.Environments.{BlockOwner, Environment, none_taken}
-use Rattle.pli_coding.specs.Frames.{fixed_size, temporary_bytes}
+use Rattle.pli_coding.specs.Environments.{Environment, in_frame, none_taken}
+use Rattle.pli_coding.specs.Frames.{fixed_size, frame_end, temporary_bytes}
 use Rattle.pli_coding.specs.Statements.{begin_environment, begin_code, block_words, stmts_words, stmt_code, stmts_code}
-use Rattle.pli_coding.specs.Linking.{Links, place_of}
-use Rattle.pli_headline.specs.ProvedSoFar.{Types}
+use Rattle.pli_coding.specs.Linking.{Links}
+use Rattle.pli_headline.specs.ProvedSoFar.{Types, OuterBlock}
 use Rattle.pli_headline.proofs.Engine.{Base, address}
 use Rattle.pli_headline.proofs.Linking.{size_append}
 use Rattle.pli_headline.proofs.Items.{Linked, At}
@@ -35,8 +36,9 @@ use Rattle.pli_headline.proofs.Temporaries.{nothing}
 use Rattle.pli_headline.proofs.Activations.{same_length, newest_is, entered_length}
 use Rattle.pli_headline.proofs.Calls.{Serving}
 use Rattle.pli_headline.proofs.Acts.{act_piece, acted}
-use Rattle.pli_headline.proofs.Statements.{owner_level, Block, AllHold, counted_all, ended_times, Outlet, IsMarkedOnce, Enough, Does}
-use Rattle.pli_headline.proofs.InnerFrames.{Inner, inner_outside, inner_block}
+use Rattle.pli_headline.proofs.Entered.{atop}
+use Rattle.pli_headline.proofs.Statements.{owner_level, Enclosures, Block, AllHold, listed_of, counted_all, IsMarkedOnce, OutletOf, Outlets, OwnExit, HomeOf, Homes, Enough, Does}
+use Rattle.pli_headline.proofs.InnerFrames.{Inner, inner_levels, inner_ground, inner_own, inner_outers, inner_block}
 use Rattle.pli_headline.proofs.BeginFrames.{inner_begun, inner_frame}
 use Rattle.pli_headline.proofs.BeginEntered.{entered_activation, entered_services, ended_services, inner_ended, inner_entered, inner_left, inner_limited}
 use Rattle.pli_headline.proofs.BeginMeant.{Entering, inner_around, begin_part, inner_part, begin_meant, entered_state, entered_nested, entered_all, ended_input, left_all, begin_limited}
@@ -103,46 +105,79 @@ abbrev pub inner_of : {e : Environment} {block : ℕ} {types : Types} (bl : Bloc
 inner_of {e} bl words few room =
     record { words = words; at = bl.stack.free + temporary_bytes words; place = refl; room = inner_room bl.stack.free words e.level few room }
 
--- a jump out of it goes on at the block around, or further out
+-- a jump out of it goes on at the block around, or further out, and so does a return
 abbrev ended_jump : (ℕ → Family → Services → ℕ → Label → State → Type 0) → ℕ → Family → Services → ℕ → Label → State → Type 0
 ended_jump jumped i f v height label s = jumped i f v height label (with_world s.world (newest_ended s))
 
-outlet_by : {e : Environment} {block : ℕ} {types : Types} (bl : Block e block types) (inner : Inner bl) {links : Links} {k turns i : ℕ} {h : ℕ → ℕ} (t : ℕ → ℕ) {acts acts' : ℕ} {jumped : ℕ → Family → Services → ℕ → Label → State → Type 0} {returned : ℕ → Family → Services → Option BasicValue → State → Type 0} (q : Bool) (known : (0 == e.level) ≡ q) → ((number : ℕ) → e.owner ≡ BlockOwner (record { number = number; level = 0 }) → (0 == e.level) ≡ true → number ≡ e.block) → Enough bl links k turns i h t acts jumped returned → (number : ℕ) → e.owner ≡ BlockOwner (record { number = number; level = 0 }) → (label : Label) → is_among label (cond q bl.labels bl.outer) ≡ true → IsMarkedOnce links number label → acts ≤ acts' → Outlet number (suc (length bl.depths)) bl.base block types (inner_outside bl inner t q known).its (inner_outside bl inner t q known).waits links k acts' (ended_jump jumped) label
-outlet_by {e} {block} {types} bl inner {links} {k} {h = h} t {acts' = acts'} {jumped = jumped} true known main ready number owned label among once less =
-    let same : number ≡ e.block = main number owned known in
-    let o = ready.jumps label among (subst (λ u. IsMarkedOnce links u label) same once) in
-    let zero' : e.level ≡ 0 = sym (eqb-true 0 e.level known) in
-    let none = bl.shallow known in
-    record {
-      at = o.at;
-      place = subst (λ u. place_of links (LabelPlace u label) ≡ 4 * o.at) (sym same) o.place;
-      near = o.near;
-      later = o.later;
-      lands = λ s v line n h' f serving all acted' at'.
-          let s1 = with_world s.world (newest_ended s) in
-          let all0 : AllHold (bl.base ∷ []) v.activations (0 ∷ []) s1 block types n = subst (λ (ds : List ℕ). AllHold (bl.base ∷ []) v.activations (0 ∷ []) (ended_times (length ds) s1) block types n) none all in
-          let all1 : AllHold bl.frames v.activations (0 ∷ []) s1 block types n = subst (λ fs. AllHold fs v.activations (0 ∷ []) s1 block types n) (sym (bl.alone known).frames_are) all0 in
-          subst (λ (ds : List ℕ). jumped o.at f v (suc (length ds)) label s1) none
-          (o.lands s1 v line n h' t f
-          (subst (λ (ds : List ℕ). Serving k (ended_times (length ds) s1) v line) none serving)
-          (subst (λ ds. AllHold bl.frames v.activations (e.level ∷ ds) s1 block types n) (sym none) (subst (λ m. AllHold bl.frames v.activations (m ∷ []) s1 block types n) (sym zero') all1))
-          (record { registers = λ r below. absurd (let held = bl.held in omega (arith, held, below)); words = λ j below. refl })
-          (omega (arith, less, acted')) at');
-    }
-outlet_by bl inner t false known main ready number owned label among once less =
-    let o = ready.outs known number owned label among once in
+abbrev ended_return : (ℕ → Family → Services → Option BasicValue → State → Type 0) → ℕ → Family → Services → Option BasicValue → State → Type 0
+ended_return returned i f v x s = returned i f v x (with_world s.world (newest_ended s))
+
+-- to a label of the block in which it stands
+own_outlet : {e : Environment} {block : ℕ} {types : Types} (bl : Block e block types) (inner : Inner bl) (number level : ℕ) (next : level ≡ suc e.level) {links : Links} {k turns i : ℕ} {h : ℕ → ℕ} (t : ℕ → ℕ) {acts acts' : ℕ} {jumped : ℕ → Family → Services → ℕ → Label → State → Type 0} {returned : ℕ → Family → Services → Option BasicValue → State → Type 0} → Enough bl links k turns i h t acts jumped returned → (label : Label) → is_among label bl.labels ≡ true → IsMarkedOnce links e.block label → acts ≤ acts' → OutletOf (atop inner.at S.BeginBlock bl.frames) (inner_own bl inner t number level next) block types links k acts' (ended_jump jumped) label
+own_outlet {e} {block} {types} bl inner number level next {k = k} {h = h} t ready label among once less =
+    let o = ready.jumps label among once in
     record {
       at = o.at;
       place = o.place;
       near = o.near;
       later = o.later;
-      lands = λ s v line n h' f serving all acted' at'. o.lands (with_world s.world (newest_ended s)) v line n h' f serving all (omega (arith, less, acted')) at';
+      lands = λ s v line n h' f serving all acted' at'.
+          let s1 = with_world s.world (newest_ended s) in
+          o.lands s1 v line n h' t f serving
+          (listed_of bl.frames (bl.stack.frame ∷ bl.lead) bl.leads all)
+          (record { registers = λ r below. absurd (let held = bl.held in omega (arith, held, below)); words = λ j below. refl })
+          (omega (arith, less, acted')) at';
     }
 
+outer_outlets : {e : Environment} {block : ℕ} {types : Types} (bl : Block e block types) (inner : Inner bl) (t : ℕ → ℕ) (number level : ℕ) (next : level ≡ suc e.level) (links : Links) (k acts acts' : ℕ) (jumped : ℕ → Family → Services → ℕ → Label → State → Type 0) → acts ≤ acts' → (os : List OuterBlock) (cs : Enclosures e bl.ground bl.levels bl.frames.list (e.level ∷ bl.depths) os) → Outlets e bl.ground bl.levels bl.frames (e.level ∷ bl.depths) os cs block types links k acts jumped → Outlets (in_frame number level e) (inner_ground bl inner t) (inner_levels bl) (atop inner.at S.BeginBlock bl.frames) (level ∷ e.level ∷ bl.depths) os (inner_outers bl inner t number level next os cs) block types links k acts' (ended_jump jumped)
+outer_outlets bl inner t number level next links k acts acts' jumped less [] cs outs = tt
+outer_outlets bl inner t number level next links k acts acts' jumped less (o ∷ os) cs outs = (
+  λ label among once.
+      let p = outs.0 label among once in
+      record {
+        at = p.at;
+        place = p.place;
+        near = p.near;
+        later = p.later;
+        lands = λ s v line n h' f serving all acted' at'. p.lands (with_world s.world (newest_ended s)) v line n h' f serving all (omega (arith, less, acted')) at';
+      },
+  outer_outlets bl inner t number level next links k acts acts' jumped less os cs.1 outs.1,
+)
+
+-- a return goes on at the end of the block in which it stands, or further out
+own_home : {e : Environment} {block : ℕ} {types : Types} (bl : Block e block types) (inner : Inner bl) (number level : ℕ) (next : level ≡ suc e.level) {links : Links} {k : ℕ} (t : ℕ → ℕ) {returned : ℕ → Family → Services → Option BasicValue → State → Type 0} → OwnExit e block types bl.ground bl.frames bl.depths links k returned → HomeOf (atop inner.at S.BeginBlock bl.frames) (inner_own bl inner t number level next) block types links k (ended_return returned)
+own_home {e} {block} {types} bl inner number level next t o =
+    record {
+      at = o.at;
+      place = o.place;
+      near = o.near;
+      later = o.later;
+      leaves = λ s v line n h' f free serving all at'.
+          let s1 = with_world s.world (newest_ended s) in
+          o.leaves s1 v line n h' t f free serving
+          (listed_of bl.frames (bl.stack.frame ∷ bl.lead) bl.leads all)
+          at';
+    }
+
+outer_homes : {e : Environment} {block : ℕ} {types : Types} (bl : Block e block types) (inner : Inner bl) (t : ℕ → ℕ) (number level : ℕ) (next : level ≡ suc e.level) (links : Links) (k : ℕ) (returned : ℕ → Family → Services → Option BasicValue → State → Type 0) (os : List OuterBlock) (cs : Enclosures e bl.ground bl.levels bl.frames.list (e.level ∷ bl.depths) os) → Homes e bl.ground bl.levels bl.frames (e.level ∷ bl.depths) os cs block types links k returned → Homes (in_frame number level e) (inner_ground bl inner t) (inner_levels bl) (atop inner.at S.BeginBlock bl.frames) (level ∷ e.level ∷ bl.depths) os (inner_outers bl inner t number level next os cs) block types links k (ended_return returned)
+outer_homes bl inner t number level next links k returned [] cs homes = tt
+outer_homes bl inner t number level next links k returned (o ∷ os) cs homes = (
+  λ deep owned once.
+      let p = homes.0 deep owned once in
+      record {
+        at = p.at;
+        place = p.place;
+        near = p.near;
+        later = p.later;
+        leaves = λ s v line n h' f free serving all at'. p.leaves (with_world s.world (newest_ended s)) v line n h' f free serving all at';
+      },
+  outer_homes bl inner t number level next links k returned os cs.1 homes.1,
+)
+
 -- behind its act
-inner_piece : {e : Environment} {block : ℕ} {types : Types} (bl : Block e block types) {links : Links} {code : List Instr} (around : Around) (more : ℕ) (head : Y.BlockHead) (body : Y.Stmts) (inner : Inner bl) → (main : (number : ℕ) → e.owner ≡ BlockOwner (record { number = number; level = 0 }) → (0 == e.level) ≡ true → number ≡ e.block) → owner_level e.owner ≤ e.level → e.level < 100 → (next : head.level ≡ suc e.level) → head.kind ≡ Y.BeginBlock → head.line < 2 ^ 31 → variables_of_block e.program head.number ≡ [] → around.enter ≡ M.entered e.program (suc more) → ((t0 : ℕ → ℕ) → Does (inner_block bl inner t0 head.number head.level next) links code (suc more) (stmts_code (begin_environment head e) none_taken body) (M.list (inner_around e.program more head.line) body)) → {i : ℕ} {s : State} {v : Services} {h t : ℕ → ℕ} {aims : Aims (Unit {0})} (closed : Closed code aims) (n : Values) (f : Family) (k line : ℕ) → k < suc more + v.world.acts → 10 ≤ i → {turns0 i0 acts0 : ℕ} → Enough bl links k turns0 i0 h t acts0 aims.jumped aims.returned → acts0 ≤ v.world.acts → Linked links code i (inner_code e head inner.words body) → nat_lt (length s.activations) most_activations ≡ true → Serving k s v line → AllHold bl.frames v.activations (e.level ∷ bl.depths) s block types n → ((b : Base) → At b i (Known (bl.ground n) v h t nothing b) (f b)) → ((s' : State) (v' : Services) (line' : ℕ) (n' : Values) (h' : ℕ → ℕ) (f' : Family) → Serving k s' v' line' → AllHold bl.frames v'.activations (e.level ∷ bl.depths) s' block types n' → ((b : Base) → At b (i + size_of (inner_code e head inner.words body)) (Known (bl.ground n') v' h' t nothing b) (f' b)) → aims.done (i + size_of (inner_code e head inner.words body)) f' v' tt s') → Comes code i f v aims (begin_part around head body k s)
+inner_piece : {e : Environment} {block : ℕ} {types : Types} (bl : Block e block types) {links : Links} {code : List Instr} (around : Around) (more : ℕ) (head : Y.BlockHead) (body : Y.Stmts) (inner : Inner bl) → owner_level e.owner ≤ e.level → e.level < 100 → (next : head.level ≡ suc e.level) (sized : frame_end e.parts e.program head.number head.level ≡ fixed_size (suc e.level) 0) → head.kind ≡ Y.BeginBlock → head.line < 2 ^ 31 → variables_of_block e.program head.number ≡ [] → around.enter ≡ M.entered e.program (suc more) → ((t0 : ℕ → ℕ) → Does (inner_block bl inner t0 head.number head.level next sized) links code (suc more) (stmts_code (begin_environment head e) none_taken body) (M.list (inner_around e.program more head.line) body)) → {i : ℕ} {s : State} {v : Services} {h t : ℕ → ℕ} {aims : Aims (Unit {0})} (closed : Closed code aims) (n : Values) (f : Family) (k line : ℕ) → k < suc more + v.world.acts → 10 ≤ i → {turns0 i0 acts0 : ℕ} → Enough bl links k turns0 i0 h t acts0 aims.jumped aims.returned → acts0 ≤ v.world.acts → Linked links code i (inner_code e head inner.words body) → nat_lt (length s.activations) most_activations ≡ true → Serving k s v line → AllHold bl.frames v.activations (e.level ∷ bl.depths) s block types n → ((b : Base) → At b i (Known (bl.ground n) v h t nothing b) (f b)) → ((s' : State) (v' : Services) (line' : ℕ) (n' : Values) (h' : ℕ → ℕ) (f' : Family) → Serving k s' v' line' → AllHold bl.frames v'.activations (e.level ∷ bl.depths) s' block types n' → ((b : Base) → At b (i + size_of (inner_code e head inner.words body)) (Known (bl.ground n') v' h' t nothing b) (f' b)) → aims.done (i + size_of (inner_code e head inner.words body)) f' v' tt s') → Comes code i f v aims (begin_part around head body k s)
 unfolding M.end_reached give ◌>>◌
-inner_piece {e} {block} {types} bl {links} {code} around more head body inner main lower shallow next kind fits none enter does' {i} {s} {v} {h} {t} {aims} closed n f k line enough later ready less l few serving all at goal =
+inner_piece {e} {block} {types} bl {links} {code} around more head body inner lower shallow next sized kind fits none enter does' {i} {s} {v} {h} {t} {aims} closed n f k line enough later {turns0} {i0} {acts0} ready less l few serving all at goal =
     let program = e.program in
     let here = inner_around program more head.line in
     let c1 = inner_begun inner.words (suc e.level) in
@@ -188,10 +223,10 @@ inner_piece {e} {block} {types} bl {links} {code} around more head body inner ma
       input = serving.input;
       allowed = serving.allowed;
       fits = serving.fits;
-      nested = entered_nested head body s v.activations (entered_activation v inner.at) parent some (omega (arith, long)) (omega (arith, newest)) (omega (arith, newest, long)) (record { kind = λ further. refl; units = tt }) serving.nested;
+      nested = entered_nested head body s v.activations (entered_activation v inner.at) parent some (omega (arith, long)) (omega (arith, newest)) (omega (arith, newest, long)) (λ u. omega (arith, newest, long)) (record { kind = λ further. refl; units = tt }) serving.nested;
       waiting = refl;
     })
-    (entered_all head body s v.activations (entered_activation v inner.at) parent some (omega (arith, newest)) (omega (arith, newest, long)) (record { kind = λ further. refl; units = tt }) serving.nested all)
+    (entered_all head body s v.activations (entered_activation v inner.at) parent some (omega (arith, newest)) (omega (arith, newest, long)) (λ u. omega (arith, newest, long)) (record { kind = λ further. refl; units = tt }) refl serving.nested all)
     at2
     (λ s3 v3 line3 n3' h3 t3 f3 serving3 all3 stays3 at3.
     let o = left_all s3 v3.activations serving3.nested all3 in
@@ -222,8 +257,8 @@ inner_piece {e} {block} {types} bl {links} {code} around more head body inner ma
       enough = omega (arith, enough);
       later = omega (arith, later);
       jumps = λ label among once. let no : false ≡ true = among in absurd (cc no);
-      outs = λ inside number owned label among once.
-          outlet_by bl inner t (0 == e.level) refl main ready number owned label among once (omega (arith, less));
+      outs = (λ label among once. own_outlet bl inner head.number head.level next t ready label among once (omega (arith, less)), outer_outlets bl inner t head.number head.level next links k acts0 v.world.acts aims.jumped less bl.outer bl.enclosing ready.outs);
+      homes = (λ deep owned once. own_home bl inner head.number head.level next t (ready.own deep owned once), outer_homes bl inner t head.number head.level next links k aims.returned bl.outer bl.enclosing ready.homes);
       own = λ deep owned once. let no : owner_level e.owner ≡ head.level = ap owner_level owned in absurd (omega (arith, no, lower, next));
       returns = λ number owned once.
           let o = ready.returns number owned once in
@@ -253,9 +288,9 @@ limited_piece {e} bl {links} {code} head words body inner same shallow fits {i =
     (λ f1 at1.
     inner_limited bl inner n (i + size_of c1) f1 closed k head.line line fits (omega (arith, inside, size)) many' l2 serving at1)
 
-own_begin_does : {e : Environment} {block : ℕ} {types : Types} (bl : Block e block types) (links : Links) (code : List Instr) (around : Around) (more : ℕ) (head : Y.BlockHead) (body : Y.Stmts) (inner : Inner bl) → (main : (number : ℕ) → e.owner ≡ BlockOwner (record { number = number; level = 0 }) → (0 == e.level) ≡ true → number ≡ e.block) → owner_level e.owner ≤ e.level → e.level < 100 → (next : head.level ≡ suc e.level) → head.kind ≡ Y.BeginBlock → head.line < 2 ^ 31 → variables_of_block e.program head.number ≡ [] → Entering e.program around more → ((more' : ℕ) → more ≡ suc more' → suc (length bl.depths) < most_activations → (t0 : ℕ → ℕ) → Does (inner_block bl inner t0 head.number head.level next) links code (suc more') (stmts_code (begin_environment head e) none_taken body) (M.list (inner_around e.program more' head.line) body)) → Does bl links code around.turns (act_code head.line ++ inner_code e head inner.words body) (M.statement around (Y.Begin (Y.BlockOf head body)))
+own_begin_does : {e : Environment} {block : ℕ} {types : Types} (bl : Block e block types) (links : Links) (code : List Instr) (around : Around) (more : ℕ) (head : Y.BlockHead) (body : Y.Stmts) (inner : Inner bl) → owner_level e.owner ≤ e.level → e.level < 100 → (next : head.level ≡ suc e.level) (sized : frame_end e.parts e.program head.number head.level ≡ fixed_size (suc e.level) 0) → head.kind ≡ Y.BeginBlock → head.line < 2 ^ 31 → variables_of_block e.program head.number ≡ [] → Entering e.program around more → ((more' : ℕ) → more ≡ suc more' → suc (length bl.depths) < most_activations → (t0 : ℕ → ℕ) → Does (inner_block bl inner t0 head.number head.level next sized) links code (suc more') (stmts_code (begin_environment head e) none_taken body) (M.list (inner_around e.program more' head.line) body)) → Does bl links code around.turns (act_code head.line ++ inner_code e head inner.words body) (M.statement around (Y.Begin (Y.BlockOf head body)))
 unfolding M.statement ◌>>◌
-own_begin_does {e} {block} {types} bl links code around zero head body inner main lower shallow next kind fits none entering does' =
+own_begin_does {e} {block} {types} bl links code around zero head body inner lower shallow next sized kind fits none entering does' =
     record {
       does = λ {i} {s} {v} {h} {t} {aims} closed old n f k l serving all at goal more'.
           let next' : Unit {0} → Meaning (Unit {0}) = λ u. begin_part around head body in
@@ -264,7 +299,7 @@ own_begin_does {e} {block} {types} bl links code around zero head body inner mai
           (λ f1 serving1 at1.
           absurd (let e1 = more'.enough in let e2 = entering.turns in let e3 = serving1.allowed in omega (arith, e1, e2, e3))));
     }
-own_begin_does {e} {block} {types} bl links code around (suc more) head body inner main lower shallow next kind fits none entering does' =
+own_begin_does {e} {block} {types} bl links code around (suc more) head body inner lower shallow next sized kind fits none entering does' =
     record {
       does = λ {i} {s} {v} {h} {t} {aims} closed old n f k l serving all at goal more'.
           let a = act_code head.line in
@@ -287,7 +322,7 @@ own_begin_does {e} {block} {types} bl links code around (suc more) head body inn
           (limited_piece bl head inner.words body inner refl shallow fits (before_closed k last closed) n f1 k head.line (omega (arith, later)) (back_of a c l) many serving1 at1)))
           (λ few.
           let deep : suc (length bl.depths) < most_activations = (let below = ltb-true (length s.activations) most_activations few in let long = entered_length s.activations (e.level ∷ bl.depths) all.entered in omega (arith, below, long)) in
-          inner_piece bl around more head body inner main lower shallow next kind fits none entering.enter (does' more refl deep) closed n f1 k head.line (omega (arith, e1, e2)) (omega (arith, later)) more' (omega arith) (back_of a c l) few serving1
+          inner_piece bl around more head body inner lower shallow next sized kind fits none entering.enter (does' more refl deep) closed n f1 k head.line (omega (arith, e1, e2)) (omega (arith, later)) more' (omega arith) (back_of a c l) few serving1
           (counted_all (counted s.world) all)
           at1
           (λ s4 v4 line4 n4 h4 f4 serving4 all4 at4.
@@ -298,7 +333,7 @@ own_begin_does {e} {block} {types} bl links code around (suc more) head body inn
           (λ b. record { pc = (at4 b).pc ∙ ap (address b) place; holds = (at4 b).holds }))))));
     }
 
-pub begin_does : {e : Environment} {block : ℕ} {types : Types} (bl : Block e block types) (links : Links) (code : List Instr) (around : Around) (more : ℕ) (head : Y.BlockHead) (body : Y.Stmts) (inner : Inner bl) → (main : (number : ℕ) → e.owner ≡ BlockOwner (record { number = number; level = 0 }) → (0 == e.level) ≡ true → number ≡ e.block) → owner_level e.owner ≤ e.level → inner.words ≡ max 0 (stmts_words body) → e.level < 100 → (next : head.level ≡ suc e.level) → head.kind ≡ Y.BeginBlock → head.line < 2 ^ 31 → variables_of_block e.program head.number ≡ [] → Entering e.program around more → ((more' : ℕ) → more ≡ suc more' → suc (length bl.depths) < most_activations → (t0 : ℕ → ℕ) → Does (inner_block bl inner t0 head.number head.level next) links code (suc more') (stmts_code (begin_environment head e) none_taken body) (M.list (inner_around e.program more' head.line) body)) → Does bl links code around.turns (stmt_code e bl.taken (Y.Begin (Y.BlockOf head body))) (M.statement around (Y.Begin (Y.BlockOf head body)))
-begin_does {e} bl links code around more head body inner main lower same shallow next kind fits none entering does' =
+pub begin_does : {e : Environment} {block : ℕ} {types : Types} (bl : Block e block types) (links : Links) (code : List Instr) (around : Around) (more : ℕ) (head : Y.BlockHead) (body : Y.Stmts) (inner : Inner bl) → owner_level e.owner ≤ e.level → inner.words ≡ max 0 (stmts_words body) → e.level < 100 → (next : head.level ≡ suc e.level) (sized : frame_end e.parts e.program head.number head.level ≡ fixed_size (suc e.level) 0) → head.kind ≡ Y.BeginBlock → head.line < 2 ^ 31 → variables_of_block e.program head.number ≡ [] → Entering e.program around more → ((more' : ℕ) → more ≡ suc more' → suc (length bl.depths) < most_activations → (t0 : ℕ → ℕ) → Does (inner_block bl inner t0 head.number head.level next sized) links code (suc more') (stmts_code (begin_environment head e) none_taken body) (M.list (inner_around e.program more' head.line) body)) → Does bl links code around.turns (stmt_code e bl.taken (Y.Begin (Y.BlockOf head body))) (M.statement around (Y.Begin (Y.BlockOf head body)))
+begin_does {e} bl links code around more head body inner lower same shallow next sized kind fits none entering does' =
     subst (λ c. Does bl links code around.turns (act_code head.line ++ c) (M.statement around (Y.Begin (Y.BlockOf head body)))) (ap (λ w. inner_code e head w body) same ∙ sym (inner_code_is e head body next none))
-    (own_begin_does bl links code around more head body inner main lower shallow next kind fits none entering does')
+    (own_begin_does bl links code around more head body inner lower shallow next sized kind fits none entering does')

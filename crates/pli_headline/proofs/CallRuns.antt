@@ -2,6 +2,7 @@
 -- blocks.
 use Rattle.std.proofs.Common.{◌≡◌, ℕ, zero, suc, ◌+◌, ◌*◌, ◌^◌, ◌<◌, ◌≤◌, List, [], ◌∷◌, ◌++◌, length, None, Option, Some, Bool, true, false, refl, sym, ap, ◌∙◌, subst, arith}
 use Rattle.std.proofs.lemmas.Bool.{eq-eqb, ltb-true}
+use Rattle.std.proofs.lemmas.Bool.Decides.{nat_tests}
 use Rattle.std.specs.Prelude.{ℤ, pos, cond, max, ◌==◌, nat_lt}
 use Rattle.rv_meaning.specs.declared.instr.Instr.{Instr}
 use Rattle.rv_meaning.specs.declared.instr.Instr.TheVariants as I
@@ -17,11 +18,12 @@ use Rattle.pli_meaning.specs.declared.outcome.Limit.TheVariants as L
 use Rattle.pli_meaning.specs.Control.{Meaning, left, give, act, ◌>>◌, finish}
 use Rattle.pli_meaning.specs.Raising.{Around, at_line}
 use Rattle.pli_meaning.specs.Executing as M
+use Rattle.pli_serving.specs.ServiceState as S
 use Rattle.pli_serving.specs.ServiceState.{Services}
 use Rattle.pli_coding.specs.Registers.{zero_register, return_register, frame_register, a0, a1, a2, a3, u5, a7}
 use Rattle.pli_coding.specs.Assembly.{ProcedureEntry, ReturnPlace, Plain, CallTo, Mark, Code, size_of}
 use Rattle.pli_coding.specs.Instructions.{move, plus, number, load_word, is_immediate, small}
-use Rattle.pli_coding.specs.Frames.{display, own_offset}
+use Rattle.pli_coding.specs.Frames.{display, own_offset, fixed_size, frame_end}
 use Rattle.pli_coding.specs.Allocating.{act_code}
 use Rattle.pli_coding.specs.Entries.{all_restored, frame_begun, frame_ended, block_entered, block_left, variables_made, variables_words}
 use Rattle.pli_coding.specs.Environments.{Environment, none_taken}
@@ -36,9 +38,10 @@ use Rattle.pli_headline.proofs.Items.{Linked, At}
 use Rattle.pli_headline.proofs.Bodies.{far_code, Known}
 use Rattle.pli_headline.proofs.Jumps.{front_of, back_of, rest_of, linked_at}
 use Rattle.pli_headline.proofs.Temporaries.{nothing}
-use Rattle.pli_headline.proofs.Activations.{same_length, entered_length, outermost_height}
+use Rattle.pli_headline.proofs.Activations.{same_length, first_level, levels_of, entered_length, outermost_height}
 use Rattle.pli_headline.proofs.Calls.{Serving}
 use Rattle.pli_headline.proofs.Acts.{acted, act_to, act_piece}
+use Rattle.pli_headline.proofs.Entered.{atop}
 use Rattle.pli_headline.proofs.Statements.{owner_level, Block, AllHold, counted_all, Does}
 use Rattle.pli_headline.proofs.MainFlow.{inside_closed, comes_left}
 use Rattle.pli_headline.proofs.Owing.{owing, owing_closed, comes_owing, done_owing}
@@ -47,11 +50,11 @@ use Rattle.pli_headline.proofs.BeginEntered.{ended_services}
 use Rattle.pli_headline.proofs.BeginMeant.{Entering, inner_around, inner_part, entered_nested, entered_all, ended_input, left_all, entered_at}
 use Rattle.pli_headline.proofs.CallMeant.{plain_procedure, call_part, called_part, call_meant, call_limited}
 use Rattle.pli_headline.proofs.CallEntry.{call_of, call_back, call_entry}
-use Rattle.pli_headline.proofs.CalledFrames.{Callee, called_ground, called_block}
+use Rattle.pli_headline.proofs.CalledFrames.{Callee, called_block}
 use Rattle.pli_headline.proofs.CalledBegun.{called_frame}
 use Rattle.pli_headline.proofs.CalledEntered.{called_activation, called_services, called_entry, called_entered, called_limited}
 use Rattle.pli_headline.proofs.Begins.{by_test}
-use Rattle.pli_headline.proofs.CalledLeft.{called_ended, called_left}
+use Rattle.pli_headline.proofs.CalledLeft.{ending_ground, called_ended, called_left}
 use Rattle.pli_headline.proofs.Reach.{Family, Aims, Comes, Closed, before_closed, comes_on, onward}
 use Rattle.pli_headline.proofs.Scalars.{Values}
 
@@ -109,15 +112,23 @@ call_size e list procedure =
     by_level true = omega arith
     by_level false = omega arith
 
+-- called from the main procedure's own block, it is inside the newest one
+pub called_direct : {e : Environment} {block : ℕ} {types : Types} (bl : Block e block types) (level : ℕ) (levels : List ℕ) (count : ℕ) → levels ≡ e.level ∷ bl.depths → count ≡ suc (length bl.depths) → level ≡ 1 → level ≡ suc (first_level levels) → 1 ≡ count
+called_direct {e} bl level levels count entered long next inside =
+    let top : first_level levels ≡ e.level = ap first_level entered in
+    let lowest : (0 == e.level) ≡ true = grind (arith, nat_tests) in
+    let none : length bl.depths ≡ 0 = ap (λ (ds : List ℕ). length ds) (bl.shallow lowest) in
+    omega (arith, long, none)
+
 -- ---- behind the statements of the procedure
 
 -- it is left, and the caller goes on with the credits of its place
-leave_piece : {e : Environment} {block : ℕ} {types : Types} (bl : Block e block types) {links : Links} {code : List Instr} {level : ℕ} (callee : Callee bl) (k i resume : ℕ) (h t : ℕ → ℕ) {aims : Aims (Unit {0})} (closed : Closed code aims) → resume ≤ most_code → i + 3 + size_of all_restored + size_of (frame_ended callee.words) + 1 ≤ resume + length code → Linked links code i (called_ended callee.words) → ((s' : State) (v' : Services) (line' : ℕ) (n' : Values) (h' : ℕ → ℕ) (f' : Family) → Serving k s' v' line' → AllHold bl.frames v'.activations (e.level ∷ bl.depths) s' block types n' → ((b : Base) → At b resume (Known (bl.ground n') v' h' t nothing b) (f' b)) → aims.done resume f' v' tt s') → (s : State) (v : Services) (line : ℕ) (n : Values) (h1 t1 : ℕ → ℕ) (f : Family) → Serving k s v line → AllHold (callee.at ∷ bl.frames) v.activations (level ∷ e.level ∷ bl.depths) s block types n → ((b : Base) → At b i (Known (called_ground bl callee (λ b'. address b' resume) h t n) v h1 t1 nothing b) (f b)) → (owing code (length code) aims).done i f v tt (with_world s.world (newest_ended s))
-leave_piece {e} {block} {types} bl {code = code} callee k i resume h t closed near few l goal s v line n h1 t1 f serving all at =
+leave_piece : {e : Environment} {block : ℕ} {types : Types} (bl : Block e block types) {links : Links} {code : List Instr} {level : ℕ} (callee : Callee bl) (k i resume : ℕ) (h t : ℕ → ℕ) {aims : Aims (Unit {0})} (closed : Closed code aims) → resume ≤ most_code → i + 3 + size_of all_restored + size_of (frame_ended callee.words) + 1 ≤ resume + length code → Linked links code i (called_ended callee.words) → ((s' : State) (v' : Services) (line' : ℕ) (n' : Values) (h' : ℕ → ℕ) (f' : Family) → Serving k s' v' line' → AllHold bl.frames v'.activations (e.level ∷ bl.depths) s' block types n' → ((b : Base) → At b resume (Known (bl.ground n') v' h' t nothing b) (f' b)) → aims.done resume f' v' tt s') → (s : State) (v : Services) (line : ℕ) (n : Values) (h1 t1 : ℕ → ℕ) (f : Family) (free : ℕ) → Serving k s v line → AllHold (atop callee.at S.ProcedureBlock bl.frames) v.activations (level ∷ e.level ∷ bl.depths) s block types n → ((b : Base) → At b i (Known (ending_ground bl callee (λ b'. address b' resume) h t n free) v h1 t1 nothing b) (f b)) → (owing code (length code) aims).done i f v tt (with_world s.world (newest_ended s))
+leave_piece {e} {block} {types} bl {code = code} callee k i resume h t closed near few l goal s v line n h1 t1 f free serving all at =
     let o = left_all s v.activations serving.nested all in
     let v' = ended_services v o.newest o.rest in
     let s' = with_world s.world (newest_ended s) in
-    done_owing closed (length code) resume few (called_left bl callee resume n i f o.newest o.rest near o.are l at) tt s'
+    done_owing closed (length code) resume few (called_left bl callee resume n free i f o.newest o.rest near o.are l at) tt s'
     (λ f' at'.
     goal s' v' o.newest.line n (held_again h 0 7 h1) f'
     (record {
@@ -134,9 +145,9 @@ leave_piece {e} {block} {types} bl {code = code} callee k i resume h t closed ne
 
 -- ---- behind its act
 
-call_piece : {e : Environment} {block : ℕ} {types : Types} (bl : Block e block types) {links : Links} {code : List Instr} (around : Around) (more : ℕ) (head : Y.BlockHead) (body : Y.Stmts) (callee : Callee bl) (stands : StandsAt links code e head callee.words body) (list : ℤ) → (next : head.level ≡ 1) → head.kind ≡ Y.ProcedureBlock → head.line < 2 ^ 31 → variables_of_block e.program head.number ≡ [] → around.program ≡ e.program → around.enter ≡ M.entered e.program (suc more) → procedure_numbered head.number e.program.procedures ≡ Some (plain_procedure head body) → word list < 2 ^ 32 → ((back : Base → ℕ) (h0 t0 : ℕ → ℕ) → Does (called_block bl callee back h0 t0 head next) links code (suc more) (stmts_code (procedure_environment head e) none_taken body) (M.list (inner_around e.program more head.line) body)) → {i : ℕ} {s : State} {v : Services} {h t : ℕ → ℕ} {aims : Aims (Unit {0})} (closed : Closed code aims) (n : Values) (f : Family) (k line : ℕ) → k < suc more + v.world.acts → Linked links code i (call_of e list head.number) → nat_lt (length s.activations) most_activations ≡ true → Serving k s v line → AllHold bl.frames v.activations (e.level ∷ bl.depths) s block types n → ((b : Base) → At b i (Known (bl.ground n) v h t nothing b) (f b)) → ((s' : State) (v' : Services) (line' : ℕ) (n' : Values) (h' : ℕ → ℕ) (f' : Family) → Serving k s' v' line' → AllHold bl.frames v'.activations (e.level ∷ bl.depths) s' block types n' → ((b : Base) → At b (call_back i e list head.number) (Known (bl.ground n') v' h' t nothing b) (f' b)) → aims.done (call_back i e list head.number) f' v' tt s') → Comes code 0 f v (owing code (length code) aims) (call_part around head.number k s)
+call_piece : {e : Environment} {block : ℕ} {types : Types} (bl : Block e block types) {links : Links} {code : List Instr} (around : Around) (more : ℕ) (head : Y.BlockHead) (body : Y.Stmts) (callee : Callee bl) (stands : StandsAt links code e head callee.words body) (list : ℤ) → (next : head.level ≡ 1) (sized : frame_end e.parts e.program head.number head.level ≡ fixed_size 1 0) → head.kind ≡ Y.ProcedureBlock → head.line < 2 ^ 31 → variables_of_block e.program head.number ≡ [] → around.program ≡ e.program → around.enter ≡ M.entered e.program (suc more) → procedure_numbered head.number e.program.procedures ≡ Some (plain_procedure head body) → word list < 2 ^ 32 → ((back : Base → ℕ) (h0 t0 : ℕ → ℕ) → Does (called_block bl callee back h0 t0 head next sized) links code (suc more) (stmts_code (procedure_environment head e) none_taken body) (M.list (inner_around e.program more head.line) body)) → {i : ℕ} {s : State} {v : Services} {h t : ℕ → ℕ} {aims : Aims (Unit {0})} (closed : Closed code aims) (n : Values) (f : Family) (k line : ℕ) → k < suc more + v.world.acts → Linked links code i (call_of e list head.number) → nat_lt (length s.activations) most_activations ≡ true → Serving k s v line → AllHold bl.frames v.activations (e.level ∷ bl.depths) s block types n → ((b : Base) → At b i (Known (bl.ground n) v h t nothing b) (f b)) → ((s' : State) (v' : Services) (line' : ℕ) (n' : Values) (h' : ℕ → ℕ) (f' : Family) → Serving k s' v' line' → AllHold bl.frames v'.activations (e.level ∷ bl.depths) s' block types n' → ((b : Base) → At b (call_back i e list head.number) (Known (bl.ground n') v' h' t nothing b) (f' b)) → aims.done (call_back i e list head.number) f' v' tt s') → Comes code 0 f v (owing code (length code) aims) (call_part around head.number k s)
 unfolding M.end_reached give ◌>>◌
-call_piece {e} {block} {types} bl {links} {code} around more head body callee stands list next kind fits none same enter found short does' {i} {s} {v} {h} {t} {aims} closed n f k line enough l few serving all at goal =
+call_piece {e} {block} {types} bl {links} {code} around more head body callee stands list next sized kind fits none same enter found short does' {i} {s} {v} {h} {t} {aims} closed n f k line enough l few serving all at goal =
     let program = e.program in
     let here = inner_around program more head.line in
     let debt = length code in
@@ -182,6 +193,7 @@ call_piece {e} {block} {types} bl {links} {code} around more head body callee st
     let few' : nat_lt (length v.activations) most_activations ≡ true = ap (λ m. nat_lt m most_activations) (same_length s.activations v.activations serving.nested) ∙ few in
     let parent = outermost_height s.activations v.activations (length bl.depths) serving.nested long in
     let some : 0 < head.level = omega (arith, next) in
+    let direct : head.level ≡ suc (first_level (levels_of s.activations)) → 1 ≡ length s.activations = λ inside. called_direct bl head.level (levels_of s.activations) (length s.activations) all.entered long next inside in
     let last : Option BasicValue → Meaning (Unit {0}) = λ u. give tt in
     let behind' : Unit {0} → Meaning (Unit {0}) = λ u. M.end_reached here false in
     let statements : Unit {0} → Meaning (Unit {0}) = λ u. inner_part program more head body in
@@ -191,7 +203,7 @@ call_piece {e} {block} {types} bl {links} {code} around more head body callee st
     subst (Comes code 0 f v (owing code debt aims)) (sym (call_meant program around more head body head.number k s same enter found kind none parent few))
     (onward closed0 (call_entry bl n 0 i0 f list head.number i0 short stands.placed (omega (arith, room, small')) (let size = call_size e list head.number in omega (arith, size, behind)) l at)
     (λ f1 at1.
-    onward closed0 (called_frame bl callee back (λ b. let valid = b.valid.1 in omega (arith, valid, inside', small')) n i0 f1 (omega (arith, behind)) lf at1)
+    onward closed0 (called_frame bl callee back (λ b. let valid = b.valid.1 in omega (arith, valid, inside', small')) 0 n i0 f1 (omega (arith, behind)) lf at1)
     (λ f2 at2.
     onward closed0 (called_entered bl callee back n i1 f2 head.line fits serving.waiting few' le at2)
     (λ f3 at3.
@@ -206,7 +218,7 @@ call_piece {e} {block} {types} bl {links} {code} around more head body callee st
       input = serving.input;
       allowed = serving.allowed;
       fits = serving.fits;
-      nested = entered_nested head body s v.activations (called_activation v callee.at) 1 some (omega (arith, long)) (omega arith) (omega (arith, long)) (record { kind = λ further. refl; units = tt }) serving.nested;
+      nested = entered_nested head body s v.activations (called_activation v callee.at) 1 some (omega (arith, long)) (omega arith) (omega (arith, long)) direct (record { kind = λ further. refl; units = tt }) serving.nested;
       waiting = refl;
     })
     at3
@@ -215,21 +227,22 @@ call_piece {e} {block} {types} bl {links} {code} around more head body callee st
     let v3 = acted head.line v2 in
     comes_on k (M.list here body k s3) behind'
     ((does' back h t).does (before_closed k behind' closed1) head.line n f4 k (front_of st en ls) serving4
-    (counted_all (counted s2.world) (entered_all head body s v.activations (called_activation v callee.at) 1 some (omega arith) (omega (arith, long)) (record { kind = λ further. refl; units = tt }) serving.nested all))
+    (counted_all (counted s2.world) (entered_all head body s v.activations (called_activation v callee.at) 1 some (omega arith) (omega (arith, long)) direct (record { kind = λ further. refl; units = tt }) refl serving.nested all))
     at4
-    (λ s5 v5 line5 n5 h5 t5 f5 serving5 all5 stays5 at5. record { to = record { to = leave s5 v5 line5 n5 h5 t5 f5 serving5 all5 at5 } })
+    (λ s5 v5 line5 n5 h5 t5 f5 serving5 all5 stays5 at5. record { to = record { to = leave s5 v5 line5 n5 h5 t5 f5 (callee.at + fixed_size 1 0) serving5 all5 at5 } })
     (record {
       enough = omega (arith, enough);
       later = omega (arith, behind);
       jumps = λ label among once. let no : false ≡ true = among in absurd (cc no);
-      outs = λ inside'' number owned label among once. let no : false ≡ true = among in absurd (cc no);
+      outs = tt;
+      homes = tt;
       returns = λ number owned once. let no : head.level ≡ 0 = ap owner_level owned in absurd (omega (arith, no, next));
       own = λ inner owned once. record {
         at = i4;
         place = (back_of st en ls).has.0 (eq-eqb head.number head.number refl) once;
         near = omega (arith, room, small');
         later = omega (arith, behind);
-        leaves = λ s5 v5 line5 n5 h5 t5 f5 serving5 all5 at5. record { to = leave s5 v5 line5 n5 h5 t5 f5 serving5 all5 at5 };
+        leaves = λ s5 v5 line5 n5 h5 t5 f5 free5 serving5 all5 at5. record { to = leave s5 v5 line5 n5 h5 t5 f5 free5 serving5 all5 at5 };
       };
     }))))))))))
 
@@ -262,16 +275,16 @@ limited_call {e} bl {code = code} around more head body callee stands list fits 
     subst (Comes code 0 f v (owing code debt aims)) (sym (call_limited e.program around more head body head.number k s same enter found many))
     (onward closed0 (call_entry bl n 0 i0 f list head.number i0 short stands.placed (omega (arith, room, small')) (let size = call_size e list head.number in omega (arith, size, later)) l at)
     (λ f1 at1.
-    onward closed0 (called_frame bl callee (λ b. address b resume) (λ b. let valid = b.valid.1 in omega (arith, valid, inside', small')) n i0 f1 (omega (arith, later)) (front_of fb (ec ++ ac) lp) at1)
+    onward closed0 (called_frame bl callee (λ b. address b resume) (λ b. let valid = b.valid.1 in omega (arith, valid, inside', small')) 0 n i0 f1 (omega (arith, later)) (front_of fb (ec ++ ac) lp) at1)
     (λ f2 at2.
     comes_on k (finish {R = Option BasicValue} (E.Limit L.Depth) k s) last
     (called_limited bl callee (λ b. address b resume) n (i0 + size_of fb) f2 (before_closed k last closed0) k head.line line fits (omega (arith, room, total, total2)) many' le serving at2))))
 
 -- ---- the statement
 
-pub own_call_does : {e : Environment} {block : ℕ} {types : Types} (bl : Block e block types) (links : Links) (code : List Instr) (around : Around) (more : ℕ) (head : Y.BlockHead) (body : Y.Stmts) (callee : Callee bl) (stands : StandsAt links code e head callee.words body) (list : ℤ) (line : ℕ) → (next : head.level ≡ 1) → head.kind ≡ Y.ProcedureBlock → head.line < 2 ^ 31 → variables_of_block e.program head.number ≡ [] → around.program ≡ e.program → Entering e.program around more → procedure_numbered head.number e.program.procedures ≡ Some (plain_procedure head body) → word list < 2 ^ 32 → line < 2 ^ 31 → ((more' : ℕ) → more ≡ suc more' → suc (length bl.depths) < most_activations → (back : Base → ℕ) (h0 t0 : ℕ → ℕ) → Does (called_block bl callee back h0 t0 head next) links code (suc more') (stmts_code (procedure_environment head e) none_taken body) (M.list (inner_around e.program more' head.line) body)) → Does bl links code around.turns (act_code line ++ call_of e list head.number) (M.statement around (Y.CallProcedure (Y.Calling head.number 0 Y.NoArgument) line))
+pub own_call_does : {e : Environment} {block : ℕ} {types : Types} (bl : Block e block types) (links : Links) (code : List Instr) (around : Around) (more : ℕ) (head : Y.BlockHead) (body : Y.Stmts) (callee : Callee bl) (stands : StandsAt links code e head callee.words body) (list : ℤ) (line : ℕ) → (next : head.level ≡ 1) (sized : frame_end e.parts e.program head.number head.level ≡ fixed_size 1 0) → head.kind ≡ Y.ProcedureBlock → head.line < 2 ^ 31 → variables_of_block e.program head.number ≡ [] → around.program ≡ e.program → Entering e.program around more → procedure_numbered head.number e.program.procedures ≡ Some (plain_procedure head body) → word list < 2 ^ 32 → line < 2 ^ 31 → ((more' : ℕ) → more ≡ suc more' → suc (length bl.depths) < most_activations → (back : Base → ℕ) (h0 t0 : ℕ → ℕ) → Does (called_block bl callee back h0 t0 head next sized) links code (suc more') (stmts_code (procedure_environment head e) none_taken body) (M.list (inner_around e.program more' head.line) body)) → Does bl links code around.turns (act_code line ++ call_of e list head.number) (M.statement around (Y.CallProcedure (Y.Calling head.number 0 Y.NoArgument) line))
 unfolding M.statement ◌>>◌
-own_call_does {e} {block} {types} bl links code around zero head body callee stands list line next kind fits none same entering found short low does' =
+own_call_does {e} {block} {types} bl links code around zero head body callee stands list line next sized kind fits none same entering found short low does' =
     record {
       does = λ {i} {s} {v} {h} {t} {aims} closed old n f k l serving all at goal more'.
           let next' : Unit {0} → Meaning (Unit {0}) = λ u. call_part (at_line around line) head.number in
@@ -280,7 +293,7 @@ own_call_does {e} {block} {types} bl links code around zero head body callee sta
           (λ f1 serving1 at1.
           absurd (let e1 = more'.enough in let e2 = entering.turns in let e3 = serving1.allowed in omega (arith, e1, e2, e3))));
     }
-own_call_does {e} {block} {types} bl links code around (suc more) head body callee stands list line next kind fits none same entering found short low does' =
+own_call_does {e} {block} {types} bl links code around (suc more) head body callee stands list line next sized kind fits none same entering found short low does' =
     record {
       does = λ {i} {s} {v} {h} {t} {aims} closed old n f k l serving all at goal more'.
           let a = act_code line in
@@ -300,7 +313,7 @@ own_call_does {e} {block} {types} bl links code around (suc more) head body call
           (λ many. limited_call bl (at_line around line) more head body callee stands list fits same entering.enter found short closed n f1 k line (back_of a c l) many serving1 at1)
           (λ few.
           let deep : suc (length bl.depths) < most_activations = (let below = ltb-true (length s.activations) most_activations few in let long = entered_length s.activations (e.level ∷ bl.depths) all.entered in omega (arith, below, long)) in
-          call_piece bl (at_line around line) more head body callee stands list next kind fits none same entering.enter found short (does' more refl deep) closed n f1 k line (omega (arith, e1, e2)) (back_of a c l) few serving1
+          call_piece bl (at_line around line) more head body callee stands list next sized kind fits none same entering.enter found short (does' more refl deep) closed n f1 k line (omega (arith, e1, e2)) (back_of a c l) few serving1
           (counted_all (counted s.world) all)
           at1
           (λ s4 v4 line4 n4 h4 f4 serving4 all4 at4.

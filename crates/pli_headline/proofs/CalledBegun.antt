@@ -33,9 +33,13 @@ use Rattle.pli_headline.proofs.CalledFrames.{Callee, AroundCall, saved_beside, c
 use Rattle.pli_headline.proofs.Reach.{Family, Reach, reach_then, reached, reached_holds}
 use Rattle.pli_headline.proofs.Scalars.{Values}
 
+-- what the third register of arguments holds
+abbrev pub with_texts : ℕ → Base → List (ℕ × ℕ)
+with_texts texts b = (12, texts) ∷ []
+
 -- no texts go with the call
 abbrev pub without_texts : Base → List (ℕ × ℕ)
-without_texts b = (12, 0) ∷ []
+without_texts = with_texts 0
 
 -- the frame's register is set, but the stack's isn't yet
 abbrev filled_ground : {e : Environment} {block : ℕ} {types : Types} (bl : Block e block types) → Callee bl → (back : Base → ℕ) → (h0 t0 : ℕ → ℕ) → Values → Ground
@@ -59,8 +63,8 @@ filled_code =
 only_level : (m : List ℕ) (at x j : ℕ) → j < 1 → load 4 m (at + 144) ≡ x → load 4 m (at + (144 + 4 * j)) ≡ x
 only_level m at x j few e = ap (λ u. load 4 m u) (omega (arith, few)) ∙ e
 
-filled_path : {e : Environment} {block : ℕ} {types : Types} (bl : Block e block types) (callee : Callee bl) (back : Base → ℕ) (n : Values) (links : Links) (code : List Instr) (i : ℕ) (v : Services) (h t0 : ℕ → ℕ) (b : Base) (w : Whole) → 0 < i → length code ≤ most_code → Known (saved_ground (bl.ground n) callee.at back h 7) v h t0 (called_regs callee.at bl.base back) b w → Items links code b i filled_code w (Known (filled_ground bl callee back h t0 n) v h unknown without_texts b)
-filled_path bl callee back n links code i v h t0 b w later small' k =
+filled_path : {e : Environment} {block : ℕ} {types : Types} (bl : Block e block types) (callee : Callee bl) (back : Base → ℕ) (texts : ℕ) (n : Values) (links : Links) (code : List Instr) (i : ℕ) (v : Services) (h t0 : ℕ → ℕ) (b : Base) (w : Whole) → 0 < i → length code ≤ most_code → Known (saved_ground (bl.ground n) callee.at back h 7) v h t0 (called_regs callee.at bl.base texts back) b w → Items links code b i filled_code w (Known (filled_ground bl callee back h t0 n) v h unknown (with_texts texts) b)
+filled_path bl callee back texts n links code i v h t0 b w later small' k =
     let g = bl.ground n in
     let x = w.machine.registers in
     let m = w.machine.memory in
@@ -138,11 +142,11 @@ filled_path bl callee back n links code i v h t0 b w later small' k =
       ),
     )
 
-raised_piece : {e : Environment} {block : ℕ} {types : Types} (bl : Block e block types) (callee : Callee bl) (back : Base → ℕ) (n : Values) {links : Links} {code : List Instr} {i : ℕ} {v : Services} {h t0 : ℕ → ℕ} (c : ℕ) (f : Family) → Linked links code i (plus stack_register frame_register (pos (fixed_size 1 0))) → ((b : Base) → At b i (Known (filled_ground bl callee back h t0 n) v h unknown without_texts b) (f b)) → Reach code c f v (c + size_of (plus stack_register frame_register (pos (fixed_size 1 0)))) v (λ b w. At b (i + size_of (plus stack_register frame_register (pos (fixed_size 1 0)))) (Known (called_ground bl callee back h t0 n) v h unknown without_texts b) w)
-raised_piece bl callee back n {v = v} {h = h} {t0 = t0} c f l there =
+raised_piece : {e : Environment} {block : ℕ} {types : Types} (bl : Block e block types) (callee : Callee bl) (back : Base → ℕ) (texts : ℕ) (n : Values) {links : Links} {code : List Instr} {i : ℕ} {v : Services} {h t0 : ℕ → ℕ} (c : ℕ) (f : Family) → Linked links code i (plus stack_register frame_register (pos (fixed_size 1 0))) → ((b : Base) → At b i (Known (filled_ground bl callee back h t0 n) v h unknown (with_texts texts) b) (f b)) → Reach code c f v (c + size_of (plus stack_register frame_register (pos (fixed_size 1 0)))) v (λ b w. At b (i + size_of (plus stack_register frame_register (pos (fixed_size 1 0)))) (Known (called_ground bl callee back h t0 n) v h unknown (with_texts texts) b) w)
+raised_piece bl callee back texts n {v = v} {h = h} {t0 = t0} c f l there =
     let size = fixed_size 1 0 in
     let room = callee.room in
-    displaced_by (is_immediate (pos size)) c f (λ q d. I.Immediate Imm.Add stack_register q d) frame_register (pos size) (λ b. b.at + callee.at) (Known (filled_ground bl callee back h t0 n) v h unknown without_texts) (Known (called_ground bl callee back h t0 n) v h unknown without_texts) (above_small size (omega arith))
+    displaced_by (is_immediate (pos size)) c f (λ q d. I.Immediate Imm.Add stack_register q d) frame_register (pos size) (λ b. b.at + callee.at) (Known (filled_ground bl callee back h t0 n) v h unknown (with_texts texts)) (Known (called_ground bl callee back h t0 n) v h unknown (with_texts texts)) (above_small size (omega arith))
     (λ b. let v' = b.valid.1 in omega (arith, v', room))
     (λ y u. refl)
     (λ b. frame_is (there b).holds.body)
@@ -176,11 +180,14 @@ saving_at bl callee n t0 =
     }
 
 -- what is known at the procedure's entry
-abbrev pub entry_regs : (base : ℕ) → (back : Base → ℕ) → Base → List (ℕ × ℕ)
-entry_regs base back b = (10, b.at + base) ∷ (12, 0) ∷ (1, back b) ∷ []
+abbrev pub entry_with : (base texts : ℕ) → (back : Base → ℕ) → Base → List (ℕ × ℕ)
+entry_with base texts back b = (10, b.at + base) ∷ (12, texts) ∷ (1, back b) ∷ []
 
-pub called_frame : {e : Environment} {block : ℕ} {types : Types} (bl : Block e block types) (callee : Callee bl) (back : Base → ℕ) → ((b : Base) → back b < 2 ^ 32) → (n : Values) {links : Links} {code : List Instr} {i : ℕ} {v : Services} {h t0 : ℕ → ℕ} (c : ℕ) (f : Family) → 0 < i → Linked links code i (frame_begun callee.words 1 0 true) → ((b : Base) → At b i (Known (bl.ground n) v h t0 (entry_regs bl.base back) b) (f b)) → Reach code c f v (c + size_of (frame_begun callee.words 1 0 true)) v (λ b w. At b (i + size_of (frame_begun callee.words 1 0 true)) (Known (called_ground bl callee back h t0 n) v h unknown without_texts b) w)
-called_frame bl callee back fits n {links} {code} {i} {v} {h} {t0} c f later l there =
+abbrev pub entry_regs : (base : ℕ) → (back : Base → ℕ) → Base → List (ℕ × ℕ)
+entry_regs base back = entry_with base 0 back
+
+pub called_frame : {e : Environment} {block : ℕ} {types : Types} (bl : Block e block types) (callee : Callee bl) (back : Base → ℕ) → ((b : Base) → back b < 2 ^ 32) → (texts : ℕ) (n : Values) {links : Links} {code : List Instr} {i : ℕ} {v : Services} {h t0 : ℕ → ℕ} (c : ℕ) (f : Family) → 0 < i → Linked links code i (frame_begun callee.words 1 0 true) → ((b : Base) → At b i (Known (bl.ground n) v h t0 (entry_with bl.base texts back) b) (f b)) → Reach code c f v (c + size_of (frame_begun callee.words 1 0 true)) v (λ b w. At b (i + size_of (frame_begun callee.words 1 0 true)) (Known (called_ground bl callee back h t0 n) v h unknown (with_texts texts) b) w)
+called_frame bl callee back fits texts n {links} {code} {i} {v} {h} {t0} c f later l there =
     let g = bl.ground n in
     let size = temporary_bytes callee.words in
     let up = plus u0 stack_register (pos size) in
@@ -206,9 +213,9 @@ called_frame bl callee back fits n {links} {code} {i} {v} {h} {t0} c f later l t
     (record { reserved_stay = λ y u. refl; known_stay = λ b y u o. o; set = λ y u. refl })
     (front_of up r1 l) there in
     let c1 = c + size_of up in
-    let s2 = saved_piece callee.at bl.base back h (saving_at bl callee n t0) fits c1 (reached s1) (front_of saves r2 l1) (reached_holds s1) in
+    let s2 = saved_piece callee.at bl.base texts back h (saving_at bl callee n t0) fits c1 (reached s1) (front_of saves r2 l1) (reached_holds s1) in
     let c2 = c1 + size_of saves in
-    let s3 = straight c2 (reached s2) v v (λ b w. Known (filled_ground bl callee back h t0 n) v h unknown without_texts b w) (front_of filled_code raised l2) (omega arith) (λ b. (reached_holds s2 b).pc)
-    (λ b. filled_path bl callee back n links code (i + size_of up + size_of saves) v h t0 b (reached s2 b) (omega (arith, later)) l.small' (reached_holds s2 b).holds) in
-    let s4 = raised_piece bl callee back n (c2 + size_of filled_code) (reached s3) (back_of filled_code raised l2) (reached_holds s3) in
+    let s3 = straight c2 (reached s2) v v (λ b w. Known (filled_ground bl callee back h t0 n) v h unknown (with_texts texts) b w) (front_of filled_code raised l2) (omega arith) (λ b. (reached_holds s2 b).pc)
+    (λ b. filled_path bl callee back texts n links code (i + size_of up + size_of saves) v h t0 b (reached s2 b) (omega (arith, later)) l.small' (reached_holds s2 b).holds) in
+    let s4 = raised_piece bl callee back texts n (c2 + size_of filled_code) (reached s3) (back_of filled_code raised l2) (reached_holds s3) in
     reach_moved (omega (arith, n1, n2, n3)) (omega (arith, n1, n2, n3)) (reach_then s1 (reach_then s2 (reach_then s3 s4)))

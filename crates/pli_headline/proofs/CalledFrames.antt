@@ -6,8 +6,8 @@ use Rattle.rv_meaning.specs.Memory.{store}
 use Rattle.rv_meaning.specs.Machine.{memory_size, store_width}
 use Rattle.rv_meaning.proofs.MemoryLaws.{load-store_other}
 use Rattle.pli_typing.specs.TypedTree as Y
-use Rattle.pli_coding.specs.Frames.{fixed_size, temporary_bytes}
-use Rattle.pli_coding.specs.Environments.{Environment, none_taken}
+use Rattle.pli_coding.specs.Frames.{fixed_size, frame_end, temporary_bytes}
+use Rattle.pli_coding.specs.Environments.{Owner, BlockOwner, Environment, in_frame, owned_by, none_taken}
 use Rattle.pli_coding.specs.Procedures.{procedure_environment}
 use Rattle.pli_headline.specs.ProvedSoFar.{Types, alone}
 use Rattle.pli_headline.proofs.Engine.{Base}
@@ -20,7 +20,9 @@ use Rattle.pli_headline.proofs.Variables.{data_place}
 use Rattle.pli_headline.proofs.States.{with_number_at, with_text_at}
 use Rattle.pli_headline.proofs.MainGround.{width_few}
 use Rattle.pli_headline.proofs.Activations.{rest_more}
-use Rattle.pli_headline.proofs.Statements.{owner_level, Block, Enclosing}
+use Rattle.pli_serving.specs.ServiceState as S
+use Rattle.pli_headline.proofs.Entered.{atop}
+use Rattle.pli_headline.proofs.Statements.{IsOwned, Block}
 use Rattle.pli_headline.proofs.InnerFrames.{Inside, inner_whole, inner_above, inner_put, inner_place, other_level}
 use Rattle.pli_meaning.specs.BasicValues.{BasicText}
 use Rattle.pli_serving.specs.Bytes.{with_bytes}
@@ -152,8 +154,8 @@ called_element_stored {e} {block} bl callee back h0 t0 {j} {type} on n p z insid
     }
 
 -- an array of the main procedure
-pub called_array : {e : Environment} {block : ℕ} {types : Types} (bl : Block e block types) (callee : Callee bl) (back : Base → ℕ) (h0 t0 : ℕ → ℕ) (head : Y.BlockHead) (free : ℕ) → callee.at + 144 ≤ free → {j : ℕ} {type : Y.LeafType} {bs : List Bounds} (on : ArrayOn e block bl.base bl.stack.free bl.ground j type bs) → ArrayOn (procedure_environment head e) block bl.base free (called_ground bl callee back h0 t0) j type bs
-called_array bl callee back h0 t0 head free over on =
+pub called_array : {e : Environment} {block : ℕ} {types : Types} (bl : Block e block types) (callee : Callee bl) (back : Base → ℕ) (h0 t0 : ℕ → ℕ) (owner : Owner) (head : Y.BlockHead) (free : ℕ) → callee.at + 144 ≤ free → {j : ℕ} {type : Y.LeafType} {bs : List Bounds} (on : ArrayOn e block bl.base bl.stack.free bl.ground j type bs) → ArrayOn (owned_by owner (in_frame head.number head.level e)) block bl.base free (called_ground bl callee back h0 t0) j type bs
+called_array bl callee back h0 t0 owner head free over on =
     let above = inner_above callee.at bl.stack.free callee.words callee.place in
     let under = on.under in
     record {
@@ -167,18 +169,9 @@ called_array bl callee back h0 t0 head free over on =
       writes = λ n p z inside old fits t b m len o. called_element_stored bl callee back h0 t0 on n p z inside old fits t b m len o;
     }
 
--- the main procedure around it
-abbrev pub called_outside : {e : Environment} {block : ℕ} {types : Types} (bl : Block e block types) (callee : Callee bl) (back : Base → ℕ) (h0 t0 : ℕ → ℕ) (q : Bool) → (0 == e.level) ≡ q → Enclosing bl.base bl.size (called_ground bl callee back h0 t0)
-called_outside bl callee back h0 t0 true outermost =
-    let o = bl.alone outermost in
-    record { its = bl.ground; waits = t0; frame_is = o.frame_is; free_is = o.free_is; kept = λ n t b m x. x.kept.0 }
-called_outside bl callee back h0 t0 false inside =
-    let o = bl.outside inside in
-    record { its = o.its; waits = o.waits; frame_is = o.frame_is; free_is = o.free_is; kept = λ n t b m x. o.kept n t0 b m x.kept.0 }
-
--- the procedure's block, whatever block calls it
-abbrev pub called_block : {e : Environment} {block : ℕ} {types : Types} (bl : Block e block types) (callee : Callee bl) (back : Base → ℕ) (h0 t0 : ℕ → ℕ) (head : Y.BlockHead) → head.level ≡ 1 → Block (procedure_environment head e) block types
-called_block {e} bl callee back h0 t0 head next =
+-- the block of a procedure or an on-unit, whatever block calls or raises it
+abbrev pub called_block_as : {e : Environment} {block : ℕ} {types : Types} (bl : Block e block types) (callee : Callee bl) (back : Base → ℕ) (h0 t0 : ℕ → ℕ) (owner : Owner) (kind : S.BlockKind) (head : Y.BlockHead) → head.level ≡ 1 → (IsOwned owner → frame_end e.parts e.program head.number head.level ≡ fixed_size 1 0) → Block (owned_by owner (in_frame head.number head.level e)) block types
+called_block_as {e} bl callee back h0 t0 owner kind head next size =
     let above = inner_above callee.at bl.stack.free callee.words callee.place in
     let high = bl.stack.high in
     let lowest = bl.stack.over in
@@ -198,24 +191,23 @@ called_block {e} bl callee back h0 t0 head next =
       reads = λ n j below fits t b m o. bl.reads n j below fits t0 b m o.kept.0;
       writes = λ n j z below old fits t b m len o. called_writes bl callee back h0 t0 n j z below old fits t b m len o;
       held = refl;
-      frames = callee.at ∷ bl.frames;
+      frames = atop callee.at kind bl.frames;
       bottom = record {
         holds = bl.bottom.holds;
         aligned = bl.bottom.aligned;
         room = bl.bottom.room;
         own = bl.bottom.own;
         kept = λ n t b m o. bl.bottom.kept n t0 b m o.kept.0;
-        rest = rest_more bl.base callee.at bl.frames (omega (arith, lowest, above)) bl.bottom.rest;
+        rest = rest_more bl.base callee.at bl.frames.list (omega (arith, lowest, above)) bl.bottom.rest;
       };
-      size = bl.size;
-      ends = bl.ends;
-      sized = λ number owned. let no : head.level ≡ 0 = ap owner_level owned in absurd (omega (arith, no, next));
       depths = e.level ∷ bl.depths;
       shallow = λ same. let no : true ≡ false = sym same ∙ other_level head.level 0 next in absurd (cc no);
-      deep = λ inside. omega arith;
-      outer = [];
       alone = λ same. let no : true ≡ false = sym same ∙ other_level head.level 0 next in absurd (cc no);
-      outside = λ inside. called_outside bl callee back h0 t0 (0 == e.level) refl;
+      lead = bl.frames.list;
+      leads = refl;
+      ends = let room = callee.room in omega (arith, room);
+      sized = λ owned. ap (λ u. callee.at + u) (size owned);
+      own = λ n t b m o. o.own;
       stack = record {
         frame = callee.at;
         free = callee.at + fixed_size 1 0;
@@ -248,5 +240,12 @@ called_block {e} bl callee back h0 t0 head next =
         reads = λ n j varying most at t b m o. bl.texts.reads n j varying most at t0 b m o.kept.0;
         writes = λ n j varying most text at t b m len o. called_text_writes bl callee back h0 t0 n j varying most text at t b m len o;
       };
-      arrays = λ j type b bs at. called_array bl callee back h0 t0 head (callee.at + fixed_size 1 0) (omega arith) (bl.arrays j type b bs at);
+      arrays = λ j type b bs at. called_array bl callee back h0 t0 owner head (callee.at + fixed_size 1 0) (omega arith) (bl.arrays j type b bs at);
+      outer = [];
+      enclosing = tt;
     }
+
+-- the block of a procedure
+abbrev pub called_block : {e : Environment} {block : ℕ} {types : Types} (bl : Block e block types) (callee : Callee bl) (back : Base → ℕ) (h0 t0 : ℕ → ℕ) (head : Y.BlockHead) → head.level ≡ 1 → frame_end e.parts e.program head.number head.level ≡ fixed_size 1 0 → Block (procedure_environment head e) block types
+called_block bl callee back h0 t0 head next size =
+    called_block_as bl callee back h0 t0 (BlockOwner (record { number = head.number; level = head.level })) S.ProcedureBlock head next (λ owned. size)

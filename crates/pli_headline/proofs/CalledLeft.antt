@@ -30,7 +30,7 @@ use Rattle.pli_headline.proofs.Reaching.{reach_moved}
 use Rattle.pli_headline.proofs.SavedRegisters.{SavedIn, held_again, restored_piece}
 use Rattle.pli_headline.proofs.Calls.{called, Calling, call_done}
 use Rattle.pli_headline.proofs.Raising.{small_is}
-use Rattle.pli_headline.proofs.Statements.{Block}
+use Rattle.pli_headline.proofs.Statements.{lower_ground, Block}
 use Rattle.pli_headline.proofs.InnerFrames.{inner_whole, inner_above}
 use Rattle.pli_headline.proofs.BeginDisplays.{frame_word, moved_reserved, without_two}
 use Rattle.pli_headline.proofs.BeginEntered.{ended_services, leave_answer}
@@ -48,17 +48,28 @@ jump_back = Plain (I.JumpRegister zero_register return_register (pos 0)) ∷ []
 return_sum : (b : Base) (x j : ℕ) → j ≤ most_code → x ≡ address b j → sum x (word (pos 0)) ≡ address b j
 return_sum b x j near e = let v = b.valid.1 in omega (arith, e, near, v)
 
-saved_in : {e : Environment} {block : ℕ} {types : Types} (bl : Block e block types) (callee : Callee bl) (back : Base → ℕ) (h0 t0 : ℕ → ℕ) (n : Values) (t : ℕ → ℕ) → SavedIn (called_ground bl callee back h0 t0 n) t back h0
+-- whatever the stack's register is
+abbrev pub ending_ground : {e : Environment} {block : ℕ} {types : Types} (bl : Block e block types) → Callee bl → (back : Base → ℕ) → (h0 t0 : ℕ → ℕ) → Values → (free : ℕ) → Ground
+ending_ground bl callee back h0 t0 n free = lower_ground (called_ground bl callee back h0 t0 n) free
+
+pub saved_in : {e : Environment} {block : ℕ} {types : Types} (bl : Block e block types) (callee : Callee bl) (back : Base → ℕ) (h0 t0 : ℕ → ℕ) (n : Values) (t : ℕ → ℕ) → SavedIn (called_ground bl callee back h0 t0 n) t back h0
 saved_in bl callee back h0 t0 n t =
     let above = inner_above callee.at bl.stack.free callee.words callee.place in
     let room = callee.room in
     let high = bl.stack.high in
     record { high = omega (arith, above, high); room = omega (arith, room); has = λ b m o. o.kept.1 }
 
+ending_saved : {e : Environment} {block : ℕ} {types : Types} (bl : Block e block types) (callee : Callee bl) (back : Base → ℕ) (h0 t0 : ℕ → ℕ) (n : Values) (free : ℕ) (t : ℕ → ℕ) → SavedIn (ending_ground bl callee back h0 t0 n free) t back h0
+ending_saved bl callee back h0 t0 n free t =
+    let above = inner_above callee.at bl.stack.free callee.words callee.place in
+    let room = callee.room in
+    let high = bl.stack.high in
+    record { high = omega (arith, above, high); room = omega (arith, room); has = λ b m o. o.kept.1 }
+
 -- service 5
-asked_piece : {e : Environment} {block : ℕ} {types : Types} (bl : Block e block types) (callee : Callee bl) (back : Base → ℕ) (n : Values) {links : Links} {code : List Instr} {i : ℕ} {v : Services} {h0 h t0 t : ℕ → ℕ} (c : ℕ) (f : Family) (a : S.Activation) (rest : List S.Activation) → v.activations ≡ a ∷ rest → Linked links code i (block_left 0) → ((b : Base) → At b i (Known (called_ground bl callee back h0 t0 n) v h t nothing b) (f b)) → Reach code c f v (c + 3) (ended_services v a rest) (λ b w. At b (i + 3) (Known (called_ground bl callee back h0 t0 n) (ended_services v a rest) h t nothing b) w)
-asked_piece bl callee back n {links} {code} {i} {v} {h0} {h} {t0} {t} c f a rest e l there =
-    let ground = called_ground bl callee back h0 t0 n in
+asked_piece : {e : Environment} {block : ℕ} {types : Types} (bl : Block e block types) (callee : Callee bl) (back : Base → ℕ) (n : Values) (free : ℕ) {links : Links} {code : List Instr} {i : ℕ} {v : Services} {h0 h t0 t : ℕ → ℕ} (c : ℕ) (f : Family) (a : S.Activation) (rest : List S.Activation) → v.activations ≡ a ∷ rest → Linked links code i (block_left 0) → ((b : Base) → At b i (Known (ending_ground bl callee back h0 t0 n free) v h t nothing b) (f b)) → Reach code c f v (c + 3) (ended_services v a rest) (λ b w. At b (i + 3) (Known (ending_ground bl callee back h0 t0 n free) (ended_services v a rest) h t nothing b) w)
+asked_piece bl callee back n free {links} {code} {i} {v} {h0} {h} {t0} {t} c f a rest e l there =
+    let ground = ending_ground bl callee back h0 t0 n free in
     let v' = ended_services v a rest in
     let asked = small a0 0 ∷ small a7 5 ∷ [] in
     let call = Plain I.Ecall ∷ [] in
@@ -80,15 +91,15 @@ asked_piece bl callee back n {links} {code} {i} {v} {h0} {h} {t0} {t} c f a rest
     reach_moved (omega arith) (omega arith) (reach_then r1 r2)
 
 -- the caller's frame
-lowered_piece : {e : Environment} {block : ℕ} {types : Types} (bl : Block e block types) (callee : Callee bl) (back : Base → ℕ) (n : Values) {links : Links} {code : List Instr} {i : ℕ} {v : Services} {h0 h t0 t : ℕ → ℕ} (c : ℕ) (f : Family) → Linked links code i (frame_ended callee.words) → ((b : Base) → At b i (Known (called_ground bl callee back h0 t0 n) v h t (with' 1 back nothing) b) (f b)) → Reach code c f v (c + size_of (frame_ended callee.words)) v (λ b w. At b (i + size_of (frame_ended callee.words)) (Known (bl.ground n) v h t0 (with' 1 back nothing) b) w)
-lowered_piece bl callee back n {links} {code} {i} {v} {h0} {h} {t0} {t} c f l there =
-    let ground = called_ground bl callee back h0 t0 n in
+lowered_piece : {e : Environment} {block : ℕ} {types : Types} (bl : Block e block types) (callee : Callee bl) (back : Base → ℕ) (n : Values) (free : ℕ) {links : Links} {code : List Instr} {i : ℕ} {v : Services} {h0 h t0 t : ℕ → ℕ} (c : ℕ) (f : Family) → Linked links code i (frame_ended callee.words) → ((b : Base) → At b i (Known (ending_ground bl callee back h0 t0 n free) v h t (with' 1 back nothing) b) (f b)) → Reach code c f v (c + size_of (frame_ended callee.words)) v (λ b w. At b (i + size_of (frame_ended callee.words)) (Known (bl.ground n) v h t0 (with' 1 back nothing) b) w)
+lowered_piece bl callee back n free {links} {code} {i} {v} {h0} {h} {t0} {t} c f l there =
+    let ground = ending_ground bl callee back h0 t0 n free in
     let outer = bl.ground n in
     let size = temporary_bytes callee.words in
     let z = neg_ℤ (pos size) in
     let room = callee.room in
     let place = callee.place in
-    let free = bl.stack.free_is n in
+    let ends = bl.stack.free_is n in
     let same = bl.stack.frame_is n in
     let whole = inner_whole callee.at bl.stack.free callee.words callee.place bl.stack.aligned in
     let up = plus stack_register frame_register z in
@@ -104,7 +115,7 @@ lowered_piece bl callee back n {links} {code} {i} {v} {h0} {h} {t0} {t} c f l th
       does = λ b j w q d k s. (
         (k.body.services, k.regs.0),
         (
-          moved_reserved (w.machine.registers 0) _ _ _ _ _ _ (ap without_two k.body.registers) (s ∙ below_sum b.at callee.at size b.valid.1 (omega (arith, room)) (omega (arith, place)) ∙ ap (λ u. b.at + u) (omega (arith, place, free))) (frame_is k.body),
+          moved_reserved (w.machine.registers 0) _ _ _ _ _ _ (ap without_two k.body.registers) (s ∙ below_sum b.at callee.at size b.valid.1 (omega (arith, room)) (omega (arith, place)) ∙ ap (λ u. b.at + u) (omega (arith, place, ends))) (frame_is k.body),
           (k.body.bytes, k.body.memory),
         ),
       );
@@ -140,16 +151,16 @@ returned_piece {code = code} {i = i} {g = g} {v = v} {h = h} {t = t} c f resume 
     ))
 
 -- the registers hold again what the caller's did, as far as a word holds it
-pub called_left : {e : Environment} {block : ℕ} {types : Types} (bl : Block e block types) (callee : Callee bl) (resume : ℕ) (n : Values) {links : Links} {code : List Instr} {i : ℕ} {v : Services} {h0 h t0 t : ℕ → ℕ} (c : ℕ) (f : Family) (a : S.Activation) (rest : List S.Activation) → resume ≤ most_code → v.activations ≡ a ∷ rest → Linked links code i (called_ended callee.words) → ((b : Base) → At b i (Known (called_ground bl callee (λ b'. address b' resume) h0 t0 n) v h t nothing b) (f b)) → Reach code c f v (c + 3 + size_of all_restored + size_of (frame_ended callee.words) + 1) (ended_services v a rest) (λ b w. At b resume (Known (bl.ground n) (ended_services v a rest) (held_again h0 0 7 h) t0 nothing b) w)
-called_left bl callee resume n {h0 = h0} {h = h} {t0 = t0} {t = t} c f a rest near e l there =
+pub called_left : {e : Environment} {block : ℕ} {types : Types} (bl : Block e block types) (callee : Callee bl) (resume : ℕ) (n : Values) (free : ℕ) {links : Links} {code : List Instr} {i : ℕ} {v : Services} {h0 h t0 t : ℕ → ℕ} (c : ℕ) (f : Family) (a : S.Activation) (rest : List S.Activation) → resume ≤ most_code → v.activations ≡ a ∷ rest → Linked links code i (called_ended callee.words) → ((b : Base) → At b i (Known (ending_ground bl callee (λ b'. address b' resume) h0 t0 n free) v h t nothing b) (f b)) → Reach code c f v (c + 3 + size_of all_restored + size_of (frame_ended callee.words) + 1) (ended_services v a rest) (λ b w. At b resume (Known (bl.ground n) (ended_services v a rest) (held_again h0 0 7 h) t0 nothing b) w)
+called_left bl callee resume n free {h0 = h0} {h = h} {t0 = t0} {t = t} c f a rest near e l there =
     let back : Base → ℕ = λ b. address b resume in
     let asked = block_left 0 in
     let lower = frame_ended callee.words in
     let ended = lower ++ jump_back in
     let l1 = back_of asked (all_restored ++ ended) l in
     let l2 = back_of all_restored ended l1 in
-    let r1 = asked_piece bl callee back n c f a rest e (front_of asked (all_restored ++ ended) l) there in
-    let r2 = restored_piece back h0 (saved_in bl callee back h0 t0 n t) h (c + 3) (reached r1) (front_of all_restored ended l1) (reached_holds r1) in
-    let r3 = lowered_piece bl callee back n (c + 3 + size_of all_restored) (reached r2) (front_of lower jump_back l2) (reached_holds r2) in
+    let r1 = asked_piece bl callee back n free c f a rest e (front_of asked (all_restored ++ ended) l) there in
+    let r2 = restored_piece back h0 (ending_saved bl callee back h0 t0 n free t) h (c + 3) (reached r1) (front_of all_restored ended l1) (reached_holds r1) in
+    let r3 = lowered_piece bl callee back n free (c + 3 + size_of all_restored) (reached r2) (front_of lower jump_back l2) (reached_holds r2) in
     let r4 = returned_piece (c + 3 + size_of all_restored + size_of lower) (reached r3) resume near (back_of lower jump_back l2) (reached_holds r3) in
     reach_then r1 (reach_then r2 (reach_then r3 r4))

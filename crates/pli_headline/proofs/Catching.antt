@@ -26,8 +26,9 @@ use Rattle.pli_headline.proofs.Bodies.{Known}
 use Rattle.pli_headline.proofs.Jumps.{front_of, back_of, rest_of, linked_at}
 use Rattle.pli_headline.proofs.Temporaries.{nothing, stays_then}
 use Rattle.pli_headline.proofs.Activations.{newest_is, entered_length}
+use Rattle.pli_headline.proofs.OuterBlocks.{risen_length}
 use Rattle.pli_headline.proofs.Calls.{Serving}
-use Rattle.pli_headline.proofs.Statements.{Block, AllHold, Behind, IsMarkedOnce, Landing, Enough, Does, EachDoes, list_does}
+use Rattle.pli_headline.proofs.Statements.{Block, AllHold, Behind, IsMarkedOnce, Landing, outlets_by, Enough, Does, EachDoes, list_does}
 use Rattle.pli_headline.proofs.MainFlow.{catching, catching_closed, comes_caught}
 use Rattle.pli_headline.proofs.Reach.{Family, Aims, Comes, Closed}
 use Rattle.pli_headline.proofs.Scalars.{Values}
@@ -53,22 +54,23 @@ within labels bl =
       held = bl.held;
       frames = bl.frames;
       bottom = bl.bottom;
-      size = bl.size;
-      ends = bl.ends;
-      sized = bl.sized;
       depths = bl.depths;
       shallow = bl.shallow;
-      deep = bl.deep;
-      outer = bl.outer;
-      alone = bl.alone;
-      outside = bl.outside;
       stack = bl.stack;
+      alone = bl.alone;
+      lead = bl.lead;
+      leads = bl.leads;
+      ends = bl.ends;
+      sized = bl.sized;
+      own = bl.own;
       levels = bl.levels;
       level_room = bl.level_room;
       outermost_level = bl.outermost_level;
       displays = bl.displays;
       texts = bl.texts;
       arrays = bl.arrays;
+      outer = bl.outer;
+      enclosing = bl.enclosing;
     }
 
 -- ---- where a label stands
@@ -231,37 +233,40 @@ catch_piece {e} {block} {types} bl {links} {code} around body every start behind
                         later = p.later;
                         lands = λ s3 v3 line3 n3 h3 t3 f3 serving3 all3 stays3 acted3 at3. p.lands s3 v3 line3 n3 h3 t3 f3 serving3 all3 (stays_then stays2 stays3) (omega (arith, grown, acted3)) at3;
                       };
-                  outs = λ inside number owned label3 among3 once3.
-                      let p = more.outs inside number owned label3 among3 once3 in
-                      record {
+                  outs = outlets_by e bl.ground bl.levels bl.frames (e.level ∷ bl.depths) bl.outer bl.enclosing block types links k v.world.acts v2.world.acts aims.jumped aims.jumped
+                      (λ o3 c3 label3 p. record {
                         at = p.at;
                         place = p.place;
                         near = p.near;
                         later = p.later;
                         lands = λ s3 v3 line3 n3 h3 f3 serving3 all3 acted3 at3. p.lands s3 v3 line3 n3 h3 f3 serving3 all3 (omega (arith, grown, acted3)) at3;
-                      };
+                      })
+                      more.outs;
                   returns = more.returns;
                   own = more.own;
+                  homes = more.homes;
                 });
           })
           (λ none.
           let o = more.jumps label (sym (ap (λ q. q || is_among label bl.labels) none) ∙ sym (list_any-append (same_bytes label) labels bl.labels) ∙ among) once in
           record { at = o.at; place = o.place; near = o.near; later = o.later; lands = o.lands });
-      outs = λ inside number owned label among once.
-          let o = more.outs inside number owned label among once in
-          let some = bl.deep inside in
-          let other : (1 == suc (length bl.depths)) ≡ false = grind (arith, nat_tests) in
-          let past : ((1 == suc (length bl.depths)) && is_among label labels) ≡ false = ap (λ q. q && is_among label labels) other in
+      outs = outlets_by e bl.ground bl.levels bl.frames (e.level ∷ bl.depths) bl.outer bl.enclosing block types links k v.world.acts v.world.acts aims.jumped (catching code k (suc (length bl.depths)) labels next' aims).jumped
+          (λ outer c label o.
+          let long = risen_length (suc c.count) c.frame outer.level bl.frames.list (e.level ∷ bl.depths) c.behind c.depths c.rises in
+          let other : (suc (length c.depths) == suc (length bl.depths)) ≡ false = grind (arith, nat_tests) in
+          let past : ((suc (length c.depths) == suc (length bl.depths)) && is_among label labels) ≡ false = ap (λ q. q && is_among label labels) other in
           record {
             at = o.at;
             place = o.place;
             near = o.near;
             later = o.later;
             lands = λ s2 v2 line2 n2 h2 f2 serving2 all2 acted2 at2.
-                subst (λ q. Comes code o.at f2 v2 aims (cond q (next' label k s2) (Jump 1 label s2))) (sym past) (record { to = o.lands s2 v2 line2 n2 h2 f2 serving2 all2 acted2 at2 });
-          };
+                subst (λ q. Comes code o.at f2 v2 aims (cond q (next' label k s2) (Jump (suc (length c.depths)) label s2))) (sym past) (record { to = o.lands s2 v2 line2 n2 h2 f2 serving2 all2 acted2 at2 });
+          })
+          more.outs;
       returns = more.returns;
       own = more.own;
+      homes = more.homes;
     })))
 
 -- a list of statements, of which each does what it means while the list catches

@@ -76,22 +76,23 @@ turning bl =
       held = bl.held;
       frames = bl.frames;
       bottom = bl.bottom;
-      size = bl.size;
-      ends = bl.ends;
-      sized = bl.sized;
       depths = bl.depths;
       shallow = bl.shallow;
-      deep = bl.deep;
-      outer = bl.outer;
-      alone = bl.alone;
-      outside = bl.outside;
       stack = bl.stack;
+      alone = bl.alone;
+      lead = bl.lead;
+      leads = bl.leads;
+      ends = bl.ends;
+      sized = bl.sized;
+      own = bl.own;
       levels = bl.levels;
       level_room = bl.level_room;
       outermost_level = bl.outermost_level;
       displays = bl.displays;
       texts = bl.texts;
       arrays = bl.arrays;
+      outer = bl.outer;
+      enclosing = bl.enclosing;
     }
 
 pub standing_turning : {e : Environment} {block : ℕ} {types : Types} {bl : Block e block types} {links : Links} {code : List Instr} → Standing bl links code → Standing (turning bl) links code
@@ -115,6 +116,7 @@ turning_enough bl more =
       outs = more.outs;
       returns = more.returns;
       own = more.own;
+      homes = more.homes;
     }
 
 -- ---- the next value

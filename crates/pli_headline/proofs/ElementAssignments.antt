@@ -37,11 +37,12 @@ use Rattle.pli_headline.proofs.ArrayExpressions.{AllEvaluate, subscripts_many}
 use Rattle.pli_headline.proofs.ArrayAssignments.{element_assigned_piece}
 use Rattle.pli_headline.proofs.ArrayScopes.{IsArrayAt, with_element_of, array_scope}
 use Rattle.pli_headline.proofs.ArrayStates.{scalar_apart, scalar_beside, text_beside, arrays_after}
+use Rattle.pli_headline.proofs.Entered.{Frames}
 use Rattle.pli_headline.proofs.Statements.{Block, Standing, AllHold, scope_of, Does, counted_all, assign_number_does, assign_bit_does}
 use Rattle.pli_headline.proofs.Reach.{before_closed, comes_on}
 
 -- what variables hold after an element is assigned
-pub element_all : {frames : List ℕ} {xs : List Activation} {levels : List ℕ} {s : State} {block : ℕ} {types : Types} {n : Values} (j : ℕ) {type : Y.LeafType} {b : Bounds} {bs : List Bounds} (is : List ℤ) (z : ℤ) (below : IsArrayAt types j type b bs) → is_within (b ∷ bs) is ≡ true → Fits type z → (all : AllHold frames xs levels s block types n) → AllHold frames xs levels (element_state s type (b ∷ bs) (suc j) (all.arrays j type b bs below).values is z) block types (with_element_of n j (element_place (b ∷ bs) is) z)
+pub element_all : {frames : Frames} {xs : List Activation} {levels : List ℕ} {s : State} {block : ℕ} {types : Types} {n : Values} (j : ℕ) {type : Y.LeafType} {b : Bounds} {bs : List Bounds} (is : List ℤ) (z : ℤ) (below : IsArrayAt types j type b bs) → is_within (b ∷ bs) is ≡ true → Fits type z → (all : AllHold frames xs levels s block types n) → AllHold frames xs levels (element_state s type (b ∷ bs) (suc j) (all.arrays j type b bs below).values is z) block types (with_element_of n j (element_place (b ∷ bs) is) z)
 element_all {s = s} {types = types} {n = n} j {type} {b} {bs} is z below within fits all =
     let h = all.arrays j type b bs below in
     let change = P.with_element (designated_element type (b ∷ bs) (suc j) h.values is) (value_as type z) in
@@ -51,6 +52,8 @@ element_all {s = s} {types = types} {n = n} j {type} {b} {bs} is z below within 
       arrays = λ i other c cs at. arrays_after types n is z below within fits h i other c cs at (all.arrays i other c cs at);
       entered = all.entered;
       framed = all.framed;
+      kinds = all.kinds;
+      units = all.units;
       owned = λ height' above. none_owned_changed height' (suc j) change s.living (all.owned height' above);
     }
 

@@ -1,13 +1,14 @@
 -- The forms of the first path's programs are among those for which the headline is proved.
-use Rattle.std.proofs.Common.{◌≡◌, ℕ, zero, suc, ◌<◌, List, [], ◌∷◌, length, Some, None, true, sym, ap, subst, arith, unwrap_or, inl, ◌++◌, ◌≤◌, false}
+use Rattle.std.proofs.Common.{◌≡◌, ℕ, zero, suc, ◌<◌, List, [], ◌∷◌, length, Some, None, true, sym, ap, subst, arith, unwrap_or, inl, ◌++◌, ◌≤◌}
 use Rattle.std.specs.Prelude.{slice_get}
 use Rattle.pli_typing.specs.TypedTree as Y
 use Rattle.pli_meaning.specs.Control.{Label}
 use Rattle.pli_meaning.specs.DeclaredShapes.{variables_of_block}
 use Rattle.std.specs.List.{flat_map}
+use Rattle.pli_coding.specs.Environments.{BlockPlace}
 use Rattle.pli_coding.specs.SignatureTable.{signature_of, with_signature, with_signatures}
 use Rattle.pli_coding.specs.Streams.{has_text}
-use Rattle.pli_headline.specs.ProvedSoFar.{IsPlain, ArePlain, AllPlain, Types, types_of, IsOwn, HavePrecisions, IsProvedNumber, IsProvedItem, AreProvedItems, AreProvedPairs, IsProvedStatement, AreProvedStatements, JumpsAround, AllJumpAround, IsBare, AreBare, IsProvedSoFar, alone, AreSubscripts, declared_kind, CallsAmong, AllCallAmong}
+use Rattle.pli_headline.specs.ProvedSoFar.{IsPlain, ArePlain, AllPlain, Types, types_of, IsOwn, HavePrecisions, IsProvedNumber, IsProvedItem, AreProvedItems, AreProvedPairs, IsProvedStatement, AreProvedStatements, OuterBlock, JumpsAround, AllJumpAround, IsBare, AreBare, IsProvedSoFar, alone, AreSubscripts, declared_kind, CallsAmong, AllCallAmong}
 use Rattle.pli_headline.proofs.FormatData.{true_false}
 use Rattle.pli_headline.specs.FirstForms.{plain_number, AreNumbers, AllNumbers, IsFirstReference, IsFirstNumber, IsFirstItem, AreFirstItems, AreFirstPairs, IsFirstStatement, AreFirstStatements, IsFirstProgram}
 
@@ -107,25 +108,25 @@ statements_wider block count types (Y.EndOfList labels) all h = tt
 statements_wider block count types (Y.StmtThen labels first rest) all h = (statement_wider block count types first all h.0, statements_wider block count types rest all h.1)
 
 -- none of them jumps
-statement_stays : (block count number level : ℕ) (all : List (ℕ × Label)) (procedure : ℕ) (outer around : List Label) (x : Y.Stmt) → IsFirstStatement block count x → JumpsAround number level all procedure outer around x
-statement_stays block count number level all procedure outer around (Y.Null line) h = tt
-statement_stays block count number level all procedure outer around (Y.Assign target (Y.StoredNumber precision x) line) h = tt
-statement_stays block count number level all procedure outer around (Y.Put None pairs line) h = tt
-statement_stays block count number level all procedure outer around _ h = absurd h
+statement_stays : (block count number level : ℕ) (all : List (ℕ × Label)) (blocks : List BlockPlace) (outer : List OuterBlock) (around : List Label) (x : Y.Stmt) → IsFirstStatement block count x → JumpsAround number level all blocks outer around x
+statement_stays block count number level all blocks outer around (Y.Null line) h = tt
+statement_stays block count number level all blocks outer around (Y.Assign target (Y.StoredNumber precision x) line) h = tt
+statement_stays block count number level all blocks outer around (Y.Put None pairs line) h = tt
+statement_stays block count number level all blocks outer around _ h = absurd h
 
-pub statements_stay : (block count number level : ℕ) (all : List (ℕ × Label)) (procedure : ℕ) (outer around : List Label) (body : Y.Stmts) → AreFirstStatements block count body → AllJumpAround number level all procedure outer around body
-statements_stay block count number level all procedure outer around (Y.EndOfList labels) h = tt
-statements_stay block count number level all procedure outer around (Y.StmtThen labels first rest) h =
-    (statement_stays block count number level all procedure outer around first h.0, statements_stay block count number level all procedure outer around rest h.1)
+pub statements_stay : (block count number level : ℕ) (all : List (ℕ × Label)) (blocks : List BlockPlace) (outer : List OuterBlock) (around : List Label) (body : Y.Stmts) → AreFirstStatements block count body → AllJumpAround number level all blocks outer around body
+statements_stay block count number level all blocks outer around (Y.EndOfList labels) h = tt
+statements_stay block count number level all blocks outer around (Y.StmtThen labels first rest) h =
+    (statement_stays block count number level all blocks outer around first h.0, statements_stay block count number level all blocks outer around rest h.1)
 
 -- nor calls
-statement_calls : (block count : ℕ) (may : List ℕ) (x : Y.Stmt) → IsFirstStatement block count x → CallsAmong may true false x
+statement_calls : (block count : ℕ) (may : List ℕ) (x : Y.Stmt) → IsFirstStatement block count x → CallsAmong may x
 statement_calls block count may (Y.Null line) h = tt
 statement_calls block count may (Y.Assign target (Y.StoredNumber precision x) line) h = tt
 statement_calls block count may (Y.Put None pairs line) h = tt
 statement_calls block count may _ h = absurd h
 
-pub statements_call : (block count : ℕ) (may : List ℕ) (body : Y.Stmts) → AreFirstStatements block count body → AllCallAmong may true false body
+pub statements_call : (block count : ℕ) (may : List ℕ) (body : Y.Stmts) → AreFirstStatements block count body → AllCallAmong may body
 statements_call block count may (Y.EndOfList labels) h = tt
 statements_call block count may (Y.StmtThen labels first rest) h =
     (statement_calls block count may first h.0, statements_call block count may rest h.1)

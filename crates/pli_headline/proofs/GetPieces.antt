@@ -94,7 +94,7 @@ ended_piece {code = code} {i = i} {v = v} {s = s} {aims = aims} closed routines 
     let next' : Unit {0} → Meaning (Option (List ℕ)) = λ u. give None in
     subst (Comes code i f v aims) (sym (field_none around width k s none))
     (comes_on k (R.raised around C.Endfile endfile_code k s) next'
-    (raised_piece (before_closed k next' closed) routines f around C.Endfile 4 endfile_code (JumpAhead behind ∷ []) k refl (lit< tt) (lit< tt) l serving at))
+    (raised_piece (before_closed k next' closed) routines f around C.Endfile 4 endfile_code (JumpAhead behind ∷ []) k refl refl (lit< tt) (lit< tt) l serving at))
 
 ended_field : {links : Links} {code : List Instr} {i : ℕ} {g : Ground} {v : Services} {h t : ℕ → ℕ} {rs : Base → List (ℕ × ℕ)} {s : State} {aims : Aims (Option Field)} (closed : Closed code aims) (routines : Routines links code) (f : Family) (around : Around) (d : DataItem) (behind k : ℕ) → IsWide d → has_character s.input.marks ≡ false → Linked links code i (endfile_code_raised behind) → Serving k s v around.line → ((b : Base) → At b i (Known g v h t rs b) (f b)) → Comes code i f v aims (P.field_got around d k s)
 unfolding P.field_got ◌>>=◌

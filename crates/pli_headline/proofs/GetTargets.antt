@@ -48,6 +48,7 @@ use Rattle.pli_headline.proofs.Precisions.{fitted_piece}
 use Rattle.pli_headline.proofs.Variables.{IsDeclared, whole_part, whole, own}
 use Rattle.pli_headline.proofs.States.{Holds, with_text_at}
 use Rattle.pli_headline.proofs.TextStates.{KeepsText}
+use Rattle.pli_headline.proofs.Entered.{Frames}
 use Rattle.pli_headline.proofs.Statements.{Block, AllHold, Standing}
 use Rattle.pli_headline.proofs.TextVariables.{text_state}
 use Rattle.pli_headline.proofs.TextAssignments.{assigned_piece, text_assigned_all}
@@ -96,7 +97,7 @@ read_keeps change h = record { values = h.values; stands = h.stands; lives = h.l
 read_array : {s : State} {block j : ℕ} {type : Y.LeafType} {bs : List Bounds} {n : ℕ → ℤ} (change : Input → Input) → HoldsArray s block j type bs n → HoldsArray (read_state change s) block j type bs n
 read_array change h = record { values = h.values; numeric = h.numeric; stands = h.stands; lives = h.lives; value = h.value; fits = h.fits }
 
-pub read_all : {frames : List ℕ} {xs : List Activation} {levels : List ℕ} {s : State} {block : ℕ} {types : Types} {n : Values} (change : Input → Input) → AllHold frames xs levels s block types n → AllHold frames xs levels (read_state change s) block types n
+pub read_all : {frames : Frames} {xs : List Activation} {levels : List ℕ} {s : State} {block : ℕ} {types : Types} {n : Values} (change : Input → Input) → AllHold frames xs levels s block types n → AllHold frames xs levels (read_state change s) block types n
 read_all change all =
     record {
       numbers = λ j b numeric. read_holds change (all.numbers j b numeric);
@@ -104,10 +105,12 @@ read_all change all =
       arrays = λ j type b bs at. read_array change (all.arrays j type b bs at);
       entered = all.entered;
       framed = all.framed;
+      kinds = all.kinds;
+      units = all.units;
       owned = all.owned;
     }
 
-all_kept : (frames levels : List ℕ) (block : ℕ) (types : Types) (n : Values) → Kept (λ xs s. AllHold frames xs levels s block types n)
+all_kept : (frames : Frames) (levels : List ℕ) (block : ℕ) (types : Types) (n : Values) → Kept (λ xs s. AllHold frames xs levels s block types n)
 all_kept frames levels block types n = record { keeps = λ xs change s all. read_all change all }
 
 -- a value in a0 is stored

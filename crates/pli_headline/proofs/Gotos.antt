@@ -1,15 +1,17 @@
 -- GOTO to a label of a list that is carried out around it, in the block's own frame.
-use Rattle.std.proofs.Common.{◌≡◌, ℕ, ◌^◌, ◌<◌, ◌≤◌, [], ◌∷◌, ◌++◌, List, Bool, true, false, refl, sym, ap, ◌∙◌, subst, arith}
-use Rattle.std.specs.Prelude.{cond, ◌==◌}
+use Rattle.std.proofs.Common.{◌≡◌, ℕ, ◌^◌, ◌<◌, ◌≤◌, [], ◌∷◌, ◌++◌, List, Bool, true, refl, sym, ap, ◌∙◌, subst, arith}
+use Rattle.std.specs.Prelude.{cond}
 use Rattle.std.proofs.lemmas.Bool.{eq-eqb}
 use Rattle.rv_meaning.specs.declared.instr.Instr.{Instr}
 use Rattle.pli_typing.specs.TypedTree as Y
 use Rattle.pli_meaning.specs.World.{counted}
+use Rattle.pli_meaning.specs.DeclaredShapes.{variables_of_block}
 use Rattle.pli_meaning.specs.StorageState.{with_world, ancestor_at, height_of}
 use Rattle.pli_meaning.specs.Control.{Label, Jump, Meaning, act, looked, jumps, is_among, ◌>>=◌, ◌>>◌}
 use Rattle.pli_meaning.specs.Raising.{Around}
 use Rattle.pli_meaning.specs.Executing as M
 use Rattle.pli_coding.specs.Assembly.{LabelPlace, JumpTo}
+use Rattle.pli_coding.specs.Frames.{fixed_size, frame_end}
 use Rattle.pli_coding.specs.Allocating.{act_code}
 use Rattle.pli_coding.specs.Environments.{Owner, BlockOwner, UnitOwner, BlockPlace, Environment, block_around, last_of_level}
 use Rattle.pli_coding.specs.Statements.{goto_outer, goto_code, stmt_code}
@@ -21,7 +23,7 @@ use Rattle.pli_headline.proofs.Linking.{size_append}
 use Rattle.pli_headline.proofs.Jumps.{front_of, back_of, jump_piece}
 use Rattle.pli_headline.proofs.Temporaries.{stays_same}
 use Rattle.pli_headline.proofs.Acts.{acted, act_to}
-use Rattle.pli_headline.proofs.Statements.{owner_level, Block, counted_all, IsMarkedOnce, IsEndMarkedOnce, Does}
+use Rattle.pli_headline.proofs.Statements.{owner_level, IsOwned, Block, counted_all, IsMarkedOnce, IsEndMarkedOnce, Does}
 use Rattle.pli_headline.proofs.Ifs.{free_far}
 use Rattle.pli_headline.proofs.Reach.{Comes, before_closed, comes_on, onward}
 
@@ -30,21 +32,18 @@ owner_number (BlockOwner b) = b.number
 owner_number UnitOwner = 0
 
 -- the labels of the program's blocks: each that stands once among them is marked once, and each block is the one that a GOTO of its level
--- names; in the main procedure and its blocks that is what a RETURN ends, and its end is marked once too
+-- names; in the main procedure and its blocks that is what a RETURN ends, and its end is marked once too; the frames of blocks that
+-- declare nothing hold no more than is fixed
 pub record LabelsStand (e : Environment) (links : Links) (all : List (ℕ × Label)) (procedure : ℕ) (main : Bool) : Type 0 where
   pub own : block_around e e.level ≡ e.block
   pub found : (b : BlockPlace) → IsAmong b e.blocks → last_of_level b.number b.level 0 e.blocks ≡ b.number
   pub once : (block : ℕ) (label : Label) → times block label all ≡ 1 → IsMarkedOnce links block label
   pub owner : main ≡ true → e.owner ≡ BlockOwner (record { number = procedure; level = 0 })
   pub ended : main ≡ true → IsEndMarkedOnce links procedure
-  pub outermost : (number : ℕ) → procedure ≤ number → last_of_level number 0 0 e.blocks ≡ procedure
-  pub outer : (0 == e.level) ≡ true → procedure ≡ e.block
-  pub inside : main ≡ false → (0 == e.level) ≡ false
   pub lower : owner_level e.owner ≤ e.level
-
-pub own_number : {e : Environment} {links : Links} {all : List (ℕ × Label)} {procedure : ℕ} (main : Bool) → LabelsStand e links all procedure main → (number : ℕ) → e.owner ≡ BlockOwner (record { number = number; level = 0 }) → (0 == e.level) ≡ true → number ≡ e.block
-own_number true named number owned outermost = ap owner_number (sym owned ∙ named.owner refl) ∙ named.outer outermost
-own_number false named number owned outermost = let no : true ≡ false = sym outermost ∙ named.inside refl in absurd (cc no)
+  pub owned : IsOwned e.owner
+  pub shallow : e.level ≤ 100
+  pub bare : (number level : ℕ) → variables_of_block e.program number ≡ [] → frame_end e.parts e.program number level ≡ fixed_size level 0
 
 -- the act leaves no credits to count, so the label may stand anywhere
 own_goto_does : {e : Environment} {block : ℕ} {types : Types} (bl : Block e block types) (links : Links) (code : List Instr) (around : Around) (label : Label) (line : ℕ) → line < 2 ^ 31 → is_among label bl.labels ≡ true → IsMarkedOnce links e.block label → Does bl links code around.turns (act_code line ++ JumpTo (LabelPlace e.block label) ∷ []) (M.statement around (Y.Goto e.level label line))

@@ -1,16 +1,16 @@
 -- The frame of a block inside another: what stands in memory while it runs, above what stands for the block around it.
 use Rattle.std.proofs.Common.{◌≡◌, ℕ, suc, ◌+◌, ◌-◌, ◌*◌, ◌%◌, ◌^◌, ◌<◌, ◌≤◌, inl, inr, List, [], ◌∷◌, length, Some, Bool, true, false, refl, sym, ap, ◌∙◌, subst, arith}
-use Rattle.std.specs.Prelude.{ℤ, pos, cond, slice_get, ◌==◌}
-use Rattle.std.proofs.lemmas.Bool.{eqb-true}
+use Rattle.std.specs.Prelude.{ℤ, cond, slice_get, ◌==◌}
+use Rattle.std.proofs.lemmas.Bool.{eq-eqb, eqb-true}
 use Rattle.std.proofs.lemmas.Bool.Decides.{nat_tests}
 use Rattle.rv_meaning.specs.Words.{word}
 use Rattle.rv_meaning.specs.Memory.{load, store}
 use Rattle.rv_meaning.specs.Machine.{memory_size, store_width}
 use Rattle.rv_meaning.proofs.MemoryLaws.{load-store_same, load-store_other}
 use Rattle.pli_typing.specs.TypedTree as Y
-use Rattle.pli_coding.specs.Frames.{display, fixed_size, temporary_bytes}
+use Rattle.pli_coding.specs.Frames.{display, fixed_size, frame_end, temporary_bytes}
 use Rattle.pli_coding.specs.Environments.{Environment, none_taken, in_frame}
-use Rattle.pli_headline.specs.ProvedSoFar.{Types, alone}
+use Rattle.pli_headline.specs.ProvedSoFar.{Types, OuterBlock, alone}
 use Rattle.pli_headline.proofs.Engine.{Base}
 use Rattle.pli_headline.proofs.Numbers.{above_sum, above_small}
 use Rattle.pli_headline.proofs.Scalars.{Fits, store_kind, Values}
@@ -27,7 +27,10 @@ use Rattle.pli_serving.specs.Stored.{kept_bytes}
 use Rattle.pli_headline.proofs.WrittenBytes.{load-with_other}
 use Rattle.pli_headline.proofs.TextPlaces.{text_kind_of}
 use Rattle.pli_headline.proofs.TextsKept.{kept_length, text_kept_as}
-use Rattle.pli_headline.proofs.Statements.{Block, Enclosing}
+use Rattle.pli_serving.specs.ServiceState as S
+use Rattle.pli_headline.proofs.Entered.{atop}
+use Rattle.pli_headline.proofs.OuterBlocks.{risen_over}
+use Rattle.pli_headline.proofs.Statements.{Block, Enclosing, Enclosures}
 use Rattle.pli_headline.proofs.TextScopes.{IsTextAt}
 use Rattle.pli_typing.specs.Signatures.{Bounds, element_count}
 use Rattle.pli_headline.proofs.ArrayScopes.{with_element_of, ArrayOn}
@@ -36,12 +39,8 @@ use Rattle.pli_headline.proofs.ArrayScopes.{with_element_of, ArrayOn}
 abbrev pub inner_levels : {e : Environment} {block : ℕ} {types : Types} → Block e block types → ℕ → ℕ
 inner_levels {e} bl j = cond (j == e.level) bl.stack.frame (bl.levels j)
 
--- nothing but zeros
-abbrev zeros : Values
-zeros = record { numbers = λ j. pos 0; texts = λ j. []; arrays = λ j p. pos 0 }
-
 pub outermost_inner : {e : Environment} {block : ℕ} {types : Types} (bl : Block e block types) (q : Bool) → (0 == e.level) ≡ q → cond q bl.stack.frame (bl.levels 0) ≡ bl.base
-outermost_inner bl true known = sym (bl.stack.frame_is zeros) ∙ (bl.alone known).frame_is zeros
+outermost_inner bl true known = bl.alone known
 outermost_inner bl false known = bl.outermost_level known
 
 pub inner_level_room : {e : Environment} {block : ℕ} {types : Types} (bl : Block e block types) (q : Bool) (j : ℕ) → (j == e.level) ≡ q → bl.stack.free ≤ 14 * 2 ^ 20 → j < suc e.level → cond q bl.stack.frame (bl.levels j) < memory_size
@@ -189,18 +188,75 @@ inner_place g room high =
 pub other_level : (level outer : ℕ) → level ≡ suc outer → (0 == level) ≡ false
 other_level level outer e = grind (arith, nat_tests)
 
--- the main procedure around it
-abbrev pub inner_outside : {e : Environment} {block : ℕ} {types : Types} (bl : Block e block types) (inner : Inner bl) (t0 : ℕ → ℕ) (q : Bool) → (0 == e.level) ≡ q → Enclosing bl.base bl.size (inner_ground bl inner t0)
-inner_outside bl inner t0 true outermost =
-    let o = bl.alone outermost in
-    record { its = bl.ground; waits = t0; frame_is = o.frame_is; free_is = o.free_is; kept = λ n t b m x. x.kept }
-inner_outside bl inner t0 false inside =
-    let o = bl.outside inside in
-    record { its = o.its; waits = o.waits; frame_is = o.frame_is; free_is = o.free_is; kept = λ n t b m x. o.kept n t0 b m x.kept }
+-- ---- blocks around it
+
+pub lower_apart : (level outer : ℕ) → level < outer → (level == outer) ≡ false
+lower_apart level outer below = grind (arith, nat_tests)
+
+pub other_shown : (q : Bool) (x y frame : ℕ) → q ≡ false → y ≡ frame → cond q x y ≡ frame
+other_shown true x y frame other e = absurd (cc other)
+other_shown false x y frame other e = e
+
+-- the block in which it stands
+abbrev pub inner_own : {e : Environment} {block : ℕ} {types : Types} (bl : Block e block types) (inner : Inner bl) (t0 : ℕ → ℕ) (number level : ℕ) → level ≡ suc e.level → Enclosing (in_frame number level e) (record { level = e.level; number = e.block; labels = bl.labels }) (inner_ground bl inner t0) (inner_levels bl) (inner.at ∷ bl.frames.list) (level ∷ e.level ∷ bl.depths)
+inner_own {e} bl inner t0 number level next =
+    let above = inner_above inner.at bl.stack.free inner.words inner.place in
+    let over = bl.stack.above in
+    record {
+      its = bl.ground;
+      waits = t0;
+      frame = bl.stack.frame;
+      free = bl.stack.free;
+      frame_is = bl.stack.frame_is;
+      free_is = bl.stack.free_is;
+      above = bl.stack.above;
+      ends = bl.ends;
+      sized = bl.sized;
+      kept = λ n t b m o. o.kept;
+      own = bl.own;
+      deeper = omega (arith, next);
+      shown = ap (λ q. cond q bl.stack.frame (bl.levels e.level)) (eq-eqb e.level e.level refl);
+      count = 0;
+      behind = bl.lead;
+      depths = bl.depths;
+      rises = ((omega (arith, above, over), next), (bl.leads, refl));
+    }
+
+-- those around that one
+abbrev pub inner_outer : {e : Environment} {block : ℕ} {types : Types} (bl : Block e block types) (inner : Inner bl) (t0 : ℕ → ℕ) (number level : ℕ) → level ≡ suc e.level → (o : OuterBlock) → Enclosing e o bl.ground bl.levels bl.frames.list (e.level ∷ bl.depths) → Enclosing (in_frame number level e) o (inner_ground bl inner t0) (inner_levels bl) (inner.at ∷ bl.frames.list) (level ∷ e.level ∷ bl.depths)
+inner_outer {e} bl inner t0 number level next o c =
+    let above = inner_above inner.at bl.stack.free inner.words inner.place in
+    let below = c.deeper in
+    let over = bl.stack.above in
+    let high = risen_over c.count c.frame o.level bl.frames.list (e.level ∷ bl.depths) c.behind c.depths bl.stack.frame bl.lead bl.leads c.rises in
+    record {
+      its = c.its;
+      waits = c.waits;
+      frame = c.frame;
+      free = c.free;
+      frame_is = c.frame_is;
+      free_is = c.free_is;
+      above = c.above;
+      ends = c.ends;
+      sized = c.sized;
+      kept = λ n t b m x. c.kept n t0 b m x.kept;
+      own = c.own;
+      deeper = omega (arith, next, below);
+      shown = other_shown (o.level == e.level) bl.stack.frame (bl.levels o.level) c.frame (lower_apart o.level e.level below) c.shown;
+      count = suc c.count;
+      behind = c.behind;
+      depths = c.depths;
+      rises = ((omega (arith, above, over, high), next), c.rises);
+    }
+
+abbrev pub inner_outers : {e : Environment} {block : ℕ} {types : Types} (bl : Block e block types) (inner : Inner bl) (t0 : ℕ → ℕ) (number level : ℕ) → level ≡ suc e.level → (os : List OuterBlock) → Enclosures e bl.ground bl.levels bl.frames.list (e.level ∷ bl.depths) os → Enclosures (in_frame number level e) (inner_ground bl inner t0) (inner_levels bl) (inner.at ∷ bl.frames.list) (level ∷ e.level ∷ bl.depths) os
+inner_outers bl inner t0 number level next [] cs = tt
+inner_outers bl inner t0 number level next (o ∷ os) cs =
+    (inner_outer bl inner t0 number level next o cs.0, inner_outers bl inner t0 number level next os cs.1)
 
 -- the block inside, in a frame of the next level
-abbrev pub inner_block : {e : Environment} {block : ℕ} {types : Types} (bl : Block e block types) (inner : Inner bl) (t0 : ℕ → ℕ) (number level : ℕ) → level ≡ suc e.level → Block (in_frame number level e) block types
-inner_block {e} bl inner t0 number level next =
+abbrev pub inner_block : {e : Environment} {block : ℕ} {types : Types} (bl : Block e block types) (inner : Inner bl) (t0 : ℕ → ℕ) (number level : ℕ) → level ≡ suc e.level → frame_end e.parts e.program number level ≡ fixed_size (suc e.level) 0 → Block (in_frame number level e) block types
+inner_block {e} bl inner t0 number level next size =
     let above = inner_above inner.at bl.stack.free inner.words inner.place in
     let high = bl.stack.high in
     let over = bl.stack.over in
@@ -220,24 +276,23 @@ inner_block {e} bl inner t0 number level next =
       reads = λ n j below fits t b m o. bl.reads n j below fits t0 b m o.kept;
       writes = λ n j z below old fits t b m len o. inner_writes bl inner t0 n j z below old fits t b m len o;
       held = refl;
-      frames = inner.at ∷ bl.frames;
+      frames = atop inner.at S.BeginBlock bl.frames;
       bottom = record {
         holds = bl.bottom.holds;
         aligned = bl.bottom.aligned;
         room = bl.bottom.room;
         own = bl.bottom.own;
         kept = λ n t b m o. bl.bottom.kept n t0 b m o.kept;
-        rest = rest_more bl.base inner.at bl.frames (omega (arith, over, above)) bl.bottom.rest;
+        rest = rest_more bl.base inner.at bl.frames.list (omega (arith, over, above)) bl.bottom.rest;
       };
-      size = bl.size;
-      ends = bl.ends;
-      sized = bl.sized;
       depths = e.level ∷ bl.depths;
       shallow = λ same. let no : true ≡ false = sym same ∙ other_level level e.level next in absurd (cc no);
-      deep = λ inside. omega arith;
-      outer = cond (0 == e.level) bl.labels bl.outer;
       alone = λ same. let no : true ≡ false = sym same ∙ other_level level e.level next in absurd (cc no);
-      outside = λ inside. inner_outside bl inner t0 (0 == e.level) refl;
+      lead = bl.frames.list;
+      leads = refl;
+      ends = let room = inner.room in omega (arith, room);
+      sized = λ owned. ap (λ u. inner.at + u) size;
+      own = λ n t b m o. o.own;
       stack = record {
         frame = inner.at;
         free = inner.at + fixed_size (suc e.level) 0;
@@ -271,4 +326,6 @@ inner_block {e} bl inner t0 number level next =
         writes = λ n j varying most text at t b m len o. inner_text_writes bl inner t0 n j varying most text at t b m len o;
       };
       arrays = λ j type b bs at. inner_array bl inner t0 number level (inner.at + fixed_size (suc e.level) 0) (omega arith) (bl.arrays j type b bs at);
+      outer = record { level = e.level; number = e.block; labels = bl.labels } ∷ bl.outer;
+      enclosing = (inner_own bl inner t0 number level next, inner_outers bl inner t0 number level next bl.outer bl.enclosing);
     }

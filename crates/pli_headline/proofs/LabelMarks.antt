@@ -1,16 +1,15 @@
 -- The labels of the main procedure: each that stands once among them is marked once in the program's code.
-use Rattle.std.proofs.Common.{◌≡◌, ℕ, suc, ◌+◌, List, [], ◌∷◌, ◌++◌, Option, None, Some, true, false, inl, inr, ◌≤◌, refl, sym, ap, ◌∙◌, subst, arith}
+use Rattle.std.proofs.Common.{◌≡◌, ℕ, suc, ◌+◌, List, [], ◌∷◌, ◌++◌, length, Option, None, Some, Bool, true, false, inl, inr, refl, sym, ap, ◌∙◌, subst, arith}
 use Rattle.std.specs.Prelude.{ℤ, pos, cond, ◌==◌, if◌then◌else◌}
 use Rattle.std.proofs.lemmas.Bool.{eq-eqb}
 use Rattle.rv_meaning.specs.declared.instr.Register.{Register}
 use Rattle.pli_typing.specs.TypedTree as Y
 use Rattle.pli_meaning.specs.Control.{Label}
-use Rattle.pli_meaning.specs.Executing.{labels_in}
-use Rattle.pli_meaning.specs.DeclaredShapes.{variables_of_block}
+use Rattle.pli_meaning.specs.DeclaredShapes.{variables_of_block, procedure_numbered, head_of}
 use Rattle.pli_coding.specs.Registers.{frame_register, stack_register, a0, a1, a2, a3, a4, u0, u5}
 use Rattle.pli_coding.specs.Assembly.{Datum, Symbol, ProcedureEntry, ReturnPlace, LabelPlace, RaiseCondition, RaiseError, ErrorEnd}
 use Rattle.pli_coding.specs.Instructions.{move, small, number, plus, load_word, service}
-use Rattle.pli_coding.specs.Frames.{own_offset, temporary_bytes, name_bytes, frame_bytes, automatic_place}
+use Rattle.pli_coding.specs.Frames.{own_offset, temporary_bytes, name_bytes, frame_bytes, automatic_place, variable_place, parameters_in, first_variable, fixed_size, frame_end}
 use Rattle.pli_coding.specs.Environments.{BlockPlace, Environment, none_taken, last_of_level}
 use Rattle.pli_coding.specs.Locating.{own_place, table_number}
 use Rattle.pli_coding.specs.StaticForms.{initial_datum}
@@ -19,10 +18,10 @@ use Rattle.pli_coding.specs.Allocating.{act_code}
 use Rattle.pli_coding.specs.Entries.{frame_begun, block_entered, constant_made, variables_made, variables_code, adjustable_made}
 use Rattle.pli_coding.specs.Statements.{stmts_code, stmts_words, block_words}
 use Rattle.pli_coding.specs.Procedures.{procedure_begun, procedure_ended, procedure_in}
-use Rattle.pli_coding.specs.Images.{blocks_among, blocks_of_procedure, with_block, with_blocks, blocks_of, environment_of, raise_code, code_of}
+use Rattle.pli_coding.specs.Images.{blocks_among, blocks_of_procedure, with_blocks, blocks_of, environment_of, raise_code, code_of}
 use Rattle.pli_coding.specs.Linking.{links_of}
 use Rattle.pli_headline.specs.Headline.{parts}
-use Rattle.pli_headline.specs.ProvedSoFar.{plain_variable, ArePlain, AllPlain, types_of, AreProvedStatements, AreBare, all_labels, array_variable, Types, AllJumpAround, number_times, AreInner, procedure_labels}
+use Rattle.pli_headline.specs.ProvedSoFar.{plain_variable, ArePlain, AllPlain, types_of, AreProvedStatements, AreBare, all_labels, array_variable, number_times, AreInner, procedure_labels}
 use Rattle.pli_headline.proofs.Linking.{times_marked}
 use Rattle.pli_headline.proofs.FirstFrame.{start_of}
 use Rattle.pli_headline.proofs.Marks.{others_code, code_is}
@@ -33,7 +32,6 @@ use Rattle.pli_headline.proofs.Gotos.{LabelsStand}
 use Rattle.pli_headline.proofs.ProgramSizes.{frame_filled}
 use Rattle.pli_headline.proofs.SymbolsMarked.{symbols_marked, Marks, both_mark, behind, constant_none, load_none, plus_none, act_none}
 use Rattle.pli_headline.proofs.InnerLevels.{IsAmong, InOrder, among_all, among_with, in_order, last_is}
-use Rattle.pli_headline.proofs.OutermostBlock.{lower_with, all_lower, all_deeper, others_lower, first_of_level}
 use Rattle.pli_headline.proofs.StatementMarks.{places_of, statements_mark}
 use Rattle.pli_headline.proofs.ArrayElements.{size_constant}
 use Rattle.pli_headline.proofs.ProcedurePlaces.{entry_behind, entry_times, ends_behind, ends_times}
@@ -147,21 +145,37 @@ own_block : (program : Y.Program) (block line : ℕ) (body : Y.Stmts) → IsAlon
 own_block program block line body alone =
     blocks_found program (main_place block) (main_among program block line body alone (main_place block) (inl refl))
 
--- a block of level 0 is the procedure
-outermost_found : (program : Y.Program) (block line : ℕ) (body : Y.Stmts) (types : Types) (all : List (ℕ × Label)) (procedure : ℕ) (outer around : List Label) (every : List (ℕ × Label)) (called : List ℕ) (alone : IsAlone program block line body) → AreProvedStatements block types body → AllJumpAround block 0 all procedure outer around body → AreInner program block every called alone.others → (number : ℕ) → block ≤ number → last_of_level number 0 0 (blocks_of program.procedures) ≡ block
-outermost_found program block line body types all procedure outer around every called alone are jumps inner number above =
-    let others = blocks_of alone.others in
-    let front = with_block (main_place block) others in
-    subst (λ bs. last_of_level number 0 0 bs ≡ block) (sym (blocks_are program block line body alone))
-    (first_of_level block number 0 (with_blocks (blocks_among body) front) above
-    (all_lower block (blocks_among body) front (all_deeper all procedure block types block 0 outer around body are jumps)
-    (lower_with block (main_place block) others (inr refl) (others_lower program block every called alone.others inner)))
-    (inr (among_with (main_place block) (main_place block ∷ blocks_among body) others (inl refl))))
+-- ---- the frames of blocks that declare nothing
+
+-- no procedure has parameters
+abbrev NoParameters : List Y.Procedure → Type 0
+NoParameters [] = Unit {0}
+NoParameters (p ∷ ps) = (p.parameters ≡ []) × NoParameters ps
+
+found_by : (q : Bool) (p : Y.Procedure) (o : Option Y.Procedure) → p.parameters ≡ [] → parameters_in o ≡ [] → parameters_in (cond q (Some p) o) ≡ []
+found_by true p o none rest = none
+found_by false p o none rest = rest
+
+none_found : (number : ℕ) (ps : List Y.Procedure) → NoParameters ps → parameters_in (procedure_numbered number ps) ≡ []
+none_found number [] none = refl
+none_found number (p ∷ ps) none =
+    found_by ((head_of p.block).number == number) p (procedure_numbered number ps) none.0 (none_found number ps none.1)
+
+others_none : (program : Y.Program) (block : ℕ) (all : List (ℕ × Label)) (called : List ℕ) (ps : List Y.Procedure) → AreInner program block all called ps → NoParameters ps
+others_none program block all called [] inner = tt
+others_none program block all called (p ∷ ps) inner =
+    (ap (λ (q : Y.Procedure). q.parameters) inner.0.is, others_none program block all called ps inner.1)
+
+bare_sized : (program : Y.Program) (block line : ℕ) (body : Y.Stmts) (all : List (ℕ × Label)) (called : List ℕ) (alone : IsAlone program block line body) → AreInner program block all called alone.others → (number level : ℕ) → variables_of_block program number ≡ [] → frame_end parts program number level ≡ fixed_size level 0
+bare_sized program block line body all called alone inner number level none =
+    ap (λ (ds : List Y.DeclaredVariable). variable_place parts (first_variable program number level) ds (length ds)) none
+    ∙ ap (λ (ns : List ℕ). fixed_size level (length ns))
+    (none_found number program.procedures (subst NoParameters (sym alone.are) (refl, others_none program block all called alone.others inner)))
 
 -- ---- the labels
 
-pub labels_stand : (program : Y.Program) (block line : ℕ) (body : Y.Stmts) (called : List ℕ) → AllPlain program.variables → (alone : IsAlone program block line body) → AreProvedStatements block (types_of (variables_of_block program block)) body → AreBare program body → AllJumpAround block 0 (all_labels block body ++ procedure_labels alone.others) block [] (labels_in body) body → AreInner program block (all_labels block body ++ procedure_labels alone.others) called alone.others → LabelsStand (main_environment program block) (links_of (code_of parts program)) (all_labels block body ++ procedure_labels alone.others) block true
-labels_stand program block line body called plain alone are bare jumps inner =
+pub labels_stand : (program : Y.Program) (block line : ℕ) (body : Y.Stmts) (called : List ℕ) → AllPlain program.variables → (alone : IsAlone program block line body) → AreProvedStatements block (types_of (variables_of_block program block)) body → AreBare program body → AreInner program block (all_labels block body ++ procedure_labels alone.others) called alone.others → LabelsStand (main_environment program block) (links_of (code_of parts program)) (all_labels block body ++ procedure_labels alone.others) block true
+labels_stand program block line body called plain alone are bare inner =
     record {
       own = own_block program block line body alone;
       found = blocks_found program;
@@ -175,10 +189,10 @@ labels_stand program block line body called plain alone are bare jumps inner =
           times_are (ReturnPlace block) 0 (code_of parts program)
           ∙ ap (symbol_times (ReturnPlace block)) (program_marks program block line body plain _ _ alone are bare inner)
           ∙ end_times block (all_labels block body) (procedure_symbols alone.others) (eq-eqb block block refl) (others_end program block _ _ alone.others inner);
-      outermost = λ number above. outermost_found program block line body _ _ _ _ _ _ _ alone are jumps inner number above;
-      outer = λ q. refl;
       lower = omega arith;
-      inside = λ no. let apart : true ≡ false = no in absurd (cc apart);
+      owned = tt;
+      shallow = omega arith;
+      bare = λ number level none. bare_sized program block line body _ called alone inner number level none;
     }
 
 -- the entry of a procedure inside it is marked once

@@ -14,6 +14,8 @@ pub mod Temporaries
 pub mod Reaching
 pub mod SavedRegisters
 pub mod Activations
+pub mod OuterBlocks
+pub mod Entered
 pub mod Calls
 pub mod Raising
 pub mod WordProducts
@@ -121,7 +123,7 @@ pub mod Gotos
 pub mod Returns
 pub mod EndedBlocks
 pub mod JumpsOut
-pub mod OutermostBlock
+pub mod HomeReturns
 pub mod Groups
 pub mod Loops
 pub mod Stops
@@ -135,10 +137,18 @@ pub mod GetTexts
 pub mod GetTargets
 pub mod Getting
 pub mod Signals
+pub mod UnitMeant
+pub mod UnitRaised
+pub mod UnitEntered
+pub mod UnitLeft
+pub mod UnitRuns
+pub mod OnUnits
+pub mod UnitStanding
 pub mod SystemUnits
 pub mod Onces
 pub mod Begins
 pub mod ProvedStatements
+pub mod InnerUnits
 pub mod Finishing
 pub mod Statics
 pub mod InitialRead

@@ -8,7 +8,7 @@ use Rattle.pli_typing.specs.TypedTree as Y
 use Rattle.pli_meaning.specs.BasicValues.{BasicText}
 use Rattle.pli_serving.specs.Bytes.{with_bytes}
 use Rattle.pli_serving.specs.Stored.{kept_bytes}
-use Rattle.pli_coding.specs.Environments.{Environment, none_taken, BlockOwner}
+use Rattle.pli_coding.specs.Environments.{Environment, none_taken}
 use Rattle.pli_headline.specs.ProvedSoFar.{Types, text_leaf, IsScalar, alone, IsHeld, AreBounds, Kind}
 use Rattle.pli_headline.proofs.Scalars.{Values, load_kind, store_kind, kind_at, kind_is, place_below}
 use Rattle.pli_headline.proofs.VariablePlaces.{frame_size, room_of, number_place, room_before, room_next, room_even, data_fits}
@@ -22,6 +22,7 @@ use Rattle.pli_headline.proofs.MainGround.{Frame, Stands, ground_of, main_tempor
 use Rattle.pli_headline.proofs.MainTexts.{text_writes}
 use Rattle.pli_headline.proofs.TextScopes.{IsTextAt}
 use Rattle.pli_headline.proofs.TextGrounds.{TextsStand}
+use Rattle.pli_headline.proofs.Entered.{lone}
 use Rattle.pli_headline.proofs.Statements.{Stack, Block}
 use Rattle.pli_typing.specs.Signatures.{Bounds, element_count}
 use Rattle.pli_headline.proofs.ArrayScopes.{IsArrayAt, ArraysOn}
@@ -102,9 +103,6 @@ main_stack f first e block types inside placed =
       under = λ j {type} below. let h = inside j (alone type) below in let e' = placed j h in let r = room_before f.sizes j f.count h in omega (arith, e', r);
     }
 
-pub outermost_is : (level : ℕ) → level ≡ 0 → (0 == level) ≡ false → ⊥
-outermost_is level e q = let no : true ≡ false = ap (λ u. 0 == u) (sym e) ∙ q in cc no
-
 abbrev main_arrays : (f : Frame) (first : List ℕ) (e : Environment) (block : ℕ) (types : Types) → ((j : ℕ) (kind : Kind) → slice_get types j ≡ Some kind → j < f.count) → HasTypes e block types → ((j : ℕ) → j < f.count → data_place e block j ≡ number_place f.sizes j) → VariablesFit f types → ArraysOn e block types f.at (f.at + 144 + room_of f.sizes f.count) (λ n. ground_of f first (contents (kind_at types) n))
 main_arrays f first e block types inside declared placed fit j type b bs at =
     let kind : Kind = record { type = type; bounds = b ∷ bs } in
@@ -114,8 +112,8 @@ main_arrays f first e block types inside declared placed fit j type b bs at =
     (declared j kind at) (fit.bounds j type b bs at) (placed j here)
 
 -- the main procedure's block, where its variables stand one behind the other
-unfoldable pub main_block : (f : Frame) (first : List ℕ) (e : Environment) (block : ℕ) (types : Types) → e.level ≡ 0 → f.count ≡ length types → HasTypes e block types → ((j : ℕ) → j < f.count → data_place e block j ≡ number_place f.sizes j) → ((number : ℕ) → e.owner ≡ BlockOwner (record { number = number; level = 0 }) → frame_end e.parts e.program number 0 ≡ 144 + room_of f.sizes f.count) → VariablesFit f types → Block e block types
-main_block f first e block types outermost count declared placed sized texts =
+unfoldable pub main_block : (f : Frame) (first : List ℕ) (e : Environment) (block : ℕ) (types : Types) (known : ℕ → Y.Block → ℕ → Type 0) → e.level ≡ 0 → f.count ≡ length types → HasTypes e block types → ((j : ℕ) → j < f.count → data_place e block j ≡ number_place f.sizes j) → frame_end e.parts e.program e.block 0 ≡ 144 + room_of f.sizes f.count → VariablesFit f types → Block e block types
+main_block f first e block types known outermost count declared placed sized texts =
     let inside : (j : ℕ) (kind : Kind) → slice_get types j ≡ Some kind → j < f.count = λ j kind h. let n = place_below types j kind h in omega (arith, n, count) in
     record {
       ground = λ n. ground_of f first (contents (kind_at types) n);
@@ -136,7 +134,7 @@ main_block f first e block types outermost count declared placed sized texts =
           let here = inside j (alone type) below in
           subst T (sym (placed j here)) (main_writes f first (kind_at types) n j type z here (kind_is types j below) old fits t b m len o);
       held = refl;
-      frames = f.at ∷ [];
+      frames = lone f.at known;
       bottom = record {
         holds = lowest_holds f;
         aligned = f.whole;
@@ -145,20 +143,21 @@ main_block f first e block types outermost count declared placed sized texts =
         kept = λ n t b m o. (o.resumes, o.own);
         rest = refl;
       };
-      size = 144 + room_of f.sizes f.count;
-      ends = let i = f.inside in omega (arith, i);
-      sized = sized;
       depths = [];
       shallow = λ q. refl;
-      deep = λ q. absurd (outermost_is e.level outermost q);
-      outer = [];
-      alone = λ q. record { frames_are = refl; frame_is = λ n. refl; free_is = λ n. omega arith };
-      outside = λ q. absurd (outermost_is e.level outermost q);
       stack = main_stack f first e block types inside placed;
+      alone = λ q. refl;
+      lead = [];
+      leads = refl;
+      ends = let i = f.inside in omega (arith, i);
+      sized = λ owned. subst (λ l. f.at + frame_end e.parts e.program e.block l ≡ f.at + 144 + room_of f.sizes f.count) (sym outermost) (omega (arith, sized));
+      own = λ n t b m o. o.own;
       levels = λ j. f.at;
       level_room = λ j below. absurd (omega (arith, outermost, below));
       outermost_level = λ q. refl;
       displays = λ n t b m j below o. absurd (omega (arith, outermost, below));
       texts = main_texts f first e block types inside placed texts;
       arrays = main_arrays f first e block types inside declared placed texts;
+      outer = [];
+      enclosing = tt;
     }

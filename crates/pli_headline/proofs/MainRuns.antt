@@ -20,8 +20,7 @@ use Rattle.pli_serving.specs.ServiceState.{Services, first_services}
 use Rattle.pli_coding.specs.Assembly.{ProcedureEntry, ReturnPlace, Mark, size_of}
 use Rattle.pli_coding.specs.SignatureTable.{table_of}
 use Rattle.pli_coding.specs.Frames.{frame_end}
-use Rattle.pli_headline.specs.Headline.{parts}
-use Rattle.pli_coding.specs.Environments.{BlockOwner, none_taken}
+use Rattle.pli_coding.specs.Environments.{none_taken}
 use Rattle.pli_coding.specs.Allocating.{act_code}
 use Rattle.pli_coding.specs.Entries.{frame_begun, variables_code}
 use Rattle.pli_coding.specs.Statements.{stmts_code}
@@ -37,6 +36,7 @@ use Rattle.pli_headline.proofs.Temporaries.{nothing}
 use Rattle.pli_headline.proofs.Activations.{only_activation, entered_length}
 use Rattle.pli_headline.proofs.Calls.{Serving}
 use Rattle.pli_headline.proofs.Acts.{act_piece}
+use Rattle.pli_headline.proofs.Entered.{lone}
 use Rattle.pli_headline.proofs.Statements.{Block, AllHold, IsEndMarkedOnce, Does, counted_all}
 use Rattle.pli_headline.proofs.Variables.{data_place}
 use Rattle.pli_headline.proofs.Gotos.{owner_number}
@@ -112,10 +112,9 @@ main_data program block line body j all alone below few =
     omega (arith, e)
 
 -- where its frame ends
-pub main_sized : (program : Y.Program) (block line : ℕ) (body : Y.Stmts) → AllPlain program.variables → IsAlone program block line body → main_room program block ≤ 2 ^ 20 → (number : ℕ) → (main_environment program block).owner ≡ BlockOwner (record { number = number; level = 0 }) → frame_end (main_environment program block).parts (main_environment program block).program number 0 ≡ 144 + main_room program block
-main_sized program block line body all alone few number owned =
-    subst (λ u. frame_end parts program u 0 ≡ 144 + main_room program block) (ap owner_number owned)
-    (main_place program block line body (main_count program block) all alone (omega arith) few)
+pub main_sized : (program : Y.Program) (block line : ℕ) (body : Y.Stmts) → AllPlain program.variables → IsAlone program block line body → main_room program block ≤ 2 ^ 20 → frame_end (main_environment program block).parts (main_environment program block).program block 0 ≡ 144 + main_room program block
+main_sized program block line body all alone few =
+    main_place program block line body (main_count program block) all alone (omega arith) few
 
 -- its texts and arrays have room
 pub main_fit : (program : Y.Program) (block : ℕ) (body : Y.Stmts) (all : AllPlain program.variables) (small' : main_words program block body ≤ most_code) (few : main_room program block ≤ 2 ^ 20) → VariablesFit (main_frame (main_words program block body) (main_sizes program block) (main_count program block) small' few) (main_types program block)
@@ -123,17 +122,17 @@ main_fit program block body all small' few =
     types_fit (main_frame (main_words program block body) (main_sizes program block) (main_count program block) small' few) (main_types program block) (λ j. refl) few
     (λ j kind at. kind_held (variables_of_block program block) j kind (main_plain program block all) at)
 
-abbrev pub block_of : (program : Y.Program) (block line : ℕ) (body : Y.Stmts) (first : List ℕ) (all : AllPlain program.variables) (alone : IsAlone program block line body) (small' : main_words program block body ≤ most_code) (few : main_room program block ≤ 2 ^ 20) → Block (main_environment program block) block (main_types program block)
-block_of program block line body first all alone small' few =
-    main_block (main_frame (main_words program block body) (main_sizes program block) (main_count program block) small' few) first (main_environment program block) block (main_types program block) refl (sym (length_types (variables_of_block program block)))
+abbrev pub block_of : (known : ℕ → Y.Block → ℕ → Type 0) (program : Y.Program) (block line : ℕ) (body : Y.Stmts) (first : List ℕ) (all : AllPlain program.variables) (alone : IsAlone program block line body) (small' : main_words program block body ≤ most_code) (few : main_room program block ≤ 2 ^ 20) → Block (main_environment program block) block (main_types program block)
+block_of known program block line body first all alone small' few =
+    main_block (main_frame (main_words program block body) (main_sizes program block) (main_count program block) small' few) first (main_environment program block) block (main_types program block) known refl (sym (length_types (variables_of_block program block)))
     (λ j kind at. declared_at (variables_of_block program block) j (main_plain program block all) at)
     (λ j below. main_data program block line body j all alone below few)
     (main_sized program block line body all alone few) (main_fit program block body all small' few)
 
 -- what its statements have to do
-abbrev pub BodyDoes : (program : Y.Program) (block line : ℕ) (body : Y.Stmts) (first : List ℕ) (all : AllPlain program.variables) (alone : IsAlone program block line body) (small' : main_words program block body ≤ most_code) → Links → List Instr → (k : ℕ) → Type 1
-BodyDoes program block line body first all alone small' links code k =
-    (few : main_room program block ≤ 2 ^ 20) → Does (block_of program block line body first all alone small' few) links code (suc k) (stmts_code (main_environment program block) none_taken body) (M.list (main_around program k line) body)
+abbrev pub BodyDoes : (known : ℕ → Y.Block → ℕ → Type 0) (program : Y.Program) (block line : ℕ) (body : Y.Stmts) (first : List ℕ) (all : AllPlain program.variables) (alone : IsAlone program block line body) (small' : main_words program block body ≤ most_code) → Links → List Instr → (k : ℕ) → Type 1
+BodyDoes known program block line body first all alone small' links code k =
+    (few : main_room program block ≤ 2 ^ 20) → Does (block_of known program block line body first all alone small' few) links code (suc k) (stmts_code (main_environment program block) none_taken body) (M.list (main_around program k line) body)
 
 -- ---- from the statements to the end of the run
 
@@ -145,9 +144,9 @@ to_finish_closed : (code : List Instr) (k : ℕ) → Closed code (to_finish code
 to_finish_closed code k =
     before_closed k (λ (u : Option BasicValue). finish {R = Unit {0}} E.Finished) (never_closed code)
 
-statements_piece : {links : Links} {code : List Instr} {i : ℕ} {h t : ℕ → ℕ} (program : Y.Program) (block line : ℕ) (body : Y.Stmts) (first : List ℕ) (all : AllPlain program.variables) (alone : IsAlone program block line body) (small' : main_words program block body ≤ most_code) (few : main_room program block ≤ 2 ^ 20) (k : ℕ) → BodyDoes program block line body first all alone small' links code k → 10 ≤ i → Linked links code i (stmts_code (main_environment program block) none_taken body ++ procedure_ended (main_environment program block) (main_head block line) (main_words program block body) None) → Linked links code start_resume finish_code → (s : State) → {v : Services} → (g : Family) → Serving k s v line → AllHold ((main_frame (main_words program block body) (main_sizes program block) (main_count program block) small' few).at ∷ []) v.activations (0 ∷ []) s block (main_types program block) (begin_values (main_kind program block)) → ((b : Base) → At b i (Known (ground_of (main_frame (main_words program block body) (main_sizes program block) (main_count program block) small' few) first (begin_contents (main_kind program block))) v h t nothing b) (g b)) → Comes code i g v (inside (to_finish code k) newest_ended) ((M.list (main_around program k line) body >> M.end_reached (main_around program k line) false) k s)
+statements_piece : {links : Links} {code : List Instr} {i : ℕ} {h t : ℕ → ℕ} (known : ℕ → Y.Block → ℕ → Type 0) (program : Y.Program) (block line : ℕ) (body : Y.Stmts) (first : List ℕ) (all : AllPlain program.variables) (alone : IsAlone program block line body) (small' : main_words program block body ≤ most_code) (few : main_room program block ≤ 2 ^ 20) (k : ℕ) → BodyDoes known program block line body first all alone small' links code k → 10 ≤ i → Linked links code i (stmts_code (main_environment program block) none_taken body ++ procedure_ended (main_environment program block) (main_head block line) (main_words program block body) None) → Linked links code start_resume finish_code → (s : State) → {v : Services} → (g : Family) → Serving k s v line → AllHold (lone (main_frame (main_words program block body) (main_sizes program block) (main_count program block) small' few).at known) v.activations (0 ∷ []) s block (main_types program block) (begin_values (main_kind program block)) → ((b : Base) → At b i (Known (ground_of (main_frame (main_words program block body) (main_sizes program block) (main_count program block) small' few) first (begin_contents (main_kind program block))) v h t nothing b) (g b)) → Comes code i g v (inside (to_finish code k) newest_ended) ((M.list (main_around program k line) body >> M.end_reached (main_around program k line) false) k s)
 unfolding main_block M.end_reached give ◌>>◌
-statements_piece {links = links} {code = code} {i = i} {h = h} {t = t} program block line body first all alone small' few k does' later l finish' s g serving holds at =
+statements_piece {links = links} {code = code} {i = i} {h = h} {t = t} known program block line body first all alone small' few k does' later l finish' s g serving holds at =
     let e = main_environment program block in
     let st = stmts_code e none_taken body in
     let en = procedure_ended e (main_head block line) (main_words program block body) None in
@@ -169,7 +168,8 @@ statements_piece {links = links} {code = code} {i = i} {h = h} {t = t} program b
       enough = omega arith;
       later = omega (arith, later);
       jumps = λ label among once. let none : false ≡ true = among in absurd (cc none);
-      outs = λ inside number owned label among once. let no : true ≡ false = inside in absurd (cc no);
+      outs = tt;
+      homes = tt;
       own = λ deep owned once. let no : true ≡ false = deep in absurd (cc no);
       returns = λ number owned once.
           let ended = back_of st en l in
@@ -237,33 +237,35 @@ main_arrays_hold links code first program block input all ready j type b bs at =
     let begins = subst (λ (k : Kind). IsBegun k.type k.bounds (kind j).initial) same (ready j inside).begins in
     arrays_hold kind input block (main_count program block) j type (b ∷ bs) inside same held.0 begins
 
-main_hold : (links : Links) (code : List Instr) (first : List ℕ) (program : Y.Program) (block : ℕ) (input : List ℕ) (frame at line : ℕ) → at ≡ frame → AllPlain program.variables → AllReady links code first program block → AllHold (frame ∷ []) (main_services (table_of program) (main_kind program block) input at line (main_count program block)).activations (0 ∷ []) (main_state (main_kind program block) input (main_count program block)) block (main_types program block) (begin_values (main_kind program block))
-main_hold links code first program block input frame at line same all ready =
+main_hold : (known : ℕ → Y.Block → ℕ → Type 0) (links : Links) (code : List Instr) (first : List ℕ) (program : Y.Program) (block : ℕ) (input : List ℕ) (frame at line : ℕ) → at ≡ frame → AllPlain program.variables → AllReady links code first program block → AllHold (lone frame known) (main_services (table_of program) (main_kind program block) input at line (main_count program block)).activations (0 ∷ []) (main_state (main_kind program block) input (main_count program block)) block (main_types program block) (begin_values (main_kind program block))
+main_hold known links code first program block input frame at line same all ready =
     record {
       numbers = λ j b numeric. main_holds links code first program block input all ready j b numeric;
       texts = λ j varying most at. main_texts_hold links code first program block input all ready j varying most at;
       arrays = λ j type b bs at. main_arrays_hold links code first program block input all ready j type b bs at;
       entered = refl;
       framed = ap (λ u. u ∷ []) same;
+      kinds = refl;
+      units = (tt, tt);
       owned = λ height above. scalars_owned (main_kind program block) (main_count program block) height above;
     }
 
 -- behind the variables: the act of the entry, and the statements
-body_piece : {links : Links} {code : List Instr} {i : ℕ} {h t : ℕ → ℕ} (program : Y.Program) (block line : ℕ) (body : Y.Stmts) (first input : List ℕ) (all : AllPlain program.variables) (alone : IsAlone program block line body) (small' : main_words program block body ≤ most_code) (few : main_room program block ≤ 2 ^ 20) (k : ℕ) → AllReady links code first program block → line < 2 ^ 31 → k + 1 < 2 ^ 64 → BodyDoes program block line body first all alone small' links code k → 10 ≤ i → Linked links code i (act_code line) → Linked links code (i + size_of (act_code line)) (stmts_code (main_environment program block) none_taken body ++ procedure_ended (main_environment program block) (main_head block line) (main_words program block body) None) → Linked links code start_resume finish_code → (at : ℕ) → at ≡ (main_frame (main_words program block body) (main_sizes program block) (main_count program block) small' few).at → (g : Family) → ((b : Base) → At b i (Known (ground_of (main_frame (main_words program block body) (main_sizes program block) (main_count program block) small' few) first (begin_contents (main_kind program block))) (main_services (table_of program) (main_kind program block) input at line (main_count program block)) h t nothing b) (g b)) → Comes code i g (main_services (table_of program) (main_kind program block) input at line (main_count program block)) (inside (to_finish code k) newest_ended) (main_body program k line body k (main_state (main_kind program block) input (main_count program block)))
+body_piece : {links : Links} {code : List Instr} {i : ℕ} {h t : ℕ → ℕ} (known : ℕ → Y.Block → ℕ → Type 0) (program : Y.Program) (block line : ℕ) (body : Y.Stmts) (first input : List ℕ) (all : AllPlain program.variables) (alone : IsAlone program block line body) (small' : main_words program block body ≤ most_code) (few : main_room program block ≤ 2 ^ 20) (k : ℕ) → AllReady links code first program block → line < 2 ^ 31 → k + 1 < 2 ^ 64 → BodyDoes known program block line body first all alone small' links code k → 10 ≤ i → Linked links code i (act_code line) → Linked links code (i + size_of (act_code line)) (stmts_code (main_environment program block) none_taken body ++ procedure_ended (main_environment program block) (main_head block line) (main_words program block body) None) → Linked links code start_resume finish_code → (at : ℕ) → at ≡ (main_frame (main_words program block body) (main_sizes program block) (main_count program block) small' few).at → (g : Family) → ((b : Base) → At b i (Known (ground_of (main_frame (main_words program block body) (main_sizes program block) (main_count program block) small' few) first (begin_contents (main_kind program block))) (main_services (table_of program) (main_kind program block) input at line (main_count program block)) h t nothing b) (g b)) → Comes code i g (main_services (table_of program) (main_kind program block) input at line (main_count program block)) (inside (to_finish code k) newest_ended) (main_body program k line body k (main_state (main_kind program block) input (main_count program block)))
 unfolding M.entry_act ◌>>◌
-body_piece {links = links} {code = code} program block line body first input all alone small' few k ready low fits does' later l behind finish' at same g there =
+body_piece {links = links} {code = code} known program block line body first input all alone small' few k ready low fits does' later l behind finish' at same g there =
     let n = main_count program block in
     let s = main_state (main_kind program block) input n in
     let next' : Unit {0} → Meaning (Unit {0}) = λ u. M.list (main_around program k line) body >> M.end_reached (main_around program k line) false in
     let closed = inside_closed newest_ended (to_finish_closed code k) in
     comes_on k (act counted k s) next'
     (act_piece (before_closed k next' closed) g line line k low l (serving_first (table_of program) (main_kind program block) input at line n k fits) there (λ g' serving' there'.
-    statements_piece program block line body first all alone small' few k does' (omega (arith, later)) behind finish' (with_world (counted s.world) s) g' serving'
-    (counted_all (counted s.world) (main_hold links code first program block input (main_frame (main_words program block body) (main_sizes program block) (main_count program block) small' few).at at line same all ready)) there'))
+    statements_piece known program block line body first all alone small' few k does' (omega (arith, later)) behind finish' (with_world (counted s.world) s) g' serving'
+    (counted_all (counted s.world) (main_hold known links code first program block input (main_frame (main_words program block body) (main_sizes program block) (main_count program block) small' few).at at line same all ready)) there'))
 
 -- from the entry of the procedure
-procedure_piece : {links : Links} {code : List Instr} (program : Y.Program) (block line : ℕ) (body : Y.Stmts) (first input : List ℕ) (all : AllPlain program.variables) (alone : IsAlone program block line body) (small' : main_words program block body ≤ most_code) (k entry : ℕ) → AllReady links code first program block → line < 2 ^ 31 → k + 1 < 2 ^ 64 → length first ≡ memory_size → 10 ≤ entry → BodyDoes program block line body first all alone small' links code k → Linked links code entry (procedure_in (main_environment program block) (main_head block line) body [] None) → Linked links code start_resume finish_code → (g : Family) → ((b : Base) → At b entry (Known (start_ground first) (first_services (table_of program) input) zeros zeros (with' 1 (λ b'. address b' start_resume) no_texts) b) (g b)) → Comes code entry g (first_services (table_of program) input) (inside (to_finish code k) newest_ended) (flow_on k (K.variables_made (main_around program k line) 0 (variables_of_block program block) k (main_state (main_kind program block) input 0)) (λ u. main_body program k line body))
-procedure_piece {links} {code} program block line body first input all alone small' k entry ready low fits len later does' l finish' g at =
+procedure_piece : {links : Links} {code : List Instr} (known : ℕ → Y.Block → ℕ → Type 0) (program : Y.Program) (block line : ℕ) (body : Y.Stmts) (first input : List ℕ) (all : AllPlain program.variables) (alone : IsAlone program block line body) (small' : main_words program block body ≤ most_code) (k entry : ℕ) → AllReady links code first program block → line < 2 ^ 31 → k + 1 < 2 ^ 64 → length first ≡ memory_size → 10 ≤ entry → BodyDoes known program block line body first all alone small' links code k → Linked links code entry (procedure_in (main_environment program block) (main_head block line) body [] None) → Linked links code start_resume finish_code → (g : Family) → ((b : Base) → At b entry (Known (start_ground first) (first_services (table_of program) input) zeros zeros (with' 1 (λ b'. address b' start_resume) no_texts) b) (g b)) → Comes code entry g (first_services (table_of program) input) (inside (to_finish code k) newest_ended) (flow_on k (K.variables_made (main_around program k line) 0 (variables_of_block program block) k (main_state (main_kind program block) input 0)) (λ u. main_body program k line body))
+procedure_piece {links} {code} known program block line body first input all alone small' k entry ready low fits len later does' l finish' g at =
     let e = main_environment program block in
     let words = main_words program block body in
     let n = main_count program block in
@@ -306,11 +308,11 @@ procedure_piece {links} {code} program block line body first input all alone sma
       pc = (at2 b).pc;
       holds = record { body = record { services = o.body.services; registers = o.body.registers; bytes = o.body.bytes; memory = no_contents f first (λ j. Counted (pos 0)) (begin_contents (main_kind program block)) t b _ refl o.body.memory }; regs = o.regs };
     })
-    (λ enough g3 at3. body_piece program block line body first input all alone small' enough k ready low fits does' (omega (arith, later)) la lb finish' f.at refl g3 at3))))
+    (λ enough g3 at3. body_piece known program block line body first input all alone small' enough k ready low fits does' (omega (arith, later)) la lb finish' f.at refl g3 at3))))
 
 -- the whole run
-pub main_runs : {links : Links} {code : List Instr} (program : Y.Program) (block line : ℕ) (body : Y.Stmts) (first input : List ℕ) (all : AllPlain program.variables) (alone : IsAlone program block line body) (small' : main_words program block body ≤ most_code) (k : ℕ) → AllReady links code first program block → line < 2 ^ 31 → k + 1 < 2 ^ 64 → length first ≡ memory_size → Placed program block line body links code → BodyDoes program block line body first all alone small' links code k → Comes code 0 (start_family first (first_services (table_of program) input)) (first_services (table_of program) input) never (M.run program (suc k) k (first_state input))
-main_runs {links} {code} program block line body first input all alone small' k ready low fits len placed does' =
+pub main_runs : {links : Links} {code : List Instr} (known : ℕ → Y.Block → ℕ → Type 0) (program : Y.Program) (block line : ℕ) (body : Y.Stmts) (first input : List ℕ) (all : AllPlain program.variables) (alone : IsAlone program block line body) (small' : main_words program block body ≤ most_code) (k : ℕ) → AllReady links code first program block → line < 2 ^ 31 → k + 1 < 2 ^ 64 → length first ≡ memory_size → Placed program block line body links code → BodyDoes known program block line body first all alone small' links code k → Comes code 0 (start_family first (first_services (table_of program) input)) (first_services (table_of program) input) never (M.run program (suc k) k (first_state input))
+main_runs {links} {code} known program block line body first input all alone small' k ready low fits len placed does' =
     let v = first_services (table_of program) input in
     let behind = placed.behind in
     let room = placed.procedure.inside in
@@ -322,4 +324,4 @@ main_runs {links} {code} program block line body first input all alone small' k 
     (onward (never_closed code) (started first v block placed.entry len placed.start placed.entry_is behind (omega (arith, room, long))) (λ g at.
     comes_on k (left true newest_ended flow) next'
     (comes_left newest_ended flow
-    (procedure_piece program block line body first input all alone small' k placed.entry ready low fits len (omega (arith, behind)) does' placed.procedure finish' g at))))
+    (procedure_piece known program block line body first input all alone small' k placed.entry ready low fits len (omega (arith, behind)) does' placed.procedure finish' g at))))

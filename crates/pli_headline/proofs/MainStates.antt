@@ -1,5 +1,5 @@
 -- The state of the main procedure when so many of its variables are made, and the services beside it.
-use Rattle.std.proofs.Common.{◌≡◌, ℕ, zero, suc, ◌+◌, ◌*◌, ◌<◌, List, [], ◌∷◌, map, Some, None, Bool, true, false, refl, sym, ap, ◌∙◌, subst, arith, ◌≤◌}
+use Rattle.std.proofs.Common.{◌≡◌, ℕ, zero, suc, ◌+◌, ◌*◌, ◌<◌, List, [], ◌∷◌, map, Some, None, Bool, true, false, refl, sym, ap, ◌∙◌, subst, arith, ◌≤◌, lit<}
 use Rattle.std.specs.Prelude.{ℤ, pos, cond, nat_le, ◌==◌, nat_lt, ◌-◌}
 use Rattle.std.proofs.lemmas.Bool.{eqb-true}
 use Rattle.std.proofs.lemmas.List.{length-replicate}
@@ -284,4 +284,4 @@ served_in_use table kind frame (suc j) are =
 
 pub main_nested : (table : List TableSignature) (kind : ℕ → Declared) (input : List ℕ) (frame line count : ℕ) → Nested (main_state kind input count).activations (main_services table kind input frame line count).activations
 main_nested table kind input frame line count =
-    (record { height = refl; first = λ none. refl; inside = λ some. absurd (omega (arith, some)); oncode = refl; units = tt }, (record { kind = λ further. refl; units = tt }, tt))
+    (record { height = refl; first = λ none. refl; inside = λ some. absurd (omega (arith, some)); direct = λ next. absurd (omega (arith, next)); oncode = lit< tt; units = tt }, (record { kind = λ further. refl; units = tt }, tt))

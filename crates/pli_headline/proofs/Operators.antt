@@ -10,10 +10,11 @@ use Rattle.rv_meaning.specs.declared.instr.BranchTest.TheVariants as Test
 use Rattle.rv_meaning.specs.Words.{word, signed, sum, flag, operated}
 use Rattle.pli_typing.specs.TypedTree as Y
 use Rattle.pli_meaning.specs.Numbers.{Gives, Raises, is_of_precision, wrapped, checked, sign_applied}
-use Rattle.pli_meaning.specs.StorageState.{State}
+use Rattle.pli_meaning.specs.StorageState.{State, SystemUnit, force}
 use Rattle.pli_meaning.specs.Control.{Meaning, give, ◌>>◌}
 use Rattle.pli_meaning.specs.Raising as R
 use Rattle.pli_meaning.specs.Raising.{Around}
+use Rattle.pli_serving.specs.ServiceState as S
 use Rattle.pli_serving.specs.ServiceState.{Services}
 use Rattle.pli_coding.specs.Registers.{zero_register, a0, a1, u1, u2, u3, u4}
 use Rattle.pli_serving.specs.OnUnits as U
@@ -28,6 +29,7 @@ use Rattle.pli_headline.proofs.Numbers.{IsWide, word_small, sum-word, difference
 use Rattle.pli_headline.proofs.Bodies.{Ground, Known, zero_is}
 use Rattle.pli_headline.proofs.Jumps.{first_of, rest_of, front_of, back_of, skip_taken, skip_passed, call_piece}
 use Rattle.pli_headline.proofs.Temporaries.{Temporaries, save_piece}
+use Rattle.pli_headline.proofs.Activations.{IsOther, OnlyIf, only_in_force, only_served}
 use Rattle.pli_headline.proofs.Calls.{Serving}
 use Rattle.pli_headline.proofs.Raising.{Routines, small_is, conditioned, raise_piece}
 use Rattle.pli_headline.proofs.Reach.{Family, Aims, Comes, Closed, before_closed, comes_on, onward}
@@ -38,9 +40,9 @@ valued x b = (10, x) ∷ []
 
 -- ---- raises
 
--- a condition is raised, whatever is known
-pub raised_piece : {links : Links} {code : List Instr} {i : ℕ} {g : Ground} {v : Services} {h t : ℕ → ℕ} {rs : Base → List (ℕ × ℕ)} {s : State} {aims : Aims (Unit {0})} (closed : Closed code aims) (routines : Routines links code) (f : Family) (around : Around) (c : Condition) (number n : ℕ) (rest : Code) (k : ℕ) → U.condition_of number ≡ Some c → number < 2 ^ 16 → n < 2 ^ 16 → Linked links code i (small a0 number ∷ small a1 n ∷ CallTo RaiseCondition ∷ rest) → Serving k s v around.line → ((b : Base) → At b i (Known g v h t rs b) (f b)) → Comes code i f v aims (R.raised around c n k s)
-raised_piece {links = links} {code = code} {i = i} {g = g} {v = v} {h = h} {t = t} closed routines f around c number n rest k is fits small' l serving at =
+-- a condition is raised, whatever is known, where no unit of the program is in force for it
+pub raised_alone : {links : Links} {code : List Instr} {i : ℕ} {g : Ground} {v : Services} {h t : ℕ → ℕ} {rs : Base → List (ℕ × ℕ)} {s : State} {aims : Aims (Unit {0})} (closed : Closed code aims) (routines : Routines links code) (f : Family) (around : Around) (c : Condition) (number n : ℕ) (rest : Code) (k : ℕ) → U.condition_of number ≡ Some c → number < 2 ^ 16 → n < 2 ^ 16 → OnlyIf SystemUnit (force s.activations c) → OnlyIf S.SystemUnit (U.force v.activations c) → Linked links code i (small a0 number ∷ small a1 n ∷ CallTo RaiseCondition ∷ rest) → Serving k s v around.line → ((b : Base) → At b i (Known g v h t rs b) (f b)) → Comes code i f v aims (R.raised around c n k s)
+raised_alone {links = links} {code = code} {i = i} {g = g} {v = v} {h = h} {t = t} closed routines f around c number n rest k is fits small' only served l serving at =
     let front = small a0 number ∷ small a1 n ∷ [] in
     let behind = CallTo RaiseCondition ∷ rest in
     let r = straight i f v v (λ b. Known g v h t (conditioned number n) b) (front_of front behind l) (omega arith) (λ b. (at b).pc)
@@ -54,8 +56,13 @@ raised_piece {links = links} {code = code} {i = i} {g = g} {v = v} {h = h} {t = 
     let whole = routines.linked.inside in
     let calls = call_piece (i + 2) (i + 2 + 2) f1 RaiseCondition routines.at (omega arith) routines.condition (let m = routines.linked.small' in omega (arith, whole, m)) (record { reserved_stay = λ y u. refl; known_stay = λ b y u q. q; set = λ y u. refl }) (first_of (CallTo RaiseCondition) rest l2) at1 in
     onward closed calls (λ f2 at2.
-    raise_piece closed routines (i + 2 + 2) f2 around c number n k is small' (omega (arith, inside, whole)) serving
+    raise_piece closed routines (i + 2 + 2) f2 around c number n k is small' (omega (arith, inside, whole)) only served serving
     (λ b. record { pc = (at2 b).pc; holds = record { body = (at2 b).holds.body; regs = (at2 b).holds.regs.1 } })))
+
+-- one that isn't AREA
+pub raised_piece : {links : Links} {code : List Instr} {i : ℕ} {g : Ground} {v : Services} {h t : ℕ → ℕ} {rs : Base → List (ℕ × ℕ)} {s : State} {aims : Aims (Unit {0})} (closed : Closed code aims) (routines : Routines links code) (f : Family) (around : Around) (c : Condition) (number n : ℕ) (rest : Code) (k : ℕ) → U.condition_of number ≡ Some c → IsOther c → number < 2 ^ 16 → n < 2 ^ 16 → Linked links code i (small a0 number ∷ small a1 n ∷ CallTo RaiseCondition ∷ rest) → Serving k s v around.line → ((b : Base) → At b i (Known g v h t rs b) (f b)) → Comes code i f v aims (R.raised around c n k s)
+raised_piece {v = v} {s = s} closed routines f around c number n rest k is other fits small' l serving at =
+    raised_alone closed routines f around c number n rest k is fits small' (only_in_force s.activations v.activations serving.nested c other) (only_served s.activations v.activations serving.nested c other) l serving at
 
 -- FIXEDOVERFLOW is raised, while a value waits
 pub overflow_piece : {links : Links} {code : List Instr} {i : ℕ} {g : Ground} {v : Services} {h t : ℕ → ℕ} {s : State} {aims : Aims (Unit {0})} (closed : Closed code aims) (routines : Routines links code) (temps : Temporaries g) (f : Family) (around : Around) (taken : Taken) (x k : ℕ) → (is_register_left taken ≡ false → taken.words < g.words) → x < 2 ^ 32 → Linked links code i (overflow_raised taken) → Serving k s v around.line → ((b : Base) → At b i (Known g v h t (valued x) b) (f b)) → Comes code i f v aims (R.raised around C.FixedOverflow 20 k s)
@@ -64,7 +71,7 @@ overflow_piece {links = links} {code = code} {i = i} {g = g} {v = v} {h = h} {t 
     let behind = raised C.FixedOverflow 20 ++ fetch a0 taken in
     let saved = save_piece temps i f a0 taken x room fits (λ y u. refl) (λ b w o. o.regs.0) (record { reserved_stay = λ y u. refl; known_stay = λ b y u q. q; set = λ y u. refl }) (front_of first behind l) at in
     onward closed saved (λ f1 at1.
-    raised_piece closed routines f1 around C.FixedOverflow 2 20 (fetch a0 taken) k refl (lit< tt) (lit< tt) (back_of first behind l) serving at1)
+    raised_piece closed routines f1 around C.FixedOverflow 2 20 (fetch a0 taken) k refl refl (lit< tt) (lit< tt) (back_of first behind l) serving at1)
 
 -- ---- a value where it fits, else the raise
 

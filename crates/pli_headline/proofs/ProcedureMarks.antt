@@ -6,34 +6,23 @@ use Rattle.pli_language.specs.Keywords.{same_bytes}
 use Rattle.pli_typing.specs.TypedTree as Y
 use Rattle.pli_meaning.specs.Control.{Label}
 use Rattle.pli_meaning.specs.DeclaredShapes.{variables_of_block}
-use Rattle.pli_coding.specs.Registers.{zero_register, return_register, frame_register, stack_register, a1, a2, a3, u0, u1, u5}
+use Rattle.pli_coding.specs.Registers.{zero_register, return_register, frame_register, stack_register, a1, a2, a3, u5}
 use Rattle.pli_coding.specs.Assembly.{Symbol, ProcedureEntry, ReturnPlace, LabelPlace, same_symbol, Plain, BaseIn, OffsetOf, OffsetAhead, JumpTo, CallTo, JumpAhead, JumpBack, Mark, Code, item_size}
-use Rattle.pli_coding.specs.Instructions.{move, subtract, number, plus, load_word, store_word, service}
-use Rattle.pli_coding.specs.Frames.{frame_below, lower_top, own_offset, temporary_bytes, fixed_size}
+use Rattle.pli_coding.specs.Instructions.{move, number, plus, load_word, service}
+use Rattle.pli_coding.specs.Frames.{frame_below, temporary_bytes}
 use Rattle.pli_coding.specs.Environments.{Environment, none_taken}
 use Rattle.pli_coding.specs.Allocating.{act_code}
-use Rattle.pli_coding.specs.Entries.{all_saved, display_made, frame_begun, block_entered, variables_made, variables_code}
+use Rattle.pli_coding.specs.Entries.{frame_begun, block_entered, variables_made, variables_code}
 use Rattle.pli_coding.specs.Statements.{stmts_code, stmts_words, block_words}
 use Rattle.pli_coding.specs.Procedures.{procedure_environment, procedure_begun, procedure_ended, procedure_in, procedures_code}
 use Rattle.pli_coding.specs.Linking.{marks_from}
 use Rattle.pli_headline.specs.ProvedSoFar.{Types, types_of, AreProvedStatements, AreBare, AreInner, times, all_labels, block_labels, procedure_labels}
 use Rattle.pli_headline.proofs.Linking.{times_marked}
 use Rattle.pli_headline.proofs.SymbolsMarked.{symbols_marked, Marks, both_mark, behind, constant_none, plus_none, act_none}
-use Rattle.pli_headline.proofs.StatementMarks.{places_of, display_none, statements_mark}
+use Rattle.pli_headline.proofs.StatementMarks.{places_of, called_begun_none, statements_mark}
 use Rattle.pli_headline.proofs.Variables.{HasTypes}
 
 -- ---- the code of a procedure
-
-called_begun_none : (words level : ℕ) → Marks (frame_begun words level 0 true) []
-called_begun_none words level =
-    let up = plus u0 stack_register (pos (temporary_bytes words)) in
-    let first = all_saved u0 ++ (store_word u0 frame_register frame_below ++ (load_word u1 frame_register lower_top ++ (move frame_register u0 ∷ store_word frame_register u1 lower_top))) in
-    let made = display_made level in
-    let own = BaseIn u1 ∷ subtract u1 frame_register u1 ∷ store_word frame_register u1 own_offset in
-    let raised = plus stack_register frame_register (pos (fixed_size level 0)) in
-    behind up (first ++ (made ++ (own ++ raised))) [] (plus_none u0 stack_register (pos (temporary_bytes words)))
-    (behind first (made ++ (own ++ raised)) [] refl
-    (behind made (own ++ raised) [] (display_none level) (behind own raised [] refl (plus_none stack_register frame_register (pos (fixed_size level 0))))))
 
 begun_none : (e : Environment) (head : Y.BlockHead) (words : ℕ) → variables_of_block e.program e.block ≡ [] → Marks (procedure_begun e head words []) []
 begun_none e head words none =

@@ -1,23 +1,24 @@
 -- The statements that are proved so far: each list of them does what it means, where the constant bytes that its code names stand in
 -- memory.
 use Rattle.std.proofs.Common.{◌≡◌, ℕ, suc, ◌+◌, ◌-◌, ◌*◌, ◌^◌, ◌<◌, ◌≤◌, List, [], ◌++◌, None, Some, inl, inr, Bool, true, false, refl, sym, ap, ◌∙◌, subst, arith, append-nil, length}
-use Rattle.std.specs.Prelude.{cond, max, ◌==◌}
+use Rattle.std.specs.Prelude.{max, ◌==◌}
 use Rattle.std.proofs.Math.Nat.{le-max_left, le-max_right}
 use Rattle.rv_meaning.specs.declared.instr.Instr.{Instr}
+use Rattle.pli_language.specs.declared.condition.Condition.TheVariants as C
 use Rattle.pli_typing.specs.TypedTree as Y
-use Rattle.pli_meaning.specs.Control.{Label, is_among}
+use Rattle.pli_meaning.specs.Control.{Label}
 use Rattle.pli_meaning.specs.Raising.{Around}
 use Rattle.pli_meaning.specs.Executing as M
 use Rattle.pli_meaning.specs.Executing.{labels_in}
 use Rattle.pli_coding.specs.Environments.{BlockOwner, BlockPlace, Environment, in_frame, Owner, owned_by}
-use Rattle.pli_coding.specs.Frames.{fixed_size, temporary_bytes}
+use Rattle.pli_coding.specs.Frames.{fixed_size, frame_end, temporary_bytes}
 use Rattle.pli_meaning.specs.StorageState.{most_activations}
 use Rattle.pli_coding.specs.Storing.{assigned_words}
 use Rattle.pli_coding.specs.Statements.{number_if, bit_if, stmt_code, stmts_code, stmt_words, stmts_words}
 use Rattle.pli_coding.specs.Temporaries.{number_words, bit_words, reference_words, text_words}
 use Rattle.pli_coding.specs.Images.{place_of_head, blocks_in, blocks_among}
 use Rattle.pli_coding.specs.Linking.{Links}
-use Rattle.pli_headline.specs.ProvedSoFar.{Types, IsProvedStatement, AreProvedStatements, JumpsAround, AllJumpAround, IsBare, AreBare, is_number, CallsAmong, AllCallAmong}
+use Rattle.pli_headline.specs.ProvedSoFar.{Types, OuterBlock, IsProvedStatement, AreProvedStatements, JumpsAround, AllJumpAround, IsBare, AreBare, is_number, CallsAmong, AllCallAmong}
 use Rattle.pli_headline.proofs.Statements.{Standing, Block, Does, EachDoes, null_does, IsEndMarkedOnce}
 use Rattle.pli_headline.proofs.TextAssignments.{assign_text_does}
 use Rattle.pli_headline.proofs.Ifs.{if_does, if_else_does}
@@ -28,14 +29,18 @@ use Rattle.pli_headline.proofs.InnerFrames.{Inner, other_level, inner_block}
 use Rattle.pli_headline.proofs.BeginMeant.{Entering, inner_around, inner_entering}
 use Rattle.pli_headline.proofs.Begins.{inner_of, begin_does}
 use Rattle.pli_headline.proofs.JumpsOut.{out_does}
-use Rattle.pli_headline.proofs.Returns.{return_does, own_end_does}
-use Rattle.pli_headline.proofs.Gotos.{LabelsStand, own_number, goto_does}
+use Rattle.pli_headline.proofs.Returns.{return_does}
+use Rattle.pli_headline.proofs.HomeReturns.{IsHome, home_does}
+use Rattle.pli_headline.proofs.Gotos.{LabelsStand, goto_does}
 use Rattle.pli_headline.proofs.Groups.{do_does}
 use Rattle.pli_headline.proofs.Loops.{while_does}
 use Rattle.pli_headline.proofs.Stops.{stop_does}
 use Rattle.pli_headline.proofs.Skips.{put_skip_does}
 use Rattle.pli_headline.proofs.Signals.{signal_does}
 use Rattle.pli_headline.proofs.SystemUnits.{on_system_does, revert_does}
+use Rattle.pli_headline.proofs.OnUnits.{on_unit_does}
+use Rattle.pli_headline.proofs.UnitStanding.{single, program_around, UnitStands, Tells, unit_is}
+use Rattle.pli_headline.proofs.Items.{Linked}
 use Rattle.pli_headline.proofs.Onces.{once_does}
 use Rattle.pli_headline.proofs.Counts.{turning, standing_turning}
 use Rattle.pli_headline.proofs.Putting.{put_does}
@@ -44,29 +49,29 @@ use Rattle.pli_headline.proofs.ElementAssignments.{assign_number_part_does, assi
 use Rattle.pli_headline.proofs.CountStarts.{counted_does}
 use Rattle.pli_coding.specs.Streams.{value_words}
 
-standing_within : {e : Environment} {block : ℕ} {types : Types} {bl : Block e block types} {links : Links} {code : List Instr} (labels : List Label) → Standing bl links code → Standing (within labels bl) links code
+pub standing_within : {e : Environment} {block : ℕ} {types : Types} {bl : Block e block types} {links : Links} {code : List Instr} (labels : List Label) → Standing bl links code → Standing (within labels bl) links code
 standing_within labels s = record { raises = s.raises; constants = s.constants }
 
 -- in a block inside it
-standing_inside : {e : Environment} {block : ℕ} {types : Types} {bl : Block e block types} {links : Links} {code : List Instr} (inner : Inner bl) (t0 : ℕ → ℕ) (number level : ℕ) (next : level ≡ suc e.level) → Standing bl links code → Standing (inner_block bl inner t0 number level next) links code
-standing_inside inner t0 number level next s =
+standing_inside : {e : Environment} {block : ℕ} {types : Types} {bl : Block e block types} {links : Links} {code : List Instr} (inner : Inner bl) (t0 : ℕ → ℕ) (number level : ℕ) (next : level ≡ suc e.level) (sized : frame_end e.parts e.program number level ≡ fixed_size (suc e.level) 0) → Standing bl links code → Standing (inner_block bl inner t0 number level next sized) links code
+standing_inside inner t0 number level next sized s =
     record {
       raises = s.raises;
       constants = λ n. record { stand = λ bytes placed t b m o. (s.constants n).stand bytes placed t0 b m o.kept };
     }
 
-inner_labels_stand : {e : Environment} {links : Links} {all : List (ℕ × Label)} {procedure : ℕ} {main : Bool} → LabelsStand e links all procedure main → (number level : ℕ) → level ≡ suc e.level → IsAmong (record { number = number; level = level }) e.blocks → LabelsStand (in_frame number level e) links all procedure main
-inner_labels_stand named number level next among =
+inner_labels_stand : {e : Environment} {links : Links} {all : List (ℕ × Label)} {procedure : ℕ} {main : Bool} → LabelsStand e links all procedure main → (number level : ℕ) → level ≡ suc e.level → level ≤ 100 → IsAmong (record { number = number; level = level }) e.blocks → LabelsStand (in_frame number level e) links all procedure main
+inner_labels_stand named number level next shallow among =
     record {
       own = named.found (record { number = number; level = level }) among;
       found = named.found;
       once = named.once;
       owner = named.owner;
       ended = named.ended;
-      outermost = named.outermost;
-      outer = λ same. let no : true ≡ false = sym same ∙ other_level level _ next in absurd (cc no);
-      inside = λ other. other_level level _ next;
       lower = let l = named.lower in omega (arith, l, next);
+      owned = named.owned;
+      shallow = shallow;
+      bare = named.bare;
     }
 
 -- ---- calls
@@ -74,14 +79,21 @@ inner_labels_stand named number level next among =
 -- calls of some procedures do what they mean, in any block where the frames of so many more have room, so many blocks deep at most
 abbrev pub Calls : Environment → (block : ℕ) → Types → (bound : ℕ) → Links → List Instr → (may : List ℕ) → Type 1
 Calls e block types bound links code may =
-    (o : Owner) (number level : ℕ) (b : Block (owned_by o (in_frame number level e)) block types) → length b.depths < most_activations → b.stack.free + 4000 * (500 - length b.depths) ≤ 14 * 2 ^ 20 → b.words < 2 ^ 22 → Standing b links code → b.taken.words ≤ b.words → (around : Around) → around.program ≡ e.program → (more : ℕ) → Entering e.program around more → more ≤ bound → (procedure : ℕ) → is_number procedure may ≡ true → (line : ℕ) → line < 2 ^ 31 → Does b links code around.turns (stmt_code (owned_by o (in_frame number level e)) b.taken (Y.CallProcedure (Y.Calling procedure 0 Y.NoArgument) line)) (M.statement around (Y.CallProcedure (Y.Calling procedure 0 Y.NoArgument) line))
+    (o : Owner) (number level : ℕ) (b : Block (owned_by o (in_frame number level e)) block types) → length b.depths < most_activations → b.stack.free + 4000 * (500 - length b.depths) ≤ 14 * 2 ^ 20 → b.words < 2 ^ 22 → Standing b links code → Tells e block types may links code b.base b.frames.known → b.taken.words ≤ b.words → (around : Around) → around.program ≡ e.program → (more : ℕ) → Entering e.program around more → more ≤ bound → (procedure : ℕ) → is_number procedure may ≡ true → (line : ℕ) → line < 2 ^ 31 → Does b links code around.turns (stmt_code (owned_by o (in_frame number level e)) b.taken (Y.CallProcedure (Y.Calling procedure 0 Y.NoArgument) line)) (M.statement around (Y.CallProcedure (Y.Calling procedure 0 Y.NoArgument) line))
 
--- they do, jumps go out of blocks only in the main procedure, and a return in a procedure's own block goes to its end
-pub record Ways (e : Environment) (block : ℕ) (types : Types) (words bound : ℕ) (small : Bool) (outer : List Label) (links : Links) (code : List Instr) (main own : Bool) (may : List ℕ) : Type 1 where
-  pub calls : (o : Owner) (number level : ℕ) (b : Block (owned_by o (in_frame number level e)) block types) → length b.depths < most_activations → b.stack.free + 4000 * (500 - length b.depths) ≤ 14 * 2 ^ 20 → b.words < 2 ^ 22 → Standing b links code → b.taken.words ≤ b.words → (around : Around) → around.program ≡ e.program → (more : ℕ) → Entering e.program around more → more ≤ bound → (procedure : ℕ) → is_number procedure may ≡ true → (line : ℕ) → line < 2 ^ 31 → Does b links code around.turns (stmt_code (owned_by o (in_frame number level e)) b.taken (Y.CallProcedure (Y.Calling procedure 0 Y.NoArgument) line)) (M.statement around (Y.CallProcedure (Y.Calling procedure 0 Y.NoArgument) line))
+-- SIGNAL of AREA does what it means there
+abbrev pub Signals : Environment → (block : ℕ) → Types → (bound : ℕ) → Links → List Instr → (may : List ℕ) → Type 1
+Signals e block types bound links code may =
+    (o : Owner) (number level : ℕ) (b : Block (owned_by o (in_frame number level e)) block types) → length b.depths < most_activations → b.stack.free + 4000 * (500 - length b.depths) ≤ 14 * 2 ^ 20 → b.words < 2 ^ 22 → Standing b links code → Tells e block types may links code b.base b.frames.known → (around : Around) → around.program ≡ e.program → (more : ℕ) → Entering e.program around more → more ≤ bound → (line : ℕ) → line < 2 ^ 31 → Does b links code around.turns (stmt_code (owned_by o (in_frame number level e)) b.taken (Y.Signal C.Area line)) (M.statement around (Y.Signal C.Area line))
+
+-- they do, units are known, which the main procedure's own block may get, and a return in a called procedure goes to its end
+pub record Ways (e : Environment) (block : ℕ) (types : Types) (words bound : ℕ) (small : Bool) (outer : List OuterBlock) (base : ℕ) (units : ℕ → Y.Block → ℕ → Type 0) (links : Links) (code : List Instr) (main : Bool) (may : List ℕ) : Type 1 where
+  pub calls : (o : Owner) (number level : ℕ) (b : Block (owned_by o (in_frame number level e)) block types) → length b.depths < most_activations → b.stack.free + 4000 * (500 - length b.depths) ≤ 14 * 2 ^ 20 → b.words < 2 ^ 22 → Standing b links code → Tells e block types may links code b.base b.frames.known → b.taken.words ≤ b.words → (around : Around) → around.program ≡ e.program → (more : ℕ) → Entering e.program around more → more ≤ bound → (procedure : ℕ) → is_number procedure may ≡ true → (line : ℕ) → line < 2 ^ 31 → Does b links code around.turns (stmt_code (owned_by o (in_frame number level e)) b.taken (Y.CallProcedure (Y.Calling procedure 0 Y.NoArgument) line)) (M.statement around (Y.CallProcedure (Y.Calling procedure 0 Y.NoArgument) line))
+  pub signals : (o : Owner) (number level : ℕ) (b : Block (owned_by o (in_frame number level e)) block types) → length b.depths < most_activations → b.stack.free + 4000 * (500 - length b.depths) ≤ 14 * 2 ^ 20 → b.words < 2 ^ 22 → Standing b links code → Tells e block types may links code b.base b.frames.known → (around : Around) → around.program ≡ e.program → (more : ℕ) → Entering e.program around more → more ≤ bound → (line : ℕ) → line < 2 ^ 31 → Does b links code around.turns (stmt_code (owned_by o (in_frame number level e)) b.taken (Y.Signal C.Area line)) (M.statement around (Y.Signal C.Area line))
+  pub tells : Tells e block types may links code base units
+  pub makes : (0 == e.level) ≡ true → (u : Y.Block) (at : ℕ) → UnitStands (program_around e) block types may links code u at → units base u at
   pub narrow : words < 2 ^ 22
-  pub stays : main ≡ false → outer ≡ []
-  pub ends : own ≡ true → (((0 == e.level) ≡ false) × (e.owner ≡ BlockOwner (record { number = e.block; level = e.level }))) × IsEndMarkedOnce links e.block
+  pub ends : main ≡ false → IsHome e links outer
 
 -- ---- room
 
@@ -117,12 +129,14 @@ room_deep : (small : Bool) (free depth words level : ℕ) → Room small free de
 room_deep false free depth words level room = room.1
 room_deep true free depth words level room = room.1
 
-is_main : {e : Environment} {block : ℕ} {types : Types} (main : Bool) (bl : Block e block types) (label : Label) → (main ≡ false → bl.outer ≡ []) → is_among label bl.outer ≡ true → main ≡ true
-is_main true bl label none among = refl
-is_main false bl label none among = let no : false ≡ true = sym (ap (is_among label) (none refl)) ∙ among in absurd (cc no)
+return_by : {e : Environment} {block : ℕ} {types : Types} (main : Bool) (bl : Block e block types) (links : Links) (code : List Instr) (around : Around) (line number : ℕ) → line < 2 ^ 31 → e.level ≤ 100 → (main ≡ true → e.owner ≡ BlockOwner (record { number = number; level = 0 })) → (main ≡ true → IsEndMarkedOnce links number) → (main ≡ false → IsHome e links bl.outer) → Does bl links code around.turns (stmt_code e bl.taken (Y.Return line)) (M.statement around (Y.Return line))
+return_by true bl links code around line number fits few owner ended home =
+    return_does bl links code around line number fits (owner refl) (ended refl)
+return_by false bl links code around line number fits few owner ended home =
+    home_does bl links code around line few fits (home refl)
 
 mutual
-  pub statement_does : {e : Environment} {block : ℕ} {types : Types} (bl : Block e block types) (links : Links) (code : List Instr) (routines : Standing bl links code) (around : Around) (same : around.program ≡ e.program) {all : List (ℕ × Label)} {procedure : ℕ} {main own small : Bool} {may : List ℕ} {bound : ℕ} (named : LabelsStand e links all procedure main) (x : Y.Stmt) → IsProvedStatement block types x → JumpsAround e.block e.level all procedure bl.outer bl.labels x → bl.taken.words + stmt_words x ≤ bl.words → Room small bl.stack.free (length bl.depths) (inner_words x) e.level → IsBare e.program x → {more : ℕ} → Entering e.program around more → more ≤ bound → ((b : BlockPlace) → IsAmong b (blocks_in x) → IsAmong b e.blocks) → CallsAmong may main own x → Ways e block types bl.words bound small bl.outer links code main own may → Does bl links code around.turns (stmt_code e bl.taken x) (M.statement around x)
+  pub statement_does : {e : Environment} {block : ℕ} {types : Types} (bl : Block e block types) (links : Links) (code : List Instr) (routines : Standing bl links code) (around : Around) (same : around.program ≡ e.program) {all : List (ℕ × Label)} {procedure : ℕ} {main small : Bool} {may : List ℕ} {bound : ℕ} (named : LabelsStand e links all procedure main) (x : Y.Stmt) → IsProvedStatement block types x → JumpsAround e.block e.level all e.blocks bl.outer bl.labels x → bl.taken.words + stmt_words x ≤ bl.words → Room small bl.stack.free (length bl.depths) (inner_words x) e.level → IsBare e.program x → {more : ℕ} → Entering e.program around more → more ≤ bound → ((b : BlockPlace) → IsAmong b (blocks_in x) → IsAmong b e.blocks) → CallsAmong may x → Ways e block types bl.words bound small bl.outer bl.base bl.frames.known links code main may → Does bl links code around.turns (stmt_code e bl.taken x) (M.statement around x)
   statement_does bl links code routines around same named (Y.Null line) is jumps room space bare entering least known calls ways = null_does bl links code around line is
   statement_does bl links code routines around same named (Y.Assign target (Y.StoredNumber precision x) line) is jumps room space bare entering least known calls ways =
       let a = le-max_left (max 1 (number_words x)) (4 + reference_words target) in
@@ -140,7 +154,7 @@ mutual
       let d = le-max_right (bit_words condition) (stmt_words unit) in
       if_does bl links code routines around condition unit line is.0 (omega (arith, a, room)) is.1.1
       (statement_does bl links code routines around same named unit is.1.0 jumps (omega (arith, d, room)) space bare entering least known calls ways)
-  statement_does {e} bl links code routines around same {all} {procedure} {main} {own} {small} named (Y.IfElse condition unit otherwise line) is jumps room space bare entering least known calls ways =
+  statement_does {e} bl links code routines around same {all} {procedure} {main} {small} named (Y.IfElse condition unit otherwise line) is jumps room space bare entering least known calls ways =
       let most = max (stmt_words unit) (stmt_words otherwise) in
       let a = le-max_left (bit_words condition) most in
       let d = le-max_right (bit_words condition) most in
@@ -208,38 +222,59 @@ mutual
       counted_does bl links code routines around target precision start limit step condition body line is.0.0 is.0.1 is.1.0.0 is.1.0.1 is.1.1.0
       (omega (arith, room, m1, a1)) (omega (arith, room, m1, a2, a4)) (omega (arith, room, m1, a2, a5)) (omega (arith, room, m2, d1, d2)) is.1.1.1.1
       (listed (turning bl) around body (each_does (within (labels_in body) (turning bl)) links code (standing_within (labels_in body) (standing_turning routines)) around same named body is.1.1.1.0 jumps (omega (arith, room, m2, d1, d3)) space bare entering least known calls ways))
-  statement_does {e} bl links code routines around same {all} {procedure} {main} {own} {small} named (Y.Begin (Y.BlockOf head body)) is jumps room space bare {more} entering least known calls ways =
+  statement_does {e} bl links code routines around same {all} {procedure} {main} {small} named (Y.Begin (Y.BlockOf head body)) is jumps room space bare {more} entering least known calls ways =
       let next = jumps.0.0 in
       let deep = jumps.0.1 in
       let shallow : e.level < 100 = omega (arith, next, deep) in
+      let sized : frame_end e.parts e.program head.number head.level ≡ fixed_size (suc e.level) 0 = named.bare head.number head.level bare.0 ∙ ap (λ l. fixed_size l 0) next in
       let inner = inner_of bl (max 0 (stmts_words body)) shallow (room_frame small bl.stack.free (length bl.depths) (max 0 (stmts_words body)) (all_inner_words body) e.level shallow space) in
-      begin_does bl links code around more head body inner (own_number main named) named.lower refl shallow next is.0 is.1.0 bare.0 entering
+      begin_does bl links code around more head body inner named.lower refl shallow next sized is.0 is.1.0 bare.0 entering
       (λ more' step deeper t0.
-      let ib = inner_block bl inner t0 head.number head.level next in
+      let ib = inner_block bl inner t0 head.number head.level next sized in
       let here = inner_around e.program more' head.line in
-      let high : AllJumpAround head.number head.level all procedure (cond (0 == e.level) bl.labels bl.outer) (labels_in body ++ []) body = subst (λ ls. AllJumpAround head.number head.level all procedure (cond (0 == e.level) bl.labels bl.outer) ls body) (sym (append-nil (labels_in body))) jumps.1 in
+      let high : AllJumpAround head.number head.level all e.blocks ib.outer (labels_in body ++ []) body = subst (λ ls. AllJumpAround head.number head.level all e.blocks ib.outer ls body) (sym (append-nil (labels_in body))) jumps.1 in
       let most = le-max_right 0 (stmts_words body) in
       listed ib here body
-      (each_does (within (labels_in body) ib) links code (standing_within (labels_in body) (standing_inside inner t0 head.number head.level next routines)) here refl (inner_labels_stand named head.number head.level next (known (place_of_head head) (inl refl))) body is.1.1 high (omega (arith, most))
+      (each_does (within (labels_in body) ib) links code (standing_within (labels_in body) (standing_inside inner t0 head.number head.level next sized routines)) here refl (inner_labels_stand named head.number head.level next deep (known (place_of_head head) (inl refl))) body is.1.1 high (omega (arith, most))
       (room_inner small bl.stack.free (length bl.depths) (max 0 (stmts_words body)) (all_inner_words body) e.level head.level shallow next deeper space)
       bare.1 (inner_entering e.program more' head.line) (omega (arith, least, step)) (λ b h. known b (inr h)) calls
-      (record { calls = ways.calls; narrow = (let fits = room_frame small bl.stack.free (length bl.depths) (max 0 (stmts_words body)) (all_inner_words body) e.level shallow space in omega (arith, fits)); stays = λ other. ap (λ q. cond q bl.labels bl.outer) (named.inside other) ∙ ways.stays other; ends = λ no. let apart : false ≡ true = no in absurd (cc apart) })))
-  statement_does {e} bl links code routines around same {all} {procedure} {main} {own} {small} named (Y.CallProcedure (Y.Calling number level Y.NoArgument) line) is jumps room space bare {more} entering least known calls ways =
+      (record { calls = ways.calls; signals = ways.signals; tells = ways.tells; makes = λ same' u at k. let no : true ≡ false = sym same' ∙ other_level head.level e.level next in absurd (cc no); narrow = (let fits = room_frame small bl.stack.free (length bl.depths) (max 0 (stmts_words body)) (all_inner_words body) e.level shallow space in omega (arith, fits)); ends = λ other. inr (ways.ends other) })))
+  statement_does {e} bl links code routines around same {all} {procedure} {main} {small} named (Y.CallProcedure (Y.Calling number level Y.NoArgument) line) is jumps room space bare {more} entering least known calls ways =
       subst (λ n. Does bl links code around.turns (stmt_code e bl.taken (Y.CallProcedure (Y.Calling number n Y.NoArgument) line)) (M.statement around (Y.CallProcedure (Y.Calling number n Y.NoArgument) line))) (sym is.0)
-      (ways.calls e.owner e.block e.level bl (room_deep small bl.stack.free (length bl.depths) 0 e.level space) (room_calls small bl.stack.free (length bl.depths) 0 e.level space) ways.narrow routines (omega (arith, room)) around same more entering least number calls line is.1)
-  statement_does bl links code routines around same named (Y.Return line) is jumps room space bare entering least known (inl outermost) ways =
-      return_does bl links code around line _ is (named.owner outermost) (named.ended outermost)
-  statement_does bl links code routines around same named (Y.Return line) is jumps room space bare entering least known (inr own') ways =
-      let o = ways.ends own' in
-      own_end_does bl links code around line o.0.0 is o.0.1 o.1
-  statement_does {e} bl links code routines around same {all} {procedure} named (Y.Goto level label line) is (inl jumps) room space bare entering least known calls ways =
+      (ways.calls e.owner e.block e.level bl (room_deep small bl.stack.free (length bl.depths) 0 e.level space) (room_calls small bl.stack.free (length bl.depths) 0 e.level space) ways.narrow routines ways.tells (omega (arith, room)) around same more entering least number calls line is.1)
+  statement_does bl links code routines around same {main = main} named (Y.Return line) is jumps room space bare entering least known calls ways =
+      return_by main bl links code around line _ is named.shallow named.owner named.ended ways.ends
+  statement_does {e} bl links code routines around same named (Y.Goto level label line) is (inl jumps) room space bare entering least known calls ways =
       goto_does bl links code around level label line jumps.0 is jumps.1.0 (named.once e.block label jumps.1.1) named.own
-  statement_does {e} bl links code routines around same {all} {procedure} {main} named (Y.Goto level label line) is (inr jumps) room space bare entering least known calls ways =
-      out_does bl links code around level procedure label line jumps.0.0 jumps.0.1 is (named.owner (is_main main bl label ways.stays jumps.1.1.0)) jumps.1.1.0 (named.once procedure label jumps.1.1.1) (named.outermost e.block jumps.1.0)
+  statement_does bl links code routines around same {all} named (Y.Goto level label line) is (inr jumps) room space bare entering least known calls ways =
+      out_does bl links code around all level label line (λ number h. named.once number label h) named.owned named.shallow is jumps
   statement_does bl links code routines around same named (Y.Stop line) is jumps room space bare entering least known calls ways = stop_does bl links code around line is
-  statement_does bl links code routines around same named (Y.Signal condition line) is jumps room space bare entering least known calls ways = signal_does bl links code routines.raises around condition line is
+  statement_does {e} bl links code routines around same {main = main} {small = small} named (Y.Signal C.Area line) is jumps room space bare {more} entering least known calls ways =
+      ways.signals e.owner e.block e.level bl (room_deep small bl.stack.free (length bl.depths) 0 e.level space) (room_calls small bl.stack.free (length bl.depths) 0 e.level space) ways.narrow routines ways.tells around same more entering least line is
+  statement_does bl links code routines around same named (Y.Signal C.FixedOverflow line) is jumps room space bare entering least known calls ways = signal_does bl links code routines.raises around C.FixedOverflow line refl is
+  statement_does bl links code routines around same named (Y.Signal C.ZeroDivide line) is jumps room space bare entering least known calls ways = signal_does bl links code routines.raises around C.ZeroDivide line refl is
+  statement_does bl links code routines around same named (Y.Signal C.Endfile line) is jumps room space bare entering least known calls ways = signal_does bl links code routines.raises around C.Endfile line refl is
+  statement_does bl links code routines around same named (Y.Signal C.Error line) is jumps room space bare entering least known calls ways = signal_does bl links code routines.raises around C.Error line refl is
   statement_does bl links code routines around same named (Y.OnSystem condition line) is jumps room space bare entering least known calls ways = on_system_does bl links code around condition line is
   statement_does bl links code routines around same named (Y.Revert condition line) is jumps room space bare entering least known calls ways = revert_does bl links code around condition line is
+  statement_does {e} bl links code routines around same named (Y.OnUnit condition (Y.BlockOf head (Y.StmtThen [] x (Y.EndOfList []))) line) is jumps room space bare entering least known calls ways =
+      on_unit_does bl links code around condition head (single x) line jumps.0 is.0 is.1.1.0
+      (λ i later l. ways.makes jumps.0 (Y.BlockOf head (single x)) (4 * i) (record {
+        head = head;
+        statement = x;
+        is = refl;
+        kind = is.1.0;
+        level = jumps.1;
+        line = is.1.1.1.0;
+        simple = is.1.1.1.1.0;
+        proved = is.1.1.1.1.1;
+        calls = calls.0.0;
+        few = calls.1;
+        index = i;
+        at_is = refl;
+        later = later;
+        linked = subst (Linked links code i) (unit_is e head (single x) is.1.0 jumps.1) l;
+      }))
   statement_does bl links code routines around same named (Y.Put None pairs line) is jumps room space bare entering least known calls ways =
       put_does bl links code routines around pairs line is.0 is.1 room
   statement_does bl links code routines around same named (Y.Put (Some n) pairs line) is jumps room space bare entering least known calls ways =
@@ -250,9 +285,9 @@ mutual
       get_skip_does bl links code routines around same n pairs line is.0.0 is.0.1 is.1.0 is.1.1 room
   statement_does bl links code routines around same named _ is jumps room space bare entering least known calls ways = absurd is
 
-  pub each_does : {e : Environment} {block : ℕ} {types : Types} (bl : Block e block types) (links : Links) (code : List Instr) (routines : Standing bl links code) (around : Around) (same : around.program ≡ e.program) {all : List (ℕ × Label)} {procedure : ℕ} {main own small : Bool} {may : List ℕ} {bound : ℕ} (named : LabelsStand e links all procedure main) (body : Y.Stmts) → AreProvedStatements block types body → AllJumpAround e.block e.level all procedure bl.outer bl.labels body → bl.taken.words + stmts_words body ≤ bl.words → Room small bl.stack.free (length bl.depths) (all_inner_words body) e.level → AreBare e.program body → {more : ℕ} → Entering e.program around more → more ≤ bound → ((b : BlockPlace) → IsAmong b (blocks_among body) → IsAmong b e.blocks) → AllCallAmong may main own body → Ways e block types bl.words bound small bl.outer links code main own may → EachDoes bl links code around body
+  pub each_does : {e : Environment} {block : ℕ} {types : Types} (bl : Block e block types) (links : Links) (code : List Instr) (routines : Standing bl links code) (around : Around) (same : around.program ≡ e.program) {all : List (ℕ × Label)} {procedure : ℕ} {main small : Bool} {may : List ℕ} {bound : ℕ} (named : LabelsStand e links all procedure main) (body : Y.Stmts) → AreProvedStatements block types body → AllJumpAround e.block e.level all e.blocks bl.outer bl.labels body → bl.taken.words + stmts_words body ≤ bl.words → Room small bl.stack.free (length bl.depths) (all_inner_words body) e.level → AreBare e.program body → {more : ℕ} → Entering e.program around more → more ≤ bound → ((b : BlockPlace) → IsAmong b (blocks_among body) → IsAmong b e.blocks) → AllCallAmong may body → Ways e block types bl.words bound small bl.outer bl.base bl.frames.known links code main may → EachDoes bl links code around body
   each_does bl links code routines around same named (Y.EndOfList labels) are jumps room space bare entering least known calls ways = tt
-  each_does {e} bl links code routines around same {all} {procedure} {main} {own} {small} named (Y.StmtThen labels first rest) are jumps room space bare entering least known calls ways =
+  each_does {e} bl links code routines around same {all} {procedure} {main} {small} named (Y.StmtThen labels first rest) are jumps room space bare entering least known calls ways =
       let a = le-max_left (stmt_words first) (stmts_words rest) in
       let c = le-max_right (stmt_words first) (stmts_words rest) in
       let i1 = le-max_left (inner_words first) (all_inner_words rest) in
@@ -262,7 +297,7 @@ mutual
       )
 
 -- the statements of a block
-pub body_does : {e : Environment} {block : ℕ} {types : Types} (bl : Block e block types) (links : Links) (code : List Instr) (routines : Standing bl links code) (around : Around) (same : around.program ≡ e.program) {all : List (ℕ × Label)} {procedure : ℕ} {main own small : Bool} {may : List ℕ} {bound : ℕ} (named : LabelsStand e links all procedure main) (body : Y.Stmts) → AreProvedStatements block types body → AllJumpAround e.block e.level all procedure bl.outer (labels_in body ++ bl.labels) body → bl.taken.words + stmts_words body ≤ bl.words → Room small bl.stack.free (length bl.depths) (all_inner_words body) e.level → AreBare e.program body → {more : ℕ} → Entering e.program around more → more ≤ bound → ((b : BlockPlace) → IsAmong b (blocks_among body) → IsAmong b e.blocks) → AllCallAmong may main own body → Ways e block types bl.words bound small bl.outer links code main own may → Does bl links code around.turns (stmts_code e bl.taken body) (M.list around body)
+pub body_does : {e : Environment} {block : ℕ} {types : Types} (bl : Block e block types) (links : Links) (code : List Instr) (routines : Standing bl links code) (around : Around) (same : around.program ≡ e.program) {all : List (ℕ × Label)} {procedure : ℕ} {main small : Bool} {may : List ℕ} {bound : ℕ} (named : LabelsStand e links all procedure main) (body : Y.Stmts) → AreProvedStatements block types body → AllJumpAround e.block e.level all e.blocks bl.outer (labels_in body ++ bl.labels) body → bl.taken.words + stmts_words body ≤ bl.words → Room small bl.stack.free (length bl.depths) (all_inner_words body) e.level → AreBare e.program body → {more : ℕ} → Entering e.program around more → more ≤ bound → ((b : BlockPlace) → IsAmong b (blocks_among body) → IsAmong b e.blocks) → AllCallAmong may body → Ways e block types bl.words bound small bl.outer bl.base bl.frames.known links code main may → Does bl links code around.turns (stmts_code e bl.taken body) (M.list around body)
 body_does bl links code routines around same named body are jumps room space bare entering least known calls ways =
     listed bl around body
     (each_does (within (labels_in body) bl) links code (standing_within (labels_in body) routines) around same named body are jumps room space bare entering least known calls ways)

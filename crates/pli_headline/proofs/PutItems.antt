@@ -37,6 +37,7 @@ use Rattle.pli_headline.proofs.Raising.{Routines}
 use Rattle.pli_headline.proofs.Expressions.{number_piece, bit_does, text_does}
 use Rattle.pli_headline.proofs.Ifs.{setting}
 use Rattle.pli_headline.proofs.Operators.{valued}
+use Rattle.pli_headline.proofs.Entered.{Frames}
 use Rattle.pli_headline.proofs.Statements.{Standing, Block, AllHold, counted_all, scope_of}
 use Rattle.pli_headline.proofs.FormatData.{items_data, Suit, formats_suit}
 use Rattle.pli_headline.proofs.EditItems.{putting}
@@ -61,7 +62,7 @@ ItemBehind {e = e} {block = block} {types = types} bl k line h0 t0 i n fs below 
     (s : State) (v : Services) (rest : List FormatItem) (h t : ℕ → ℕ) (f : Family) → Serving k s v line → AllHold bl.frames v.activations (e.level ∷ bl.depths) s block types n → Suit (has_fixed fs) (has_text fs) rest → v.edits ≡ putting (format_items fs) rest ∷ below → Stays bl.taken h0 t0 h t → ((b : Base) → At b i (Known (bl.ground n) v h t nothing b) (f b)) → aims.done i f v rest s
 
 -- acts leave what the variables hold
-all_kept : (frames levels : List ℕ) (block : ℕ) (types : Types) (n : Values) → Kept (λ xs s. AllHold frames xs levels s block types n)
+all_kept : (frames : Frames) (levels : List ℕ) (block : ℕ) (types : Types) (n : Values) → Kept (λ xs s. AllHold frames xs levels s block types n)
 all_kept frames levels block types n = record { keeps = λ xs w s all. counted_all w all }
 
 -- ---- a word in a0

@@ -50,7 +50,7 @@ divisor_piece {i = i} {s = s} true closed routines f around first x y k rest wy 
     (λ b. let o = (at b).holds in ap (λ u. is_set' u ((f b).machine.registers 0)) (o.regs.1.0 ∙ none) ∙ ap (is_set' 0) (zero_is o.body)) in
     onward closed r (λ f' at'.
     comes_on k (R.raised around C.ZeroDivide 30 k s) next'
-    (raised_piece (before_closed k next' closed) routines f' around C.ZeroDivide 3 30 (small a0 0 ∷ JumpAhead (size_of first) ∷ []) k refl (lit< tt) (lit< tt) (rest_of _ over (front_of (skip_where Test.NotEqual a0 zero_register over) first l)) serving at'))
+    (raised_piece (before_closed k next' closed) routines f' around C.ZeroDivide 3 30 (small a0 0 ∷ JumpAhead (size_of first) ∷ []) k refl refl (lit< tt) (lit< tt) (rest_of _ over (front_of (skip_where Test.NotEqual a0 zero_register over) first l)) serving at'))
   where
     is_set' : ℕ → ℕ → Bool
     is_set' a b = if a == b then false else true

@@ -107,10 +107,10 @@ raise_calling {code = code} {v = v} f c number n k l e small' only h fits at =
     }
 
 -- a raise of a condition without a unit of the program: an act, and 0 and the code come back
-raised_here : {links : Links} {code : List Instr} {i : ℕ} {g : Ground} {v : Services} {h t : ℕ → ℕ} {s : State} {line : ℕ} {aims : Aims (Unit {0})} (closed : Closed code aims) (credits : ℕ) (f : Family) (c : Condition) (number n k : ℕ) → credits < cost code → Linked links code i (Plain I.Ecall ∷ []) → U.condition_of number ≡ Some c → n < 2 ^ 16 → Serving k s v line → ((b : Base) → At b i (Known g v h t (raising_regs number n) b) (f b)) → ((f' : Family) → Serving k (with_world (raising c n s.world) s) (raised_by c n v) line → ((b : Base) → At b (i + 1) (Known g (raised_by c n v) h t (conditioned 0 n) b) (f' b)) → aims.done 0 f' (raised_by c n v) tt (with_world (raising c n s.world) s)) → Comes code credits f v aims (act (raising c n) k s)
-raised_here {code = code} {i = i} {g = g} {v = v} {h = h} {t = t} {s = s} closed credits f c number n k few l e small' serving at next' =
+raised_here : {links : Links} {code : List Instr} {i : ℕ} {g : Ground} {v : Services} {h t : ℕ → ℕ} {s : State} {line : ℕ} {aims : Aims (Unit {0})} (closed : Closed code aims) (credits : ℕ) (f : Family) (c : Condition) (number n k : ℕ) → credits < cost code → Linked links code i (Plain I.Ecall ∷ []) → U.condition_of number ≡ Some c → n < 2 ^ 16 → OnlyIf S.SystemUnit (U.force v.activations c) → Serving k s v line → ((b : Base) → At b i (Known g v h t (raising_regs number n) b) (f b)) → ((f' : Family) → Serving k (with_world (raising c n s.world) s) (raised_by c n v) line → ((b : Base) → At b (i + 1) (Known g (raised_by c n v) h t (conditioned 0 n) b) (f' b)) → aims.done 0 f' (raised_by c n v) tt (with_world (raising c n s.world) s)) → Comes code credits f v aims (act (raising c n) k s)
+raised_here {code = code} {i = i} {g = g} {v = v} {h = h} {t = t} {s = s} closed credits f c number n k few l e small' only serving at next' =
     let v' = raised_by c n v in
-    let calling = raise_calling f c number n k l e small' (only_served s.activations v.activations serving.nested c) serving.allowed serving.fits at in
+    let calling = raise_calling f c number n k l e small' only serving.allowed serving.fits at in
     let more : v'.world.acts ≡ suc v.world.acts = add-one v.world.acts in
     let pauses = call_pauses credits f v v' (λ b. (f b).machine.memory) (λ b. 0) (λ b. n) few serving.running (λ b. (at b).holds.body.services) more calling in
     let r = call_acts credits 0 f v v' (λ b. (f b).machine.memory) (λ b. 0) (λ b. n) (λ b. Known g v' h t (conditioned 0 n) b) few more calling
@@ -187,11 +187,11 @@ error_piece {X = X} {links = links} {code = code} {g = g} {v = v} {h = h} {t = t
     let next' = λ (u : Unit {0}). looked >>= (λ x. R.error_unit_run {R = X} around n (force x.activations C.Error)) in
     onward closed r (λ f1 at1.
     comes_on k (act (raising C.Error n) k s) next'
-    (raised_here (before_closed k next' closed) (credits + 4) f1 C.Error 5 n k few (first_of (Plain I.Ecall) behind at_call) refl small' serving at1
+    (raised_here (before_closed k next' closed) (credits + 4) f1 C.Error 5 n k few (first_of (Plain I.Ecall) behind at_call) refl small' (only_served s.activations v.activations serving.nested C.Error refl) serving at1
     (λ f2 serving2 at2.
     let s2 = with_world (raising C.Error n s.world) s in
     let q = skip_taken 0 f2 Test.Equal a0 zero_register (JumpAhead (size_of error_end) ∷ []) (front_of (to_unit (size_of error_end)) error_end at_test) at2 (λ b. zero_equal _ _ (at2 b).holds.regs.0 (zero_is (at2 b).holds.body)) in
-    subst (Comes code 0 f2 (raised_by C.Error n v) _) (sym (unit_of_error X around n k s2 (only_in_force s2.activations v.activations serving2.nested C.Error)))
+    subst (Comes code 0 f2 (raised_by C.Error n v) _) (sym (unit_of_error X around n k s2 (only_in_force s2.activations v.activations serving2.nested C.Error refl)))
     (onward closed q (λ f3 at3. error_ends closed 3 f3 n k around.line small' (let i = mine.inside in omega (arith, i)) (back_of (to_unit (size_of error_end)) error_end at_test) serving2 at3)))))
 
 -- ---- other conditions
@@ -206,10 +206,10 @@ unit_of_raise : (around : Around) (c : Condition) (n k : ℕ) (s : State) → On
 unfolding looked ◌>>=◌
 unit_of_raise around c n k s only = unit_run_is around n k s (force s.activations c) only
 
--- a condition is raised at its routine
-pub raise_piece : {links : Links} {code : List Instr} {g : Ground} {v : Services} {h t : ℕ → ℕ} {s : State} {aims : Aims (Unit {0})} (closed : Closed code aims) (routines : Routines links code) (credits : ℕ) (f : Family) (around : Around) (c : Condition) (number n k : ℕ) → U.condition_of number ≡ Some c → n < 2 ^ 16 → credits + 4 < cost code → Serving k s v around.line → ((b : Base) → At b routines.at (Known g v h t (conditioned number n) b) (f b)) → Comes code credits f v aims (R.raised around c n k s)
+-- a condition is raised at its routine, where no unit of the program is in force for it
+pub raise_piece : {links : Links} {code : List Instr} {g : Ground} {v : Services} {h t : ℕ → ℕ} {s : State} {aims : Aims (Unit {0})} (closed : Closed code aims) (routines : Routines links code) (credits : ℕ) (f : Family) (around : Around) (c : Condition) (number n k : ℕ) → U.condition_of number ≡ Some c → n < 2 ^ 16 → credits + 4 < cost code → OnlyIf SystemUnit (force s.activations c) → OnlyIf S.SystemUnit (U.force v.activations c) → Serving k s v around.line → ((b : Base) → At b routines.at (Known g v h t (conditioned number n) b) (f b)) → Comes code credits f v aims (R.raised around c n k s)
 unfolding R.raised ◌>>◌
-raise_piece {links = links} {code = code} {g = g} {v = v} {h = h} {t = t} {s = s} closed routines credits f around c number n k is small' few serving at =
+raise_piece {links = links} {code = code} {g = g} {v = v} {h = h} {t = t} {s = s} closed routines credits f around c number n k is small' few only served serving at =
     let front = Mark RaiseCondition ∷ BaseIn u0 ∷ subtract a2 return_register u0 ∷ small a7 30 ∷ [] in
     let behind = to_unit (size_of error_code) ++ (error_code ++ unit_begun) in
     let mine = routines.linked in
@@ -226,10 +226,10 @@ raise_piece {links = links} {code = code} {g = g} {v = v} {h = h} {t = t} {s = s
     let next' = λ (u : Unit {0}). looked >>= (λ x. R.unit_run around n (force x.activations c)) in
     onward closed r (λ f1 at1.
     comes_on k (act (raising c n) k s) next'
-    (raised_here (before_closed k next' closed) (credits + 4) f1 c number n k few (first_of (Plain I.Ecall) behind at_call) is small' serving at1
+    (raised_here (before_closed k next' closed) (credits + 4) f1 c number n k few (first_of (Plain I.Ecall) behind at_call) is small' served serving at1
     (λ f2 serving2 at2.
     let s2 = with_world (raising c n s.world) s in
     let q = skip_taken 0 f2 Test.Equal a0 zero_register (JumpAhead (size_of error_code) ∷ []) (front_of (to_unit (size_of error_code)) (error_code ++ unit_begun) at_test) at2 (λ b. zero_equal _ _ (at2 b).holds.regs.0 (zero_is (at2 b).holds.body)) in
-    subst (Comes code 0 f2 (raised_by c n v) _) (sym (unit_of_raise around c n k s2 (only_in_force s2.activations v.activations serving2.nested c)))
+    subst (Comes code 0 f2 (raised_by c n v) _) (sym (unit_of_raise around c n k s2 only))
     (onward closed q (λ f3 at3. error_piece closed routines 3 f3 around n k small' (let i = mine.inside in omega (arith, i)) serving2
     (λ b. let o = at3 b in record { pc = o.pc ∙ ap (address b) (omega arith); holds = record { body = o.holds.body; regs = (o.holds.regs.1.0, tt) } }))))))

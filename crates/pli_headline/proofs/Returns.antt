@@ -159,7 +159,7 @@ own_return_does {e} bl links code around number line false level reaches fits ow
           let next' : Unit {0} → Meaning (Unit {0}) = λ u. returns None in
           let holds = bl.bottom.holds in
           let l1 = back_of a c l in
-          let lowest = bottom_is bl.base bl.frames v.activations all.framed bl.bottom.rest in
+          let lowest = bottom_is bl.base bl.frames.list v.activations all.framed bl.bottom.rest in
           let v2 = unwound_services (acted line v) lowest.activation [] in
           comes_on k (act counted k s) next'
           (act_to (before_closed k next' closed) i 0 f line old k fits (omega (arith, inside, size)) (front_of a c l) serving at
@@ -199,7 +199,11 @@ end_does {e} bl links code around line deep fits owned once =
           (λ f1 serving1 at1.
           onward closed (jump_piece 0 o.at f1 (ReturnPlace e.block) o.at (omega (arith, later)) o.place o.near free_far (back_of a c l) at1)
           (λ f2 at2.
-          record { to = o.leaves (with_world (counted s.world) s) (acted line v) line n h t f2 serving1 (counted_all _ all) at2 })));
+          record {
+            to =
+                o.leaves (with_world (counted s.world) s) (acted line v) line n h t f2 (bl.ground n).free serving1 (counted_all _ all)
+                (λ b. let p = (at2 b).holds in record { pc = (at2 b).pc; holds = record { body = record { services = p.body.services; registers = p.body.registers; bytes = p.body.bytes; memory = p.body.memory }; regs = tt } });
+          })));
     }
 
 pub own_end_does : {e : Environment} {block : ℕ} {types : Types} (bl : Block e block types) (links : Links) (code : List Instr) (around : Around) (line : ℕ) → (0 == e.level) ≡ false → line < 2 ^ 31 → e.owner ≡ BlockOwner (record { number = e.block; level = e.level }) → IsEndMarkedOnce links e.block → Does bl links code around.turns (stmt_code e bl.taken (Y.Return line)) (M.statement around (Y.Return line))

@@ -218,8 +218,22 @@ jumping =
 jumping_proved : AreProvedStatements 1 [] jumping
 jumping_proved = ((tt, (((tt, (lit< tt, lit< tt)), (lit< tt, tt)), lit< tt)), tt)
 
-jumps_around : AllJumpAround 1 0 (all_labels 1 jumping) 1 [] (labels_in jumping) jumping
+jumps_around : AllJumpAround 1 0 (all_labels 1 jumping) (record { number = 1; level = 0 } ∷ []) [] (labels_in jumping) jumping
 jumps_around = ((inl (refl, (refl, refl)), (inl (refl, (refl, refl)), tt)), tt)
+
+-- BEGIN; L: BEGIN; GOTO L; END; END;
+abbrev jumping_out : Y.Stmts
+jumping_out =
+    Y.StmtThen []
+    (Y.Begin (Y.BlockOf (record { kind = Y.BeginBlock; number = 2; level = 1; line = 2 })
+    (Y.StmtThen ((76 ∷ []) ∷ [])
+    (Y.Begin (Y.BlockOf (record { kind = Y.BeginBlock; number = 3; level = 2; line = 3 }) (Y.StmtThen [] (Y.Goto 1 (76 ∷ []) 4) (Y.EndOfList []))))
+    (Y.EndOfList []))))
+    (Y.EndOfList [])
+
+jumps_outward : AllJumpAround 1 0 (all_labels 1 jumping_out) (record { number = 1; level = 0 } ∷ record { number = 2; level = 1 } ∷ record { number = 3; level = 2 } ∷ []) [] (labels_in jumping_out) jumping_out
+jumps_outward =
+    (((refl, omega arith), (((refl, omega arith), (inr (inl (refl, (refl, (refl, refl)))), tt)), tt)), tt)
 
 -- (X(1), 2 (COLUMN(3), F(5)), A)
 abbrev page : T.Formats
@@ -412,8 +426,8 @@ block_program =
           (refl, (lit< tt, (((inl i, tt), (lit< tt, lit< tt)), ((refl, (lit< tt, ((tt, (lit< tt, lit< tt)), ((tt, (lit< tt, lit< tt)), (lit< tt, tt))))), tt)))),
           tt,
         );
-        jumps = (((refl, omega arith), (tt, (((refl, omega arith), (inl (refl, (refl, refl)), (inr ((refl, refl), (omega arith, (refl, refl))), (tt, tt)))), tt))), tt);
-        calls = ((tt, ((tt, (tt, (inl refl, tt))), tt)), tt);
+        jumps = (((refl, omega arith), (tt, (((refl, omega arith), (inl (refl, (refl, refl)), (inr (inr (inl (refl, (refl, (refl, refl))))), (tt, tt)))), tt))), tt);
+        calls = ((tt, ((tt, (tt, (tt, tt))), tt)), tt);
         inside = ((refl, (tt, ((refl, (tt, (tt, (tt, tt)))), tt))), tt);
       };
       inner = tt;
@@ -479,13 +493,13 @@ procedure_program =
       once = tt;
     }
 
--- T: PROC OPTIONS(MAIN); DECLARE I FIXED BINARY(31); CALL P; P: PROC; BEGIN; CALL P; END; RETURN; END; END;
+-- T: PROC OPTIONS(MAIN); DECLARE I FIXED BINARY(31); CALL P; P: PROC; BEGIN; CALL P; RETURN; END; RETURN; END; END;
 abbrev calling_body : Y.Stmts
 calling_body = Y.StmtThen [] (Y.CallProcedure (Y.Calling 2 0 Y.NoArgument) 2) (Y.EndOfList [])
 
 abbrev called_body : Y.Stmts
 called_body =
-    Y.StmtThen [] (Y.Begin (Y.BlockOf (record { kind = Y.BeginBlock; number = 3; level = 2; line = 3 }) (Y.StmtThen [] (Y.CallProcedure (Y.Calling 2 0 Y.NoArgument) 3) (Y.EndOfList []))))
+    Y.StmtThen [] (Y.Begin (Y.BlockOf (record { kind = Y.BeginBlock; number = 3; level = 2; line = 3 }) (Y.StmtThen [] (Y.CallProcedure (Y.Calling 2 0 Y.NoArgument) 3) (Y.StmtThen [] (Y.Return 3) (Y.EndOfList [])))))
     (Y.StmtThen [] (Y.Return 3) (Y.EndOfList []))
 
 abbrev with_call : Y.Program
@@ -525,10 +539,10 @@ call_program =
           apart = refl;
           level = refl;
           bare = refl;
-          statements = ((refl, (lit< tt, ((refl, lit< tt), tt))), (lit< tt, tt));
-          jumps = (((refl, omega arith), (tt, tt)), (tt, tt));
-          inside = ((refl, (tt, tt)), (tt, tt));
-          callable = λ h. record { kind = refl; line = lit< tt; calls = ((refl, tt), (inr refl, tt)); few = omega arith };
+          statements = ((refl, (lit< tt, ((refl, lit< tt), (lit< tt, tt)))), (lit< tt, tt));
+          jumps = (((refl, omega arith), (tt, (tt, tt))), (tt, tt));
+          inside = ((refl, (tt, (tt, tt))), (tt, tt));
+          callable = λ h. record { kind = refl; line = lit< tt; calls = ((refl, (tt, tt)), (tt, tt)); few = omega arith };
         },
         tt,
       );

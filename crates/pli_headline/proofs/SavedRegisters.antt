@@ -93,7 +93,7 @@ held_apart (suc (suc (suc (suc (suc zero))))) l y u = refl
 held_apart (suc (suc (suc (suc (suc (suc zero)))))) l y u = refl
 held_apart (suc (suc (suc (suc (suc (suc (suc n))))))) l y u = absurd (omega (arith, l))
 
-frame_place : (at n : ℕ) → at % 4 ≡ 0 → 7 * 2 ^ 20 ≤ at → at + 164 ≤ 15 * 2 ^ 20 → n % 4 ≡ 0 → n ≤ 160 → PlaceFrom at (pos n) (at + n)
+pub frame_place : (at n : ℕ) → at % 4 ≡ 0 → 7 * 2 ^ 20 ≤ at → at + 164 ≤ 15 * 2 ^ 20 → n % 4 ≡ 0 → n ≤ 160 → PlaceFrom at (pos n) (at + n)
 frame_place at n whole high room even few =
     record {
       small' = above_small n (omega (arith, few));
@@ -103,11 +103,11 @@ frame_place at n whole high room even few =
       above_code = omega (arith, high);
     }
 
--- ---- what is known when a procedure is called: where its frame will stand, the frame of the block that declares it, that no texts go with
--- it, and where it returns to
+-- ---- what is known when a procedure is called or an on-unit begins: where its frame will stand, the frame of the block that declares it, how
+-- many texts go with it, and where it returns to
 
-abbrev pub called_regs : (at base : ℕ) → (back : Base → ℕ) → Base → List (ℕ × ℕ)
-called_regs at base back b = (5, b.at + at) ∷ (10, b.at + base) ∷ (12, 0) ∷ (1, back b) ∷ []
+abbrev pub called_regs : (at base texts : ℕ) → (back : Base → ℕ) → Base → List (ℕ × ℕ)
+called_regs at base texts back b = (5, b.at + at) ∷ (10, b.at + base) ∷ (12, texts) ∷ (1, back b) ∷ []
 
 saved_by : (q : Bool) (m : List ℕ) (at n j : ℕ) (h : ℕ → ℕ) → (j == n) ≡ q → length m ≡ memory_size → at + 164 ≤ 15 * 2 ^ 20 → n < 7 → j < suc n → (j < n → load 4 m (at + (8 + 4 * j)) ≡ h j % 2 ^ 32) → load 4 (store 4 m (at + (8 + 4 * n)) (h n)) (at + (8 + 4 * j)) ≡ h j % 2 ^ 32
 saved_by true m at n j h e len room few below old =
@@ -117,13 +117,13 @@ saved_by false m at n j h e len room few below old =
     let less : j < n = grind (arith, nat_tests) in
     load-store_other 4 4 m (at + (8 + 4 * n)) (h n) (at + (8 + 4 * j)) (inl (omega (arith, less))) ∙ old less
 
-more_saved : {g : Ground} {t : ℕ → ℕ} (at base : ℕ) (back : Base → ℕ) (h : ℕ → ℕ) → SavingAt g t at → (left n : ℕ) {links : Links} {code : List Instr} {i : ℕ} {v : Services} (c : ℕ) (f : Family) → n + left ≡ 7 → Linked links code i (registers_saved u0 n left) → ((b : Base) → At b i (Known (saved_ground g at back h n) v h t (called_regs at base back) b) (f b)) → Reach code c f v (c + size_of (registers_saved u0 n left)) v (λ b w. At b (i + size_of (registers_saved u0 n left)) (Known (saved_ground g at back h 7) v h t (called_regs at base back) b) w)
-more_saved {g} {t} at base back h s zero n {code = code} {i = i} {v = v} c f all l there =
+more_saved : {g : Ground} {t : ℕ → ℕ} (at base texts : ℕ) (back : Base → ℕ) (h : ℕ → ℕ) → SavingAt g t at → (left n : ℕ) {links : Links} {code : List Instr} {i : ℕ} {v : Services} (c : ℕ) (f : Family) → n + left ≡ 7 → Linked links code i (registers_saved u0 n left) → ((b : Base) → At b i (Known (saved_ground g at back h n) v h t (called_regs at base texts back) b) (f b)) → Reach code c f v (c + size_of (registers_saved u0 n left)) v (λ b w. At b (i + size_of (registers_saved u0 n left)) (Known (saved_ground g at back h 7) v h t (called_regs at base texts back) b) w)
+more_saved {g} {t} at base texts back h s zero n {code = code} {i = i} {v = v} c f all l there =
     let seven : n ≡ 7 = omega (arith, all) in
     reach_moved (omega arith) (omega arith)
-    (stay code c f v (λ b w. At b i (Known (saved_ground g at back h 7) v h t (called_regs at base back) b) w)
-    (λ b. subst (λ k. At b i (Known (saved_ground g at back h k) v h t (called_regs at base back) b) (f b)) seven (there b)))
-more_saved {g} {t} at base back h s (suc left) n c f all l there =
+    (stay code c f v (λ b w. At b i (Known (saved_ground g at back h 7) v h t (called_regs at base texts back) b) w)
+    (λ b. subst (λ k. At b i (Known (saved_ground g at back h k) v h t (called_regs at base texts back) b) (f b)) seven (there b)))
+more_saved {g} {t} at base texts back h s (suc left) n c f all l there =
     let first = store_word u0 (held n) (saved_register n) in
     let rest = registers_saved u0 (suc n) left in
     let size = size_append first rest in
@@ -143,12 +143,12 @@ more_saved {g} {t} at base back h s (suc left) n c f all l there =
     ))
     (record { reserved_stay = λ y u. refl; known_stay = λ b y u q. q; set = λ y u. refl })
     (front_of first rest l) there in
-    let r2 = more_saved at base back h s left (suc n) (c + size_of first) (reached r1) (omega (arith, all)) (back_of first rest l) (reached_holds r1) in
+    let r2 = more_saved at base texts back h s left (suc n) (c + size_of first) (reached r1) (omega (arith, all)) (back_of first rest l) (reached_holds r1) in
     reach_moved (omega (arith, size)) (omega (arith, size)) (reach_then r1 r2)
 
 -- all of them
-pub saved_piece : {g : Ground} {t : ℕ → ℕ} (at base : ℕ) (back : Base → ℕ) (h : ℕ → ℕ) → SavingAt g t at → ((b : Base) → back b < 2 ^ 32) → {links : Links} {code : List Instr} {i : ℕ} {v : Services} (c : ℕ) (f : Family) → Linked links code i (all_saved u0) → ((b : Base) → At b i (Known g v h t (called_regs at base back) b) (f b)) → Reach code c f v (c + size_of (all_saved u0)) v (λ b w. At b (i + size_of (all_saved u0)) (Known (saved_ground g at back h 7) v h t (called_regs at base back) b) w)
-saved_piece {g} {t} at base back h s fits c f l there =
+pub saved_piece : {g : Ground} {t : ℕ → ℕ} (at base texts : ℕ) (back : Base → ℕ) (h : ℕ → ℕ) → SavingAt g t at → ((b : Base) → back b < 2 ^ 32) → {links : Links} {code : List Instr} {i : ℕ} {v : Services} (c : ℕ) (f : Family) → Linked links code i (all_saved u0) → ((b : Base) → At b i (Known g v h t (called_regs at base texts back) b) (f b)) → Reach code c f v (c + size_of (all_saved u0)) v (λ b w. At b (i + size_of (all_saved u0)) (Known (saved_ground g at back h 7) v h t (called_regs at base texts back) b) w)
+saved_piece {g} {t} at base texts back h s fits c f l there =
     let first = store_word u0 return_register return_address in
     let rest = registers_saved u0 0 7 in
     let size = size_append first rest in
@@ -167,7 +167,7 @@ saved_piece {g} {t} at base back h s fits c f l there =
     ))
     (record { reserved_stay = λ y u. refl; known_stay = λ b y u q. q; set = λ y u. refl })
     (front_of first rest l) there in
-    let r2 = more_saved at base back h s 7 0 (c + size_of first) (reached r1) refl (back_of first rest l) (reached_holds r1) in
+    let r2 = more_saved at base texts back h s 7 0 (c + size_of first) (reached r1) refl (back_of first rest l) (reached_holds r1) in
     reach_moved (omega (arith, size)) (omega (arith, size)) (reach_then r1 r2)
 
 -- ---- on the way back

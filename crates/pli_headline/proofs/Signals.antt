@@ -1,4 +1,4 @@
--- SIGNAL: a condition is raised, which ends the run while no unit is in force.
+-- SIGNAL of a condition other than AREA: it is raised, which ends the run, since no unit of the program is in force for it.
 use Rattle.std.proofs.Common.{ℕ, ◌+◌, ◌^◌, ◌<◌, List, [], ◌∷◌, refl, arith, lit<}
 use Rattle.pli_language.specs.declared.condition.Condition.{Condition}
 use Rattle.pli_language.specs.declared.condition.Condition.TheVariants as C
@@ -24,6 +24,7 @@ use Rattle.pli_headline.proofs.Items.{Linked, At, straight}
 use Rattle.pli_headline.proofs.Bodies.{Ground, Known, zero_is}
 use Rattle.pli_headline.proofs.Jumps.{front_of, back_of, jump_piece}
 use Rattle.pli_headline.proofs.Temporaries.{nothing}
+use Rattle.pli_headline.proofs.Activations.{IsOther}
 use Rattle.pli_headline.proofs.Calls.{Serving}
 use Rattle.pli_headline.proofs.Raising.{Routines, coded, small_is, error_piece}
 use Rattle.pli_headline.proofs.Acts.{act_piece}
@@ -31,17 +32,16 @@ use Rattle.pli_headline.proofs.Operators.{raised_piece}
 use Rattle.pli_headline.proofs.Statements.{Block, Does}
 use Rattle.pli_headline.proofs.Reach.{Family, Aims, Comes, Closed, before_closed, comes_on, onward}
 
-signal_piece : {links : Links} {code : List Instr} {i : ℕ} {g : Ground} {v : Services} {h t : ℕ → ℕ} {s : State} {aims : Aims (Unit {0})} (c : Condition) (closed : Closed code aims) (routines : Routines links code) (f : Family) (around : Around) (k : ℕ) → Linked links code i (signal_code c) → Serving k s v around.line → ((b : Base) → At b i (Known g v h t nothing b) (f b)) → Comes code i f v aims (M.signalled around c k s)
+signal_piece : {links : Links} {code : List Instr} {i : ℕ} {g : Ground} {v : Services} {h t : ℕ → ℕ} {s : State} {aims : Aims (Unit {0})} (c : Condition) → IsOther c → (closed : Closed code aims) (routines : Routines links code) (f : Family) (around : Around) (k : ℕ) → Linked links code i (signal_code c) → Serving k s v around.line → ((b : Base) → At b i (Known g v h t nothing b) (f b)) → Comes code i f v aims (M.signalled around c k s)
 unfolding M.signalled
-signal_piece C.Area closed routines f around k l serving at =
-    raised_piece closed routines f around C.Area 1 (code_signalled C.Area) [] k refl (lit< tt) (lit< tt) l serving at
-signal_piece C.FixedOverflow closed routines f around k l serving at =
-    raised_piece closed routines f around C.FixedOverflow 2 (code_signalled C.FixedOverflow) [] k refl (lit< tt) (lit< tt) l serving at
-signal_piece C.ZeroDivide closed routines f around k l serving at =
-    raised_piece closed routines f around C.ZeroDivide 3 (code_signalled C.ZeroDivide) [] k refl (lit< tt) (lit< tt) l serving at
-signal_piece C.Endfile closed routines f around k l serving at =
-    raised_piece closed routines f around C.Endfile 4 (code_signalled C.Endfile) [] k refl (lit< tt) (lit< tt) l serving at
-signal_piece {i = i} {g = g} {v = v} {h = h} {t = t} C.Error closed routines f around k l serving at =
+signal_piece C.Area other closed routines f around k l serving at = absurd (cc other)
+signal_piece C.FixedOverflow other closed routines f around k l serving at =
+    raised_piece closed routines f around C.FixedOverflow 2 (code_signalled C.FixedOverflow) [] k refl refl (lit< tt) (lit< tt) l serving at
+signal_piece C.ZeroDivide other closed routines f around k l serving at =
+    raised_piece closed routines f around C.ZeroDivide 3 (code_signalled C.ZeroDivide) [] k refl refl (lit< tt) (lit< tt) l serving at
+signal_piece C.Endfile other closed routines f around k l serving at =
+    raised_piece closed routines f around C.Endfile 4 (code_signalled C.Endfile) [] k refl refl (lit< tt) (lit< tt) l serving at
+signal_piece {i = i} {g = g} {v = v} {h = h} {t = t} C.Error other closed routines f around k l serving at =
     let n = code_signalled C.Error in
     let front = small a1 n ∷ [] in
     let last = JumpTo RaiseError ∷ [] in
@@ -57,9 +57,9 @@ signal_piece {i = i} {g = g} {v = v} {h = h} {t = t} C.Error closed routines f a
     onward closed (jump_piece (i + 1) (i + 1 + 2) f1 RaiseError (routines.at + 8) (omega arith) routines.error (omega (arith, whole, near)) (record { reserved_stay = λ y u. refl; known_stay = λ b y u p. p; set = λ y u. refl }) (back_of front last l) at1)
     (λ f2 at2. error_piece closed routines (i + 1 + 2) f2 around n k (lit< tt) (omega (arith, inside, whole)) serving at2))
 
-pub signal_does : {e : Environment} {block : ℕ} {types : Types} (bl : Block e block types) (links : Links) (code : List Instr) (routines : Routines links code) (around : Around) (c : Condition) (line : ℕ) → line < 2 ^ 31 → Does bl links code around.turns (stmt_code e bl.taken (Y.Signal c line)) (M.statement around (Y.Signal c line))
+pub signal_does : {e : Environment} {block : ℕ} {types : Types} (bl : Block e block types) (links : Links) (code : List Instr) (routines : Routines links code) (around : Around) (c : Condition) (line : ℕ) → IsOther c → line < 2 ^ 31 → Does bl links code around.turns (stmt_code e bl.taken (Y.Signal c line)) (M.statement around (Y.Signal c line))
 unfolding M.statement ◌>>◌
-signal_does bl links code routines around c line fits =
+signal_does bl links code routines around c line other fits =
     record {
       does = λ {i} {s} {v} {h} {t} {aims} closed old n f k l serving all at goal more.
           let a = act_code line in
@@ -67,5 +67,5 @@ signal_does bl links code routines around c line fits =
           let next' : Unit {0} → Meaning (Unit {0}) = λ u. M.signalled here c in
           comes_on k (act counted k s) next'
           (act_piece (before_closed k next' closed) f line old k fits (front_of a (signal_code c) l) serving at
-          (λ f1 serving1 at1. signal_piece c closed routines f1 here k (back_of a (signal_code c) l) serving1 at1));
+          (λ f1 serving1 at1. signal_piece c other closed routines f1 here k (back_of a (signal_code c) l) serving1 at1));
     }

@@ -1,29 +1,31 @@
 -- The code of statements that are proved marks the labels of their lists, each as often as it stands there, and nothing else.
-use Rattle.std.proofs.Common.{◌≡◌, ℕ, zero, suc, ◌+◌, List, [], ◌∷◌, ◌++◌, map, Option, None, Some, false, refl, sym, ap, ◌∙◌}
+use Rattle.std.proofs.Common.{◌≡◌, ℕ, zero, suc, ◌+◌, List, [], ◌∷◌, ◌++◌, map, Option, None, Some, true, false, refl, sym, ap, ◌∙◌, subst}
 use Rattle.std.specs.Prelude.{ℤ, pos, neg_ℤ, cond, ◌==◌}
+use Rattle.rv_meaning.specs.declared.instr.Instr.TheVariants as I
 use Rattle.rv_meaning.specs.declared.instr.BranchTest.TheVariants as Test
 use Rattle.pli_language.specs.declared.condition.Condition.{Condition}
 use Rattle.pli_language.specs.declared.condition.Condition.TheVariants as C
 use Rattle.pli_typing.specs.TypedTree as Y
 use Rattle.pli_meaning.specs.Control.{Label}
 use Rattle.pli_coding.specs.Registers.{zero_register, stack_register, frame_register, a0, a1, a2, u0, u1, u2}
-use Rattle.pli_coding.specs.Assembly.{Symbol, BaseIn, ProcedureEntry, LabelPlace, ReturnPlace, JumpTo, CallTo, JumpAhead, JumpBack, Code, size_of}
-use Rattle.pli_coding.specs.Instructions.{move, subtract, small, number, plus, load_word, store_word, skip_where, service, tested_service}
-use Rattle.pli_coding.specs.Environments.{Owner, BlockOwner, UnitOwner, Environment, Taken, none_taken, block_around}
+use Rattle.pli_coding.specs.Assembly.{Symbol, Plain, BaseIn, ProcedureEntry, LabelPlace, ReturnPlace, JumpTo, CallTo, JumpAhead, JumpBack, Code, size_of}
+use Rattle.pli_coding.specs.Instructions.{add, move, subtract, small, number, plus, load_word, store_word, skip_where, service, tested_service}
+use Rattle.pli_coding.specs.Environments.{Owner, BlockOwner, UnitOwner, Environment, in_frame, owned_by, Taken, none_taken, block_around}
 use Rattle.pli_coding.specs.Frames.{frame_below, own_offset, lower_top, display, fixed_size, frame_end, temporary_bytes, words_place}
-use Rattle.pli_coding.specs.Entries.{display_copied, display_made, frame_begun, block_left, entered_without_texts, variables_made, variables_code}
+use Rattle.pli_coding.specs.Entries.{registers_restored, all_saved, display_copied, display_made, frame_begun, block_left, entered_without_texts, variables_made, variables_code}
 use Rattle.pli_meaning.specs.DeclaredShapes.{variables_of_block}
 use Rattle.pli_coding.specs.Arithmetic.{sum_code, fitted_code}
 use Rattle.pli_coding.specs.Expressions.{frame_given, number_code, bit_code, call_code}
 use Rattle.pli_coding.specs.Storing.{word_stored, assigned_code}
 use Rattle.pli_coding.specs.Streams.{put_pairs, get_pairs, edit_ended, skip_option}
 use Rattle.pli_coding.specs.Allocating.{act_code}
-use Rattle.pli_coding.specs.Statements.{if_met, while_met, once_code, in_turns, before_turns, limit_place, step_place, start_place, start_code, limit_code, step_code, start_loaded, started_code, count_begun, limit_tested, limit_kept, while_kept, stepped_code, turn_of, turns_code, words_behind_limit, words_behind_condition, words_back, signal_code, unwound_to, returned_by, goto_outer, goto_code, marked, stmt_code, stmts_code, stmts_words, block_words, begin_environment, begin_code, condition_given}
-use Rattle.pli_headline.specs.ProvedSoFar.{Types, IsOwn, IsProvedNumber, IsProvedNumberIf, IsProvedBit, IsProvedBitIf, IsProvedStatement, AreProvedStatements, IsBare, AreBare, of_block, inner_labels, all_labels, IsProvedStart}
+use Rattle.pli_coding.specs.Statements.{if_met, while_met, once_code, in_turns, before_turns, limit_place, step_place, start_place, start_code, limit_code, step_code, start_loaded, started_code, count_begun, limit_tested, limit_kept, while_kept, stepped_code, turn_of, turns_code, words_behind_limit, words_behind_condition, words_back, signal_code, unwound_to, returned_by, goto_outer, goto_code, marked, stmt_code, stmts_code, stmts_words, block_words, begin_environment, begin_code, condition_given, unit_established, unit_left}
+use Rattle.pli_headline.specs.ProvedSoFar.{Types, IsOwn, IsProvedNumber, IsProvedNumberIf, IsProvedBit, IsProvedBitIf, IsSimple, IsProvedStatement, AreProvedStatements, IsBare, AreBare, of_block, inner_labels, all_labels, IsProvedStart}
 use Rattle.pli_headline.proofs.SymbolsMarked.{symbols_marked, Marks, both_mark, behind, before, either, constant_none, load_none, store_none, plus_none, overflow_none, act_none, fitted_none}
 use Rattle.pli_headline.proofs.PutMarks.{pairs_none, skip_none}
 use Rattle.pli_headline.proofs.GetMarks.{gets_none, get_skip_none}
 use Rattle.pli_headline.proofs.Variables.{HasTypes}
+use Rattle.pli_headline.proofs.OnUnits.{unit_by}
 use Rattle.pli_headline.proofs.ExpressionMarks.{reference_none, number_none, bit_none, target_none, text_stored_none, number_assigned_none, bit_assigned_none, text_none}
 
 -- the places of labels
@@ -88,6 +90,17 @@ inner_begun_none : (words level : ℕ) → Marks (frame_begun words level 0 fals
 inner_begun_none words level =
     let up = plus u0 stack_register (pos (temporary_bytes words)) in
     let first = store_word u0 frame_register frame_below ++ (load_word u1 frame_register lower_top ++ (move frame_register u0 ∷ store_word frame_register u1 lower_top)) in
+    let made = display_made level in
+    let own = BaseIn u1 ∷ subtract u1 frame_register u1 ∷ store_word frame_register u1 own_offset in
+    let raised = plus stack_register frame_register (pos (fixed_size level 0)) in
+    behind up (first ++ (made ++ (own ++ raised))) [] (plus_none u0 stack_register (pos (temporary_bytes words)))
+    (behind first (made ++ (own ++ raised)) [] refl
+    (behind made (own ++ raised) [] (display_none level) (behind own raised [] refl (plus_none stack_register frame_register (pos (fixed_size level 0))))))
+
+pub called_begun_none : (words level : ℕ) → Marks (frame_begun words level 0 true) []
+called_begun_none words level =
+    let up = plus u0 stack_register (pos (temporary_bytes words)) in
+    let first = all_saved u0 ++ (store_word u0 frame_register frame_below ++ (load_word u1 frame_register lower_top ++ (move frame_register u0 ∷ store_word frame_register u1 lower_top))) in
     let made = display_made level in
     let own = BaseIn u1 ∷ subtract u1 frame_register u1 ∷ store_word frame_register u1 own_offset in
     let raised = plus stack_register frame_register (pos (fixed_size level 0)) in
@@ -192,6 +205,58 @@ turns_mark e t block types precision r limit condition line c ss has own' isc h 
     (behind con (c ++ (sp ++ jump)) ss (condition_none e t block types condition (words_behind_condition u) has isc)
     (before c (sp ++ jump) ss h (behind sp jump [] (stepped_none e t block types precision r line has own') refl))))
 
+-- ---- on-units
+
+simple_labels : (block : ℕ) (x : Y.Stmt) → IsSimple x → inner_labels block x ≡ []
+simple_labels block (Y.Null line) simple = refl
+simple_labels block (Y.Assign target source line) simple = refl
+simple_labels block (Y.CallProcedure call line) simple = refl
+simple_labels block (Y.Stop line) simple = refl
+simple_labels block (Y.Signal condition line) simple = refl
+simple_labels block (Y.OnSystem condition line) simple = refl
+simple_labels block (Y.Revert condition line) simple = refl
+simple_labels block (Y.Put skip pairs line) simple = refl
+simple_labels block (Y.Get skip pairs line) simple = refl
+simple_labels block _ simple = absurd simple
+
+simple_bare : (program : Y.Program) (x : Y.Stmt) → IsSimple x → IsBare program x
+simple_bare program (Y.Null line) simple = tt
+simple_bare program (Y.Assign target source line) simple = tt
+simple_bare program (Y.CallProcedure call line) simple = tt
+simple_bare program (Y.Stop line) simple = tt
+simple_bare program (Y.Signal condition line) simple = tt
+simple_bare program (Y.OnSystem condition line) simple = tt
+simple_bare program (Y.Revert condition line) simple = tt
+simple_bare program (Y.Put skip pairs line) simple = tt
+simple_bare program (Y.Get skip pairs line) simple = tt
+simple_bare program _ simple = absurd simple
+
+unit_left_none : (words : ℕ) → Marks (unit_left words) []
+unit_left_none words =
+    let z : ℤ = neg_ℤ (pos (temporary_bytes words)) in
+    let up = plus stack_register frame_register z in
+    let below = load_word frame_register frame_register frame_below in
+    let last = BaseIn u0 ∷ add u0 u0 a0 ∷ Plain (I.JumpRegister zero_register u0 (pos 0)) ∷ [] in
+    behind (service 31) (registers_restored 0 7 ++ ((up ++ below) ++ last)) [] refl
+    (behind (registers_restored 0 7) ((up ++ below) ++ last) [] refl
+    (behind (up ++ below) last [] (behind up below [] (plus_none stack_register frame_register z) refl) refl))
+
+-- a unit marks nothing, as its single statement doesn't
+unit_none : (e : Environment) (head : Y.BlockHead) (x : Y.Stmt) → IsSimple x → head.kind ≡ Y.SimpleUnit → Marks (stmt_code (owned_by UnitOwner (in_frame head.number head.level e)) none_taken x) (places_of (inner_labels head.number x)) → Marks (unit_by e head (Y.StmtThen [] x (Y.EndOfList [])) head.kind head.level) []
+unit_none e head x simple kind marks =
+    let c = stmt_code (owned_by UnitOwner (in_frame head.number head.level e)) none_taken x in
+    let words = stmts_words (Y.StmtThen [] x (Y.EndOfList [])) in
+    let frame = frame_begun words head.level 0 true in
+    let enter = entered_without_texts 2 head.line in
+    let act = act_code head.line in
+    let left' = unit_left words in
+    let none : Marks c [] = marks ∙ ap places_of (simple_labels head.number x simple) in
+    subst (λ k. Marks (unit_by e head (Y.StmtThen [] x (Y.EndOfList [])) k head.level) []) (sym kind)
+    (behind frame (enter ++ (act ++ ((c ++ []) ++ left'))) [] (called_begun_none words head.level)
+    (behind enter (act ++ ((c ++ []) ++ left')) [] (behind (number a2 head.line) (service 4) [] (constant_none a2 (pos head.line)) refl)
+    (behind act ((c ++ []) ++ left') [] (act_none head.line)
+    (behind (c ++ []) left' [] (before c [] [] none refl) (unit_left_none words)))))
+
 -- ---- the statements
 
 mutual
@@ -277,6 +342,11 @@ mutual
       before (act_code line) (condition_given condition ∷ small a1 0 ∷ service 28) [] (act_none line) refl
   statement_marks e t block types (Y.Revert condition line) has is bare =
       before (act_code line) (condition_given condition ∷ service 29) [] (act_none line) refl
+  statement_marks e t block types (Y.OnUnit condition (Y.BlockOf head (Y.StmtThen [] x (Y.EndOfList []))) line) has is bare =
+      let e' = owned_by UnitOwner (in_frame head.number head.level e) in
+      let unit = unit_by e head (Y.StmtThen [] x (Y.EndOfList [])) head.kind head.level in
+      behind (act_code line) (unit_established condition unit) [] (act_none line)
+      (unit_none e head x is.1.1.1.1.0 is.1.0 (statement_marks e' none_taken block types x has is.1.1.1.1.1 (simple_bare e.program x is.1.1.1.1.0)))
   statement_marks e t block types (Y.Put None pairs line) has is bare =
       behind (act_code line) (put_pairs e t pairs) [] (act_none line) (pairs_none e t block types pairs has is.0)
   statement_marks e t block types (Y.Put (Some n) pairs line) has is bare =

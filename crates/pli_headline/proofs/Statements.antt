@@ -25,7 +25,7 @@ use Rattle.pli_coding.specs.Storing.{word_stored, stored_into, assigned_code}
 use Rattle.pli_coding.specs.Statements.{stmt_code, stmts_code, marked}
 use Rattle.pli_coding.specs.Temporaries.{number_words, bit_words}
 use Rattle.pli_coding.specs.Linking.{Links, place_of}
-use Rattle.pli_headline.specs.ProvedSoFar.{Types, IsOwn, IsProvedNumber, IsProvedBit, alone}
+use Rattle.pli_headline.specs.ProvedSoFar.{Types, OuterBlock, IsOwn, IsProvedNumber, IsProvedBit, alone}
 use Rattle.image_runs.specs.Runs.{Whole}
 use Rattle.pli_headline.proofs.Engine.{Base, address, most_code}
 use Rattle.pli_headline.proofs.Linking.{times_marked, size_append}
@@ -36,6 +36,8 @@ use Rattle.pli_headline.proofs.Jumps.{front_of, back_of}
 use Rattle.pli_headline.proofs.Temporaries.{Temporaries, Stays, stays_same, stays_then, nothing}
 use Rattle.pli_headline.proofs.Reaching.{Reaches}
 use Rattle.pli_headline.proofs.Activations.{frames_of, RestOn, levels_of}
+use Rattle.pli_headline.proofs.OuterBlocks.{Rises}
+use Rattle.pli_headline.proofs.Entered.{Frames, frames_left, kinds_of, UnitsKnown}
 use Rattle.pli_headline.proofs.Calls.{Serving}
 use Rattle.pli_headline.proofs.Raising.{Routines}
 use Rattle.pli_headline.proofs.StandingBytes.{ConstantsStand}
@@ -60,6 +62,11 @@ abbrev pub owner_level : Owner → ℕ
 owner_level (BlockOwner b) = b.level
 owner_level UnitOwner = 0
 
+-- a procedure's, of which jumps may go out and whose frame has a known end
+abbrev pub IsOwned : Owner → Type 0
+IsOwned (BlockOwner b) = Unit {0}
+IsOwned UnitOwner = ⊥
+
 -- the stack above a block's frame, where blocks inside it have theirs
 pub record Stack (e : Environment) (block : ℕ) (types : Types) (base : ℕ) (ground : Values → Ground) : Type 0 where
   pub frame : ℕ
@@ -82,23 +89,48 @@ pub record Lowest (base : ℕ) (frames : List ℕ) (ground : Values → Ground) 
   pub kept : (n : Values) (t : ℕ → ℕ) (b : Base) (m : List ℕ) → (ground n).memory t b m → holds b m
   pub rest : RestOn base frames
 
--- a block that is the main procedure itself
-pub record Alone (base size : ℕ) (frames : List ℕ) (ground : Values → Ground) : Type 1 where
-  pub frames_are : frames ≡ base ∷ []
-  pub frame_is : (n : Values) → (ground n).frame ≡ base
-  pub free_is : (n : Values) → (ground n).free ≡ base + size
+-- the stack's register is another one
+abbrev pub lower_ground : Ground → (free : ℕ) → Ground
+lower_ground g free =
+    record {
+      frame = g.frame;
+      free = free;
+      words = g.words;
+      memory = g.memory;
+      whole = g.whole;
+      above_code = g.above_code;
+      inside = g.inside;
+    }
 
--- the ground of the main procedure around a block, and the words that wait there
-pub record Enclosing (base size : ℕ) (ground : Values → Ground) : Type 1 where
+-- the ground of a block around another, with the words that wait there, the frame's own place, and how many blocks stand above it
+pub record Enclosing (e : Environment) (o : OuterBlock) (ground : Values → Ground) (shows : ℕ → ℕ) (frames levels : List ℕ) : Type 1 where
   pub its : Values → Ground
   pub waits : ℕ → ℕ
-  pub frame_is : (n : Values) → (its n).frame ≡ base
-  pub free_is : (n : Values) → (its n).free ≡ base + size
+  pub frame : ℕ
+  pub free : ℕ
+  pub frame_is : (n : Values) → (its n).frame ≡ frame
+  pub free_is : (n : Values) → (its n).free ≡ free
+  pub above : frame + 144 ≤ free
+  pub ends : free ≤ 14 * 2 ^ 20
+  pub sized : IsOwned e.owner → frame + frame_end e.parts e.program o.number o.level ≡ free
   pub kept : (n : Values) (t : ℕ → ℕ) (b : Base) (m : List ℕ) → (ground n).memory t b m → (its n).memory waits b m
+  pub own : (n : Values) (t : ℕ → ℕ) (b : Base) (m : List ℕ) → (its n).memory t b m → load 4 m (frame + 36) ≡ frame
+  pub deeper : o.level < e.level
+  pub shown : shows o.level ≡ frame
+  pub count : ℕ
+  pub behind : List ℕ
+  pub depths : List ℕ
+  pub rises : Rises (suc count) frame o.level frames levels behind depths
+
+abbrev pub Enclosures : Environment → (ground : Values → Ground) → (shows : ℕ → ℕ) → (frames levels : List ℕ) → List OuterBlock → Type 1
+Enclosures e ground shows frames levels [] = Unit {1}
+Enclosures e ground shows frames levels (o ∷ os) =
+    Enclosing e o ground shows frames levels × Enclosures e ground shows frames levels os
 
 -- the ground of a block by what variables hold, which stand in the main procedure's frame, the temporaries that are taken
 -- while its statements run, the labels that a GOTO there may name: those of the lists that are carried out around, the frames of the
--- blocks that are entered, the levels of those before it, and the frames of the levels around, which stand in its display
+-- blocks that are entered, the levels of those before it, the frames of the levels around, which stand in its display, and the blocks
+-- around to whose labels a GOTO may go
 pub record Block (e : Environment) (block : ℕ) (types : Types) : Type 1 where
   pub ground : Values → Ground
   pub words : ℕ
@@ -115,37 +147,40 @@ pub record Block (e : Environment) (block : ℕ) (types : Types) : Type 1 where
   pub reads : (n : Values) (j : ℕ) {type : Y.LeafType} → slice_get types j ≡ Some (alone type) → Fits type (n.numbers j) → (t : ℕ → ℕ) (b : Base) (m : List ℕ) → (ground n).memory t b m → extended (load_kind type) (load (load_width (load_kind type)) m (base + data_place e block j)) ≡ word (n.numbers j)
   pub writes : (n : Values) (j : ℕ) (z : ℤ) {type : Y.LeafType} → slice_get types j ≡ Some (alone type) → Fits type (n.numbers j) → Fits type z → (t : ℕ → ℕ) (b : Base) (m : List ℕ) → length m ≡ memory_size → (ground n).memory t b m → (ground (with_number_at n j z)).memory t b (store (store_width (store_kind type)) m (base + data_place e block j) (word z))
   pub held : taken.registers ≡ 0
-  pub frames : List ℕ
-  pub bottom : Lowest base frames ground
-  pub size : ℕ
-  pub ends : base + size ≤ 14 * 2 ^ 20
-  pub sized : (number : ℕ) → e.owner ≡ BlockOwner (record { number = number; level = 0 }) → frame_end e.parts e.program number 0 ≡ size
+  pub frames : Frames
+  pub bottom : Lowest base frames.list ground
   pub depths : List ℕ
   pub shallow : (0 == e.level) ≡ true → depths ≡ []
-  pub deep : (0 == e.level) ≡ false → 0 < length depths
-  pub outer : List Label
-  pub alone : (0 == e.level) ≡ true → Alone base size frames ground
-  pub outside : (0 == e.level) ≡ false → Enclosing base size ground
   pub stack : Stack e block types base ground
+  pub alone : (0 == e.level) ≡ true → stack.frame ≡ base
+  pub lead : List ℕ
+  pub leads : frames.list ≡ stack.frame ∷ lead
+  pub ends : stack.free ≤ 14 * 2 ^ 20
+  pub sized : IsOwned e.owner → stack.frame + frame_end e.parts e.program e.block e.level ≡ stack.free
+  pub own : (n : Values) (t : ℕ → ℕ) (b : Base) (m : List ℕ) → (ground n).memory t b m → load 4 m (stack.frame + 36) ≡ stack.frame
   pub levels : ℕ → ℕ
   pub level_room : (j : ℕ) → j < e.level → levels j < memory_size
   pub outermost_level : (0 == e.level) ≡ false → levels 0 ≡ base
   pub displays : (n : Values) (t : ℕ → ℕ) (b : Base) (m : List ℕ) (j : ℕ) → j < e.level → (ground n).memory t b m → load 4 m (stack.frame + (144 + 4 * j)) ≡ b.at + levels j
   pub texts : TextsStand e block types base stack.free ground
   pub arrays : ArraysOn e block types base stack.free ground
+  pub outer : List OuterBlock
+  pub enclosing : Enclosures e ground levels frames.list (e.level ∷ depths) outer
 
 -- what stands beside it: the routines of raises, and constant bytes
 pub record Standing {e : Environment} {block : ℕ} {types : Types} (bl : Block e block types) (links : Links) (code : List Instr) : Type 0 where
   pub raises : Routines links code
   pub constants : (n : Values) → ConstantsStand links code (bl.ground n)
 
--- blocks of these levels are entered, which have these frames, variables hold these numbers and texts and arrays theirs, and all that lives is STATIC or the main procedure's
-pub record AllHold (frames : List ℕ) (xs : List Activation) (levels : List ℕ) (s : State) (block : ℕ) (types : Types) (n : Values) : Type 0 where
+-- blocks of these levels are entered, which have these frames and units, variables hold these numbers and texts and arrays theirs, and all that lives is STATIC or the main procedure's
+pub record AllHold (frames : Frames) (xs : List Activation) (levels : List ℕ) (s : State) (block : ℕ) (types : Types) (n : Values) : Type 0 where
   pub numbers : (j : ℕ) (b : Typed types j) → IsNumeric b.0 → Holds s block j b.0 (n.numbers j)
   pub texts : (j : ℕ) (varying : Bool) (most : ℕ) → IsTextAt types j varying most → KeepsText s block j varying most (n.texts j)
   pub arrays : (j : ℕ) (type : Y.LeafType) (b : Bounds) (bs : List Bounds) → IsArrayAt types j type b bs → HoldsArray s block j type (b ∷ bs) (n.arrays j)
   pub entered : levels_of s.activations ≡ levels
-  pub framed : frames_of xs ≡ frames
+  pub framed : frames_of xs ≡ frames.list
+  pub kinds : kinds_of xs ≡ frames.kinds
+  pub units : UnitsKnown frames.known s.activations xs
   pub owned : (height' : ℕ) → 1 < height' → NoneOwned height' s.living
 
 abbrev pub scope_of : {e : Environment} {block : ℕ} {types : Types} (b : Block e block types) {s : State} {xs : List Activation} (n : Values) → AllHold b.frames xs (e.level ∷ b.depths) s block types n → Scope (b.ground n) e block types s n
@@ -194,13 +229,29 @@ abbrev pub ended_times : ℕ → State → State
 ended_times zero s = s
 ended_times (suc m) s = ended_times m (with_world s.world (newest_ended s))
 
--- where a jump out of a block goes on: at a label of the main procedure, in its frame, once the blocks in it have ended
-pub record Outlet (number count base : ℕ) (block : ℕ) (types : Types) (its : Values → Ground) (waits : ℕ → ℕ) (links : Links) (k acts : ℕ) (jumped : ℕ → Family → Services → ℕ → Label → State → Type 0) (label : Label) : Type 0 where
+-- where a jump out of a block goes on: at a label of a block around, in its frame, once the blocks in it have ended
+pub record Outlet (o : OuterBlock) (count frame : ℕ) (left : Frames) (depths : List ℕ) (block : ℕ) (types : Types) (its : Values → Ground) (waits : ℕ → ℕ) (links : Links) (k acts : ℕ) (jumped : ℕ → Family → Services → ℕ → Label → State → Type 0) (label : Label) : Type 0 where
   pub at : ℕ
-  pub place : place_of links (LabelPlace number label) ≡ 4 * at
+  pub place : place_of links (LabelPlace o.number label) ≡ 4 * at
   pub near : at ≤ most_code
   pub later : 10 ≤ at
-  pub lands : (s : State) (v : Services) (line : ℕ) (n : Values) (h : ℕ → ℕ) (f : Family) → Serving k (ended_times count s) v line → AllHold (base ∷ []) v.activations (0 ∷ []) (ended_times count s) block types n → acts < v.world.acts → ((b : Base) → At b at (Known (its n) v h waits nothing b) (f b)) → jumped at f v 1 label s
+  pub lands : (s : State) (v : Services) (line : ℕ) (n : Values) (h : ℕ → ℕ) (f : Family) → Serving k (ended_times count s) v line → AllHold left v.activations (o.level ∷ depths) (ended_times count s) block types n → acts < v.world.acts → ((b : Base) → At b at (Known (its n) v h waits nothing b) (f b)) → jumped at f v (suc (length depths)) label s
+
+abbrev pub OutletOf : {e : Environment} {o : OuterBlock} {ground : Values → Ground} {shows : ℕ → ℕ} (frames : Frames) {levels : List ℕ} → Enclosing e o ground shows frames.list levels → (block : ℕ) → Types → Links → (k acts : ℕ) → (ℕ → Family → Services → ℕ → Label → State → Type 0) → Label → Type 0
+OutletOf {o = o} frames c block types links k acts jumped label =
+    Outlet o (suc c.count) c.frame (frames_left (suc c.count) c.frame c.behind frames) c.depths block types c.its c.waits links k acts jumped label
+
+abbrev pub Outlets : (e : Environment) (ground : Values → Ground) (shows : ℕ → ℕ) (frames : Frames) (levels : List ℕ) (os : List OuterBlock) → Enclosures e ground shows frames.list levels os → (block : ℕ) → Types → Links → (k acts : ℕ) → (ℕ → Family → Services → ℕ → Label → State → Type 0) → Type 0
+Outlets e ground shows frames levels [] cs block types links k acts jumped = Unit {0}
+Outlets e ground shows frames levels (o ∷ os) cs block types links k acts jumped =
+    ((label : Label) → is_among label o.labels ≡ true → IsMarkedOnce links o.number label → OutletOf frames cs.0 block types links k acts jumped label)
+    × Outlets e ground shows frames levels os cs.1 block types links k acts jumped
+
+-- others
+pub outlets_by : (e : Environment) (ground : Values → Ground) (shows : ℕ → ℕ) (frames : Frames) (levels : List ℕ) (os : List OuterBlock) (cs : Enclosures e ground shows frames.list levels os) (block : ℕ) (types : Types) (links : Links) (k acts acts' : ℕ) (jumped jumped' : ℕ → Family → Services → ℕ → Label → State → Type 0) → ((o : OuterBlock) (c : Enclosing e o ground shows frames.list levels) (label : Label) → OutletOf frames c block types links k acts jumped label → OutletOf frames c block types links k acts' jumped' label) → Outlets e ground shows frames levels os cs block types links k acts jumped → Outlets e ground shows frames levels os cs block types links k acts' jumped'
+outlets_by e ground shows frames levels [] cs block types links k acts acts' jumped jumped' change outs = tt
+outlets_by e ground shows frames levels (o ∷ os) cs block types links k acts acts' jumped jumped' change outs =
+    (λ label among once. change o cs.0 label (outs.0 label among once), outlets_by e ground shows frames levels os cs.1 block types links k acts acts' jumped jumped' change outs.1)
 
 -- a machine in the frame of the main procedure, of which the stack isn't asked
 pub record Unwound (base : ℕ) (holds : Base → List ℕ → Type 0) (v : Services) (b : Base) (w : Whole) : Type 0 where
@@ -217,26 +268,47 @@ pub record Exit (number base : ℕ) (holds : Base → List ℕ → Type 0) (link
   pub leaves : (s : State) (v : Services) (f : Family) (a : Activation) → v.world ≡ s.world → v.world.end ≡ E.Running → v.world.acts ≤ k → k + 1 < 2 ^ 64 → v.activations ≡ a ∷ [] → ((b : Base) → At b at (Unwound base holds v b) (f b)) → returned at f v None s
 
 -- where a return in a procedure's own block goes on: at the end of the procedure, in that block
-pub record OwnExit (e : Environment) (block : ℕ) (types : Types) (ground : Values → Ground) (frames depths : List ℕ) (links : Links) (k : ℕ) (returned : ℕ → Family → Services → Option BasicValue → State → Type 0) : Type 0 where
+pub record OwnExit (e : Environment) (block : ℕ) (types : Types) (ground : Values → Ground) (frames : Frames) (depths : List ℕ) (links : Links) (k : ℕ) (returned : ℕ → Family → Services → Option BasicValue → State → Type 0) : Type 0 where
   pub at : ℕ
   pub place : place_of links (ReturnPlace e.block) ≡ 4 * at
   pub near : at ≤ most_code
   pub later : 10 ≤ at
-  pub leaves : (s : State) (v : Services) (line : ℕ) (n : Values) (h t : ℕ → ℕ) (f : Family) → Serving k s v line → AllHold frames v.activations (e.level ∷ depths) s block types n → ((b : Base) → At b at (Known (ground n) v h t nothing b) (f b)) → returned at f v None s
+  pub leaves : (s : State) (v : Services) (line : ℕ) (n : Values) (h t : ℕ → ℕ) (f : Family) (free : ℕ) → Serving k s v line → AllHold frames v.activations (e.level ∷ depths) s block types n → ((b : Base) → At b at (Known (lower_ground (ground n) free) v h t nothing b) (f b)) → returned at f v None s
+
+-- where a return in a block inside a procedure's goes on: at the end of the procedure, in its block, once the blocks in it have ended; the
+-- stack's register is any
+pub record HomeExit (o : OuterBlock) (count frame : ℕ) (left : Frames) (depths : List ℕ) (block : ℕ) (types : Types) (its : Values → Ground) (waits : ℕ → ℕ) (links : Links) (k : ℕ) (returned : ℕ → Family → Services → Option BasicValue → State → Type 0) : Type 0 where
+  pub at : ℕ
+  pub place : place_of links (ReturnPlace o.number) ≡ 4 * at
+  pub near : at ≤ most_code
+  pub later : 10 ≤ at
+  pub leaves : (s : State) (v : Services) (line : ℕ) (n : Values) (h : ℕ → ℕ) (f : Family) (free : ℕ) → Serving k (ended_times count s) v line → AllHold left v.activations (o.level ∷ depths) (ended_times count s) block types n → ((b : Base) → At b at (Known (lower_ground (its n) free) v h waits nothing b) (f b)) → returned at f v None s
+
+abbrev pub HomeOf : {e : Environment} {o : OuterBlock} {ground : Values → Ground} {shows : ℕ → ℕ} (frames : Frames) {levels : List ℕ} → Enclosing e o ground shows frames.list levels → (block : ℕ) → Types → Links → (k : ℕ) → (ℕ → Family → Services → Option BasicValue → State → Type 0) → Type 0
+HomeOf {o = o} frames c block types links k returned =
+    HomeExit o (suc c.count) c.frame (frames_left (suc c.count) c.frame c.behind frames) c.depths block types c.its c.waits links k returned
+
+-- of the block around that owns this one, where it isn't the main procedure
+abbrev pub Homes : (e : Environment) (ground : Values → Ground) (shows : ℕ → ℕ) (frames : Frames) (levels : List ℕ) (os : List OuterBlock) → Enclosures e ground shows frames.list levels os → (block : ℕ) → Types → Links → (k : ℕ) → (ℕ → Family → Services → Option BasicValue → State → Type 0) → Type 0
+Homes e ground shows frames levels [] cs block types links k returned = Unit {0}
+Homes e ground shows frames levels (o ∷ os) cs block types links k returned =
+    ((0 == o.level) ≡ false → e.owner ≡ BlockOwner (record { number = o.number; level = o.level }) → IsEndMarkedOnce links o.number → HomeOf frames cs.0 block types links k returned)
+    × Homes e ground shows frames levels os cs.1 block types links k returned
 
 -- what a part may count on where it begins: loops and jumps may make more turns than acts are allowed, the code stands behind the
--- start, and jumps to the block's labels go on, and so does a return
+-- start, and jumps to the block's labels and to those of blocks around go on, and so does a return
 pub record Enough {e : Environment} {block : ℕ} {types : Types} (bl : Block e block types) (links : Links) (k turns i : ℕ) (h t : ℕ → ℕ) (acts : ℕ) (jumped : ℕ → Family → Services → ℕ → Label → State → Type 0) (returned : ℕ → Family → Services → Option BasicValue → State → Type 0) : Type 0 where
   pub enough : k < turns + acts
   pub later : 10 ≤ i
   pub jumps : (label : Label) → is_among label bl.labels ≡ true → IsMarkedOnce links e.block label → Landing bl links k h t acts jumped label
-  pub outs : (inside : (0 == e.level) ≡ false) (number : ℕ) → e.owner ≡ BlockOwner (record { number = number; level = 0 }) → (label : Label) → is_among label bl.outer ≡ true → IsMarkedOnce links number label → Outlet number (length bl.depths) bl.base block types (bl.outside inside).its (bl.outside inside).waits links k acts jumped label
+  pub outs : Outlets e bl.ground bl.levels bl.frames (e.level ∷ bl.depths) bl.outer bl.enclosing block types links k acts jumped
   pub returns : (number : ℕ) → e.owner ≡ BlockOwner (record { number = number; level = 0 }) → IsEndMarkedOnce links number → Exit number bl.base bl.bottom.holds links k returned
   pub own : (0 == e.level) ≡ false → e.owner ≡ BlockOwner (record { number = e.block; level = e.level }) → IsEndMarkedOnce links e.block → OwnExit e block types bl.ground bl.frames bl.depths links k returned
+  pub homes : Homes e bl.ground bl.levels bl.frames (e.level ∷ bl.depths) bl.outer bl.enclosing block types links k returned
 
 -- the same further on
 pub further : {e : Environment} {block : ℕ} {types : Types} {bl : Block e block types} {links : Links} {k turns i : ℕ} {h t : ℕ → ℕ} {acts : ℕ} {jumped : ℕ → Family → Services → ℕ → Label → State → Type 0} {returned : ℕ → Family → Services → Option BasicValue → State → Type 0} {i' : ℕ} {h' t' : ℕ → ℕ} {acts' : ℕ} → Enough bl links k turns i h t acts jumped returned → i ≤ i' → acts ≤ acts' → Stays bl.taken h t h' t' → Enough bl links k turns i' h' t' acts' jumped returned
-further more behind grown stays =
+further {e = e} {block = block} {types = types} {bl = bl} {links = links} {k = k} {acts = acts} {jumped = jumped} {acts' = acts'} more behind grown stays =
     record {
       enough = let u = more.enough in omega (arith, u, grown);
       later = let l = more.later in omega (arith, l, behind);
@@ -249,17 +321,18 @@ further more behind grown stays =
             later = o.later;
             lands = λ s v line n h'' t'' f serving all stays' acted' at'. o.lands s v line n h'' t'' f serving all (stays_then stays stays') (omega (arith, grown, acted')) at';
           };
-      outs = λ inside number owned label among once.
-          let o = more.outs inside number owned label among once in
-          record {
-            at = o.at;
-            place = o.place;
-            near = o.near;
-            later = o.later;
-            lands = λ s v line n h'' f serving all acted' at'. o.lands s v line n h'' f serving all (omega (arith, grown, acted')) at';
-          };
+      outs = outlets_by e bl.ground bl.levels bl.frames (e.level ∷ bl.depths) bl.outer bl.enclosing block types links k acts acts' jumped jumped
+          (λ o c label out. record {
+            at = out.at;
+            place = out.place;
+            near = out.near;
+            later = out.later;
+            lands = λ s v line n h'' f serving all acted' at'. out.lands s v line n h'' f serving all (omega (arith, grown, acted')) at';
+          })
+          more.outs;
       returns = more.returns;
       own = more.own;
+      homes = more.homes;
     }
 
 -- from wherever a block's variables stand, a part's code does what the part means
@@ -275,7 +348,7 @@ counted_keeps w h = record { values = h.values; stands = h.stands; lives = h.liv
 counted_array : {s : State} {block j : ℕ} {type : Y.LeafType} {bs : List Bounds} {n : ℕ → ℤ} (w : World) → HoldsArray s block j type bs n → HoldsArray (with_world w s) block j type bs n
 counted_array w h = record { values = h.values; numeric = h.numeric; stands = h.stands; lives = h.lives; value = h.value; fits = h.fits }
 
-pub counted_all : {frames : List ℕ} {xs : List Activation} {levels : List ℕ} {s : State} {block : ℕ} {types : Types} {n : Values} (w : World) → AllHold frames xs levels s block types n → AllHold frames xs levels (with_world w s) block types n
+pub counted_all : {frames : Frames} {xs : List Activation} {levels : List ℕ} {s : State} {block : ℕ} {types : Types} {n : Values} (w : World) → AllHold frames xs levels s block types n → AllHold frames xs levels (with_world w s) block types n
 counted_all w all =
     record {
       numbers = λ j b numeric. counted_holds w (all.numbers j b numeric);
@@ -283,11 +356,40 @@ counted_all w all =
       arrays = λ j type b bs at. counted_array w (all.arrays j type b bs at);
       entered = all.entered;
       framed = all.framed;
+      kinds = all.kinds;
+      units = all.units;
+      owned = all.owned;
+    }
+
+-- of frames that have another list, which is the same
+pub listed_as : (frames : Frames) (list : List ℕ) {xs : List Activation} {levels : List ℕ} {s : State} {block : ℕ} {types : Types} {n : Values} → frames.list ≡ list → AllHold frames xs levels s block types n → AllHold (record { list = list; kinds = frames.kinds; known = frames.known }) xs levels s block types n
+listed_as frames list same all =
+    record {
+      numbers = all.numbers;
+      texts = all.texts;
+      arrays = all.arrays;
+      entered = all.entered;
+      framed = all.framed ∙ same;
+      kinds = all.kinds;
+      units = all.units;
+      owned = all.owned;
+    }
+
+pub listed_of : (frames : Frames) (list : List ℕ) {xs : List Activation} {levels : List ℕ} {s : State} {block : ℕ} {types : Types} {n : Values} → frames.list ≡ list → AllHold (record { list = list; kinds = frames.kinds; known = frames.known }) xs levels s block types n → AllHold frames xs levels s block types n
+listed_of frames list same all =
+    record {
+      numbers = all.numbers;
+      texts = all.texts;
+      arrays = all.arrays;
+      entered = all.entered;
+      framed = all.framed ∙ sym same;
+      kinds = all.kinds;
+      units = all.units;
       owned = all.owned;
     }
 
 -- the numbers after one is assigned
-pub assigned_all : {frames : List ℕ} {xs : List Activation} {levels : List ℕ} {s : State} {block : ℕ} {types : Types} {n : Values} (j : ℕ) {type : Y.LeafType} (z : ℤ) (below : slice_get types j ≡ Some (alone type)) (fits : Fits type z) (all : AllHold frames xs levels s block types n) → AllHold frames xs levels (assigned_state s type (suc j) (all.numbers j (type, below) (fits_numeric type z fits)).values z) block types (with_number_at n j z)
+pub assigned_all : {frames : Frames} {xs : List Activation} {levels : List ℕ} {s : State} {block : ℕ} {types : Types} {n : Values} (j : ℕ) {type : Y.LeafType} (z : ℤ) (below : slice_get types j ≡ Some (alone type)) (fits : Fits type z) (all : AllHold frames xs levels s block types n) → AllHold frames xs levels (assigned_state s type (suc j) (all.numbers j (type, below) (fits_numeric type z fits)).values z) block types (with_number_at n j z)
 assigned_all {s = s} {types = types} {n = n} j {type} z below fits all =
     record {
       numbers = λ i b numeric. holds_assigned types n z below fits (all.numbers j (type, below) (fits_numeric type z fits)) all.numbers i b numeric;
@@ -295,6 +397,8 @@ assigned_all {s = s} {types = types} {n = n} j {type} z below fits all =
       arrays = λ i other b bs at. arrays_beside type j (all.numbers j (type, below) (fits_numeric type z fits)).values z (array_apart types i j type other b bs below at) (all.arrays i other b bs at);
       entered = all.entered;
       framed = all.framed;
+      kinds = all.kinds;
+      units = all.units;
       owned = λ height' above. none_owned_changed height' (suc j) _ s.living (all.owned height' above);
     }
 

@@ -1,12 +1,12 @@
 -- ON with SYSTEM, which leaves a condition of the newest block to the system, and REVERT, which takes its unit back.
-use Rattle.std.proofs.Common.{◌≡◌, ℕ, ◌+◌, ◌^◌, ◌<◌, List, [], ◌∷◌, ◌++◌, length, Some, Bool, true, false, refl, sym, ap, ◌∙◌, subst, arith, lit<}
+use Rattle.std.proofs.Common.{◌≡◌, ℕ, ◌+◌, ◌^◌, ◌<◌, List, [], ◌∷◌, ◌++◌, length, Some, Bool, true, false, refl, sym, ap, ◌∙◌, subst, arith, lit<, ◌⊎◌, inl}
 use Rattle.std.specs.Prelude.{cond, ◌==◌}
 use Rattle.pli_language.specs.declared.condition.Condition.{Condition}
 use Rattle.pli_language.specs.declared.condition.Condition.TheVariants as C
 use Rattle.rv_meaning.specs.declared.instr.Instr.{Instr}
 use Rattle.pli_typing.specs.TypedTree as Y
 use Rattle.pli_meaning.specs.World.{counted}
-use Rattle.pli_meaning.specs.StorageState.{State, SystemUnit, Activation, with_world, with_activations, same_condition, without_unit, established, reverted, newest_height, ancestor, binding_of, binding_in}
+use Rattle.pli_meaning.specs.StorageState.{State, OnUnit, SystemUnit, Activation, with_world, with_activations, same_condition, without_unit, established, reverted, newest_height, ancestor, binding_of, binding_in}
 use Rattle.pli_meaning.specs.Control.{Meaning, act, stored, ◌>>◌}
 use Rattle.pli_meaning.specs.Raising.{Around}
 use Rattle.pli_meaning.specs.Executing as M
@@ -31,6 +31,7 @@ use Rattle.pli_headline.proofs.Bodies.{Known, zero_is}
 use Rattle.pli_headline.proofs.Jumps.{front_of, back_of}
 use Rattle.pli_headline.proofs.Temporaries.{stays_same}
 use Rattle.pli_headline.proofs.Activations.{AllUnits, Nested, frames_of, levels_of}
+use Rattle.pli_headline.proofs.Entered.{Frames, kinds_of, IsKnown, AreKnown, UnitsKnown, less_known}
 use Rattle.pli_headline.proofs.Calls.{Serving}
 use Rattle.pli_headline.proofs.Raising.{small_is}
 use Rattle.pli_headline.proofs.Acts.{acted, act_piece}
@@ -41,19 +42,19 @@ use Rattle.pli_headline.proofs.Scalars.{Values}
 
 -- ---- units that change: with true the condition gets this one, and with false none
 
-abbrev changed : {A : Type 0} → Bool → A → Condition → List (Condition × A) → List (Condition × A)
+abbrev pub changed : {A : Type 0} → Bool → A → Condition → List (Condition × A) → List (Condition × A)
 changed true u c ps = (c, u) ∷ without_unit c ps
 changed false u c ps = without_unit c ps
 
-abbrev newest_changed : Bool → Condition → List Activation → List Activation
-newest_changed q c [] = []
-newest_changed q c (a ∷ as') = record a { units = changed q SystemUnit c a.units } ∷ as'
+abbrev pub newest_changed : Bool → OnUnit → Condition → List Activation → List Activation
+newest_changed q u c [] = []
+newest_changed q u c (a ∷ as') = record a { units = changed q u c a.units } ∷ as'
 
-abbrev newest_served : Bool → Condition → List S.Activation → List S.Activation
-newest_served q c [] = []
-newest_served q c (x ∷ xs) = record x { units = changed q S.SystemUnit c x.units } ∷ xs
+abbrev pub newest_served : Bool → S.OnUnit → Condition → List S.Activation → List S.Activation
+newest_served q u c [] = []
+newest_served q u c (x ∷ xs) = record x { units = changed q u c x.units } ∷ xs
 
-without_by : {A : Type 0} (q : Bool) (u : A) (p : Condition × A) (ps rest : List (Condition × A)) → p.1 ≡ u → AllUnits u ps → AllUnits u rest → AllUnits u (cond q ps (p ∷ rest))
+without_by : {A : Type 0} (q : Bool) (u : A) (p : Condition × A) (ps rest : List (Condition × A)) → (p.1 ≡ u) ⊎ (p.0 ≡ C.Area) → AllUnits u ps → AllUnits u rest → AllUnits u (cond q ps (p ∷ rest))
 without_by true u p ps rest h all less = all
 without_by false u p ps rest h all less = (h, less)
 
@@ -61,22 +62,49 @@ without_all : {A : Type 0} (u : A) (c : Condition) (ps : List (Condition × A)) 
 without_all u c [] h = tt
 without_all u c (p ∷ ps) h = without_by (same_condition p.0 c) u p ps (without_unit c ps) h.0 h.1 (without_all u c ps h.1)
 
-changed_all_units : {A : Type 0} (q : Bool) (u : A) (c : Condition) (ps : List (Condition × A)) → AllUnits u ps → AllUnits u (changed q u c ps)
-changed_all_units true u c ps h = (refl, without_all u c ps h)
-changed_all_units false u c ps h = without_all u c ps h
+changed_all_units : {A : Type 0} (q : Bool) (system u : A) (c : Condition) (ps : List (Condition × A)) → (u ≡ system) ⊎ (c ≡ C.Area) → AllUnits system ps → AllUnits system (changed q u c ps)
+changed_all_units true system u c ps new h = (new, without_all system c ps h)
+changed_all_units false system u c ps new h = without_all system c ps h
 
-changed_nested : (q : Bool) (c : Condition) (as' : List Activation) (xs : List S.Activation) → Nested as' xs → Nested (newest_changed q c as') (newest_served q c xs)
-changed_nested q c [] [] h = h
-changed_nested q c [] (x ∷ xs) h = absurd h
-changed_nested q c (a ∷ as') [] h = absurd h
-changed_nested q c (a ∷ as') (x ∷ xs) h = (
-  record { height = h.0.height; first = h.0.first; inside = h.0.inside; oncode = h.0.oncode; units = changed_all_units q SystemUnit c a.units h.0.units },
-  (record { kind = h.1.0.kind; units = changed_all_units q S.SystemUnit c x.units h.1.0.units }, h.1.1),
+-- a unit that an activation may get: one of the program is for AREA, and known
+abbrev pub NewestKnown : (known : ℕ → Y.Block → ℕ → Type 0) → OnUnit → S.OnUnit → List Activation → List S.Activation → Type 0
+NewestKnown known u w (a ∷ as') (x ∷ xs) = IsKnown known a.height x.frame u w
+NewestKnown known u w _ _ = Unit {0}
+
+pub record IsNew (c : Condition) (u : OnUnit) (w : S.OnUnit) : Type 0 where
+  pub meant : (u ≡ SystemUnit) ⊎ (c ≡ C.Area)
+  pub served : (w ≡ S.SystemUnit) ⊎ (c ≡ C.Area)
+
+pub system_new : (c : Condition) → IsNew c SystemUnit S.SystemUnit
+system_new c = record { meant = inl refl; served = inl refl }
+
+pub system_known : (known : ℕ → Y.Block → ℕ → Type 0) (as' : List Activation) (xs : List S.Activation) → NewestKnown known SystemUnit S.SystemUnit as' xs
+system_known known [] xs = tt
+system_known known (a ∷ as') [] = tt
+system_known known (a ∷ as') (x ∷ xs) = tt
+
+changed_nested : (q : Bool) (u : OnUnit) (w : S.OnUnit) (c : Condition) (as' : List Activation) (xs : List S.Activation) → IsNew c u w → Nested as' xs → Nested (newest_changed q u c as') (newest_served q w c xs)
+changed_nested q u w c [] [] new h = h
+changed_nested q u w c [] (x ∷ xs) new h = absurd h
+changed_nested q u w c (a ∷ as') [] new h = absurd h
+changed_nested q u w c (a ∷ as') (x ∷ xs) new h = (
+  record { height = h.0.height; first = h.0.first; inside = h.0.inside; direct = h.0.direct; oncode = h.0.oncode; units = changed_all_units q SystemUnit u c a.units new.meant h.0.units },
+  (record { kind = h.1.0.kind; units = changed_all_units q S.SystemUnit w c x.units new.served h.1.0.units }, h.1.1),
 )
 
-changed_levels : (q : Bool) (c : Condition) (as' : List Activation) → levels_of (newest_changed q c as') ≡ levels_of as'
-changed_levels q c [] = refl
-changed_levels q c (a ∷ as') = refl
+changed_levels : (q : Bool) (u : OnUnit) (c : Condition) (as' : List Activation) → levels_of (newest_changed q u c as') ≡ levels_of as'
+changed_levels q u c [] = refl
+changed_levels q u c (a ∷ as') = refl
+
+changed_known : (known : ℕ → Y.Block → ℕ → Type 0) (height frame : ℕ) (q : Bool) (u : OnUnit) (w : S.OnUnit) (c : Condition) (ps : List (Condition × OnUnit)) (qs : List (Condition × S.OnUnit)) → IsKnown known height frame u w → AreKnown known height frame ps qs → AreKnown known height frame (changed q u c ps) (changed q w c qs)
+changed_known known height frame true u w c ps qs new all = ((refl, new), less_known known height frame c ps qs all)
+changed_known known height frame false u w c ps qs new all = less_known known height frame c ps qs all
+
+changed_units : (known : ℕ → Y.Block → ℕ → Type 0) (q : Bool) (u : OnUnit) (w : S.OnUnit) (c : Condition) (as' : List Activation) (xs : List S.Activation) → NewestKnown known u w as' xs → UnitsKnown known as' xs → UnitsKnown known (newest_changed q u c as') (newest_served q w c xs)
+changed_units known q u w c [] [] new all = tt
+changed_units known q u w c [] (x ∷ xs) new all = absurd all
+changed_units known q u w c (a ∷ as') [] new all = absurd all
+changed_units known q u w c (a ∷ as') (x ∷ xs) new all = (changed_known known a.height x.frame q u w c a.units x.units new all.0, all.1)
 
 -- variables stand for what they stood for
 binding_by : (here there : Bool) (a a' : Activation) (as' : List Activation) (j : ℕ) → a'.bindings ≡ a.bindings → binding_in (cond here (cond there (Some a') (ancestor as' a.parent 0)) (ancestor as' a.height 0)) j ≡ binding_in (cond here (cond there (Some a) (ancestor as' a.parent 0)) (ancestor as' a.height 0)) j
@@ -84,21 +112,21 @@ binding_by true true a a' as' j e = ap (λ bs. binding_of bs j) e
 binding_by true false a a' as' j e = refl
 binding_by false there a a' as' j e = refl
 
-binding_kept : (q : Bool) (c : Condition) (as' : List Activation) (j : ℕ) → binding_in (ancestor (newest_changed q c as') (newest_height (newest_changed q c as')) 0) j ≡ binding_in (ancestor as' (newest_height as') 0) j
-binding_kept q c [] j = refl
-binding_kept q c (a ∷ as') j =
-    binding_by (a.height == a.height) (a.level == 0) a (record a { units = changed q SystemUnit c a.units }) as' j refl
+binding_kept : (q : Bool) (u : OnUnit) (c : Condition) (as' : List Activation) (j : ℕ) → binding_in (ancestor (newest_changed q u c as') (newest_height (newest_changed q u c as')) 0) j ≡ binding_in (ancestor as' (newest_height as') 0) j
+binding_kept q u c [] j = refl
+binding_kept q u c (a ∷ as') j =
+    binding_by (a.height == a.height) (a.level == 0) a (record a { units = changed q u c a.units }) as' j refl
 
 -- ---- the state and the services behind it
 
-abbrev changed_state : Bool → Condition → State → State
-changed_state q c s = with_world s.world (with_activations (newest_changed q c s.activations) s)
+abbrev pub changed_state : Bool → OnUnit → Condition → State → State
+changed_state q u c s = with_world s.world (with_activations (newest_changed q u c s.activations) s)
 
-abbrev changed_services : Bool → Condition → Services → Services
-changed_services q c v = record v { activations = newest_served q c v.activations }
+abbrev pub changed_services : Bool → S.OnUnit → Condition → Services → Services
+changed_services q u c v = record v { activations = newest_served q u c v.activations }
 
-changed_serving : {k : ℕ} {s : State} {v : Services} {line : ℕ} (q : Bool) (c : Condition) → Serving k s v line → Serving k (changed_state q c s) (changed_services q c v) line
-changed_serving {s = s} {v = v} q c o =
+pub changed_serving : {k : ℕ} {s : State} {v : Services} {line : ℕ} (q : Bool) (u : OnUnit) (w : S.OnUnit) (c : Condition) → IsNew c u w → Serving k s v line → Serving k (changed_state q u c s) (changed_services q w c v) line
+changed_serving {s = s} {v = v} q u w c new o =
     record {
       world = o.world;
       running = o.running;
@@ -106,80 +134,87 @@ changed_serving {s = s} {v = v} q c o =
       input = o.input;
       allowed = o.allowed;
       fits = o.fits;
-      nested = changed_nested q c s.activations v.activations o.nested;
+      nested = changed_nested q u w c s.activations v.activations new o.nested;
       waiting = o.waiting;
     }
 
-changed_frames : (q : Bool) (c : Condition) (xs : List S.Activation) → frames_of (newest_served q c xs) ≡ frames_of xs
-changed_frames q c [] = refl
-changed_frames q c (x ∷ xs) = refl
+changed_frames : (q : Bool) (u : S.OnUnit) (c : Condition) (xs : List S.Activation) → frames_of (newest_served q u c xs) ≡ frames_of xs
+changed_frames q u c [] = refl
+changed_frames q u c (x ∷ xs) = refl
 
-changed_all : {frames : List ℕ} {xs : List S.Activation} {levels : List ℕ} {s : State} {block : ℕ} {types : Types} {n : Values} (q : Bool) (c : Condition) → AllHold frames xs levels s block types n → AllHold frames (newest_served q c xs) levels (changed_state q c s) block types n
-changed_all {xs = xs} {s = s} q c all =
+changed_kinds : (q : Bool) (u : S.OnUnit) (c : Condition) (xs : List S.Activation) → kinds_of (newest_served q u c xs) ≡ kinds_of xs
+changed_kinds q u c [] = refl
+changed_kinds q u c (x ∷ []) = refl
+changed_kinds q u c (x ∷ y ∷ xs) = refl
+
+pub changed_all : {frames : Frames} {xs : List S.Activation} {levels : List ℕ} {s : State} {block : ℕ} {types : Types} {n : Values} (q : Bool) (u : OnUnit) (w : S.OnUnit) (c : Condition) → NewestKnown frames.known u w s.activations xs → AllHold frames xs levels s block types n → AllHold frames (newest_served q w c xs) levels (changed_state q u c s) block types n
+changed_all {frames = frames} {xs = xs} {s = s} q u w c new all =
     record {
       numbers = λ j b numeric.
           let h = all.numbers j b numeric in
-          record { values = h.values; stands = binding_kept q c s.activations j ∙ h.stands; lives = h.lives; value = h.value; fits = h.fits };
+          record { values = h.values; stands = binding_kept q u c s.activations j ∙ h.stands; lives = h.lives; value = h.value; fits = h.fits };
       texts = λ j varying most at.
           let h = all.texts j varying most at in
-          record { values = h.values; stands = binding_kept q c s.activations j ∙ h.stands; lives = h.lives; value = h.value; short = h.short };
+          record { values = h.values; stands = binding_kept q u c s.activations j ∙ h.stands; lives = h.lives; value = h.value; short = h.short };
       arrays = λ j type b bs at.
           let h = all.arrays j type b bs at in
-          record { values = h.values; numeric = h.numeric; stands = binding_kept q c s.activations j ∙ h.stands; lives = h.lives; value = h.value; fits = h.fits };
-      entered = changed_levels q c s.activations ∙ all.entered;
-      framed = changed_frames q c xs ∙ all.framed;
+          record { values = h.values; numeric = h.numeric; stands = binding_kept q u c s.activations j ∙ h.stands; lives = h.lives; value = h.value; fits = h.fits };
+      entered = changed_levels q u c s.activations ∙ all.entered;
+      framed = changed_frames q w c xs ∙ all.framed;
+      kinds = changed_kinds q w c xs ∙ all.kinds;
+      units = changed_units frames.known q u w c s.activations xs new all.units;
       owned = all.owned;
     }
 
 -- they are what the meaning makes of the activations
-established_is : (c : Condition) (as' : List Activation) → newest_changed true c as' ≡ established c SystemUnit as'
-established_is c [] = refl
-established_is c (a ∷ as') = refl
+pub established_is : (u : OnUnit) (c : Condition) (as' : List Activation) → newest_changed true u c as' ≡ established c u as'
+established_is u c [] = refl
+established_is u c (a ∷ as') = refl
 
-reverted_is : (c : Condition) (as' : List Activation) → newest_changed false c as' ≡ reverted c as'
+reverted_is : (c : Condition) (as' : List Activation) → newest_changed false SystemUnit c as' ≡ reverted c as'
 reverted_is c [] = refl
 reverted_is c (a ∷ as') = refl
 
 -- ---- what services 28 and 29 answer
 
-number_small : (c : Condition) → condition_number c < 2 ^ 32
+pub number_small : (c : Condition) → condition_number c < 2 ^ 32
 number_small C.Area = lit< tt
 number_small C.FixedOverflow = lit< tt
 number_small C.ZeroDivide = lit< tt
 number_small C.Endfile = lit< tt
 number_small C.Error = lit< tt
 
-condition_is : (c : Condition) → U.condition_of (condition_number c) ≡ Some c
+pub condition_is : (c : Condition) → U.condition_of (condition_number c) ≡ Some c
 condition_is C.Area = refl
 condition_is C.FixedOverflow = refl
 condition_is C.ZeroDivide = refl
 condition_is C.Endfile = refl
 condition_is C.Error = refl
 
-established_served : (c : Condition) (xs : List S.Activation) (next' : List S.Activation → Answer) → 0 < length xs → or_bad (U.established c S.SystemUnit xs) next' ≡ next' (newest_served true c xs)
-established_served c [] next' some = absurd (omega (arith, some))
-established_served c (x ∷ xs) next' some = refl
+pub established_served : (u : S.OnUnit) (c : Condition) (xs : List S.Activation) (next' : List S.Activation → Answer) → 0 < length xs → or_bad (U.established c u xs) next' ≡ next' (newest_served true u c xs)
+established_served u c [] next' some = absurd (omega (arith, some))
+established_served u c (x ∷ xs) next' some = refl
 
-reverted_served : (c : Condition) (xs : List S.Activation) (next' : List S.Activation → Answer) → 0 < length xs → or_bad (U.reverted c xs) next' ≡ next' (newest_served false c xs)
+reverted_served : (c : Condition) (xs : List S.Activation) (next' : List S.Activation → Answer) → 0 < length xs → or_bad (U.reverted c xs) next' ≡ next' (newest_served false S.SystemUnit c xs)
 reverted_served c [] next' some = absurd (omega (arith, some))
 reverted_served c (x ∷ xs) next' some = refl
 
-abbrev done_with : Services → List ℕ → (x y : ℕ) → List S.Activation → Answer
+abbrev pub done_with : Services → List ℕ → (x y : ℕ) → List S.Activation → Answer
 done_with v m x y xs = Done (record v { activations = xs }) m x y
 
-on_answer : (code : List Instr) (v : Services) (m : List ℕ) (c : Condition) → 0 < length v.activations → U.on_served (call_at code v m) (condition_number c) 0 ≡ Done (changed_services true c v) m (condition_number c) 0
+on_answer : (code : List Instr) (v : Services) (m : List ℕ) (c : Condition) → 0 < length v.activations → U.on_served (call_at code v m) (condition_number c) 0 ≡ Done (changed_services true S.SystemUnit c v) m (condition_number c) 0
 on_answer code v m c some =
     ap (λ u. or_bad u (λ k. or_bad (U.established k S.SystemUnit v.activations) (done_with v m (condition_number c) 0))) (condition_is c)
-    ∙ established_served c v.activations (done_with v m (condition_number c) 0) some
+    ∙ established_served S.SystemUnit c v.activations (done_with v m (condition_number c) 0) some
 
-revert_answer : (code : List Instr) (v : Services) (m : List ℕ) (c : Condition) (y : ℕ) → 0 < length v.activations → U.revert_served (call_at code v m) (condition_number c) y ≡ Done (changed_services false c v) m (condition_number c) y
+revert_answer : (code : List Instr) (v : Services) (m : List ℕ) (c : Condition) (y : ℕ) → 0 < length v.activations → U.revert_served (call_at code v m) (condition_number c) y ≡ Done (changed_services false S.SystemUnit c v) m (condition_number c) y
 revert_answer code v m c y some =
     ap (λ u. or_bad u (λ k. or_bad (U.reverted k v.activations) (done_with v m (condition_number c) y))) (condition_is c)
     ∙ reverted_served c v.activations (done_with v m (condition_number c) y) some
 
 -- ---- the statements
 
-some_served : (level : ℕ) (levels : List ℕ) (as' : List Activation) (xs : List S.Activation) → Nested as' xs → levels_of as' ≡ level ∷ levels → 0 < length xs
+pub some_served : (level : ℕ) (levels : List ℕ) (as' : List Activation) (xs : List S.Activation) → Nested as' xs → levels_of as' ≡ level ∷ levels → 0 < length xs
 some_served level levels [] xs nested entered = absurd (cc entered)
 some_served level levels (a ∷ as') [] nested entered = absurd nested
 some_served level levels (a ∷ as') (x ∷ xs) nested entered = omega arith
@@ -201,7 +236,7 @@ on_system_does {e} {block} {types} bl links code around c line fits =
           (λ f1 serving1 at1.
           let s1 = with_world (counted s.world) s in
           let v1 = acted line v in
-          let v2 = changed_services true c v1 in
+          let v2 = changed_services true S.SystemUnit c v1 in
           let all1 : AllHold bl.frames v1.activations (e.level ∷ bl.depths) s1 block types n = counted_all _ all in
           let some = some_served e.level bl.depths s1.activations v1.activations serving1.nested all1.entered in
           let z : Base → ℕ = λ b. (f1 b).machine.registers 12 in
@@ -215,8 +250,8 @@ on_system_does {e} {block} {types} bl links code around c line fits =
           (λ b m x3 x4. on_answer code v1 m c some) (back_of front call l1) at2
           (λ f3 at3.
           let T : List Activation → Type 0 = λ as'. Serving k (with_world s1.world (with_activations as' s1)) v2 line × AllHold bl.frames v2.activations (e.level ∷ bl.depths) (with_world s1.world (with_activations as' s1)) block types n in
-          let both : T (newest_changed true c s1.activations) = (changed_serving true c serving1, changed_all true c all1) in
-          let o = subst T (established_is c s1.activations) both in
+          let both : T (newest_changed true SystemUnit c s1.activations) = (changed_serving true SystemUnit S.SystemUnit c (system_new c) serving1, changed_all true SystemUnit S.SystemUnit c (system_known bl.frames.known s1.activations v1.activations) all1) in
+          let o = subst T (established_is SystemUnit c s1.activations) both in
           record {
             to =
                 subst (λ u. aims.done u f3 v2 tt (with_world s1.world (with_activations (established c SystemUnit s1.activations) s1))) (sym place)
@@ -242,7 +277,7 @@ revert_does {e} {block} {types} bl links code around c line fits =
           (λ f1 serving1 at1.
           let s1 = with_world (counted s.world) s in
           let v1 = acted line v in
-          let v2 = changed_services false c v1 in
+          let v2 = changed_services false S.SystemUnit c v1 in
           let all1 : AllHold bl.frames v1.activations (e.level ∷ bl.depths) s1 block types n = counted_all _ all in
           let some = some_served e.level bl.depths s1.activations v1.activations serving1.nested all1.entered in
           let y : Base → ℕ = λ b. (f1 b).machine.registers 11 in
@@ -257,7 +292,7 @@ revert_does {e} {block} {types} bl links code around c line fits =
           (λ b m x3 x4. revert_answer code v1 m c (y b) some) (back_of front call l1) at2
           (λ f3 at3.
           let T : List Activation → Type 0 = λ as'. Serving k (with_world s1.world (with_activations as' s1)) v2 line × AllHold bl.frames v2.activations (e.level ∷ bl.depths) (with_world s1.world (with_activations as' s1)) block types n in
-          let both : T (newest_changed false c s1.activations) = (changed_serving false c serving1, changed_all false c all1) in
+          let both : T (newest_changed false SystemUnit c s1.activations) = (changed_serving false SystemUnit S.SystemUnit c (system_new c) serving1, changed_all false SystemUnit S.SystemUnit c (system_known bl.frames.known s1.activations v1.activations) all1) in
           let o = subst T (reverted_is c s1.activations) both in
           record {
             to =

@@ -37,13 +37,14 @@ use Rattle.pli_headline.proofs.TextVariables.{text_state, text_stored_piece}
 use Rattle.pli_headline.proofs.TextsKept.{text_kept_as, kept_length}
 use Rattle.pli_headline.proofs.TextScopes.{IsTextAt}
 use Rattle.pli_headline.proofs.TextStates.{holds_text, holds_beside, keeps_all}
+use Rattle.pli_headline.proofs.Entered.{Frames}
 use Rattle.pli_headline.proofs.Statements.{Block, Standing, AllHold, Does, counted_all}
 use Rattle.pli_headline.proofs.Ifs.{setting}
 use Rattle.pli_headline.proofs.Reach.{Family, Aims, Comes, Closed, before_closed, comes_on}
 use Rattle.pli_headline.proofs.ArrayStates.{array_apart, arrays_beside_text}
 
 -- what the variables hold when one is assigned a text
-pub text_assigned_all : {frames : List ℕ} {xs : List Activation} {levels : List ℕ} {s : State} {block : ℕ} {types : Types} {n : Values} (j : ℕ) (varying : Bool) (most : ℕ) (text : List ℕ) (below : IsTextAt types j varying most) → most ≤ 1024 → (all : AllHold frames xs levels s block types n) → AllHold frames xs levels (text_state s (text_leaf varying most) (suc j) (all.texts j varying most below).values text) block types (with_text_at n j (text_kept_as varying most text))
+pub text_assigned_all : {frames : Frames} {xs : List Activation} {levels : List ℕ} {s : State} {block : ℕ} {types : Types} {n : Values} (j : ℕ) (varying : Bool) (most : ℕ) (text : List ℕ) (below : IsTextAt types j varying most) → most ≤ 1024 → (all : AllHold frames xs levels s block types n) → AllHold frames xs levels (text_state s (text_leaf varying most) (suc j) (all.texts j varying most below).values text) block types (with_text_at n j (text_kept_as varying most text))
 text_assigned_all {s = s} {types = types} {n = n} j varying most text below few all =
     let h = all.texts j varying most below in
     record {
@@ -52,6 +53,8 @@ text_assigned_all {s = s} {types = types} {n = n} j varying most text below few 
       arrays = λ i type b bs at. arrays_beside_text (text_leaf varying most) j h.values text (array_apart types i j (text_leaf varying most) type b bs below at) (all.arrays i type b bs at);
       entered = all.entered;
       framed = all.framed;
+      kinds = all.kinds;
+      units = all.units;
       owned = λ height' above. none_owned_changed height' (suc j) _ s.living (all.owned height' above);
     }
 

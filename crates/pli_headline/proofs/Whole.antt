@@ -1,5 +1,5 @@
 -- The headline of every program that is proved so far: its code does what it means at each number of acts.
-use Rattle.std.proofs.Common.{ℕ, suc, ◌+◌, ◌^◌, ◌<◌, ◌≤◌, List, [], ◌++◌, length, None, true, refl, sym, subst, arith, ◌*◌}
+use Rattle.std.proofs.Common.{◌≡◌, ℕ, suc, ◌+◌, ◌^◌, ◌<◌, ◌≤◌, List, [], ◌++◌, length, None, true, refl, sym, subst, arith, ◌*◌}
 use Rattle.std.proofs.Math.Nat.{le-max_right}
 use Rattle.rv_meaning.specs.declared.instr.Instr.{Instr}
 use Rattle.pli_typing.specs.TypedTree as Y
@@ -28,10 +28,11 @@ use Rattle.pli_headline.proofs.InnerSizes.{procedure_inner}
 use Rattle.pli_headline.proofs.MainProcedure.{main_head, alone_of, main_environment, main_words, main_sizes, main_plain, declared_at}
 use Rattle.pli_headline.proofs.PlainNumbers.{length_types}
 use Rattle.pli_headline.proofs.FirstFrame.{first_step_of}
-use Rattle.pli_headline.proofs.MainFrame.{main_frame}
+use Rattle.pli_headline.proofs.MainFrame.{frame_place, main_frame}
 use Rattle.pli_headline.proofs.LabelMarks.{blocks_known, others_known, labels_stand, entry_stands, end_stands}
 use Rattle.pli_headline.proofs.Gotos.{LabelsStand}
-use Rattle.pli_headline.proofs.ProvedStatements.{Calls}
+use Rattle.pli_headline.proofs.UnitStanding.{program_around, UnitStands}
+use Rattle.pli_headline.proofs.InnerUnits.{Done}
 use Rattle.pli_headline.proofs.InnerCalls.{inner_calls}
 use Rattle.pli_headline.proofs.MainBody.{main_body_does}
 use Rattle.pli_headline.proofs.InitialNamed.{all_ready}
@@ -75,7 +76,12 @@ some_code program is fits =
 
 labels_of : (program : Y.Program) (is : IsProvedSoFar program) → LabelsStand (main_environment program (block_in is)) (links_of (code_of parts program)) (all_labels (block_in is) is.body ++ procedure_labels is.others) (block_in is) true
 labels_of program is =
-    labels_stand program (block_in is) (line_in is) is.body is.called is.plain (alone_of program is) is.block.statements is.block.inside is.block.jumps is.inner
+    labels_stand program (block_in is) (line_in is) is.body is.called is.plain (alone_of program is) is.block.statements is.block.inside is.inner
+
+-- the units of the main procedure
+abbrev units_of : (program : Y.Program) (is : IsProvedSoFar program) → ℕ → Y.Block → ℕ → Type 0
+units_of program is frame u at =
+    (frame ≡ frame_place (main_words program (block_in is) is.body)) × UnitStands (program_around (main_environment program (block_in is))) (block_in is) (main_types program (block_in is)) is.called (links_of (code_of parts program)) (code_for program) u at
 
 -- where the other procedures stand
 abbrev others_at : (program : Y.Program) (is : IsProvedSoFar program) → FitsMemory (picture_of parts program) → ℕ
@@ -87,7 +93,7 @@ others_stand program is fits =
     subst (λ ps. Linked (links_of (code_of parts program)) (code_for program) (others_at program is fits) (others_code program (others_of ps))) (alone_of program is).are (placed_for program is fits).others
 
 -- calls in the main procedure
-calls_done : (program : Y.Program) (is : IsProvedSoFar program) (fits : FitsMemory (picture_of parts program)) (k : ℕ) → Calls (main_environment program (block_in is)) (block_in is) (main_types program (block_in is)) k (links_of (code_of parts program)) (code_for program) is.called
+calls_done : (program : Y.Program) (is : IsProvedSoFar program) (fits : FitsMemory (picture_of parts program)) (k : ℕ) → Done (main_environment program (block_in is)) (block_in is) (main_types program (block_in is)) k (links_of (code_of parts program)) (code_for program) is.called
 calls_done program is fits k =
     let block = block_in is in
     let line = line_in is in
@@ -107,7 +113,7 @@ room_for program is fits few =
     let n = procedure_inner (main_environment program (block_in is)) (main_head (block_in is) (line_in is)) (block_in is) (main_types program (block_in is)) is.body (λ j kind at. declared_at (variables_of_block program (block_in is)) j (main_plain program (block_in is) is.plain) at) (main_plain program (block_in is) is.plain) is.block.statements in
     omega (arith, inside, small', n, few)
 
-body_done : (program : Y.Program) (is : IsProvedSoFar program) (fits : FitsMemory (picture_of parts program)) (k : ℕ) → BodyDoes program (block_in is) (line_in is) is.body (memory_for program) is.plain (alone_of program is) (few_words program is fits) (links_of (code_of parts program)) (code_for program) k
+body_done : (program : Y.Program) (is : IsProvedSoFar program) (fits : FitsMemory (picture_of parts program)) (k : ℕ) → BodyDoes (units_of program is) program (block_in is) (line_in is) is.body (memory_for program) is.plain (alone_of program is) (few_words program is fits) (links_of (code_of parts program)) (code_for program) k
 body_done program is fits k few =
     let block = block_in is in
     let line = line_in is in
@@ -116,7 +122,7 @@ body_done program is fits k few =
     main_body_does program block line is.body alone
     (main_frame (main_words program block is.body) (main_sizes program block) (main_count program block) small' few)
     (memory_for program)
-    (main_types program block) (sym (length_types (variables_of_block program block)))
+    (main_types program block) (units_of program is) (sym (length_types (variables_of_block program block)))
     (λ j kind at. declared_at (variables_of_block program block) j (main_plain program block is.plain) at)
     (λ j below. main_data program block line is.body j is.plain alone below few)
     (main_sized program block line is.body is.plain alone few) (main_fit program block is.body is.plain small' few)
@@ -124,7 +130,7 @@ body_done program is fits k few =
     (placed_for program is fits).routines (main_around program k line) refl is.called k
     (labels_of program is) is.block.statements is.block.jumps
     (le-max_right (variables_words (variables_of_block program block)) (stmts_words is.body))
-    (room_for program is fits few) is.block.inside (record { enter = refl; turns = refl }) (omega arith) (blocks_known program block line is.body alone) is.block.calls (calls_done program is fits k)
+    (room_for program is fits few) is.block.inside (record { enter = refl; turns = refl }) (omega arith) (blocks_known program block line is.body alone) is.block.calls (calls_done program is fits k) (λ frame u at k'. k') (λ u at k'. (refl, k'))
     (constant_stands (code_of parts program) fits)
 
 -- ---- its runs
@@ -133,7 +139,7 @@ comes : (laws : Laws) (program : Y.Program) (is : IsProvedSoFar program) → Fit
 unfolding meaning
 comes laws program is fits input k room =
     from_flow laws (picture_of parts program) (table_of program) program input k (run program (suc k) k (first_state input)) refl
-    (main_runs program (block_in is) (line_in is) is.body (memory_for program) input is.plain (alone_of program is) (few_words program is fits) k (all_ready program (block_in is) (line_in is) is.body is.plain is.few (alone_of program is) fits (some_code program is fits)) is.block.line room (first_length (picture_of parts program) fits) (placed_for program is fits) (body_done program is fits k))
+    (main_runs (units_of program is) program (block_in is) (line_in is) is.body (memory_for program) input is.plain (alone_of program is) (few_words program is fits) k (all_ready program (block_in is) (line_in is) is.body is.plain is.few (alone_of program is) fits (some_code program is fits)) is.block.line room (first_length (picture_of parts program) fits) (placed_for program is fits) (body_done program is fits k))
 
 works : (laws : Laws) (program : Y.Program) (is : IsProvedSoFar program) → FitsMemory (picture_of parts program) → Works (picture_of parts program) (table_of program) program
 works laws program is fits =

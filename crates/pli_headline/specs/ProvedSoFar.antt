@@ -2,11 +2,13 @@
 -- constant lengths, VARYING or not, with or without INITIAL, arrays of FIXED BINARY and BIT(1) with constant bounds, with or without
 -- INITIAL, procedures inside it that declare nothing, without parameters and results, and BEGIN blocks in these and in one another that
 -- declare nothing; expressions of numbers, bits and texts, and elements of arrays in them; assignments of these, CALL of these
--- procedures, also by themselves, IF, groups, DO WHILE, DO with a variable, GOTO to a label of a list around it in its block or in the
--- procedure, RETURN, STOP, SIGNAL, ON with SYSTEM, REVERT, PUT EDIT of numbers, bits and texts, and GET EDIT of such scalars and
--- elements, by lists of F, A, X, SKIP and COLUMN items. Each form that is proved takes a line off.
+-- procedures, also by themselves, IF, groups, DO WHILE, DO with a variable, GOTO to a label of a list around it in its block or in a block
+-- around it up to the procedure's own, RETURN, STOP, SIGNAL, ON with SYSTEM, ON for AREA with a single statement in the main procedure's own
+-- block, REVERT, PUT EDIT of numbers, bits and texts, and GET EDIT of such scalars and elements, by lists of F, A, X, SKIP and COLUMN items.
+-- Each form that is proved takes a line off.
 use Rattle.std.specs.Prelude.{◌≡◌, ℕ, suc, int_le, ◌<◌, ◌≤◌, ◌^◌, List, [], ◌∷◌, ◌++◌, length, map, slice_get, Bool, Option, None, Some, true, false, if◌then◌else◌, ⊤, ◌==◌, ◌&&◌, ◌⊎◌, pos, ◌+◌}
 use Rattle.pli_language.specs.Keywords.{same_bytes}
+use Rattle.pli_language.specs.declared.condition.Condition.TheVariants as C
 use Rattle.pli_language.specs.Tree as T
 use Rattle.pli_language.specs.Formats.{formats_move_data}
 use Rattle.pli_typing.specs.Signatures.{Bounds}
@@ -15,7 +17,9 @@ use Rattle.pli_meaning.specs.Numbers.{is_of_precision}
 use Rattle.pli_meaning.specs.Control.{Label, is_among}
 use Rattle.pli_meaning.specs.DeclaredShapes.{variables_of_block, bounds_of}
 use Rattle.pli_meaning.specs.Executing.{labels_in}
+use Rattle.pli_coding.specs.Environments.{BlockPlace, last_of_level}
 use Rattle.pli_coding.specs.Expressions.{given_in}
+use Rattle.pli_coding.specs.Images.{blocks_of}
 use Rattle.pli_coding.specs.SignatureTable.{table_of}
 use Rattle.pli_coding.specs.Streams.{has_fixed, has_text}
 use Rattle.pli_coding.specs.Statements.{stmts_words}
@@ -390,6 +394,19 @@ AreProvedGetPairs block types (p ∷ ps) =
 abbrev pub IsLine : ℕ → Type 0
 IsLine line = line < 2 ^ 31
 
+-- what may be an on-unit by itself
+abbrev pub IsSimple : Y.Stmt → Type 0
+IsSimple (Y.Null line) = ⊤
+IsSimple (Y.Assign target source line) = ⊤
+IsSimple (Y.CallProcedure call line) = ⊤
+IsSimple (Y.Stop line) = ⊤
+IsSimple (Y.Signal condition line) = ⊤
+IsSimple (Y.OnSystem condition line) = ⊤
+IsSimple (Y.Revert condition line) = ⊤
+IsSimple (Y.Put skip pairs line) = ⊤
+IsSimple (Y.Get skip pairs line) = ⊤
+IsSimple _ = ⊥
+
 abbrev mutual
   pub IsProvedStatement : (block : ℕ) (types : Types) → Y.Stmt → Type 0
   IsProvedStatement block types (Y.Null line) = IsLine line
@@ -424,6 +441,8 @@ abbrev mutual
   IsProvedStatement block types (Y.Signal condition line) = IsLine line
   IsProvedStatement block types (Y.OnSystem condition line) = IsLine line
   IsProvedStatement block types (Y.Revert condition line) = IsLine line
+  IsProvedStatement block types (Y.OnUnit condition (Y.BlockOf head (Y.StmtThen [] x (Y.EndOfList []))) line) =
+      (condition ≡ C.Area) × ((head.kind ≡ Y.SimpleUnit) × (IsLine line × (IsLine head.line × (IsSimple x × IsProvedStatement block types x))))
   IsProvedStatement block types (Y.Put None pairs line) = AreProvedPairs block types pairs × IsLine line
   IsProvedStatement block types (Y.Put (Some n) pairs line) = IsTimes n × (AreProvedPairs block types pairs × IsLine line)
   IsProvedStatement block types (Y.Get None pairs line) = AreProvedGetPairs block types pairs × IsLine line
@@ -462,26 +481,41 @@ abbrev mutual
   all_labels block (Y.EndOfList labels) = of_block block labels
   all_labels block (Y.StmtThen labels first rest) = of_block block labels ++ (inner_labels block first ++ all_labels block rest)
 
--- a GOTO names a label of a list around it in its block, which has a level, or in the procedure, and the label stands once in the
--- program's blocks of that number; the blocks in the procedure have greater numbers; begin blocks stand up to a hundred deep
-abbrev mutual
-  pub JumpsAround : (block level : ℕ) → (all : List (ℕ × Label)) → (procedure : ℕ) → (outer around : List Label) → Y.Stmt → Type 0
-  JumpsAround block level all procedure outer around (Y.If condition unit line) = JumpsAround block level all procedure outer around unit
-  JumpsAround block level all procedure outer around (Y.IfElse condition unit otherwise line) = JumpsAround block level all procedure outer around unit × JumpsAround block level all procedure outer around otherwise
-  JumpsAround block level all procedure outer around (Y.Do body line) = AllJumpAround block level all procedure outer (labels_in body ++ around) body
-  JumpsAround block level all procedure outer around (Y.DoWhile condition body line) = AllJumpAround block level all procedure outer (labels_in body ++ around) body
-  JumpsAround block level all procedure outer around (Y.DoOnce target start condition body line) = AllJumpAround block level all procedure outer (labels_in body ++ around) body
-  JumpsAround block level all procedure outer around (Y.DoCount counter start limit step condition body line) = AllJumpAround block level all procedure outer (labels_in body ++ around) body
-  JumpsAround block level all procedure outer around (Y.Begin (Y.BlockOf head body)) =
-      ((head.level ≡ suc level) × (head.level ≤ 100)) × AllJumpAround head.number head.level all procedure (if 0 == level then around else outer) (labels_in body) body
-  JumpsAround block level all procedure outer around (Y.Goto to label line) =
-      ((to ≡ level) × ((is_among label around ≡ true) × (times block label all ≡ 1)))
-      ⊎ (((to ≡ 0) × ((0 == level) ≡ false)) × ((procedure ≤ block) × ((is_among label outer ≡ true) × (times procedure label all ≡ 1))))
-  JumpsAround block level all procedure outer around _ = ⊤
+-- a block around: its level, its number, and the labels of the lists in it that are carried out around
+pub record OuterBlock : Type 0 where
+  pub level : ℕ
+  pub number : ℕ
+  pub labels : List Label
 
-  pub AllJumpAround : (block level : ℕ) → (all : List (ℕ × Label)) → (procedure : ℕ) → (outer around : List Label) → Y.Stmts → Type 0
-  AllJumpAround block level all procedure outer around (Y.EndOfList labels) = ⊤
-  AllJumpAround block level all procedure outer around (Y.StmtThen labels first rest) = JumpsAround block level all procedure outer around first × AllJumpAround block level all procedure outer around rest
+-- one of them has a level and a label, which stands once in the program's blocks of its number, and the code goes to just that block
+abbrev pub IsOutward : (block to : ℕ) (label : Label) (all : List (ℕ × Label)) (blocks : List BlockPlace) → List OuterBlock → Type 0
+IsOutward block to label all blocks [] = ⊥
+IsOutward block to label all blocks (o ∷ os) =
+    ((o.level ≡ to) × ((is_among label o.labels ≡ true) × ((times o.number label all ≡ 1) × (last_of_level block to 0 blocks ≡ o.number))))
+    ⊎ IsOutward block to label all blocks os
+
+-- a GOTO names a label of a list around it in its block, which has a level, or in a block around it up to the procedure's own, and the
+-- label stands once in the program's blocks of that number; begin blocks stand up to a hundred deep; on-units
+-- are given in the main procedure's own block
+abbrev mutual
+  pub JumpsAround : (block level : ℕ) → (all : List (ℕ × Label)) → (blocks : List BlockPlace) → (outer : List OuterBlock) → (around : List Label) → Y.Stmt → Type 0
+  JumpsAround block level all blocks outer around (Y.If condition unit line) = JumpsAround block level all blocks outer around unit
+  JumpsAround block level all blocks outer around (Y.IfElse condition unit otherwise line) = JumpsAround block level all blocks outer around unit × JumpsAround block level all blocks outer around otherwise
+  JumpsAround block level all blocks outer around (Y.Do body line) = AllJumpAround block level all blocks outer (labels_in body ++ around) body
+  JumpsAround block level all blocks outer around (Y.DoWhile condition body line) = AllJumpAround block level all blocks outer (labels_in body ++ around) body
+  JumpsAround block level all blocks outer around (Y.DoOnce target start condition body line) = AllJumpAround block level all blocks outer (labels_in body ++ around) body
+  JumpsAround block level all blocks outer around (Y.DoCount counter start limit step condition body line) = AllJumpAround block level all blocks outer (labels_in body ++ around) body
+  JumpsAround block level all blocks outer around (Y.Begin (Y.BlockOf head body)) =
+      ((head.level ≡ suc level) × (head.level ≤ 100))
+      × AllJumpAround head.number head.level all blocks (record { level = level; number = block; labels = around } ∷ outer) (labels_in body) body
+  JumpsAround block level all blocks outer around (Y.Goto to label line) =
+      ((to ≡ level) × ((is_among label around ≡ true) × (times block label all ≡ 1))) ⊎ IsOutward block to label all blocks outer
+  JumpsAround block level all blocks outer around (Y.OnUnit condition (Y.BlockOf head body) line) = ((0 == level) ≡ true) × (head.level ≡ 1)
+  JumpsAround block level all blocks outer around _ = ⊤
+
+  pub AllJumpAround : (block level : ℕ) → (all : List (ℕ × Label)) → (blocks : List BlockPlace) → (outer : List OuterBlock) → (around : List Label) → Y.Stmts → Type 0
+  AllJumpAround block level all blocks outer around (Y.EndOfList labels) = ⊤
+  AllJumpAround block level all blocks outer around (Y.StmtThen labels first rest) = JumpsAround block level all blocks outer around first × AllJumpAround block level all blocks outer around rest
 
 -- ---- calls
 
@@ -489,23 +523,23 @@ abbrev pub is_number : ℕ → List ℕ → Bool
 is_number number [] = false
 is_number number (n ∷ ns) = if number == n then true else is_number number ns
 
--- calls name one of some numbers, and a RETURN stands in the main procedure or in a procedure's own block
+-- calls name one of some numbers; an on-unit has few words for temporaries, as a procedure that is called
 abbrev mutual
-  pub CallsAmong : (may : List ℕ) → (main own : Bool) → Y.Stmt → Type 0
-  CallsAmong may main own (Y.If condition unit line) = CallsAmong may main own unit
-  CallsAmong may main own (Y.IfElse condition unit otherwise line) = CallsAmong may main own unit × CallsAmong may main own otherwise
-  CallsAmong may main own (Y.Do body line) = AllCallAmong may main own body
-  CallsAmong may main own (Y.DoWhile condition body line) = AllCallAmong may main own body
-  CallsAmong may main own (Y.DoOnce target start condition body line) = AllCallAmong may main own body
-  CallsAmong may main own (Y.DoCount counter start limit step condition body line) = AllCallAmong may main own body
-  CallsAmong may main own (Y.Begin (Y.BlockOf head body)) = AllCallAmong may main false body
-  CallsAmong may main own (Y.CallProcedure (Y.Calling procedure level _) line) = is_number procedure may ≡ true
-  CallsAmong may main own (Y.Return line) = (main ≡ true) ⊎ (own ≡ true)
-  CallsAmong may main own _ = ⊤
+  pub CallsAmong : (may : List ℕ) → Y.Stmt → Type 0
+  CallsAmong may (Y.If condition unit line) = CallsAmong may unit
+  CallsAmong may (Y.IfElse condition unit otherwise line) = CallsAmong may unit × CallsAmong may otherwise
+  CallsAmong may (Y.Do body line) = AllCallAmong may body
+  CallsAmong may (Y.DoWhile condition body line) = AllCallAmong may body
+  CallsAmong may (Y.DoOnce target start condition body line) = AllCallAmong may body
+  CallsAmong may (Y.DoCount counter start limit step condition body line) = AllCallAmong may body
+  CallsAmong may (Y.Begin (Y.BlockOf head body)) = AllCallAmong may body
+  CallsAmong may (Y.CallProcedure (Y.Calling procedure level _) line) = is_number procedure may ≡ true
+  CallsAmong may (Y.OnUnit condition (Y.BlockOf head body) line) = AllCallAmong may body × (stmts_words body ≤ 800)
+  CallsAmong may _ = ⊤
 
-  pub AllCallAmong : (may : List ℕ) → (main own : Bool) → Y.Stmts → Type 0
-  AllCallAmong may main own (Y.EndOfList labels) = ⊤
-  AllCallAmong may main own (Y.StmtThen labels first rest) = CallsAmong may main own first × AllCallAmong may main own rest
+  pub AllCallAmong : (may : List ℕ) → Y.Stmts → Type 0
+  AllCallAmong may (Y.EndOfList labels) = ⊤
+  AllCallAmong may (Y.StmtThen labels first rest) = CallsAmong may first × AllCallAmong may rest
 
 -- how many procedures have a number
 abbrev pub number_of_block : Y.Block → ℕ
@@ -553,12 +587,12 @@ abbrev pub procedure_labels : List Y.Procedure → List (ℕ × Label)
 procedure_labels [] = []
 procedure_labels (p ∷ ps) = block_labels p.block ++ procedure_labels ps
 
--- a procedure that is called: it has no RETURN in BEGIN blocks, and few words for temporaries in its frame and those of BEGIN blocks in it,
--- so that 500 frames fit the stacks
+-- a procedure that is called: it has few words for temporaries in its frame and those of BEGIN blocks in it, so that 500 frames fit the
+-- stacks
 pub record IsCallable (called : List ℕ) (head : Y.BlockHead) (body : Y.Stmts) : Type 0 where
   pub kind : head.kind ≡ Y.ProcedureBlock
   pub line : IsLine head.line
-  pub calls : AllCallAmong called false true body
+  pub calls : AllCallAmong called body
   pub few : stmts_words body + all_inner_words body ≤ 800
 
 -- a procedure inside the main one, whose number is the given block's: it declares nothing, and has no parameters and no result
@@ -570,7 +604,7 @@ pub record IsInner (program : Y.Program) (block : ℕ) (all : List (ℕ × Label
   pub level : head.level ≡ 1
   pub bare : variables_of_block program head.number ≡ []
   pub statements : AreProvedStatements block (types_of (variables_of_block program block)) body
-  pub jumps : AllJumpAround head.number 1 all block [] (labels_in body) body
+  pub jumps : AllJumpAround head.number 1 all (blocks_of program.procedures) [] (labels_in body) body
   pub inside : AreBare program body
   pub callable : is_number head.number called ≡ true → IsCallable called head body
 
@@ -583,8 +617,8 @@ pub record IsProvedBlock (program : Y.Program) (head : Y.BlockHead) (body : Y.St
   pub level : head.level ≡ 0
   pub line : IsLine head.line
   pub statements : AreProvedStatements head.number (types_of (variables_of_block program head.number)) body
-  pub jumps : AllJumpAround head.number 0 (all_labels head.number body ++ procedure_labels others) head.number [] (labels_in body) body
-  pub calls : AllCallAmong called true false body
+  pub jumps : AllJumpAround head.number 0 (all_labels head.number body ++ procedure_labels others) (blocks_of program.procedures) [] (labels_in body) body
+  pub calls : AllCallAmong called body
   pub inside : AreBare program body
 
 -- the main procedure, without parameters and without a result, and procedures inside it, of which those of some numbers are called; the

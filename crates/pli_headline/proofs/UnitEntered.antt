@@ -1,0 +1,149 @@
+-- An on-unit for which a raise waits is entered (service 4), in its frame; past the limit on active blocks the run ends.
+use Rattle.std.proofs.Common.{◌≡◌, ℕ, ◌+◌, ◌^◌, ◌<◌, ◌≤◌, List, [], ◌∷◌, ◌++◌, length, None, Some, true, refl, ap, ◌∙◌, arith, lit<, false, add-one}
+use Rattle.std.specs.Prelude.{pos, cond, nat_lt, if◌then◌else◌}
+use Rattle.rv_meaning.specs.declared.instr.Instr.{Instr}
+use Rattle.rv_meaning.specs.declared.instr.Instr.TheVariants as I
+use Rattle.pli_meaning.specs.declared.outcome.End.TheVariants as E
+use Rattle.pli_meaning.specs.declared.outcome.Limit.TheVariants as L
+use Rattle.pli_meaning.specs.StorageState.{most_activations, State}
+use Rattle.pli_meaning.specs.World.{ending}
+use Rattle.pli_meaning.specs.Control.{finish}
+use Rattle.pli_serving.specs.ServiceState as S
+use Rattle.pli_serving.specs.ServiceState.{Services}
+use Rattle.pli_serving.specs.Answers as N
+use Rattle.pli_serving.specs.Answers.{Answer, Done, Ends}
+use Rattle.pli_serving.specs.Outcomes.{or_bad, bad_unless}
+use Rattle.pli_serving.specs.ActsAndEnds.{run_ended}
+use Rattle.pli_serving.specs.Blocks as K
+use Rattle.pli_coding.specs.Registers.{frame_register, a0, a1, a2, a3, a7}
+use Rattle.pli_coding.specs.Assembly.{Plain, Code, size_of}
+use Rattle.pli_coding.specs.Instructions.{small, number, load_word}
+use Rattle.pli_coding.specs.Frames.{own_offset}
+use Rattle.pli_coding.specs.Entries.{entered_without_texts}
+use Rattle.pli_coding.specs.Environments.{Environment}
+use Rattle.pli_coding.specs.Linking.{Links}
+use Rattle.pli_headline.specs.ProvedSoFar.{Types}
+use Rattle.pli_headline.proofs.Engine.{Base, call_at}
+use Rattle.pli_headline.proofs.Linking.{size_append}
+use Rattle.pli_headline.proofs.Items.{Linked, At, straight}
+use Rattle.pli_headline.proofs.Bodies.{Known, zero_is, frame_is, constant_piece}
+use Rattle.pli_headline.proofs.Jumps.{front_of, back_of}
+use Rattle.pli_headline.proofs.Temporaries.{nothing}
+use Rattle.pli_headline.proofs.Reaching.{reach_moved}
+use Rattle.pli_headline.proofs.Calls.{called, Calling, call_done, comes_finish, end_pauses, call_ends, acts}
+use Rattle.pli_headline.proofs.Raising.{small_is}
+use Rattle.pli_headline.proofs.Acts.{word_is, word_fits}
+use Rattle.pli_headline.proofs.Statements.{Block}
+use Rattle.pli_headline.proofs.InnerFrames.{inner_whole}
+use Rattle.pli_headline.proofs.BeginDisplays.{frame_word}
+use Rattle.pli_headline.proofs.CalledFrames.{Callee, called_ground}
+use Rattle.pli_headline.proofs.CalledBegun.{with_texts}
+use Rattle.pli_headline.proofs.Reach.{Family, Reach, reach_then, reached, reached_holds, Aims, Comes, Closed, cost, onward}
+use Rattle.pli_headline.proofs.Scalars.{Values}
+
+abbrev pub unit_activation : Services → S.Waiting → (at : ℕ) → S.Activation
+unit_activation v w at = K.activation_of v (record { kind = S.OnUnitBlock w.code w.resume; line = w.line }) at 0
+
+abbrev pub unit_services : Services → S.Waiting → (at line : ℕ) → Services
+unit_services v w at line =
+    record v {
+      activations = unit_activation v w at ∷ v.activations;
+      waiting = None;
+      line = line;
+    }
+
+abbrev entry_answer : Services → (m : List ℕ) → (at line : ℕ) → K.Entered → Answer
+entry_answer v m at line entered =
+    bad_unless (K.are_texts 0 v.entries)
+    (if nat_lt (S.height v) most_activations
+    then Done (record v { activations = K.activation_of v entered at 0 ∷ v.activations; waiting = None; line = line }) m 2 at
+    else run_ended (E.Limit L.Depth) v)
+
+enter_answer : (code : List Instr) (v : Services) (m : List ℕ) (w : S.Waiting) (at line : ℕ) → v.waiting ≡ Some w → nat_lt (length v.activations) most_activations ≡ true → K.enter_served (call_at code v m) 2 at line 0 ≡ Done (unit_services v w at line) m 2 at
+enter_answer code v m w at line waits few =
+    ap (λ o. or_bad (K.entered_of 2 v.line o) (entry_answer v m at line)) waits
+    ∙ ap (λ q. cond q (Done (unit_services v w at line) m 2 at) (run_ended (E.Limit L.Depth) v)) few
+
+abbrev enter_front : Code
+enter_front = small a3 0 ∷ (load_word a1 frame_register own_offset ++ small a0 2 ∷ [])
+
+abbrev enter_regs : (at : ℕ) → Base → List (ℕ × ℕ)
+enter_regs at b = (10, 2) ∷ (11, at) ∷ (13, 0) ∷ []
+
+-- up to the call
+asked_call : {e : Environment} {block : ℕ} {types : Types} (bl : Block e block types) (callee : Callee bl) (back : Base → ℕ) (texts : ℕ) (n : Values) {links : Links} {code : List Instr} {i : ℕ} {v : Services} {h0 h t0 t : ℕ → ℕ} (c : ℕ) (f : Family) (line : ℕ) → line < 2 ^ 31 → Linked links code i (entered_without_texts 2 line) → ((b : Base) → At b i (Known (called_ground bl callee back h0 t0 n) v h t (with_texts texts) b) (f b)) → Reach code c f v (c + 3 + size_of (number a2 line) + 1) v (λ b w. At b (i + 3 + size_of (number a2 line) + 1) (Known (called_ground bl callee back h0 t0 n) v h t (λ b'. (17, 4) ∷ (12, line) ∷ enter_regs callee.at b') b) w)
+asked_call bl callee back texts n {links} {code} {i} {v} {h0} {h} {t0} {t} c f line fits l there =
+    let ground = called_ground bl callee back h0 t0 n in
+    let m = number a2 line in
+    let last = small a7 4 ∷ Plain I.Ecall ∷ [] in
+    let l1 = back_of enter_front (m ++ last) l in
+    let l2 = back_of m last l1 in
+    let room = callee.room in
+    let whole = inner_whole callee.at bl.stack.free callee.words callee.place bl.stack.aligned in
+    let r1 = straight c f v v (λ b w. Known ground v h t (enter_regs callee.at) b w) (front_of enter_front (m ++ last) l) (omega arith) (λ b. (there b).pc)
+    (λ b. let o = (there b).holds in (
+      frame_word b callee.at ((f b).machine.registers 8) 36 (omega (arith, room)) whole refl (omega arith) (frame_is o.body),
+      record {
+        body = record { services = o.body.services; registers = o.body.registers; bytes = o.body.bytes; memory = o.body.memory };
+        regs = (small_is _ 2 (zero_is o.body) (lit< tt), (o.body.memory.own, (small_is _ 0 (zero_is o.body) (lit< tt), tt)));
+      },
+    )) in
+    let r2 = constant_piece (c + 3) (reached r1) a2 (pos line) (word_fits line fits) (record { reserved_stay = λ y u. refl; known_stay = λ b y u q. q; set = λ y u. refl }) (front_of m last l1) (reached_holds r1) in
+    let r3 = straight (c + 3 + size_of m) (reached r2) v v (λ b w. Known ground v h t (λ b'. (17, 4) ∷ (12, line) ∷ enter_regs callee.at b') b w) (front_of (small a7 4 ∷ []) (Plain I.Ecall ∷ []) l2) (omega arith) (λ b. (reached_holds r2 b).pc)
+    (λ b. let o = (reached_holds r2 b).holds in record {
+      body = record { services = o.body.services; registers = o.body.registers; bytes = o.body.bytes; memory = o.body.memory };
+      regs = (small_is _ 4 (zero_is o.body) (lit< tt), (o.regs.0 ∙ word_is line fits, o.regs.1));
+    }) in
+    reach_then r1 (reach_then r2 r3)
+
+pub unit_entered : {e : Environment} {block : ℕ} {types : Types} (bl : Block e block types) (callee : Callee bl) (back : Base → ℕ) (texts : ℕ) (n : Values) {links : Links} {code : List Instr} {i : ℕ} {v : Services} {h0 h t0 t : ℕ → ℕ} (c : ℕ) (f : Family) (w : S.Waiting) (line : ℕ) → line < 2 ^ 31 → v.waiting ≡ Some w → nat_lt (length v.activations) most_activations ≡ true → Linked links code i (entered_without_texts 2 line) → ((b : Base) → At b i (Known (called_ground bl callee back h0 t0 n) v h t (with_texts texts) b) (f b)) → Reach code c f v (c + size_of (entered_without_texts 2 line)) (unit_services v w callee.at line) (λ b u. At b (i + size_of (entered_without_texts 2 line)) (Known (called_ground bl callee back h0 t0 n) (unit_services v w callee.at line) h t nothing b) u)
+unit_entered bl callee back texts n {links} {code} {i} {v} {h0} {h} {t0} {t} c f w line fits waits few l there =
+    let ground = called_ground bl callee back h0 t0 n in
+    let v' = unit_services v w callee.at line in
+    let m = number a2 line in
+    let last = small a7 4 ∷ Plain I.Ecall ∷ [] in
+    let l2 = back_of m last (back_of enter_front (m ++ last) l) in
+    let total = size_append m last in
+    let r3 = asked_call bl callee back texts n c f line fits l there in
+    let calling : Calling _ code (i + 3 + size_of m + 1) (reached r3) (λ b. Done v' (reached r3 b).machine.memory 2 callee.at) = record {
+      linked = back_of (small a7 4 ∷ []) (Plain I.Ecall ∷ []) l2;
+      pc = λ b. (reached_holds r3 b).pc;
+      answers = λ b.
+          let o = (reached_holds r3 b).holds in
+          called code (reached r3 b) v 4 2 callee.at line 0 _ (λ call x0 x1 x2 x3 x4. K.enter_served call x0 x1 x2 x3) o.body.services o.regs.0 o.regs.1.1.0 o.regs.1.1.1.0 o.regs.1.0 o.regs.1.1.1.1.0 refl (λ call x. refl)
+          ∙ enter_answer code v (reached r3 b).machine.memory w callee.at line waits few;
+    } in
+    let r4 = call_done (c + 3 + size_of m + 1) (reached r3) v v' (λ b. (reached r3 b).machine.memory) (λ b. 2) (λ b. callee.at) (λ b. Known ground v' h t nothing b) (omega arith) calling
+    (λ b. let o = (reached_holds r3 b).holds.body in record { body = record { services = refl; registers = o.registers; bytes = o.bytes; memory = o.memory }; regs = tt }) in
+    reach_moved (omega (arith, total)) (omega (arith, total)) (reach_then r3 r4)
+
+-- the line of a block
+abbrev pub line_given : ℕ → Code
+line_given line = number a2 line
+
+-- where too many blocks are entered the run ends
+enter_limited : (code : List Instr) (v : Services) (m : List ℕ) (w : S.Waiting) (at line : ℕ) → v.waiting ≡ Some w → nat_lt (length v.activations) most_activations ≡ false → K.enter_served (call_at code v m) 2 at line 0 ≡ run_ended (E.Limit L.Depth) v
+enter_limited code v m w at line waits many =
+    ap (λ o. or_bad (K.entered_of 2 v.line o) (entry_answer v m at line)) waits
+    ∙ ap (λ q. cond q (Done (unit_services v w at line) m 2 at) (run_ended (E.Limit L.Depth) v)) many
+
+pub entry_limited : {e : Environment} {block : ℕ} {types : Types} (bl : Block e block types) (callee : Callee bl) (back : Base → ℕ) (texts : ℕ) (n : Values) {X : Type 0} {links : Links} {code : List Instr} {i : ℕ} {v : Services} {h0 h t0 t : ℕ → ℕ} {aims : Aims X} (c : ℕ) (f : Family) (closed : Closed code aims) (s : State) (k line : ℕ) (w : S.Waiting) → line < 2 ^ 31 → c + 3 + size_of (number a2 line) + 1 < cost code → nat_lt (length v.activations) most_activations ≡ false → Linked links code i (entered_without_texts 2 line) → v.waiting ≡ Some w → v.world ≡ s.world → v.world.end ≡ E.Running → v.world.acts ≤ k → k + 1 < 2 ^ 64 → ((b : Base) → At b i (Known (called_ground bl callee back h0 t0 n) v h t (with_texts texts) b) (f b)) → Comes code c f v aims (finish {R = X} (E.Limit L.Depth) k s)
+entry_limited bl callee back texts n {code = code} {i = i} {v = v} c f closed s k line w fits few many l waits world running allowed room at =
+    let m = number a2 line in
+    let last = small a7 4 ∷ Plain I.Ecall ∷ [] in
+    let l2 = back_of m last (back_of enter_front (m ++ last) l) in
+    let v' = N.with_world (ending (E.Limit L.Depth) v.world) v in
+    onward closed (asked_call bl callee back texts n c f line fits l at)
+    (λ f' at'.
+    let calling : Calling _ code (i + 3 + size_of m + 1) f' (λ b. Ends v') = record {
+      linked = back_of (small a7 4 ∷ []) (Plain I.Ecall ∷ []) l2;
+      pc = λ b. (at' b).pc;
+      answers = λ b.
+          let o = (at' b).holds in
+          called code (f' b) v 4 2 callee.at line 0 _ (λ call x0 x1 x2 x3 x4. K.enter_served call x0 x1 x2 x3) o.body.services o.regs.0 o.regs.1.1.0 o.regs.1.1.1.0 o.regs.1.0 o.regs.1.1.1.1.0 refl (λ call x. refl)
+          ∙ enter_limited code v (f' b).machine.memory w callee.at line waits many
+          ∙ acts v k (Ends v') allowed room;
+    } in
+    comes_finish v' (E.Limit L.Depth) k s world (ap (ending (E.Limit L.Depth)) world)
+    (end_pauses (c + 3 + size_of m + 1) f' v v' few running (λ b. (at' b).holds.body.services) (add-one v.world.acts) calling)
+    (call_ends (c + 3 + size_of m + 1) f' v v' (λ e. cc e) calling))

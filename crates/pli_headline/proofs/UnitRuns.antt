@@ -1,0 +1,335 @@
+-- SIGNAL of AREA while a unit of the program may be in force: the unit is entered, runs and goes back behind SIGNAL, or the limit on active
+-- blocks ends the run; where none is in force the system's action ends it.
+use Rattle.std.proofs.Common.{◌≡◌, ℕ, zero, suc, ◌+◌, ◌*◌, ◌^◌, ◌<◌, ◌≤◌, List, [], ◌∷◌, ◌++◌, length, None, Option, Some, true, false, refl, sym, ap, ◌∙◌, subst, arith, lit<}
+use Rattle.std.proofs.lemmas.Bool.{ltb-true}
+use Rattle.std.specs.Prelude.{cond, nat_lt, ◌==◌}
+use Rattle.pli_language.specs.declared.condition.Condition.TheVariants as C
+use Rattle.rv_meaning.specs.declared.instr.Instr.{Instr}
+use Rattle.pli_typing.specs.TypedTree as Y
+use Rattle.pli_meaning.specs.Codes.{code_signalled}
+use Rattle.pli_meaning.specs.World.{counted, raising}
+use Rattle.pli_meaning.specs.BasicValues.{BasicValue}
+use Rattle.pli_meaning.specs.StorageState.{State, Activation, OnUnit, SystemUnit, BlockUnit, with_world, newest_ended, most_activations, force}
+use Rattle.pli_meaning.specs.declared.outcome.End.TheVariants as E
+use Rattle.pli_meaning.specs.declared.outcome.Limit.TheVariants as L
+use Rattle.pli_meaning.specs.Control.{Meaning, left, give, act, looked, ◌>>=◌, ◌>>◌, finish}
+use Rattle.pli_meaning.specs.Raising.{Around, at_line}
+use Rattle.pli_meaning.specs.Raising as R
+use Rattle.pli_meaning.specs.Executing as M
+use Rattle.pli_serving.specs.ServiceState as S
+use Rattle.pli_serving.specs.ServiceState.{Services}
+use Rattle.pli_serving.specs.OnUnits as U
+use Rattle.pli_coding.specs.Registers.{a7}
+use Rattle.pli_coding.specs.Assembly.{Plain, Code, size_of}
+use Rattle.pli_coding.specs.Instructions.{small}
+use Rattle.rv_meaning.specs.declared.instr.Instr.TheVariants as I
+use Rattle.pli_coding.specs.Arithmetic.{raised}
+use Rattle.pli_coding.specs.Allocating.{act_code}
+use Rattle.pli_coding.specs.Entries.{registers_restored, frame_begun, frame_ended, entered_without_texts}
+use Rattle.pli_coding.specs.Environments.{UnitOwner, Environment, in_frame, owned_by, none_taken}
+use Rattle.pli_coding.specs.Statements.{stmt_code, stmts_code, unit_left}
+use Rattle.pli_coding.specs.Linking.{Links}
+use Rattle.pli_headline.specs.ProvedSoFar.{Types}
+use Rattle.pli_headline.proofs.Engine.{Base, address, most_code}
+use Rattle.pli_headline.proofs.Linking.{size_append}
+use Rattle.pli_headline.proofs.Items.{Linked, At}
+use Rattle.pli_headline.proofs.Bodies.{Known}
+use Rattle.pli_headline.proofs.Jumps.{front_of, back_of}
+use Rattle.pli_headline.proofs.Temporaries.{nothing}
+use Rattle.pli_headline.proofs.Activations.{IsOrdinary, OnlyIf, same_length, entered_length, first_level, levels_of}
+use Rattle.pli_headline.proofs.Entered.{atop, AreBoth, both_in_force}
+use Rattle.pli_headline.proofs.Calls.{Serving}
+use Rattle.pli_headline.proofs.Raising.{Routines, with_act}
+use Rattle.pli_headline.proofs.Operators.{raised_alone}
+use Rattle.pli_headline.proofs.Acts.{act_to, act_piece}
+use Rattle.pli_headline.proofs.Statements.{IsOwned, Block, AllHold, counted_all, Does}
+use Rattle.pli_headline.proofs.MainFlow.{inside_closed, comes_left}
+use Rattle.pli_headline.proofs.Owing.{owing, owing_closed, comes_owing, done_owing}
+use Rattle.pli_headline.proofs.SavedRegisters.{held_again}
+use Rattle.pli_headline.proofs.BeginEntered.{ended_services}
+use Rattle.pli_headline.proofs.BeginMeant.{Entering, inner_around, inner_part, entered_by, raised_nested, raised_all, ended_input, left_all, newest_kind}
+use Rattle.pli_headline.proofs.CallMeant.{called_part}
+use Rattle.pli_headline.proofs.CallRuns.{called_direct}
+use Rattle.pli_headline.proofs.CalledFrames.{Callee, called_ground, called_block_as}
+use Rattle.pli_headline.proofs.CalledBegun.{called_frame, entry_with}
+use Rattle.pli_headline.proofs.Begins.{by_test}
+use Rattle.pli_headline.proofs.UnitMeant.{IsBareUnit, unit_entry, unit_part, unit_meant, past_limit}
+use Rattle.pli_headline.proofs.UnitRaised.{waiting_services, unit_begins}
+use Rattle.pli_headline.proofs.UnitEntered.{unit_activation, unit_services, unit_entered, line_given, entry_limited}
+use Rattle.pli_headline.proofs.UnitLeft.{jump_on, unit_left_piece}
+use Rattle.pli_headline.proofs.Reach.{Family, Aims, Comes, Closed, before_closed, comes_on, onward}
+use Rattle.pli_headline.proofs.Scalars.{Values}
+
+-- ---- units that may be raised
+
+-- the code of a unit without variables and marks of its own
+abbrev pub unit_with : (words line : ℕ) → (statements : Code) → Code
+unit_with words line statements =
+    frame_begun words 1 0 true
+    ++ (entered_without_texts 2 line ++ (act_code line ++ (statements ++ unit_left words)))
+
+pub unit_sized : {A : Type 0} → IsOwned UnitOwner → A
+unit_sized owned = absurd owned
+
+-- its code stands at an offset, there is room for its frame, and its statements do what they mean
+pub record Raisable {e : Environment} {block : ℕ} {types : Types} (bl : Block e block types) (links : Links) (code : List Instr) (more frame : ℕ) (u : Y.Block) (at : ℕ) : Type 1 where
+  pub lowest : frame ≡ bl.base
+  pub head : Y.BlockHead
+  pub body : Y.Stmts
+  pub is : u ≡ Y.BlockOf head body
+  pub bare : IsBareUnit e.program head
+  pub level : head.level ≡ 1
+  pub line : head.line < 2 ^ 31
+  pub callee : Callee bl
+  pub index : ℕ
+  pub at_is : at ≡ 4 * index
+  pub later : 10 ≤ index
+  pub linked : Linked links code index (unit_with callee.words head.line (stmts_code (owned_by UnitOwner (in_frame head.number head.level e)) none_taken body))
+  pub does : (m : ℕ) → more ≡ suc m → suc (length bl.depths) < most_activations → (kind : S.BlockKind) (back : Base → ℕ) (h0 t0 : ℕ → ℕ) → Does (called_block_as bl callee back h0 t0 UnitOwner kind head level unit_sized) links code (suc m) (stmts_code (owned_by UnitOwner (in_frame head.number head.level e)) none_taken body) (M.list (inner_around e.program m head.line) body)
+
+-- ---- behind the statements of the unit
+
+-- it is left, and the run goes on where its raise said with the credits of that place
+leave_piece : {e : Environment} {block : ℕ} {types : Types} (bl : Block e block types) {links : Links} {code : List Instr} {level : ℕ} (callee : Callee bl) (k i resume oncode : ℕ) (h t : ℕ → ℕ) {aims : Aims (Unit {0})} (closed : Closed code aims) → resume ≤ most_code → i + 2 + size_of (registers_restored 0 7) + size_of (frame_ended callee.words) + 4 ≤ resume + length code → Linked links code i (unit_left callee.words) → ((s' : State) (v' : Services) (line' : ℕ) (n' : Values) (h' : ℕ → ℕ) (f' : Family) → Serving k s' v' line' → AllHold bl.frames v'.activations (e.level ∷ bl.depths) s' block types n' → ((b : Base) → At b resume (Known (bl.ground n') v' h' t nothing b) (f' b)) → aims.done resume f' v' tt s') → (s : State) (v : Services) (line : ℕ) (n : Values) (h1 t1 : ℕ → ℕ) (f : Family) → Serving k s v line → AllHold (atop callee.at (S.OnUnitBlock oncode (4 * resume)) bl.frames) v.activations (level ∷ e.level ∷ bl.depths) s block types n → ((b : Base) → At b i (Known (called_ground bl callee (λ b'. address b' resume) h t n) v h1 t1 nothing b) (f b)) → (owing code (length code) aims).done i f v tt (with_world s.world (newest_ended s))
+leave_piece {e} {block} {types} bl {code = code} callee k i resume oncode h t closed near few l goal s v line n h1 t1 f serving all at =
+    let o = left_all s v.activations serving.nested all in
+    let kind = newest_kind o.newest o.rest o.are o.some all in
+    let v' = ended_services v o.newest o.rest in
+    let s' = with_world s.world (newest_ended s) in
+    done_owing closed (length code) resume few (unit_left_piece bl callee (λ b'. address b' resume) resume n i f o.newest o.rest oncode near o.are kind l at) tt s'
+    (λ f' at'.
+    goal s' v' o.newest.line n (held_again h 0 7 h1) f'
+    (record {
+      world = serving.world;
+      running = serving.running;
+      line_is = refl;
+      input = serving.input ∙ sym (ended_input s);
+      allowed = serving.allowed;
+      fits = serving.fits;
+      nested = o.nested;
+      waiting = serving.waiting;
+    })
+    o.all at')
+
+-- ---- behind its act
+
+-- what follows the raise
+abbrev found_unit : Around → (n : ℕ) → Meaning (Unit {0})
+found_unit around n = looked >>= (λ s. R.unit_run around n (force s.activations C.Area))
+
+found_is : (around : Around) (n k : ℕ) (s : State) (a : Activation) (u : Y.Block) → force s.activations C.Area ≡ Some (a, BlockUnit u) → found_unit around n k s ≡ R.unit_run around n (Some (a, BlockUnit u)) k s
+unfolding looked ◌>>=◌
+found_is around n k s a u found = ap (λ o. R.unit_run around n o k s) found
+
+-- the unit runs, from its first instruction on
+unit_piece : {e : Environment} {block : ℕ} {types : Types} (bl : Block e block types) {links : Links} {code : List Instr} (around : Around) (more m : ℕ) {frame : ℕ} {u : Y.Block} {at' : ℕ} (can : Raisable bl links code more frame u at') → more ≡ suc m → around.enter ≡ M.entered e.program (suc m) → {s : State} {v : Services} {h t : ℕ → ℕ} {aims : Aims (Unit {0})} (closed : Closed code aims) (n : Values) (f : Family) (k line resume oncode : ℕ) (a : Activation) → oncode < 2 ^ 16 → (oncode == 0) ≡ false → k < suc m + v.world.acts → 19 ≤ length code → resume ≤ length code → a.height ≡ 1 → suc (length bl.depths) < most_activations → nat_lt (length s.activations) most_activations ≡ true → Serving k s v line → AllHold bl.frames v.activations (e.level ∷ bl.depths) s block types n → ((b : Base) → At b can.index (Known (bl.ground n) (record v { waiting = Some (record { code = oncode; resume = 4 * resume; line = v.line }) }) h t (entry_with bl.base (4 * resume) (λ b'. address b' resume)) b) (f b)) → ((s' : State) (v' : Services) (line' : ℕ) (n' : Values) (h' : ℕ → ℕ) (f' : Family) → Serving k s' v' line' → AllHold bl.frames v'.activations (e.level ∷ bl.depths) s' block types n' → ((b : Base) → At b resume (Known (bl.ground n') v' h' t nothing b) (f' b)) → aims.done resume f' v' tt s') → Comes code 19 f (record v { waiting = Some (record { code = oncode; resume = 4 * resume; line = v.line }) }) (owing code (length code) aims) (unit_part around oncode a can.head can.body k s)
+unfolding M.end_reached give ◌>>◌
+unit_piece {e} {block} {types} bl {links} {code} around more m can next enter {s} {v} {h} {t} {aims} closed n f k line resume oncode a small' other enough long near parent deep few serving all at goal =
+    let program = e.program in
+    let head = can.head in
+    let body = can.body in
+    let callee = can.callee in
+    let here = inner_around program m head.line in
+    let debt = length code in
+    let back : Base → ℕ = λ b. address b resume in
+    let w : S.Waiting = record { code = oncode; resume = 4 * resume; line = v.line } in
+    let v1 = record v { waiting = Some w } in
+    let e' = owned_by UnitOwner (in_frame head.number head.level e) in
+    let i0 = can.index in
+    let st = stmts_code e' none_taken body in
+    let fb = frame_begun callee.words 1 0 true in
+    let ec = entered_without_texts 2 head.line in
+    let ac = act_code head.line in
+    let ended = unit_left callee.words in
+    let lf = front_of fb (ec ++ (ac ++ (st ++ ended))) can.linked in
+    let l1 = back_of fb (ec ++ (ac ++ (st ++ ended))) can.linked in
+    let le = front_of ec (ac ++ (st ++ ended)) l1 in
+    let l2 = back_of ec (ac ++ (st ++ ended)) l1 in
+    let la = front_of ac (st ++ ended) l2 in
+    let l3 = back_of ac (st ++ ended) l2 in
+    let ls = front_of st ended l3 in
+    let ll = back_of st ended l3 in
+    let i1 = i0 + size_of fb in
+    let i2 = i1 + size_of ec in
+    let i3 = i2 + size_of ac in
+    let i4 = i3 + size_of st in
+    let restored = registers_restored 0 7 in
+    let lower = frame_ended callee.words in
+    let n1 = size_append restored (lower ++ jump_on) in
+    let n2 = size_append lower jump_on in
+    let room = ll.inside in
+    let small2 = ll.small' in
+    let behind = can.later in
+    let entry = unit_entry oncode head body in
+    let s2 = entered_by head entry s in
+    let v2 = unit_services v1 w callee.at head.line in
+    let x = unit_activation v1 w callee.at in
+    let lengths = entered_length s.activations (e.level ∷ bl.depths) all.entered in
+    let few' : nat_lt (length v.activations) most_activations ≡ true = ap (λ q. nat_lt q most_activations) (same_length s.activations v.activations serving.nested) ∙ few in
+    let level = can.level in
+    let some : 0 < head.level = omega (arith, level) in
+    let direct : head.level ≡ suc (first_level (levels_of s.activations)) → 1 ≡ length s.activations = λ inside. called_direct bl head.level (levels_of s.activations) (length s.activations) all.entered lengths level inside in
+    let ordinary : IsOrdinary oncode x = record { kind = λ further. ap (λ q. cond q further oncode) (sym other); units = tt } in
+    let last : Option BasicValue → Meaning (Unit {0}) = λ r. give tt in
+    let behind' : Unit {0} → Meaning (Unit {0}) = λ r. M.end_reached here false in
+    let statements : Unit {0} → Meaning (Unit {0}) = λ r. inner_part program m head body in
+    let leave = leave_piece bl callee k i4 resume oncode h t closed (omega (arith, near, small2)) (omega (arith, room, n1, n2)) ll goal in
+    let closed0 = owing_closed code debt aims in
+    let closed1 = inside_closed newest_ended (before_closed k last closed0) in
+    subst (Comes code 19 f v1 (owing code debt aims)) (sym (unit_meant program around m head body oncode k a s enter can.bare parent few))
+    (onward closed0 (called_frame bl callee back (λ b. let valid = b.valid.1 in omega (arith, valid, near, small2)) (4 * resume) n 19 f (omega (arith, behind)) lf at)
+    (λ f2 at2.
+    onward closed0 (unit_entered bl callee back (4 * resume) n (19 + size_of fb) f2 w head.line can.line refl few' le at2)
+    (λ f3 at3.
+    comes_on k (left true newest_ended (called_part program m head body k s2)) last
+    (comes_left newest_ended (called_part program m head body k s2)
+    (comes_on k (act counted k s2) statements
+    (act_to (before_closed k statements closed1) (19 + size_of fb + size_of ec) i3 f3 head.line head.line k can.line (omega (arith, room, long)) la
+    (record {
+      world = serving.world;
+      running = serving.running;
+      line_is = refl;
+      input = serving.input;
+      allowed = serving.allowed;
+      fits = serving.fits;
+      nested = raised_nested head entry s v.activations x small' some (omega (arith, lengths)) (omega arith) (omega (arith, lengths)) direct ordinary serving.nested;
+      waiting = refl;
+    })
+    at3
+    (λ f4 serving4 at4.
+    let s3 = with_world (counted s2.world) s2 in
+    comes_on k (M.list here body k s3) behind'
+    ((can.does m next deep (S.OnUnitBlock oncode (4 * resume)) back h t).does (before_closed k behind' closed1) head.line n f4 k ls serving4
+    (counted_all (counted s2.world) (raised_all head entry s v.activations x small' some (omega arith) (omega (arith, lengths)) direct ordinary refl serving.nested all))
+    at4
+    (λ s5 v5 line5 n5 h5 t5 f5 serving5 all5 stays5 at5. record { to = record { to = leave s5 v5 line5 n5 h5 t5 f5 serving5 all5 at5 } })
+    (record {
+      enough = omega (arith, enough);
+      later = omega (arith, behind);
+      jumps = λ label among once. let no : false ≡ true = among in absurd (cc no);
+      outs = tt;
+      homes = tt;
+      returns = λ number' owned once. absurd (cc owned);
+      own = λ inner owned once. absurd (cc owned);
+    })))))))))
+
+-- where too many blocks are entered the run ends
+limited_piece : {e : Environment} {block : ℕ} {types : Types} (bl : Block e block types) {links : Links} {code : List Instr} (around : Around) (more m : ℕ) {frame : ℕ} {u : Y.Block} {at' : ℕ} (can : Raisable bl links code more frame u at') → around.enter ≡ M.entered e.program (suc m) → {s : State} {v : Services} {h t : ℕ → ℕ} {aims : Aims (Unit {0})} (closed : Closed code aims) (n : Values) (f : Family) (k line resume oncode : ℕ) (a : Activation) → 19 ≤ length code → resume ≤ length code → nat_lt (length s.activations) most_activations ≡ false → Serving k s v line → ((b : Base) → At b can.index (Known (bl.ground n) (record v { waiting = Some (record { code = oncode; resume = 4 * resume; line = v.line }) }) h t (entry_with bl.base (4 * resume) (λ b'. address b' resume)) b) (f b)) → Comes code 19 f (record v { waiting = Some (record { code = oncode; resume = 4 * resume; line = v.line }) }) (owing code (length code) aims) (unit_part around oncode a can.head can.body k s)
+limited_piece {e} bl {code = code} around more m can enter {s} {v} {h} {t} {aims} closed n f k line resume oncode a long near many serving at =
+    let head = can.head in
+    let body = can.body in
+    let callee = can.callee in
+    let back : Base → ℕ = λ b. address b resume in
+    let w : S.Waiting = record { code = oncode; resume = 4 * resume; line = v.line } in
+    let v1 = record v { waiting = Some w } in
+    let e' = owned_by UnitOwner (in_frame head.number head.level e) in
+    let i0 = can.index in
+    let fb = frame_begun callee.words 1 0 true in
+    let ec = entered_without_texts 2 head.line in
+    let rest = act_code head.line ++ (stmts_code e' none_taken body ++ unit_left callee.words) in
+    let lf = front_of fb (ec ++ rest) can.linked in
+    let le = front_of ec rest (back_of fb (ec ++ rest) can.linked) in
+    let room = le.inside in
+    let small2 = le.small' in
+    let behind = can.later in
+    let c = line_given head.line in
+    let calls = small a7 4 ∷ Plain I.Ecall ∷ [] in
+    let total = size_append c calls in
+    let many' : nat_lt (length v.activations) most_activations ≡ false = ap (λ q. nat_lt q most_activations) (same_length s.activations v.activations serving.nested) ∙ many in
+    let last : Option BasicValue → Meaning (Unit {0}) = λ r. give tt in
+    let closed0 = owing_closed code (length code) aims in
+    subst (Comes code 19 f v1 (owing code (length code) aims)) (sym (past_limit e.program around m head body oncode k a s enter many))
+    (onward closed0 (called_frame bl callee back (λ b. let valid = b.valid.1 in omega (arith, valid, near, small2)) (4 * resume) n 19 f (omega (arith, behind)) lf at)
+    (λ f2 at2.
+    comes_on k (finish {R = Option BasicValue} (E.Limit L.Depth) k s) last
+    (entry_limited bl callee back (4 * resume) n (19 + size_of fb) f2 (before_closed k last closed0) s k head.line w can.line (omega (arith, room, total, long)) many' le refl serving.world serving.running serving.allowed serving.fits at2)))
+
+-- the raise, with a unit in force
+raised_unit : {e : Environment} {block : ℕ} {types : Types} (bl : Block e block types) {links : Links} {code : List Instr} (routines : Routines links code) (around : Around) (more m : ℕ) {frame : ℕ} {u : Y.Block} {at' : ℕ} (can : Raisable bl links code more frame u at') → more ≡ suc m → around.enter ≡ M.entered e.program (suc m) → {i : ℕ} {s : State} {v : Services} {h t : ℕ → ℕ} {aims : Aims (Unit {0})} (closed : Closed code aims) (n : Values) (f : Family) (k line oncode : ℕ) (a : Activation) (x : S.Activation) → oncode < 2 ^ 16 → (oncode == 0) ≡ false → k < suc m + v.world.acts → Linked links code i (raised C.Area oncode) → force s.activations C.Area ≡ Some (a, BlockUnit u) → U.force v.activations C.Area ≡ Some (x, S.CodeUnit at') → a.height ≡ 1 → x.frame ≡ frame → Serving k s v line → AllHold bl.frames v.activations (e.level ∷ bl.depths) s block types n → ((b : Base) → At b i (Known (bl.ground n) v h t nothing b) (f b)) → ((s' : State) (v' : Services) (line' : ℕ) (n' : Values) (h' : ℕ → ℕ) (f' : Family) → Serving k s' v' line' → AllHold bl.frames v'.activations (e.level ∷ bl.depths) s' block types n' → ((b : Base) → At b (i + 2 + 2) (Known (bl.ground n') v' h' t nothing b) (f' b)) → aims.done (i + 2 + 2) f' v' tt s') → Comes code 0 f v (owing code (length code) aims) (R.raised around C.Area oncode k s)
+unfolding R.raised ◌>>◌
+raised_unit {e} {block} {types} bl {links} {code} routines around more m {frame} {u} can next enter {i} {s} {v} {h} {t} {aims} closed n f k line oncode a x small' other enough l found served parent framed serving all at goal =
+    let resume = i + 2 + 2 in
+    let closed0 = owing_closed code (length code) aims in
+    let next' : Unit {0} → Meaning (Unit {0}) = λ r. found_unit around oncode in
+    let s1 = with_world (raising C.Area oncode s.world) s in
+    let v1 = waiting_services oncode (4 * resume) v in
+    let served' : U.force v.activations C.Area ≡ Some (x, S.CodeUnit (4 * can.index)) = served ∙ ap (λ o. Some (x, S.CodeUnit o)) can.at_is in
+    let lowest : x.frame ≡ bl.base = framed ∙ can.lowest in
+    let within = bl.within in
+    let whole = routines.linked.inside in
+    let placed = can.linked.inside in
+    let fb = frame_begun can.callee.words 1 0 true in
+    let ec = entered_without_texts 2 can.head.line in
+    let rest = ec ++ (act_code can.head.line ++ (stmts_code (owned_by UnitOwner (in_frame can.head.number can.head.level e)) none_taken can.body ++ unit_left can.callee.words)) in
+    let total = size_append fb rest in
+    let some : 0 < size_of rest = omega arith in
+    let later = can.later in
+    let inside = l.inside in
+    comes_on k (act (raising C.Area oncode) k s) next'
+    (unit_begins (before_closed k next' closed0) routines 0 f oncode k line can.index x small' (omega (arith, whole)) l served' (omega (arith, later)) (omega (arith, placed, total, some)) (omega (arith, lowest, within)) serving at
+    (λ f1 below at1.
+    let serving1 = with_act (raising C.Area oncode) (λ w. refl) (λ w. refl) serving below in
+    let all1 : AllHold bl.frames v.activations (e.level ∷ bl.depths) s1 block types n = counted_all _ all in
+    let at2 = λ (b : Base). subst (λ fr. At b can.index (Known (bl.ground n) v1 h t (entry_with fr (4 * resume) (λ b'. address b' resume)) b) (f1 b)) lowest (at1 b) in
+    subst (Comes code 19 f1 v1 (owing code (length code) aims)) (sym (found_is around oncode k s1 a u found ∙ ap (λ q. R.unit_run around oncode (Some (a, BlockUnit q)) k s1) can.is))
+    (by_test (nat_lt (length s.activations) most_activations)
+    (λ many. limited_piece bl around more m can enter closed n f1 k line resume oncode a (omega (arith, whole)) (omega (arith, inside)) many serving1 at2)
+    (λ few.
+    let deep : suc (length bl.depths) < most_activations = (let less = ltb-true (length s.activations) most_activations few in let long = entered_length s.activations (e.level ∷ bl.depths) all.entered in omega (arith, less, long)) in
+    unit_piece bl around more m can next enter closed n f1 k line resume oncode a small' other (omega (arith, enough)) (omega (arith, whole)) (omega (arith, inside)) parent deep few serving1 all1 at2 goal))))
+
+-- ---- the statement
+
+by_force : {A : Type 0} (known : ℕ → Y.Block → ℕ → Type 0) (o : Option (Activation × OnUnit)) (o' : Option (S.Activation × S.OnUnit)) → AreBoth known o o' → (OnlyIf SystemUnit o → OnlyIf S.SystemUnit o' → A) → ((a : Activation) (u : Y.Block) (x : S.Activation) (at : ℕ) → o ≡ Some (a, BlockUnit u) → o' ≡ Some (x, S.CodeUnit at) → a.height ≡ 1 → known x.frame u at → A) → A
+by_force known None None both alone unit = alone tt tt
+by_force known None (Some q) both alone unit = absurd both
+by_force known (Some p) None both alone unit = absurd both
+by_force known (Some (a, SystemUnit)) (Some (x, S.SystemUnit)) both alone unit = alone refl refl
+by_force known (Some (a, SystemUnit)) (Some (x, S.CodeUnit at)) both alone unit = absurd both
+by_force known (Some (a, BlockUnit u)) (Some (x, S.SystemUnit)) both alone unit = absurd both
+by_force known (Some (a, BlockUnit u)) (Some (x, S.CodeUnit at)) both alone unit = unit a u x at refl refl both.0 both.1
+
+pub signal_area_does : {e : Environment} {block : ℕ} {types : Types} (bl : Block e block types) (links : Links) (code : List Instr) (routines : Routines links code) (around : Around) (more line : ℕ) → line < 2 ^ 31 → Entering e.program around more → ((frame : ℕ) (u : Y.Block) (at : ℕ) → bl.frames.known frame u at → Raisable bl links code more frame u at) → Does bl links code around.turns (stmt_code e bl.taken (Y.Signal C.Area line)) (M.statement around (Y.Signal C.Area line))
+unfolding M.statement M.signalled ◌>>◌
+signal_area_does {e} {block} {types} bl links code routines around zero line fits entering can =
+    record {
+      does = λ {i} {s} {v} {h} {t} {aims} closed old n f k l serving all at goal more'.
+          let next' : Unit {0} → Meaning (Unit {0}) = λ r. M.signalled (at_line around line) C.Area in
+          comes_on k (act counted k s) next'
+          (act_piece (before_closed k next' closed) f line old k fits (front_of (act_code line) (raised C.Area (code_signalled C.Area)) l) serving at
+          (λ f1 serving1 at1.
+          absurd (let e1 = more'.enough in let e2 = entering.turns in let e3 = serving1.allowed in omega (arith, e1, e2, e3))));
+    }
+signal_area_does {e} {block} {types} bl links code routines around (suc m) line fits entering can =
+    record {
+      does = λ {i} {s} {v} {h} {t} {aims} closed old n f k l serving all at goal more'.
+          let here = at_line around line in
+          let oncode = code_signalled C.Area in
+          let a = act_code line in
+          let c = raised C.Area oncode in
+          let size = size_append a c in
+          let place : i + size_of a + 2 + 2 ≡ i + size_of (a ++ c) = omega (arith, size) in
+          let e1 = more'.enough in
+          let e2 = entering.turns in
+          let inside' = l.inside in
+          let next' : Unit {0} → Meaning (Unit {0}) = λ r. M.signalled here C.Area in
+          by_force bl.frames.known (force s.activations C.Area) (U.force v.activations C.Area) (both_in_force bl.frames.known s.activations v.activations C.Area all.units)
+          (λ only served.
+          comes_on k (act counted k s) next'
+          (act_piece (before_closed k next' closed) f line old k fits (front_of a c l) serving at
+          (λ f1 serving1 at1.
+          raised_alone closed routines f1 here C.Area 1 oncode [] k refl (lit< tt) (lit< tt) only served (back_of a c l) serving1 at1)))
+          (λ a' u x at' found served parent known.
+          comes_owing (length code) (M.statement around (Y.Signal C.Area line) k s)
+          (comes_on k (act counted k s) next'
+          (act_to (before_closed k next' (owing_closed code (length code) aims)) (i + length code) 0 f line old k fits (omega (arith, inside', size)) (front_of a c l) serving at
+          (λ f1 serving1 at1.
+          raised_unit bl routines here (suc m) m (can x.frame u at' known) refl entering.enter closed n f1 k line oncode a' x (lit< tt) refl (omega (arith, e1, e2)) (back_of a c l) found served parent refl serving1
+          (counted_all (counted s.world) all)
+          at1
+          (λ s4 v4 line4 n4 h4 f4 serving4 all4 at4.
+          subst (λ q. aims.done q f4 v4 tt s4) (sym place)
+          (goal s4 v4 line4 n4 h4 t f4 serving4 all4
+          (record { registers = λ r below. absurd (let held = bl.held in omega (arith, held, below)); words = λ j below. refl })
+          (λ b. record { pc = (at4 b).pc ∙ ap (address b) place; holds = (at4 b).holds })))))));
+    }
