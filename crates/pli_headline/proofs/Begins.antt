@@ -1,5 +1,5 @@
 -- BEGIN blocks that declare nothing, in the main procedure and in one another.
-use Rattle.std.proofs.Common.{◌≡◌, ℕ, zero, suc, ◌+◌, ◌*◌, ◌^◌, ◌<◌, ◌≤◌, List, [], ◌∷◌, ◌++◌, length, None, Option, Bool, true, false, refl, sym, ap, ◌∙◌, subst, arith}
+use Rattle.std.proofs.Common.{◌≡◌, ℕ, zero, suc, ◌+◌, ◌*◌, ◌^◌, ◌<◌, ◌≤◌, List, [], ◌∷◌, ◌++◌, inr, length, None, Option, Bool, true, false, refl, sym, ap, ◌∙◌, subst, arith}
 use Rattle.std.proofs.lemmas.Bool.{eqb-true, ltb-true}
 use Rattle.std.specs.Prelude.{cond, max, nat_lt, ◌==◌}
 use Rattle.rv_meaning.specs.declared.instr.Instr.{Instr}
@@ -25,7 +25,8 @@ use Rattle.pli_coding.specs.Environments.{BlockOwner, Environment, none_taken}
 use Rattle.pli_coding.specs.Frames.{fixed_size, temporary_bytes}
 use Rattle.pli_coding.specs.Statements.{begin_environment, begin_code, block_words, stmts_words, stmt_code, stmts_code}
 use Rattle.pli_coding.specs.Linking.{Links, place_of}
-use Rattle.pli_headline.specs.ProvedSoFar.{Types}
+use Rattle.pli_headline.specs.ProvedSoFar.{Names, Types}
+use Rattle.pli_headline.proofs.Storages.{storage}
 use Rattle.pli_headline.proofs.Engine.{Base, address}
 use Rattle.pli_headline.proofs.Linking.{size_append}
 use Rattle.pli_headline.proofs.Items.{Linked, At}
@@ -39,7 +40,7 @@ use Rattle.pli_headline.proofs.Statements.{owner_level, Block, AllHold, counted_
 use Rattle.pli_headline.proofs.InnerFrames.{Inner, inner_outside, inner_block}
 use Rattle.pli_headline.proofs.BeginFrames.{inner_begun, inner_frame}
 use Rattle.pli_headline.proofs.BeginEntered.{entered_activation, entered_services, ended_services, inner_ended, inner_entered, inner_left, inner_limited}
-use Rattle.pli_headline.proofs.BeginMeant.{Entering, inner_around, begin_part, inner_part, begin_meant, entered_state, entered_nested, entered_all, ended_input, left_all, begin_limited}
+use Rattle.pli_headline.proofs.BeginMeant.{Entering, inner_around, begin_part, inner_part, begin_meant, entered_state, entered_nested, entered_all, ended_input, left_all, begin_limited, Outside}
 use Rattle.pli_headline.proofs.Reach.{Family, Aims, Comes, Closed, before_closed, comes_on, onward}
 use Rattle.pli_headline.proofs.Scalars.{Values}
 
@@ -99,7 +100,7 @@ by_test false other same = other refl
 pub inner_room : (free words level : ℕ) → level < 100 → free + 4 * words + 700 ≤ 14 * 2 ^ 20 → free + temporary_bytes words + fixed_size (suc level) 0 + 4 ≤ 14 * 2 ^ 20
 inner_room free words level few room = omega (arith, few, room)
 
-abbrev pub inner_of : {e : Environment} {block : ℕ} {types : Types} (bl : Block e block types) (words : ℕ) → e.level < 100 → bl.stack.free + 4 * words + 700 ≤ 14 * 2 ^ 20 → Inner bl
+abbrev pub inner_of : {e : Environment} {block : Names} {types : Types} (bl : Block e block types) (words : ℕ) → e.level < 100 → bl.stack.free + 4 * words + 700 ≤ 14 * 2 ^ 20 → Inner bl
 inner_of {e} bl words few room =
     record { words = words; at = bl.stack.free + temporary_bytes words; place = refl; room = inner_room bl.stack.free words e.level few room }
 
@@ -107,7 +108,7 @@ inner_of {e} bl words few room =
 abbrev ended_jump : (ℕ → Family → Services → ℕ → Label → State → Type 0) → ℕ → Family → Services → ℕ → Label → State → Type 0
 ended_jump jumped i f v height label s = jumped i f v height label (with_world s.world (newest_ended s))
 
-outlet_by : {e : Environment} {block : ℕ} {types : Types} (bl : Block e block types) (inner : Inner bl) {links : Links} {k turns i : ℕ} {h : ℕ → ℕ} (t : ℕ → ℕ) {acts acts' : ℕ} {jumped : ℕ → Family → Services → ℕ → Label → State → Type 0} {returned : ℕ → Family → Services → Option BasicValue → State → Type 0} (q : Bool) (known : (0 == e.level) ≡ q) → ((number : ℕ) → e.owner ≡ BlockOwner (record { number = number; level = 0 }) → (0 == e.level) ≡ true → number ≡ e.block) → Enough bl links k turns i h t acts jumped returned → (number : ℕ) → e.owner ≡ BlockOwner (record { number = number; level = 0 }) → (label : Label) → is_among label (cond q bl.labels bl.outer) ≡ true → IsMarkedOnce links number label → acts ≤ acts' → Outlet number (suc (length bl.depths)) bl.base block types (inner_outside bl inner t q known).its (inner_outside bl inner t q known).waits links k acts' (ended_jump jumped) label
+outlet_by : {e : Environment} {block : Names} {types : Types} (bl : Block e block types) (inner : Inner bl) {links : Links} {k turns i : ℕ} {h : ℕ → ℕ} (t : ℕ → ℕ) {acts acts' : ℕ} {jumped : ℕ → Family → Services → ℕ → Label → State → Type 0} {returned : ℕ → Family → Services → Option BasicValue → State → Type 0} (q : Bool) (known : (0 == e.level) ≡ q) → ((number : ℕ) → e.owner ≡ BlockOwner (record { number = number; level = 0 }) → (0 == e.level) ≡ true → number ≡ e.block) → Enough bl links k turns i h t acts jumped returned → (number : ℕ) → e.owner ≡ BlockOwner (record { number = number; level = 0 }) → (label : Label) → is_among label (cond q bl.labels bl.outer) ≡ true → IsMarkedOnce links number label → acts ≤ acts' → Outlet number (suc (length bl.depths)) bl.base bl.serials block types (inner_outside bl inner t q known).its (inner_outside bl inner t q known).waits links k acts' (ended_jump jumped) label
 outlet_by {e} {block} {types} bl inner {links} {k} {h = h} t {acts' = acts'} {jumped = jumped} true known main ready number owned label among once less =
     let same : number ≡ e.block = main number owned known in
     let o = ready.jumps label among (subst (λ u. IsMarkedOnce links u label) same once) in
@@ -120,12 +121,12 @@ outlet_by {e} {block} {types} bl inner {links} {k} {h = h} t {acts' = acts'} {ju
       later = o.later;
       lands = λ s v line n h' f serving all acted' at'.
           let s1 = with_world s.world (newest_ended s) in
-          let all0 : AllHold (bl.base ∷ []) v.activations (0 ∷ []) s1 block types n = subst (λ (ds : List ℕ). AllHold (bl.base ∷ []) v.activations (0 ∷ []) (ended_times (length ds) s1) block types n) none all in
-          let all1 : AllHold bl.frames v.activations (0 ∷ []) s1 block types n = subst (λ fs. AllHold fs v.activations (0 ∷ []) s1 block types n) (sym (bl.alone known).frames_are) all0 in
+          let all0 : AllHold (bl.base ∷ []) bl.serials (storage v) (0 ∷ []) s1 block types n = subst (λ (ds : List ℕ). AllHold (bl.base ∷ []) bl.serials (storage v) (0 ∷ []) (ended_times (length ds) s1) block types n) none all in
+          let all1 : AllHold bl.frames bl.serials (storage v) (0 ∷ []) s1 block types n = subst (λ fs. AllHold fs bl.serials (storage v) (0 ∷ []) s1 block types n) (sym (bl.alone known).frames_are) all0 in
           subst (λ (ds : List ℕ). jumped o.at f v (suc (length ds)) label s1) none
           (o.lands s1 v line n h' t f
           (subst (λ (ds : List ℕ). Serving k (ended_times (length ds) s1) v line) none serving)
-          (subst (λ ds. AllHold bl.frames v.activations (e.level ∷ ds) s1 block types n) (sym none) (subst (λ m. AllHold bl.frames v.activations (m ∷ []) s1 block types n) (sym zero') all1))
+          (subst (λ ds. AllHold bl.frames bl.serials (storage v) (e.level ∷ ds) s1 block types n) (sym none) (subst (λ m. AllHold bl.frames bl.serials (storage v) (m ∷ []) s1 block types n) (sym zero') all1))
           (record { registers = λ r below. absurd (let held = bl.held in omega (arith, held, below)); words = λ j below. refl })
           (omega (arith, less, acted')) at');
     }
@@ -140,7 +141,7 @@ outlet_by bl inner t false known main ready number owned label among once less =
     }
 
 -- behind its act
-inner_piece : {e : Environment} {block : ℕ} {types : Types} (bl : Block e block types) {links : Links} {code : List Instr} (around : Around) (more : ℕ) (head : Y.BlockHead) (body : Y.Stmts) (inner : Inner bl) → (main : (number : ℕ) → e.owner ≡ BlockOwner (record { number = number; level = 0 }) → (0 == e.level) ≡ true → number ≡ e.block) → owner_level e.owner ≤ e.level → e.level < 100 → (next : head.level ≡ suc e.level) → head.kind ≡ Y.BeginBlock → head.line < 2 ^ 31 → variables_of_block e.program head.number ≡ [] → around.enter ≡ M.entered e.program (suc more) → ((t0 : ℕ → ℕ) → Does (inner_block bl inner t0 head.number head.level next) links code (suc more) (stmts_code (begin_environment head e) none_taken body) (M.list (inner_around e.program more head.line) body)) → {i : ℕ} {s : State} {v : Services} {h t : ℕ → ℕ} {aims : Aims (Unit {0})} (closed : Closed code aims) (n : Values) (f : Family) (k line : ℕ) → k < suc more + v.world.acts → 10 ≤ i → {turns0 i0 acts0 : ℕ} → Enough bl links k turns0 i0 h t acts0 aims.jumped aims.returned → acts0 ≤ v.world.acts → Linked links code i (inner_code e head inner.words body) → nat_lt (length s.activations) most_activations ≡ true → Serving k s v line → AllHold bl.frames v.activations (e.level ∷ bl.depths) s block types n → ((b : Base) → At b i (Known (bl.ground n) v h t nothing b) (f b)) → ((s' : State) (v' : Services) (line' : ℕ) (n' : Values) (h' : ℕ → ℕ) (f' : Family) → Serving k s' v' line' → AllHold bl.frames v'.activations (e.level ∷ bl.depths) s' block types n' → ((b : Base) → At b (i + size_of (inner_code e head inner.words body)) (Known (bl.ground n') v' h' t nothing b) (f' b)) → aims.done (i + size_of (inner_code e head inner.words body)) f' v' tt s') → Comes code i f v aims (begin_part around head body k s)
+inner_piece : {e : Environment} {block : Names} {types : Types} (bl : Block e block types) {links : Links} {code : List Instr} (around : Around) (more : ℕ) (head : Y.BlockHead) (body : Y.Stmts) (inner : Inner bl) → (main : (number : ℕ) → e.owner ≡ BlockOwner (record { number = number; level = 0 }) → (0 == e.level) ≡ true → number ≡ e.block) → owner_level e.owner ≤ e.level → e.level < 100 → (next : head.level ≡ suc e.level) → head.kind ≡ Y.BeginBlock → head.line < 2 ^ 31 → variables_of_block e.program head.number ≡ [] → around.enter ≡ M.entered e.program (suc more) → ((t0 : ℕ → ℕ) → Does (inner_block bl inner t0 head.number head.level next) links code (suc more) (stmts_code (begin_environment head e) none_taken body) (M.list (inner_around e.program more head.line) body)) → {i : ℕ} {s : State} {v : Services} {h t : ℕ → ℕ} {aims : Aims (Unit {0})} (closed : Closed code aims) (n : Values) (f : Family) (k line : ℕ) → k < suc more + v.world.acts → 10 ≤ i → {turns0 i0 acts0 : ℕ} → Enough bl links k turns0 i0 h t acts0 aims.jumped aims.returned → acts0 ≤ v.world.acts → Linked links code i (inner_code e head inner.words body) → nat_lt (length s.activations) most_activations ≡ true → Serving k s v line → AllHold bl.frames bl.serials (storage v) (e.level ∷ bl.depths) s block types n → ((b : Base) → At b i (Known (bl.ground n) v h t nothing b) (f b)) → ((s' : State) (v' : Services) (line' : ℕ) (n' : Values) (h' : ℕ → ℕ) (f' : Family) → Serving k s' v' line' → AllHold bl.frames bl.serials (storage v') (e.level ∷ bl.depths) s' block types n' → ((b : Base) → At b (i + size_of (inner_code e head inner.words body)) (Known (bl.ground n') v' h' t nothing b) (f' b)) → aims.done (i + size_of (inner_code e head inner.words body)) f' v' tt s') → Comes code i f v aims (begin_part around head body k s)
 unfolding M.end_reached give ◌>>◌
 inner_piece {e} {block} {types} bl {links} {code} around more head body inner main lower shallow next kind fits none enter does' {i} {s} {v} {h} {t} {aims} closed n f k line enough later ready less l few serving all at goal =
     let program = e.program in
@@ -166,6 +167,7 @@ inner_piece {e} {block} {types} bl {links} {code} around more head body inner ma
     let newest = newest_is s.activations v.activations (length bl.depths) serving.nested long in
     let parent = newest_height s.activations in
     let some : 0 < head.level = omega (arith, next) in
+    let outside : Outside head.level e.level block types = inr (next, λ j kind at. bl.lower j at) in
     let last : Option BasicValue → Meaning (Unit {0}) = λ u. give tt in
     let behind : Unit {0} → Meaning (Unit {0}) = λ u. M.end_reached here false in
     let part = inner_part program more head body in
@@ -191,10 +193,10 @@ inner_piece {e} {block} {types} bl {links} {code} around more head body inner ma
       nested = entered_nested head body s v.activations (entered_activation v inner.at) parent some (omega (arith, long)) (omega (arith, newest)) (omega (arith, newest, long)) (record { kind = λ further. refl; units = tt }) serving.nested;
       waiting = refl;
     })
-    (entered_all head body s v.activations (entered_activation v inner.at) parent some (omega (arith, newest)) (omega (arith, newest, long)) (record { kind = λ further. refl; units = tt }) serving.nested all)
+    (entered_all head body s (storage v) (entered_activation v inner.at) parent some (omega (arith, newest)) (omega (arith, newest, long)) (record { kind = λ further. refl; units = tt }) (λ e'. refl) outside serving.nested all)
     at2
     (λ s3 v3 line3 n3' h3 t3 f3 serving3 all3 stays3 at3.
-    let o = left_all s3 v3.activations serving3.nested all3 in
+    let o = left_all s3 (storage v3) serving3.nested outside (λ j kind at. bl.owners j at) all3 in
     let v4 = ended_services v3 o.newest o.rest in
     record {
       to =
@@ -237,7 +239,7 @@ inner_piece {e} {block} {types} bl {links} {code} around more head body inner ma
     })))))))
 
 -- where too many blocks are entered the run ends
-limited_piece : {e : Environment} {block : ℕ} {types : Types} (bl : Block e block types) {links : Links} {code : List Instr} (head : Y.BlockHead) (words : ℕ) (body : Y.Stmts) (inner : Inner bl) → inner.words ≡ words → e.level < 100 → head.line < 2 ^ 31 → {X : Type 0} {i : ℕ} {s : State} {v : Services} {h t : ℕ → ℕ} {aims : Aims X} (closed : Closed code aims) (n : Values) (f : Family) (k line : ℕ) → 0 < i → Linked links code i (inner_code e head words body) → nat_lt (length s.activations) most_activations ≡ false → Serving k s v line → ((b : Base) → At b i (Known (bl.ground n) v h t nothing b) (f b)) → Comes code i f v aims (finish {R = X} (E.Limit L.Depth) k s)
+limited_piece : {e : Environment} {block : Names} {types : Types} (bl : Block e block types) {links : Links} {code : List Instr} (head : Y.BlockHead) (words : ℕ) (body : Y.Stmts) (inner : Inner bl) → inner.words ≡ words → e.level < 100 → head.line < 2 ^ 31 → {X : Type 0} {i : ℕ} {s : State} {v : Services} {h t : ℕ → ℕ} {aims : Aims X} (closed : Closed code aims) (n : Values) (f : Family) (k line : ℕ) → 0 < i → Linked links code i (inner_code e head words body) → nat_lt (length s.activations) most_activations ≡ false → Serving k s v line → ((b : Base) → At b i (Known (bl.ground n) v h t nothing b) (f b)) → Comes code i f v aims (finish {R = X} (E.Limit L.Depth) k s)
 limited_piece {e} bl {links} {code} head words body inner same shallow fits {i = i} {s = s} {v = v} {h = h} {t = t} {aims = aims} closed n f k line later l many serving at =
     let c1 = inner_begun inner.words (suc e.level) in
     let c2 = entered_without_texts 1 head.line in
@@ -253,7 +255,7 @@ limited_piece {e} bl {links} {code} head words body inner same shallow fits {i =
     (λ f1 at1.
     inner_limited bl inner n (i + size_of c1) f1 closed k head.line line fits (omega (arith, inside, size)) many' l2 serving at1)
 
-own_begin_does : {e : Environment} {block : ℕ} {types : Types} (bl : Block e block types) (links : Links) (code : List Instr) (around : Around) (more : ℕ) (head : Y.BlockHead) (body : Y.Stmts) (inner : Inner bl) → (main : (number : ℕ) → e.owner ≡ BlockOwner (record { number = number; level = 0 }) → (0 == e.level) ≡ true → number ≡ e.block) → owner_level e.owner ≤ e.level → e.level < 100 → (next : head.level ≡ suc e.level) → head.kind ≡ Y.BeginBlock → head.line < 2 ^ 31 → variables_of_block e.program head.number ≡ [] → Entering e.program around more → ((more' : ℕ) → more ≡ suc more' → suc (length bl.depths) < most_activations → (t0 : ℕ → ℕ) → Does (inner_block bl inner t0 head.number head.level next) links code (suc more') (stmts_code (begin_environment head e) none_taken body) (M.list (inner_around e.program more' head.line) body)) → Does bl links code around.turns (act_code head.line ++ inner_code e head inner.words body) (M.statement around (Y.Begin (Y.BlockOf head body)))
+own_begin_does : {e : Environment} {block : Names} {types : Types} (bl : Block e block types) (links : Links) (code : List Instr) (around : Around) (more : ℕ) (head : Y.BlockHead) (body : Y.Stmts) (inner : Inner bl) → (main : (number : ℕ) → e.owner ≡ BlockOwner (record { number = number; level = 0 }) → (0 == e.level) ≡ true → number ≡ e.block) → owner_level e.owner ≤ e.level → e.level < 100 → (next : head.level ≡ suc e.level) → head.kind ≡ Y.BeginBlock → head.line < 2 ^ 31 → variables_of_block e.program head.number ≡ [] → Entering e.program around more → ((more' : ℕ) → more ≡ suc more' → suc (length bl.depths) < most_activations → (t0 : ℕ → ℕ) → Does (inner_block bl inner t0 head.number head.level next) links code (suc more') (stmts_code (begin_environment head e) none_taken body) (M.list (inner_around e.program more' head.line) body)) → Does bl links code around.turns (act_code head.line ++ inner_code e head inner.words body) (M.statement around (Y.Begin (Y.BlockOf head body)))
 unfolding M.statement ◌>>◌
 own_begin_does {e} {block} {types} bl links code around zero head body inner main lower shallow next kind fits none entering does' =
     record {
@@ -298,7 +300,7 @@ own_begin_does {e} {block} {types} bl links code around (suc more) head body inn
           (λ b. record { pc = (at4 b).pc ∙ ap (address b) place; holds = (at4 b).holds }))))));
     }
 
-pub begin_does : {e : Environment} {block : ℕ} {types : Types} (bl : Block e block types) (links : Links) (code : List Instr) (around : Around) (more : ℕ) (head : Y.BlockHead) (body : Y.Stmts) (inner : Inner bl) → (main : (number : ℕ) → e.owner ≡ BlockOwner (record { number = number; level = 0 }) → (0 == e.level) ≡ true → number ≡ e.block) → owner_level e.owner ≤ e.level → inner.words ≡ max 0 (stmts_words body) → e.level < 100 → (next : head.level ≡ suc e.level) → head.kind ≡ Y.BeginBlock → head.line < 2 ^ 31 → variables_of_block e.program head.number ≡ [] → Entering e.program around more → ((more' : ℕ) → more ≡ suc more' → suc (length bl.depths) < most_activations → (t0 : ℕ → ℕ) → Does (inner_block bl inner t0 head.number head.level next) links code (suc more') (stmts_code (begin_environment head e) none_taken body) (M.list (inner_around e.program more' head.line) body)) → Does bl links code around.turns (stmt_code e bl.taken (Y.Begin (Y.BlockOf head body))) (M.statement around (Y.Begin (Y.BlockOf head body)))
+pub begin_does : {e : Environment} {block : Names} {types : Types} (bl : Block e block types) (links : Links) (code : List Instr) (around : Around) (more : ℕ) (head : Y.BlockHead) (body : Y.Stmts) (inner : Inner bl) → (main : (number : ℕ) → e.owner ≡ BlockOwner (record { number = number; level = 0 }) → (0 == e.level) ≡ true → number ≡ e.block) → owner_level e.owner ≤ e.level → inner.words ≡ max 0 (stmts_words body) → e.level < 100 → (next : head.level ≡ suc e.level) → head.kind ≡ Y.BeginBlock → head.line < 2 ^ 31 → variables_of_block e.program head.number ≡ [] → Entering e.program around more → ((more' : ℕ) → more ≡ suc more' → suc (length bl.depths) < most_activations → (t0 : ℕ → ℕ) → Does (inner_block bl inner t0 head.number head.level next) links code (suc more') (stmts_code (begin_environment head e) none_taken body) (M.list (inner_around e.program more' head.line) body)) → Does bl links code around.turns (stmt_code e bl.taken (Y.Begin (Y.BlockOf head body))) (M.statement around (Y.Begin (Y.BlockOf head body)))
 begin_does {e} bl links code around more head body inner main lower same shallow next kind fits none entering does' =
     subst (λ c. Does bl links code around.turns (act_code head.line ++ c) (M.statement around (Y.Begin (Y.BlockOf head body)))) (ap (λ w. inner_code e head w body) same ∙ sym (inner_code_is e head body next none))
     (own_begin_does bl links code around more head body inner main lower shallow next kind fits none entering does')

@@ -20,7 +20,8 @@ use Rattle.pli_coding.specs.Instructions.{small, number, service}
 use Rattle.pli_coding.specs.Environments.{Environment, Taken, is_register_left}
 use Rattle.pli_coding.specs.Storing.{word_stored}
 use Rattle.pli_coding.specs.Linking.{Links}
-use Rattle.pli_headline.specs.ProvedSoFar.{Types, alone}
+use Rattle.pli_headline.specs.ProvedSoFar.{Names, Types, alone}
+use Rattle.pli_headline.proofs.Storages.{storage}
 use Rattle.pli_headline.proofs.Engine.{Base, address}
 use Rattle.pli_headline.proofs.Linking.{size_append}
 use Rattle.pli_headline.proofs.Items.{Linked, At, straight}
@@ -50,7 +51,7 @@ on_line line v = record v { line = line }
 line_small : (line : ℕ) → line < 2 ^ 31 → word (pos line) < 2 ^ 32
 line_small line h = omega (arith, ints)
 
-pub line_piece : {links : Links} {code : List Instr} {i : ℕ} {v : Services} {h t : ℕ → ℕ} {s : State} {aims : Aims (Unit {0})} {e : Environment} {block : ℕ} {types : Types} (bl : Block e block types) (n : Values) (closed : Closed code aims) (f : Family) (flow : Flow (Unit {0})) (line old k : ℕ) → line < 2 ^ 31 → Linked links code i (line_code line) → Serving k s v old → ((b : Base) → At b i (Known (bl.ground n) v h t nothing b) (f b)) → ((f' : Family) → Serving k s (on_line line v) line → ((b : Base) → At b (i + size_of (line_code line)) (Known (bl.ground n) (on_line line v) h t nothing b) (f' b)) → Comes code (i + size_of (line_code line)) f' (on_line line v) aims flow) → Comes code i f v aims flow
+pub line_piece : {links : Links} {code : List Instr} {i : ℕ} {v : Services} {h t : ℕ → ℕ} {s : State} {aims : Aims (Unit {0})} {e : Environment} {block : Names} {types : Types} (bl : Block e block types) (n : Values) (closed : Closed code aims) (f : Family) (flow : Flow (Unit {0})) (line old k : ℕ) → line < 2 ^ 31 → Linked links code i (line_code line) → Serving k s v old → ((b : Base) → At b i (Known (bl.ground n) v h t nothing b) (f b)) → ((f' : Family) → Serving k s (on_line line v) line → ((b : Base) → At b (i + size_of (line_code line)) (Known (bl.ground n) (on_line line v) h t nothing b) (f' b)) → Comes code (i + size_of (line_code line)) f' (on_line line v) aims flow) → Comes code i f v aims flow
 line_piece {code = code} {i = i} {v = v} {h = h} {t = t} {aims = aims} bl n closed f flow line old k fits l serving at next' =
     let g = bl.ground n in
     let first = number a0 line in
@@ -95,7 +96,7 @@ line_piece {code = code} {i = i} {v = v} {h = h} {t = t} {aims = aims} bl n clos
 -- ---- the number
 
 -- a number in a0 is assigned to a variable of the block
-pub counter_piece : {links : Links} {code : List Instr} {i : ℕ} {v : Services} {h t : ℕ → ℕ} {s : State} {aims : Aims (Unit {0})} {e : Environment} {block : ℕ} {types : Types} (bl : Block e block types) (n : Values) (closed : Closed code aims) (credits : ℕ) (f : Family) (around : Around) (taken : Taken) (j p : ℕ) (z : ℤ) (k : ℕ) (below : slice_get types j ≡ Some (alone (Y.FixedLeaf p))) → Fits (Y.FixedLeaf p) z → (is_register_left taken ≡ false → taken.words < bl.words) → (all : AllHold bl.frames v.activations (e.level ∷ bl.depths) s block types n) → Linked links code i (word_stored e taken (whole (own block j))) → ((b : Base) → At b i (Known (bl.ground n) v h t (valued (word z)) b) (f b)) → ((f' : Family) (h' t' : ℕ → ℕ) → Stays taken h t h' t' → ((b : Base) → At b (i + size_of (word_stored e taken (whole (own block j)))) (Known (bl.ground (with_number_at n j z)) v h' t' nothing b) (f' b)) → aims.done (credits + size_of (word_stored e taken (whole (own block j)))) f' v tt (assigned_state s (Y.FixedLeaf p) (suc j) (all.numbers j (Y.FixedLeaf p, below) tt).values z)) → Comes code credits f v aims (M.assigned around (whole (own block j)) (BasicNumber z) k s)
+pub counter_piece : {links : Links} {code : List Instr} {i : ℕ} {v : Services} {h t : ℕ → ℕ} {s : State} {aims : Aims (Unit {0})} {e : Environment} {block : Names} {types : Types} (bl : Block e block types) (n : Values) (closed : Closed code aims) (credits : ℕ) (f : Family) (around : Around) (taken : Taken) (j p : ℕ) (z : ℤ) (k : ℕ) (below : slice_get types j ≡ Some (alone (Y.FixedLeaf p))) → Fits (Y.FixedLeaf p) z → (is_register_left taken ≡ false → taken.words < bl.words) → (all : AllHold bl.frames bl.serials (storage v) (e.level ∷ bl.depths) s block types n) → Linked links code i (word_stored e taken (whole (own block j))) → ((b : Base) → At b i (Known (bl.ground n) v h t (valued (word z)) b) (f b)) → ((f' : Family) (h' t' : ℕ → ℕ) → Stays taken h t h' t' → ((b : Base) → At b (i + size_of (word_stored e taken (whole (own block j)))) (Known (bl.ground (with_number_at n j z)) v h' t' nothing b) (f' b)) → aims.done (credits + size_of (word_stored e taken (whole (own block j)))) f' v tt (assigned_state s (Y.FixedLeaf p) (bl.serials.of j) (all.numbers j (Y.FixedLeaf p, below) tt).values z)) → Comes code credits f v aims (M.assigned around (whole (own block j)) (BasicNumber z) k s)
 counter_piece {e = e} {block = block} {types = types} bl n closed credits f around taken j p z k below fits room all l at goal =
     let w = bl.words_are n in
     stored_piece (bl.ground (with_number_at n j z)) closed (bl.temps n) credits e block types n f around taken j z k below fits

@@ -1,6 +1,6 @@
 -- GOTO out of a block to a label of the main procedure: the blocks in it end among the services (service 6), and its frame runs again.
-use Rattle.std.proofs.Common.{◌≡◌, ℕ, ◌+◌, ◌*◌, ◌^◌, ◌<◌, ◌≤◌, List, [], ◌∷◌, ◌++◌, Bool, true, false, refl, sym, ap, ◌∙◌, subst, arith, lit<, length}
-use Rattle.std.specs.Prelude.{pos, cond, ◌==◌}
+use Rattle.std.proofs.Common.{◌≡◌, ℕ, ◌+◌, ◌*◌, ◌^◌, ◌<◌, ◌≤◌, List, [], ◌∷◌, ◌++◌, Some, Bool, true, false, refl, sym, ap, ◌∙◌, subst, arith, lit<, length}
+use Rattle.std.specs.Prelude.{pos, cond, slice_get, ◌==◌}
 use Rattle.rv_meaning.specs.declared.instr.Instr.{Instr}
 use Rattle.rv_meaning.specs.declared.instr.Instr.TheVariants as I
 use Rattle.rv_meaning.specs.declared.instr.ImmediateOp.TheVariants as Imm
@@ -24,7 +24,9 @@ use Rattle.pli_coding.specs.Allocating.{act_code}
 use Rattle.pli_coding.specs.Environments.{BlockOwner, Environment, block_around}
 use Rattle.pli_coding.specs.Statements.{unwound_to, goto_outer, goto_code, stmt_code}
 use Rattle.pli_coding.specs.Linking.{Links}
-use Rattle.pli_headline.specs.ProvedSoFar.{Types}
+use Rattle.pli_headline.proofs.Storages.{storage}
+use Rattle.pli_headline.proofs.Variables.{AllOutermost}
+use Rattle.pli_headline.specs.ProvedSoFar.{Names, Types, Kind}
 use Rattle.pli_headline.proofs.Engine.{Base, address}
 use Rattle.pli_headline.proofs.Linking.{size_append}
 use Rattle.pli_headline.proofs.Items.{Linked, At, straight}
@@ -48,7 +50,7 @@ use Rattle.pli_headline.proofs.Scalars.{Values}
 -- ---- the frame of the main procedure runs again
 
 -- the stack's register is as it was
-abbrev lower_ground : Ground → (free : ℕ) → Ground
+abbrev pub lower_ground : Ground → (free : ℕ) → Ground
 lower_ground g free =
     record {
       frame = g.frame;
@@ -60,7 +62,7 @@ lower_ground g free =
       inside = g.inside;
     }
 
-unwound_piece : {e : Environment} {block : ℕ} {types : Types} (bl : Block e block types) (o : Enclosing bl.base bl.size bl.ground) {links : Links} {code : List Instr} {i : ℕ} {v : Services} {h t : ℕ → ℕ} (n : Values) (c : ℕ) (f : Family) (a : S.Activation) → K.from_frame bl.base v.activations ≡ a ∷ [] → Reaches false (bl.ground n) bl.base → Linked links code i (unwound_to 0 0) → ((b : Base) → At b i (Known (bl.ground n) v h t nothing b) (f b)) → Reach code c f v (c + 5) (unwound_services v a []) (λ b w. At b (i + 5) (Known (lower_ground (o.its n) (bl.ground n).free) (unwound_services v a []) h o.waits nothing b) w)
+unwound_piece : {e : Environment} {block : Names} {types : Types} (bl : Block e block types) (o : Enclosing bl.base bl.size bl.ground) {links : Links} {code : List Instr} {i : ℕ} {v : Services} {h t : ℕ → ℕ} (n : Values) (c : ℕ) (f : Family) (a : S.Activation) → K.from_frame bl.base v.activations ≡ a ∷ [] → Reaches false 0 (bl.ground n) bl.base → Linked links code i (unwound_to 0 0) → ((b : Base) → At b i (Known (bl.ground n) v h t nothing b) (f b)) → Reach code c f v (c + 5) (unwound_services v a []) (λ b w. At b (i + 5) (Known (lower_ground (o.its n) (bl.ground n).free) (unwound_services v a []) h o.waits nothing b) w)
 unwound_piece bl o {code = code} {i = i} {v = v} {h = h} {t = t} n c f a found reaches l at =
     let g = bl.ground n in
     let lower = lower_ground (o.its n) g.free in
@@ -102,7 +104,7 @@ unwound_piece bl o {code = code} {i = i} {v = v} {h = h} {t = t} n c f a found r
     (λ b. let p = (reached_holds r1 b).holds.body in record { body = record { services = refl; registers = p.registers; bytes = p.bytes; memory = p.memory }; regs = tt }) in
     reach_moved (omega arith) (omega arith) (reach_then r1 r2)
 
-stack_piece : (g : Ground) (free size : ℕ) {links : Links} {code : List Instr} {i : ℕ} {v : Services} {h t : ℕ → ℕ} (c : ℕ) (f : Family) → g.free ≡ g.frame + size → g.frame + size ≤ 14 * 2 ^ 20 → Linked links code i (plus stack_register frame_register (pos size)) → ((b : Base) → At b i (Known (lower_ground g free) v h t nothing b) (f b)) → Reach code c f v (c + size_of (plus stack_register frame_register (pos size))) v (λ b w. At b (i + size_of (plus stack_register frame_register (pos size))) (Known g v h t nothing b) w)
+pub stack_piece : (g : Ground) (free size : ℕ) {links : Links} {code : List Instr} {i : ℕ} {v : Services} {h t : ℕ → ℕ} (c : ℕ) (f : Family) → g.free ≡ g.frame + size → g.frame + size ≤ 14 * 2 ^ 20 → Linked links code i (plus stack_register frame_register (pos size)) → ((b : Base) → At b i (Known (lower_ground g free) v h t nothing b) (f b)) → Reach code c f v (c + size_of (plus stack_register frame_register (pos size))) v (λ b w. At b (i + size_of (plus stack_register frame_register (pos size))) (Known g v h t nothing b) w)
 stack_piece g free size {v = v} {h = h} {t = t} c f ends room l at =
     displaced_by (is_immediate (pos size)) c f (λ q d. I.Immediate Imm.Add stack_register q d) frame_register (pos size) (λ b. b.at + g.frame) (Known (lower_ground g free) v h t nothing) (Known g v h t nothing) (above_small size (omega (arith, room)))
     (λ b. let v' = b.valid.1 in omega (arith, v', room))
@@ -137,9 +139,9 @@ out_code size number label =
     (unwound_to 0 0 ++ plus stack_register frame_register (pos size)) ++ JumpTo (LabelPlace number label) ∷ []
 
 -- the act leaves no credits to count, so the label may stand anywhere
-own_out_does : {e : Environment} {block : ℕ} {types : Types} (bl : Block e block types) (links : Links) (code : List Instr) (around : Around) (number : ℕ) (label : Label) (line : ℕ) → (0 == e.level) ≡ false → line < 2 ^ 31 → e.owner ≡ BlockOwner (record { number = number; level = 0 }) → is_among label bl.outer ≡ true → IsMarkedOnce links number label → Does bl links code around.turns (act_code line ++ out_code bl.size number label) (M.statement around (Y.Goto 0 label line))
+own_out_does : {e : Environment} {block : Names} {types : Types} (bl : Block e block types) (links : Links) (code : List Instr) (around : Around) (number : ℕ) (label : Label) (line : ℕ) → (0 == e.level) ≡ false → AllOutermost block types → ((j : ℕ) (kind : Kind) → slice_get types j ≡ Some kind → bl.serials.owner j ≤ 1) → line < 2 ^ 31 → e.owner ≡ BlockOwner (record { number = number; level = 0 }) → is_among label bl.outer ≡ true → IsMarkedOnce links number label → Does bl links code around.turns (act_code line ++ out_code bl.size number label) (M.statement around (Y.Goto 0 label line))
 unfolding M.statement looked jumps ◌>>=◌ ◌>>◌
-own_out_does {e} {block} {types} bl links code around number label line deep fits owned among once =
+own_out_does {e} {block} {types} bl links code around number label line deep outermost owners fits owned among once =
     record {
       does = λ {i} {s} {v} {h} {t} {aims} closed old n f k l serving all at goal more.
           let a = act_code line in
@@ -161,12 +163,12 @@ own_out_does {e} {block} {types} bl links code around number label line deep fit
           let l1 = back_of a c l in
           let l2 = front_of (u' ++ p) j l1 in
           let l3 = back_of (u' ++ p) j l1 in
-          let reaches = λ (n' : Values). subst (λ q. Reaches q (bl.ground n') bl.base) deep (bl.reach n') in
+          let reaches = λ (n' : Values). subst (λ q. Reaches q 0 (bl.ground n') bl.base) deep (bl.reach n') in
           let ends = bl.ends in
           let frame = way.frame_is n in
           let free = way.free_is n in
           let s1 = with_world (counted s.world) s in
-          let left' = all_ended e.level bl.depths s1 v.activations bl.base bl.frames serving.nested (counted_all (counted s.world) all) bl.bottom.rest in
+          let left' = all_ended e.level bl.depths s1 (storage v) bl.base bl.frames serving.nested outermost owners (counted_all (counted s.world) all) bl.bottom.rest in
           let v2 = unwound_services (acted line v) left'.activation [] in
           comes_on k (act counted k s) next'
           (act_to (before_closed k next' closed) i 0 f line old k fits (omega (arith, inside, total)) (front_of a c l) serving at
@@ -202,8 +204,8 @@ deep_code e size number label deep around ends =
     ∙ ap (λ u. (unwound_to 0 0 ++ plus stack_register frame_register (pos (frame_end e.parts e.program u 0))) ++ JumpTo (LabelPlace u label) ∷ []) (sym around)
     ∙ ap (λ q. cond q [] (goto_outer e 0) ++ JumpTo (LabelPlace (block_around e 0) label) ∷ []) (sym deep)
 
-pub out_does : {e : Environment} {block : ℕ} {types : Types} (bl : Block e block types) (links : Links) (code : List Instr) (around : Around) (level number : ℕ) (label : Label) (line : ℕ) → level ≡ 0 → (0 == e.level) ≡ false → line < 2 ^ 31 → e.owner ≡ BlockOwner (record { number = number; level = 0 }) → is_among label bl.outer ≡ true → IsMarkedOnce links number label → block_around e 0 ≡ number → Does bl links code around.turns (stmt_code e bl.taken (Y.Goto level label line)) (M.statement around (Y.Goto level label line))
-out_does {e} bl links code around level number label line outermost deep fits owned among once found =
+pub out_does : {e : Environment} {block : Names} {types : Types} (bl : Block e block types) (links : Links) (code : List Instr) (around : Around) (level number : ℕ) (label : Label) (line : ℕ) → level ≡ 0 → (0 == e.level) ≡ false → AllOutermost block types → ((j : ℕ) (kind : Kind) → slice_get types j ≡ Some kind → bl.serials.owner j ≤ 1) → line < 2 ^ 31 → e.owner ≡ BlockOwner (record { number = number; level = 0 }) → is_among label bl.outer ≡ true → IsMarkedOnce links number label → block_around e 0 ≡ number → Does bl links code around.turns (stmt_code e bl.taken (Y.Goto level label line)) (M.statement around (Y.Goto level label line))
+out_does {e} bl links code around level number label line outermost deep all owners fits owned among once found =
     subst (λ n. Does bl links code around.turns (stmt_code e bl.taken (Y.Goto n label line)) (M.statement around (Y.Goto n label line))) (sym outermost)
     (subst (λ c. Does bl links code around.turns (act_code line ++ c) (M.statement around (Y.Goto 0 label line))) (deep_code e bl.size number label deep found (bl.sized number owned))
-    (own_out_does bl links code around number label line deep fits owned among once))
+    (own_out_does bl links code around number label line deep all owners fits owned among once))

@@ -1,5 +1,6 @@
 pub mod Engine
 pub mod Showing
+pub mod Unlimited
 pub mod Growing
 pub mod Reach
 pub mod Owing
@@ -14,6 +15,7 @@ pub mod Temporaries
 pub mod Reaching
 pub mod SavedRegisters
 pub mod Activations
+pub mod Storages
 pub mod Calls
 pub mod Raising
 pub mod WordProducts
@@ -32,6 +34,7 @@ pub mod Products
 pub mod Quotients
 pub mod Increments
 pub mod Variables
+pub mod DeclaredNames
 pub mod Evaluations
 pub mod ArrayPlaces
 pub mod Subscripts
@@ -81,6 +84,10 @@ pub mod TextAssignments
 pub mod Since
 pub mod MainFlow
 pub mod Statements
+pub mod OneMore
+pub mod MoreStates
+pub mod MoreServed
+pub mod Declares
 pub mod MainGround
 pub mod MainTexts
 pub mod MainBlock

@@ -9,7 +9,7 @@ use Rattle.pli_meaning.specs.DeclaredShapes.{variables_of_block}
 use Rattle.pli_meaning.specs.Executing.{labels_in}
 use Rattle.pli_coding.specs.Environments.{BlockPlace, last_of_level}
 use Rattle.pli_coding.specs.Images.{blocks_in, blocks_among, blocks_of, with_block, with_blocks}
-use Rattle.pli_headline.specs.ProvedSoFar.{Types, types_of, IsProvedStatement, AreProvedStatements, JumpsAround, AllJumpAround, AreInner}
+use Rattle.pli_headline.specs.ProvedSoFar.{Names, Types, types_of, IsProvedStatement, AreProvedStatements, JumpsAround, AllJumpAround, AreInner, names_in, types_in, if_bare, main_names}
 use Rattle.pli_headline.proofs.InnerLevels.{IsAmong}
 
 -- ---- blocks in the procedure
@@ -23,40 +23,40 @@ none_append [] ys h more = more
 none_append (x ∷ xs) ys h more = (h.0, none_append xs ys h.1 more)
 
 mutual
-  deeper : (all : List (ℕ × Label)) (procedure : ℕ) (block : ℕ) (types : Types) (number level : ℕ) (outer around : List Label) (x : Y.Stmt) → IsProvedStatement block types x → JumpsAround number level all procedure outer around x → NoneOutermost (blocks_in x)
-  deeper all procedure block types number level outer around (Y.If condition unit line) is jumps = deeper all procedure block types number level outer around unit is.1.0 jumps
-  deeper all procedure block types number level outer around (Y.IfElse condition unit otherwise line) is jumps =
-      none_append (blocks_in unit) (blocks_in otherwise) (deeper all procedure block types number level outer around unit is.1.0 jumps.0) (deeper all procedure block types number level outer around otherwise is.1.1.0 jumps.1)
-  deeper all procedure block types number level outer around (Y.Do body line) is jumps = all_deeper all procedure block types number level outer (labels_in body ++ around) body is.0 jumps
-  deeper all procedure block types number level outer around (Y.DoWhile condition body line) is jumps =
-      all_deeper all procedure block types number level outer (labels_in body ++ around) body is.1.0 jumps
-  deeper all procedure block types number level outer around (Y.DoOnce target (Y.StoredNumber precision x) condition body line) is jumps =
-      all_deeper all procedure block types number level outer (labels_in body ++ around) body is.1.1.0 jumps
-  deeper all procedure block types number level outer around (Y.DoOnce target (Y.StoredBit x) condition body line) is jumps =
-      all_deeper all procedure block types number level outer (labels_in body ++ around) body is.1.1.0 jumps
-  deeper all procedure block types number level outer around (Y.DoOnce target (Y.StoredText x) condition body line) is jumps =
-      all_deeper all procedure block types number level outer (labels_in body ++ around) body is.1.1.0 jumps
-  deeper all procedure block types number level outer around (Y.DoCount (Y.NumberCounter precision target) start limit step condition body line) is jumps =
-      all_deeper all procedure block types number level outer (labels_in body ++ around) body is.1.1.1.0 jumps
-  deeper all procedure block types number level outer around (Y.Begin (Y.BlockOf head body)) is jumps =
-      (let next = jumps.0.0 in omega (arith, next), all_deeper all procedure block types head.number head.level (cond (0 == level) around outer) (labels_in body) body is.1.1 jumps.1)
-  deeper all procedure block types number level outer around (Y.Null line) is jumps = tt
-  deeper all procedure block types number level outer around (Y.Assign target source line) is jumps = tt
-  deeper all procedure block types number level outer around (Y.CallProcedure (Y.Calling p l Y.NoArgument) line) is jumps = tt
-  deeper all procedure block types number level outer around (Y.Return line) is jumps = tt
-  deeper all procedure block types number level outer around (Y.Goto to label line) is jumps = tt
-  deeper all procedure block types number level outer around (Y.Stop line) is jumps = tt
-  deeper all procedure block types number level outer around (Y.Signal condition line) is jumps = tt
-  deeper all procedure block types number level outer around (Y.OnSystem condition line) is jumps = tt
-  deeper all procedure block types number level outer around (Y.Revert condition line) is jumps = tt
-  deeper all procedure block types number level outer around (Y.Put n pairs line) is jumps = tt
-  deeper all procedure block types number level outer around (Y.Get n pairs line) is jumps = tt
-  deeper all procedure block types number level outer around _ is jumps = absurd is
+  deeper : (program : Y.Program) (all : List (ℕ × Label)) (procedure : ℕ) (block : Names) (types : Types) (number level : ℕ) (outer around : List Label) (x : Y.Stmt) → IsProvedStatement block types x → JumpsAround program number level all procedure outer around x → NoneOutermost (blocks_in x)
+  deeper program all procedure block types number level outer around (Y.If condition unit line) is jumps = deeper program all procedure block types number level outer around unit is.1.0 jumps
+  deeper program all procedure block types number level outer around (Y.IfElse condition unit otherwise line) is jumps =
+      none_append (blocks_in unit) (blocks_in otherwise) (deeper program all procedure block types number level outer around unit is.1.0 jumps.0) (deeper program all procedure block types number level outer around otherwise is.1.1.0 jumps.1)
+  deeper program all procedure block types number level outer around (Y.Do body line) is jumps = all_deeper program all procedure block types number level outer (labels_in body ++ around) body is.0 jumps
+  deeper program all procedure block types number level outer around (Y.DoWhile condition body line) is jumps =
+      all_deeper program all procedure block types number level outer (labels_in body ++ around) body is.1.0 jumps
+  deeper program all procedure block types number level outer around (Y.DoOnce target (Y.StoredNumber precision x) condition body line) is jumps =
+      all_deeper program all procedure block types number level outer (labels_in body ++ around) body is.1.1.0 jumps
+  deeper program all procedure block types number level outer around (Y.DoOnce target (Y.StoredBit x) condition body line) is jumps =
+      all_deeper program all procedure block types number level outer (labels_in body ++ around) body is.1.1.0 jumps
+  deeper program all procedure block types number level outer around (Y.DoOnce target (Y.StoredText x) condition body line) is jumps =
+      all_deeper program all procedure block types number level outer (labels_in body ++ around) body is.1.1.0 jumps
+  deeper program all procedure block types number level outer around (Y.DoCount (Y.NumberCounter precision target) start limit step condition body line) is jumps =
+      all_deeper program all procedure block types number level outer (labels_in body ++ around) body is.1.1.1.0 jumps
+  deeper program all procedure block types number level outer around (Y.Begin (Y.BlockOf head body)) is jumps =
+      (let next = jumps.0.0 in omega (arith, next), all_deeper program all procedure (names_in block types head (variables_of_block block.program head.number)) (types_in types (variables_of_block block.program head.number)) head.number head.level (if_bare (variables_of_block program head.number) (cond (0 == level) around outer)) (labels_in body) body is.1.1 jumps.1)
+  deeper program all procedure block types number level outer around (Y.Null line) is jumps = tt
+  deeper program all procedure block types number level outer around (Y.Assign target source line) is jumps = tt
+  deeper program all procedure block types number level outer around (Y.CallProcedure (Y.Calling p l Y.NoArgument) line) is jumps = tt
+  deeper program all procedure block types number level outer around (Y.Return line) is jumps = tt
+  deeper program all procedure block types number level outer around (Y.Goto to label line) is jumps = tt
+  deeper program all procedure block types number level outer around (Y.Stop line) is jumps = tt
+  deeper program all procedure block types number level outer around (Y.Signal condition line) is jumps = tt
+  deeper program all procedure block types number level outer around (Y.OnSystem condition line) is jumps = tt
+  deeper program all procedure block types number level outer around (Y.Revert condition line) is jumps = tt
+  deeper program all procedure block types number level outer around (Y.Put n pairs line) is jumps = tt
+  deeper program all procedure block types number level outer around (Y.Get n pairs line) is jumps = tt
+  deeper program all procedure block types number level outer around _ is jumps = absurd is
 
-  pub all_deeper : (all : List (ℕ × Label)) (procedure : ℕ) (block : ℕ) (types : Types) (number level : ℕ) (outer around : List Label) (body : Y.Stmts) → AreProvedStatements block types body → AllJumpAround number level all procedure outer around body → NoneOutermost (blocks_among body)
-  all_deeper all procedure block types number level outer around (Y.EndOfList labels) are jumps = tt
-  all_deeper all procedure block types number level outer around (Y.StmtThen labels first rest) are jumps =
-      none_append (blocks_in first) (blocks_among rest) (deeper all procedure block types number level outer around first are.0 jumps.0) (all_deeper all procedure block types number level outer around rest are.1 jumps.1)
+  pub all_deeper : (program : Y.Program) (all : List (ℕ × Label)) (procedure : ℕ) (block : Names) (types : Types) (number level : ℕ) (outer around : List Label) (body : Y.Stmts) → AreProvedStatements block types body → AllJumpAround program number level all procedure outer around body → NoneOutermost (blocks_among body)
+  all_deeper program all procedure block types number level outer around (Y.EndOfList labels) are jumps = tt
+  all_deeper program all procedure block types number level outer around (Y.StmtThen labels first rest) are jumps =
+      none_append (blocks_in first) (blocks_among rest) (deeper program all procedure block types number level outer around first are.0 jumps.0) (all_deeper program all procedure block types number level outer around rest are.1 jumps.1)
 
 -- ---- among all blocks
 
@@ -89,7 +89,7 @@ others_lower program block all called (p ∷ ps) inner =
     let deep : 0 < q.head.level = let level = q.level in omega (arith, level) in
     subst (λ (r : Y.Procedure). AllLower block (blocks_of (r ∷ ps))) (sym q.is)
     (all_lower block (record { number = q.head.number; level = q.head.level } ∷ blocks_among q.body) (blocks_of ps)
-    (deep, all_deeper all block block (types_of (variables_of_block program block)) q.head.number 1 [] (labels_in q.body) q.body q.statements q.jumps)
+    (deep, all_deeper program all block (main_names program block) (types_of (variables_of_block program block)) q.head.number 1 [] (labels_in q.body) q.body q.statements q.jumps)
     (others_lower program block all called ps inner.1))
 
 abbrev procedure_place : (block : ℕ) → BlockPlace

@@ -17,7 +17,9 @@ use Rattle.pli_coding.specs.Statements.{number_if, bit_if, stmt_code, stmts_code
 use Rattle.pli_coding.specs.Temporaries.{number_words, bit_words, reference_words, text_words}
 use Rattle.pli_coding.specs.Images.{place_of_head, blocks_in, blocks_among}
 use Rattle.pli_coding.specs.Linking.{Links}
-use Rattle.pli_headline.specs.ProvedSoFar.{Types, IsProvedStatement, AreProvedStatements, JumpsAround, AllJumpAround, IsBare, AreBare, is_number, CallsAmong, AllCallAmong}
+use Rattle.pli_headline.specs.ProvedSoFar.{Names, names_in, types_in, if_bare, Types, IsProvedStatement, AreProvedStatements, JumpsAround, AllJumpAround, IsBare, AreBare, is_number, CallsAmong, AllCallAmong}
+use Rattle.pli_meaning.specs.DeclaredShapes.{variables_of_block}
+use Rattle.pli_headline.proofs.Variables.{AllOutermost}
 use Rattle.pli_headline.proofs.Statements.{Standing, Block, Does, EachDoes, null_does, IsEndMarkedOnce}
 use Rattle.pli_headline.proofs.TextAssignments.{assign_text_does}
 use Rattle.pli_headline.proofs.Ifs.{if_does, if_else_does}
@@ -44,11 +46,11 @@ use Rattle.pli_headline.proofs.ElementAssignments.{assign_number_part_does, assi
 use Rattle.pli_headline.proofs.CountStarts.{counted_does}
 use Rattle.pli_coding.specs.Streams.{value_words}
 
-standing_within : {e : Environment} {block : ℕ} {types : Types} {bl : Block e block types} {links : Links} {code : List Instr} (labels : List Label) → Standing bl links code → Standing (within labels bl) links code
+standing_within : {e : Environment} {block : Names} {types : Types} {bl : Block e block types} {links : Links} {code : List Instr} (labels : List Label) → Standing bl links code → Standing (within labels bl) links code
 standing_within labels s = record { raises = s.raises; constants = s.constants }
 
 -- in a block inside it
-standing_inside : {e : Environment} {block : ℕ} {types : Types} {bl : Block e block types} {links : Links} {code : List Instr} (inner : Inner bl) (t0 : ℕ → ℕ) (number level : ℕ) (next : level ≡ suc e.level) → Standing bl links code → Standing (inner_block bl inner t0 number level next) links code
+standing_inside : {e : Environment} {block : Names} {types : Types} {bl : Block e block types} {links : Links} {code : List Instr} (inner : Inner bl) (t0 : ℕ → ℕ) (number level : ℕ) (next : level ≡ suc e.level) → Standing bl links code → Standing (inner_block bl inner t0 number level next) links code
 standing_inside inner t0 number level next s =
     record {
       raises = s.raises;
@@ -72,14 +74,15 @@ inner_labels_stand named number level next among =
 -- ---- calls
 
 -- calls of some procedures do what they mean, in any block where the frames of so many more have room, so many blocks deep at most
-abbrev pub Calls : Environment → (block : ℕ) → Types → (bound : ℕ) → Links → List Instr → (may : List ℕ) → Type 1
+abbrev pub Calls : Environment → (block : Names) → Types → (bound : ℕ) → Links → List Instr → (may : List ℕ) → Type 1
 Calls e block types bound links code may =
     (o : Owner) (number level : ℕ) (b : Block (owned_by o (in_frame number level e)) block types) → length b.depths < most_activations → b.stack.free + 4000 * (500 - length b.depths) ≤ 14 * 2 ^ 20 → b.words < 2 ^ 22 → Standing b links code → b.taken.words ≤ b.words → (around : Around) → around.program ≡ e.program → (more : ℕ) → Entering e.program around more → more ≤ bound → (procedure : ℕ) → is_number procedure may ≡ true → (line : ℕ) → line < 2 ^ 31 → Does b links code around.turns (stmt_code (owned_by o (in_frame number level e)) b.taken (Y.CallProcedure (Y.Calling procedure 0 Y.NoArgument) line)) (M.statement around (Y.CallProcedure (Y.Calling procedure 0 Y.NoArgument) line))
 
 -- they do, jumps go out of blocks only in the main procedure, and a return in a procedure's own block goes to its end
-pub record Ways (e : Environment) (block : ℕ) (types : Types) (words bound : ℕ) (small : Bool) (outer : List Label) (links : Links) (code : List Instr) (main own : Bool) (may : List ℕ) : Type 1 where
+pub record Ways (e : Environment) (block : Names) (types : Types) (words bound : ℕ) (small : Bool) (outer : List Label) (links : Links) (code : List Instr) (main own : Bool) (may : List ℕ) : Type 1 where
   pub calls : (o : Owner) (number level : ℕ) (b : Block (owned_by o (in_frame number level e)) block types) → length b.depths < most_activations → b.stack.free + 4000 * (500 - length b.depths) ≤ 14 * 2 ^ 20 → b.words < 2 ^ 22 → Standing b links code → b.taken.words ≤ b.words → (around : Around) → around.program ≡ e.program → (more : ℕ) → Entering e.program around more → more ≤ bound → (procedure : ℕ) → is_number procedure may ≡ true → (line : ℕ) → line < 2 ^ 31 → Does b links code around.turns (stmt_code (owned_by o (in_frame number level e)) b.taken (Y.CallProcedure (Y.Calling procedure 0 Y.NoArgument) line)) (M.statement around (Y.CallProcedure (Y.Calling procedure 0 Y.NoArgument) line))
   pub narrow : words < 2 ^ 22
+  pub outermost : AllOutermost block types
   pub stays : main ≡ false → outer ≡ []
   pub ends : own ≡ true → (((0 == e.level) ≡ false) × (e.owner ≡ BlockOwner (record { number = e.block; level = e.level }))) × IsEndMarkedOnce links e.block
 
@@ -117,12 +120,12 @@ room_deep : (small : Bool) (free depth words level : ℕ) → Room small free de
 room_deep false free depth words level room = room.1
 room_deep true free depth words level room = room.1
 
-is_main : {e : Environment} {block : ℕ} {types : Types} (main : Bool) (bl : Block e block types) (label : Label) → (main ≡ false → bl.outer ≡ []) → is_among label bl.outer ≡ true → main ≡ true
+is_main : {e : Environment} {block : Names} {types : Types} (main : Bool) (bl : Block e block types) (label : Label) → (main ≡ false → bl.outer ≡ []) → is_among label bl.outer ≡ true → main ≡ true
 is_main true bl label none among = refl
 is_main false bl label none among = let no : false ≡ true = sym (ap (is_among label) (none refl)) ∙ among in absurd (cc no)
 
 mutual
-  pub statement_does : {e : Environment} {block : ℕ} {types : Types} (bl : Block e block types) (links : Links) (code : List Instr) (routines : Standing bl links code) (around : Around) (same : around.program ≡ e.program) {all : List (ℕ × Label)} {procedure : ℕ} {main own small : Bool} {may : List ℕ} {bound : ℕ} (named : LabelsStand e links all procedure main) (x : Y.Stmt) → IsProvedStatement block types x → JumpsAround e.block e.level all procedure bl.outer bl.labels x → bl.taken.words + stmt_words x ≤ bl.words → Room small bl.stack.free (length bl.depths) (inner_words x) e.level → IsBare e.program x → {more : ℕ} → Entering e.program around more → more ≤ bound → ((b : BlockPlace) → IsAmong b (blocks_in x) → IsAmong b e.blocks) → CallsAmong may main own x → Ways e block types bl.words bound small bl.outer links code main own may → Does bl links code around.turns (stmt_code e bl.taken x) (M.statement around x)
+  pub statement_does : {e : Environment} {block : Names} {types : Types} (bl : Block e block types) (links : Links) (code : List Instr) (routines : Standing bl links code) (around : Around) (same : around.program ≡ e.program) {all : List (ℕ × Label)} {procedure : ℕ} {main own small : Bool} {may : List ℕ} {bound : ℕ} (named : LabelsStand e links all procedure main) (x : Y.Stmt) → IsProvedStatement block types x → JumpsAround e.program e.block e.level all procedure bl.outer bl.labels x → bl.taken.words + stmt_words x ≤ bl.words → Room small bl.stack.free (length bl.depths) (inner_words x) e.level → IsBare e.program false x → {more : ℕ} → Entering e.program around more → more ≤ bound → ((b : BlockPlace) → IsAmong b (blocks_in x) → IsAmong b e.blocks) → CallsAmong e.program may main own x → Ways e block types bl.words bound small bl.outer links code main own may → Does bl links code around.turns (stmt_code e bl.taken x) (M.statement around x)
   statement_does bl links code routines around same named (Y.Null line) is jumps room space bare entering least known calls ways = null_does bl links code around line is
   statement_does bl links code routines around same named (Y.Assign target (Y.StoredNumber precision x) line) is jumps room space bare entering least known calls ways =
       let a = le-max_left (max 1 (number_words x)) (4 + reference_words target) in
@@ -208,22 +211,27 @@ mutual
       counted_does bl links code routines around target precision start limit step condition body line is.0.0 is.0.1 is.1.0.0 is.1.0.1 is.1.1.0
       (omega (arith, room, m1, a1)) (omega (arith, room, m1, a2, a4)) (omega (arith, room, m1, a2, a5)) (omega (arith, room, m2, d1, d2)) is.1.1.1.1
       (listed (turning bl) around body (each_does (within (labels_in body) (turning bl)) links code (standing_within (labels_in body) (standing_turning routines)) around same named body is.1.1.1.0 jumps (omega (arith, room, m2, d1, d3)) space bare entering least known calls ways))
-  statement_does {e} bl links code routines around same {all} {procedure} {main} {own} {small} named (Y.Begin (Y.BlockOf head body)) is jumps room space bare {more} entering least known calls ways =
+  statement_does {e} {block} {types} bl links code routines around same {all} {procedure} {main} {own} {small} {may} named (Y.Begin (Y.BlockOf head body)) is jumps room space bare {more} entering least known calls ways =
       let next = jumps.0.0 in
       let deep = jumps.0.1 in
       let shallow : e.level < 100 = omega (arith, next, deep) in
+      let none : variables_of_block e.program head.number ≡ [] = bare.0 in
+      let here' : variables_of_block block.program head.number ≡ [] = ap (λ p. variables_of_block p head.number) bl.named ∙ none in
+      let are : AreProvedStatements block types body = subst (λ ds. AreProvedStatements (names_in block types head ds) (types_in types ds) body) here' is.1.1 in
+      let around' : AllJumpAround e.program head.number head.level all procedure (cond (0 == e.level) bl.labels bl.outer) (labels_in body) body = subst (λ ds. AllJumpAround e.program head.number head.level all procedure (if_bare ds (cond (0 == e.level) bl.labels bl.outer)) (labels_in body) body) none jumps.1 in
+      let calls' : AllCallAmong e.program may main false body = subst (λ ds. AllCallAmong e.program (if_bare ds may) main false body) none calls in
       let inner = inner_of bl (max 0 (stmts_words body)) shallow (room_frame small bl.stack.free (length bl.depths) (max 0 (stmts_words body)) (all_inner_words body) e.level shallow space) in
-      begin_does bl links code around more head body inner (own_number main named) named.lower refl shallow next is.0 is.1.0 bare.0 entering
+      begin_does bl links code around more head body inner (own_number main named) named.lower refl shallow next is.0 is.1.0 none entering
       (λ more' step deeper t0.
       let ib = inner_block bl inner t0 head.number head.level next in
       let here = inner_around e.program more' head.line in
-      let high : AllJumpAround head.number head.level all procedure (cond (0 == e.level) bl.labels bl.outer) (labels_in body ++ []) body = subst (λ ls. AllJumpAround head.number head.level all procedure (cond (0 == e.level) bl.labels bl.outer) ls body) (sym (append-nil (labels_in body))) jumps.1 in
+      let high : AllJumpAround e.program head.number head.level all procedure (cond (0 == e.level) bl.labels bl.outer) (labels_in body ++ []) body = subst (λ ls. AllJumpAround e.program head.number head.level all procedure (cond (0 == e.level) bl.labels bl.outer) ls body) (sym (append-nil (labels_in body))) around' in
       let most = le-max_right 0 (stmts_words body) in
       listed ib here body
-      (each_does (within (labels_in body) ib) links code (standing_within (labels_in body) (standing_inside inner t0 head.number head.level next routines)) here refl (inner_labels_stand named head.number head.level next (known (place_of_head head) (inl refl))) body is.1.1 high (omega (arith, most))
+      (each_does (within (labels_in body) ib) links code (standing_within (labels_in body) (standing_inside inner t0 head.number head.level next routines)) here refl (inner_labels_stand named head.number head.level next (known (place_of_head head) (inl refl))) body are high (omega (arith, most))
       (room_inner small bl.stack.free (length bl.depths) (max 0 (stmts_words body)) (all_inner_words body) e.level head.level shallow next deeper space)
-      bare.1 (inner_entering e.program more' head.line) (omega (arith, least, step)) (λ b h. known b (inr h)) calls
-      (record { calls = ways.calls; narrow = (let fits = room_frame small bl.stack.free (length bl.depths) (max 0 (stmts_words body)) (all_inner_words body) e.level shallow space in omega (arith, fits)); stays = λ other. ap (λ q. cond q bl.labels bl.outer) (named.inside other) ∙ ways.stays other; ends = λ no. let apart : false ≡ true = no in absurd (cc apart) })))
+      bare.1 (inner_entering e.program more' head.line) (omega (arith, least, step)) (λ b h. known b (inr h)) calls'
+      (record { calls = ways.calls; outermost = ways.outermost; narrow = (let fits = room_frame small bl.stack.free (length bl.depths) (max 0 (stmts_words body)) (all_inner_words body) e.level shallow space in omega (arith, fits)); stays = λ other. ap (λ q. cond q bl.labels bl.outer) (named.inside other) ∙ ways.stays other; ends = λ no. let apart : false ≡ true = no in absurd (cc apart) })))
   statement_does {e} bl links code routines around same {all} {procedure} {main} {own} {small} named (Y.CallProcedure (Y.Calling number level Y.NoArgument) line) is jumps room space bare {more} entering least known calls ways =
       subst (λ n. Does bl links code around.turns (stmt_code e bl.taken (Y.CallProcedure (Y.Calling number n Y.NoArgument) line)) (M.statement around (Y.CallProcedure (Y.Calling number n Y.NoArgument) line))) (sym is.0)
       (ways.calls e.owner e.block e.level bl (room_deep small bl.stack.free (length bl.depths) 0 e.level space) (room_calls small bl.stack.free (length bl.depths) 0 e.level space) ways.narrow routines (omega (arith, room)) around same more entering least number calls line is.1)
@@ -235,7 +243,7 @@ mutual
   statement_does {e} bl links code routines around same {all} {procedure} named (Y.Goto level label line) is (inl jumps) room space bare entering least known calls ways =
       goto_does bl links code around level label line jumps.0 is jumps.1.0 (named.once e.block label jumps.1.1) named.own
   statement_does {e} bl links code routines around same {all} {procedure} {main} named (Y.Goto level label line) is (inr jumps) room space bare entering least known calls ways =
-      out_does bl links code around level procedure label line jumps.0.0 jumps.0.1 is (named.owner (is_main main bl label ways.stays jumps.1.1.0)) jumps.1.1.0 (named.once procedure label jumps.1.1.1) (named.outermost e.block jumps.1.0)
+      out_does bl links code around level procedure label line jumps.0.0 jumps.0.1 ways.outermost (λ j kind at. bl.first_owner j at (ways.outermost j kind at)) is (named.owner (is_main main bl label ways.stays jumps.1.1.0)) jumps.1.1.0 (named.once procedure label jumps.1.1.1) (named.outermost e.block jumps.1.0)
   statement_does bl links code routines around same named (Y.Stop line) is jumps room space bare entering least known calls ways = stop_does bl links code around line is
   statement_does bl links code routines around same named (Y.Signal condition line) is jumps room space bare entering least known calls ways = signal_does bl links code routines.raises around condition line is
   statement_does bl links code routines around same named (Y.OnSystem condition line) is jumps room space bare entering least known calls ways = on_system_does bl links code around condition line is
@@ -250,7 +258,7 @@ mutual
       get_skip_does bl links code routines around same n pairs line is.0.0 is.0.1 is.1.0 is.1.1 room
   statement_does bl links code routines around same named _ is jumps room space bare entering least known calls ways = absurd is
 
-  pub each_does : {e : Environment} {block : ℕ} {types : Types} (bl : Block e block types) (links : Links) (code : List Instr) (routines : Standing bl links code) (around : Around) (same : around.program ≡ e.program) {all : List (ℕ × Label)} {procedure : ℕ} {main own small : Bool} {may : List ℕ} {bound : ℕ} (named : LabelsStand e links all procedure main) (body : Y.Stmts) → AreProvedStatements block types body → AllJumpAround e.block e.level all procedure bl.outer bl.labels body → bl.taken.words + stmts_words body ≤ bl.words → Room small bl.stack.free (length bl.depths) (all_inner_words body) e.level → AreBare e.program body → {more : ℕ} → Entering e.program around more → more ≤ bound → ((b : BlockPlace) → IsAmong b (blocks_among body) → IsAmong b e.blocks) → AllCallAmong may main own body → Ways e block types bl.words bound small bl.outer links code main own may → EachDoes bl links code around body
+  pub each_does : {e : Environment} {block : Names} {types : Types} (bl : Block e block types) (links : Links) (code : List Instr) (routines : Standing bl links code) (around : Around) (same : around.program ≡ e.program) {all : List (ℕ × Label)} {procedure : ℕ} {main own small : Bool} {may : List ℕ} {bound : ℕ} (named : LabelsStand e links all procedure main) (body : Y.Stmts) → AreProvedStatements block types body → AllJumpAround e.program e.block e.level all procedure bl.outer bl.labels body → bl.taken.words + stmts_words body ≤ bl.words → Room small bl.stack.free (length bl.depths) (all_inner_words body) e.level → AreBare e.program false body → {more : ℕ} → Entering e.program around more → more ≤ bound → ((b : BlockPlace) → IsAmong b (blocks_among body) → IsAmong b e.blocks) → AllCallAmong e.program may main own body → Ways e block types bl.words bound small bl.outer links code main own may → EachDoes bl links code around body
   each_does bl links code routines around same named (Y.EndOfList labels) are jumps room space bare entering least known calls ways = tt
   each_does {e} bl links code routines around same {all} {procedure} {main} {own} {small} named (Y.StmtThen labels first rest) are jumps room space bare entering least known calls ways =
       let a = le-max_left (stmt_words first) (stmts_words rest) in
@@ -262,7 +270,7 @@ mutual
       )
 
 -- the statements of a block
-pub body_does : {e : Environment} {block : ℕ} {types : Types} (bl : Block e block types) (links : Links) (code : List Instr) (routines : Standing bl links code) (around : Around) (same : around.program ≡ e.program) {all : List (ℕ × Label)} {procedure : ℕ} {main own small : Bool} {may : List ℕ} {bound : ℕ} (named : LabelsStand e links all procedure main) (body : Y.Stmts) → AreProvedStatements block types body → AllJumpAround e.block e.level all procedure bl.outer (labels_in body ++ bl.labels) body → bl.taken.words + stmts_words body ≤ bl.words → Room small bl.stack.free (length bl.depths) (all_inner_words body) e.level → AreBare e.program body → {more : ℕ} → Entering e.program around more → more ≤ bound → ((b : BlockPlace) → IsAmong b (blocks_among body) → IsAmong b e.blocks) → AllCallAmong may main own body → Ways e block types bl.words bound small bl.outer links code main own may → Does bl links code around.turns (stmts_code e bl.taken body) (M.list around body)
+pub body_does : {e : Environment} {block : Names} {types : Types} (bl : Block e block types) (links : Links) (code : List Instr) (routines : Standing bl links code) (around : Around) (same : around.program ≡ e.program) {all : List (ℕ × Label)} {procedure : ℕ} {main own small : Bool} {may : List ℕ} {bound : ℕ} (named : LabelsStand e links all procedure main) (body : Y.Stmts) → AreProvedStatements block types body → AllJumpAround e.program e.block e.level all procedure bl.outer (labels_in body ++ bl.labels) body → bl.taken.words + stmts_words body ≤ bl.words → Room small bl.stack.free (length bl.depths) (all_inner_words body) e.level → AreBare e.program false body → {more : ℕ} → Entering e.program around more → more ≤ bound → ((b : BlockPlace) → IsAmong b (blocks_among body) → IsAmong b e.blocks) → AllCallAmong e.program may main own body → Ways e block types bl.words bound small bl.outer links code main own may → Does bl links code around.turns (stmts_code e bl.taken body) (M.list around body)
 body_does bl links code routines around same named body are jumps room space bare entering least known calls ways =
     listed bl around body
     (each_does (within (labels_in body) bl) links code (standing_within (labels_in body) routines) around same named body are jumps room space bare entering least known calls ways)

@@ -23,14 +23,15 @@ use Rattle.pli_coding.specs.Allocating.{act_code}
 use Rattle.pli_coding.specs.Environments.{Environment}
 use Rattle.pli_coding.specs.Statements.{condition_given, stmt_code}
 use Rattle.pli_coding.specs.Linking.{Links}
-use Rattle.pli_headline.specs.ProvedSoFar.{Types}
+use Rattle.pli_headline.specs.ProvedSoFar.{Names, Types}
+use Rattle.pli_headline.proofs.Storages.{storage, Storage, Serials}
 use Rattle.pli_headline.proofs.Engine.{Base, address, call_at}
 use Rattle.pli_headline.proofs.Linking.{size_append}
 use Rattle.pli_headline.proofs.Items.{straight}
 use Rattle.pli_headline.proofs.Bodies.{Known, zero_is}
 use Rattle.pli_headline.proofs.Jumps.{front_of, back_of}
 use Rattle.pli_headline.proofs.Temporaries.{stays_same}
-use Rattle.pli_headline.proofs.Activations.{AllUnits, Nested, frames_of, levels_of}
+use Rattle.pli_headline.proofs.Activations.{AllUnits, Nested, frames_of, levels_of, Chained}
 use Rattle.pli_headline.proofs.Calls.{Serving}
 use Rattle.pli_headline.proofs.Raising.{small_is}
 use Rattle.pli_headline.proofs.Acts.{acted, act_piece}
@@ -79,15 +80,15 @@ changed_levels q c [] = refl
 changed_levels q c (a ∷ as') = refl
 
 -- variables stand for what they stood for
-binding_by : (here there : Bool) (a a' : Activation) (as' : List Activation) (j : ℕ) → a'.bindings ≡ a.bindings → binding_in (cond here (cond there (Some a') (ancestor as' a.parent 0)) (ancestor as' a.height 0)) j ≡ binding_in (cond here (cond there (Some a) (ancestor as' a.parent 0)) (ancestor as' a.height 0)) j
-binding_by true true a a' as' j e = ap (λ bs. binding_of bs j) e
-binding_by true false a a' as' j e = refl
-binding_by false there a a' as' j e = refl
+binding_by : (here there : Bool) (level : ℕ) (a a' : Activation) (as' : List Activation) (j : ℕ) → a'.bindings ≡ a.bindings → binding_in (cond here (cond there (Some a') (ancestor as' a.parent level)) (ancestor as' a.height level)) j ≡ binding_in (cond here (cond there (Some a) (ancestor as' a.parent level)) (ancestor as' a.height level)) j
+binding_by true true level a a' as' j e = ap (λ bs. binding_of bs j) e
+binding_by true false level a a' as' j e = refl
+binding_by false there level a a' as' j e = refl
 
-binding_kept : (q : Bool) (c : Condition) (as' : List Activation) (j : ℕ) → binding_in (ancestor (newest_changed q c as') (newest_height (newest_changed q c as')) 0) j ≡ binding_in (ancestor as' (newest_height as') 0) j
-binding_kept q c [] j = refl
-binding_kept q c (a ∷ as') j =
-    binding_by (a.height == a.height) (a.level == 0) a (record a { units = changed q SystemUnit c a.units }) as' j refl
+binding_kept : (q : Bool) (c : Condition) (as' : List Activation) (level j : ℕ) → binding_in (ancestor (newest_changed q c as') (newest_height (newest_changed q c as')) level) j ≡ binding_in (ancestor as' (newest_height as') level) j
+binding_kept q c [] level j = refl
+binding_kept q c (a ∷ as') level j =
+    binding_by (a.height == a.height) (a.level == level) level a (record a { units = changed q SystemUnit c a.units }) as' j refl
 
 -- ---- the state and the services behind it
 
@@ -110,25 +111,30 @@ changed_serving {s = s} {v = v} q c o =
       waiting = o.waiting;
     }
 
+changed_chain : (q : Bool) (c : Condition) (as' : List Activation) → Chained as' → Chained (newest_changed q c as')
+changed_chain q c [] h = h
+changed_chain q c (a ∷ as') h = h
+
 changed_frames : (q : Bool) (c : Condition) (xs : List S.Activation) → frames_of (newest_served q c xs) ≡ frames_of xs
 changed_frames q c [] = refl
 changed_frames q c (x ∷ xs) = refl
 
-changed_all : {frames : List ℕ} {xs : List S.Activation} {levels : List ℕ} {s : State} {block : ℕ} {types : Types} {n : Values} (q : Bool) (c : Condition) → AllHold frames xs levels s block types n → AllHold frames (newest_served q c xs) levels (changed_state q c s) block types n
-changed_all {xs = xs} {s = s} q c all =
+changed_all : {frames : List ℕ} {serials : Serials} {xs : Storage} {levels : List ℕ} {s : State} {block : Names} {types : Types} {n : Values} (q : Bool) (c : Condition) → AllHold frames serials xs levels s block types n → AllHold frames serials (record xs { activations = newest_served q c xs.activations }) levels (changed_state q c s) block types n
+changed_all {xs = xs} {s = s} {block = block} q c all =
     record {
       numbers = λ j b numeric.
           let h = all.numbers j b numeric in
-          record { values = h.values; stands = binding_kept q c s.activations j ∙ h.stands; lives = h.lives; value = h.value; fits = h.fits };
+          record { values = h.values; stands = binding_kept q c s.activations (block.at j).level (block.at j).index ∙ h.stands; lives = h.lives; value = h.value; fits = h.fits };
       texts = λ j varying most at.
           let h = all.texts j varying most at in
-          record { values = h.values; stands = binding_kept q c s.activations j ∙ h.stands; lives = h.lives; value = h.value; short = h.short };
+          record { values = h.values; stands = binding_kept q c s.activations (block.at j).level (block.at j).index ∙ h.stands; lives = h.lives; value = h.value; short = h.short };
       arrays = λ j type b bs at.
           let h = all.arrays j type b bs at in
-          record { values = h.values; numeric = h.numeric; stands = binding_kept q c s.activations j ∙ h.stands; lives = h.lives; value = h.value; fits = h.fits };
+          record { values = h.values; numeric = h.numeric; stands = binding_kept q c s.activations (block.at j).level (block.at j).index ∙ h.stands; lives = h.lives; value = h.value; fits = h.fits };
       entered = changed_levels q c s.activations ∙ all.entered;
-      framed = changed_frames q c xs ∙ all.framed;
-      owned = all.owned;
+      framed = changed_frames q c xs.activations ∙ all.framed;
+      stored = all.stored;
+      chained = changed_chain q c s.activations all.chained;
     }
 
 -- they are what the meaning makes of the activations
@@ -184,7 +190,7 @@ some_served level levels [] xs nested entered = absurd (cc entered)
 some_served level levels (a ∷ as') [] nested entered = absurd nested
 some_served level levels (a ∷ as') (x ∷ xs) nested entered = omega arith
 
-pub on_system_does : {e : Environment} {block : ℕ} {types : Types} (bl : Block e block types) (links : Links) (code : List Instr) (around : Around) (c : Condition) (line : ℕ) → line < 2 ^ 31 → Does bl links code around.turns (stmt_code e bl.taken (Y.OnSystem c line)) (M.statement around (Y.OnSystem c line))
+pub on_system_does : {e : Environment} {block : Names} {types : Types} (bl : Block e block types) (links : Links) (code : List Instr) (around : Around) (c : Condition) (line : ℕ) → line < 2 ^ 31 → Does bl links code around.turns (stmt_code e bl.taken (Y.OnSystem c line)) (M.statement around (Y.OnSystem c line))
 unfolding M.statement M.established_by stored ◌>>◌
 on_system_does {e} {block} {types} bl links code around c line fits =
     record {
@@ -202,7 +208,7 @@ on_system_does {e} {block} {types} bl links code around c line fits =
           let s1 = with_world (counted s.world) s in
           let v1 = acted line v in
           let v2 = changed_services true c v1 in
-          let all1 : AllHold bl.frames v1.activations (e.level ∷ bl.depths) s1 block types n = counted_all _ all in
+          let all1 : AllHold bl.frames bl.serials (storage v1) (e.level ∷ bl.depths) s1 block types n = counted_all _ all in
           let some = some_served e.level bl.depths s1.activations v1.activations serving1.nested all1.entered in
           let z : Base → ℕ = λ b. (f1 b).machine.registers 12 in
           onward closed (straight (i + size_of a) f1 v1 v1 (λ b. Known (bl.ground n) v1 h t (three (λ b'. condition_number c) (λ b'. 0) z) b) (front_of front call l1) (omega arith) (λ b. (at1 b).pc)
@@ -214,7 +220,7 @@ on_system_does {e} {block} {types} bl links code around c line fits =
           asking_piece closed f2 v2 28 (λ b. condition_number c) (λ b. 0) z (λ b. condition_number c) (λ b. 0) (λ q x0 x1 x2 x3 x4. U.on_served q x0 x1) (lit< tt) (λ q r. refl) (omega arith)
           (λ b m x3 x4. on_answer code v1 m c some) (back_of front call l1) at2
           (λ f3 at3.
-          let T : List Activation → Type 0 = λ as'. Serving k (with_world s1.world (with_activations as' s1)) v2 line × AllHold bl.frames v2.activations (e.level ∷ bl.depths) (with_world s1.world (with_activations as' s1)) block types n in
+          let T : List Activation → Type 0 = λ as'. Serving k (with_world s1.world (with_activations as' s1)) v2 line × AllHold bl.frames bl.serials (storage v2) (e.level ∷ bl.depths) (with_world s1.world (with_activations as' s1)) block types n in
           let both : T (newest_changed true c s1.activations) = (changed_serving true c serving1, changed_all true c all1) in
           let o = subst T (established_is c s1.activations) both in
           record {
@@ -225,7 +231,7 @@ on_system_does {e} {block} {types} bl links code around c line fits =
           }))));
     }
 
-pub revert_does : {e : Environment} {block : ℕ} {types : Types} (bl : Block e block types) (links : Links) (code : List Instr) (around : Around) (c : Condition) (line : ℕ) → line < 2 ^ 31 → Does bl links code around.turns (stmt_code e bl.taken (Y.Revert c line)) (M.statement around (Y.Revert c line))
+pub revert_does : {e : Environment} {block : Names} {types : Types} (bl : Block e block types) (links : Links) (code : List Instr) (around : Around) (c : Condition) (line : ℕ) → line < 2 ^ 31 → Does bl links code around.turns (stmt_code e bl.taken (Y.Revert c line)) (M.statement around (Y.Revert c line))
 unfolding M.statement M.established_by stored ◌>>◌
 revert_does {e} {block} {types} bl links code around c line fits =
     record {
@@ -243,7 +249,7 @@ revert_does {e} {block} {types} bl links code around c line fits =
           let s1 = with_world (counted s.world) s in
           let v1 = acted line v in
           let v2 = changed_services false c v1 in
-          let all1 : AllHold bl.frames v1.activations (e.level ∷ bl.depths) s1 block types n = counted_all _ all in
+          let all1 : AllHold bl.frames bl.serials (storage v1) (e.level ∷ bl.depths) s1 block types n = counted_all _ all in
           let some = some_served e.level bl.depths s1.activations v1.activations serving1.nested all1.entered in
           let y : Base → ℕ = λ b. (f1 b).machine.registers 11 in
           let z : Base → ℕ = λ b. (f1 b).machine.registers 12 in
@@ -256,7 +262,7 @@ revert_does {e} {block} {types} bl links code around c line fits =
           asking_piece closed f2 v2 29 (λ b. condition_number c) y z (λ b. condition_number c) y (λ q x0 x1 x2 x3 x4. U.revert_served q x0 x1) (lit< tt) (λ q r. refl) (omega arith)
           (λ b m x3 x4. revert_answer code v1 m c (y b) some) (back_of front call l1) at2
           (λ f3 at3.
-          let T : List Activation → Type 0 = λ as'. Serving k (with_world s1.world (with_activations as' s1)) v2 line × AllHold bl.frames v2.activations (e.level ∷ bl.depths) (with_world s1.world (with_activations as' s1)) block types n in
+          let T : List Activation → Type 0 = λ as'. Serving k (with_world s1.world (with_activations as' s1)) v2 line × AllHold bl.frames bl.serials (storage v2) (e.level ∷ bl.depths) (with_world s1.world (with_activations as' s1)) block types n in
           let both : T (newest_changed false c s1.activations) = (changed_serving false c serving1, changed_all false c all1) in
           let o = subst T (reverted_is c s1.activations) both in
           record {

@@ -15,7 +15,7 @@ use Rattle.pli_coding.specs.Assembly.{size_of}
 use Rattle.pli_coding.specs.Procedures.{procedure_in}
 use Rattle.pli_coding.specs.Linking.{links_of}
 use Rattle.pli_coding.specs.Images.{code_of, linked_code, picture_of}
-use Rattle.pli_headline.specs.ProvedSoFar.{all_labels, procedure_labels, IsProvedSoFar}
+use Rattle.pli_headline.specs.ProvedSoFar.{all_labels, procedure_labels, IsProvedSoFar, main_names}
 use Rattle.pli_headline.specs.Headline.{parts, FitsMemory, HeadlineSoFar}
 use Rattle.pli_headline.proofs.Engine.{most_code}
 use Rattle.pli_headline.proofs.Items.{Linked}
@@ -60,7 +60,7 @@ few_words program is fits =
     let p = (placed_for program is fits).procedure in
     let inside = p.inside in
     let small' = p.small' in
-    let n = procedure_size (main_environment program (block_in is)) (main_head (block_in is) (line_in is)) (main_types program (block_in is)) is.body (λ j kind at. declared_at (variables_of_block program (block_in is)) j (main_plain program (block_in is) is.plain) at) (main_plain program (block_in is) is.plain) is.block.statements in
+    let n = procedure_size (main_environment program (block_in is)) (main_head (block_in is) (line_in is)) (main_names program (block_in is)) (main_types program (block_in is)) is.body (λ j kind at. declared_at (variables_of_block program (block_in is)) j (main_plain program (block_in is) is.plain) at) (main_plain program (block_in is) is.plain) is.block.statements in
     omega (arith, inside, small', n)
 
 -- there is some code
@@ -87,7 +87,7 @@ others_stand program is fits =
     subst (λ ps. Linked (links_of (code_of parts program)) (code_for program) (others_at program is fits) (others_code program (others_of ps))) (alone_of program is).are (placed_for program is fits).others
 
 -- calls in the main procedure
-calls_done : (program : Y.Program) (is : IsProvedSoFar program) (fits : FitsMemory (picture_of parts program)) (k : ℕ) → Calls (main_environment program (block_in is)) (block_in is) (main_types program (block_in is)) k (links_of (code_of parts program)) (code_for program) is.called
+calls_done : (program : Y.Program) (is : IsProvedSoFar program) (fits : FitsMemory (picture_of parts program)) (k : ℕ) → Calls (main_environment program (block_in is)) (main_names program (block_in is)) (main_types program (block_in is)) k (links_of (code_of parts program)) (code_for program) is.called
 calls_done program is fits k =
     let block = block_in is in
     let line = line_in is in
@@ -104,7 +104,7 @@ room_for program is fits few =
     let p = (placed_for program is fits).procedure in
     let inside = p.inside in
     let small' = p.small' in
-    let n = procedure_inner (main_environment program (block_in is)) (main_head (block_in is) (line_in is)) (block_in is) (main_types program (block_in is)) is.body (λ j kind at. declared_at (variables_of_block program (block_in is)) j (main_plain program (block_in is) is.plain) at) (main_plain program (block_in is) is.plain) is.block.statements in
+    let n = procedure_inner (main_environment program (block_in is)) (main_head (block_in is) (line_in is)) (main_names program (block_in is)) (main_types program (block_in is)) is.body refl (λ j kind at. declared_at (variables_of_block program (block_in is)) j (main_plain program (block_in is) is.plain) at) (main_plain program (block_in is) is.plain) is.block.statements is.block.inside in
     omega (arith, inside, small', n, few)
 
 body_done : (program : Y.Program) (is : IsProvedSoFar program) (fits : FitsMemory (picture_of parts program)) (k : ℕ) → BodyDoes program (block_in is) (line_in is) is.body (memory_for program) is.plain (alone_of program is) (few_words program is fits) (links_of (code_of parts program)) (code_for program) k
