@@ -106,7 +106,7 @@ inner_of {e} bl words few room =
     record { words = words; at = bl.stack.free + temporary_bytes words; place = refl; room = inner_room bl.stack.free words e.level few room }
 
 -- a jump out of it goes on at the block around, or further out, and so does a return
-abbrev ended_jump : (ℕ → Family → Services → ℕ → Label → State → Type 0) → ℕ → Family → Services → ℕ → Label → State → Type 0
+abbrev pub ended_jump : (ℕ → Family → Services → ℕ → Label → State → Type 0) → ℕ → Family → Services → ℕ → Label → State → Type 0
 ended_jump jumped i f v height label s = jumped i f v height label (with_world s.world (newest_ended s))
 
 abbrev ended_return : (ℕ → Family → Services → Option BasicValue → State → Type 0) → ℕ → Family → Services → Option BasicValue → State → Type 0

@@ -15,7 +15,7 @@ use Rattle.pli_meaning.specs.DeclaredShapes.{procedure_numbered, variables_of_bl
 use Rattle.pli_meaning.specs.StorageState.{State, with_world, newest_ended, most_activations}
 use Rattle.pli_meaning.specs.declared.outcome.End.TheVariants as E
 use Rattle.pli_meaning.specs.declared.outcome.Limit.TheVariants as L
-use Rattle.pli_meaning.specs.Control.{Meaning, left, give, act, ◌>>◌, finish}
+use Rattle.pli_meaning.specs.Control.{Label, Meaning, left, give, act, ◌>>◌, finish}
 use Rattle.pli_meaning.specs.Raising.{Around, at_line}
 use Rattle.pli_meaning.specs.Executing as M
 use Rattle.pli_serving.specs.ServiceState as S
@@ -42,9 +42,10 @@ use Rattle.pli_headline.proofs.Activations.{same_length, first_level, levels_of,
 use Rattle.pli_headline.proofs.Calls.{Serving}
 use Rattle.pli_headline.proofs.Acts.{acted, act_to, act_piece}
 use Rattle.pli_headline.proofs.Entered.{atop}
-use Rattle.pli_headline.proofs.Statements.{owner_level, Block, AllHold, counted_all, Does}
-use Rattle.pli_headline.proofs.MainFlow.{inside_closed, comes_left}
+use Rattle.pli_headline.proofs.Statements.{owner_level, Block, AllHold, counted_all, Enough, Does}
+use Rattle.pli_headline.proofs.CalledJumps.{ending_closed, comes_called}
 use Rattle.pli_headline.proofs.Owing.{owing, owing_closed, comes_owing, done_owing}
+use Rattle.pli_headline.proofs.MainOutlets.{procedure_owner, HasMain, main_of, main_enclosing, main_outlet, owed_outlet}
 use Rattle.pli_headline.proofs.SavedRegisters.{held_again}
 use Rattle.pli_headline.proofs.BeginEntered.{ended_services}
 use Rattle.pli_headline.proofs.BeginMeant.{Entering, inner_around, inner_part, entered_nested, entered_all, ended_input, left_all, entered_at}
@@ -145,9 +146,9 @@ leave_piece {e} {block} {types} bl {code = code} callee k i resume h t closed ne
 
 -- ---- behind its act
 
-call_piece : {e : Environment} {block : ℕ} {types : Types} (bl : Block e block types) {links : Links} {code : List Instr} (around : Around) (more : ℕ) (head : Y.BlockHead) (body : Y.Stmts) (callee : Callee bl) (stands : StandsAt links code e head callee.words body) (list : ℤ) → (next : head.level ≡ 1) (sized : frame_end e.parts e.program head.number head.level ≡ fixed_size 1 0) → head.kind ≡ Y.ProcedureBlock → head.line < 2 ^ 31 → variables_of_block e.program head.number ≡ [] → around.program ≡ e.program → around.enter ≡ M.entered e.program (suc more) → procedure_numbered head.number e.program.procedures ≡ Some (plain_procedure head body) → word list < 2 ^ 32 → ((back : Base → ℕ) (h0 t0 : ℕ → ℕ) → Does (called_block bl callee back h0 t0 head next sized) links code (suc more) (stmts_code (procedure_environment head e) none_taken body) (M.list (inner_around e.program more head.line) body)) → {i : ℕ} {s : State} {v : Services} {h t : ℕ → ℕ} {aims : Aims (Unit {0})} (closed : Closed code aims) (n : Values) (f : Family) (k line : ℕ) → k < suc more + v.world.acts → Linked links code i (call_of e list head.number) → nat_lt (length s.activations) most_activations ≡ true → Serving k s v line → AllHold bl.frames v.activations (e.level ∷ bl.depths) s block types n → ((b : Base) → At b i (Known (bl.ground n) v h t nothing b) (f b)) → ((s' : State) (v' : Services) (line' : ℕ) (n' : Values) (h' : ℕ → ℕ) (f' : Family) → Serving k s' v' line' → AllHold bl.frames v'.activations (e.level ∷ bl.depths) s' block types n' → ((b : Base) → At b (call_back i e list head.number) (Known (bl.ground n') v' h' t nothing b) (f' b)) → aims.done (call_back i e list head.number) f' v' tt s') → Comes code 0 f v (owing code (length code) aims) (call_part around head.number k s)
+call_piece : {e : Environment} {block : ℕ} {types : Types} (bl : Block e block types) {links : Links} {code : List Instr} (around : Around) (more : ℕ) (head : Y.BlockHead) (body : Y.Stmts) (callee : Callee bl) (stands : StandsAt links code e head callee.words body) (list : ℤ) → (next : head.level ≡ 1) (sized : frame_end e.parts e.program head.number head.level ≡ fixed_size 1 0) (main : ℕ) (mains : List Label) (has : HasMain main mains e.level e.block bl.labels bl.outer) → head.kind ≡ Y.ProcedureBlock → head.line < 2 ^ 31 → variables_of_block e.program head.number ≡ [] → around.program ≡ e.program → around.enter ≡ M.entered e.program (suc more) → procedure_numbered head.number e.program.procedures ≡ Some (plain_procedure head body) → word list < 2 ^ 32 → ((back : Base → ℕ) (h0 t0 : ℕ → ℕ) → Does (called_block bl callee back h0 t0 head next sized (main_of main mains) (main_enclosing bl callee back h0 t0 (procedure_owner head) head next main mains has)) links code (suc more) (stmts_code (procedure_environment head e) none_taken body) (M.list (inner_around e.program more head.line) body)) → {i : ℕ} {s : State} {v : Services} {h t : ℕ → ℕ} {aims : Aims (Unit {0})} (closed : Closed code aims) (n : Values) (f : Family) (k line : ℕ) → k < suc more + v.world.acts → (turns0 i0 acts0 : ℕ) → Enough bl links k turns0 i0 h t acts0 aims.jumped aims.returned → acts0 ≤ v.world.acts → Linked links code i (call_of e list head.number) → nat_lt (length s.activations) most_activations ≡ true → Serving k s v line → AllHold bl.frames v.activations (e.level ∷ bl.depths) s block types n → ((b : Base) → At b i (Known (bl.ground n) v h t nothing b) (f b)) → ((s' : State) (v' : Services) (line' : ℕ) (n' : Values) (h' : ℕ → ℕ) (f' : Family) → Serving k s' v' line' → AllHold bl.frames v'.activations (e.level ∷ bl.depths) s' block types n' → ((b : Base) → At b (call_back i e list head.number) (Known (bl.ground n') v' h' t nothing b) (f' b)) → aims.done (call_back i e list head.number) f' v' tt s') → Comes code 0 f v (owing code (length code) aims) (call_part around head.number k s)
 unfolding M.end_reached give ◌>>◌
-call_piece {e} {block} {types} bl {links} {code} around more head body callee stands list next sized kind fits none same enter found short does' {i} {s} {v} {h} {t} {aims} closed n f k line enough l few serving all at goal =
+call_piece {e} {block} {types} bl {links} {code} around more head body callee stands list next sized main mains has kind fits none same enter found short does' {i} {s} {v} {h} {t} {aims} closed n f k line enough turns0 start0 acts0 ready less l few serving all at goal =
     let program = e.program in
     let here = inner_around program more head.line in
     let debt = length code in
@@ -199,7 +200,7 @@ call_piece {e} {block} {types} bl {links} {code} around more head body callee st
     let statements : Unit {0} → Meaning (Unit {0}) = λ u. inner_part program more head body in
     let leave = leave_piece bl callee k i4 resume h t closed (omega (arith, inside', small')) (omega (arith, room, n1, n2, n3)) ll goal in
     let closed0 = owing_closed code debt aims in
-    let closed1 = inside_closed newest_ended (before_closed k last closed0) in
+    let closed1 = ending_closed newest_ended (before_closed k last closed0) in
     subst (Comes code 0 f v (owing code debt aims)) (sym (call_meant program around more head body head.number k s same enter found kind none parent few))
     (onward closed0 (call_entry bl n 0 i0 f list head.number i0 short stands.placed (omega (arith, room, small')) (let size = call_size e list head.number in omega (arith, size, behind)) l at)
     (λ f1 at1.
@@ -208,7 +209,7 @@ call_piece {e} {block} {types} bl {links} {code} around more head body callee st
     onward closed0 (called_entered bl callee back n i1 f2 head.line fits serving.waiting few' le at2)
     (λ f3 at3.
     comes_on k (left true newest_ended (called_part program more head body k s2)) last
-    (comes_left newest_ended (called_part program more head body k s2)
+    (comes_called newest_ended (called_part program more head body k s2)
     (comes_on k (act counted k s2) statements
     (act_piece (before_closed k statements closed1) f3 head.line head.line k fits la
     (record {
@@ -234,8 +235,8 @@ call_piece {e} {block} {types} bl {links} {code} around more head body callee st
       enough = omega (arith, enough);
       later = omega (arith, behind);
       jumps = λ label among once. let no : false ≡ true = among in absurd (cc no);
-      outs = tt;
-      homes = tt;
+      outs = (λ label among once. owed_outlet closed (atop callee.at S.ProcedureBlock bl.frames) (main_enclosing bl callee back h t (procedure_owner head) head next main mains has) label (main_outlet bl callee back h (procedure_owner head) S.ProcedureBlock head next main mains has links k turns0 start0 h t acts0 v3.world.acts aims.jumped aims.returned ready label among once (omega (arith, less))), tt);
+      homes = (λ deep owned once. let no : true ≡ false = deep in absurd (cc no), tt);
       returns = λ number owned once. let no : head.level ≡ 0 = ap owner_level owned in absurd (omega (arith, no, next));
       own = λ inner owned once. record {
         at = i4;
@@ -282,9 +283,9 @@ limited_call {e} bl {code = code} around more head body callee stands list fits 
 
 -- ---- the statement
 
-pub own_call_does : {e : Environment} {block : ℕ} {types : Types} (bl : Block e block types) (links : Links) (code : List Instr) (around : Around) (more : ℕ) (head : Y.BlockHead) (body : Y.Stmts) (callee : Callee bl) (stands : StandsAt links code e head callee.words body) (list : ℤ) (line : ℕ) → (next : head.level ≡ 1) (sized : frame_end e.parts e.program head.number head.level ≡ fixed_size 1 0) → head.kind ≡ Y.ProcedureBlock → head.line < 2 ^ 31 → variables_of_block e.program head.number ≡ [] → around.program ≡ e.program → Entering e.program around more → procedure_numbered head.number e.program.procedures ≡ Some (plain_procedure head body) → word list < 2 ^ 32 → line < 2 ^ 31 → ((more' : ℕ) → more ≡ suc more' → suc (length bl.depths) < most_activations → (back : Base → ℕ) (h0 t0 : ℕ → ℕ) → Does (called_block bl callee back h0 t0 head next sized) links code (suc more') (stmts_code (procedure_environment head e) none_taken body) (M.list (inner_around e.program more' head.line) body)) → Does bl links code around.turns (act_code line ++ call_of e list head.number) (M.statement around (Y.CallProcedure (Y.Calling head.number 0 Y.NoArgument) line))
+pub own_call_does : {e : Environment} {block : ℕ} {types : Types} (bl : Block e block types) (links : Links) (code : List Instr) (around : Around) (more : ℕ) (head : Y.BlockHead) (body : Y.Stmts) (callee : Callee bl) (stands : StandsAt links code e head callee.words body) (list : ℤ) (line : ℕ) → (next : head.level ≡ 1) (sized : frame_end e.parts e.program head.number head.level ≡ fixed_size 1 0) (main : ℕ) (mains : List Label) (has : HasMain main mains e.level e.block bl.labels bl.outer) → head.kind ≡ Y.ProcedureBlock → head.line < 2 ^ 31 → variables_of_block e.program head.number ≡ [] → around.program ≡ e.program → Entering e.program around more → procedure_numbered head.number e.program.procedures ≡ Some (plain_procedure head body) → word list < 2 ^ 32 → line < 2 ^ 31 → ((more' : ℕ) → more ≡ suc more' → suc (length bl.depths) < most_activations → (back : Base → ℕ) (h0 t0 : ℕ → ℕ) → Does (called_block bl callee back h0 t0 head next sized (main_of main mains) (main_enclosing bl callee back h0 t0 (procedure_owner head) head next main mains has)) links code (suc more') (stmts_code (procedure_environment head e) none_taken body) (M.list (inner_around e.program more' head.line) body)) → Does bl links code around.turns (act_code line ++ call_of e list head.number) (M.statement around (Y.CallProcedure (Y.Calling head.number 0 Y.NoArgument) line))
 unfolding M.statement ◌>>◌
-own_call_does {e} {block} {types} bl links code around zero head body callee stands list line next sized kind fits none same entering found short low does' =
+own_call_does {e} {block} {types} bl links code around zero head body callee stands list line next sized main mains has kind fits none same entering found short low does' =
     record {
       does = λ {i} {s} {v} {h} {t} {aims} closed old n f k l serving all at goal more'.
           let next' : Unit {0} → Meaning (Unit {0}) = λ u. call_part (at_line around line) head.number in
@@ -293,7 +294,7 @@ own_call_does {e} {block} {types} bl links code around zero head body callee sta
           (λ f1 serving1 at1.
           absurd (let e1 = more'.enough in let e2 = entering.turns in let e3 = serving1.allowed in omega (arith, e1, e2, e3))));
     }
-own_call_does {e} {block} {types} bl links code around (suc more) head body callee stands list line next sized kind fits none same entering found short low does' =
+own_call_does {e} {block} {types} bl links code around (suc more) head body callee stands list line next sized main mains has kind fits none same entering found short low does' =
     record {
       does = λ {i} {s} {v} {h} {t} {aims} closed old n f k l serving all at goal more'.
           let a = act_code line in
@@ -313,7 +314,7 @@ own_call_does {e} {block} {types} bl links code around (suc more) head body call
           (λ many. limited_call bl (at_line around line) more head body callee stands list fits same entering.enter found short closed n f1 k line (back_of a c l) many serving1 at1)
           (λ few.
           let deep : suc (length bl.depths) < most_activations = (let below = ltb-true (length s.activations) most_activations few in let long = entered_length s.activations (e.level ∷ bl.depths) all.entered in omega (arith, below, long)) in
-          call_piece bl (at_line around line) more head body callee stands list next sized kind fits none same entering.enter found short (does' more refl deep) closed n f1 k line (omega (arith, e1, e2)) (back_of a c l) few serving1
+          call_piece bl (at_line around line) more head body callee stands list next sized main mains has kind fits none same entering.enter found short (does' more refl deep) closed n f1 k line (omega (arith, e1, e2)) around.turns i v.world.acts more' (omega arith) (back_of a c l) few serving1
           (counted_all (counted s.world) all)
           at1
           (λ s4 v4 line4 n4 h4 f4 serving4 all4 at4.

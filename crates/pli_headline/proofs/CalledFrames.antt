@@ -9,7 +9,7 @@ use Rattle.pli_typing.specs.TypedTree as Y
 use Rattle.pli_coding.specs.Frames.{fixed_size, frame_end, temporary_bytes}
 use Rattle.pli_coding.specs.Environments.{Owner, BlockOwner, Environment, in_frame, owned_by, none_taken}
 use Rattle.pli_coding.specs.Procedures.{procedure_environment}
-use Rattle.pli_headline.specs.ProvedSoFar.{Types, alone}
+use Rattle.pli_headline.specs.ProvedSoFar.{Types, OuterBlock, alone}
 use Rattle.pli_headline.proofs.Engine.{Base}
 use Rattle.pli_headline.proofs.Scalars.{Values, Fits, store_kind}
 use Rattle.pli_headline.proofs.Bodies.{Ground}
@@ -22,7 +22,7 @@ use Rattle.pli_headline.proofs.MainGround.{width_few}
 use Rattle.pli_headline.proofs.Activations.{rest_more}
 use Rattle.pli_serving.specs.ServiceState as S
 use Rattle.pli_headline.proofs.Entered.{atop}
-use Rattle.pli_headline.proofs.Statements.{IsOwned, Block}
+use Rattle.pli_headline.proofs.Statements.{IsOwned, owned_of, Enclosing, Block}
 use Rattle.pli_headline.proofs.InnerFrames.{Inside, inner_whole, inner_above, inner_put, inner_place, other_level}
 use Rattle.pli_meaning.specs.BasicValues.{BasicText}
 use Rattle.pli_serving.specs.Bytes.{with_bytes}
@@ -169,9 +169,9 @@ called_array bl callee back h0 t0 owner head free over on =
       writes = λ n p z inside old fits t b m len o. called_element_stored bl callee back h0 t0 on n p z inside old fits t b m len o;
     }
 
--- the block of a procedure or an on-unit, whatever block calls or raises it
-abbrev pub called_block_as : {e : Environment} {block : ℕ} {types : Types} (bl : Block e block types) (callee : Callee bl) (back : Base → ℕ) (h0 t0 : ℕ → ℕ) (owner : Owner) (kind : S.BlockKind) (head : Y.BlockHead) → head.level ≡ 1 → (IsOwned owner → frame_end e.parts e.program head.number head.level ≡ fixed_size 1 0) → Block (owned_by owner (in_frame head.number head.level e)) block types
-called_block_as {e} bl callee back h0 t0 owner kind head next size =
+-- the block of a procedure or an on-unit, whatever block calls or raises it, with the main procedure's around it
+abbrev pub called_block_as : {e : Environment} {block : ℕ} {types : Types} (bl : Block e block types) (callee : Callee bl) (back : Base → ℕ) (h0 t0 : ℕ → ℕ) (owner : Owner) (kind : S.BlockKind) (head : Y.BlockHead) → head.level ≡ 1 → (IsOwned owner → frame_end e.parts e.program head.number head.level ≡ fixed_size 1 0) → (o : OuterBlock) → Enclosing (owned_by owner (in_frame head.number head.level e)) o (called_ground bl callee back h0 t0) (λ j. bl.base) (callee.at ∷ bl.frames.list) (head.level ∷ e.level ∷ bl.depths) → Block (owned_by owner (in_frame head.number head.level e)) block types
+called_block_as {e} bl callee back h0 t0 owner kind head next size o c =
     let above = inner_above callee.at bl.stack.free callee.words callee.place in
     let high = bl.stack.high in
     let lowest = bl.stack.over in
@@ -206,7 +206,7 @@ called_block_as {e} bl callee back h0 t0 owner kind head next size =
       lead = bl.frames.list;
       leads = refl;
       ends = let room = callee.room in omega (arith, room);
-      sized = λ owned. ap (λ u. callee.at + u) (size owned);
+      sized = λ owned. ap (λ u. callee.at + u) (size (owned_of owner head.level next owned));
       own = λ n t b m o. o.own;
       stack = record {
         frame = callee.at;
@@ -241,11 +241,11 @@ called_block_as {e} bl callee back h0 t0 owner kind head next size =
         writes = λ n j varying most text at t b m len o. called_text_writes bl callee back h0 t0 n j varying most text at t b m len o;
       };
       arrays = λ j type b bs at. called_array bl callee back h0 t0 owner head (callee.at + fixed_size 1 0) (omega arith) (bl.arrays j type b bs at);
-      outer = [];
-      enclosing = tt;
+      outer = o ∷ [];
+      enclosing = (c, tt);
     }
 
 -- the block of a procedure
-abbrev pub called_block : {e : Environment} {block : ℕ} {types : Types} (bl : Block e block types) (callee : Callee bl) (back : Base → ℕ) (h0 t0 : ℕ → ℕ) (head : Y.BlockHead) → head.level ≡ 1 → frame_end e.parts e.program head.number head.level ≡ fixed_size 1 0 → Block (procedure_environment head e) block types
-called_block bl callee back h0 t0 head next size =
-    called_block_as bl callee back h0 t0 (BlockOwner (record { number = head.number; level = head.level })) S.ProcedureBlock head next (λ owned. size)
+abbrev pub called_block : {e : Environment} {block : ℕ} {types : Types} (bl : Block e block types) (callee : Callee bl) (back : Base → ℕ) (h0 t0 : ℕ → ℕ) (head : Y.BlockHead) → head.level ≡ 1 → frame_end e.parts e.program head.number head.level ≡ fixed_size 1 0 → (o : OuterBlock) → Enclosing (procedure_environment head e) o (called_ground bl callee back h0 t0) (λ j. bl.base) (callee.at ∷ bl.frames.list) (head.level ∷ e.level ∷ bl.depths) → Block (procedure_environment head e) block types
+called_block bl callee back h0 t0 head next size o c =
+    called_block_as bl callee back h0 t0 (BlockOwner (record { number = head.number; level = head.level })) S.ProcedureBlock head next (λ owned. size) o c

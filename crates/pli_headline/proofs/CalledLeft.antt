@@ -52,14 +52,7 @@ return_sum b x j near e = let v = b.valid.1 in omega (arith, e, near, v)
 abbrev pub ending_ground : {e : Environment} {block : ℕ} {types : Types} (bl : Block e block types) → Callee bl → (back : Base → ℕ) → (h0 t0 : ℕ → ℕ) → Values → (free : ℕ) → Ground
 ending_ground bl callee back h0 t0 n free = lower_ground (called_ground bl callee back h0 t0 n) free
 
-pub saved_in : {e : Environment} {block : ℕ} {types : Types} (bl : Block e block types) (callee : Callee bl) (back : Base → ℕ) (h0 t0 : ℕ → ℕ) (n : Values) (t : ℕ → ℕ) → SavedIn (called_ground bl callee back h0 t0 n) t back h0
-saved_in bl callee back h0 t0 n t =
-    let above = inner_above callee.at bl.stack.free callee.words callee.place in
-    let room = callee.room in
-    let high = bl.stack.high in
-    record { high = omega (arith, above, high); room = omega (arith, room); has = λ b m o. o.kept.1 }
-
-ending_saved : {e : Environment} {block : ℕ} {types : Types} (bl : Block e block types) (callee : Callee bl) (back : Base → ℕ) (h0 t0 : ℕ → ℕ) (n : Values) (free : ℕ) (t : ℕ → ℕ) → SavedIn (ending_ground bl callee back h0 t0 n free) t back h0
+pub ending_saved : {e : Environment} {block : ℕ} {types : Types} (bl : Block e block types) (callee : Callee bl) (back : Base → ℕ) (h0 t0 : ℕ → ℕ) (n : Values) (free : ℕ) (t : ℕ → ℕ) → SavedIn (ending_ground bl callee back h0 t0 n free) t back h0
 ending_saved bl callee back h0 t0 n free t =
     let above = inner_above callee.at bl.stack.free callee.words callee.place in
     let room = callee.room in

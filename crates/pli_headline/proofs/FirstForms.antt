@@ -120,13 +120,13 @@ statements_stay block count number level all blocks outer around (Y.StmtThen lab
     (statement_stays block count number level all blocks outer around first h.0, statements_stay block count number level all blocks outer around rest h.1)
 
 -- nor calls
-statement_calls : (block count : ℕ) (may : List ℕ) (x : Y.Stmt) → IsFirstStatement block count x → CallsAmong may x
+statement_calls : (block count : ℕ) (may : List ℕ) (x : Y.Stmt) → IsFirstStatement block count x → CallsAmong may true x
 statement_calls block count may (Y.Null line) h = tt
 statement_calls block count may (Y.Assign target (Y.StoredNumber precision x) line) h = tt
 statement_calls block count may (Y.Put None pairs line) h = tt
 statement_calls block count may _ h = absurd h
 
-pub statements_call : (block count : ℕ) (may : List ℕ) (body : Y.Stmts) → AreFirstStatements block count body → AllCallAmong may body
+pub statements_call : (block count : ℕ) (may : List ℕ) (body : Y.Stmts) → AreFirstStatements block count body → AllCallAmong may true body
 statements_call block count may (Y.EndOfList labels) h = tt
 statements_call block count may (Y.StmtThen labels first rest) h =
     (statement_calls block count may first h.0, statements_call block count may rest h.1)

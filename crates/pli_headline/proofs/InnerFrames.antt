@@ -190,6 +190,9 @@ other_level level outer e = grind (arith, nat_tests)
 
 -- ---- blocks around it
 
+pub level_first : (level : ℕ) → level ≡ 0 → (0 == level) ≡ true
+level_first level same = grind (arith, nat_tests)
+
 pub lower_apart : (level outer : ℕ) → level < outer → (level == outer) ≡ false
 lower_apart level outer below = grind (arith, nat_tests)
 
@@ -219,7 +222,8 @@ inner_own {e} bl inner t0 number level next =
       count = 0;
       behind = bl.lead;
       depths = bl.depths;
-      rises = ((omega (arith, above, over), next), (bl.leads, refl));
+      lowest = λ same. bl.shallow (level_first e.level same);
+      rises = ((omega (arith, above, over), inl next), (bl.leads, refl));
     }
 
 -- those around that one
@@ -246,7 +250,8 @@ inner_outer {e} bl inner t0 number level next o c =
       count = suc c.count;
       behind = c.behind;
       depths = c.depths;
-      rises = ((omega (arith, above, over, high), next), c.rises);
+      lowest = c.lowest;
+      rises = ((omega (arith, above, over, high), inl next), c.rises);
     }
 
 abbrev pub inner_outers : {e : Environment} {block : ℕ} {types : Types} (bl : Block e block types) (inner : Inner bl) (t0 : ℕ → ℕ) (number level : ℕ) → level ≡ suc e.level → (os : List OuterBlock) → Enclosures e bl.ground bl.levels bl.frames.list (e.level ∷ bl.depths) os → Enclosures (in_frame number level e) (inner_ground bl inner t0) (inner_levels bl) (inner.at ∷ bl.frames.list) (level ∷ e.level ∷ bl.depths) os

@@ -155,7 +155,7 @@ mutual
   inside_size e t block types has (Y.Signal condition line) is = omega arith
   inside_size e t block types has (Y.OnSystem condition line) is = omega arith
   inside_size e t block types has (Y.Revert condition line) is = omega arith
-  inside_size e t block types has (Y.OnUnit condition (Y.BlockOf head (Y.StmtThen [] x (Y.EndOfList []))) line) is = omega arith
+  inside_size e t block types has (Y.OnUnit condition (Y.BlockOf head body) line) is = omega arith
   inside_size e t block types has (Y.Put None pairs line) is = omega arith
   inside_size e t block types has (Y.Put (Some n) pairs line) is = omega arith
   inside_size e t block types has (Y.Get None pairs line) is = omega arith
@@ -335,7 +335,7 @@ mutual
   statement_inner e t block types has (Y.Signal condition line) is = omega arith
   statement_inner e t block types has (Y.OnSystem condition line) is = omega arith
   statement_inner e t block types has (Y.Revert condition line) is = omega arith
-  statement_inner e t block types has (Y.OnUnit condition (Y.BlockOf head (Y.StmtThen [] x (Y.EndOfList []))) line) is = omega arith
+  statement_inner e t block types has (Y.OnUnit condition (Y.BlockOf head body) line) is = omega arith
   statement_inner e t block types has (Y.Put None pairs line) is =
       let m = statement_size e t block types has (Y.Put None pairs line) is in omega (arith, m)
   statement_inner e t block types has (Y.Put (Some n) pairs line) is =

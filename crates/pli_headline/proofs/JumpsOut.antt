@@ -201,7 +201,7 @@ own_out_does {e} {block} {types} bl links code around {o} d label line outs owne
           let l2 = front_of (u' ++ p) j l1 in
           let l3 = back_of (u' ++ p) j l1 in
           let ends = d.ends in
-          let sized = d.sized owned in
+          let sized = d.sized (inr owned) in
           let frame = d.frame_is n in
           let free = d.free_is n in
           let s1 = with_world (counted s.world) s in

@@ -6,6 +6,7 @@ use Rattle.rv_meaning.specs.declared.instr.Register.{Register}
 use Rattle.pli_typing.specs.TypedTree as Y
 use Rattle.pli_meaning.specs.Control.{Label}
 use Rattle.pli_meaning.specs.DeclaredShapes.{variables_of_block, procedure_numbered, head_of}
+use Rattle.pli_meaning.specs.Executing.{labels_in}
 use Rattle.pli_coding.specs.Registers.{frame_register, stack_register, a0, a1, a2, a3, a4, u0, u5}
 use Rattle.pli_coding.specs.Assembly.{Datum, Symbol, ProcedureEntry, ReturnPlace, LabelPlace, RaiseCondition, RaiseError, ErrorEnd}
 use Rattle.pli_coding.specs.Instructions.{move, small, number, plus, load_word, service}
@@ -21,7 +22,7 @@ use Rattle.pli_coding.specs.Procedures.{procedure_begun, procedure_ended, proced
 use Rattle.pli_coding.specs.Images.{blocks_among, blocks_of_procedure, with_blocks, blocks_of, environment_of, raise_code, code_of}
 use Rattle.pli_coding.specs.Linking.{links_of}
 use Rattle.pli_headline.specs.Headline.{parts}
-use Rattle.pli_headline.specs.ProvedSoFar.{plain_variable, ArePlain, AllPlain, types_of, AreProvedStatements, AreBare, all_labels, array_variable, number_times, AreInner, procedure_labels}
+use Rattle.pli_headline.specs.ProvedSoFar.{plain_variable, ArePlain, AllPlain, types_of, AreProvedStatements, AreBare, all_labels, array_variable, AllJumpAround, number_times, AreInner, procedure_labels, times, is_number, AllCallAmong}
 use Rattle.pli_headline.proofs.Linking.{times_marked}
 use Rattle.pli_headline.proofs.FirstFrame.{start_of}
 use Rattle.pli_headline.proofs.Marks.{others_code, code_is}
@@ -32,6 +33,7 @@ use Rattle.pli_headline.proofs.Gotos.{LabelsStand}
 use Rattle.pli_headline.proofs.ProgramSizes.{frame_filled}
 use Rattle.pli_headline.proofs.SymbolsMarked.{symbols_marked, Marks, both_mark, behind, constant_none, load_none, plus_none, act_none}
 use Rattle.pli_headline.proofs.InnerLevels.{IsAmong, InOrder, among_all, among_with, in_order, last_is}
+use Rattle.pli_headline.proofs.Stands.{Stand, all_stands, labels_are, ends_apart, own_units, called_units}
 use Rattle.pli_headline.proofs.StatementMarks.{places_of, statements_mark}
 use Rattle.pli_headline.proofs.ArrayElements.{size_constant}
 use Rattle.pli_headline.proofs.ProcedurePlaces.{entry_behind, entry_times, ends_behind, ends_times}
@@ -86,7 +88,7 @@ prologue_none e block line words plain =
     (behind made act [] (variables_none e line 0 (variables_of_block e.program e.block) plain) (act_none line)))
 
 -- the symbols of the whole program
-abbrev program_symbols : (block : ℕ) → List (ℕ × Label) → List Y.Procedure → List Symbol
+abbrev program_symbols : (block : ℕ) → List Stand → List Y.Procedure → List Symbol
 program_symbols block labels others =
     RaiseCondition
     ∷ RaiseError
@@ -94,7 +96,7 @@ program_symbols block labels others =
     ∷ ProcedureEntry block
     ∷ ((places_of labels ++ ReturnPlace block ∷ []) ++ procedure_symbols others)
 
-program_marks : (program : Y.Program) (block line : ℕ) (body : Y.Stmts) → AllPlain program.variables → (all : List (ℕ × Label)) (called : List ℕ) (alone : IsAlone program block line body) → AreProvedStatements block (types_of (variables_of_block program block)) body → AreBare program body → AreInner program block all called alone.others → Marks (code_of parts program) (program_symbols block (all_labels block body) alone.others)
+program_marks : (program : Y.Program) (block line : ℕ) (body : Y.Stmts) → AllPlain program.variables → (all : List (ℕ × Label)) (called : List ℕ) (alone : IsAlone program block line body) → AreProvedStatements block (types_of (variables_of_block program block)) body → AreBare program body → AreInner program block all called alone.others → Marks (code_of parts program) (program_symbols block (all_stands block body) alone.others)
 program_marks program block line body plain all called alone are bare others =
     let e = main_environment program block in
     let words = block_words e block (stmts_words body) in
@@ -104,12 +106,12 @@ program_marks program block line body plain all called alone are bare others =
     let main = procedure_in e (main_head block line) body [] None in
     let rest = others_code program alone.others in
     let has : HasTypes e block (types_of (variables_of_block program block)) = λ j kind at. declared_at (variables_of_block program block) j (main_plain program block plain) at in
-    let ss = places_of (all_labels block body) ++ ReturnPlace block ∷ [] in
+    let ss = places_of (all_stands block body) ++ ReturnPlace block ∷ [] in
     let inside : Marks (begun ++ (code ++ ended)) ss =
     behind begun (code ++ ended) ss (prologue_none e block line words (main_plain program block plain))
-    (both_mark code ended (places_of (all_labels block body)) (ReturnPlace block ∷ []) (statements_mark e none_taken block (types_of (variables_of_block program block)) body has are bare) (ended_marks e (main_head block line) words)) in
+    (both_mark code ended (places_of (all_stands block body)) (ReturnPlace block ∷ []) (statements_mark e none_taken block (types_of (variables_of_block program block)) body has are bare) (ended_marks e (main_head block line) words)) in
     ap symbols_marked (code_is program block line body plain alone)
-    ∙ behind (start_of block) (raise_code ++ (main ++ rest)) (program_symbols block (all_labels block body) alone.others) refl
+    ∙ behind (start_of block) (raise_code ++ (main ++ rest)) (program_symbols block (all_stands block body) alone.others) refl
     (both_mark raise_code (main ++ rest) (RaiseCondition ∷ RaiseError ∷ ErrorEnd ∷ []) (ProcedureEntry block ∷ (ss ++ procedure_symbols alone.others)) refl
     (both_mark main rest (ProcedureEntry block ∷ ss) (procedure_symbols alone.others) (ap (λ us. ProcedureEntry block ∷ us) inside)
     (procedures_mark (environment_of parts program) block all called alone.others has others)))
@@ -174,21 +176,22 @@ bare_sized program block line body all called alone inner number level none =
 
 -- ---- the labels
 
-pub labels_stand : (program : Y.Program) (block line : ℕ) (body : Y.Stmts) (called : List ℕ) → AllPlain program.variables → (alone : IsAlone program block line body) → AreProvedStatements block (types_of (variables_of_block program block)) body → AreBare program body → AreInner program block (all_labels block body ++ procedure_labels alone.others) called alone.others → LabelsStand (main_environment program block) (links_of (code_of parts program)) (all_labels block body ++ procedure_labels alone.others) block true
-labels_stand program block line body called plain alone are bare inner =
+pub labels_stand : (program : Y.Program) (block line : ℕ) (body : Y.Stmts) (called : List ℕ) → AllPlain program.variables → (alone : IsAlone program block line body) → AreProvedStatements block (types_of (variables_of_block program block)) body → AreBare program body → AllJumpAround block 0 (all_labels block body ++ procedure_labels alone.others) (blocks_of program.procedures) [] (labels_in body) body → AreInner program block (all_labels block body ++ procedure_labels alone.others) called alone.others → LabelsStand (main_environment program block) (links_of (code_of parts program)) (all_labels block body ++ procedure_labels alone.others) block true
+labels_stand program block line body called plain alone are bare jumps inner =
     record {
       own = own_block program block line body alone;
       found = blocks_found program;
       once = λ number label h.
           times_are (LabelPlace number label) 0 (code_of parts program)
           ∙ ap (symbol_times (LabelPlace number label)) (program_marks program block line body plain _ _ alone are bare inner)
-          ∙ labels_before block number label (all_labels block body) (procedure_labels alone.others) (procedure_symbols alone.others) (procedure_times number label alone.others)
+          ∙ labels_before block number label (all_stands block body) (procedure_labels alone.others) (procedure_symbols alone.others) (procedure_times number label alone.others)
+          ∙ ap (λ ls. times number label (ls ++ procedure_labels alone.others)) (labels_are block body)
           ∙ h;
       owner = λ q. refl;
       ended = λ q.
           times_are (ReturnPlace block) 0 (code_of parts program)
           ∙ ap (symbol_times (ReturnPlace block)) (program_marks program block line body plain _ _ alone are bare inner)
-          ∙ end_times block (all_labels block body) (procedure_symbols alone.others) (eq-eqb block block refl) (others_end program block _ _ alone.others inner);
+          ∙ end_times block (all_stands block body) (procedure_symbols alone.others) (eq-eqb block block refl) (ends_apart block block body (own_units block 0 _ _ [] (labels_in body) body jumps)) (others_end program block _ _ alone.others inner);
       lower = omega arith;
       owned = tt;
       shallow = omega arith;
@@ -198,21 +201,21 @@ labels_stand program block line body called plain alone are bare inner =
 -- the entry of a procedure inside it is marked once
 pub entry_stands : (program : Y.Program) (block line : ℕ) (body : Y.Stmts) (called : List ℕ) → AllPlain program.variables → (alone : IsAlone program block line body) → AreProvedStatements block (types_of (variables_of_block program block)) body → AreBare program body → AreInner program block (all_labels block body ++ procedure_labels alone.others) called alone.others → (number : ℕ) → (number == block) ≡ false → number_times number alone.others ≡ 1 → times_marked (ProcedureEntry number) (links_of (code_of parts program)).marks ≡ 1
 entry_stands program block line body called plain alone are bare inner number apart once =
-    let rest = symbol_times (ProcedureEntry number) ((places_of (all_labels block body) ++ ReturnPlace block ∷ []) ++ procedure_symbols alone.others) in
+    let rest = symbol_times (ProcedureEntry number) ((places_of (all_stands block body) ++ ReturnPlace block ∷ []) ++ procedure_symbols alone.others) in
     times_are (ProcedureEntry number) 0 (code_of parts program)
     ∙ ap (symbol_times (ProcedureEntry number)) (program_marks program block line body plain _ _ alone are bare inner)
     ∙ ap (λ q. cond q (suc rest) rest) apart
-    ∙ entry_behind number block (all_labels block body) (procedure_symbols alone.others)
+    ∙ entry_behind number block (all_stands block body) (procedure_symbols alone.others)
     ∙ entry_times number alone.others
     ∙ once
 
 -- and its end
-pub end_stands : (program : Y.Program) (block line : ℕ) (body : Y.Stmts) (called : List ℕ) → AllPlain program.variables → (alone : IsAlone program block line body) → AreProvedStatements block (types_of (variables_of_block program block)) body → AreBare program body → AreInner program block (all_labels block body ++ procedure_labels alone.others) called alone.others → (number : ℕ) → (number == block) ≡ false → number_times number alone.others ≡ 1 → times_marked (ReturnPlace number) (links_of (code_of parts program)).marks ≡ 1
-end_stands program block line body called plain alone are bare inner number apart once =
+pub end_stands : (program : Y.Program) (block line : ℕ) (body : Y.Stmts) (called : List ℕ) → AllPlain program.variables → (alone : IsAlone program block line body) → AreProvedStatements block (types_of (variables_of_block program block)) body → AreBare program body → AreInner program block (all_labels block body ++ procedure_labels alone.others) called alone.others → (number : ℕ) → (number == block) ≡ false → number_times number alone.others ≡ 1 → is_number number called ≡ true → AllCallAmong called true body → times_marked (ReturnPlace number) (links_of (code_of parts program)).marks ≡ 1
+end_stands program block line body called plain alone are bare inner number apart once among calls =
     let rest = symbol_times (ReturnPlace number) (procedure_symbols alone.others) in
     times_are (ReturnPlace number) 0 (code_of parts program)
     ∙ ap (symbol_times (ReturnPlace number)) (program_marks program block line body plain _ _ alone are bare inner)
-    ∙ ends_behind number block (all_labels block body) (procedure_symbols alone.others)
+    ∙ ends_behind number block (all_stands block body) (procedure_symbols alone.others) (ends_apart number block body (called_units number called true body among calls))
     ∙ ap (λ q. cond q (suc rest) rest) apart
-    ∙ ends_times number alone.others
+    ∙ ends_times number program block _ called alone.others inner
     ∙ once

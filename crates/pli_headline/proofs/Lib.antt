@@ -99,6 +99,9 @@ pub mod BeginEntered
 pub mod CalledEntered
 pub mod CalledLeft
 pub mod CallMeant
+pub mod MainOutlets
+pub mod MoreAround
+pub mod CalledJumps
 pub mod CallRuns
 pub mod BeginMeant
 pub mod FormatData
@@ -182,6 +185,7 @@ pub mod ExpressionMarks
 pub mod ArrayMarks
 pub mod PutMarks
 pub mod GetMarks
+pub mod Stands
 pub mod StatementMarks
 pub mod ProcedureMarks
 pub mod ProcedurePlaces

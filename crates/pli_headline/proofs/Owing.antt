@@ -3,6 +3,7 @@
 use Rattle.std.proofs.Common.{◌≡◌, ℕ, ◌+◌, ◌*◌, ◌≤◌, List, refl, ap, ◌∙◌, arith}
 use Rattle.rv_meaning.specs.declared.instr.Instr.{Instr}
 use Rattle.pli_serving.specs.ServiceState.{Services}
+use Rattle.pli_meaning.specs.StorageState.{State}
 use Rattle.pli_meaning.specs.Control as F
 use Rattle.pli_meaning.specs.Control.{Flow, Normal, Jump, Return, Paused, Stuck}
 use Rattle.image_runs.specs.Runs.{Whole, Runs, run_on}
@@ -97,3 +98,8 @@ pub done_owing : {R : Type 0} {code : List Instr} {aims : Aims R} {i : ℕ} {f :
 done_owing closed debt j few r x s goal i0 f0 v0 from =
     let q = repaid debt j few r from in
     closed.done q x s (goal (reached q) (reached_holds q))
+
+pub jumped_owing : {R : Type 0} {code : List Instr} {aims : Aims R} {i : ℕ} {f : Family} {v : Services} (Q : Base → Whole → Type 0) (closed : Closed code aims) (debt : ℕ) → ((b : Base) → Q b (f b)) → (height : ℕ) (label : F.Label) (s : State) → ((f' : Family) → ((b : Base) → Q b (f' b)) → aims.jumped i f' v height label s) → (owing code debt aims).jumped i f v height label s
+jumped_owing {code = code} {i = i} {f = f} {v = v} Q closed debt holds height label s goal i0 f0 v0 from =
+    let q = repaid debt i (omega arith) (stay code i f v Q holds) from in
+    closed.jumped q height label s (goal (reached q) (reached_holds q))

@@ -1,10 +1,11 @@
 -- The code of procedures inside the main one marks their entries, their labels and their ends; and how often a label or an end is marked.
-use Rattle.std.proofs.Common.{◌≡◌, ℕ, suc, ◌+◌, ◌*◌, List, [], ◌∷◌, ◌++◌, None, false, true, refl, sym, ap, ◌∙◌, subst}
+use Rattle.std.proofs.Common.{◌≡◌, ℕ, suc, ◌+◌, ◌*◌, List, [], ◌∷◌, ◌++◌, None, Some, false, true, refl, sym, ap, ◌∙◌, subst}
 use Rattle.std.specs.Prelude.{ℤ, pos, neg_ℤ, cond, ◌==◌, ◌&&◌, if◌then◌else◌}
 use Rattle.rv_meaning.specs.declared.instr.Instr.TheVariants as I
 use Rattle.pli_language.specs.Keywords.{same_bytes}
 use Rattle.pli_typing.specs.TypedTree as Y
 use Rattle.pli_meaning.specs.Control.{Label}
+use Rattle.pli_meaning.specs.Executing.{labels_in}
 use Rattle.pli_meaning.specs.DeclaredShapes.{variables_of_block}
 use Rattle.pli_coding.specs.Registers.{zero_register, return_register, frame_register, stack_register, a1, a2, a3, u5}
 use Rattle.pli_coding.specs.Assembly.{Symbol, ProcedureEntry, ReturnPlace, LabelPlace, same_symbol, Plain, BaseIn, OffsetOf, OffsetAhead, JumpTo, CallTo, JumpAhead, JumpBack, Mark, Code, item_size}
@@ -15,10 +16,12 @@ use Rattle.pli_coding.specs.Allocating.{act_code}
 use Rattle.pli_coding.specs.Entries.{frame_begun, block_entered, variables_made, variables_code}
 use Rattle.pli_coding.specs.Statements.{stmts_code, stmts_words, block_words}
 use Rattle.pli_coding.specs.Procedures.{procedure_environment, procedure_begun, procedure_ended, procedure_in, procedures_code}
+use Rattle.pli_coding.specs.Images.{blocks_of}
 use Rattle.pli_coding.specs.Linking.{marks_from}
-use Rattle.pli_headline.specs.ProvedSoFar.{Types, types_of, AreProvedStatements, AreBare, AreInner, times, all_labels, block_labels, procedure_labels}
+use Rattle.pli_headline.specs.ProvedSoFar.{Types, types_of, AreProvedStatements, AreBare, main_outer, IsInner, AreInner, times, block_labels, procedure_labels}
 use Rattle.pli_headline.proofs.Linking.{times_marked}
 use Rattle.pli_headline.proofs.SymbolsMarked.{symbols_marked, Marks, both_mark, behind, constant_none, plus_none, act_none}
+use Rattle.pli_headline.proofs.Stands.{Stand, all_stands, labels_among, labels_are, EndsApart, ends_apart, no_units}
 use Rattle.pli_headline.proofs.StatementMarks.{places_of, called_begun_none, statements_mark}
 use Rattle.pli_headline.proofs.Variables.{HasTypes}
 
@@ -44,7 +47,7 @@ ended_marks e head words =
 
 abbrev pub block_symbols : Y.Block → List Symbol
 block_symbols (Y.BlockOf head body) =
-    ProcedureEntry head.number ∷ (places_of (all_labels head.number body) ++ ReturnPlace head.number ∷ [])
+    ProcedureEntry head.number ∷ (places_of (all_stands head.number body) ++ ReturnPlace head.number ∷ [])
 
 abbrev pub procedure_symbols : List Y.Procedure → List Symbol
 procedure_symbols [] = []
@@ -57,7 +60,7 @@ procedure_marks e block types head body has none are bare =
     let begun = procedure_begun e' head words [] in
     let code = stmts_code e' none_taken body in
     let ended = procedure_ended e' head words None in
-    let ss = places_of (all_labels head.number body) in
+    let ss = places_of (all_stands head.number body) in
     ap (λ us. ProcedureEntry head.number ∷ us)
     (behind begun (code ++ ended) (ss ++ ReturnPlace head.number ∷ []) (begun_none e' head words none)
     (both_mark code ended ss (ReturnPlace head.number ∷ []) (statements_mark e' none_taken block types body has are bare) (ended_marks e' head words)))
@@ -92,29 +95,42 @@ times_are s at (JumpBack words ∷ xs) = times_are s (at + 4 * item_size (JumpBa
 times_are s at (Mark y ∷ xs) = ap (λ n. cond (same_symbol s y) (suc n) n) (times_are s at xs)
 
 -- the labels of a procedure, before others
-pub labels_before : (number block : ℕ) (label : Label) (ps qs : List (ℕ × Label)) (ss : List Symbol) → symbol_times (LabelPlace block label) ss ≡ times block label qs → symbol_times (LabelPlace block label) ((places_of ps ++ ReturnPlace number ∷ []) ++ ss) ≡ times block label (ps ++ qs)
+pub labels_before : (number block : ℕ) (label : Label) (ps : List Stand) (qs : List (ℕ × Label)) (ss : List Symbol) → symbol_times (LabelPlace block label) ss ≡ times block label qs → symbol_times (LabelPlace block label) ((places_of ps ++ ReturnPlace number ∷ []) ++ ss) ≡ times block label (labels_among ps ++ qs)
 labels_before number block label [] qs ss h = h
-labels_before number block label (p ∷ ps) qs ss h =
-    ap (λ n. cond ((block == p.0) && same_bytes label p.1) (suc n) n) (labels_before number block label ps qs ss h)
+labels_before number block label ((m, Some l) ∷ ps) qs ss h =
+    ap (λ n. cond ((block == m) && same_bytes label l) (suc n) n) (labels_before number block label ps qs ss h)
+labels_before number block label ((m, None) ∷ ps) qs ss h = labels_before number block label ps qs ss h
 
 block_times : (block : ℕ) (label : Label) (b : Y.Block) (ps : List Y.Procedure) → symbol_times (LabelPlace block label) (procedure_symbols ps) ≡ times block label (procedure_labels ps) → symbol_times (LabelPlace block label) (block_symbols b ++ procedure_symbols ps) ≡ times block label (block_labels b ++ procedure_labels ps)
 block_times block label (Y.BlockOf head body) ps h =
-    labels_before head.number block label (all_labels head.number body) (procedure_labels ps) (procedure_symbols ps) h
+    labels_before head.number block label (all_stands head.number body) (procedure_labels ps) (procedure_symbols ps) h
+    ∙ ap (λ ls. times block label (ls ++ procedure_labels ps)) (labels_are head.number body)
 
 pub procedure_times : (block : ℕ) (label : Label) (ps : List Y.Procedure) → symbol_times (LabelPlace block label) (procedure_symbols ps) ≡ times block label (procedure_labels ps)
 procedure_times block label [] = refl
 procedure_times block label (p ∷ ps) = block_times block label p.block ps (procedure_times block label ps)
 
 -- the end of a procedure
-pub end_times : (block : ℕ) (ps : List (ℕ × Label)) (ss : List Symbol) → (block == block) ≡ true → symbol_times (ReturnPlace block) ss ≡ 0 → symbol_times (ReturnPlace block) ((places_of ps ++ ReturnPlace block ∷ []) ++ ss) ≡ 1
-end_times block [] ss same none =
+pub end_times : (block : ℕ) (ps : List Stand) (ss : List Symbol) → (block == block) ≡ true → EndsApart block ps → symbol_times (ReturnPlace block) ss ≡ 0 → symbol_times (ReturnPlace block) ((places_of ps ++ ReturnPlace block ∷ []) ++ ss) ≡ 1
+end_times block [] ss same apart none =
     ap (λ q. cond q (suc (symbol_times (ReturnPlace block) ss)) (symbol_times (ReturnPlace block) ss)) same ∙ ap (λ n. suc n) none
-end_times block (p ∷ ps) ss same none = end_times block ps ss same none
+end_times block ((m, Some l) ∷ ps) ss same apart none = end_times block ps ss same apart none
+end_times block ((m, None) ∷ ps) ss same apart none =
+    let rest = symbol_times (ReturnPlace block) ((places_of ps ++ ReturnPlace block ∷ []) ++ ss) in
+    ap (λ q. cond q (suc rest) rest) apart.0 ∙ end_times block ps ss same apart.1 none
 
-other_end : (block number : ℕ) (ps : List (ℕ × Label)) (ss : List Symbol) → (block == number) ≡ false → symbol_times (ReturnPlace block) ss ≡ 0 → symbol_times (ReturnPlace block) ((places_of ps ++ ReturnPlace number ∷ []) ++ ss) ≡ 0
-other_end block number [] ss apart none =
-    ap (λ q. cond q (suc (symbol_times (ReturnPlace block) ss)) (symbol_times (ReturnPlace block) ss)) apart ∙ none
-other_end block number (p ∷ ps) ss apart none = other_end block number ps ss apart none
+other_end : (block number : ℕ) (ps : List Stand) (ss : List Symbol) → (block == number) ≡ false → EndsApart block ps → symbol_times (ReturnPlace block) ss ≡ 0 → symbol_times (ReturnPlace block) ((places_of ps ++ ReturnPlace number ∷ []) ++ ss) ≡ 0
+other_end block number [] ss other apart none =
+    ap (λ q. cond q (suc (symbol_times (ReturnPlace block) ss)) (symbol_times (ReturnPlace block) ss)) other ∙ none
+other_end block number ((m, Some l) ∷ ps) ss other apart none = other_end block number ps ss other apart none
+other_end block number ((m, None) ∷ ps) ss other apart none =
+    let rest = symbol_times (ReturnPlace block) ((places_of ps ++ ReturnPlace number ∷ []) ++ ss) in
+    ap (λ q. cond q (suc rest) rest) apart.0 ∙ other_end block number ps ss other apart.1 none
+
+-- those in a procedure's statements are none but its own
+pub inner_ends : (number : ℕ) {program : Y.Program} {block : ℕ} {all : List (ℕ × Label)} {called : List ℕ} {p : Y.Procedure} (q : IsInner program block all called p) → EndsApart number (all_stands q.head.number q.body)
+inner_ends number {program = program} {block = block} {all = all} q =
+    ends_apart number q.head.number q.body (no_units number q.head.number 1 all (blocks_of program.procedures) (main_outer block program.procedures ∷ []) (labels_in q.body) q.body refl q.jumps)
 
 -- which isn't that of the others
 pub others_end : (program : Y.Program) (block : ℕ) (all : List (ℕ × Label)) (called : List ℕ) (ps : List Y.Procedure) → AreInner program block all called ps → symbol_times (ReturnPlace block) (procedure_symbols ps) ≡ 0
@@ -122,4 +138,4 @@ others_end program block all called [] inner = refl
 others_end program block all called (p ∷ ps) inner =
     let q = inner.0 in
     subst (λ (r : Y.Procedure). symbol_times (ReturnPlace block) (procedure_symbols (r ∷ ps)) ≡ 0) (sym q.is)
-    (other_end block q.head.number (all_labels q.head.number q.body) (procedure_symbols ps) q.apart (others_end program block all called ps inner.1))
+    (other_end block q.head.number (all_stands q.head.number q.body) (procedure_symbols ps) q.apart (inner_ends block q) (others_end program block all called ps inner.1))

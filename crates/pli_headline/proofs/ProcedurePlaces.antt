@@ -12,41 +12,46 @@ use Rattle.pli_coding.specs.Environments.{Environment, BlockPlace}
 use Rattle.pli_coding.specs.Procedures.{procedure_environment, procedure_in, procedures_code}
 use Rattle.pli_coding.specs.Images.{blocks_of, blocks_of_procedure}
 use Rattle.pli_coding.specs.Linking.{Links}
-use Rattle.pli_headline.specs.ProvedSoFar.{all_labels, IsInner, AreInner, is_number, number_times, AllOnce}
+use Rattle.pli_headline.specs.ProvedSoFar.{IsInner, AreInner, is_number, number_times, AllOnce}
 use Rattle.pli_headline.proofs.Items.{Linked}
 use Rattle.pli_headline.proofs.Jumps.{front_of, back_of}
 use Rattle.pli_headline.proofs.InnerLevels.{IsAmong, among_all, among_with}
+use Rattle.pli_headline.proofs.Stands.{Stand, all_stands, EndsApart}
 use Rattle.pli_headline.proofs.StatementMarks.{places_of}
-use Rattle.pli_headline.proofs.ProcedureMarks.{block_symbols, procedure_symbols, symbol_times}
+use Rattle.pli_headline.proofs.ProcedureMarks.{block_symbols, procedure_symbols, symbol_times, inner_ends}
 use Rattle.pli_headline.proofs.CallMeant.{plain_procedure}
 
 -- ---- how often an entry is marked, and an end
 
 -- labels and ends are none
-pub entry_behind : (number block : ℕ) (ps : List (ℕ × Label)) (ss : List Symbol) → symbol_times (ProcedureEntry number) ((places_of ps ++ ReturnPlace block ∷ []) ++ ss) ≡ symbol_times (ProcedureEntry number) ss
+pub entry_behind : (number block : ℕ) (ps : List Stand) (ss : List Symbol) → symbol_times (ProcedureEntry number) ((places_of ps ++ ReturnPlace block ∷ []) ++ ss) ≡ symbol_times (ProcedureEntry number) ss
 entry_behind number block [] ss = refl
-entry_behind number block (p ∷ ps) ss = entry_behind number block ps ss
+entry_behind number block ((m, Some l) ∷ ps) ss = entry_behind number block ps ss
+entry_behind number block ((m, None) ∷ ps) ss = entry_behind number block ps ss
 
 block_entries : (number : ℕ) (b : Y.Block) (ps : List Y.Procedure) → symbol_times (ProcedureEntry number) (procedure_symbols ps) ≡ number_times number ps → symbol_times (ProcedureEntry number) (block_symbols b ++ procedure_symbols ps) ≡ number_times number (record { block = b; parameters = []; result = None } ∷ ps)
 block_entries number (Y.BlockOf head body) ps h =
-    ap (λ n. cond (number == head.number) (suc n) n) (entry_behind number head.number (all_labels head.number body) (procedure_symbols ps) ∙ h)
+    ap (λ n. cond (number == head.number) (suc n) n) (entry_behind number head.number (all_stands head.number body) (procedure_symbols ps) ∙ h)
 
 pub entry_times : (number : ℕ) (ps : List Y.Procedure) → symbol_times (ProcedureEntry number) (procedure_symbols ps) ≡ number_times number ps
 entry_times number [] = refl
 entry_times number (p ∷ ps) = block_entries number p.block ps (entry_times number ps)
 
 -- and their ends
-pub ends_behind : (number block : ℕ) (ps : List (ℕ × Label)) (ss : List Symbol) → symbol_times (ReturnPlace number) ((places_of ps ++ ReturnPlace block ∷ []) ++ ss) ≡ cond (number == block) (suc (symbol_times (ReturnPlace number) ss)) (symbol_times (ReturnPlace number) ss)
-ends_behind number block [] ss = refl
-ends_behind number block (p ∷ ps) ss = ends_behind number block ps ss
+pub ends_behind : (number block : ℕ) (ps : List Stand) (ss : List Symbol) → EndsApart number ps → symbol_times (ReturnPlace number) ((places_of ps ++ ReturnPlace block ∷ []) ++ ss) ≡ cond (number == block) (suc (symbol_times (ReturnPlace number) ss)) (symbol_times (ReturnPlace number) ss)
+ends_behind number block [] ss apart = refl
+ends_behind number block ((m, Some l) ∷ ps) ss apart = ends_behind number block ps ss apart
+ends_behind number block ((m, None) ∷ ps) ss apart =
+    let rest = symbol_times (ReturnPlace number) ((places_of ps ++ ReturnPlace block ∷ []) ++ ss) in
+    ap (λ q. cond q (suc rest) rest) apart.0 ∙ ends_behind number block ps ss apart.1
 
-block_ends : (number : ℕ) (b : Y.Block) (ps : List Y.Procedure) → symbol_times (ReturnPlace number) (procedure_symbols ps) ≡ number_times number ps → symbol_times (ReturnPlace number) (block_symbols b ++ procedure_symbols ps) ≡ number_times number (record { block = b; parameters = []; result = None } ∷ ps)
-block_ends number (Y.BlockOf head body) ps h =
-    ends_behind number head.number (all_labels head.number body) (procedure_symbols ps) ∙ ap (λ n. cond (number == head.number) (suc n) n) h
-
-pub ends_times : (number : ℕ) (ps : List Y.Procedure) → symbol_times (ReturnPlace number) (procedure_symbols ps) ≡ number_times number ps
-ends_times number [] = refl
-ends_times number (p ∷ ps) = block_ends number p.block ps (ends_times number ps)
+pub ends_times : (number : ℕ) (program : Y.Program) (block : ℕ) (all : List (ℕ × Label)) (called : List ℕ) (ps : List Y.Procedure) → AreInner program block all called ps → symbol_times (ReturnPlace number) (procedure_symbols ps) ≡ number_times number ps
+ends_times number program block all called [] inner = refl
+ends_times number program block all called (p ∷ ps) inner =
+    let q = inner.0 in
+    subst (λ (r : Y.Procedure). symbol_times (ReturnPlace number) (procedure_symbols (r ∷ ps)) ≡ number_times number (r ∷ ps)) (sym q.is)
+    (ends_behind number q.head.number (all_stands q.head.number q.body) (procedure_symbols ps) (inner_ends number q)
+    ∙ ap (λ n. cond (number == q.head.number) (suc n) n) (ends_times number program block all called ps inner.1))
 
 once_by : (q : Bool) (number n : ℕ) (ns : List ℕ) (others : List Y.Procedure) → (number == n) ≡ q → cond q true (is_number number ns) ≡ true → number_times n others ≡ 1 → (is_number number ns ≡ true → number_times number others ≡ 1) → number_times number others ≡ 1
 once_by true number n ns others e among one more = subst (λ m. number_times m others ≡ 1) (sym (eqb-true number n e)) one

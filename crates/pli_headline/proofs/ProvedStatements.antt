@@ -14,12 +14,12 @@ use Rattle.pli_coding.specs.Environments.{BlockOwner, BlockPlace, Environment, i
 use Rattle.pli_coding.specs.Frames.{fixed_size, frame_end, temporary_bytes}
 use Rattle.pli_meaning.specs.StorageState.{most_activations}
 use Rattle.pli_coding.specs.Storing.{assigned_words}
-use Rattle.pli_coding.specs.Statements.{number_if, bit_if, stmt_code, stmts_code, stmt_words, stmts_words}
+use Rattle.pli_coding.specs.Statements.{owner_of_unit, unit_environment, number_if, bit_if, stmt_code, stmts_code, stmt_words, stmts_words}
 use Rattle.pli_coding.specs.Temporaries.{number_words, bit_words, reference_words, text_words}
-use Rattle.pli_coding.specs.Images.{place_of_head, blocks_in, blocks_among}
+use Rattle.pli_coding.specs.Images.{place_of_head, place_of_unit, blocks_in, blocks_among}
 use Rattle.pli_coding.specs.Linking.{Links}
-use Rattle.pli_headline.specs.ProvedSoFar.{Types, OuterBlock, IsProvedStatement, AreProvedStatements, JumpsAround, AllJumpAround, IsBare, AreBare, is_number, CallsAmong, AllCallAmong}
-use Rattle.pli_headline.proofs.Statements.{Standing, Block, Does, EachDoes, null_does, IsEndMarkedOnce}
+use Rattle.pli_headline.specs.ProvedSoFar.{Types, OuterBlock, main_labels, IsProvedStatement, AreProvedStatements, JumpsAround, AllJumpAround, IsBare, AreBare, is_number, CallsAmong, AllCallAmong}
+use Rattle.pli_headline.proofs.Statements.{owner_level, IsOwned, Standing, Block, Does, EachDoes, null_does, IsEndMarkedOnce}
 use Rattle.pli_headline.proofs.TextAssignments.{assign_text_does}
 use Rattle.pli_headline.proofs.Ifs.{if_does, if_else_does}
 use Rattle.pli_headline.proofs.Catching.{within, listed}
@@ -31,6 +31,7 @@ use Rattle.pli_headline.proofs.Begins.{inner_of, begin_does}
 use Rattle.pli_headline.proofs.JumpsOut.{out_does}
 use Rattle.pli_headline.proofs.Returns.{return_does}
 use Rattle.pli_headline.proofs.HomeReturns.{IsHome, home_does}
+use Rattle.pli_headline.proofs.MainOutlets.{HasMain, more_main}
 use Rattle.pli_headline.proofs.Gotos.{LabelsStand, goto_does}
 use Rattle.pli_headline.proofs.Groups.{do_does}
 use Rattle.pli_headline.proofs.Loops.{while_does}
@@ -39,7 +40,7 @@ use Rattle.pli_headline.proofs.Skips.{put_skip_does}
 use Rattle.pli_headline.proofs.Signals.{signal_does}
 use Rattle.pli_headline.proofs.SystemUnits.{on_system_does, revert_does}
 use Rattle.pli_headline.proofs.OnUnits.{on_unit_does}
-use Rattle.pli_headline.proofs.UnitStanding.{single, program_around, UnitStands, Tells, unit_is}
+use Rattle.pli_headline.proofs.UnitStanding.{program_around, UnitStands, Tells, unit_is}
 use Rattle.pli_headline.proofs.Items.{Linked}
 use Rattle.pli_headline.proofs.Onces.{once_does}
 use Rattle.pli_headline.proofs.Counts.{turning, standing_turning}
@@ -74,26 +75,59 @@ inner_labels_stand named number level next shallow among =
       bare = named.bare;
     }
 
+-- of a unit that is a block of its own
+unit_among : (head : Y.BlockHead) (kind : Y.BlockKind) (bs : List BlockPlace) → kind ≡ Y.UnitBlock → IsAmong (place_of_head head) (place_of_unit head kind ++ bs)
+unit_among head kind bs is = subst (λ k. IsAmong (place_of_head head) (place_of_unit head k ++ bs)) (sym is) (inl refl)
+
+unit_labels_stand : {e : Environment} {links : Links} {all : List (ℕ × Label)} {procedure : ℕ} {main : Bool} (head : Y.BlockHead) → head.kind ≡ Y.UnitBlock → head.level ≡ 1 → LabelsStand e links all procedure main → IsAmong (place_of_head head) e.blocks → LabelsStand (unit_environment head (program_around e)) links all procedure false
+unit_labels_stand {e} head kind level named among =
+    let own : owner_level (owner_of_unit head head.kind) ≡ head.level = ap (λ k. owner_level (owner_of_unit head k)) kind in
+    record {
+      own = named.found (place_of_head head) among;
+      found = named.found;
+      once = named.once;
+      owner = λ no. let apart : false ≡ true = no in absurd (cc apart);
+      ended = λ no. let apart : false ≡ true = no in absurd (cc apart);
+      lower = omega (arith, own);
+      owned = subst (λ k. IsOwned (owner_of_unit head k)) (sym kind) tt;
+      shallow = omega (arith, level);
+      bare = named.bare;
+    }
+
 -- ---- calls
 
 -- calls of some procedures do what they mean, in any block where the frames of so many more have room, so many blocks deep at most
-abbrev pub Calls : Environment → (block : ℕ) → Types → (bound : ℕ) → Links → List Instr → (may : List ℕ) → Type 1
-Calls e block types bound links code may =
-    (o : Owner) (number level : ℕ) (b : Block (owned_by o (in_frame number level e)) block types) → length b.depths < most_activations → b.stack.free + 4000 * (500 - length b.depths) ≤ 14 * 2 ^ 20 → b.words < 2 ^ 22 → Standing b links code → Tells e block types may links code b.base b.frames.known → b.taken.words ≤ b.words → (around : Around) → around.program ≡ e.program → (more : ℕ) → Entering e.program around more → more ≤ bound → (procedure : ℕ) → is_number procedure may ≡ true → (line : ℕ) → line < 2 ^ 31 → Does b links code around.turns (stmt_code (owned_by o (in_frame number level e)) b.taken (Y.CallProcedure (Y.Calling procedure 0 Y.NoArgument) line)) (M.statement around (Y.CallProcedure (Y.Calling procedure 0 Y.NoArgument) line))
+abbrev pub Calls : Environment → (block : ℕ) → Types → (all : List (ℕ × Label)) → (procedure bound : ℕ) → Links → List Instr → (may : List ℕ) → Type 1
+Calls e block types all procedure bound links code may =
+    (o : Owner) (number level : ℕ) (b : Block (owned_by o (in_frame number level e)) block types) → length b.depths < most_activations → b.stack.free + 4000 * (500 - length b.depths) ≤ 14 * 2 ^ 20 → b.words < 2 ^ 22 → Standing b links code → Tells e block types all procedure may links code b.base b.frames.known → b.taken.words ≤ b.words → HasMain block (main_labels e.program.procedures) level number b.labels b.outer → (around : Around) → around.program ≡ e.program → (more : ℕ) → Entering e.program around more → more ≤ bound → (procedure : ℕ) → is_number procedure may ≡ true → (line : ℕ) → line < 2 ^ 31 → Does b links code around.turns (stmt_code (owned_by o (in_frame number level e)) b.taken (Y.CallProcedure (Y.Calling procedure 0 Y.NoArgument) line)) (M.statement around (Y.CallProcedure (Y.Calling procedure 0 Y.NoArgument) line))
 
 -- SIGNAL of AREA does what it means there
-abbrev pub Signals : Environment → (block : ℕ) → Types → (bound : ℕ) → Links → List Instr → (may : List ℕ) → Type 1
-Signals e block types bound links code may =
-    (o : Owner) (number level : ℕ) (b : Block (owned_by o (in_frame number level e)) block types) → length b.depths < most_activations → b.stack.free + 4000 * (500 - length b.depths) ≤ 14 * 2 ^ 20 → b.words < 2 ^ 22 → Standing b links code → Tells e block types may links code b.base b.frames.known → (around : Around) → around.program ≡ e.program → (more : ℕ) → Entering e.program around more → more ≤ bound → (line : ℕ) → line < 2 ^ 31 → Does b links code around.turns (stmt_code (owned_by o (in_frame number level e)) b.taken (Y.Signal C.Area line)) (M.statement around (Y.Signal C.Area line))
+abbrev pub Signals : Environment → (block : ℕ) → Types → (all : List (ℕ × Label)) → (procedure bound : ℕ) → Links → List Instr → (may : List ℕ) → Type 1
+Signals e block types all procedure bound links code may =
+    (o : Owner) (number level : ℕ) (b : Block (owned_by o (in_frame number level e)) block types) → length b.depths < most_activations → b.stack.free + 4000 * (500 - length b.depths) ≤ 14 * 2 ^ 20 → b.words < 2 ^ 22 → Standing b links code → Tells e block types all procedure may links code b.base b.frames.known → HasMain block (main_labels e.program.procedures) level number b.labels b.outer → (around : Around) → around.program ≡ e.program → (more : ℕ) → Entering e.program around more → more ≤ bound → (line : ℕ) → line < 2 ^ 31 → Does b links code around.turns (stmt_code (owned_by o (in_frame number level e)) b.taken (Y.Signal C.Area line)) (M.statement around (Y.Signal C.Area line))
 
--- they do, units are known, which the main procedure's own block may get, and a return in a called procedure goes to its end
-pub record Ways (e : Environment) (block : ℕ) (types : Types) (words bound : ℕ) (small : Bool) (outer : List OuterBlock) (base : ℕ) (units : ℕ → Y.Block → ℕ → Type 0) (links : Links) (code : List Instr) (main : Bool) (may : List ℕ) : Type 1 where
-  pub calls : (o : Owner) (number level : ℕ) (b : Block (owned_by o (in_frame number level e)) block types) → length b.depths < most_activations → b.stack.free + 4000 * (500 - length b.depths) ≤ 14 * 2 ^ 20 → b.words < 2 ^ 22 → Standing b links code → Tells e block types may links code b.base b.frames.known → b.taken.words ≤ b.words → (around : Around) → around.program ≡ e.program → (more : ℕ) → Entering e.program around more → more ≤ bound → (procedure : ℕ) → is_number procedure may ≡ true → (line : ℕ) → line < 2 ^ 31 → Does b links code around.turns (stmt_code (owned_by o (in_frame number level e)) b.taken (Y.CallProcedure (Y.Calling procedure 0 Y.NoArgument) line)) (M.statement around (Y.CallProcedure (Y.Calling procedure 0 Y.NoArgument) line))
-  pub signals : (o : Owner) (number level : ℕ) (b : Block (owned_by o (in_frame number level e)) block types) → length b.depths < most_activations → b.stack.free + 4000 * (500 - length b.depths) ≤ 14 * 2 ^ 20 → b.words < 2 ^ 22 → Standing b links code → Tells e block types may links code b.base b.frames.known → (around : Around) → around.program ≡ e.program → (more : ℕ) → Entering e.program around more → more ≤ bound → (line : ℕ) → line < 2 ^ 31 → Does b links code around.turns (stmt_code (owned_by o (in_frame number level e)) b.taken (Y.Signal C.Area line)) (M.statement around (Y.Signal C.Area line))
-  pub tells : Tells e block types may links code base units
-  pub makes : (0 == e.level) ≡ true → (u : Y.Block) (at : ℕ) → UnitStands (program_around e) block types may links code u at → units base u at
+-- they do; the units that may be in force are known, and the main procedure's own block may get one; a return in a called procedure goes
+-- to its end
+pub record Ways (e : Environment) (block : ℕ) (types : Types) (words bound : ℕ) (small : Bool) (labels : List Label) (outer : List OuterBlock) (base : ℕ) (units : ℕ → Y.Block → ℕ → Type 0) (all : List (ℕ × Label)) (procedure : ℕ) (links : Links) (code : List Instr) (main returns : Bool) (may : List ℕ) : Type 1 where
+  pub calls : (o : Owner) (number level : ℕ) (b : Block (owned_by o (in_frame number level e)) block types) → length b.depths < most_activations → b.stack.free + 4000 * (500 - length b.depths) ≤ 14 * 2 ^ 20 → b.words < 2 ^ 22 → Standing b links code → Tells e block types all procedure may links code b.base b.frames.known → b.taken.words ≤ b.words → HasMain block (main_labels e.program.procedures) level number b.labels b.outer → (around : Around) → around.program ≡ e.program → (more : ℕ) → Entering e.program around more → more ≤ bound → (procedure : ℕ) → is_number procedure may ≡ true → (line : ℕ) → line < 2 ^ 31 → Does b links code around.turns (stmt_code (owned_by o (in_frame number level e)) b.taken (Y.CallProcedure (Y.Calling procedure 0 Y.NoArgument) line)) (M.statement around (Y.CallProcedure (Y.Calling procedure 0 Y.NoArgument) line))
+  pub signals : (o : Owner) (number level : ℕ) (b : Block (owned_by o (in_frame number level e)) block types) → length b.depths < most_activations → b.stack.free + 4000 * (500 - length b.depths) ≤ 14 * 2 ^ 20 → b.words < 2 ^ 22 → Standing b links code → Tells e block types all procedure may links code b.base b.frames.known → HasMain block (main_labels e.program.procedures) level number b.labels b.outer → (around : Around) → around.program ≡ e.program → (more : ℕ) → Entering e.program around more → more ≤ bound → (line : ℕ) → line < 2 ^ 31 → Does b links code around.turns (stmt_code (owned_by o (in_frame number level e)) b.taken (Y.Signal C.Area line)) (M.statement around (Y.Signal C.Area line))
+  pub tells : Tells e block types all procedure may links code base units
+  pub makes : (0 == e.level) ≡ true → (u : Y.Block) (at : ℕ) → UnitStands (program_around e) block types all procedure may links code u at → units base u at
   pub narrow : words < 2 ^ 22
-  pub ends : main ≡ false → IsHome e links outer
+  pub ends : returns ≡ true → main ≡ false → IsHome e links outer
+  pub mains : HasMain block (main_labels e.program.procedures) e.level e.block labels outer
+
+ways_within : {e : Environment} {block : ℕ} {types : Types} {words bound : ℕ} {small : Bool} {labels : List Label} {outer : List OuterBlock} {base : ℕ} {units : ℕ → Y.Block → ℕ → Type 0} {all : List (ℕ × Label)} {procedure : ℕ} {links : Links} {code : List Instr} {main returns : Bool} {may : List ℕ} (more : List Label) → Ways e block types words bound small labels outer base units all procedure links code main returns may → Ways e block types words bound small (more ++ labels) outer base units all procedure links code main returns may
+ways_within {e} {block} {labels = labels} {outer = outer} more ways =
+    record {
+      calls = ways.calls;
+      signals = ways.signals;
+      tells = ways.tells;
+      makes = ways.makes;
+      narrow = ways.narrow;
+      ends = ways.ends;
+      mains = more_main block (main_labels e.program.procedures) e.level e.block more labels outer ways.mains;
+    }
 
 -- ---- room
 
@@ -136,7 +170,7 @@ return_by false bl links code around line number fits few owner ended home =
     home_does bl links code around line few fits (home refl)
 
 mutual
-  pub statement_does : {e : Environment} {block : ℕ} {types : Types} (bl : Block e block types) (links : Links) (code : List Instr) (routines : Standing bl links code) (around : Around) (same : around.program ≡ e.program) {all : List (ℕ × Label)} {procedure : ℕ} {main small : Bool} {may : List ℕ} {bound : ℕ} (named : LabelsStand e links all procedure main) (x : Y.Stmt) → IsProvedStatement block types x → JumpsAround e.block e.level all e.blocks bl.outer bl.labels x → bl.taken.words + stmt_words x ≤ bl.words → Room small bl.stack.free (length bl.depths) (inner_words x) e.level → IsBare e.program x → {more : ℕ} → Entering e.program around more → more ≤ bound → ((b : BlockPlace) → IsAmong b (blocks_in x) → IsAmong b e.blocks) → CallsAmong may x → Ways e block types bl.words bound small bl.outer bl.base bl.frames.known links code main may → Does bl links code around.turns (stmt_code e bl.taken x) (M.statement around x)
+  pub statement_does : {e : Environment} {block : ℕ} {types : Types} (bl : Block e block types) (links : Links) (code : List Instr) (routines : Standing bl links code) (around : Around) (same : around.program ≡ e.program) {all : List (ℕ × Label)} {procedure : ℕ} {main returns small : Bool} {may : List ℕ} {bound : ℕ} (named : LabelsStand e links all procedure main) (x : Y.Stmt) → IsProvedStatement block types x → JumpsAround e.block e.level all e.blocks bl.outer bl.labels x → bl.taken.words + stmt_words x ≤ bl.words → Room small bl.stack.free (length bl.depths) (inner_words x) e.level → IsBare e.program x → {more : ℕ} → Entering e.program around more → more ≤ bound → ((b : BlockPlace) → IsAmong b (blocks_in x) → IsAmong b e.blocks) → CallsAmong may returns x → Ways e block types bl.words bound small bl.labels bl.outer bl.base bl.frames.known all procedure links code main returns may → Does bl links code around.turns (stmt_code e bl.taken x) (M.statement around x)
   statement_does bl links code routines around same named (Y.Null line) is jumps room space bare entering least known calls ways = null_does bl links code around line is
   statement_does bl links code routines around same named (Y.Assign target (Y.StoredNumber precision x) line) is jumps room space bare entering least known calls ways =
       let a = le-max_left (max 1 (number_words x)) (4 + reference_words target) in
@@ -169,12 +203,12 @@ mutual
       (room_less small bl.stack.free (length bl.depths) (max (inner_words unit) (inner_words otherwise)) (inner_words otherwise) e.level i2 space) bare.1 entering least (λ b h. known b (among_back b (blocks_in unit) (blocks_in otherwise) h)) calls.1 ways)
   statement_does bl links code routines around same named (Y.Do body line) is jumps room space bare entering least known calls ways =
       do_does bl links code around body line is.1
-      (listed bl around body (each_does (within (labels_in body) bl) links code (standing_within (labels_in body) routines) around same named body is.0 jumps room space bare entering least known calls ways))
+      (listed bl around body (each_does (within (labels_in body) bl) links code (standing_within (labels_in body) routines) around same named body is.0 jumps room space bare entering least known calls (ways_within (labels_in body) ways)))
   statement_does bl links code routines around same named (Y.DoWhile condition body line) is jumps room space bare entering least known calls ways =
       let a = le-max_left (bit_words condition) (stmts_words body) in
       let d = le-max_right (bit_words condition) (stmts_words body) in
       while_does bl links code routines around condition body line is.0 (omega (arith, a, room)) is.1.1
-      (listed bl around body (each_does (within (labels_in body) bl) links code (standing_within (labels_in body) routines) around same named body is.1.0 jumps (omega (arith, d, room)) space bare entering least known calls ways))
+      (listed bl around body (each_does (within (labels_in body) bl) links code (standing_within (labels_in body) routines) around same named body is.1.0 jumps (omega (arith, d, room)) space bare entering least known calls (ways_within (labels_in body) ways)))
   statement_does bl links code routines around same named (Y.DoOnce target (Y.StoredNumber precision x) condition body line) is jumps room space bare entering least known calls ways =
       let most = max (bit_if condition) (stmts_words body) in
       let a = le-max_left (assigned_words target (Y.StoredNumber precision x)) most in
@@ -185,7 +219,7 @@ mutual
       let d2 = le-max_right (bit_if condition) (stmts_words body) in
       once_does bl links code routines around target (Y.StoredNumber precision x) condition body line is.1.0 (omega (arith, d, d1, room)) is.1.1.1
       (assign_number_part_does bl links code routines around target precision x line is.0.0 is.0.1 (omega (arith, a, a1, room)) (omega (arith, a, a2, room)) is.1.1.1)
-      (listed bl around body (each_does (within (labels_in body) bl) links code (standing_within (labels_in body) routines) around same named body is.1.1.0 jumps (omega (arith, d, d2, room)) space bare entering least known calls ways))
+      (listed bl around body (each_does (within (labels_in body) bl) links code (standing_within (labels_in body) routines) around same named body is.1.1.0 jumps (omega (arith, d, d2, room)) space bare entering least known calls (ways_within (labels_in body) ways)))
   statement_does bl links code routines around same named (Y.DoOnce target (Y.StoredBit x) condition body line) is jumps room space bare entering least known calls ways =
       let most = max (bit_if condition) (stmts_words body) in
       let a = le-max_left (assigned_words target (Y.StoredBit x)) most in
@@ -196,7 +230,7 @@ mutual
       let d2 = le-max_right (bit_if condition) (stmts_words body) in
       once_does bl links code routines around target (Y.StoredBit x) condition body line is.1.0 (omega (arith, d, d1, room)) is.1.1.1
       (assign_bit_part_does bl links code routines around target x line is.0.0 is.0.1 (omega (arith, a, a2, room)) (omega (arith, a, a1, room)) is.1.1.1)
-      (listed bl around body (each_does (within (labels_in body) bl) links code (standing_within (labels_in body) routines) around same named body is.1.1.0 jumps (omega (arith, d, d2, room)) space bare entering least known calls ways))
+      (listed bl around body (each_does (within (labels_in body) bl) links code (standing_within (labels_in body) routines) around same named body is.1.1.0 jumps (omega (arith, d, d2, room)) space bare entering least known calls (ways_within (labels_in body) ways)))
   statement_does bl links code routines around same named (Y.DoOnce target (Y.StoredText x) condition body line) is jumps room space bare entering least known calls ways =
       let most = max (bit_if condition) (stmts_words body) in
       let a = le-max_left (assigned_words target (Y.StoredText x)) most in
@@ -206,7 +240,7 @@ mutual
       let d2 = le-max_right (bit_if condition) (stmts_words body) in
       once_does bl links code routines around target (Y.StoredText x) condition body line is.1.0 (omega (arith, d, d1, room)) is.1.1.1
       (assign_text_does bl links code routines around target x line is.0.0 is.0.1 (omega (arith, a, a1, room)) is.1.1.1)
-      (listed bl around body (each_does (within (labels_in body) bl) links code (standing_within (labels_in body) routines) around same named body is.1.1.0 jumps (omega (arith, d, d2, room)) space bare entering least known calls ways))
+      (listed bl around body (each_does (within (labels_in body) bl) links code (standing_within (labels_in body) routines) around same named body is.1.1.0 jumps (omega (arith, d, d2, room)) space bare entering least known calls (ways_within (labels_in body) ways)))
   statement_does bl links code routines around same named (Y.DoCount (Y.NumberCounter precision target) start limit step condition body line) is jumps room space bare entering least known calls ways =
       let first = 3 + max (value_words start) (max (number_if limit) (number_words step)) in
       let second = 2 + max (suc (reference_words target)) (max (bit_if condition) (stmts_words body)) in
@@ -221,8 +255,8 @@ mutual
       let d3 = le-max_right (bit_if condition) (stmts_words body) in
       counted_does bl links code routines around target precision start limit step condition body line is.0.0 is.0.1 is.1.0.0 is.1.0.1 is.1.1.0
       (omega (arith, room, m1, a1)) (omega (arith, room, m1, a2, a4)) (omega (arith, room, m1, a2, a5)) (omega (arith, room, m2, d1, d2)) is.1.1.1.1
-      (listed (turning bl) around body (each_does (within (labels_in body) (turning bl)) links code (standing_within (labels_in body) (standing_turning routines)) around same named body is.1.1.1.0 jumps (omega (arith, room, m2, d1, d3)) space bare entering least known calls ways))
-  statement_does {e} bl links code routines around same {all} {procedure} {main} {small} named (Y.Begin (Y.BlockOf head body)) is jumps room space bare {more} entering least known calls ways =
+      (listed (turning bl) around body (each_does (within (labels_in body) (turning bl)) links code (standing_within (labels_in body) (standing_turning routines)) around same named body is.1.1.1.0 jumps (omega (arith, room, m2, d1, d3)) space bare entering least known calls (ways_within (labels_in body) ways)))
+  statement_does {e} {block} bl links code routines around same {all} {procedure} {main} {small} named (Y.Begin (Y.BlockOf head body)) is jumps room space bare {more} entering least known calls ways =
       let next = jumps.0.0 in
       let deep = jumps.0.1 in
       let shallow : e.level < 100 = omega (arith, next, deep) in
@@ -238,42 +272,45 @@ mutual
       (each_does (within (labels_in body) ib) links code (standing_within (labels_in body) (standing_inside inner t0 head.number head.level next sized routines)) here refl (inner_labels_stand named head.number head.level next deep (known (place_of_head head) (inl refl))) body is.1.1 high (omega (arith, most))
       (room_inner small bl.stack.free (length bl.depths) (max 0 (stmts_words body)) (all_inner_words body) e.level head.level shallow next deeper space)
       bare.1 (inner_entering e.program more' head.line) (omega (arith, least, step)) (λ b h. known b (inr h)) calls
-      (record { calls = ways.calls; signals = ways.signals; tells = ways.tells; makes = λ same' u at k. let no : true ≡ false = sym same' ∙ other_level head.level e.level next in absurd (cc no); narrow = (let fits = room_frame small bl.stack.free (length bl.depths) (max 0 (stmts_words body)) (all_inner_words body) e.level shallow space in omega (arith, fits)); ends = λ other. inr (ways.ends other) })))
+      (record { calls = ways.calls; signals = ways.signals; tells = ways.tells; makes = λ same' u at k. let no : true ≡ false = sym same' ∙ other_level head.level e.level next in absurd (cc no); narrow = (let fits = room_frame small bl.stack.free (length bl.depths) (max 0 (stmts_words body)) (all_inner_words body) e.level shallow space in omega (arith, fits)); ends = λ may other. inr (ways.ends may other); mains = more_main block (main_labels e.program.procedures) head.level head.number (labels_in body) [] ib.outer (inr ways.mains) })))
   statement_does {e} bl links code routines around same {all} {procedure} {main} {small} named (Y.CallProcedure (Y.Calling number level Y.NoArgument) line) is jumps room space bare {more} entering least known calls ways =
       subst (λ n. Does bl links code around.turns (stmt_code e bl.taken (Y.CallProcedure (Y.Calling number n Y.NoArgument) line)) (M.statement around (Y.CallProcedure (Y.Calling number n Y.NoArgument) line))) (sym is.0)
-      (ways.calls e.owner e.block e.level bl (room_deep small bl.stack.free (length bl.depths) 0 e.level space) (room_calls small bl.stack.free (length bl.depths) 0 e.level space) ways.narrow routines ways.tells (omega (arith, room)) around same more entering least number calls line is.1)
+      (ways.calls e.owner e.block e.level bl (room_deep small bl.stack.free (length bl.depths) 0 e.level space) (room_calls small bl.stack.free (length bl.depths) 0 e.level space) ways.narrow routines ways.tells (omega (arith, room)) ways.mains around same more entering least number calls line is.1)
   statement_does bl links code routines around same {main = main} named (Y.Return line) is jumps room space bare entering least known calls ways =
-      return_by main bl links code around line _ is named.shallow named.owner named.ended ways.ends
+      return_by main bl links code around line _ is named.shallow named.owner named.ended (ways.ends calls)
   statement_does {e} bl links code routines around same named (Y.Goto level label line) is (inl jumps) room space bare entering least known calls ways =
       goto_does bl links code around level label line jumps.0 is jumps.1.0 (named.once e.block label jumps.1.1) named.own
   statement_does bl links code routines around same {all} named (Y.Goto level label line) is (inr jumps) room space bare entering least known calls ways =
       out_does bl links code around all level label line (λ number h. named.once number label h) named.owned named.shallow is jumps
   statement_does bl links code routines around same named (Y.Stop line) is jumps room space bare entering least known calls ways = stop_does bl links code around line is
   statement_does {e} bl links code routines around same {main = main} {small = small} named (Y.Signal C.Area line) is jumps room space bare {more} entering least known calls ways =
-      ways.signals e.owner e.block e.level bl (room_deep small bl.stack.free (length bl.depths) 0 e.level space) (room_calls small bl.stack.free (length bl.depths) 0 e.level space) ways.narrow routines ways.tells around same more entering least line is
+      ways.signals e.owner e.block e.level bl (room_deep small bl.stack.free (length bl.depths) 0 e.level space) (room_calls small bl.stack.free (length bl.depths) 0 e.level space) ways.narrow routines ways.tells ways.mains around same more entering least line is
   statement_does bl links code routines around same named (Y.Signal C.FixedOverflow line) is jumps room space bare entering least known calls ways = signal_does bl links code routines.raises around C.FixedOverflow line refl is
   statement_does bl links code routines around same named (Y.Signal C.ZeroDivide line) is jumps room space bare entering least known calls ways = signal_does bl links code routines.raises around C.ZeroDivide line refl is
   statement_does bl links code routines around same named (Y.Signal C.Endfile line) is jumps room space bare entering least known calls ways = signal_does bl links code routines.raises around C.Endfile line refl is
   statement_does bl links code routines around same named (Y.Signal C.Error line) is jumps room space bare entering least known calls ways = signal_does bl links code routines.raises around C.Error line refl is
   statement_does bl links code routines around same named (Y.OnSystem condition line) is jumps room space bare entering least known calls ways = on_system_does bl links code around condition line is
   statement_does bl links code routines around same named (Y.Revert condition line) is jumps room space bare entering least known calls ways = revert_does bl links code around condition line is
-  statement_does {e} bl links code routines around same named (Y.OnUnit condition (Y.BlockOf head (Y.StmtThen [] x (Y.EndOfList []))) line) is jumps room space bare entering least known calls ways =
-      on_unit_does bl links code around condition head (single x) line jumps.0 is.0 is.1.1.0
-      (λ i later l. ways.makes jumps.0 (Y.BlockOf head (single x)) (4 * i) (record {
+  statement_does {e} bl links code routines around same named (Y.OnUnit condition (Y.BlockOf head body) line) is jumps room space bare entering least known calls ways =
+      on_unit_does bl links code around condition head body line jumps.0 is.0 is.1.1.0
+      (λ i later l. ways.makes jumps.0 (Y.BlockOf head body) (4 * i) (record {
         head = head;
-        statement = x;
+        body = body;
         is = refl;
-        kind = is.1.0;
-        level = jumps.1;
+        what = is.1.0;
+        level = jumps.1.0;
         line = is.1.1.1.0;
-        simple = is.1.1.1.1.0;
-        proved = is.1.1.1.1.1;
-        calls = calls.0.0;
-        few = calls.1;
+        proved = is.1.1.1.1;
+        jumps = jumps.1.1.1;
+        bare = bare;
+        calls = calls.0;
+        few = calls.1.0;
+        labels = λ kind. unit_labels_stand head kind jumps.1.0 named (known (place_of_head head) (unit_among head head.kind (blocks_among body) kind));
+        blocks = λ b h. known b (among_back b (place_of_unit head head.kind) (blocks_among body) h);
         index = i;
         at_is = refl;
         later = later;
-        linked = subst (Linked links code i) (unit_is e head (single x) is.1.0 jumps.1) l;
+        linked = subst (Linked links code i) (unit_is e head body bare.0 jumps.1.0) l;
       }))
   statement_does bl links code routines around same named (Y.Put None pairs line) is jumps room space bare entering least known calls ways =
       put_does bl links code routines around pairs line is.0 is.1 room
@@ -285,7 +322,7 @@ mutual
       get_skip_does bl links code routines around same n pairs line is.0.0 is.0.1 is.1.0 is.1.1 room
   statement_does bl links code routines around same named _ is jumps room space bare entering least known calls ways = absurd is
 
-  pub each_does : {e : Environment} {block : ℕ} {types : Types} (bl : Block e block types) (links : Links) (code : List Instr) (routines : Standing bl links code) (around : Around) (same : around.program ≡ e.program) {all : List (ℕ × Label)} {procedure : ℕ} {main small : Bool} {may : List ℕ} {bound : ℕ} (named : LabelsStand e links all procedure main) (body : Y.Stmts) → AreProvedStatements block types body → AllJumpAround e.block e.level all e.blocks bl.outer bl.labels body → bl.taken.words + stmts_words body ≤ bl.words → Room small bl.stack.free (length bl.depths) (all_inner_words body) e.level → AreBare e.program body → {more : ℕ} → Entering e.program around more → more ≤ bound → ((b : BlockPlace) → IsAmong b (blocks_among body) → IsAmong b e.blocks) → AllCallAmong may body → Ways e block types bl.words bound small bl.outer bl.base bl.frames.known links code main may → EachDoes bl links code around body
+  pub each_does : {e : Environment} {block : ℕ} {types : Types} (bl : Block e block types) (links : Links) (code : List Instr) (routines : Standing bl links code) (around : Around) (same : around.program ≡ e.program) {all : List (ℕ × Label)} {procedure : ℕ} {main returns small : Bool} {may : List ℕ} {bound : ℕ} (named : LabelsStand e links all procedure main) (body : Y.Stmts) → AreProvedStatements block types body → AllJumpAround e.block e.level all e.blocks bl.outer bl.labels body → bl.taken.words + stmts_words body ≤ bl.words → Room small bl.stack.free (length bl.depths) (all_inner_words body) e.level → AreBare e.program body → {more : ℕ} → Entering e.program around more → more ≤ bound → ((b : BlockPlace) → IsAmong b (blocks_among body) → IsAmong b e.blocks) → AllCallAmong may returns body → Ways e block types bl.words bound small bl.labels bl.outer bl.base bl.frames.known all procedure links code main returns may → EachDoes bl links code around body
   each_does bl links code routines around same named (Y.EndOfList labels) are jumps room space bare entering least known calls ways = tt
   each_does {e} bl links code routines around same {all} {procedure} {main} {small} named (Y.StmtThen labels first rest) are jumps room space bare entering least known calls ways =
       let a = le-max_left (stmt_words first) (stmts_words rest) in
@@ -297,7 +334,7 @@ mutual
       )
 
 -- the statements of a block
-pub body_does : {e : Environment} {block : ℕ} {types : Types} (bl : Block e block types) (links : Links) (code : List Instr) (routines : Standing bl links code) (around : Around) (same : around.program ≡ e.program) {all : List (ℕ × Label)} {procedure : ℕ} {main small : Bool} {may : List ℕ} {bound : ℕ} (named : LabelsStand e links all procedure main) (body : Y.Stmts) → AreProvedStatements block types body → AllJumpAround e.block e.level all e.blocks bl.outer (labels_in body ++ bl.labels) body → bl.taken.words + stmts_words body ≤ bl.words → Room small bl.stack.free (length bl.depths) (all_inner_words body) e.level → AreBare e.program body → {more : ℕ} → Entering e.program around more → more ≤ bound → ((b : BlockPlace) → IsAmong b (blocks_among body) → IsAmong b e.blocks) → AllCallAmong may body → Ways e block types bl.words bound small bl.outer bl.base bl.frames.known links code main may → Does bl links code around.turns (stmts_code e bl.taken body) (M.list around body)
+pub body_does : {e : Environment} {block : ℕ} {types : Types} (bl : Block e block types) (links : Links) (code : List Instr) (routines : Standing bl links code) (around : Around) (same : around.program ≡ e.program) {all : List (ℕ × Label)} {procedure : ℕ} {main returns small : Bool} {may : List ℕ} {bound : ℕ} (named : LabelsStand e links all procedure main) (body : Y.Stmts) → AreProvedStatements block types body → AllJumpAround e.block e.level all e.blocks bl.outer (labels_in body ++ bl.labels) body → bl.taken.words + stmts_words body ≤ bl.words → Room small bl.stack.free (length bl.depths) (all_inner_words body) e.level → AreBare e.program body → {more : ℕ} → Entering e.program around more → more ≤ bound → ((b : BlockPlace) → IsAmong b (blocks_among body) → IsAmong b e.blocks) → AllCallAmong may returns body → Ways e block types bl.words bound small (labels_in body ++ bl.labels) bl.outer bl.base bl.frames.known all procedure links code main returns may → Does bl links code around.turns (stmts_code e bl.taken body) (M.list around body)
 body_does bl links code routines around same named body are jumps room space bare entering least known calls ways =
     listed bl around body
     (each_does (within (labels_in body) bl) links code (standing_within (labels_in body) routines) around same named body are jumps room space bare entering least known calls ways)

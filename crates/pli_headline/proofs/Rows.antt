@@ -235,6 +235,13 @@ jumps_outward : AllJumpAround 1 0 (all_labels 1 jumping_out) (record { number = 
 jumps_outward =
     (((refl, omega arith), (((refl, omega arith), (inr (inl (refl, (refl, (refl, refl)))), tt)), tt)), tt)
 
+-- GOTO L in a procedure inside the main one, whose list has the label
+abbrev jumping_away : Y.Stmts
+jumping_away = Y.StmtThen [] (Y.Goto 0 (76 ∷ []) 3) (Y.EndOfList [])
+
+jumps_away : AllJumpAround 2 1 ((1, 76 ∷ []) ∷ []) (record { number = 1; level = 0 } ∷ record { number = 2; level = 1 } ∷ []) (record { level = 0; number = 1; labels = (76 ∷ []) ∷ [] } ∷ []) [] jumping_away
+jumps_away = (inr (inl (refl, (refl, (refl, refl)))), tt)
+
 -- (X(1), 2 (COLUMN(3), F(5)), A)
 abbrev page : T.Formats
 page =
@@ -427,7 +434,7 @@ block_program =
           tt,
         );
         jumps = (((refl, omega arith), (tt, (((refl, omega arith), (inl (refl, (refl, refl)), (inr (inr (inl (refl, (refl, (refl, refl))))), (tt, tt)))), tt))), tt);
-        calls = ((tt, ((tt, (tt, (tt, tt))), tt)), tt);
+        calls = ((tt, ((tt, (tt, (refl, tt))), tt)), tt);
         inside = ((refl, (tt, ((refl, (tt, (tt, (tt, tt)))), tt))), tt);
       };
       inner = tt;
@@ -542,7 +549,120 @@ call_program =
           statements = ((refl, (lit< tt, ((refl, lit< tt), (lit< tt, tt)))), (lit< tt, tt));
           jumps = (((refl, omega arith), (tt, (tt, tt))), (tt, tt));
           inside = ((refl, (tt, (tt, tt))), (tt, tt));
-          callable = λ h. record { kind = refl; line = lit< tt; calls = ((refl, (tt, tt)), (tt, tt)); few = omega arith };
+          callable = λ h. record { kind = refl; line = lit< tt; calls = ((refl, (refl, tt)), (refl, tt)); few = omega arith };
+        },
+        tt,
+      );
+      once = (refl, tt);
+    }
+
+-- T: PROC OPTIONS(MAIN); DECLARE I FIXED BINARY(31);
+-- ON AREA I = ONCODE(); SIGNAL AREA; ON AREA BEGIN; I = 1; REVERT AREA; END; SIGNAL AREA; END;
+abbrev single_head : Y.BlockHead
+single_head = record { kind = Y.SimpleUnit; number = 1; level = 1; line = 2 }
+
+abbrev unit_head : Y.BlockHead
+unit_head = record { kind = Y.UnitBlock; number = 2; level = 1; line = 4 }
+
+abbrev unit_body : Y.Stmts
+unit_body =
+    Y.StmtThen [] (Y.Assign whole_i (Y.StoredNumber 31 (Y.NumberConstant 1)) 4) (Y.StmtThen [] (Y.Revert C.Area 4) (Y.EndOfList []))
+
+abbrev raising_body : Y.Stmts
+raising_body =
+    Y.StmtThen [] (Y.OnUnit C.Area (Y.BlockOf single_head (Y.StmtThen [] (Y.Assign whole_i (Y.StoredNumber 31 Y.OnCode) 2) (Y.EndOfList []))) 2)
+    (Y.StmtThen [] (Y.Signal C.Area 3)
+    (Y.StmtThen [] (Y.OnUnit C.Area (Y.BlockOf unit_head unit_body) 4)
+    (Y.StmtThen [] (Y.Signal C.Area 5)
+    (Y.EndOfList []))))
+
+abbrev with_units : Y.Program
+with_units =
+    record {
+      variables = [] ∷ (plain_variable (Y.FixedLeaf 31) [] ∷ []) ∷ [] ∷ [];
+      procedures = record { block = Y.BlockOf head raising_body; parameters = []; result = None } ∷ [];
+    }
+
+unit_program : IsProvedSoFar with_units
+unit_program =
+    let i : IsOwn 1 (alone (Y.FixedLeaf 31) ∷ []) (Y.FixedLeaf 31) whole_i = record { index = 0; declared = refl; is = refl } in
+    record {
+      head = head;
+      body = raising_body;
+      others = [];
+      called = [];
+      procedures = refl;
+      plain = (tt, ((record { type = Y.FixedLeaf 31; bounds = []; initial = []; held = (omega arith, omega arith); begins = tt; is = refl }, tt), (tt, tt)));
+      few = lit< tt;
+      block = record {
+        kind = refl;
+        level = refl;
+        line = lit< tt;
+        statements = (
+          (refl, (tt, (lit< tt, (lit< tt, (((inl i, tt), (tt, lit< tt)), tt))))),
+          (lit< tt, ((refl, (tt, (lit< tt, (lit< tt, (((inl i, tt), (lit< tt, lit< tt)), (lit< tt, tt)))))), (lit< tt, tt))),
+        );
+        jumps = ((refl, (refl, (tt, (tt, tt)))), (tt, ((refl, (refl, (refl, (tt, (tt, tt))))), (tt, tt))));
+        calls = (((tt, tt), (omega arith, tt)), (tt, (((tt, (tt, tt)), (omega arith, refl)), (tt, tt))));
+        inside = ((tt, (tt, tt)), (tt, ((refl, (tt, (tt, tt))), (tt, tt))));
+      };
+      inner = tt;
+      once = tt;
+    }
+
+-- T: PROC OPTIONS(MAIN); DECLARE I FIXED BINARY(31); ON AREA BEGIN; CALL P; END; SIGNAL AREA; L: ; P: PROC; GOTO L; END; END;
+-- the jump ends the procedure and the unit that calls it
+abbrev leaving_head : Y.BlockHead
+leaving_head = record { kind = Y.ProcedureBlock; number = 3; level = 1; line = 4 }
+
+abbrev left_body : Y.Stmts
+left_body =
+    Y.StmtThen [] (Y.OnUnit C.Area (Y.BlockOf unit_head (Y.StmtThen [] (Y.CallProcedure (Y.Calling 3 0 Y.NoArgument) 2) (Y.EndOfList []))) 2)
+    (Y.StmtThen [] (Y.Signal C.Area 3)
+    (Y.StmtThen ((76 ∷ []) ∷ []) (Y.Null 3)
+    (Y.EndOfList [])))
+
+abbrev with_leaving : Y.Program
+with_leaving =
+    record {
+      variables = [] ∷ (plain_variable (Y.FixedLeaf 31) [] ∷ []) ∷ [] ∷ [] ∷ [];
+      procedures =
+          record { block = Y.BlockOf head left_body; parameters = []; result = None }
+          ∷ record { block = Y.BlockOf leaving_head jumping_away; parameters = []; result = None }
+          ∷ [];
+    }
+
+leaving_program : IsProvedSoFar with_leaving
+leaving_program =
+    record {
+      head = head;
+      body = left_body;
+      others = record { block = Y.BlockOf leaving_head jumping_away; parameters = []; result = None } ∷ [];
+      called = 3 ∷ [];
+      procedures = refl;
+      plain = (tt, ((record { type = Y.FixedLeaf 31; bounds = []; initial = []; held = (omega arith, omega arith); begins = tt; is = refl }, tt), (tt, (tt, tt))));
+      few = lit< tt;
+      block = record {
+        kind = refl;
+        level = refl;
+        line = lit< tt;
+        statements = ((refl, (tt, (lit< tt, (lit< tt, ((refl, lit< tt), tt))))), (lit< tt, (lit< tt, tt)));
+        jumps = ((refl, (refl, (refl, (tt, tt)))), (tt, (tt, tt)));
+        calls = (((refl, tt), (omega arith, refl)), (tt, (tt, tt)));
+        inside = ((refl, (tt, tt)), (tt, (tt, tt)));
+      };
+      inner = (
+        record {
+          head = leaving_head;
+          body = jumping_away;
+          is = refl;
+          apart = refl;
+          level = refl;
+          bare = refl;
+          statements = (lit< tt, tt);
+          jumps = (inr (inl (refl, (refl, (refl, refl)))), tt);
+          inside = (tt, tt);
+          callable = λ h. record { kind = refl; line = lit< tt; calls = (tt, tt); few = omega arith };
         },
         tt,
       );

@@ -103,8 +103,8 @@ frame_place at n whole high room even few =
       above_code = omega (arith, high);
     }
 
--- ---- what is known when a procedure is called or an on-unit begins: where its frame will stand, the frame of the block that declares it, how
--- many texts go with it, and where it returns to
+-- ---- what is known when a procedure is called or an on-unit begins: where its frame will stand, the frame of the block that declares it,
+-- how many texts go with it, and where it returns to
 
 abbrev pub called_regs : (at base texts : ℕ) → (back : Base → ℕ) → Base → List (ℕ × ℕ)
 called_regs at base texts back b = (5, b.at + at) ∷ (10, b.at + base) ∷ (12, texts) ∷ (1, back b) ∷ []

@@ -545,7 +545,7 @@ mutual
   statement_size e t block types has (Y.Signal condition line) is = omega arith
   statement_size e t block types has (Y.OnSystem condition line) is = omega arith
   statement_size e t block types has (Y.Revert condition line) is = omega arith
-  statement_size e t block types has (Y.OnUnit condition (Y.BlockOf head (Y.StmtThen [] x (Y.EndOfList []))) line) is = omega arith
+  statement_size e t block types has (Y.OnUnit condition (Y.BlockOf head body) line) is = omega arith
   statement_size e t block types has (Y.Put None pairs line) is =
       let n = pairs_size e t block types pairs is.0 in
       let s = size_append (act_code line) (put_pairs e t pairs) in

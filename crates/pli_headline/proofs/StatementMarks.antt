@@ -1,5 +1,5 @@
 -- The code of statements that are proved marks the labels of their lists, each as often as it stands there, and nothing else.
-use Rattle.std.proofs.Common.{◌≡◌, ℕ, zero, suc, ◌+◌, List, [], ◌∷◌, ◌++◌, map, Option, None, Some, true, false, refl, sym, ap, ◌∙◌, subst}
+use Rattle.std.proofs.Common.{◌≡◌, ℕ, zero, suc, ◌+◌, List, [], ◌∷◌, ◌++◌, map, Option, None, Some, true, false, refl, sym, ap, ◌∙◌}
 use Rattle.std.specs.Prelude.{ℤ, pos, neg_ℤ, cond, ◌==◌}
 use Rattle.rv_meaning.specs.declared.instr.Instr.TheVariants as I
 use Rattle.rv_meaning.specs.declared.instr.BranchTest.TheVariants as Test
@@ -19,8 +19,9 @@ use Rattle.pli_coding.specs.Expressions.{frame_given, number_code, bit_code, cal
 use Rattle.pli_coding.specs.Storing.{word_stored, assigned_code}
 use Rattle.pli_coding.specs.Streams.{put_pairs, get_pairs, edit_ended, skip_option}
 use Rattle.pli_coding.specs.Allocating.{act_code}
-use Rattle.pli_coding.specs.Statements.{if_met, while_met, once_code, in_turns, before_turns, limit_place, step_place, start_place, start_code, limit_code, step_code, start_loaded, started_code, count_begun, limit_tested, limit_kept, while_kept, stepped_code, turn_of, turns_code, words_behind_limit, words_behind_condition, words_back, signal_code, unwound_to, returned_by, goto_outer, goto_code, marked, stmt_code, stmts_code, stmts_words, block_words, begin_environment, begin_code, condition_given, unit_established, unit_left}
-use Rattle.pli_headline.specs.ProvedSoFar.{Types, IsOwn, IsProvedNumber, IsProvedNumberIf, IsProvedBit, IsProvedBitIf, IsSimple, IsProvedStatement, AreProvedStatements, IsBare, AreBare, of_block, inner_labels, all_labels, IsProvedStart}
+use Rattle.pli_coding.specs.Statements.{if_met, while_met, once_code, in_turns, before_turns, limit_place, step_place, start_place, start_code, limit_code, step_code, start_loaded, started_code, count_begun, limit_tested, limit_kept, while_kept, stepped_code, turn_of, turns_code, words_behind_limit, words_behind_condition, words_back, signal_code, unwound_to, returned_by, goto_outer, goto_code, marked, stmt_code, stmts_code, stmts_words, block_words, begin_environment, begin_code, condition_given, unit_established, unit_left, unit_variables, owner_of_unit, unit_words, unit_mark}
+use Rattle.pli_headline.specs.ProvedSoFar.{Types, IsOwn, IsProvedNumber, IsProvedNumberIf, IsProvedBit, IsProvedBitIf, IsProvedStatement, AreProvedStatements, IsBare, AreBare, DeclaresNothing, IsProvedStart}
+use Rattle.pli_headline.proofs.Stands.{Stand, stands_of, end_of, inner_stands, all_stands}
 use Rattle.pli_headline.proofs.SymbolsMarked.{symbols_marked, Marks, both_mark, behind, before, either, constant_none, load_none, store_none, plus_none, overflow_none, act_none, fitted_none}
 use Rattle.pli_headline.proofs.PutMarks.{pairs_none, skip_none}
 use Rattle.pli_headline.proofs.GetMarks.{gets_none, get_skip_none}
@@ -28,15 +29,19 @@ use Rattle.pli_headline.proofs.Variables.{HasTypes}
 use Rattle.pli_headline.proofs.OnUnits.{unit_by}
 use Rattle.pli_headline.proofs.ExpressionMarks.{reference_none, number_none, bit_none, target_none, text_stored_none, number_assigned_none, bit_assigned_none, text_none}
 
--- the places of labels
-abbrev pub places_of : List (ℕ × Label) → List Symbol
-places_of ps = map (λ (p : ℕ × Label). LabelPlace p.0 p.1) ps
+-- the place of a label, or of the end of a block
+abbrev pub place_symbol : ℕ → Option Label → Symbol
+place_symbol n (Some l) = LabelPlace n l
+place_symbol n None = ReturnPlace n
 
-places_append : (ps qs : List (ℕ × Label)) → places_of (ps ++ qs) ≡ places_of ps ++ places_of qs
+abbrev pub places_of : List Stand → List Symbol
+places_of ps = map (λ (p : Stand). place_symbol p.0 p.1) ps
+
+places_append : (ps qs : List Stand) → places_of (ps ++ qs) ≡ places_of ps ++ places_of qs
 places_append [] qs = refl
-places_append (p ∷ ps) qs = ap (λ ss. LabelPlace p.0 p.1 ∷ ss) (places_append ps qs)
+places_append (p ∷ ps) qs = ap (λ ss. place_symbol p.0 p.1 ∷ ss) (places_append ps qs)
 
-marked_places : (block : ℕ) (labels : List Label) → Marks (marked block labels) (places_of (of_block block labels))
+marked_places : (block : ℕ) (labels : List Label) → Marks (marked block labels) (places_of (stands_of block labels))
 marked_places block [] = refl
 marked_places block (l ∷ ls) = ap (λ ss. LabelPlace block l ∷ ss) (marked_places block ls)
 
@@ -207,30 +212,6 @@ turns_mark e t block types precision r limit condition line c ss has own' isc h 
 
 -- ---- on-units
 
-simple_labels : (block : ℕ) (x : Y.Stmt) → IsSimple x → inner_labels block x ≡ []
-simple_labels block (Y.Null line) simple = refl
-simple_labels block (Y.Assign target source line) simple = refl
-simple_labels block (Y.CallProcedure call line) simple = refl
-simple_labels block (Y.Stop line) simple = refl
-simple_labels block (Y.Signal condition line) simple = refl
-simple_labels block (Y.OnSystem condition line) simple = refl
-simple_labels block (Y.Revert condition line) simple = refl
-simple_labels block (Y.Put skip pairs line) simple = refl
-simple_labels block (Y.Get skip pairs line) simple = refl
-simple_labels block _ simple = absurd simple
-
-simple_bare : (program : Y.Program) (x : Y.Stmt) → IsSimple x → IsBare program x
-simple_bare program (Y.Null line) simple = tt
-simple_bare program (Y.Assign target source line) simple = tt
-simple_bare program (Y.CallProcedure call line) simple = tt
-simple_bare program (Y.Stop line) simple = tt
-simple_bare program (Y.Signal condition line) simple = tt
-simple_bare program (Y.OnSystem condition line) simple = tt
-simple_bare program (Y.Revert condition line) simple = tt
-simple_bare program (Y.Put skip pairs line) simple = tt
-simple_bare program (Y.Get skip pairs line) simple = tt
-simple_bare program _ simple = absurd simple
-
 unit_left_none : (words : ℕ) → Marks (unit_left words) []
 unit_left_none words =
     let z : ℤ = neg_ℤ (pos (temporary_bytes words)) in
@@ -241,26 +222,43 @@ unit_left_none words =
     (behind (registers_restored 0 7) ((up ++ below) ++ last) [] refl
     (behind (up ++ below) last [] (behind up below [] (plus_none stack_register frame_register z) refl) refl))
 
--- a unit marks nothing, as its single statement doesn't
-unit_none : (e : Environment) (head : Y.BlockHead) (x : Y.Stmt) → IsSimple x → head.kind ≡ Y.SimpleUnit → Marks (stmt_code (owned_by UnitOwner (in_frame head.number head.level e)) none_taken x) (places_of (inner_labels head.number x)) → Marks (unit_by e head (Y.StmtThen [] x (Y.EndOfList [])) head.kind head.level) []
-unit_none e head x simple kind marks =
-    let c = stmt_code (owned_by UnitOwner (in_frame head.number head.level e)) none_taken x in
-    let words = stmts_words (Y.StmtThen [] x (Y.EndOfList [])) in
+-- a unit marks what its statements mark, and its end where it is a block
+made_none : (e : Environment) (head : Y.BlockHead) (kind : Y.BlockKind) → DeclaresNothing e.program head kind → e.block ≡ head.number → Marks (unit_variables e head kind) []
+made_none e head Y.SimpleUnit none same = refl
+made_none e head Y.UnitBlock none same = ap (λ n. symbols_marked (variables_made e head.line 0 (variables_of_block e.program n))) same ∙ ap (λ ds. symbols_marked (variables_made e head.line 0 ds)) none
+made_none e head Y.ProcedureBlock none same = ap (λ n. symbols_marked (variables_made e head.line 0 (variables_of_block e.program n))) same ∙ ap (λ ds. symbols_marked (variables_made e head.line 0 ds)) none
+made_none e head Y.BeginBlock none same = ap (λ n. symbols_marked (variables_made e head.line 0 (variables_of_block e.program n))) same ∙ ap (λ ds. symbols_marked (variables_made e head.line 0 ds)) none
+
+mark_marks : (head : Y.BlockHead) (kind : Y.BlockKind) → Marks (unit_mark head kind) (places_of (end_of head kind))
+mark_marks head Y.SimpleUnit = refl
+mark_marks head Y.UnitBlock = refl
+mark_marks head Y.ProcedureBlock = refl
+mark_marks head Y.BeginBlock = refl
+
+unit_marks : (e : Environment) (head : Y.BlockHead) (body : Y.Stmts) → DeclaresNothing e.program head head.kind → Marks (stmts_code (owned_by (owner_of_unit head head.kind) (in_frame head.number head.level e)) none_taken body) (places_of (all_stands head.number body)) → Marks (unit_by e head body head.kind head.level) (places_of (all_stands head.number body ++ end_of head head.kind))
+unit_marks e head body none marks =
+    let e' = owned_by (owner_of_unit head head.kind) (in_frame head.number head.level e) in
+    let c = stmts_code e' none_taken body in
+    let words = unit_words e head head.kind (stmts_words body) in
     let frame = frame_begun words head.level 0 true in
     let enter = entered_without_texts 2 head.line in
+    let made = unit_variables e' head head.kind in
     let act = act_code head.line in
+    let mark = unit_mark head head.kind in
     let left' = unit_left words in
-    let none : Marks c [] = marks ∙ ap places_of (simple_labels head.number x simple) in
-    subst (λ k. Marks (unit_by e head (Y.StmtThen [] x (Y.EndOfList [])) k head.level) []) (sym kind)
-    (behind frame (enter ++ (act ++ ((c ++ []) ++ left'))) [] (called_begun_none words head.level)
-    (behind enter (act ++ ((c ++ []) ++ left')) [] (behind (number a2 head.line) (service 4) [] (constant_none a2 (pos head.line)) refl)
-    (behind act ((c ++ []) ++ left') [] (act_none head.line)
-    (behind (c ++ []) left' [] (before c [] [] none refl) (unit_left_none words)))))
+    let ss = places_of (all_stands head.number body) in
+    let ends = places_of (end_of head head.kind) in
+    let both : Marks (c ++ (mark ++ left')) (ss ++ ends) = both_mark c (mark ++ left') ss ends marks (before mark left' ends (mark_marks head head.kind) (unit_left_none words)) in
+    behind frame (enter ++ (made ++ (act ++ (c ++ (mark ++ left'))))) (ss ++ ends) (called_begun_none words head.level)
+    (behind enter (made ++ (act ++ (c ++ (mark ++ left')))) (ss ++ ends) (behind (number a2 head.line) (service 4) [] (constant_none a2 (pos head.line)) refl)
+    (behind made (act ++ (c ++ (mark ++ left'))) (ss ++ ends) (made_none e' head head.kind none refl)
+    (behind act (c ++ (mark ++ left')) (ss ++ ends) (act_none head.line) both)))
+    ∙ sym (places_append (all_stands head.number body) (end_of head head.kind))
 
 -- ---- the statements
 
 mutual
-  pub statement_marks : (e : Environment) (t : Taken) (block : ℕ) (types : Types) (x : Y.Stmt) → HasTypes e block types → IsProvedStatement block types x → IsBare e.program x → Marks (stmt_code e t x) (places_of (inner_labels e.block x))
+  pub statement_marks : (e : Environment) (t : Taken) (block : ℕ) (types : Types) (x : Y.Stmt) → HasTypes e block types → IsProvedStatement block types x → IsBare e.program x → Marks (stmt_code e t x) (places_of (inner_stands e.block x))
   statement_marks e t block types (Y.Null line) has is bare = act_none line
   statement_marks e t block types (Y.Assign target (Y.StoredNumber precision x) line) has is bare =
       behind (act_code line) (assigned_code e t target (Y.StoredNumber precision x)) [] (act_none line) (number_assigned_none e t block types precision target x has is.0 is.1.0)
@@ -269,23 +267,23 @@ mutual
   statement_marks e t block types (Y.Assign target (Y.StoredText x) line) has is bare =
       behind (act_code line) (assigned_code e t target (Y.StoredText x)) [] (act_none line) (text_stored_none e t block types target x has is.0 is.1.0)
   statement_marks e t block types (Y.If condition unit line) has is bare =
-      tested_marks e t block types condition line (if_met (stmt_code e t unit)) (places_of (inner_labels e.block unit)) has is.0 (statement_marks e t block types unit has is.1.0 bare)
+      tested_marks e t block types condition line (if_met (stmt_code e t unit)) (places_of (inner_stands e.block unit)) has is.0 (statement_marks e t block types unit has is.1.0 bare)
   statement_marks e t block types (Y.IfElse condition unit otherwise line) has is bare =
       let c = stmt_code e t unit in
       let d = stmt_code e t otherwise in
       let over = JumpAhead (size_of d) ∷ [] in
-      let ls = places_of (inner_labels e.block unit) in
-      let ms = places_of (inner_labels e.block otherwise) in
-      tested_marks e t block types condition line (if_met (c ++ over) ++ d) (places_of (inner_labels e.block unit ++ inner_labels e.block otherwise)) has is.0
+      let ls = places_of (inner_stands e.block unit) in
+      let ms = places_of (inner_stands e.block otherwise) in
+      tested_marks e t block types condition line (if_met (c ++ over) ++ d) (places_of (inner_stands e.block unit ++ inner_stands e.block otherwise)) has is.0
       (both_mark (c ++ over) d ls ms (before c over ls (statement_marks e t block types unit has is.1.0 bare.0) refl) (statement_marks e t block types otherwise has is.1.1.0 bare.1)
-      ∙ sym (places_append (inner_labels e.block unit) (inner_labels e.block otherwise)))
+      ∙ sym (places_append (inner_stands e.block unit) (inner_stands e.block otherwise)))
   statement_marks e t block types (Y.Do body line) has is bare =
-      behind (act_code line) (stmts_code e t body) (places_of (all_labels e.block body)) (act_none line) (statements_mark e t block types body has is.0 bare)
+      behind (act_code line) (stmts_code e t body) (places_of (all_stands e.block body)) (act_none line) (statements_mark e t block types body has is.0 bare)
   statement_marks e t block types (Y.DoWhile condition body line) has is bare =
       let test = act_code line ++ bit_code e t condition in
       let c = stmts_code e t body in
       let jump = JumpBack (size_of test + (3 + size_of c)) ∷ [] in
-      let ls = places_of (all_labels e.block body) in
+      let ls = places_of (all_stands e.block body) in
       behind (act_code line) (while_met test c) ls (act_none line)
       (behind test (if_met (c ++ jump)) ls (behind (act_code line) (bit_code e t condition) [] (act_none line) (bit_none e t block types condition has is.0))
       (before c jump ls (statements_mark e t block types body has is.1.0 bare) refl))
@@ -293,7 +291,7 @@ mutual
       let stored' = assigned_code e t target (Y.StoredNumber precision x) in
       let c = stmts_code e t body in
       let rest = once_code e t condition line c in
-      let ls = places_of (all_labels e.block body) in
+      let ls = places_of (all_stands e.block body) in
       behind (act_code line) (stored' ++ rest) ls (act_none line)
       (behind stored' rest ls (number_assigned_none e t block types precision target x has is.0.0 is.0.1)
       (once_marks e t block types condition line c ls has is.1.0 (statements_mark e t block types body has is.1.1.0 bare)))
@@ -301,7 +299,7 @@ mutual
       let stored' = assigned_code e t target (Y.StoredBit x) in
       let c = stmts_code e t body in
       let rest = once_code e t condition line c in
-      let ls = places_of (all_labels e.block body) in
+      let ls = places_of (all_stands e.block body) in
       behind (act_code line) (stored' ++ rest) ls (act_none line)
       (behind stored' rest ls (bit_assigned_none e t block types target x has is.0.0 is.0.1)
       (once_marks e t block types condition line c ls has is.1.0 (statements_mark e t block types body has is.1.1.0 bare)))
@@ -309,7 +307,7 @@ mutual
       let stored' = assigned_code e t target (Y.StoredText x) in
       let c = stmts_code e t body in
       let rest = once_code e t condition line c in
-      let ls = places_of (all_labels e.block body) in
+      let ls = places_of (all_stands e.block body) in
       behind (act_code line) (stored' ++ rest) ls (act_none line)
       (behind stored' rest ls (text_stored_none e t block types target x has is.0.0 is.0.1)
       (once_marks e t block types condition line c ls has is.1.0 (statements_mark e t block types body has is.1.1.0 bare)))
@@ -318,7 +316,7 @@ mutual
       let ahead = count_begun e t counter start limit step in
       let c = stmts_code e (in_turns t) body in
       let turns' = turns_code (turn_of e t counter limit condition line c) in
-      let ls = places_of (all_labels e.block body) in
+      let ls = places_of (all_stands e.block body) in
       behind (act_code line) (ahead ++ turns') ls (act_none line)
       (behind ahead turns' ls (begun_none e t block types precision target start limit step has is.0.1 is.1.0.0 is.1.0.1)
       (turns_mark e t block types precision target limit condition line c ls has is.0.0 is.1.1.0 (statements_mark e (in_turns t) block types body has is.1.1.1.0 bare)))
@@ -326,7 +324,7 @@ mutual
       let e' = begin_environment head e in
       let c = stmts_code e' none_taken body in
       let words = block_words e head.number (stmts_words body) in
-      let ss = places_of (all_labels head.number body) in
+      let ss = places_of (all_stands head.number body) in
       behind (act_code head.line) (begin_code e head words c) ss (act_none head.line) (begin_marks e head words c ss bare.0 (statements_mark e' none_taken block types body has is.1.1 bare.1))
   statement_marks e t block types (Y.CallProcedure (Y.Calling procedure level Y.NoArgument) line) has is bare =
       behind (act_code line) (call_code e t (Y.Calling procedure level Y.NoArgument)) [] (act_none line) (call_none e (words_place t.words 0) procedure level)
@@ -342,11 +340,11 @@ mutual
       before (act_code line) (condition_given condition ∷ small a1 0 ∷ service 28) [] (act_none line) refl
   statement_marks e t block types (Y.Revert condition line) has is bare =
       before (act_code line) (condition_given condition ∷ service 29) [] (act_none line) refl
-  statement_marks e t block types (Y.OnUnit condition (Y.BlockOf head (Y.StmtThen [] x (Y.EndOfList []))) line) has is bare =
-      let e' = owned_by UnitOwner (in_frame head.number head.level e) in
-      let unit = unit_by e head (Y.StmtThen [] x (Y.EndOfList [])) head.kind head.level in
-      behind (act_code line) (unit_established condition unit) [] (act_none line)
-      (unit_none e head x is.1.1.1.1.0 is.1.0 (statement_marks e' none_taken block types x has is.1.1.1.1.1 (simple_bare e.program x is.1.1.1.1.0)))
+  statement_marks e t block types (Y.OnUnit condition (Y.BlockOf head body) line) has is bare =
+      let e' = owned_by (owner_of_unit head head.kind) (in_frame head.number head.level e) in
+      let unit = unit_by e head body head.kind head.level in
+      behind (act_code line) (unit_established condition unit) (places_of (all_stands head.number body ++ end_of head head.kind)) (act_none line)
+      (unit_marks e head body bare.0 (statements_mark e' none_taken block types body has is.1.1.1.1 bare.1))
   statement_marks e t block types (Y.Put None pairs line) has is bare =
       behind (act_code line) (put_pairs e t pairs) [] (act_none line) (pairs_none e t block types pairs has is.0)
   statement_marks e t block types (Y.Put (Some n) pairs line) has is bare =
@@ -359,14 +357,14 @@ mutual
       behind (act_code line) (skip_option 0 (Some n) ++ got) [] (act_none line) (behind (skip_option 0 (Some n)) got [] (get_skip_none n) (gets_none e t block types pairs has is.1.0))
   statement_marks e t block types _ has is bare = absurd is
 
-  pub statements_mark : (e : Environment) (t : Taken) (block : ℕ) (types : Types) (body : Y.Stmts) → HasTypes e block types → AreProvedStatements block types body → AreBare e.program body → Marks (stmts_code e t body) (places_of (all_labels e.block body))
+  pub statements_mark : (e : Environment) (t : Taken) (block : ℕ) (types : Types) (body : Y.Stmts) → HasTypes e block types → AreProvedStatements block types body → AreBare e.program body → Marks (stmts_code e t body) (places_of (all_stands e.block body))
   statements_mark e t block types (Y.EndOfList labels) has are bare = marked_places e.block labels
   statements_mark e t block types (Y.StmtThen labels first rest) has are bare =
       let c = stmt_code e t first in
       let d = stmts_code e t rest in
-      let marks = of_block e.block labels in
-      let ls = inner_labels e.block first in
-      let ms = all_labels e.block rest in
+      let marks = stands_of e.block labels in
+      let ls = inner_stands e.block first in
+      let ms = all_stands e.block rest in
       both_mark (marked e.block labels) (c ++ d) (places_of marks) (places_of ls ++ places_of ms) (marked_places e.block labels)
       (both_mark c d (places_of ls) (places_of ms) (statement_marks e t block types first has are.0 bare.0) (statements_mark e t block types rest has are.1 bare.1))
       ∙ ap (λ ss. places_of marks ++ ss) (sym (places_append ls ms))

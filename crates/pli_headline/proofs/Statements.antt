@@ -1,5 +1,5 @@
 -- Statements of a block whose variables are scalars, one behind the other.
-use Rattle.std.proofs.Common.{◌≡◌, ℕ, zero, suc, ◌+◌, ◌*◌, ◌%◌, ◌^◌, ◌<◌, ◌≤◌, List, [], ◌∷◌, ◌++◌, length, Option, Some, None, true, false, refl, sym, ap, ◌∙◌, subst, arith, Bool}
+use Rattle.std.proofs.Common.{◌≡◌, ℕ, zero, suc, ◌+◌, ◌*◌, ◌%◌, ◌^◌, ◌<◌, ◌≤◌, ◌⊎◌, inl, inr, List, [], ◌∷◌, ◌++◌, length, Option, Some, None, true, false, refl, sym, ap, ◌∙◌, subst, arith, Bool}
 use Rattle.std.specs.Prelude.{ℤ, pos, max, slice_get, ◌==◌}
 use Rattle.std.proofs.Math.Nat.{le-max_left}
 use Rattle.rv_meaning.specs.declared.instr.Instr.{Instr}
@@ -67,6 +67,14 @@ abbrev pub IsOwned : Owner → Type 0
 IsOwned (BlockOwner b) = Unit {0}
 IsOwned UnitOwner = ⊥
 
+-- and so is that of the main procedure's, whatever owns the block that runs
+abbrev pub IsSized : Owner → (level : ℕ) → Type 0
+IsSized owner level = (level ≡ 0) ⊎ IsOwned owner
+
+pub owned_of : (owner : Owner) (level : ℕ) → level ≡ 1 → IsSized owner level → IsOwned owner
+owned_of owner level next (inl lowest) = absurd (omega (arith, next, lowest))
+owned_of owner level next (inr owned) = owned
+
 -- the stack above a block's frame, where blocks inside it have theirs
 pub record Stack (e : Environment) (block : ℕ) (types : Types) (base : ℕ) (ground : Values → Ground) : Type 0 where
   pub frame : ℕ
@@ -112,7 +120,7 @@ pub record Enclosing (e : Environment) (o : OuterBlock) (ground : Values → Gro
   pub free_is : (n : Values) → (its n).free ≡ free
   pub above : frame + 144 ≤ free
   pub ends : free ≤ 14 * 2 ^ 20
-  pub sized : IsOwned e.owner → frame + frame_end e.parts e.program o.number o.level ≡ free
+  pub sized : IsSized e.owner o.level → frame + frame_end e.parts e.program o.number o.level ≡ free
   pub kept : (n : Values) (t : ℕ → ℕ) (b : Base) (m : List ℕ) → (ground n).memory t b m → (its n).memory waits b m
   pub own : (n : Values) (t : ℕ → ℕ) (b : Base) (m : List ℕ) → (its n).memory t b m → load 4 m (frame + 36) ≡ frame
   pub deeper : o.level < e.level
@@ -120,6 +128,7 @@ pub record Enclosing (e : Environment) (o : OuterBlock) (ground : Values → Gro
   pub count : ℕ
   pub behind : List ℕ
   pub depths : List ℕ
+  pub lowest : o.level ≡ 0 → depths ≡ []
   pub rises : Rises (suc count) frame o.level frames levels behind depths
 
 abbrev pub Enclosures : Environment → (ground : Values → Ground) → (shows : ℕ → ℕ) → (frames levels : List ℕ) → List OuterBlock → Type 1
@@ -156,7 +165,7 @@ pub record Block (e : Environment) (block : ℕ) (types : Types) : Type 1 where
   pub lead : List ℕ
   pub leads : frames.list ≡ stack.frame ∷ lead
   pub ends : stack.free ≤ 14 * 2 ^ 20
-  pub sized : IsOwned e.owner → stack.frame + frame_end e.parts e.program e.block e.level ≡ stack.free
+  pub sized : IsSized e.owner e.level → stack.frame + frame_end e.parts e.program e.block e.level ≡ stack.free
   pub own : (n : Values) (t : ℕ → ℕ) (b : Base) (m : List ℕ) → (ground n).memory t b m → load 4 m (stack.frame + 36) ≡ stack.frame
   pub levels : ℕ → ℕ
   pub level_room : (j : ℕ) → j < e.level → levels j < memory_size
@@ -172,7 +181,8 @@ pub record Standing {e : Environment} {block : ℕ} {types : Types} (bl : Block 
   pub raises : Routines links code
   pub constants : (n : Values) → ConstantsStand links code (bl.ground n)
 
--- blocks of these levels are entered, which have these frames and units, variables hold these numbers and texts and arrays theirs, and all that lives is STATIC or the main procedure's
+-- blocks of these levels are entered, which have these frames and units, variables hold these numbers and texts and arrays theirs, and all
+-- that lives is STATIC or the main procedure's
 pub record AllHold (frames : Frames) (xs : List Activation) (levels : List ℕ) (s : State) (block : ℕ) (types : Types) (n : Values) : Type 0 where
   pub numbers : (j : ℕ) (b : Typed types j) → IsNumeric b.0 → Holds s block j b.0 (n.numbers j)
   pub texts : (j : ℕ) (varying : Bool) (most : ℕ) → IsTextAt types j varying most → KeepsText s block j varying most (n.texts j)

@@ -36,8 +36,8 @@ use Rattle.pli_headline.proofs.Statements.{Block}
 use Rattle.pli_headline.proofs.InnerFrames.{inner_whole}
 use Rattle.pli_headline.proofs.BeginDisplays.{frame_word, moved_reserved, without_two}
 use Rattle.pli_headline.proofs.BeginEntered.{ended_services}
-use Rattle.pli_headline.proofs.CalledFrames.{Callee, called_ground}
-use Rattle.pli_headline.proofs.CalledLeft.{saved_in}
+use Rattle.pli_headline.proofs.CalledFrames.{Callee}
+use Rattle.pli_headline.proofs.CalledLeft.{ending_ground, ending_saved}
 use Rattle.pli_headline.proofs.Reach.{Family, Reach, stay, reach_then, reached, reached_holds}
 use Rattle.pli_headline.proofs.Scalars.{Values}
 
@@ -47,9 +47,9 @@ return_answer code v m a rest n resume e kind =
     ∙ ap (λ q. K.unit_left (call_at code v m) q (K.newest_ended v 0 a rest)) kind
 
 -- service 31
-asked_piece : {e : Environment} {block : ℕ} {types : Types} (bl : Block e block types) (callee : Callee bl) (back : Base → ℕ) (n : Values) {links : Links} {code : List Instr} {i : ℕ} {v : Services} {h0 h t0 t : ℕ → ℕ} (c : ℕ) (f : Family) (a : S.Activation) (rest : List S.Activation) (number resume : ℕ) → v.activations ≡ a ∷ rest → a.kind ≡ S.OnUnitBlock number resume → Linked links code i (service 31) → ((b : Base) → At b i (Known (called_ground bl callee back h0 t0 n) v h t nothing b) (f b)) → Reach code c f v (c + 2) (ended_services v a rest) (λ b w. At b (i + 2) (Known (called_ground bl callee back h0 t0 n) (ended_services v a rest) h t (with' 10 (λ b'. resume) nothing) b) w)
-asked_piece bl callee back n {links} {code} {i} {v} {h0} {h} {t0} {t} c f a rest number resume e kind l there =
-    let ground = called_ground bl callee back h0 t0 n in
+asked_piece : {e : Environment} {block : ℕ} {types : Types} (bl : Block e block types) (callee : Callee bl) (back : Base → ℕ) (n : Values) (free : ℕ) {links : Links} {code : List Instr} {i : ℕ} {v : Services} {h0 h t0 t : ℕ → ℕ} (c : ℕ) (f : Family) (a : S.Activation) (rest : List S.Activation) (number resume : ℕ) → v.activations ≡ a ∷ rest → a.kind ≡ S.OnUnitBlock number resume → Linked links code i (service 31) → ((b : Base) → At b i (Known (ending_ground bl callee back h0 t0 n free) v h t nothing b) (f b)) → Reach code c f v (c + 2) (ended_services v a rest) (λ b w. At b (i + 2) (Known (ending_ground bl callee back h0 t0 n free) (ended_services v a rest) h t (with' 10 (λ b'. resume) nothing) b) w)
+asked_piece bl callee back n free {links} {code} {i} {v} {h0} {h} {t0} {t} c f a rest number resume e kind l there =
+    let ground = ending_ground bl callee back h0 t0 n free in
     let v' = ended_services v a rest in
     let asked = small a7 31 ∷ [] in
     let call = Plain I.Ecall ∷ [] in
@@ -121,15 +121,15 @@ more_restored {g} {t} to back saved s (suc left) n {v = v} h c f all l there =
     reach_moved (omega (arith, size)) (omega (arith, size)) (reach_then r1 r2)
 
 -- the frame of the block that raised the condition
-lowered_piece : {e : Environment} {block : ℕ} {types : Types} (bl : Block e block types) (callee : Callee bl) (to back : Base → ℕ) (n : Values) {links : Links} {code : List Instr} {i : ℕ} {v : Services} {h0 h t0 t : ℕ → ℕ} (c : ℕ) (f : Family) → Linked links code i (frame_ended callee.words) → ((b : Base) → At b i (Known (called_ground bl callee back h0 t0 n) v h t (with' 10 to nothing) b) (f b)) → Reach code c f v (c + size_of (frame_ended callee.words)) v (λ b w. At b (i + size_of (frame_ended callee.words)) (Known (bl.ground n) v h t0 (with' 10 to nothing) b) w)
-lowered_piece bl callee to back n {links} {code} {i} {v} {h0} {h} {t0} {t} c f l there =
-    let ground = called_ground bl callee back h0 t0 n in
+lowered_piece : {e : Environment} {block : ℕ} {types : Types} (bl : Block e block types) (callee : Callee bl) (to back : Base → ℕ) (n : Values) (free : ℕ) {links : Links} {code : List Instr} {i : ℕ} {v : Services} {h0 h t0 t : ℕ → ℕ} (c : ℕ) (f : Family) → Linked links code i (frame_ended callee.words) → ((b : Base) → At b i (Known (ending_ground bl callee back h0 t0 n free) v h t (with' 10 to nothing) b) (f b)) → Reach code c f v (c + size_of (frame_ended callee.words)) v (λ b w. At b (i + size_of (frame_ended callee.words)) (Known (bl.ground n) v h t0 (with' 10 to nothing) b) w)
+lowered_piece bl callee to back n free {links} {code} {i} {v} {h0} {h} {t0} {t} c f l there =
+    let ground = ending_ground bl callee back h0 t0 n free in
     let outer = bl.ground n in
     let size = temporary_bytes callee.words in
     let z = neg_ℤ (pos size) in
     let room = callee.room in
     let place = callee.place in
-    let free = bl.stack.free_is n in
+    let ends = bl.stack.free_is n in
     let same = bl.stack.frame_is n in
     let whole = inner_whole callee.at bl.stack.free callee.words callee.place bl.stack.aligned in
     let up = plus stack_register frame_register z in
@@ -145,7 +145,7 @@ lowered_piece bl callee to back n {links} {code} {i} {v} {h0} {h} {t0} {t} c f l
       does = λ b j w q d k s. (
         (k.body.services, k.regs.0),
         (
-          moved_reserved (w.machine.registers 0) _ _ _ _ _ _ (ap without_two k.body.registers) (s ∙ below_sum b.at callee.at size b.valid.1 (omega (arith, room)) (omega (arith, place)) ∙ ap (λ u. b.at + u) (omega (arith, place, free))) (frame_is k.body),
+          moved_reserved (w.machine.registers 0) _ _ _ _ _ _ (ap without_two k.body.registers) (s ∙ below_sum b.at callee.at size b.valid.1 (omega (arith, room)) (omega (arith, place)) ∙ ap (λ u. b.at + u) (omega (arith, place, ends))) (frame_is k.body),
           (k.body.bytes, k.body.memory),
         ),
       );
@@ -201,17 +201,17 @@ resumed_piece {code = code} {i = i} {g = g} {v = v} {h = h} {t = t} c f resume n
     )) in
     reach_then r1 r2
 
--- the registers hold again what they held where the condition was raised, as far as a word holds it
-pub unit_left_piece : {e : Environment} {block : ℕ} {types : Types} (bl : Block e block types) (callee : Callee bl) (back : Base → ℕ) (resume : ℕ) (n : Values) {links : Links} {code : List Instr} {i : ℕ} {v : Services} {h0 h t0 t : ℕ → ℕ} (c : ℕ) (f : Family) (a : S.Activation) (rest : List S.Activation) (number : ℕ) → resume ≤ most_code → v.activations ≡ a ∷ rest → a.kind ≡ S.OnUnitBlock number (4 * resume) → Linked links code i (unit_left callee.words) → ((b : Base) → At b i (Known (called_ground bl callee back h0 t0 n) v h t nothing b) (f b)) → Reach code c f v (c + 2 + size_of (registers_restored 0 7) + size_of (frame_ended callee.words) + 4) (ended_services v a rest) (λ b w. At b resume (Known (bl.ground n) (ended_services v a rest) (held_again h0 0 7 h) t0 nothing b) w)
-unit_left_piece bl callee back resume n {h0 = h0} {h = h} {t0 = t0} {t = t} c f a rest number near e kind l there =
+-- the registers hold again what they held where the condition was raised, as far as a word holds it, whatever the stack's register is
+pub unit_left_piece : {e : Environment} {block : ℕ} {types : Types} (bl : Block e block types) (callee : Callee bl) (back : Base → ℕ) (resume : ℕ) (n : Values) (free : ℕ) {links : Links} {code : List Instr} {i : ℕ} {v : Services} {h0 h t0 t : ℕ → ℕ} (c : ℕ) (f : Family) (a : S.Activation) (rest : List S.Activation) (number : ℕ) → resume ≤ most_code → v.activations ≡ a ∷ rest → a.kind ≡ S.OnUnitBlock number (4 * resume) → Linked links code i (unit_left callee.words) → ((b : Base) → At b i (Known (ending_ground bl callee back h0 t0 n free) v h t nothing b) (f b)) → Reach code c f v (c + 2 + size_of (registers_restored 0 7) + size_of (frame_ended callee.words) + 4) (ended_services v a rest) (λ b w. At b resume (Known (bl.ground n) (ended_services v a rest) (held_again h0 0 7 h) t0 nothing b) w)
+unit_left_piece bl callee back resume n free {h0 = h0} {h = h} {t0 = t0} {t = t} c f a rest number near e kind l there =
     let to : Base → ℕ = λ b. 4 * resume in
     let asked = service 31 in
     let restored = registers_restored 0 7 in
     let lower = frame_ended callee.words in
     let l1 = back_of asked (restored ++ (lower ++ jump_on)) l in
     let l2 = back_of restored (lower ++ jump_on) l1 in
-    let r1 = asked_piece bl callee back n c f a rest number (4 * resume) e kind (front_of asked (restored ++ (lower ++ jump_on)) l) there in
-    let r2 = more_restored to back h0 (saved_in bl callee back h0 t0 n t) 7 0 h (c + 2) (reached r1) (omega arith) (front_of restored (lower ++ jump_on) l1) (reached_holds r1) in
-    let r3 = lowered_piece bl callee to back n (c + 2 + size_of restored) (reached r2) (front_of lower jump_on l2) (reached_holds r2) in
+    let r1 = asked_piece bl callee back n free c f a rest number (4 * resume) e kind (front_of asked (restored ++ (lower ++ jump_on)) l) there in
+    let r2 = more_restored to back h0 (ending_saved bl callee back h0 t0 n free t) 7 0 h (c + 2) (reached r1) (omega arith) (front_of restored (lower ++ jump_on) l1) (reached_holds r1) in
+    let r3 = lowered_piece bl callee to back n free (c + 2 + size_of restored) (reached r2) (front_of lower jump_on l2) (reached_holds r2) in
     let r4 = resumed_piece (c + 2 + size_of restored + size_of lower) (reached r3) resume near (back_of lower jump_on l2) (reached_holds r3) in
     reach_then r1 (reach_then r2 (reach_then r3 r4))

@@ -1,7 +1,7 @@
 -- SIGNAL of AREA while a unit of the program may be in force: the unit is entered, runs and goes back behind SIGNAL, or the limit on active
 -- blocks ends the run; where none is in force the system's action ends it.
 use Rattle.std.proofs.Common.{◌≡◌, ℕ, zero, suc, ◌+◌, ◌*◌, ◌^◌, ◌<◌, ◌≤◌, List, [], ◌∷◌, ◌++◌, length, None, Option, Some, true, false, refl, sym, ap, ◌∙◌, subst, arith, lit<}
-use Rattle.std.proofs.lemmas.Bool.{ltb-true}
+use Rattle.std.proofs.lemmas.Bool.{eq-eqb, ltb-true}
 use Rattle.std.specs.Prelude.{cond, nat_lt, ◌==◌}
 use Rattle.pli_language.specs.declared.condition.Condition.TheVariants as C
 use Rattle.rv_meaning.specs.declared.instr.Instr.{Instr}
@@ -12,7 +12,7 @@ use Rattle.pli_meaning.specs.BasicValues.{BasicValue}
 use Rattle.pli_meaning.specs.StorageState.{State, Activation, OnUnit, SystemUnit, BlockUnit, with_world, newest_ended, most_activations, force}
 use Rattle.pli_meaning.specs.declared.outcome.End.TheVariants as E
 use Rattle.pli_meaning.specs.declared.outcome.Limit.TheVariants as L
-use Rattle.pli_meaning.specs.Control.{Meaning, left, give, act, looked, ◌>>=◌, ◌>>◌, finish}
+use Rattle.pli_meaning.specs.Control.{Label, Meaning, left, give, act, looked, ◌>>=◌, ◌>>◌, finish}
 use Rattle.pli_meaning.specs.Raising.{Around, at_line}
 use Rattle.pli_meaning.specs.Raising as R
 use Rattle.pli_meaning.specs.Executing as M
@@ -20,37 +20,40 @@ use Rattle.pli_serving.specs.ServiceState as S
 use Rattle.pli_serving.specs.ServiceState.{Services}
 use Rattle.pli_serving.specs.OnUnits as U
 use Rattle.pli_coding.specs.Registers.{a7}
-use Rattle.pli_coding.specs.Assembly.{Plain, Code, size_of}
+use Rattle.pli_coding.specs.Assembly.{ReturnPlace, Plain, Code, size_of}
 use Rattle.pli_coding.specs.Instructions.{small}
 use Rattle.rv_meaning.specs.declared.instr.Instr.TheVariants as I
 use Rattle.pli_coding.specs.Arithmetic.{raised}
 use Rattle.pli_coding.specs.Allocating.{act_code}
 use Rattle.pli_coding.specs.Entries.{registers_restored, frame_begun, frame_ended, entered_without_texts}
-use Rattle.pli_coding.specs.Environments.{UnitOwner, Environment, in_frame, owned_by, none_taken}
-use Rattle.pli_coding.specs.Statements.{stmt_code, stmts_code, unit_left}
-use Rattle.pli_coding.specs.Linking.{Links}
+use Rattle.pli_coding.specs.Environments.{BlockOwner, Environment, none_taken}
+use Rattle.pli_coding.specs.Frames.{fixed_size, frame_end}
+use Rattle.pli_coding.specs.Statements.{owner_of_unit, unit_environment, unit_mark, unit_left, stmt_code, stmts_code}
+use Rattle.pli_coding.specs.Linking.{Links, place_of}
 use Rattle.pli_headline.specs.ProvedSoFar.{Types}
 use Rattle.pli_headline.proofs.Engine.{Base, address, most_code}
 use Rattle.pli_headline.proofs.Linking.{size_append}
 use Rattle.pli_headline.proofs.Items.{Linked, At}
 use Rattle.pli_headline.proofs.Bodies.{Known}
-use Rattle.pli_headline.proofs.Jumps.{front_of, back_of}
+use Rattle.pli_headline.proofs.Jumps.{front_of, back_of, linked_at}
 use Rattle.pli_headline.proofs.Temporaries.{nothing}
 use Rattle.pli_headline.proofs.Activations.{IsOrdinary, OnlyIf, same_length, entered_length, first_level, levels_of}
 use Rattle.pli_headline.proofs.Entered.{atop, AreBoth, both_in_force}
 use Rattle.pli_headline.proofs.Calls.{Serving}
 use Rattle.pli_headline.proofs.Raising.{Routines, with_act}
 use Rattle.pli_headline.proofs.Operators.{raised_alone}
-use Rattle.pli_headline.proofs.Acts.{act_to, act_piece}
-use Rattle.pli_headline.proofs.Statements.{IsOwned, Block, AllHold, counted_all, Does}
-use Rattle.pli_headline.proofs.MainFlow.{inside_closed, comes_left}
+use Rattle.pli_headline.proofs.Acts.{acted, act_to, act_piece}
+use Rattle.pli_headline.proofs.Statements.{owner_level, IsOwned, Block, AllHold, counted_all, IsEndMarkedOnce, Enough, Does}
+use Rattle.pli_headline.proofs.CalledJumps.{ending_closed, comes_called}
 use Rattle.pli_headline.proofs.Owing.{owing, owing_closed, comes_owing, done_owing}
+use Rattle.pli_headline.proofs.MainOutlets.{HasMain, main_of, main_enclosing, main_outlet, owed_outlet}
 use Rattle.pli_headline.proofs.SavedRegisters.{held_again}
 use Rattle.pli_headline.proofs.BeginEntered.{ended_services}
 use Rattle.pli_headline.proofs.BeginMeant.{Entering, inner_around, inner_part, entered_by, raised_nested, raised_all, ended_input, left_all, newest_kind}
 use Rattle.pli_headline.proofs.CallMeant.{called_part}
 use Rattle.pli_headline.proofs.CallRuns.{called_direct}
-use Rattle.pli_headline.proofs.CalledFrames.{Callee, called_ground, called_block_as}
+use Rattle.pli_headline.proofs.CalledFrames.{Callee, called_block_as}
+use Rattle.pli_headline.proofs.CalledLeft.{ending_ground}
 use Rattle.pli_headline.proofs.CalledBegun.{called_frame, entry_with}
 use Rattle.pli_headline.proofs.Begins.{by_test}
 use Rattle.pli_headline.proofs.UnitMeant.{IsBareUnit, unit_entry, unit_part, unit_meant, past_limit}
@@ -62,17 +65,34 @@ use Rattle.pli_headline.proofs.Scalars.{Values}
 
 -- ---- units that may be raised
 
--- the code of a unit without variables and marks of its own
-abbrev pub unit_with : (words line : ℕ) → (statements : Code) → Code
-unit_with words line statements =
+-- the code of a unit without variables, with the mark of its end
+abbrev pub unit_with : (words line : ℕ) → (statements mark : Code) → Code
+unit_with words line statements mark =
     frame_begun words 1 0 true
-    ++ (entered_without_texts 2 line ++ (act_code line ++ (statements ++ unit_left words)))
+    ++ (entered_without_texts 2 line ++ (act_code line ++ (statements ++ (mark ++ unit_left words))))
 
-pub unit_sized : {A : Type 0} → IsOwned UnitOwner → A
-unit_sized owned = absurd owned
+-- what owns its statements isn't the main procedure
+pub unit_apart : (head : Y.BlockHead) (kind : Y.BlockKind) → head.level ≡ 1 → (number : ℕ) → owner_of_unit head kind ≡ BlockOwner (record { number = number; level = 0 }) → ⊥
+unit_apart head Y.SimpleUnit level number owned = cc owned
+unit_apart head Y.UnitBlock level number owned = let no : head.level ≡ 0 = ap owner_level owned in omega (arith, no, level)
+unit_apart head Y.ProcedureBlock level number owned = let no : head.level ≡ 0 = ap owner_level owned in omega (arith, no, level)
+unit_apart head Y.BeginBlock level number owned = let no : head.level ≡ 0 = ap owner_level owned in omega (arith, no, level)
+
+mark_size : (head : Y.BlockHead) (kind : Y.BlockKind) → size_of (unit_mark head kind) ≡ 0
+mark_size head Y.SimpleUnit = refl
+mark_size head Y.UnitBlock = refl
+mark_size head Y.ProcedureBlock = refl
+mark_size head Y.BeginBlock = refl
+
+-- the mark says where its end is
+end_placed : {links : Links} {code : List Instr} {i : ℕ} (head : Y.BlockHead) (kind : Y.BlockKind) → Linked links code i (unit_mark head kind) → owner_of_unit head kind ≡ BlockOwner (record { number = head.number; level = head.level }) → IsEndMarkedOnce links head.number → place_of links (ReturnPlace head.number) ≡ 4 * i
+end_placed head Y.SimpleUnit l owned once = absurd (cc owned)
+end_placed head Y.UnitBlock l owned once = l.has.0 (eq-eqb head.number head.number refl) once
+end_placed head Y.ProcedureBlock l owned once = l.has.0 (eq-eqb head.number head.number refl) once
+end_placed head Y.BeginBlock l owned once = l.has.0 (eq-eqb head.number head.number refl) once
 
 -- its code stands at an offset, there is room for its frame, and its statements do what they mean
-pub record Raisable {e : Environment} {block : ℕ} {types : Types} (bl : Block e block types) (links : Links) (code : List Instr) (more frame : ℕ) (u : Y.Block) (at : ℕ) : Type 1 where
+pub record Raisable {e : Environment} {block : ℕ} {types : Types} (bl : Block e block types) (main : ℕ) (mains : List Label) (has : HasMain main mains e.level e.block bl.labels bl.outer) (links : Links) (code : List Instr) (more frame : ℕ) (u : Y.Block) (at : ℕ) : Type 1 where
   pub lowest : frame ≡ bl.base
   pub head : Y.BlockHead
   pub body : Y.Stmts
@@ -84,19 +104,20 @@ pub record Raisable {e : Environment} {block : ℕ} {types : Types} (bl : Block 
   pub index : ℕ
   pub at_is : at ≡ 4 * index
   pub later : 10 ≤ index
-  pub linked : Linked links code index (unit_with callee.words head.line (stmts_code (owned_by UnitOwner (in_frame head.number head.level e)) none_taken body))
-  pub does : (m : ℕ) → more ≡ suc m → suc (length bl.depths) < most_activations → (kind : S.BlockKind) (back : Base → ℕ) (h0 t0 : ℕ → ℕ) → Does (called_block_as bl callee back h0 t0 UnitOwner kind head level unit_sized) links code (suc m) (stmts_code (owned_by UnitOwner (in_frame head.number head.level e)) none_taken body) (M.list (inner_around e.program m head.line) body)
+  pub sized : IsOwned (owner_of_unit head head.kind) → frame_end e.parts e.program head.number head.level ≡ fixed_size 1 0
+  pub linked : Linked links code index (unit_with callee.words head.line (stmts_code (unit_environment head e) none_taken body) (unit_mark head head.kind))
+  pub does : (m : ℕ) → more ≡ suc m → suc (length bl.depths) < most_activations → (kind : S.BlockKind) (back : Base → ℕ) (h0 t0 : ℕ → ℕ) → Does (called_block_as bl callee back h0 t0 (owner_of_unit head head.kind) kind head level sized (main_of main mains) (main_enclosing bl callee back h0 t0 (owner_of_unit head head.kind) head level main mains has)) links code (suc m) (stmts_code (unit_environment head e) none_taken body) (M.list (inner_around e.program m head.line) body)
 
 -- ---- behind the statements of the unit
 
 -- it is left, and the run goes on where its raise said with the credits of that place
-leave_piece : {e : Environment} {block : ℕ} {types : Types} (bl : Block e block types) {links : Links} {code : List Instr} {level : ℕ} (callee : Callee bl) (k i resume oncode : ℕ) (h t : ℕ → ℕ) {aims : Aims (Unit {0})} (closed : Closed code aims) → resume ≤ most_code → i + 2 + size_of (registers_restored 0 7) + size_of (frame_ended callee.words) + 4 ≤ resume + length code → Linked links code i (unit_left callee.words) → ((s' : State) (v' : Services) (line' : ℕ) (n' : Values) (h' : ℕ → ℕ) (f' : Family) → Serving k s' v' line' → AllHold bl.frames v'.activations (e.level ∷ bl.depths) s' block types n' → ((b : Base) → At b resume (Known (bl.ground n') v' h' t nothing b) (f' b)) → aims.done resume f' v' tt s') → (s : State) (v : Services) (line : ℕ) (n : Values) (h1 t1 : ℕ → ℕ) (f : Family) → Serving k s v line → AllHold (atop callee.at (S.OnUnitBlock oncode (4 * resume)) bl.frames) v.activations (level ∷ e.level ∷ bl.depths) s block types n → ((b : Base) → At b i (Known (called_ground bl callee (λ b'. address b' resume) h t n) v h1 t1 nothing b) (f b)) → (owing code (length code) aims).done i f v tt (with_world s.world (newest_ended s))
-leave_piece {e} {block} {types} bl {code = code} callee k i resume oncode h t closed near few l goal s v line n h1 t1 f serving all at =
+leave_piece : {e : Environment} {block : ℕ} {types : Types} (bl : Block e block types) {links : Links} {code : List Instr} {level : ℕ} (callee : Callee bl) (k i resume oncode : ℕ) (h t : ℕ → ℕ) {aims : Aims (Unit {0})} (closed : Closed code aims) → resume ≤ most_code → i + 2 + size_of (registers_restored 0 7) + size_of (frame_ended callee.words) + 4 ≤ resume + length code → Linked links code i (unit_left callee.words) → ((s' : State) (v' : Services) (line' : ℕ) (n' : Values) (h' : ℕ → ℕ) (f' : Family) → Serving k s' v' line' → AllHold bl.frames v'.activations (e.level ∷ bl.depths) s' block types n' → ((b : Base) → At b resume (Known (bl.ground n') v' h' t nothing b) (f' b)) → aims.done resume f' v' tt s') → (s : State) (v : Services) (line : ℕ) (n : Values) (h1 t1 : ℕ → ℕ) (f : Family) (free : ℕ) → Serving k s v line → AllHold (atop callee.at (S.OnUnitBlock oncode (4 * resume)) bl.frames) v.activations (level ∷ e.level ∷ bl.depths) s block types n → ((b : Base) → At b i (Known (ending_ground bl callee (λ b'. address b' resume) h t n free) v h1 t1 nothing b) (f b)) → (owing code (length code) aims).done i f v tt (with_world s.world (newest_ended s))
+leave_piece {e} {block} {types} bl {code = code} callee k i resume oncode h t closed near few l goal s v line n h1 t1 f free serving all at =
     let o = left_all s v.activations serving.nested all in
     let kind = newest_kind o.newest o.rest o.are o.some all in
     let v' = ended_services v o.newest o.rest in
     let s' = with_world s.world (newest_ended s) in
-    done_owing closed (length code) resume few (unit_left_piece bl callee (λ b'. address b' resume) resume n i f o.newest o.rest oncode near o.are kind l at) tt s'
+    done_owing closed (length code) resume few (unit_left_piece bl callee (λ b'. address b' resume) resume n free i f o.newest o.rest oncode near o.are kind l at) tt s'
     (λ f' at'.
     goal s' v' o.newest.line n (held_again h 0 7 h1) f'
     (record {
@@ -122,9 +143,9 @@ unfolding looked ◌>>=◌
 found_is around n k s a u found = ap (λ o. R.unit_run around n o k s) found
 
 -- the unit runs, from its first instruction on
-unit_piece : {e : Environment} {block : ℕ} {types : Types} (bl : Block e block types) {links : Links} {code : List Instr} (around : Around) (more m : ℕ) {frame : ℕ} {u : Y.Block} {at' : ℕ} (can : Raisable bl links code more frame u at') → more ≡ suc m → around.enter ≡ M.entered e.program (suc m) → {s : State} {v : Services} {h t : ℕ → ℕ} {aims : Aims (Unit {0})} (closed : Closed code aims) (n : Values) (f : Family) (k line resume oncode : ℕ) (a : Activation) → oncode < 2 ^ 16 → (oncode == 0) ≡ false → k < suc m + v.world.acts → 19 ≤ length code → resume ≤ length code → a.height ≡ 1 → suc (length bl.depths) < most_activations → nat_lt (length s.activations) most_activations ≡ true → Serving k s v line → AllHold bl.frames v.activations (e.level ∷ bl.depths) s block types n → ((b : Base) → At b can.index (Known (bl.ground n) (record v { waiting = Some (record { code = oncode; resume = 4 * resume; line = v.line }) }) h t (entry_with bl.base (4 * resume) (λ b'. address b' resume)) b) (f b)) → ((s' : State) (v' : Services) (line' : ℕ) (n' : Values) (h' : ℕ → ℕ) (f' : Family) → Serving k s' v' line' → AllHold bl.frames v'.activations (e.level ∷ bl.depths) s' block types n' → ((b : Base) → At b resume (Known (bl.ground n') v' h' t nothing b) (f' b)) → aims.done resume f' v' tt s') → Comes code 19 f (record v { waiting = Some (record { code = oncode; resume = 4 * resume; line = v.line }) }) (owing code (length code) aims) (unit_part around oncode a can.head can.body k s)
+unit_piece : {e : Environment} {block : ℕ} {types : Types} (bl : Block e block types) {links : Links} {code : List Instr} (main : ℕ) (mains : List Label) (has : HasMain main mains e.level e.block bl.labels bl.outer) (around : Around) (more m : ℕ) {frame : ℕ} {u : Y.Block} {at' : ℕ} (can : Raisable bl main mains has links code more frame u at') → more ≡ suc m → around.enter ≡ M.entered e.program (suc m) → {s : State} {v : Services} {h t : ℕ → ℕ} {aims : Aims (Unit {0})} (closed : Closed code aims) (n : Values) (f : Family) (k line resume oncode : ℕ) (a : Activation) → oncode < 2 ^ 16 → (oncode == 0) ≡ false → k < suc m + v.world.acts → (turns0 start0 acts0 : ℕ) → Enough bl links k turns0 start0 h t acts0 aims.jumped aims.returned → acts0 ≤ v.world.acts → 19 ≤ length code → resume ≤ length code → a.height ≡ 1 → suc (length bl.depths) < most_activations → nat_lt (length s.activations) most_activations ≡ true → Serving k s v line → AllHold bl.frames v.activations (e.level ∷ bl.depths) s block types n → ((b : Base) → At b can.index (Known (bl.ground n) (record v { waiting = Some (record { code = oncode; resume = 4 * resume; line = v.line }) }) h t (entry_with bl.base (4 * resume) (λ b'. address b' resume)) b) (f b)) → ((s' : State) (v' : Services) (line' : ℕ) (n' : Values) (h' : ℕ → ℕ) (f' : Family) → Serving k s' v' line' → AllHold bl.frames v'.activations (e.level ∷ bl.depths) s' block types n' → ((b : Base) → At b resume (Known (bl.ground n') v' h' t nothing b) (f' b)) → aims.done resume f' v' tt s') → Comes code 19 f (record v { waiting = Some (record { code = oncode; resume = 4 * resume; line = v.line }) }) (owing code (length code) aims) (unit_part around oncode a can.head can.body k s)
 unfolding M.end_reached give ◌>>◌
-unit_piece {e} {block} {types} bl {links} {code} around more m can next enter {s} {v} {h} {t} {aims} closed n f k line resume oncode a small' other enough long near parent deep few serving all at goal =
+unit_piece {e} {block} {types} bl {links} {code} main mains has around more m can next enter {s} {v} {h} {t} {aims} closed n f k line resume oncode a small' other enough turns0 start0 acts0 ready less long near parent deep few serving all at goal =
     let program = e.program in
     let head = can.head in
     let body = can.body in
@@ -134,25 +155,29 @@ unit_piece {e} {block} {types} bl {links} {code} around more m can next enter {s
     let back : Base → ℕ = λ b. address b resume in
     let w : S.Waiting = record { code = oncode; resume = 4 * resume; line = v.line } in
     let v1 = record v { waiting = Some w } in
-    let e' = owned_by UnitOwner (in_frame head.number head.level e) in
+    let e' = unit_environment head e in
+    let mark = unit_mark head head.kind in
     let i0 = can.index in
     let st = stmts_code e' none_taken body in
     let fb = frame_begun callee.words 1 0 true in
     let ec = entered_without_texts 2 head.line in
     let ac = act_code head.line in
     let ended = unit_left callee.words in
-    let lf = front_of fb (ec ++ (ac ++ (st ++ ended))) can.linked in
-    let l1 = back_of fb (ec ++ (ac ++ (st ++ ended))) can.linked in
-    let le = front_of ec (ac ++ (st ++ ended)) l1 in
-    let l2 = back_of ec (ac ++ (st ++ ended)) l1 in
-    let la = front_of ac (st ++ ended) l2 in
-    let l3 = back_of ac (st ++ ended) l2 in
-    let ls = front_of st ended l3 in
-    let ll = back_of st ended l3 in
+    let lf = front_of fb (ec ++ (ac ++ (st ++ (mark ++ ended)))) can.linked in
+    let l1 = back_of fb (ec ++ (ac ++ (st ++ (mark ++ ended)))) can.linked in
+    let le = front_of ec (ac ++ (st ++ (mark ++ ended))) l1 in
+    let l2 = back_of ec (ac ++ (st ++ (mark ++ ended))) l1 in
+    let la = front_of ac (st ++ (mark ++ ended)) l2 in
+    let l3 = back_of ac (st ++ (mark ++ ended)) l2 in
+    let ls = front_of st (mark ++ ended) l3 in
+    let l4 = back_of st (mark ++ ended) l3 in
+    let lm = front_of mark ended l4 in
     let i1 = i0 + size_of fb in
     let i2 = i1 + size_of ec in
     let i3 = i2 + size_of ac in
     let i4 = i3 + size_of st in
+    let zero' = mark_size head head.kind in
+    let ll = linked_at i4 ended (omega (arith, zero')) (back_of mark ended l4) in
     let restored = registers_restored 0 7 in
     let lower = frame_ended callee.words in
     let n1 = size_append restored (lower ++ jump_on) in
@@ -175,14 +200,14 @@ unit_piece {e} {block} {types} bl {links} {code} around more m can next enter {s
     let statements : Unit {0} → Meaning (Unit {0}) = λ r. inner_part program m head body in
     let leave = leave_piece bl callee k i4 resume oncode h t closed (omega (arith, near, small2)) (omega (arith, room, n1, n2)) ll goal in
     let closed0 = owing_closed code debt aims in
-    let closed1 = inside_closed newest_ended (before_closed k last closed0) in
+    let closed1 = ending_closed newest_ended (before_closed k last closed0) in
     subst (Comes code 19 f v1 (owing code debt aims)) (sym (unit_meant program around m head body oncode k a s enter can.bare parent few))
     (onward closed0 (called_frame bl callee back (λ b. let valid = b.valid.1 in omega (arith, valid, near, small2)) (4 * resume) n 19 f (omega (arith, behind)) lf at)
     (λ f2 at2.
     onward closed0 (unit_entered bl callee back (4 * resume) n (19 + size_of fb) f2 w head.line can.line refl few' le at2)
     (λ f3 at3.
     comes_on k (left true newest_ended (called_part program m head body k s2)) last
-    (comes_left newest_ended (called_part program m head body k s2)
+    (comes_called newest_ended (called_part program m head body k s2)
     (comes_on k (act counted k s2) statements
     (act_to (before_closed k statements closed1) (19 + size_of fb + size_of ec) i3 f3 head.line head.line k can.line (omega (arith, room, long)) la
     (record {
@@ -202,31 +227,38 @@ unit_piece {e} {block} {types} bl {links} {code} around more m can next enter {s
     ((can.does m next deep (S.OnUnitBlock oncode (4 * resume)) back h t).does (before_closed k behind' closed1) head.line n f4 k ls serving4
     (counted_all (counted s2.world) (raised_all head entry s v.activations x small' some (omega arith) (omega (arith, lengths)) direct ordinary refl serving.nested all))
     at4
-    (λ s5 v5 line5 n5 h5 t5 f5 serving5 all5 stays5 at5. record { to = record { to = leave s5 v5 line5 n5 h5 t5 f5 serving5 all5 at5 } })
+    (λ s5 v5 line5 n5 h5 t5 f5 serving5 all5 stays5 at5. record { to = record { to = leave s5 v5 line5 n5 h5 t5 f5 (callee.at + fixed_size 1 0) serving5 all5 at5 } })
     (record {
       enough = omega (arith, enough);
       later = omega (arith, behind);
       jumps = λ label among once. let no : false ≡ true = among in absurd (cc no);
-      outs = tt;
-      homes = tt;
-      returns = λ number' owned once. absurd (cc owned);
-      own = λ inner owned once. absurd (cc owned);
+      outs = (λ label among once. owed_outlet closed (atop callee.at (S.OnUnitBlock oncode (4 * resume)) bl.frames) (main_enclosing bl callee back h t (owner_of_unit head head.kind) head level main mains has) label (main_outlet bl callee back h (owner_of_unit head head.kind) (S.OnUnitBlock oncode (4 * resume)) head level main mains has links k turns0 start0 h t acts0 (acted head.line v2).world.acts aims.jumped aims.returned ready label among once (omega (arith, less))), tt);
+      homes = (λ deep owned once. let no : true ≡ false = deep in absurd (cc no), tt);
+      returns = λ number' owned once. absurd (unit_apart head head.kind level number' owned);
+      own = λ inner owned once. record {
+        at = i4;
+        place = end_placed head head.kind lm owned once;
+        near = omega (arith, room, small2);
+        later = omega (arith, behind);
+        leaves = λ s5 v5 line5 n5 h5 t5 f5 free5 serving5 all5 at5. record { to = leave s5 v5 line5 n5 h5 t5 f5 free5 serving5 all5 at5 };
+      };
     })))))))))
 
 -- where too many blocks are entered the run ends
-limited_piece : {e : Environment} {block : ℕ} {types : Types} (bl : Block e block types) {links : Links} {code : List Instr} (around : Around) (more m : ℕ) {frame : ℕ} {u : Y.Block} {at' : ℕ} (can : Raisable bl links code more frame u at') → around.enter ≡ M.entered e.program (suc m) → {s : State} {v : Services} {h t : ℕ → ℕ} {aims : Aims (Unit {0})} (closed : Closed code aims) (n : Values) (f : Family) (k line resume oncode : ℕ) (a : Activation) → 19 ≤ length code → resume ≤ length code → nat_lt (length s.activations) most_activations ≡ false → Serving k s v line → ((b : Base) → At b can.index (Known (bl.ground n) (record v { waiting = Some (record { code = oncode; resume = 4 * resume; line = v.line }) }) h t (entry_with bl.base (4 * resume) (λ b'. address b' resume)) b) (f b)) → Comes code 19 f (record v { waiting = Some (record { code = oncode; resume = 4 * resume; line = v.line }) }) (owing code (length code) aims) (unit_part around oncode a can.head can.body k s)
-limited_piece {e} bl {code = code} around more m can enter {s} {v} {h} {t} {aims} closed n f k line resume oncode a long near many serving at =
+limited_piece : {e : Environment} {block : ℕ} {types : Types} (bl : Block e block types) {links : Links} {code : List Instr} (main : ℕ) (mains : List Label) (has : HasMain main mains e.level e.block bl.labels bl.outer) (around : Around) (more m : ℕ) {frame : ℕ} {u : Y.Block} {at' : ℕ} (can : Raisable bl main mains has links code more frame u at') → around.enter ≡ M.entered e.program (suc m) → {s : State} {v : Services} {h t : ℕ → ℕ} {aims : Aims (Unit {0})} (closed : Closed code aims) (n : Values) (f : Family) (k line resume oncode : ℕ) (a : Activation) → 19 ≤ length code → resume ≤ length code → nat_lt (length s.activations) most_activations ≡ false → Serving k s v line → ((b : Base) → At b can.index (Known (bl.ground n) (record v { waiting = Some (record { code = oncode; resume = 4 * resume; line = v.line }) }) h t (entry_with bl.base (4 * resume) (λ b'. address b' resume)) b) (f b)) → Comes code 19 f (record v { waiting = Some (record { code = oncode; resume = 4 * resume; line = v.line }) }) (owing code (length code) aims) (unit_part around oncode a can.head can.body k s)
+limited_piece {e} bl {code = code} main mains has around more m can enter {s} {v} {h} {t} {aims} closed n f k line resume oncode a long near many serving at =
     let head = can.head in
     let body = can.body in
     let callee = can.callee in
     let back : Base → ℕ = λ b. address b resume in
     let w : S.Waiting = record { code = oncode; resume = 4 * resume; line = v.line } in
     let v1 = record v { waiting = Some w } in
-    let e' = owned_by UnitOwner (in_frame head.number head.level e) in
+    let e' = unit_environment head e in
+    let mark = unit_mark head head.kind in
     let i0 = can.index in
     let fb = frame_begun callee.words 1 0 true in
     let ec = entered_without_texts 2 head.line in
-    let rest = act_code head.line ++ (stmts_code e' none_taken body ++ unit_left callee.words) in
+    let rest = act_code head.line ++ (stmts_code e' none_taken body ++ (mark ++ unit_left callee.words)) in
     let lf = front_of fb (ec ++ rest) can.linked in
     let le = front_of ec rest (back_of fb (ec ++ rest) can.linked) in
     let room = le.inside in
@@ -245,9 +277,9 @@ limited_piece {e} bl {code = code} around more m can enter {s} {v} {h} {t} {aims
     (entry_limited bl callee back (4 * resume) n (19 + size_of fb) f2 (before_closed k last closed0) s k head.line w can.line (omega (arith, room, total, long)) many' le refl serving.world serving.running serving.allowed serving.fits at2)))
 
 -- the raise, with a unit in force
-raised_unit : {e : Environment} {block : ℕ} {types : Types} (bl : Block e block types) {links : Links} {code : List Instr} (routines : Routines links code) (around : Around) (more m : ℕ) {frame : ℕ} {u : Y.Block} {at' : ℕ} (can : Raisable bl links code more frame u at') → more ≡ suc m → around.enter ≡ M.entered e.program (suc m) → {i : ℕ} {s : State} {v : Services} {h t : ℕ → ℕ} {aims : Aims (Unit {0})} (closed : Closed code aims) (n : Values) (f : Family) (k line oncode : ℕ) (a : Activation) (x : S.Activation) → oncode < 2 ^ 16 → (oncode == 0) ≡ false → k < suc m + v.world.acts → Linked links code i (raised C.Area oncode) → force s.activations C.Area ≡ Some (a, BlockUnit u) → U.force v.activations C.Area ≡ Some (x, S.CodeUnit at') → a.height ≡ 1 → x.frame ≡ frame → Serving k s v line → AllHold bl.frames v.activations (e.level ∷ bl.depths) s block types n → ((b : Base) → At b i (Known (bl.ground n) v h t nothing b) (f b)) → ((s' : State) (v' : Services) (line' : ℕ) (n' : Values) (h' : ℕ → ℕ) (f' : Family) → Serving k s' v' line' → AllHold bl.frames v'.activations (e.level ∷ bl.depths) s' block types n' → ((b : Base) → At b (i + 2 + 2) (Known (bl.ground n') v' h' t nothing b) (f' b)) → aims.done (i + 2 + 2) f' v' tt s') → Comes code 0 f v (owing code (length code) aims) (R.raised around C.Area oncode k s)
+raised_unit : {e : Environment} {block : ℕ} {types : Types} (bl : Block e block types) {links : Links} {code : List Instr} (routines : Routines links code) (main : ℕ) (mains : List Label) (has : HasMain main mains e.level e.block bl.labels bl.outer) (around : Around) (more m : ℕ) {frame : ℕ} {u : Y.Block} {at' : ℕ} (can : Raisable bl main mains has links code more frame u at') → more ≡ suc m → around.enter ≡ M.entered e.program (suc m) → {i : ℕ} {s : State} {v : Services} {h t : ℕ → ℕ} {aims : Aims (Unit {0})} (closed : Closed code aims) (n : Values) (f : Family) (k line oncode : ℕ) (a : Activation) (x : S.Activation) → oncode < 2 ^ 16 → (oncode == 0) ≡ false → k < suc m + v.world.acts → (turns0 start0 acts0 : ℕ) → Enough bl links k turns0 start0 h t acts0 aims.jumped aims.returned → acts0 ≤ v.world.acts → Linked links code i (raised C.Area oncode) → force s.activations C.Area ≡ Some (a, BlockUnit u) → U.force v.activations C.Area ≡ Some (x, S.CodeUnit at') → a.height ≡ 1 → x.frame ≡ frame → Serving k s v line → AllHold bl.frames v.activations (e.level ∷ bl.depths) s block types n → ((b : Base) → At b i (Known (bl.ground n) v h t nothing b) (f b)) → ((s' : State) (v' : Services) (line' : ℕ) (n' : Values) (h' : ℕ → ℕ) (f' : Family) → Serving k s' v' line' → AllHold bl.frames v'.activations (e.level ∷ bl.depths) s' block types n' → ((b : Base) → At b (i + 2 + 2) (Known (bl.ground n') v' h' t nothing b) (f' b)) → aims.done (i + 2 + 2) f' v' tt s') → Comes code 0 f v (owing code (length code) aims) (R.raised around C.Area oncode k s)
 unfolding R.raised ◌>>◌
-raised_unit {e} {block} {types} bl {links} {code} routines around more m {frame} {u} can next enter {i} {s} {v} {h} {t} {aims} closed n f k line oncode a x small' other enough l found served parent framed serving all at goal =
+raised_unit {e} {block} {types} bl {links} {code} routines main mains has around more m {frame} {u} can next enter {i} {s} {v} {h} {t} {aims} closed n f k line oncode a x small' other enough turns0 start0 acts0 ready less l found served parent framed serving all at goal =
     let resume = i + 2 + 2 in
     let closed0 = owing_closed code (length code) aims in
     let next' : Unit {0} → Meaning (Unit {0}) = λ r. found_unit around oncode in
@@ -260,7 +292,7 @@ raised_unit {e} {block} {types} bl {links} {code} routines around more m {frame}
     let placed = can.linked.inside in
     let fb = frame_begun can.callee.words 1 0 true in
     let ec = entered_without_texts 2 can.head.line in
-    let rest = ec ++ (act_code can.head.line ++ (stmts_code (owned_by UnitOwner (in_frame can.head.number can.head.level e)) none_taken can.body ++ unit_left can.callee.words)) in
+    let rest = ec ++ (act_code can.head.line ++ (stmts_code (unit_environment can.head e) none_taken can.body ++ (unit_mark can.head can.head.kind ++ unit_left can.callee.words))) in
     let total = size_append fb rest in
     let some : 0 < size_of rest = omega arith in
     let later = can.later in
@@ -273,10 +305,10 @@ raised_unit {e} {block} {types} bl {links} {code} routines around more m {frame}
     let at2 = λ (b : Base). subst (λ fr. At b can.index (Known (bl.ground n) v1 h t (entry_with fr (4 * resume) (λ b'. address b' resume)) b) (f1 b)) lowest (at1 b) in
     subst (Comes code 19 f1 v1 (owing code (length code) aims)) (sym (found_is around oncode k s1 a u found ∙ ap (λ q. R.unit_run around oncode (Some (a, BlockUnit q)) k s1) can.is))
     (by_test (nat_lt (length s.activations) most_activations)
-    (λ many. limited_piece bl around more m can enter closed n f1 k line resume oncode a (omega (arith, whole)) (omega (arith, inside)) many serving1 at2)
+    (λ many. limited_piece bl main mains has around more m can enter closed n f1 k line resume oncode a (omega (arith, whole)) (omega (arith, inside)) many serving1 at2)
     (λ few.
     let deep : suc (length bl.depths) < most_activations = (let less = ltb-true (length s.activations) most_activations few in let long = entered_length s.activations (e.level ∷ bl.depths) all.entered in omega (arith, less, long)) in
-    unit_piece bl around more m can next enter closed n f1 k line resume oncode a small' other (omega (arith, enough)) (omega (arith, whole)) (omega (arith, inside)) parent deep few serving1 all1 at2 goal))))
+    unit_piece bl main mains has around more m can next enter closed n f1 k line resume oncode a small' other (omega (arith, enough)) turns0 start0 acts0 ready (omega (arith, less)) (omega (arith, whole)) (omega (arith, inside)) parent deep few serving1 all1 at2 goal))))
 
 -- ---- the statement
 
@@ -289,9 +321,9 @@ by_force known (Some (a, SystemUnit)) (Some (x, S.CodeUnit at)) both alone unit 
 by_force known (Some (a, BlockUnit u)) (Some (x, S.SystemUnit)) both alone unit = absurd both
 by_force known (Some (a, BlockUnit u)) (Some (x, S.CodeUnit at)) both alone unit = unit a u x at refl refl both.0 both.1
 
-pub signal_area_does : {e : Environment} {block : ℕ} {types : Types} (bl : Block e block types) (links : Links) (code : List Instr) (routines : Routines links code) (around : Around) (more line : ℕ) → line < 2 ^ 31 → Entering e.program around more → ((frame : ℕ) (u : Y.Block) (at : ℕ) → bl.frames.known frame u at → Raisable bl links code more frame u at) → Does bl links code around.turns (stmt_code e bl.taken (Y.Signal C.Area line)) (M.statement around (Y.Signal C.Area line))
+pub signal_area_does : {e : Environment} {block : ℕ} {types : Types} (bl : Block e block types) (main : ℕ) (mains : List Label) (has : HasMain main mains e.level e.block bl.labels bl.outer) (links : Links) (code : List Instr) (routines : Routines links code) (around : Around) (more line : ℕ) → line < 2 ^ 31 → Entering e.program around more → ((frame : ℕ) (u : Y.Block) (at : ℕ) → bl.frames.known frame u at → Raisable bl main mains has links code more frame u at) → Does bl links code around.turns (stmt_code e bl.taken (Y.Signal C.Area line)) (M.statement around (Y.Signal C.Area line))
 unfolding M.statement M.signalled ◌>>◌
-signal_area_does {e} {block} {types} bl links code routines around zero line fits entering can =
+signal_area_does {e} {block} {types} bl main mains has links code routines around zero line fits entering can =
     record {
       does = λ {i} {s} {v} {h} {t} {aims} closed old n f k l serving all at goal more'.
           let next' : Unit {0} → Meaning (Unit {0}) = λ r. M.signalled (at_line around line) C.Area in
@@ -300,7 +332,7 @@ signal_area_does {e} {block} {types} bl links code routines around zero line fit
           (λ f1 serving1 at1.
           absurd (let e1 = more'.enough in let e2 = entering.turns in let e3 = serving1.allowed in omega (arith, e1, e2, e3))));
     }
-signal_area_does {e} {block} {types} bl links code routines around (suc m) line fits entering can =
+signal_area_does {e} {block} {types} bl main mains has links code routines around (suc m) line fits entering can =
     record {
       does = λ {i} {s} {v} {h} {t} {aims} closed old n f k l serving all at goal more'.
           let here = at_line around line in
@@ -324,7 +356,7 @@ signal_area_does {e} {block} {types} bl links code routines around (suc m) line 
           (comes_on k (act counted k s) next'
           (act_to (before_closed k next' (owing_closed code (length code) aims)) (i + length code) 0 f line old k fits (omega (arith, inside', size)) (front_of a c l) serving at
           (λ f1 serving1 at1.
-          raised_unit bl routines here (suc m) m (can x.frame u at' known) refl entering.enter closed n f1 k line oncode a' x (lit< tt) refl (omega (arith, e1, e2)) (back_of a c l) found served parent refl serving1
+          raised_unit bl routines main mains has here (suc m) m (can x.frame u at' known) refl entering.enter closed n f1 k line oncode a' x (lit< tt) refl (omega (arith, e1, e2)) around.turns i v.world.acts more' (omega arith) (back_of a c l) found served parent refl serving1
           (counted_all (counted s.world) all)
           at1
           (λ s4 v4 line4 n4 h4 f4 serving4 all4 at4.

@@ -76,12 +76,12 @@ some_code program is fits =
 
 labels_of : (program : Y.Program) (is : IsProvedSoFar program) → LabelsStand (main_environment program (block_in is)) (links_of (code_of parts program)) (all_labels (block_in is) is.body ++ procedure_labels is.others) (block_in is) true
 labels_of program is =
-    labels_stand program (block_in is) (line_in is) is.body is.called is.plain (alone_of program is) is.block.statements is.block.inside is.inner
+    labels_stand program (block_in is) (line_in is) is.body is.called is.plain (alone_of program is) is.block.statements is.block.inside is.block.jumps is.inner
 
 -- the units of the main procedure
 abbrev units_of : (program : Y.Program) (is : IsProvedSoFar program) → ℕ → Y.Block → ℕ → Type 0
 units_of program is frame u at =
-    (frame ≡ frame_place (main_words program (block_in is) is.body)) × UnitStands (program_around (main_environment program (block_in is))) (block_in is) (main_types program (block_in is)) is.called (links_of (code_of parts program)) (code_for program) u at
+    (frame ≡ frame_place (main_words program (block_in is) is.body)) × UnitStands (program_around (main_environment program (block_in is))) (block_in is) (main_types program (block_in is)) (all_labels (block_in is) is.body ++ procedure_labels is.others) (block_in is) is.called (links_of (code_of parts program)) (code_for program) u at
 
 -- where the other procedures stand
 abbrev others_at : (program : Y.Program) (is : IsProvedSoFar program) → FitsMemory (picture_of parts program) → ℕ
@@ -93,7 +93,7 @@ others_stand program is fits =
     subst (λ ps. Linked (links_of (code_of parts program)) (code_for program) (others_at program is fits) (others_code program (others_of ps))) (alone_of program is).are (placed_for program is fits).others
 
 -- calls in the main procedure
-calls_done : (program : Y.Program) (is : IsProvedSoFar program) (fits : FitsMemory (picture_of parts program)) (k : ℕ) → Done (main_environment program (block_in is)) (block_in is) (main_types program (block_in is)) k (links_of (code_of parts program)) (code_for program) is.called
+calls_done : (program : Y.Program) (is : IsProvedSoFar program) (fits : FitsMemory (picture_of parts program)) (k : ℕ) → Done (main_environment program (block_in is)) (block_in is) (main_types program (block_in is)) (all_labels (block_in is) is.body ++ procedure_labels is.others) (block_in is) k (links_of (code_of parts program)) (code_for program) is.called
 calls_done program is fits k =
     let block = block_in is in
     let line = line_in is in
@@ -101,7 +101,7 @@ calls_done program is fits k =
     let behind = (placed_for program is fits).behind in
     inner_calls program block line is.body is.called alone is.inner is.once (others_at program is fits) (others_stand program is fits) (omega (arith, behind))
     (λ number apart once. entry_stands program block line is.body is.called is.plain alone is.block.statements is.block.inside is.inner number apart once)
-    (λ number apart once. end_stands program block line is.body is.called is.plain alone is.block.statements is.block.inside is.inner number apart once)
+    (λ number among apart once. end_stands program block line is.body is.called is.plain alone is.block.statements is.block.inside is.inner number apart once among is.block.calls)
     (labels_of program is)
     (λ b h. others_known program block line is.body alone b h) k
 

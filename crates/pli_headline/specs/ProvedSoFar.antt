@@ -2,10 +2,10 @@
 -- constant lengths, VARYING or not, with or without INITIAL, arrays of FIXED BINARY and BIT(1) with constant bounds, with or without
 -- INITIAL, procedures inside it that declare nothing, without parameters and results, and BEGIN blocks in these and in one another that
 -- declare nothing; expressions of numbers, bits and texts, and elements of arrays in them; assignments of these, CALL of these
--- procedures, also by themselves, IF, groups, DO WHILE, DO with a variable, GOTO to a label of a list around it in its block or in a block
--- around it up to the procedure's own, RETURN, STOP, SIGNAL, ON with SYSTEM, ON for AREA with a single statement in the main procedure's own
--- block, REVERT, PUT EDIT of numbers, bits and texts, and GET EDIT of such scalars and elements, by lists of F, A, X, SKIP and COLUMN items.
--- Each form that is proved takes a line off.
+-- procedures, also by themselves, IF, groups, DO WHILE, DO with a variable, GOTO to a label of a list around it in its block, in a block
+-- around it up to the procedure's own, or of the main procedure's own list, RETURN, STOP, SIGNAL, ON with SYSTEM, ON for AREA with a
+-- single statement or a BEGIN block in the main procedure's own block, REVERT, PUT EDIT of numbers, bits and texts, and GET EDIT of such
+-- scalars and elements, by lists of F, A, X, SKIP and COLUMN items. Each form that is proved takes a line off.
 use Rattle.std.specs.Prelude.{◌≡◌, ℕ, suc, int_le, ◌<◌, ◌≤◌, ◌^◌, List, [], ◌∷◌, ◌++◌, length, map, slice_get, Bool, Option, None, Some, true, false, if◌then◌else◌, ⊤, ◌==◌, ◌&&◌, ◌⊎◌, pos, ◌+◌}
 use Rattle.pli_language.specs.Keywords.{same_bytes}
 use Rattle.pli_language.specs.declared.condition.Condition.TheVariants as C
@@ -407,6 +407,12 @@ IsSimple (Y.Put skip pairs line) = ⊤
 IsSimple (Y.Get skip pairs line) = ⊤
 IsSimple _ = ⊥
 
+-- an on-unit is a single statement, or a block
+abbrev pub IsUnitBody : Y.BlockKind → Y.Stmts → Type 0
+IsUnitBody Y.SimpleUnit (Y.StmtThen [] x (Y.EndOfList [])) = IsSimple x
+IsUnitBody Y.UnitBlock body = ⊤
+IsUnitBody _ _ = ⊥
+
 abbrev mutual
   pub IsProvedStatement : (block : ℕ) (types : Types) → Y.Stmt → Type 0
   IsProvedStatement block types (Y.Null line) = IsLine line
@@ -441,8 +447,8 @@ abbrev mutual
   IsProvedStatement block types (Y.Signal condition line) = IsLine line
   IsProvedStatement block types (Y.OnSystem condition line) = IsLine line
   IsProvedStatement block types (Y.Revert condition line) = IsLine line
-  IsProvedStatement block types (Y.OnUnit condition (Y.BlockOf head (Y.StmtThen [] x (Y.EndOfList []))) line) =
-      (condition ≡ C.Area) × ((head.kind ≡ Y.SimpleUnit) × (IsLine line × (IsLine head.line × (IsSimple x × IsProvedStatement block types x))))
+  IsProvedStatement block types (Y.OnUnit condition (Y.BlockOf head body) line) =
+      (condition ≡ C.Area) × (IsUnitBody head.kind body × (IsLine line × (IsLine head.line × AreProvedStatements block types body)))
   IsProvedStatement block types (Y.Put None pairs line) = AreProvedPairs block types pairs × IsLine line
   IsProvedStatement block types (Y.Put (Some n) pairs line) = IsTimes n × (AreProvedPairs block types pairs × IsLine line)
   IsProvedStatement block types (Y.Get None pairs line) = AreProvedGetPairs block types pairs × IsLine line
@@ -475,11 +481,17 @@ abbrev mutual
   inner_labels block (Y.DoOnce target start condition body line) = all_labels block body
   inner_labels block (Y.DoCount counter start limit step condition body line) = all_labels block body
   inner_labels block (Y.Begin (Y.BlockOf head body)) = all_labels head.number body
+  inner_labels block (Y.OnUnit condition (Y.BlockOf head body) line) = all_labels head.number body
   inner_labels block _ = []
 
   pub all_labels : (block : ℕ) → Y.Stmts → List (ℕ × Label)
   all_labels block (Y.EndOfList labels) = of_block block labels
   all_labels block (Y.StmtThen labels first rest) = of_block block labels ++ (inner_labels block first ++ all_labels block rest)
+
+-- an on-unit that is a block has another number than the procedure
+abbrev pub IsUnitApart : (number : ℕ) → Y.BlockHead → Y.BlockKind → Type 0
+IsUnitApart number head Y.SimpleUnit = ⊤
+IsUnitApart number head _ = (number == head.number) ≡ false
 
 -- a block around: its level, its number, and the labels of the lists in it that are carried out around
 pub record OuterBlock : Type 0 where
@@ -494,9 +506,9 @@ IsOutward block to label all blocks (o ∷ os) =
     ((o.level ≡ to) × ((is_among label o.labels ≡ true) × ((times o.number label all ≡ 1) × (last_of_level block to 0 blocks ≡ o.number))))
     ⊎ IsOutward block to label all blocks os
 
--- a GOTO names a label of a list around it in its block, which has a level, or in a block around it up to the procedure's own, and the
--- label stands once in the program's blocks of that number; begin blocks stand up to a hundred deep; on-units
--- are given in the main procedure's own block
+-- a GOTO names a label of a list around it in its block, which has a level, or in a block around it up to the procedure's own, or, in a
+-- procedure inside the main one, of the main one's own list, and the label stands once in the program's blocks of that number; begin
+-- blocks stand up to a hundred deep; on-units are given in the main procedure's own block, and jump to labels of their own
 abbrev mutual
   pub JumpsAround : (block level : ℕ) → (all : List (ℕ × Label)) → (blocks : List BlockPlace) → (outer : List OuterBlock) → (around : List Label) → Y.Stmt → Type 0
   JumpsAround block level all blocks outer around (Y.If condition unit line) = JumpsAround block level all blocks outer around unit
@@ -510,7 +522,8 @@ abbrev mutual
       × AllJumpAround head.number head.level all blocks (record { level = level; number = block; labels = around } ∷ outer) (labels_in body) body
   JumpsAround block level all blocks outer around (Y.Goto to label line) =
       ((to ≡ level) × ((is_among label around ≡ true) × (times block label all ≡ 1))) ⊎ IsOutward block to label all blocks outer
-  JumpsAround block level all blocks outer around (Y.OnUnit condition (Y.BlockOf head body) line) = ((0 == level) ≡ true) × (head.level ≡ 1)
+  JumpsAround block level all blocks outer around (Y.OnUnit condition (Y.BlockOf head body) line) =
+      ((0 == level) ≡ true) × ((head.level ≡ 1) × (IsUnitApart block head head.kind × AllJumpAround head.number head.level all blocks [] (labels_in body) body))
   JumpsAround block level all blocks outer around _ = ⊤
 
   pub AllJumpAround : (block level : ℕ) → (all : List (ℕ × Label)) → (blocks : List BlockPlace) → (outer : List OuterBlock) → (around : List Label) → Y.Stmts → Type 0
@@ -523,23 +536,30 @@ abbrev pub is_number : ℕ → List ℕ → Bool
 is_number number [] = false
 is_number number (n ∷ ns) = if number == n then true else is_number number ns
 
--- calls name one of some numbers; an on-unit has few words for temporaries, as a procedure that is called
-abbrev mutual
-  pub CallsAmong : (may : List ℕ) → Y.Stmt → Type 0
-  CallsAmong may (Y.If condition unit line) = CallsAmong may unit
-  CallsAmong may (Y.IfElse condition unit otherwise line) = CallsAmong may unit × CallsAmong may otherwise
-  CallsAmong may (Y.Do body line) = AllCallAmong may body
-  CallsAmong may (Y.DoWhile condition body line) = AllCallAmong may body
-  CallsAmong may (Y.DoOnce target start condition body line) = AllCallAmong may body
-  CallsAmong may (Y.DoCount counter start limit step condition body line) = AllCallAmong may body
-  CallsAmong may (Y.Begin (Y.BlockOf head body)) = AllCallAmong may body
-  CallsAmong may (Y.CallProcedure (Y.Calling procedure level _) line) = is_number procedure may ≡ true
-  CallsAmong may (Y.OnUnit condition (Y.BlockOf head body) line) = AllCallAmong may body × (stmts_words body ≤ 800)
-  CallsAmong may _ = ⊤
+-- an on-unit that is a block has another number than the procedures that are called
+abbrev pub IsUnitNew : (may : List ℕ) → Y.BlockHead → Y.BlockKind → Type 0
+IsUnitNew may head Y.SimpleUnit = ⊤
+IsUnitNew may head _ = is_number head.number may ≡ false
 
-  pub AllCallAmong : (may : List ℕ) → Y.Stmts → Type 0
-  AllCallAmong may (Y.EndOfList labels) = ⊤
-  AllCallAmong may (Y.StmtThen labels first rest) = CallsAmong may first × AllCallAmong may rest
+-- calls name one of some numbers; an on-unit has no RETURN and few words for temporaries, as a procedure that is called
+abbrev mutual
+  pub CallsAmong : (may : List ℕ) → (returns : Bool) → Y.Stmt → Type 0
+  CallsAmong may returns (Y.If condition unit line) = CallsAmong may returns unit
+  CallsAmong may returns (Y.IfElse condition unit otherwise line) = CallsAmong may returns unit × CallsAmong may returns otherwise
+  CallsAmong may returns (Y.Do body line) = AllCallAmong may returns body
+  CallsAmong may returns (Y.DoWhile condition body line) = AllCallAmong may returns body
+  CallsAmong may returns (Y.DoOnce target start condition body line) = AllCallAmong may returns body
+  CallsAmong may returns (Y.DoCount counter start limit step condition body line) = AllCallAmong may returns body
+  CallsAmong may returns (Y.Begin (Y.BlockOf head body)) = AllCallAmong may returns body
+  CallsAmong may returns (Y.CallProcedure (Y.Calling procedure level _) line) = is_number procedure may ≡ true
+  CallsAmong may returns (Y.Return line) = returns ≡ true
+  CallsAmong may returns (Y.OnUnit condition (Y.BlockOf head body) line) =
+      AllCallAmong may false body × ((stmts_words body + all_inner_words body ≤ 800) × IsUnitNew may head head.kind)
+  CallsAmong may returns _ = ⊤
+
+  pub AllCallAmong : (may : List ℕ) → (returns : Bool) → Y.Stmts → Type 0
+  AllCallAmong may returns (Y.EndOfList labels) = ⊤
+  AllCallAmong may returns (Y.StmtThen labels first rest) = CallsAmong may returns first × AllCallAmong may returns rest
 
 -- how many procedures have a number
 abbrev pub number_of_block : Y.Block → ℕ
@@ -556,6 +576,11 @@ AllOnce (n ∷ ns) others = (number_times n others ≡ 1) × AllOnce ns others
 
 -- ---- blocks inside the procedure
 
+-- a single statement declares nothing
+abbrev pub DeclaresNothing : Y.Program → Y.BlockHead → Y.BlockKind → Type 0
+DeclaresNothing program head Y.SimpleUnit = ⊤
+DeclaresNothing program head _ = variables_of_block program head.number ≡ []
+
 -- they declare nothing
 abbrev mutual
   pub IsBare : Y.Program → Y.Stmt → Type 0
@@ -567,6 +592,7 @@ abbrev mutual
   IsBare program (Y.DoCount counter start limit step condition body line) = AreBare program body
   IsBare program (Y.Begin (Y.BlockOf head body)) =
       (variables_of_block program head.number ≡ []) × AreBare program body
+  IsBare program (Y.OnUnit condition (Y.BlockOf head body) line) = DeclaresNothing program head head.kind × AreBare program body
   IsBare program _ = ⊤
 
   pub AreBare : Y.Program → Y.Stmts → Type 0
@@ -587,12 +613,23 @@ abbrev pub procedure_labels : List Y.Procedure → List (ℕ × Label)
 procedure_labels [] = []
 procedure_labels (p ∷ ps) = block_labels p.block ++ procedure_labels ps
 
+-- the main procedure, whose own list is carried out around all calls
+abbrev pub labels_of_block : Y.Block → List Label
+labels_of_block (Y.BlockOf head body) = labels_in body
+
+abbrev pub main_labels : List Y.Procedure → List Label
+main_labels [] = []
+main_labels (p ∷ ps) = labels_of_block p.block
+
+abbrev pub main_outer : (block : ℕ) → List Y.Procedure → OuterBlock
+main_outer block procedures = record { level = 0; number = block; labels = main_labels procedures }
+
 -- a procedure that is called: it has few words for temporaries in its frame and those of BEGIN blocks in it, so that 500 frames fit the
 -- stacks
 pub record IsCallable (called : List ℕ) (head : Y.BlockHead) (body : Y.Stmts) : Type 0 where
   pub kind : head.kind ≡ Y.ProcedureBlock
   pub line : IsLine head.line
-  pub calls : AllCallAmong called body
+  pub calls : AllCallAmong called true body
   pub few : stmts_words body + all_inner_words body ≤ 800
 
 -- a procedure inside the main one, whose number is the given block's: it declares nothing, and has no parameters and no result
@@ -604,7 +641,7 @@ pub record IsInner (program : Y.Program) (block : ℕ) (all : List (ℕ × Label
   pub level : head.level ≡ 1
   pub bare : variables_of_block program head.number ≡ []
   pub statements : AreProvedStatements block (types_of (variables_of_block program block)) body
-  pub jumps : AllJumpAround head.number 1 all (blocks_of program.procedures) [] (labels_in body) body
+  pub jumps : AllJumpAround head.number 1 all (blocks_of program.procedures) (main_outer block program.procedures ∷ []) (labels_in body) body
   pub inside : AreBare program body
   pub callable : is_number head.number called ≡ true → IsCallable called head body
 
@@ -618,7 +655,7 @@ pub record IsProvedBlock (program : Y.Program) (head : Y.BlockHead) (body : Y.St
   pub line : IsLine head.line
   pub statements : AreProvedStatements head.number (types_of (variables_of_block program head.number)) body
   pub jumps : AllJumpAround head.number 0 (all_labels head.number body ++ procedure_labels others) (blocks_of program.procedures) [] (labels_in body) body
-  pub calls : AllCallAmong called body
+  pub calls : AllCallAmong called true body
   pub inside : AreBare program body
 
 -- the main procedure, without parameters and without a result, and procedures inside it, of which those of some numbers are called; the
