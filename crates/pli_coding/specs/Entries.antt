@@ -1,5 +1,5 @@
 -- How blocks are entered and left: their frames, parameters and variables.
-use Rattle.std.specs.Prelude.{ℕ, zero, suc, ◌+◌, ◌*◌, ℤ, pos, neg_ℤ, max, Bool, true, false, List, [], ◌∷◌, ◌++◌, Option, Some, None, slice_get, if◌then◌else◌}
+use Rattle.std.specs.Prelude.{ℕ, zero, suc, ◌+◌, ◌*◌, ℤ, pos, neg_ℤ, max, min, Bool, true, false, List, [], ◌∷◌, ◌++◌, Option, Some, None, slice_get, if◌then◌else◌}
 use Rattle.rv_meaning.specs.declared.instr.Register.{Register}
 use Rattle.rv_meaning.specs.declared.instr.BranchTest.TheVariants as Test
 use Rattle.pli_typing.specs.TypedTree as Y
@@ -7,7 +7,7 @@ use Rattle.pli_meaning.specs.DeclaredShapes.{variables_of_block}
 use Rattle.pli_coding.specs.Registers.{zero_register, return_register, stack_register, frame_register, held, a0, a1, a2, a3, a4, u0, u1, u2, u3, u4, u5}
 use Rattle.pli_coding.specs.Assembly.{BaseIn, OffsetOf, DataPlace, Code}
 use Rattle.pli_coding.specs.Instructions.{add, subtract, move, small, number, plus, load_word, store_word, skip_where, service}
-use Rattle.pli_coding.specs.Frames.{return_address, frame_below, saved_register, own_offset, lower_top, display, parameter_place, name_bytes, fixed_size, has_constant_size, constant_size, is_automatic, frame_bytes, automatic_place, temporary_bytes}
+use Rattle.pli_coding.specs.Frames.{return_address, frame_below, saved_register, own_offset, lower_top, display, parameter_place, name_bytes, fixed_size, has_constant_size, constant_size, is_automatic, frame_bytes, last_place, automatic_place, temporary_bytes}
 use Rattle.pli_coding.specs.StaticForms.{size_datum}
 use Rattle.pli_coding.specs.Environments.{Environment, none_taken}
 use Rattle.pli_coding.specs.Locating.{own_place, table_number, Address, stored, name_copied, is_star_type}
@@ -198,7 +198,7 @@ copies_of e parameters = copied_parameters (variables_of_block e.program e.block
 abbrev pub arguments_copied : Environment → List ℕ → Code
 arguments_copied e parameters = copies_made e (copies_of e parameters) ++ texts_filled (copies_of e parameters)
 
--- ---- AUTOMATIC variables, whose names stand at a place
+-- ---- AUTOMATIC variables, whose names stand at a place; where the place behind one isn't counted any more, service 7 has ended the run
 
 abbrev pub constant_made : Environment → (place : ℕ) → Y.DeclaredVariable → Code
 constant_made e place d =
@@ -206,7 +206,7 @@ constant_made e place d =
     ++ (number a1 (table_number e d)
     ++ (initial_code a2 d
     ++ (own_place e a3 (pos (place + name_bytes))
-    ++ (small a4 0 ∷ (service 7 ++ plus stack_register frame_register (pos (place + frame_bytes e.parts d)))))))
+    ++ (small a4 0 ∷ (service 7 ++ plus stack_register frame_register (pos (min last_place (place + frame_bytes e.parts d))))))))
 
 abbrev pub extents_act : (line : ℕ) → List Y.Evaluation → Code
 extents_act line [] = []

@@ -156,7 +156,7 @@ next_counted l =
 abbrev pub for_elements : Elements → (each : Code) → Code
 for_elements l each =
     next_loaded l
-    ++ (skip_where Test.Less u1 u2 (JumpAhead (size_of each + (size_of (next_counted l) + 2)) ∷ [])
+    ++ (skip_where Test.LessUnsigned u1 u2 (JumpAhead (size_of each + (size_of (next_counted l) + 2)) ∷ [])
     ++ (each
     ++ (next_counted l
     ++ JumpBack (size_of (next_loaded l) + (3 + (size_of each + size_of (next_counted l)))) ∷ [])))

@@ -1,6 +1,6 @@
 -- The code of a program that is proved names the format lists of its PUT statements and no other data.
 use Rattle.std.proofs.Common.{◌≡◌, ℕ, suc, ◌+◌, List, [], ◌∷◌, ◌++◌, map, length, None, Bool, true, false, refl, sym, ap, ◌∙◌, subst, append_assoc, append-nil}
-use Rattle.std.specs.Prelude.{ℤ, pos, neg_ℤ, cond, ◌&&◌}
+use Rattle.std.specs.Prelude.{ℤ, min, pos, neg_ℤ, cond, ◌&&◌}
 use Rattle.rv_meaning.specs.declared.instr.Register.{Register}
 use Rattle.rv_meaning.specs.declared.instr.BranchTest.TheVariants as Test
 use Rattle.rv_meaning.specs.declared.instr.Instr.TheVariants as I
@@ -12,7 +12,7 @@ use Rattle.pli_meaning.specs.DeclaredShapes.{variables_of_block}
 use Rattle.pli_coding.specs.Registers.{zero_register, return_register, frame_register, stack_register, a0, a1, a2, a3, a4, u0, u1, u5}
 use Rattle.pli_coding.specs.Assembly.{Datum, Plain, BaseIn, OffsetOf, OffsetAhead, JumpTo, CallTo, JumpAhead, JumpBack, Mark, Code, size_of}
 use Rattle.pli_coding.specs.Instructions.{is_immediate, move, small, constant, number, plus, load_word, store_word, choice, service}
-use Rattle.pli_coding.specs.Frames.{frame_below, own_offset, temporary_bytes, name_bytes, frame_bytes, automatic_place, words_place}
+use Rattle.pli_coding.specs.Frames.{frame_below, own_offset, temporary_bytes, name_bytes, frame_bytes, last_place, automatic_place, words_place}
 use Rattle.pli_coding.specs.StaticData.{data_of_symbol, data_named}
 use Rattle.pli_coding.specs.StaticForms.{formats_datum}
 use Rattle.pli_coding.specs.Environments.{Environment, Taken, none_taken, is_register_left, with_number, save, fetch}
@@ -223,7 +223,7 @@ made_none e place =
     let name = own_place (outermost e) a0 (pos place) in
     let n = number a1 (table_number e plain_number) in
     let data_at = own_place (outermost e) a3 (pos (place + name_bytes)) in
-    let z : ℤ = pos (place + frame_bytes e.parts plain_number) in
+    let z : ℤ = pos (min last_place (place + frame_bytes e.parts plain_number)) in
     let last = small a4 0 ∷ (service 7 ++ plus stack_register frame_register z) in
     let initial = initial_code a2 plain_number in
     behind name (n ++ (initial ++ (data_at ++ last))) [] (place_none e a0 (pos place))

@@ -1,6 +1,6 @@
 -- The labels of the main procedure: each that stands once among them is marked once in the program's code.
 use Rattle.std.proofs.Common.{◌≡◌, ℕ, suc, ◌+◌, List, [], ◌∷◌, ◌++◌, length, Option, None, Some, Bool, true, false, inl, inr, refl, sym, ap, ◌∙◌, subst, arith}
-use Rattle.std.specs.Prelude.{ℤ, pos, cond, ◌==◌, if◌then◌else◌}
+use Rattle.std.specs.Prelude.{ℤ, min, pos, cond, ◌==◌, if◌then◌else◌}
 use Rattle.std.proofs.lemmas.Bool.{eq-eqb}
 use Rattle.rv_meaning.specs.declared.instr.Register.{Register}
 use Rattle.pli_typing.specs.TypedTree as Y
@@ -10,7 +10,7 @@ use Rattle.pli_meaning.specs.Executing.{labels_in}
 use Rattle.pli_coding.specs.Registers.{frame_register, stack_register, a0, a1, a2, a3, a4, u0, u5}
 use Rattle.pli_coding.specs.Assembly.{Datum, Symbol, ProcedureEntry, ReturnPlace, LabelPlace, RaiseCondition, RaiseError, ErrorEnd}
 use Rattle.pli_coding.specs.Instructions.{move, small, number, plus, load_word, service}
-use Rattle.pli_coding.specs.Frames.{own_offset, temporary_bytes, name_bytes, frame_bytes, automatic_place, variable_place, parameters_in, first_variable, fixed_size, frame_end}
+use Rattle.pli_coding.specs.Frames.{own_offset, temporary_bytes, name_bytes, frame_bytes, last_place, automatic_place, variable_place, parameters_in, first_variable, fixed_size, frame_end}
 use Rattle.pli_coding.specs.Environments.{BlockPlace, Environment, none_taken, last_of_level}
 use Rattle.pli_coding.specs.Locating.{own_place, table_number}
 use Rattle.pli_coding.specs.StaticForms.{initial_datum}
@@ -54,7 +54,7 @@ made_none e place d =
     let name = own_place (outermost e) a0 (pos place) in
     let n = number a1 (table_number e d) in
     let data_at = own_place (outermost e) a3 (pos (place + name_bytes)) in
-    let z : ℤ = pos (place + frame_bytes e.parts d) in
+    let z : ℤ = pos (min last_place (place + frame_bytes e.parts d)) in
     let last = small a4 0 ∷ (service 7 ++ plus stack_register frame_register z) in
     let initial = initial_code a2 d in
     behind name (n ++ (initial ++ (data_at ++ last))) [] (place_none e a0 (pos place))

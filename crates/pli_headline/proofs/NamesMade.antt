@@ -1,6 +1,6 @@
 -- Code that asks for one variable to be made: its name, its signature's number and its place come into registers.
 use Rattle.std.proofs.Common.{◌≡◌, ℕ, suc, ◌+◌, ◌*◌, ◌^◌, ◌<◌, ◌≤◌, List, [], ◌∷◌, ◌++◌, Option, Some, None, inl, refl, ap, ◌∙◌, arith, lit<, length}
-use Rattle.std.specs.Prelude.{pos, if◌then◌else◌}
+use Rattle.std.specs.Prelude.{min, pos, if◌then◌else◌}
 use Rattle.std.proofs.lemmas.Int.{ints}
 use Rattle.rv_meaning.specs.declared.instr.Instr.{Instr}
 use Rattle.rv_meaning.specs.declared.instr.Instr.TheVariants as I
@@ -12,7 +12,7 @@ use Rattle.pli_serving.specs.ServiceState.{Services}
 use Rattle.pli_coding.specs.Registers.{stack_register, frame_register, a0, a1, a2, a3, a4, a7}
 use Rattle.pli_coding.specs.Assembly.{Datum, DataPlace, Plain, Code, size_of}
 use Rattle.pli_coding.specs.Instructions.{small, number, plus, load_word}
-use Rattle.pli_coding.specs.Frames.{own_offset, is_automatic, automatic_place, name_bytes}
+use Rattle.pli_coding.specs.Frames.{own_offset, is_automatic, last_place, automatic_place, name_bytes}
 use Rattle.pli_coding.specs.SignatureTable.{table_of}
 use Rattle.pli_coding.specs.Entries.{automatic_made, variables_made, constant_made, adjustable_made}
 use Rattle.pli_coding.specs.Extents.{initial_given}
@@ -59,7 +59,7 @@ made_code size place n start =
     ++ (number a1 n
     ++ (start_given start
     ++ (own_loaded a3
-    ++ (plus a3 a3 (pos (place + name_bytes)) ++ (make_asked ++ plus stack_register frame_register (pos (place + size))))))))
+    ++ (plus a3 a3 (pos (place + name_bytes)) ++ (make_asked ++ plus stack_register frame_register (pos (min last_place (place + size)))))))))
 
 alone_is : (program : Y.Program) (block line place : ℕ) (items : List T.InitialItem) (type : Y.LeafType) → IsScalar type → automatic_made (main_environment program block) line place (plain_variable type items) ≡ made_code (scalar_size type) place (number_for (table_of program) (alone type)) (start_datum items)
 alone_is program block line place items type is =
@@ -152,7 +152,7 @@ variable_asked {links} {code} {i} c f first numbers v h t g size place n start f
     let p1 = number a1 n in
     let p2 = start_given start in
     let p3 = plus a3 a3 (pos (place + name_bytes)) in
-    let last = make_asked ++ plus stack_register frame_register (pos (place + size)) in
+    let last = make_asked ++ plus stack_register frame_register (pos (min last_place (place + size))) in
     let o3 = own_loaded a3 in
     let l1 = back_of (own_loaded a0) (p0 ++ (p1 ++ (p2 ++ (o3 ++ (p3 ++ last))))) l in
     let l2 = back_of p0 (p1 ++ (p2 ++ (o3 ++ (p3 ++ last)))) l1 in
@@ -161,7 +161,7 @@ variable_asked {links} {code} {i} c f first numbers v h t g size place n start f
     let l5 = back_of o3 (p3 ++ last) l4 in
     let l6 = back_of p3 last l5 in
     let front = small a4 0 ∷ small a7 7 ∷ [] in
-    let behind = Plain I.Ecall ∷ plus stack_register frame_register (pos (place + size)) in
+    let behind = Plain I.Ecall ∷ plus stack_register frame_register (pos (min last_place (place + size))) in
     let r1 = load_piece c g a0 own_offset (f.at + 36) (λ b. f.at) (own_word f first numbers) (λ b m o. o.own)
     (record { reserved_stay = λ y u. refl; known_stay = λ b y u o. o; set = λ y u. refl })
     (record { reserved_stay = λ y u. refl; known_stay = λ b y u o. o; set = λ y u. refl })
@@ -207,13 +207,13 @@ variable_asked {links} {code} {i} c f first numbers v h t g size place n start f
 
 -- ---- the call and what stands behind it
 
-pub made_size : (size place n : ℕ) (start : Option Datum) → size_of (made_code size place n start) ≡ 1 + size_of (plus a0 a0 (pos place)) + size_of (number a1 n) + size_of (start_given start) + 1 + size_of (plus a3 a3 (pos (place + name_bytes))) + 3 + size_of (plus stack_register frame_register (pos (place + size)))
+pub made_size : (size place n : ℕ) (start : Option Datum) → size_of (made_code size place n start) ≡ 1 + size_of (plus a0 a0 (pos place)) + size_of (number a1 n) + size_of (start_given start) + 1 + size_of (plus a3 a3 (pos (place + name_bytes))) + 3 + size_of (plus stack_register frame_register (pos (min last_place (place + size))))
 made_size size place n start =
     let p0 = plus a0 a0 (pos place) in
     let p1 = number a1 n in
     let p2 = start_given start in
     let p3 = plus a3 a3 (pos (place + name_bytes)) in
-    let ps = plus stack_register frame_register (pos (place + size)) in
+    let ps = plus stack_register frame_register (pos (min last_place (place + size))) in
     let o3 = own_loaded a3 in
     let e0 = size_append p0 (p1 ++ (p2 ++ (o3 ++ (p3 ++ (make_asked ++ ps))))) in
     let e1 = size_append p1 (p2 ++ (o3 ++ (p3 ++ (make_asked ++ ps)))) in
@@ -221,13 +221,13 @@ made_size size place n start =
     let e3 = size_append p3 (make_asked ++ ps) in
     omega (arith, e0, e1, e2, e3)
 
-pub call_linked : {links : Links} {code : List Instr} {i : ℕ} (size place n : ℕ) (start : Option Datum) → Linked links code i (made_code size place n start) → Linked links code (asked_size place n start i) (Plain I.Ecall ∷ plus stack_register frame_register (pos (place + size)))
+pub call_linked : {links : Links} {code : List Instr} {i : ℕ} (size place n : ℕ) (start : Option Datum) → Linked links code i (made_code size place n start) → Linked links code (asked_size place n start i) (Plain I.Ecall ∷ plus stack_register frame_register (pos (min last_place (place + size))))
 call_linked size place n start l =
     let p0 = plus a0 a0 (pos place) in
     let p1 = number a1 n in
     let p2 = start_given start in
     let p3 = plus a3 a3 (pos (place + name_bytes)) in
-    let ps = plus stack_register frame_register (pos (place + size)) in
+    let ps = plus stack_register frame_register (pos (min last_place (place + size))) in
     let o3 = own_loaded a3 in
     let l1 = back_of (own_loaded a0) (p0 ++ (p1 ++ (p2 ++ (o3 ++ (p3 ++ (make_asked ++ ps)))))) l in
     let l2 = back_of p0 (p1 ++ (p2 ++ (o3 ++ (p3 ++ (make_asked ++ ps))))) l1 in
@@ -237,9 +237,9 @@ call_linked size place n start l =
     let l6 = back_of p3 (make_asked ++ ps) l5 in
     back_of (small a4 0 ∷ small a7 7 ∷ []) (Plain I.Ecall ∷ ps) l6
 
-pub rest_linked : {links : Links} {code : List Instr} {i : ℕ} (size place n : ℕ) (start : Option Datum) → Linked links code i (made_code size place n start) → Linked links code (asked_size place n start i + 1) (plus stack_register frame_register (pos (place + size)))
+pub rest_linked : {links : Links} {code : List Instr} {i : ℕ} (size place n : ℕ) (start : Option Datum) → Linked links code i (made_code size place n start) → Linked links code (asked_size place n start i + 1) (plus stack_register frame_register (pos (min last_place (place + size))))
 rest_linked size place n start l =
-    back_of (Plain I.Ecall ∷ []) (plus stack_register frame_register (pos (place + size))) (call_linked size place n start l)
+    back_of (Plain I.Ecall ∷ []) (plus stack_register frame_register (pos (min last_place (place + size)))) (call_linked size place n start l)
 
 -- ---- what it names
 
@@ -256,7 +256,7 @@ made_named size place n start =
     let p0 = plus a0 a0 (pos place) in
     let p1 = number a1 n in
     let p3 = plus a3 a3 (pos (place + name_bytes)) in
-    let last = own_loaded a3 ++ (p3 ++ (make_asked ++ plus stack_register frame_register (pos (place + size)))) in
+    let last = own_loaded a3 ++ (p3 ++ (make_asked ++ plus stack_register frame_register (pos (min last_place (place + size))))) in
     let p2 = start_given start in
     named_behind start (own_loaded a0) (p0 ++ (p1 ++ (p2 ++ last)))
     (named_behind start p0 (p1 ++ (p2 ++ last)) (named_behind start p1 (p2 ++ last) (start_named start last)))

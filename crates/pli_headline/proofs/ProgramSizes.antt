@@ -1,6 +1,6 @@
 -- The code of a program that is proved is no longer than 40 words for each node of its statements and for each variable, and 100.
 use Rattle.std.proofs.Common.{◌≡◌, ℕ, suc, ◌+◌, ◌*◌, ◌≤◌, List, [], ◌∷◌, ◌++◌, length, None, true, refl, sym, ap, ◌∙◌, subst, arith}
-use Rattle.std.specs.Prelude.{ℤ, pos, neg_ℤ}
+use Rattle.std.specs.Prelude.{ℤ, min, pos, neg_ℤ}
 use Rattle.rv_meaning.specs.declared.instr.Register.{Register}
 use Rattle.rv_meaning.specs.declared.instr.Instr.TheVariants as I
 use Rattle.pli_typing.specs.TypedTree as Y
@@ -8,7 +8,7 @@ use Rattle.pli_meaning.specs.DeclaredShapes.{variables_of_block}
 use Rattle.pli_coding.specs.Registers.{zero_register, return_register, frame_register, stack_register, a0, a1, a2, a3, a4, u0, u1, u5}
 use Rattle.pli_coding.specs.Assembly.{Plain, BaseIn, Code, size_of}
 use Rattle.pli_coding.specs.Instructions.{subtract, move, small, number, load_word, store_word, plus, service}
-use Rattle.pli_coding.specs.Frames.{frame_below, own_offset, lower_top, temporary_bytes, fixed_size, name_bytes, frame_bytes, automatic_place}
+use Rattle.pli_coding.specs.Frames.{frame_below, own_offset, lower_top, temporary_bytes, fixed_size, name_bytes, frame_bytes, last_place, automatic_place}
 use Rattle.pli_coding.specs.Environments.{Environment, none_taken}
 use Rattle.pli_coding.specs.Locating.{own_place, table_number}
 use Rattle.pli_coding.specs.Entries.{all_saved, frame_begun, frame_ended, block_entered, constant_made, variables_made, variables_code}
@@ -42,11 +42,11 @@ made_most e place =
     let name = own_place (outermost e) a0 (pos place) in
     let n = number a1 (table_number e plain_number) in
     let data_at = own_place (outermost e) a3 (pos (place + name_bytes)) in
-    let behind = plus stack_register frame_register (pos (place + frame_bytes e.parts plain_number)) in
+    let behind = plus stack_register frame_register (pos (min last_place (place + frame_bytes e.parts plain_number))) in
     let a = place_most e a0 (pos place) in
     let b = constant_most a1 (pos (table_number e plain_number)) in
     let c = place_most e a3 (pos (place + name_bytes)) in
-    let d = plus_most stack_register frame_register (pos (place + frame_bytes e.parts plain_number)) in
+    let d = plus_most stack_register frame_register (pos (min last_place (place + frame_bytes e.parts plain_number))) in
     let last = small a4 0 ∷ (service 7 ++ behind) in
     let initial = initial_code a2 plain_number in
     let s1 = size_append name (n ++ (initial ++ (data_at ++ last))) in

@@ -1,6 +1,6 @@
 -- The variables of the main procedure are made, one behind the other, up to the limit on automatic data.
 use Rattle.std.proofs.Common.{◌≡◌, ℕ, suc, ◌+◌, ◌^◌, ◌<◌, ◌≤◌, ◌⊎◌, inl, inr, List, [], ◌∷◌, length, Bool, refl, sym, ap, ◌∙◌, subst, arith, add-one}
-use Rattle.std.specs.Prelude.{pos, cond, nat_le}
+use Rattle.std.specs.Prelude.{min, pos, cond, nat_le}
 use Rattle.std.proofs.lemmas.Bool.{le-leb, lt-leb, cases_lt}
 use Rattle.rv_meaning.specs.declared.instr.Instr.{Instr}
 use Rattle.rv_meaning.specs.declared.instr.Instr.TheVariants as I
@@ -23,7 +23,7 @@ use Rattle.pli_serving.specs.Making as G
 use Rattle.pli_coding.specs.Registers.{stack_register, frame_register}
 use Rattle.pli_coding.specs.Assembly.{Plain, size_of}
 use Rattle.pli_coding.specs.Instructions.{plus, is_immediate}
-use Rattle.pli_coding.specs.Frames.{automatic_place}
+use Rattle.pli_coding.specs.Frames.{automatic_place, last_place}
 use Rattle.pli_coding.specs.SignatureTable.{table_of}
 use Rattle.pli_coding.specs.Entries.{variables_made}
 use Rattle.pli_coding.specs.Linking.{Links}
@@ -149,7 +149,9 @@ variable_piece {links} {code} {i} kind c words j small' few few' first input tab
     let begun = begin_contents kind in
     let inside = f'.inside in
     let above = f.above_statics in
-    let ps = plus stack_register frame_register (pos (place + size)) in
+    let counted : min last_place (place + size) ≡ place + size = omega (arith, few') in
+    let ps = plus stack_register frame_register (pos (min last_place (place + size))) in
+    let alike = ap (λ p. size_of (plus stack_register frame_register (pos p))) counted in
     let total = made_size size place n start in
     let r1 = variable_asked c f first begun v h t g size place n start ready.reads.small' ready.numbered.few (let wide = (sizes_of kind).wide j in omega (arith, inside, wide)) l at in
     let lc = call_linked size place n start l in
@@ -169,9 +171,9 @@ variable_piece {links} {code} {i} kind c words j small' few few' first input tab
       };
       regs = tt;
     }) in
-    let r3 = stack_piece (asked_size place n start c + 1) f' first begun (f.at + 144 + room_of (sizes_of kind) j) (place + size) (reached r2) (omega arith) (rest_linked size place n start l) (reached_holds r2) in
-    let e : asked_size place n start c + 1 + size_of ps ≡ c + size_of (made_code size place n start) = omega (arith, total) in
-    let e' : asked_size place n start i + 1 + size_of ps ≡ i + size_of (made_code size place n start) = omega (arith, total) in
+    let r3 = stack_piece (asked_size place n start c + 1) f' first begun (f.at + 144 + room_of (sizes_of kind) j) (place + size) (reached r2) (omega arith) (subst (λ p. Linked links code (asked_size place n start i + 1) (plus stack_register frame_register (pos p))) counted (rest_linked size place n start l)) (reached_holds r2) in
+    let e : asked_size place n start c + 1 + size_of (plus stack_register frame_register (pos (place + size))) ≡ c + size_of (made_code size place n start) = omega (arith, total, alike) in
+    let e' : asked_size place n start i + 1 + size_of (plus stack_register frame_register (pos (place + size))) ≡ i + size_of (made_code size place n start) = omega (arith, total, alike) in
     let whole' = reach_then r1 (reach_then r2 r3) in
     let P : Base → Whole → Type 0 = λ b w. At b (i + size_of (made_code size place n start)) (Known (ground_of f' first begun) v' h t nothing b) w in
     let moved = reach_map P whole' (λ b w o. record { pc = o.pc ∙ ap (address b) e'; holds = o.holds }) in
@@ -187,7 +189,7 @@ limit_piece {links} {code} {i} {aims} closed kind words j small' few first input
     let start = start_datum (kind j).initial in
     let ready = signs j (omega arith) in
     let v = main_services table kind input f.at line j in
-    let ps = plus stack_register frame_register (pos (place + size)) in
+    let ps = plus stack_register frame_register (pos (min last_place (place + size))) in
     let lc = call_linked size place n start l in
     onward closed (variable_asked i f first (begin_contents kind) v h t g size place n start ready.reads.small' ready.numbered.few (omega (arith, small', few)) l at) (λ g' at'.
     let calling = asking kind words j small' few first input table line h t g' (first_of (Plain I.Ecall) ps lc) at' in

@@ -1,16 +1,17 @@
 -- AUTOMATIC variables as they are made, by their pieces and one after the other.
 use Rattle.std.proofs.Common.{◌≡◌, ◌<◌, ◌≤◌, ℕ, zero, suc, ◌+◌, max, Bool, true, false, true≢false, List, [], ◌∷◌, ◌++◌, length, drop, get_or, refl, sym, ap, ◌∙◌, append_assoc, append-nil, add-one, arith}
-use Rattle.std.specs.Prelude.{map, slice_get, unwrap_or, if◌then◌else◌}
+use Rattle.std.specs.Prelude.{map, min, slice_get, unwrap_or, if◌then◌else◌}
 use Rattle.std.proofs.lemmas.List.{drop_all, length-map}
 use Rattle.pli_typing.specs.declared.typed.DeclaredVariable.{DeclaredVariable}
 use Rattle.pli_typing.specs.TypedTree as Y
 use Rattle.pli_typing.specs.TypedStatementView.{declared_variable_of}
 use Rattle.pli_meaning.specs.DeclaredShapes.{variables_of_block}
 use Rattle.pli_coding.specs.Assembly.{Code}
-use Rattle.pli_coding.specs.Frames.{automatic_place, has_constant_size, is_automatic}
+use Rattle.pli_coding.specs.Frames.{automatic_place, has_constant_size, is_automatic, last_place}
 use Rattle.pli_coding.specs.Environments.{Environment, no_declaration, none_taken}
 use Rattle.pli_coding.specs.Extents.{extents_code}
 use Rattle.pli_coding.specs.Entries.{adjustable_made, automatic_made, constant_made, extents_act, variables_made, variables_words}
+use Rattle.pli_frames.specs.Parts.{stopped}
 use Rattle.rv_address.proofs.Declared.{shown_from}
 use Rattle.rv_entry.proofs.Steps.{item_first, step}
 use Rattle.rv_entry.specs.Pieces.{adjustable_named, adjustable_put, automatic_put, bytes_waiting, constant_put, data_told, extents_acted, lower_grown, name_told, own_declaration, stack_behind, stack_named, variable_asked, variable_begun, variable_made, variable_words}
@@ -22,6 +23,9 @@ unfolding constant_put name_told variable_begun data_told variable_asked stack_b
 constant-is e place d = sym (ap (λ u. name_told e place ++ u) (append_assoc _ _ (data_told e place ++ (variable_asked ++ stack_behind e place d))))
 
 pub ruleset constants = (constant-is, append_assoc, append-nil)
+
+pub end_stopped : (place bytes : ℕ) → min last_place (place + stopped bytes) ≡ min last_place (place + bytes)
+end_stopped place bytes = omega arith
 
 -- ---- of a size that is evaluated
 

@@ -1,5 +1,5 @@
 -- Pieces of the code by which blocks are entered and left.
-use Rattle.std.specs.Prelude.{ℕ, ◌+◌, ◌*◌, pos, neg_ℤ, List, [], ◌∷◌, ◌++◌, Option, Some, None, slice_get, if◌then◌else◌}
+use Rattle.std.specs.Prelude.{ℕ, ◌+◌, ◌*◌, min, pos, neg_ℤ, List, [], ◌∷◌, ◌++◌, Option, Some, None, slice_get, if◌then◌else◌}
 use Rattle.rv_meaning.specs.declared.instr.Register.{Register}
 use Rattle.rv_meaning.specs.declared.instr.BranchTest.TheVariants as Test
 use Rattle.pli_typing.specs.TypedTree as Y
@@ -7,7 +7,7 @@ use Rattle.pli_meaning.specs.DeclaredShapes.{variables_of_block}
 use Rattle.pli_coding.specs.Registers.{zero_register, stack_register, frame_register, return_register, held, a0, a1, a2, a3, a4, u0, u1, u2, u4, u5}
 use Rattle.pli_coding.specs.Assembly.{BaseIn, OffsetOf, DataPlace, Datum, Code}
 use Rattle.pli_coding.specs.Instructions.{subtract, move, small, number as number_in, plus, load_word, store_word, skip_where, service}
-use Rattle.pli_coding.specs.Frames.{return_address, frame_below, saved_register, own_offset, lower_top, display, parameter_place, name_bytes, fixed_size, temporary_bytes, constant_size, has_constant_size, is_automatic, frame_bytes, automatic_place}
+use Rattle.pli_coding.specs.Frames.{return_address, frame_below, saved_register, own_offset, lower_top, display, parameter_place, name_bytes, fixed_size, temporary_bytes, constant_size, has_constant_size, is_automatic, frame_bytes, last_place, automatic_place}
 use Rattle.pli_coding.specs.StaticForms.{size_datum}
 use Rattle.pli_coding.specs.Environments.{Environment, declaration_of, none_taken}
 use Rattle.pli_coding.specs.Locating.{own_place, table_number, name_copied}
@@ -188,7 +188,7 @@ unfoldable pub variable_asked : Code
 variable_asked = small a4 0 ∷ service 7
 
 unfoldable pub stack_behind : Environment → (place : ℕ) → Y.DeclaredVariable → Code
-stack_behind e place d = plus stack_register frame_register (pos (place + frame_bytes e.parts d))
+stack_behind e place d = plus stack_register frame_register (pos (min last_place (place + frame_bytes e.parts d)))
 
 unfoldable pub constant_put : Environment → (place : ℕ) → Y.DeclaredVariable → Code
 constant_put e place d = constant_made e place d

@@ -1,7 +1,7 @@
 // AUTOMATIC variables as they are made when their block is entered: one of constant size lies in the frame behind its name, and the
 // data of any other on the lower stack.
 
-ghost use Rattle.std.specs.Prelude.{◌≡◌, ◌+◌, pos, map, ◌++◌, OnOk, IfOk};
+ghost use Rattle.std.specs.Prelude.{◌≡◌, ◌+◌, min, pos, map, ◌++◌, OnOk, IfOk};
 ghost use Rattle.pli_typing.specs.TypedView.{class_of, variable_of};
 ghost use Rattle.pli_typing.specs.TypedStatementView.{declared_variable_of, evaluation_of};
 ghost use Rattle.pli_coding.specs.Environments.{declaration_of};
@@ -73,16 +73,14 @@ fn variable_asked(code: &mut Code) -> Result<(), AllocError>
     code.service(7)
 }
 
-/// The place behind it; one that no displacement reaches is want of memory.
+/// The place behind it, as far as places are counted.
+#[tactic(auto, using(crate::proofs::Made::end_stopped))]
 fn end_of(environment: &Environment, place: u32, variable: Variable) -> Result<i32, AllocError>
-    ensures { IfOk result (λ d. d ≡ pos (place + frames.frame_bytes parts (declaration_of (environment_of environment.now) (variable_of variable)))) }
+    ensures { IfOk result (λ d. d ≡ pos (min frames.last_place (place + frames.frame_bytes parts (declaration_of (environment_of environment.now) (variable_of variable))))) }
 {
     let declaration = environment.declaration(variable)?;
-    let bytes = frame_bytes(declaration);
-    if bytes >= LAST_PLACE || place >= 1 << 30 {
-        return Err(AllocError);
-    }
-    Ok((place + bytes as u32) as i32)
+    let end = LAST_PLACE.min(u64::from(place) + frame_bytes(declaration));
+    Ok(end as i32)
 }
 
 /// The stack goes on behind it.

@@ -8,10 +8,10 @@ use Rattle.rv_assembly.specs.declared.place.Place.{Place}
 use Rattle.rv_assembly.specs.Places.{branch, jump_kept, jumped_over}
 
 unfoldable pub turn_tested : Elements → Code
-turn_tested l = next_loaded l ++ branch Test.Less u1 u2 2 ∷ []
+turn_tested l = next_loaded l ++ branch Test.LessUnsigned u1 u2 2 ∷ []
 
 unfoldable pub turn_begun : Elements → Code
-turn_begun l = next_loaded l ++ (branch Test.Less u1 u2 2 ∷ jump_kept ∷ [])
+turn_begun l = next_loaded l ++ (branch Test.LessUnsigned u1 u2 2 ∷ jump_kept ∷ [])
 
 unfoldable pub turn_ended : (start : ℕ) → Place → Elements → Code → Code
 turn_ended start p l code =

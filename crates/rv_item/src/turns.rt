@@ -20,7 +20,7 @@ pub fn turn_begun(code: &mut Code, elements: Elements) -> Result<Place, AllocErr
     ensures place { IfOk result (λ p. p ≡ jump_place (code.old ++ turn_tested (elements_shown elements))) }
 {
     next_loaded(code, elements)?;
-    code.push(branch_over(BranchTest::Less, u1(), u2(), 2))?;
+    code.push(branch_over(BranchTest::LessUnsigned, u1(), u2(), 2))?;
     code.keep_jump()
 }
 
