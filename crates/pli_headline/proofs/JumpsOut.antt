@@ -40,7 +40,7 @@ use Rattle.pli_headline.proofs.Calls.{called, Calling, call_done}
 use Rattle.pli_headline.proofs.Raising.{small_is}
 use Rattle.pli_headline.proofs.Acts.{acted, act_to}
 use Rattle.pli_headline.proofs.Ifs.{free_far}
-use Rattle.pli_headline.proofs.Statements.{IsOwned, lower_ground, Enclosing, Enclosures, Block, counted_all, IsMarkedOnce, OutletOf, Outlets, Enough, Does}
+use Rattle.pli_headline.proofs.Statements.{IsSized, lower_ground, Enclosing, Enclosures, Block, counted_all, IsMarkedOnce, OutletOf, Outlets, Enough, Does}
 use Rattle.pli_headline.proofs.BeginDisplays.{frame_word, moved_reserved, without_two, outer_place}
 use Rattle.pli_headline.proofs.EndedBlocks.{all_ended}
 use Rattle.pli_headline.proofs.Returns.{unwound_services, unwind_answer}
@@ -175,7 +175,7 @@ unwound_size level few = by_near (is_immediate (display level)) (near_display le
     by_near false near = absurd (cc near)
 
 -- the act leaves no credits to count, so the label may stand anywhere
-own_out_does : {e : Environment} {block : ℕ} {types : Types} (bl : Block e block types) (links : Links) (code : List Instr) (around : Around) {o : OuterBlock} (d : Enclosing e o bl.ground bl.levels bl.frames.list (e.level ∷ bl.depths)) (label : Label) (line : ℕ) → ((i k : ℕ) (h t : ℕ → ℕ) (acts : ℕ) (jumped : ℕ → Family → Services → ℕ → Label → State → Type 0) (returned : ℕ → Family → Services → Option BasicValue → State → Type 0) → Enough bl links k around.turns i h t acts jumped returned → OutletOf bl.frames d block types links k acts jumped label) → IsOwned e.owner → e.level ≤ 100 → line < 2 ^ 31 → Does bl links code around.turns (act_code line ++ out_code o (frame_end e.parts e.program o.number o.level) label) (M.statement around (Y.Goto o.level label line))
+own_out_does : {e : Environment} {block : ℕ} {types : Types} (bl : Block e block types) (links : Links) (code : List Instr) (around : Around) {o : OuterBlock} (d : Enclosing e o bl.ground bl.levels bl.frames.list (e.level ∷ bl.depths)) (label : Label) (line : ℕ) → ((i k : ℕ) (h t : ℕ → ℕ) (acts : ℕ) (jumped : ℕ → Family → Services → ℕ → Label → State → Type 0) (returned : ℕ → Family → Services → Option BasicValue → State → Type 0) → Enough bl links k around.turns i h t acts jumped returned → OutletOf bl.frames d block types links k acts jumped label) → IsSized e.owner o.level → e.level ≤ 100 → line < 2 ^ 31 → Does bl links code around.turns (act_code line ++ out_code o (frame_end e.parts e.program o.number o.level) label) (M.statement around (Y.Goto o.level label line))
 unfolding M.statement looked jumps ◌>>=◌ ◌>>◌
 own_out_does {e} {block} {types} bl links code around {o} d label line outs owned few fits =
     record {
@@ -201,7 +201,7 @@ own_out_does {e} {block} {types} bl links code around {o} d label line outs owne
           let l2 = front_of (u' ++ p) j l1 in
           let l3 = back_of (u' ++ p) j l1 in
           let ends = d.ends in
-          let sized = d.sized (inr owned) in
+          let sized = d.sized owned in
           let frame = d.frame_is n in
           let free = d.free_is n in
           let s1 = with_world (counted s.world) s in
@@ -240,23 +240,23 @@ deep_code e o label deep around =
     ap (λ u. (unwound_to o.level 0 ++ plus stack_register frame_register (pos (frame_end e.parts e.program u o.level))) ++ JumpTo (LabelPlace u label) ∷ []) (sym around)
     ∙ ap (λ q. cond q [] (goto_outer e o.level) ++ JumpTo (LabelPlace (block_around e o.level) label) ∷ []) (sym deep)
 
-outer_does : {e : Environment} {block : ℕ} {types : Types} (bl : Block e block types) (links : Links) (code : List Instr) (around : Around) {o : OuterBlock} (d : Enclosing e o bl.ground bl.levels bl.frames.list (e.level ∷ bl.depths)) (level : ℕ) (label : Label) (line : ℕ) → ((i k : ℕ) (h t : ℕ → ℕ) (acts : ℕ) (jumped : ℕ → Family → Services → ℕ → Label → State → Type 0) (returned : ℕ → Family → Services → Option BasicValue → State → Type 0) → Enough bl links k around.turns i h t acts jumped returned → OutletOf bl.frames d block types links k acts jumped label) → o.level ≡ level → block_around e level ≡ o.number → IsOwned e.owner → e.level ≤ 100 → line < 2 ^ 31 → Does bl links code around.turns (stmt_code e bl.taken (Y.Goto level label line)) (M.statement around (Y.Goto level label line))
+outer_does : {e : Environment} {block : ℕ} {types : Types} (bl : Block e block types) (links : Links) (code : List Instr) (around : Around) {o : OuterBlock} (d : Enclosing e o bl.ground bl.levels bl.frames.list (e.level ∷ bl.depths)) (level : ℕ) (label : Label) (line : ℕ) → ((i k : ℕ) (h t : ℕ → ℕ) (acts : ℕ) (jumped : ℕ → Family → Services → ℕ → Label → State → Type 0) (returned : ℕ → Family → Services → Option BasicValue → State → Type 0) → Enough bl links k around.turns i h t acts jumped returned → OutletOf bl.frames d block types links k acts jumped label) → o.level ≡ level → block_around e level ≡ o.number → IsSized e.owner level → e.level ≤ 100 → line < 2 ^ 31 → Does bl links code around.turns (stmt_code e bl.taken (Y.Goto level label line)) (M.statement around (Y.Goto level label line))
 outer_does {e} bl links code around {o} d level label line outs same found owned few fits =
     let deeper = d.deeper in
     let apart : (o.level == e.level) ≡ false = grind (arith, nat_tests) in
     subst (λ n. Does bl links code around.turns (stmt_code e bl.taken (Y.Goto n label line)) (M.statement around (Y.Goto n label line))) same
     (subst (λ c. Does bl links code around.turns (act_code line ++ c) (M.statement around (Y.Goto o.level label line))) (deep_code e o label apart (ap (block_around e) same ∙ found))
-    (own_out_does bl links code around d label line outs owned few fits))
+    (own_out_does bl links code around d label line outs (subst (λ n. IsSized e.owner n) (sym same) owned) few fits))
 
 -- ---- to any of the blocks around
 
-out_among : {e : Environment} {block : ℕ} {types : Types} (bl : Block e block types) (links : Links) (code : List Instr) (around : Around) (all : List (ℕ × Label)) (level : ℕ) (label : Label) (line : ℕ) → ((number : ℕ) → times number label all ≡ 1 → IsMarkedOnce links number label) → IsOwned e.owner → e.level ≤ 100 → line < 2 ^ 31 → (os : List OuterBlock) (ds : Enclosures e bl.ground bl.levels bl.frames.list (e.level ∷ bl.depths) os) → ((i k : ℕ) (h t : ℕ → ℕ) (acts : ℕ) (jumped : ℕ → Family → Services → ℕ → Label → State → Type 0) (returned : ℕ → Family → Services → Option BasicValue → State → Type 0) → Enough bl links k around.turns i h t acts jumped returned → Outlets e bl.ground bl.levels bl.frames (e.level ∷ bl.depths) os ds block types links k acts jumped) → IsOutward e.block level label all e.blocks os → Does bl links code around.turns (stmt_code e bl.taken (Y.Goto level label line)) (M.statement around (Y.Goto level label line))
+out_among : {e : Environment} {block : ℕ} {types : Types} (bl : Block e block types) (links : Links) (code : List Instr) (around : Around) (all : List (ℕ × Label)) (level : ℕ) (label : Label) (line : ℕ) → ((number : ℕ) → times number label all ≡ 1 → IsMarkedOnce links number label) → IsSized e.owner level → e.level ≤ 100 → line < 2 ^ 31 → (os : List OuterBlock) (ds : Enclosures e bl.ground bl.levels bl.frames.list (e.level ∷ bl.depths) os) → ((i k : ℕ) (h t : ℕ → ℕ) (acts : ℕ) (jumped : ℕ → Family → Services → ℕ → Label → State → Type 0) (returned : ℕ → Family → Services → Option BasicValue → State → Type 0) → Enough bl links k around.turns i h t acts jumped returned → Outlets e bl.ground bl.levels bl.frames (e.level ∷ bl.depths) os ds block types links k acts jumped) → IsOutward e.block level label all e.blocks os → Does bl links code around.turns (stmt_code e bl.taken (Y.Goto level label line)) (M.statement around (Y.Goto level label line))
 out_among bl links code around all level label line once owned few fits [] ds outs outward = absurd outward
 out_among bl links code around all level label line once owned few fits (o ∷ os) ds outs (inl h) =
     outer_does bl links code around ds.0 level label line (λ i k h' t acts jumped returned more. (outs i k h' t acts jumped returned more).0 label h.1.0 (once o.number h.1.1.0)) h.0 h.1.1.1 owned few fits
 out_among bl links code around all level label line once owned few fits (o ∷ os) ds outs (inr h) =
     out_among bl links code around all level label line once owned few fits os ds.1 (λ i k h' t acts jumped returned more. (outs i k h' t acts jumped returned more).1) h
 
-pub out_does : {e : Environment} {block : ℕ} {types : Types} (bl : Block e block types) (links : Links) (code : List Instr) (around : Around) (all : List (ℕ × Label)) (level : ℕ) (label : Label) (line : ℕ) → ((number : ℕ) → times number label all ≡ 1 → IsMarkedOnce links number label) → IsOwned e.owner → e.level ≤ 100 → line < 2 ^ 31 → IsOutward e.block level label all e.blocks bl.outer → Does bl links code around.turns (stmt_code e bl.taken (Y.Goto level label line)) (M.statement around (Y.Goto level label line))
+pub out_does : {e : Environment} {block : ℕ} {types : Types} (bl : Block e block types) (links : Links) (code : List Instr) (around : Around) (all : List (ℕ × Label)) (level : ℕ) (label : Label) (line : ℕ) → ((number : ℕ) → times number label all ≡ 1 → IsMarkedOnce links number label) → IsSized e.owner level → e.level ≤ 100 → line < 2 ^ 31 → IsOutward e.block level label all e.blocks bl.outer → Does bl links code around.turns (stmt_code e bl.taken (Y.Goto level label line)) (M.statement around (Y.Goto level label line))
 out_does bl links code around all level label line once owned few fits outward =
     out_among bl links code around all level label line once owned few fits bl.outer bl.enclosing (λ i k h t acts jumped returned more. more.outs) outward

@@ -22,7 +22,7 @@ use Rattle.pli_coding.specs.Procedures.{procedure_begun, procedure_ended, proced
 use Rattle.pli_coding.specs.Images.{blocks_among, blocks_of_procedure, with_blocks, blocks_of, environment_of, raise_code, code_of}
 use Rattle.pli_coding.specs.Linking.{links_of}
 use Rattle.pli_headline.specs.Headline.{parts}
-use Rattle.pli_headline.specs.ProvedSoFar.{plain_variable, ArePlain, AllPlain, types_of, AreProvedStatements, AreBare, all_labels, array_variable, AllJumpAround, number_times, AreInner, procedure_labels, times, is_number, AllCallAmong}
+use Rattle.pli_headline.specs.ProvedSoFar.{plain_variable, ArePlain, AllPlain, types_of, AreProvedStatements, AreBare, all_labels, array_variable, AllJumpAround, main_outer, number_times, AreInner, procedure_labels, times, is_number, AllCallAmong}
 use Rattle.pli_headline.proofs.Linking.{times_marked}
 use Rattle.pli_headline.proofs.FirstFrame.{start_of}
 use Rattle.pli_headline.proofs.Marks.{others_code, code_is}
@@ -176,7 +176,7 @@ bare_sized program block line body all called alone inner number level none =
 
 -- ---- the labels
 
-pub labels_stand : (program : Y.Program) (block line : ℕ) (body : Y.Stmts) (called : List ℕ) → AllPlain program.variables → (alone : IsAlone program block line body) → AreProvedStatements block (types_of (variables_of_block program block)) body → AreBare program body → AllJumpAround block 0 (all_labels block body ++ procedure_labels alone.others) (blocks_of program.procedures) [] (labels_in body) body → AreInner program block (all_labels block body ++ procedure_labels alone.others) called alone.others → LabelsStand (main_environment program block) (links_of (code_of parts program)) (all_labels block body ++ procedure_labels alone.others) block true
+pub labels_stand : (program : Y.Program) (block line : ℕ) (body : Y.Stmts) (called : List ℕ) → AllPlain program.variables → (alone : IsAlone program block line body) → AreProvedStatements block (types_of (variables_of_block program block)) body → AreBare program body → AllJumpAround block 0 (all_labels block body ++ procedure_labels alone.others) (blocks_of program.procedures) (main_outer block program.procedures) [] (labels_in body) body → AreInner program block (all_labels block body ++ procedure_labels alone.others) called alone.others → LabelsStand (main_environment program block) (links_of (code_of parts program)) (all_labels block body ++ procedure_labels alone.others) block true
 labels_stand program block line body called plain alone are bare jumps inner =
     record {
       own = own_block program block line body alone;
@@ -191,7 +191,7 @@ labels_stand program block line body called plain alone are bare jumps inner =
       ended = λ q.
           times_are (ReturnPlace block) 0 (code_of parts program)
           ∙ ap (symbol_times (ReturnPlace block)) (program_marks program block line body plain _ _ alone are bare inner)
-          ∙ end_times block (all_stands block body) (procedure_symbols alone.others) (eq-eqb block block refl) (ends_apart block block body (own_units block 0 _ _ [] (labels_in body) body jumps)) (others_end program block _ _ alone.others inner);
+          ∙ end_times block (all_stands block body) (procedure_symbols alone.others) (eq-eqb block block refl) (ends_apart block block body (own_units block 0 _ _ _ [] (labels_in body) body jumps)) (others_end program block _ _ alone.others inner);
       lower = omega arith;
       owned = tt;
       shallow = omega arith;

@@ -100,7 +100,6 @@ pub mod CalledEntered
 pub mod CalledLeft
 pub mod CallMeant
 pub mod MainOutlets
-pub mod MoreAround
 pub mod CalledJumps
 pub mod CallRuns
 pub mod BeginMeant

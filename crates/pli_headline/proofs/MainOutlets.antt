@@ -1,5 +1,5 @@
--- GOTO out of a called procedure, also where an on-unit calls it, to a label of the main procedure's own list, which is carried out around
--- all calls and raises: how the blocks that call or raise come to it.
+-- GOTO out of a called procedure or an on-unit to a label of the main procedure's own list, which is carried out around all calls and
+-- raises: how the blocks that call or raise come to it.
 use Rattle.std.proofs.Common.{◌≡◌, ℕ, suc, ◌+◌, ◌*◌, ◌<◌, ◌≤◌, ◌⊎◌, inl, inr, List, [], ◌∷◌, ◌++◌, length, Option, Bool, true, false, refl, sym, ap, ◌∙◌, subst, arith}
 use Rattle.std.specs.Prelude.{◌==◌, ◌||◌}
 use Rattle.std.proofs.lemmas.Bool.Decides.{nat_tests}

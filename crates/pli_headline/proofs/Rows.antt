@@ -12,7 +12,7 @@ use Rattle.image_runs.specs.Runs.{Stopped, layout_of, shown_by}
 use Rattle.pli_meaning.specs.Headline.{step_cost}
 use Rattle.pli_headline.specs.Headline.{parts}
 use Rattle.pli_meaning.specs.Executing.{labels_in}
-use Rattle.pli_headline.specs.ProvedSoFar.{IsProvedSoFar, ArePlain, Types, AreProvedStatements, AllJumpAround, all_labels, AreProvedFormats, AreProvedPairs, IsTimes, HasData, IsOwn, IsOwnText, IsTarget, plain_variable, text_leaf, alone, array_variable, IsProvedNumber, IsElement, IsDimension}
+use Rattle.pli_headline.specs.ProvedSoFar.{IsProvedSoFar, ArePlain, Types, AreProvedStatements, AllJumpAround, main_outer, all_labels, AreProvedFormats, AreProvedPairs, IsTimes, HasData, IsOwn, IsOwnText, IsTarget, plain_variable, text_leaf, alone, array_variable, IsProvedNumber, IsElement, IsDimension}
 use Rattle.pli_typing.specs.Signatures.{Bounds}
 
 -- a fault is no world
@@ -218,7 +218,7 @@ jumping =
 jumping_proved : AreProvedStatements 1 [] jumping
 jumping_proved = ((tt, (((tt, (lit< tt, lit< tt)), (lit< tt, tt)), lit< tt)), tt)
 
-jumps_around : AllJumpAround 1 0 (all_labels 1 jumping) (record { number = 1; level = 0 } ∷ []) [] (labels_in jumping) jumping
+jumps_around : AllJumpAround 1 0 (all_labels 1 jumping) (record { number = 1; level = 0 } ∷ []) (main_outer 1 []) [] (labels_in jumping) jumping
 jumps_around = ((inl (refl, (refl, refl)), (inl (refl, (refl, refl)), tt)), tt)
 
 -- BEGIN; L: BEGIN; GOTO L; END; END;
@@ -231,7 +231,7 @@ jumping_out =
     (Y.EndOfList []))))
     (Y.EndOfList [])
 
-jumps_outward : AllJumpAround 1 0 (all_labels 1 jumping_out) (record { number = 1; level = 0 } ∷ record { number = 2; level = 1 } ∷ record { number = 3; level = 2 } ∷ []) [] (labels_in jumping_out) jumping_out
+jumps_outward : AllJumpAround 1 0 (all_labels 1 jumping_out) (record { number = 1; level = 0 } ∷ record { number = 2; level = 1 } ∷ record { number = 3; level = 2 } ∷ []) (main_outer 1 []) [] (labels_in jumping_out) jumping_out
 jumps_outward =
     (((refl, omega arith), (((refl, omega arith), (inr (inl (refl, (refl, (refl, refl)))), tt)), tt)), tt)
 
@@ -239,7 +239,7 @@ jumps_outward =
 abbrev jumping_away : Y.Stmts
 jumping_away = Y.StmtThen [] (Y.Goto 0 (76 ∷ []) 3) (Y.EndOfList [])
 
-jumps_away : AllJumpAround 2 1 ((1, 76 ∷ []) ∷ []) (record { number = 1; level = 0 } ∷ record { number = 2; level = 1 } ∷ []) (record { level = 0; number = 1; labels = (76 ∷ []) ∷ [] } ∷ []) [] jumping_away
+jumps_away : AllJumpAround 2 1 ((1, 76 ∷ []) ∷ []) (record { number = 1; level = 0 } ∷ record { number = 2; level = 1 } ∷ []) (main_outer 1 []) (record { level = 0; number = 1; labels = (76 ∷ []) ∷ [] } ∷ []) [] jumping_away
 jumps_away = (inr (inl (refl, (refl, (refl, refl)))), tt)
 
 -- (X(1), 2 (COLUMN(3), F(5)), A)
@@ -667,4 +667,49 @@ leaving_program =
         tt,
       );
       once = (refl, tt);
+    }
+
+-- ON AREA GOTO L; SIGNAL AREA; L: ON AREA BEGIN; GOTO M; END; SIGNAL AREA; M: END;
+abbrev away_body : Y.Stmts
+away_body =
+    Y.StmtThen [] (Y.OnUnit C.Area (Y.BlockOf single_head (Y.StmtThen [] (Y.Goto 0 (76 ∷ []) 2) (Y.EndOfList []))) 2)
+    (Y.StmtThen [] (Y.Signal C.Area 3)
+    (Y.StmtThen ((76 ∷ []) ∷ []) (Y.OnUnit C.Area (Y.BlockOf unit_head (Y.StmtThen [] (Y.Goto 0 (77 ∷ []) 4) (Y.EndOfList []))) 4)
+    (Y.StmtThen [] (Y.Signal C.Area 5)
+    (Y.EndOfList ((77 ∷ []) ∷ [])))))
+
+abbrev with_away : Y.Program
+with_away =
+    record {
+      variables = [] ∷ [] ∷ [] ∷ [];
+      procedures = record { block = Y.BlockOf head away_body; parameters = []; result = None } ∷ [];
+    }
+
+away_program : IsProvedSoFar with_away
+away_program =
+    record {
+      head = head;
+      body = away_body;
+      others = [];
+      called = [];
+      procedures = refl;
+      plain = (tt, (tt, (tt, tt)));
+      few = lit< tt;
+      block = record {
+        kind = refl;
+        level = refl;
+        line = lit< tt;
+        statements = (
+          (refl, (tt, (lit< tt, (lit< tt, (lit< tt, tt))))),
+          (lit< tt, ((refl, (tt, (lit< tt, (lit< tt, (lit< tt, tt))))), (lit< tt, tt))),
+        );
+        jumps = (
+          (refl, (refl, (tt, (inr (inl (refl, (refl, (refl, refl)))), tt)))),
+          (tt, ((refl, (refl, (refl, (inr (inl (refl, (refl, (refl, refl)))), tt)))), (tt, tt))),
+        );
+        calls = (((tt, tt), (omega arith, tt)), (tt, (((tt, tt), (omega arith, refl)), (tt, tt))));
+        inside = ((tt, (tt, tt)), (tt, ((refl, (tt, tt)), (tt, tt))));
+      };
+      inner = tt;
+      once = tt;
     }

@@ -153,54 +153,54 @@ mutual
 
 -- blocks inside the main procedure have no units
 mutual
-  no_unit : (number block level : ℕ) (all : List (ℕ × Label)) (blocks : List BlockPlace) (outer : List OuterBlock) (around : List Label) (x : Y.Stmt) → (0 == level) ≡ false → JumpsAround block level all blocks outer around x → UnitsApart number x
-  no_unit number block level all blocks outer around (Y.If condition unit line) deep jumps = no_unit number block level all blocks outer around unit deep jumps
-  no_unit number block level all blocks outer around (Y.IfElse condition unit otherwise line) deep jumps = (
-    no_unit number block level all blocks outer around unit deep jumps.0,
-    no_unit number block level all blocks outer around otherwise deep jumps.1,
+  no_unit : (number block level : ℕ) (all : List (ℕ × Label)) (blocks : List BlockPlace) (main : OuterBlock) (outer : List OuterBlock) (around : List Label) (x : Y.Stmt) → (0 == level) ≡ false → JumpsAround block level all blocks main outer around x → UnitsApart number x
+  no_unit number block level all blocks main outer around (Y.If condition unit line) deep jumps = no_unit number block level all blocks main outer around unit deep jumps
+  no_unit number block level all blocks main outer around (Y.IfElse condition unit otherwise line) deep jumps = (
+    no_unit number block level all blocks main outer around unit deep jumps.0,
+    no_unit number block level all blocks main outer around otherwise deep jumps.1,
   )
-  no_unit number block level all blocks outer around (Y.Do body line) deep jumps = no_units number block level all blocks outer (labels_in body ++ around) body deep jumps
-  no_unit number block level all blocks outer around (Y.DoWhile condition body line) deep jumps = no_units number block level all blocks outer (labels_in body ++ around) body deep jumps
-  no_unit number block level all blocks outer around (Y.DoOnce target start condition body line) deep jumps = no_units number block level all blocks outer (labels_in body ++ around) body deep jumps
-  no_unit number block level all blocks outer around (Y.DoCount counter start limit step condition body line) deep jumps = no_units number block level all blocks outer (labels_in body ++ around) body deep jumps
-  no_unit number block level all blocks outer around (Y.Begin (Y.BlockOf head body)) deep jumps =
-      no_units number head.number head.level all blocks (record { level = level; number = block; labels = around } ∷ outer) (labels_in body) body (other_level head.level level jumps.0.0) jumps.1
-  no_unit number block level all blocks outer around (Y.OnUnit condition (Y.BlockOf head body) line) deep jumps =
+  no_unit number block level all blocks main outer around (Y.Do body line) deep jumps = no_units number block level all blocks main outer (labels_in body ++ around) body deep jumps
+  no_unit number block level all blocks main outer around (Y.DoWhile condition body line) deep jumps = no_units number block level all blocks main outer (labels_in body ++ around) body deep jumps
+  no_unit number block level all blocks main outer around (Y.DoOnce target start condition body line) deep jumps = no_units number block level all blocks main outer (labels_in body ++ around) body deep jumps
+  no_unit number block level all blocks main outer around (Y.DoCount counter start limit step condition body line) deep jumps = no_units number block level all blocks main outer (labels_in body ++ around) body deep jumps
+  no_unit number block level all blocks main outer around (Y.Begin (Y.BlockOf head body)) deep jumps =
+      no_units number head.number head.level all blocks main (record { level = level; number = block; labels = around } ∷ outer) (labels_in body) body (other_level head.level level jumps.0.0) jumps.1
+  no_unit number block level all blocks main outer around (Y.OnUnit condition (Y.BlockOf head body) line) deep jumps =
       let no : true ≡ false = sym jumps.0 ∙ deep in absurd (cc no)
-  no_unit number block level all blocks outer around _ deep jumps = tt
+  no_unit number block level all blocks main outer around _ deep jumps = tt
 
-  pub no_units : (number block level : ℕ) (all : List (ℕ × Label)) (blocks : List BlockPlace) (outer : List OuterBlock) (around : List Label) (body : Y.Stmts) → (0 == level) ≡ false → AllJumpAround block level all blocks outer around body → AllUnitsApart number body
-  no_units number block level all blocks outer around (Y.EndOfList labels) deep jumps = tt
-  no_units number block level all blocks outer around (Y.StmtThen labels first rest) deep jumps = (
-    no_unit number block level all blocks outer around first deep jumps.0,
-    no_units number block level all blocks outer around rest deep jumps.1,
+  pub no_units : (number block level : ℕ) (all : List (ℕ × Label)) (blocks : List BlockPlace) (main : OuterBlock) (outer : List OuterBlock) (around : List Label) (body : Y.Stmts) → (0 == level) ≡ false → AllJumpAround block level all blocks main outer around body → AllUnitsApart number body
+  no_units number block level all blocks main outer around (Y.EndOfList labels) deep jumps = tt
+  no_units number block level all blocks main outer around (Y.StmtThen labels first rest) deep jumps = (
+    no_unit number block level all blocks main outer around first deep jumps.0,
+    no_units number block level all blocks main outer around rest deep jumps.1,
   )
 
 -- they are in the main procedure other than its own, by its jumps
 mutual
-  own_unit : (block level : ℕ) (all : List (ℕ × Label)) (blocks : List BlockPlace) (outer : List OuterBlock) (around : List Label) (x : Y.Stmt) → JumpsAround block level all blocks outer around x → UnitsApart block x
-  own_unit block level all blocks outer around (Y.If condition unit line) jumps = own_unit block level all blocks outer around unit jumps
-  own_unit block level all blocks outer around (Y.IfElse condition unit otherwise line) jumps = (
-    own_unit block level all blocks outer around unit jumps.0,
-    own_unit block level all blocks outer around otherwise jumps.1,
+  own_unit : (block level : ℕ) (all : List (ℕ × Label)) (blocks : List BlockPlace) (main : OuterBlock) (outer : List OuterBlock) (around : List Label) (x : Y.Stmt) → JumpsAround block level all blocks main outer around x → UnitsApart block x
+  own_unit block level all blocks main outer around (Y.If condition unit line) jumps = own_unit block level all blocks main outer around unit jumps
+  own_unit block level all blocks main outer around (Y.IfElse condition unit otherwise line) jumps = (
+    own_unit block level all blocks main outer around unit jumps.0,
+    own_unit block level all blocks main outer around otherwise jumps.1,
   )
-  own_unit block level all blocks outer around (Y.Do body line) jumps = own_units block level all blocks outer (labels_in body ++ around) body jumps
-  own_unit block level all blocks outer around (Y.DoWhile condition body line) jumps = own_units block level all blocks outer (labels_in body ++ around) body jumps
-  own_unit block level all blocks outer around (Y.DoOnce target start condition body line) jumps = own_units block level all blocks outer (labels_in body ++ around) body jumps
-  own_unit block level all blocks outer around (Y.DoCount counter start limit step condition body line) jumps = own_units block level all blocks outer (labels_in body ++ around) body jumps
-  own_unit block level all blocks outer around (Y.Begin (Y.BlockOf head body)) jumps =
-      no_units block head.number head.level all blocks (record { level = level; number = block; labels = around } ∷ outer) (labels_in body) body (other_level head.level level jumps.0.0) jumps.1
-  own_unit block level all blocks outer around (Y.OnUnit condition (Y.BlockOf head body) line) jumps = (
+  own_unit block level all blocks main outer around (Y.Do body line) jumps = own_units block level all blocks main outer (labels_in body ++ around) body jumps
+  own_unit block level all blocks main outer around (Y.DoWhile condition body line) jumps = own_units block level all blocks main outer (labels_in body ++ around) body jumps
+  own_unit block level all blocks main outer around (Y.DoOnce target start condition body line) jumps = own_units block level all blocks main outer (labels_in body ++ around) body jumps
+  own_unit block level all blocks main outer around (Y.DoCount counter start limit step condition body line) jumps = own_units block level all blocks main outer (labels_in body ++ around) body jumps
+  own_unit block level all blocks main outer around (Y.Begin (Y.BlockOf head body)) jumps =
+      no_units block head.number head.level all blocks main (record { level = level; number = block; labels = around } ∷ outer) (labels_in body) body (other_level head.level level jumps.0.0) jumps.1
+  own_unit block level all blocks main outer around (Y.OnUnit condition (Y.BlockOf head body) line) jumps = (
     jumps.1.1.0,
-    no_units block head.number head.level all blocks [] (labels_in body) body (other_level head.level 0 jumps.1.0) jumps.1.1.1,
+    no_units block head.number head.level all blocks main (main ∷ []) (labels_in body) body (other_level head.level 0 jumps.1.0) jumps.1.1.1,
   )
-  own_unit block level all blocks outer around _ jumps = tt
+  own_unit block level all blocks main outer around _ jumps = tt
 
-  pub own_units : (block level : ℕ) (all : List (ℕ × Label)) (blocks : List BlockPlace) (outer : List OuterBlock) (around : List Label) (body : Y.Stmts) → AllJumpAround block level all blocks outer around body → AllUnitsApart block body
-  own_units block level all blocks outer around (Y.EndOfList labels) jumps = tt
-  own_units block level all blocks outer around (Y.StmtThen labels first rest) jumps = (
-    own_unit block level all blocks outer around first jumps.0,
-    own_units block level all blocks outer around rest jumps.1,
+  pub own_units : (block level : ℕ) (all : List (ℕ × Label)) (blocks : List BlockPlace) (main : OuterBlock) (outer : List OuterBlock) (around : List Label) (body : Y.Stmts) → AllJumpAround block level all blocks main outer around body → AllUnitsApart block body
+  own_units block level all blocks main outer around (Y.EndOfList labels) jumps = tt
+  own_units block level all blocks main outer around (Y.StmtThen labels first rest) jumps = (
+    own_unit block level all blocks main outer around first jumps.0,
+    own_units block level all blocks main outer around rest jumps.1,
   )
 
 -- and other than those of the procedures that are called

@@ -62,7 +62,7 @@ abbrev pub owner_level : Owner → ℕ
 owner_level (BlockOwner b) = b.level
 owner_level UnitOwner = 0
 
--- a procedure's, of which jumps may go out and whose frame has a known end
+-- that of a procedure, or of an on-unit that is a block, whose frame has a known end
 abbrev pub IsOwned : Owner → Type 0
 IsOwned (BlockOwner b) = Unit {0}
 IsOwned UnitOwner = ⊥

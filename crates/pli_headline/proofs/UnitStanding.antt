@@ -1,5 +1,5 @@
 -- Units of the main procedure that may be in force: what is proved of them, and where their code stands.
-use Rattle.std.proofs.Common.{◌≡◌, ℕ, ◌+◌, ◌*◌, ◌≤◌, List, [], ◌++◌, true, false, refl, ap, ◌∙◌}
+use Rattle.std.proofs.Common.{◌≡◌, ℕ, ◌+◌, ◌*◌, ◌≤◌, List, [], ◌∷◌, ◌++◌, true, false, refl, ap, ◌∙◌}
 use Rattle.std.specs.Prelude.{max}
 use Rattle.rv_meaning.specs.declared.instr.Instr.{Instr}
 use Rattle.pli_typing.specs.TypedTree as Y
@@ -13,10 +13,11 @@ use Rattle.pli_coding.specs.Environments.{BlockPlace, UnitOwner, Environment, in
 use Rattle.pli_coding.specs.Images.{blocks_among}
 use Rattle.pli_coding.specs.Statements.{unit_environment, unit_variables, unit_words, unit_mark, unit_left, stmts_words, stmts_code}
 use Rattle.pli_coding.specs.Linking.{Links}
-use Rattle.pli_headline.specs.ProvedSoFar.{Types, IsLine, IsUnitBody, AreProvedStatements, AllJumpAround, AllCallAmong, DeclaresNothing, AreBare}
+use Rattle.pli_headline.specs.ProvedSoFar.{Types, main_outer, times, IsLine, IsUnitBody, AreProvedStatements, AllJumpAround, AllCallAmong, DeclaresNothing, AreBare}
 use Rattle.pli_headline.specs.InnerWords.{all_inner_words}
 use Rattle.pli_headline.proofs.Items.{Linked}
 use Rattle.pli_headline.proofs.InnerLevels.{IsAmong}
+use Rattle.pli_headline.proofs.Statements.{IsMarkedOnce}
 use Rattle.pli_headline.proofs.Gotos.{LabelsStand}
 use Rattle.pli_headline.proofs.UnitRuns.{unit_with}
 use Rattle.pli_headline.proofs.OnUnits.{unit_by}
@@ -38,10 +39,11 @@ pub record UnitStands (e : Environment) (block : ℕ) (types : Types) (all : Lis
   pub level : head.level ≡ 1
   pub line : IsLine head.line
   pub proved : AreProvedStatements block types body
-  pub jumps : AllJumpAround head.number head.level all e.blocks [] (labels_in body) body
+  pub jumps : AllJumpAround head.number head.level all e.blocks (main_outer block e.program.procedures) (main_outer block e.program.procedures ∷ []) (labels_in body) body
   pub bare : DeclaresNothing e.program head head.kind × AreBare e.program body
   pub calls : AllCallAmong may false body
   pub few : stmts_words body + all_inner_words body ≤ 800
+  pub once : (number : ℕ) (label : Label) → times number label all ≡ 1 → IsMarkedOnce links number label
   pub labels : head.kind ≡ Y.UnitBlock → LabelsStand (unit_environment head e) links all procedure false
   pub blocks : (b : BlockPlace) → IsAmong b (blocks_among body) → IsAmong b e.blocks
   pub index : ℕ

@@ -399,6 +399,7 @@ abbrev pub IsSimple : Y.Stmt → Type 0
 IsSimple (Y.Null line) = ⊤
 IsSimple (Y.Assign target source line) = ⊤
 IsSimple (Y.CallProcedure call line) = ⊤
+IsSimple (Y.Goto level label line) = ⊤
 IsSimple (Y.Stop line) = ⊤
 IsSimple (Y.Signal condition line) = ⊤
 IsSimple (Y.OnSystem condition line) = ⊤
@@ -507,28 +508,28 @@ IsOutward block to label all blocks (o ∷ os) =
     ⊎ IsOutward block to label all blocks os
 
 -- a GOTO names a label of a list around it in its block, which has a level, or in a block around it up to the procedure's own, or, in a
--- procedure inside the main one, of the main one's own list, and the label stands once in the program's blocks of that number; begin
--- blocks stand up to a hundred deep; on-units are given in the main procedure's own block, and jump to labels of their own
+-- procedure inside the main one or in an on-unit, of the main one's own list, and the label stands once in the program's blocks of that
+-- number; begin blocks stand up to a hundred deep; on-units are given in the main procedure's own block
 abbrev mutual
-  pub JumpsAround : (block level : ℕ) → (all : List (ℕ × Label)) → (blocks : List BlockPlace) → (outer : List OuterBlock) → (around : List Label) → Y.Stmt → Type 0
-  JumpsAround block level all blocks outer around (Y.If condition unit line) = JumpsAround block level all blocks outer around unit
-  JumpsAround block level all blocks outer around (Y.IfElse condition unit otherwise line) = JumpsAround block level all blocks outer around unit × JumpsAround block level all blocks outer around otherwise
-  JumpsAround block level all blocks outer around (Y.Do body line) = AllJumpAround block level all blocks outer (labels_in body ++ around) body
-  JumpsAround block level all blocks outer around (Y.DoWhile condition body line) = AllJumpAround block level all blocks outer (labels_in body ++ around) body
-  JumpsAround block level all blocks outer around (Y.DoOnce target start condition body line) = AllJumpAround block level all blocks outer (labels_in body ++ around) body
-  JumpsAround block level all blocks outer around (Y.DoCount counter start limit step condition body line) = AllJumpAround block level all blocks outer (labels_in body ++ around) body
-  JumpsAround block level all blocks outer around (Y.Begin (Y.BlockOf head body)) =
+  pub JumpsAround : (block level : ℕ) → (all : List (ℕ × Label)) → (blocks : List BlockPlace) → (main : OuterBlock) → (outer : List OuterBlock) → (around : List Label) → Y.Stmt → Type 0
+  JumpsAround block level all blocks main outer around (Y.If condition unit line) = JumpsAround block level all blocks main outer around unit
+  JumpsAround block level all blocks main outer around (Y.IfElse condition unit otherwise line) = JumpsAround block level all blocks main outer around unit × JumpsAround block level all blocks main outer around otherwise
+  JumpsAround block level all blocks main outer around (Y.Do body line) = AllJumpAround block level all blocks main outer (labels_in body ++ around) body
+  JumpsAround block level all blocks main outer around (Y.DoWhile condition body line) = AllJumpAround block level all blocks main outer (labels_in body ++ around) body
+  JumpsAround block level all blocks main outer around (Y.DoOnce target start condition body line) = AllJumpAround block level all blocks main outer (labels_in body ++ around) body
+  JumpsAround block level all blocks main outer around (Y.DoCount counter start limit step condition body line) = AllJumpAround block level all blocks main outer (labels_in body ++ around) body
+  JumpsAround block level all blocks main outer around (Y.Begin (Y.BlockOf head body)) =
       ((head.level ≡ suc level) × (head.level ≤ 100))
-      × AllJumpAround head.number head.level all blocks (record { level = level; number = block; labels = around } ∷ outer) (labels_in body) body
-  JumpsAround block level all blocks outer around (Y.Goto to label line) =
+      × AllJumpAround head.number head.level all blocks main (record { level = level; number = block; labels = around } ∷ outer) (labels_in body) body
+  JumpsAround block level all blocks main outer around (Y.Goto to label line) =
       ((to ≡ level) × ((is_among label around ≡ true) × (times block label all ≡ 1))) ⊎ IsOutward block to label all blocks outer
-  JumpsAround block level all blocks outer around (Y.OnUnit condition (Y.BlockOf head body) line) =
-      ((0 == level) ≡ true) × ((head.level ≡ 1) × (IsUnitApart block head head.kind × AllJumpAround head.number head.level all blocks [] (labels_in body) body))
-  JumpsAround block level all blocks outer around _ = ⊤
+  JumpsAround block level all blocks main outer around (Y.OnUnit condition (Y.BlockOf head body) line) =
+      ((0 == level) ≡ true) × ((head.level ≡ 1) × (IsUnitApart block head head.kind × AllJumpAround head.number head.level all blocks main (main ∷ []) (labels_in body) body))
+  JumpsAround block level all blocks main outer around _ = ⊤
 
-  pub AllJumpAround : (block level : ℕ) → (all : List (ℕ × Label)) → (blocks : List BlockPlace) → (outer : List OuterBlock) → (around : List Label) → Y.Stmts → Type 0
-  AllJumpAround block level all blocks outer around (Y.EndOfList labels) = ⊤
-  AllJumpAround block level all blocks outer around (Y.StmtThen labels first rest) = JumpsAround block level all blocks outer around first × AllJumpAround block level all blocks outer around rest
+  pub AllJumpAround : (block level : ℕ) → (all : List (ℕ × Label)) → (blocks : List BlockPlace) → (main : OuterBlock) → (outer : List OuterBlock) → (around : List Label) → Y.Stmts → Type 0
+  AllJumpAround block level all blocks main outer around (Y.EndOfList labels) = ⊤
+  AllJumpAround block level all blocks main outer around (Y.StmtThen labels first rest) = JumpsAround block level all blocks main outer around first × AllJumpAround block level all blocks main outer around rest
 
 -- ---- calls
 
@@ -641,7 +642,7 @@ pub record IsInner (program : Y.Program) (block : ℕ) (all : List (ℕ × Label
   pub level : head.level ≡ 1
   pub bare : variables_of_block program head.number ≡ []
   pub statements : AreProvedStatements block (types_of (variables_of_block program block)) body
-  pub jumps : AllJumpAround head.number 1 all (blocks_of program.procedures) (main_outer block program.procedures ∷ []) (labels_in body) body
+  pub jumps : AllJumpAround head.number 1 all (blocks_of program.procedures) (main_outer block program.procedures) (main_outer block program.procedures ∷ []) (labels_in body) body
   pub inside : AreBare program body
   pub callable : is_number head.number called ≡ true → IsCallable called head body
 
@@ -654,7 +655,7 @@ pub record IsProvedBlock (program : Y.Program) (head : Y.BlockHead) (body : Y.St
   pub level : head.level ≡ 0
   pub line : IsLine head.line
   pub statements : AreProvedStatements head.number (types_of (variables_of_block program head.number)) body
-  pub jumps : AllJumpAround head.number 0 (all_labels head.number body ++ procedure_labels others) (blocks_of program.procedures) [] (labels_in body) body
+  pub jumps : AllJumpAround head.number 0 (all_labels head.number body ++ procedure_labels others) (blocks_of program.procedures) (main_outer head.number program.procedures) [] (labels_in body) body
   pub calls : AllCallAmong called true body
   pub inside : AreBare program body
 
