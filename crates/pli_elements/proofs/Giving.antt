@@ -43,6 +43,11 @@ none_given bounds place given h =
 pub given_none : (bounds : List BoundsHeld) (place given : ℕ) → given ≡ 0 → Some [] ≡ given_by (map pair_of bounds) place given
 given_none bounds place given e = sym (ap (given_by (map pair_of bounds) place) e ∙ ap (given_if (map pair_of bounds) place 0) (sym (all_have (length (map pair_of bounds)))))
 
+pub given_nothing : (a : Aggregate) (s : Shape) (first given : ℕ) → given ≡ 0 → Some [] ≡ subscripts_given (record_shown a s) first given
+given_nothing a s first given e =
+    let bounds = (unwrap_or (leaf_in (Some s) first a.extent) unreachable_leaf).bounds in
+    sym (ap (given_by bounds a.place) e ∙ ap (given_if bounds a.place 0) (sym (all_have (length bounds))))
+
 pub given_some : (bounds : List BoundsHeld) (place given : ℕ) → given ≤ length bounds → (given ≡ 0 → ⊥) → slice_get (all_subscripts (map pair_of (take given bounds))) place ≡ given_by (map pair_of bounds) place given
 given_some bounds place zero h n = absurd (n refl)
 given_some bounds place (suc given) h n =

@@ -1,10 +1,10 @@
 -- The service's answers, from the places on where the elements are known.
 use Rattle.std.proofs.Common.{◌≡◌, ℕ, ◌-◌, ◌^◌, ◌<◌, ◌≤◌, ℤ, true, false, List, length, map, Option, Some, None, Result, Ok, Err, refl, sym, ap, ◌∙◌, arith}
-use Rattle.std.specs.Prelude.{◌==◌, IfOk, MatchResult, ⊤, is_some, nat_lt, option_map, slice_get, unwrap_or, if◌then◌else◌}
+use Rattle.std.specs.Prelude.{◌==◌, is_some, nat_lt, option_map, slice_get, unwrap_or, if◌then◌else◌}
 use Rattle.std.proofs.lemmas.Bool.Decides.{nat_tests}
 use Rattle.std.proofs.lemmas.List.{length-map}
 use Rattle.std.proofs.lemmas.Option.{slice_get-map}
-use Rattle.pli_typing.specs.Signatures.{LeafKind, capped}
+use Rattle.pli_typing.specs.Signatures.{Leaf, LeafKind, capped}
 use Rattle.pli_meaning.specs.Contents.{Shape}
 use Rattle.pli_meaning.specs.Evaluating.{leaf_at}
 use Rattle.pli_meaning.specs.StreamOrder.{Element, elements_inside}
@@ -28,7 +28,6 @@ use Rattle.pli_shapes.specs.Nests.{nest_in}
 use Rattle.pli_shapes.specs.declared.part.Part.{Part}
 use Rattle.pli_signatures.specs.View.{kind_of, leaf_in_force}
 use Rattle.pli_signatures.specs.declared.element.ElementKind.{ElementKind}
-use Rattle.pli_signatures.specs.declared.element.LeafInForce.{LeafInForce}
 use Rattle.pli_aggregates.specs.Records.{record_shown}
 use Rattle.pli_aggregates.specs.declared.record.Aggregate.{Aggregate as AggregateHeld}
 use Rattle.pli_elements.specs.Items.{IsItem, behind_leaf}
@@ -109,14 +108,12 @@ in_number c x a number buffer elements n =
 
 -- ---- the kind of a leaf
 
-pub kind_so : {E : Type 0} (s : Shape) (z : ℤ) (leaf : ℕ) (shape : Option Shape) (o : Option LeafInForce) (r : Result ElementKind E) → shape ≡ Some s → option_map leaf_in_force o ≡ leaf_in shape leaf z
-    → MatchResult r (λ kind. option_map (λ l. (leaf_in_force l).kind) o ≡ Some (kind_of kind)) (λ _. ⊤) → IfOk r (λ kind. (leaf_at s z leaf).kind ≡ kind_of kind)
-kind_so s z leaf shape None (Ok kind) e h k = absurd (cc)
-kind_so s z leaf shape (Some l) (Ok kind) e h k =
-    let there : Some (leaf_in_force l) ≡ leaf_in (Some s) leaf z = h ∙ ap (λ o. leaf_in o leaf z) e in
-    let same : (leaf_in_force l).kind ≡ kind_of kind = cc in
-    ap (λ o. (unwrap_or o unreachable_leaf).kind) (sym there) ∙ same
-kind_so s z leaf shape o (Err x) e h k = tt
+pub kind_so : (s : Shape) (z : ℤ) (leaf : ℕ) (shape : Option Shape) (kind : ElementKind) → shape ≡ Some s → Some (kind_of kind) ≡ option_map (λ l. l.kind) (leaf_in shape leaf z) → (leaf_at s z leaf).kind ≡ kind_of kind
+kind_so s z leaf shape kind e h = by_leaf (leaf_in (Some s) leaf z) (h ∙ ap (λ o. option_map (λ (l : Leaf). l.kind) (leaf_in o leaf z)) e)
+  where
+    by_leaf : (o : Option Leaf) → Some (kind_of kind) ≡ option_map (λ (l : Leaf). l.kind) o → (unwrap_or o unreachable_leaf).kind ≡ kind_of kind
+    by_leaf None h = cc
+    by_leaf (Some l) h = cc
 
 -- ---- what is refused of an element
 

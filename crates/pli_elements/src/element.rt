@@ -1,6 +1,6 @@
 // Service 8 with mode 1.
 
-ghost use Rattle.std.specs.Prelude.{◌≡◌, ◌+◌, Some, List, IfOk, MatchOption, MatchResult, option_map, slice_get, true, ⊤};
+ghost use Rattle.std.specs.Prelude.{◌≡◌, ◌+◌, Some, List, IfOk, MatchOption, slice_get, true, ⊤};
 ghost use Rattle.pli_answering.specs.Answering.{Answers, Replies};
 ghost use Rattle.pli_meaning.specs.Contents.{Shape};
 ghost use Rattle.pli_meaning.specs.Evaluating as evaluating;
@@ -13,7 +13,7 @@ ghost use Rattle.pli_serving.specs.Outcomes.{or_bad};
 ghost use Rattle.pli_serving.specs.Templates.{shape_at};
 ghost use Rattle.pli_shapes.specs.declared.part.Part.{Part};
 ghost use Rattle.pli_shapes.specs.Members.{shape_of};
-ghost use Rattle.pli_signatures.specs.View.{kind_of, leaf_in_force};
+ghost use Rattle.pli_signatures.specs.View.{kind_of};
 ghost use Rattle.pli_values.specs.View.{layout_of};
 ghost use Rattle.pli_storage.specs.Held.{with_held, IsLaid};
 ghost use Rattle.pli_aggregates.specs.Records.{aggregate_shown, record_shown};
@@ -21,14 +21,13 @@ ghost use Rattle.pli_elements.specs.Items.{IsItem};
 ghost use Rattle.pli_elements.specs.Served.{in_aggregate, in_item, in_shape};
 
 use crate::item::{Item, item_of};
-use crate::leaves::leaf_at;
 use crate::standing::outcome_in;
 use area_heap::keeper::AreaKeeper;
 use pli_aggregates::record::{Aggregate, aggregate_at};
 use pli_answering::reply::{Refusal, Reply};
 use pli_order::find::{element_at, element_total};
 use pli_shapes::shape::{ItemShape, item_shape};
-use pli_signatures::element::{ElementKind, LeafInForce};
+use pli_signatures::element::ElementKind;
 use pli_storage::held::Held;
 use pli_values::source::Source;
 use pli_values::word::put_words;
@@ -67,27 +66,17 @@ fn counted(alloc: Global, item: &Item) -> Result<Reply, Refusal>
     }
 }
 
-/// The kind in force of a leaf that may not be there.
-fn kind_if(leaf: Option<LeafInForce>) -> Result<ElementKind, AllocError>
-    ensures { MatchResult result (λ kind. option_map (λ l. (leaf_in_force l).kind) leaf ≡ Some (kind_of kind)) (λ _. ⊤) }
-{
-    match leaf {
-        Some(leaf) => Ok(leaf.kind),
-        None => Err(AllocError),
-    }
-}
-
 /// The kind in force of a leaf of an aggregate. Refused where that isn't there.
-fn kind_at(
-    alloc: Global,
-    held: &Held,
-    aggregate: Aggregate,
-    leaf: u32,
-) -> Result<ElementKind, AllocError>
+fn kind_at(held: &Held, aggregate: Aggregate, leaf: u32) -> Result<ElementKind, AllocError>
     ensures { (s : Shape) → shape_at held.now.signatures aggregate.signature ≡ Some s → IfOk result (λ kind. (evaluating.leaf_at s aggregate.extent leaf).kind ≡ kind_of kind) }
 {
-    let found = leaf_at(alloc, held, aggregate, leaf)?;
-    kind_if(found)
+    let found = held
+        .signatures
+        .leaf_kind(aggregate.signature, leaf, aggregate.extent);
+    match found {
+        Some(kind) => Ok(kind),
+        None => Err(AllocError),
+    }
 }
 
 /// An element of a kind is described in a buffer, and where it stands is answered.
@@ -134,7 +123,7 @@ fn described<K: AreaKeeper>(
     if !held.layout.is_data(buffer as usize, BUFFER_BYTES) {
         return Err(Refusal::Bad);
     }
-    match kind_at(alloc, held, aggregate, leaf) {
+    match kind_at(held, aggregate, leaf) {
         Ok(kind) => written::<K>(
             alloc, held, memory, aggregate, register, buffer, leaf, kind, subscripts,
         ),

@@ -36,6 +36,7 @@ fn subscripts_in(
 }
 
 /// So many subscripts as they are given to a leaf of an aggregate. One that isn't there has no dimensions.
+#[tactic(auto, using(crate::proofs::Giving::given_nothing))]
 pub fn subscripts_of(
     alloc: Global,
     held: &Held,
@@ -45,6 +46,9 @@ pub fn subscripts_of(
 ) -> Result<Option<SmallVec<i32, 8>>, AllocError>
     ensures { (s : Shape) → shape_at held.now.signatures aggregate.signature ≡ Some s → IfOk result (λ o. option_map (λ subscripts. subscripts.items) o ≡ subscripts_given (record_shown aggregate s) leaf given) }
 {
+    if given == 0 {
+        return Ok(Some(SmallVec::new(alloc)));
+    }
     let signatures = &held.signatures;
     let found = signatures.leaf(alloc, aggregate.signature, leaf, aggregate.extent)?;
     match found {

@@ -59,6 +59,7 @@ impl Runtime {
     }
 
     /// 40: with mode 0 a part comes on top of the entries, with 1 the aggregate on top is stored in one.
+    #[inline(never)]
     fn assign_part<K: AreaKeeper>(
         &mut self,
         memory: &mut [u8],

@@ -29,6 +29,7 @@ fn making_of(registers: &[u32; 32]) -> Making
 
 impl Runtime {
     /// 4: a block is entered.
+    #[inline(never)]
     fn enter(&mut self, kind: u32, frame: u32, line: u32, texts: u32) -> Result<Reply, Refusal>
         ensures { (k : Keeper) → (m : List ℕ) → IsStanding k self.old m → IsCarriedOut k (λ c. services.enter_served c kind frame line texts) self.old m result self.new m }
     {
@@ -41,6 +42,7 @@ impl Runtime {
     }
 
     /// 8: with mode 0 where a leaf of what a name names begins, with 1 an element of an aggregate.
+    #[inline(never)]
     fn find<K: AreaKeeper>(
         &mut self,
         memory: &mut [u8],

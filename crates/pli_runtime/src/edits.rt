@@ -12,6 +12,7 @@ use pli_values::source::Source;
 
 impl Runtime {
     /// 34: a place at the start of the format list at an address.
+    #[inline(never)]
     fn begin_edit<K: AreaKeeper>(
         &mut self,
         memory: &[u8],

@@ -54,6 +54,7 @@ impl Runtime {
     }
 
     /// 5: the newest block ends.
+    #[inline(never)]
     pub(crate) fn leave(&mut self, keep: u32, second: u32) -> Result<Reply, Refusal>
         ensures { (k : Keeper) → (m : List ℕ) → IsStanding k self.old m → IsCarriedOut k (λ c. services.leave_served c keep second) self.old m result self.new m }
     {
@@ -66,6 +67,7 @@ impl Runtime {
     }
 
     /// 6: the blocks above one end.
+    #[inline(never)]
     pub(crate) fn unwind(&mut self, frame: u32, keep: u32) -> Result<Reply, Refusal>
         ensures { (k : Keeper) → (m : List ℕ) → IsStanding k self.old m → IsCarriedOut k (λ c. services.unwind_served c frame keep) self.old m result self.new m }
     {
@@ -79,6 +81,7 @@ impl Runtime {
     }
 
     /// 31: an on-unit, the newest block, ends.
+    #[inline(never)]
     pub(crate) fn return_from(&mut self) -> Result<Reply, Refusal>
         ensures { (k : Keeper) → (m : List ℕ) → IsStanding k self.old m → IsCarriedOut k services.return_served self.old m result self.new m }
     {

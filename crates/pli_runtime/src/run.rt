@@ -12,6 +12,7 @@ use pli_making::laws::signatures_are_added;
 
 impl Runtime {
     /// 3: a signature with an extent that the run tells.
+    #[inline(never)]
     fn signature<K: AreaKeeper>(
         &mut self,
         memory: &[u8],

@@ -56,6 +56,7 @@ fn order_word(order: Ordering) -> u32
 
 impl Runtime {
     /// 20: the text or bit at an address comes on top.
+    #[inline(never)]
     fn push_text<K: AreaKeeper>(
         &mut self,
         memory: &[u8],
@@ -74,6 +75,7 @@ impl Runtime {
     }
 
     /// 21: a number comes on top, as text; with precision 0 a bit.
+    #[inline(never)]
     fn push_number(&mut self, number: u32, precision: u32) -> Result<Reply, Refusal>
         ensures { (k : Keeper) → (m : List ℕ) → IsStanding k self.old m → IsCarriedOut k (λ c. services.push_number_served c number precision) self.old m result self.new m }
     {
@@ -84,6 +86,7 @@ impl Runtime {
     }
 
     /// 22: the two newest texts become one.
+    #[inline(never)]
     fn join_texts(&mut self, first: u32) -> Result<Reply, Refusal>
         ensures { (k : Keeper) → (m : List ℕ) → IsStanding k self.old m → IsCarriedOut k (λ c. services.join_served c first) self.old m result self.new m }
     {
@@ -94,6 +97,7 @@ impl Runtime {
     }
 
     /// 23: the newest text becomes a part of it.
+    #[inline(never)]
     fn cut_text(&mut self, start: u32, count: u32, mode: u32) -> Result<Reply, Refusal>
         ensures { (k : Keeper) → (m : List ℕ) → IsStanding k self.old m → IsCarriedOut k (λ c. services.cut_served c start count mode) self.old m result self.new m }
     {
@@ -104,6 +108,7 @@ impl Runtime {
     }
 
     /// 24: how the two newest texts compare.
+    #[inline(never)]
     fn compare_texts(&mut self, second: u32) -> Result<Reply, Refusal>
         ensures { (k : Keeper) → (m : List ℕ) → IsStanding k self.old m → IsCarriedOut k (λ c. services.compare_served c second) self.old m result self.new m }
     {
@@ -114,6 +119,7 @@ impl Runtime {
     }
 
     /// 25: where one text stands in another, or what of one isn't in the other.
+    #[inline(never)]
     fn find_text(&mut self, mode: u32, second: u32) -> Result<Reply, Refusal>
         ensures { (k : Keeper) → (m : List ℕ) → IsStanding k self.old m → IsCarriedOut k (λ c. services.find_served c mode second) self.old m result self.new m }
     {
@@ -124,6 +130,7 @@ impl Runtime {
     }
 
     /// 26: the number or bit that the newest text stands for.
+    #[inline(never)]
     fn text_number(&mut self, mode: u32) -> Result<Reply, Refusal>
         ensures { (k : Keeper) → (m : List ℕ) → IsStanding k self.old m → IsCarriedOut k (λ c. services.to_number_served c mode) self.old m result self.new m }
     {
@@ -134,6 +141,7 @@ impl Runtime {
     }
 
     /// 27: the newest text is stored at an address.
+    #[inline(never)]
     fn store_text<K: AreaKeeper>(
         &mut self,
         memory: &mut [u8],

@@ -7,12 +7,12 @@ ghost use Rattle.pli_types.specs.View.{leaf_kind_of, template_of};
 ghost use Rattle.pli_serving.specs.Arguments.{capacity_of_kind, capacity_of};
 ghost use Rattle.pli_meaning.specs.Contents.{leaves_with};
 ghost use Rattle.pli_serving.specs.Templates.{shape_at};
-ghost use Rattle.pli_signatures.specs.View.{leaf_in_force};
+ghost use Rattle.pli_signatures.specs.View.{kind_of, leaf_in_force};
 ghost use Rattle.pli_signatures.specs.Whole.{shape_so_far, extent_told, leaf_in, place_in, size_in, capacity_in, size_told, footprint_told};
 
-use crate::element::LeafInForce;
+use crate::element::{ElementKind, LeafInForce};
 use crate::signatures::Signatures;
-use crate::size::{last_told_size, leaves_size};
+use crate::size::{kind_in_force, last_told_size, leaves_size};
 use crate::whole::{is_whole, leaf_told};
 use pli_types::signature::{LeafKind, Signature};
 use pli_types::size::{footprint, size_of};
@@ -44,6 +44,17 @@ fn leaf_of(
     let told = extent_told(signature.refer.is_some(), leaf as usize, count, extent);
     let found = leaf_told(alloc, &signature.leaves[leaf as usize], told)?;
     Ok(Some(found))
+}
+
+fn kind_of(signature: &Signature, leaf: u32, extent: i32) -> Option<ElementKind>
+    ensures { option_map kind_of result ≡ option_map (λ l. l.kind) (slice_get (leaves_with extent (shape_so_far (template_of signature.now))) leaf) }
+{
+    let count = signature.leaves.len();
+    if leaf as usize >= count {
+        return None;
+    }
+    let told = extent_told(signature.refer.is_some(), leaf as usize, count, extent);
+    Some(kind_in_force(&signature.leaves[leaf as usize], told))
 }
 
 fn place_of(signature: &Signature, leaf: u32) -> Option<u64>
@@ -123,6 +134,16 @@ impl Signatures {
         match self.whole(number) {
             Some(signature) => leaf_of(alloc, signature, leaf, extent),
             None => Ok(None),
+        }
+    }
+
+    /// The kind of a leaf of a whole signature, none where the leaf isn't there.
+    pub fn leaf_kind(&self, number: u32, leaf: u32, extent: i32) -> Option<ElementKind>
+        ensures { option_map kind_of result ≡ option_map (λ l. l.kind) (leaf_in (shape_at self.now number) leaf extent) }
+    {
+        match self.whole(number) {
+            Some(signature) => kind_of(signature, leaf, extent),
+            None => None,
         }
     }
 

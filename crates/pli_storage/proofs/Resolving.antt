@@ -1,8 +1,8 @@
 -- Where a leaf of a generation begins, by what signatures answer.
-use Rattle.std.proofs.Common.{◌≡◌, ℕ, suc, ◌+◌, ◌≤◌, ◌<◌, ◌^◌, ℤ, List, [], ◌∷◌, length, refl, sym, ap, ◌∙◌, Option, Some, None, Err, Bool, true, false, arith}
+use Rattle.std.proofs.Common.{◌≡◌, ◌⊎◌, ℕ, suc, ◌+◌, ◌≤◌, ◌<◌, ◌^◌, ℤ, List, [], ◌∷◌, length, get_or, slice_get, inl, inr, refl, sym, ap, ◌∙◌, Option, Some, None, Err, Bool, true, false, arith}
 use Rattle.std.specs.Prelude.{nat_lt, if◌then◌else◌}
 use Rattle.std.proofs.lemmas.Bool.Decides.{nat_tests}
-use Rattle.std.proofs.lemmas.Option.{slice_get_past}
+use Rattle.std.proofs.lemmas.Option.{slice_get_cases, slice_get_past}
 use Rattle.pli_typing.specs.Signatures.{Leaf, capped}
 use Rattle.pli_meaning.specs.Contents.{Shape, last_refers, leaves_refer, leaves_with}
 use Rattle.pli_answering.specs.Answering.{Replies}
@@ -54,6 +54,21 @@ resolved_so c f leaf buffer place l m (Some s) p e h d = by_test (nat_lt leaf (l
         ∙ ap (λ d. or_bad d (λ m. Done c.services m (f.at + leaf_place (leaves_with f.extent s) leaf) 0)) d
         ∙ ap (λ n. Done c.services m (f.at + n) 0) (place_is _ place capped_is h)
     by_test false p = cc
+
+-- without a buffer nothing is asked of the leaf but that it is there, as its place tells
+pub resolved_bare : (c : Call) (f : Found) (leaf place : ℕ) (o : Option Shape) → Some place ≡ place_in o leaf f.extent → place < 2 ^ 32 → or_bad o (λ s. resolved c leaf 0 f (leaves_with f.extent s)) ≡ Done c.services c.memory (f.at + place) 0
+resolved_bare c f leaf place None p h = cc
+resolved_bare c f leaf place (Some s) p h = by_test (nat_lt leaf (length s.signature.leaves)) refl p
+  where
+    by_test : (t : Bool) → nat_lt leaf (length s.signature.leaves) ≡ t → Some place ≡ (if t then Some (capped (leaf_place (leaves_with f.extent s) leaf)) else None) → or_bad (Some s) (λ s. resolved c leaf 0 f (leaves_with f.extent s)) ≡ Done c.services c.memory (f.at + place) 0
+    by_test false t e = cc
+    by_test true t e = by_place (slice_get_cases (leaves_with f.extent s) leaf).1
+      where
+        by_place : ((l : Leaf) × (leaf < length (leaves_with f.extent s)) × (slice_get (leaves_with f.extent s) leaf ≡ Some l) × (get_or (leaves_with f.extent s) leaf l ≡ l)) ⊎ ((length (leaves_with f.extent s) ≤ leaf) × (slice_get (leaves_with f.extent s) leaf ≡ None)) → or_bad (Some s) (λ s. resolved c leaf 0 f (leaves_with f.extent s)) ≡ Done c.services c.memory (f.at + place) 0
+        by_place (inl (l, _, found, _)) = resolved_so c f leaf 0 place l c.memory (Some s) p (sym found) h refl
+        by_place (inr (past, _)) =
+            let as_many = refer_as_many f.extent s.refer s.signature.leaves in
+            absurd (grind (arith, nat_tests, as_many, past, t))
 
 pub resolved_undescribed : (c : Call) (f : Found) (leaf buffer : ℕ) (l : Leaf) (o : Option Shape) → Some l ≡ leaf_in o leaf f.extent → described c.layout buffer (leaf_words l) c.memory ≡ None → or_bad o (λ s. resolved c leaf buffer f (leaves_with f.extent s)) ≡ Bad
 resolved_undescribed c f leaf buffer l None e d = refl

@@ -112,19 +112,53 @@ impl Held {
         requires { IsLaid K.keeper self.now.layout memory.old }
         ensures { (c : Call) → Answers (λ c. or_bad (shape_of_number c found.signature) (λ s. names.resolved c leaf buffer (found_of found) (leaves_with found.extent s))) (with_held K.keeper self.now memory.old c) result (with_held K.keeper self.now memory.new c) }
     {
-        match self.signatures.leaf_place(found.signature, leaf) {
-            Some(place) => {
-                let described = self
-                    .signatures
-                    .leaf(alloc, found.signature, leaf, found.extent)?;
-                match described {
-                    Some(described) => {
-                        self.resolve_placed::<K>(
-                            alloc, memory, found, leaf, buffer, place, &described,
-                        )
-                    }
-                    None => Err(Refusal::Bad),
-                }
+        let Some(place) = self.signatures.leaf_place(found.signature, leaf) else {
+            return Err(Refusal::Bad);
+        };
+        if buffer == 0 {
+            return self.resolve_bare::<K>(memory, found, leaf, place);
+        }
+        self.resolve_described::<K>(alloc, memory, found, leaf, buffer, place)
+    }
+
+    /// The same where no description is wanted, by the leaf's place in the data.
+    fn resolve_bare<K: AreaKeeper>(
+        &self,
+        memory: &[u8],
+        found: Found,
+        leaf: u32,
+        place: u64,
+    ) -> Result<Reply, Refusal>
+        requires place { Some place ≡ place_in (shape_at self.now.signatures found.signature) leaf found.extent }
+        ensures { (c : Call) → Answers (λ c. or_bad (shape_of_number c found.signature) (λ s. names.resolved c leaf 0 (found_of found) (leaves_with found.extent s))) (with_held K.keeper self.now memory.now c) result (with_held K.keeper self.now memory.now c) }
+    {
+        match address_behind(found.at, place) {
+            Some(at) => Ok(Reply::Done(at, 0)),
+            None => Err(Refusal::Memory),
+        }
+    }
+
+    /// The same by the leaf's place in the data, with what the leaf is. Few calls ask for that: the others don't pay for its frame.
+    #[inline(never)]
+    fn resolve_described<K: AreaKeeper>(
+        &self,
+        alloc: Global,
+        memory: &mut [u8],
+        found: Found,
+        leaf: u32,
+        buffer: u32,
+        place: u64,
+    ) -> Result<Reply, Refusal>
+        requires laid { IsLaid K.keeper self.now.layout memory.old }
+        requires place { Some place ≡ place_in (shape_at self.now.signatures found.signature) leaf found.extent }
+        ensures { (c : Call) → Answers (λ c. or_bad (shape_of_number c found.signature) (λ s. names.resolved c leaf buffer (found_of found) (leaves_with found.extent s))) (with_held K.keeper self.now memory.old c) result (with_held K.keeper self.now memory.new c) }
+    {
+        let described = self
+            .signatures
+            .leaf(alloc, found.signature, leaf, found.extent)?;
+        match described {
+            Some(described) => {
+                self.resolve_placed::<K>(alloc, memory, found, leaf, buffer, place, &described)
             }
             None => Err(Refusal::Bad),
         }
