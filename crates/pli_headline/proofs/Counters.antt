@@ -1,44 +1,33 @@
--- A variable that counts turns: it gets a number from a0, with whatever credits there are; and the line is set without an act.
-use Rattle.std.proofs.Common.{◌≡◌, ℕ, suc, ◌+◌, ◌^◌, ◌<◌, List, [], ◌∷◌, ◌++◌, Some, false, refl, sym, ap, ◌∙◌, subst, arith, lit<}
-use Rattle.std.specs.Prelude.{ℤ, pos, slice_get}
+-- The line of a statement is set without an act.
+use Rattle.std.proofs.Common.{◌≡◌, ℕ, ◌+◌, ◌^◌, ◌<◌, List, [], ◌∷◌, ◌++◌, refl, sym, ap, ◌∙◌, subst, arith, lit<}
+use Rattle.std.specs.Prelude.{pos}
 use Rattle.std.proofs.lemmas.Int.{ints}
 use Rattle.rv_meaning.specs.declared.instr.Instr.{Instr}
 use Rattle.rv_meaning.specs.declared.instr.Instr.TheVariants as I
 use Rattle.rv_meaning.specs.Words.{word}
-use Rattle.pli_typing.specs.TypedTree as Y
-use Rattle.pli_meaning.specs.BasicValues.{BasicNumber}
 use Rattle.pli_meaning.specs.StorageState.{State}
 use Rattle.pli_meaning.specs.Control.{Flow}
-use Rattle.pli_meaning.specs.Raising.{Around}
-use Rattle.pli_meaning.specs.Executing as M
 use Rattle.pli_serving.specs.ServiceState.{Services}
 use Rattle.pli_serving.specs.Answers.{Done}
 use Rattle.pli_serving.specs.ActsAndEnds as W
 use Rattle.pli_coding.specs.Registers.{a0, a1, a7}
 use Rattle.pli_coding.specs.Assembly.{Plain, Code, size_of}
 use Rattle.pli_coding.specs.Instructions.{small, number, service}
-use Rattle.pli_coding.specs.Environments.{Environment, Taken, is_register_left}
-use Rattle.pli_coding.specs.Storing.{word_stored}
+use Rattle.pli_coding.specs.Environments.{Environment}
 use Rattle.pli_coding.specs.Linking.{Links}
-use Rattle.pli_headline.specs.ProvedSoFar.{Types, alone}
+use Rattle.pli_headline.specs.ProvedSoFar.{Types}
 use Rattle.pli_headline.proofs.Engine.{Base, address}
 use Rattle.pli_headline.proofs.Linking.{size_append}
 use Rattle.pli_headline.proofs.Items.{Linked, At, straight}
-use Rattle.pli_headline.proofs.Scalars.{Fits, Values}
+use Rattle.pli_headline.proofs.Scalars.{Values}
 use Rattle.pli_headline.proofs.Bodies.{Known, zero_is, constant_piece}
 use Rattle.pli_headline.proofs.Jumps.{front_of, back_of}
-use Rattle.pli_headline.proofs.Temporaries.{Stays, nothing}
+use Rattle.pli_headline.proofs.Temporaries.{nothing}
 use Rattle.pli_headline.proofs.Calls.{Serving, called, Calling, call_done}
 use Rattle.pli_headline.proofs.Raising.{small_is}
 use Rattle.pli_headline.proofs.Acts.{word_is}
-use Rattle.pli_headline.proofs.Operators.{valued}
-use Rattle.pli_headline.proofs.Variables.{whole, own}
-use Rattle.pli_headline.proofs.Assignments.{assigned_state, stored_piece}
-use Rattle.pli_headline.proofs.States.{with_number_at}
-use Rattle.pli_headline.proofs.Statements.{Block, AllHold, scope_of}
+use Rattle.pli_headline.proofs.Statements.{Block}
 use Rattle.pli_headline.proofs.Reach.{Family, Aims, Comes, Closed, onward}
-
--- ---- the line
 
 -- the code that sets a line without an act
 abbrev pub line_code : ℕ → Code
@@ -91,13 +80,3 @@ line_piece {code = code} {i = i} {v = v} {h = h} {t = t} {aims = aims} bl n clos
       waiting = serving.waiting;
     })
     (λ b. record { pc = (at3 b).pc ∙ ap (address b) there; holds = (at3 b).holds })))))
-
--- ---- the number
-
--- a number in a0 is assigned to a variable of the block
-pub counter_piece : {links : Links} {code : List Instr} {i : ℕ} {v : Services} {h t : ℕ → ℕ} {s : State} {aims : Aims (Unit {0})} {e : Environment} {block : ℕ} {types : Types} (bl : Block e block types) (n : Values) (closed : Closed code aims) (credits : ℕ) (f : Family) (around : Around) (taken : Taken) (j p : ℕ) (z : ℤ) (k : ℕ) (below : slice_get types j ≡ Some (alone (Y.FixedLeaf p))) → Fits (Y.FixedLeaf p) z → (is_register_left taken ≡ false → taken.words < bl.words) → (all : AllHold bl.frames v.activations (e.level ∷ bl.depths) s block types n) → Linked links code i (word_stored e taken (whole (own block j))) → ((b : Base) → At b i (Known (bl.ground n) v h t (valued (word z)) b) (f b)) → ((f' : Family) (h' t' : ℕ → ℕ) → Stays taken h t h' t' → ((b : Base) → At b (i + size_of (word_stored e taken (whole (own block j)))) (Known (bl.ground (with_number_at n j z)) v h' t' nothing b) (f' b)) → aims.done (credits + size_of (word_stored e taken (whole (own block j)))) f' v tt (assigned_state s (Y.FixedLeaf p) (suc j) (all.numbers j (Y.FixedLeaf p, below) tt).values z)) → Comes code credits f v aims (M.assigned around (whole (own block j)) (BasicNumber z) k s)
-counter_piece {e = e} {block = block} {types = types} bl n closed credits f around taken j p z k below fits room all l at goal =
-    let w = bl.words_are n in
-    stored_piece (bl.ground (with_number_at n j z)) closed (bl.temps n) credits e block types n f around taken j z k below fits
-    (λ none. subst (λ u. taken.words < u) (sym w) (room none))
-    (scope_of bl n all) (λ b h'. bl.same n (with_number_at n j z) b h') (λ t' b m len o. bl.writes n j z below (all.numbers j (Y.FixedLeaf p, below) tt).fits fits t' b m len o) l at goal

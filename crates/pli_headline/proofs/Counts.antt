@@ -1,7 +1,7 @@
--- The turns of DO with a variable that counts, each of which begins with an assignment and an act; before them limit and step come to
--- wait in words.
-use Rattle.std.proofs.Common.{◌≡◌, ℕ, zero, suc, ◌+◌, ◌^◌, ◌<◌, ◌≤◌, List, [], ◌∷◌, ◌++◌, Option, None, Some, Bool, false, refl, sym, ap, ◌∙◌, subst, arith, inl}
-use Rattle.std.specs.Prelude.{ℤ, ◌+ℤ◌, cond, ◌==◌, slice_get}
+-- The turns of DO with a variable or an element that counts, each of which begins with an assignment and an act; before them limit and
+-- step come to wait in words.
+use Rattle.std.proofs.Common.{◌≡◌, ℕ, zero, suc, ◌+◌, ◌^◌, ◌<◌, ◌≤◌, List, [], ◌∷◌, ◌++◌, Option, None, Some, Bool, false, refl, sym, ap, ◌∙◌, subst, arith}
+use Rattle.std.specs.Prelude.{ℤ, ◌+ℤ◌, cond, ◌==◌}
 use Rattle.std.proofs.lemmas.Bool.Decides.{nat_tests}
 use Rattle.std.proofs.lemmas.List.{append_assoc}
 use Rattle.rv_meaning.specs.declared.instr.Instr.{Instr}
@@ -26,10 +26,10 @@ use Rattle.pli_coding.specs.Environments.{Environment, Taken}
 use Rattle.pli_coding.specs.Expressions.{number_code}
 use Rattle.pli_coding.specs.Storing.{word_stored}
 use Rattle.pli_coding.specs.Frames.{words_place}
-use Rattle.pli_coding.specs.Temporaries.{number_words}
+use Rattle.pli_coding.specs.Temporaries.{number_words, reference_words}
 use Rattle.pli_coding.specs.Statements.{step_place, in_turns, before_turns, limit_code, step_code, number_if, limit_kept, while_kept, stepped_code, turn_of, words_behind_condition, words_behind_limit, words_back, turns_code, bit_if}
 use Rattle.pli_coding.specs.Linking.{Links}
-use Rattle.pli_headline.specs.ProvedSoFar.{Types, IsProvedNumber, IsProvedNumberIf, IsProvedBitIf, alone}
+use Rattle.pli_headline.specs.ProvedSoFar.{Types, IsProvedNumber, IsProvedNumberIf, IsProvedBitIf}
 use Rattle.pli_headline.proofs.Engine.{Base, address}
 use Rattle.pli_headline.proofs.Linking.{size_append}
 use Rattle.pli_headline.proofs.Items.{Linked, At, straight}
@@ -39,20 +39,20 @@ use Rattle.pli_headline.proofs.Jumps.{front_of, back_of, linked_at}
 use Rattle.pli_headline.proofs.Temporaries.{Stays, stays_same, stays_then, put, put_other, put_same, nothing}
 use Rattle.pli_headline.proofs.Calls.{Serving}
 use Rattle.pli_headline.proofs.Acts.{acted, act_from}
-use Rattle.pli_headline.proofs.Variables.{whole, own}
 use Rattle.pli_headline.proofs.Operators.{valued, sum_piece, sum_zero}
 use Rattle.pli_headline.proofs.Expressions.{number_does}
 use Rattle.pli_headline.proofs.Scalars.{Fits, Values}
 use Rattle.pli_headline.proofs.Precisions.{fitted_piece}
-use Rattle.pli_headline.proofs.States.{with_number_at}
-use Rattle.pli_headline.proofs.Statements.{Standing, Block, AllHold, counted_all, assigned_all, Behind, Enough, further, Does}
+use Rattle.pli_headline.proofs.Targets.{Takes}
+use Rattle.pli_headline.proofs.Statements.{Standing, Block, AllHold, counted_all, Behind, Enough, further, Does}
 use Rattle.pli_headline.proofs.Ifs.{setting}
 use Rattle.pli_headline.proofs.Waiting.{kept_piece, read_piece, stays_fewer, stays_kept}
-use Rattle.pli_headline.proofs.Counters.{line_code, on_line, line_piece, counter_piece}
-use Rattle.pli_headline.proofs.Turnings.{counting, LimitWaits, limit_size, condition_size, within_piece, condition_piece}
+use Rattle.pli_headline.proofs.Credits.{later_closed, comes_later, idle_closed, comes_known, IsUnpaused, assigned_unpaused}
+use Rattle.pli_headline.proofs.Counters.{line_code, on_line, line_piece}
+use Rattle.pli_headline.proofs.Turnings.{LimitWaits, limit_size, condition_size, within_piece, condition_piece}
 use Rattle.pli_headline.proofs.Loops.{back_piece}
 use Rattle.pli_headline.proofs.Since.{since_closed, comes_since}
-use Rattle.pli_headline.proofs.Reach.{Family, cost, Aims, Comes, Closed, before_closed, comes_on, onward, reached, reached_holds}
+use Rattle.pli_headline.proofs.Reach.{Family, cost, Aims, Comes, Closed, before, before_closed, comes_on, onward, reached, reached_holds}
 use Rattle.pli_headline.proofs.Evaluations.{Evaluates, Kind, number_kind}
 
 -- the block while limit and step wait
@@ -125,16 +125,14 @@ turning_enough bl more =
 abbrev lefted : ℕ → Base → List (ℕ × ℕ)
 lefted x b = (6, x) ∷ []
 
-pub stepping_piece : {links : Links} {code : List Instr} {i : ℕ} {v : Services} {h t : ℕ → ℕ} {s : State} {aims : Aims (Unit {0})} {e : Environment} {block : ℕ} {types : Types} (bl : Block e block types) (routines : Standing bl links code) (around : Around) (line : ℕ) (j p : ℕ) (step : ℤ) (closed : Closed code aims) (n : Values) (f : Family) (old k : ℕ) → line < 2 ^ 31 → p ≤ 31 → slice_get types j ≡ Some (alone (Y.FixedLeaf p)) → IsWide step → t (bl.taken.words + 1) ≡ word step → bl.taken.words + 3 ≤ bl.words → Linked links code i (stepped_code e bl.taken (counting block j p) line) → Serving k s v old → AllHold bl.frames v.activations (e.level ∷ bl.depths) s block types n → ((b : Base) → At b i (Known (bl.ground n) v h t nothing b) (f b)) → ((z : ℤ) (f' : Family) (h' t' : ℕ → ℕ) → Fits (Y.FixedLeaf p) z → Stays (in_turns bl.taken) h t h' t' → Serving k s (on_line line v) line → ((b : Base) → At b (i + size_of (stepped_code e bl.taken (counting block j p) line)) (Known (bl.ground n) (on_line line v) h' t' (valued (word z)) b) (f' b)) → Comes code (i + size_of (stepped_code e bl.taken (counting block j p) line)) f' (on_line line v) aims (M.assigned (at_line around line) (whole (own block j)) (BasicNumber z) k s)) → Comes code i f v aims (M.stepped (at_line around line) (counting block j p) step k s)
+pub stepping_piece : {links : Links} {code : List Instr} {i : ℕ} {v : Services} {h t : ℕ → ℕ} {s : State} {aims : Aims (Unit {0})} {e : Environment} {block : ℕ} {types : Types} (bl : Block e block types) (routines : Standing bl links code) (around : Around) (line : ℕ) (r : Y.Reference) (p : ℕ) (step : ℤ) (closed : Closed code aims) (n : Values) (f : Family) (old k : ℕ) → line < 2 ^ 31 → p ≤ 31 → IsProvedNumber block types (Y.NumberIn r) → IsWide step → t (bl.taken.words + 1) ≡ word step → bl.taken.words + 3 + reference_words r ≤ bl.words → Linked links code i (stepped_code e bl.taken (Y.NumberCounter p r) line) → Serving k s v old → AllHold bl.frames v.activations (e.level ∷ bl.depths) s block types n → ((b : Base) → At b i (Known (bl.ground n) v h t nothing b) (f b)) → ((z : ℤ) (f' : Family) (h' t' : ℕ → ℕ) → Fits (Y.FixedLeaf p) z → IsUnpaused (M.assigned (at_line around line) r (BasicNumber z) k s) → Stays (in_turns bl.taken) h t h' t' → Serving k s (on_line line v) line → ((b : Base) → At b (i + size_of (stepped_code e bl.taken (Y.NumberCounter p r) line)) (Known (bl.ground n) (on_line line v) h' t' (valued (word z)) b) (f' b)) → Comes code (i + size_of (stepped_code e bl.taken (Y.NumberCounter p r) line)) f' (on_line line v) aims (M.assigned (at_line around line) r (BasicNumber z) k s)) → Comes code i f v aims (M.stepped (at_line around line) (Y.NumberCounter p r) step k s)
 unfolding M.stepped M.counter_number M.counter_value V.number ◌>>=◌ give
-stepping_piece {links = links} {code = code} {i = i} {v = v} {h = h} {t = t} {s = s} {aims = aims} {e = e} {block = block} {types = types} bl routines around line j p step closed n f old k fits few below ws at_step room l serving all at goal =
+stepping_piece {links = links} {code = code} {i = i} {v = v} {h = h} {t = t} {s = s} {aims = aims} {e = e} {block = block} {types = types} bl routines around line r p step closed n f old k fits few mine ws at_step room l serving all at goal =
     let here = at_line around line in
-    let target = whole (own block j) in
     let taken = in_turns bl.taken in
-    let mine : IsProvedNumber block types (Y.NumberIn target) = (record { precision = p; part = inl (record { index = j; declared = below; is = refl }) }, tt) in
     let first = number a0 line in
     let second = small a1 1 ∷ service 1 in
-    let a = number_code e taken (Y.NumberIn target) in
+    let a = number_code e taken (Y.NumberIn r) in
     let m = move u1 a0 ∷ [] in
     let c = load_word a0 frame_register (step_place bl.taken) in
     let d = sum_code taken in
@@ -151,17 +149,22 @@ stepping_piece {links = links} {code = code} {i = i} {v = v} {h = h} {t = t} {s 
     let e3 = size_append c (d ++ q) in
     let e4 = size_append d q in
     let j1 = i + size_of (line_code line) in
-    let there : j1 + size_of a + 1 + size_of c + size_of d + size_of q ≡ i + size_of (stepped_code e bl.taken (counting block j p) line) = omega (arith, e0, e1, e2, e3, e4) in
+    let there : j1 + size_of a + 1 + size_of c + size_of d + size_of q ≡ i + size_of (stepped_code e bl.taken (Y.NumberCounter p r) line) = omega (arith, e0, e1, e2, e3, e4) in
     let w = bl.words_are n in
     let v1 = on_line line v in
-    let store : BasicValue → Meaning (Unit {0}) = λ u. M.assigned here target u in
+    let store : BasicValue → Meaning (Unit {0}) = λ u. M.assigned here r u in
     let as_value : ℤ → Meaning BasicValue = λ z. give (BasicNumber z) in
-    let next2 : ℤ → Meaning (Unit {0}) = λ z. (M.counter_value here (counting block j p) z) >>= store in
+    let next2 : ℤ → Meaning (Unit {0}) = λ z. (M.counter_value here (Y.NumberCounter p r) z) >>= store in
     let next1 : ℤ → Meaning (Unit {0}) = λ z. (R.value_of here (checked 31 (z +ℤ step))) >>= next2 in
-    line_piece bl n closed f (M.stepped here (counting block j p) step k s) line old k fits (front_of (first ++ second) rest l1) serving at
+    line_piece bl n closed f (M.stepped here (Y.NumberCounter p r) step k s) line old k fits (front_of (first ++ second) rest l1) serving at
     (λ f1 serving1 at1.
-    comes_on k (V.number here (Y.NumberIn target) k s) next1
-    ((number_does (Y.NumberIn target) {e = e} {around = here} (setting bl routines n all serving1) mine).does (before_closed k next1 closed) f1 taken (omega (arith, room, w)) (front_of a (m ++ (c ++ (d ++ q))) l2) at1
+    let reads = number_does (Y.NumberIn r) {e = e} {around = here} (setting bl routines n all serving1) mine in
+    let l' = front_of a (m ++ (c ++ (d ++ q))) l2 in
+    comes_on k (V.number here (Y.NumberIn r) k s) next1
+    (comes_known (V.number here (Y.NumberIn r) k s)
+    (reads.does (idle_closed (before_closed k next1 closed)) f1 taken (omega (arith, room, w)) l' at1 (λ z f2 h2 t2 wz stays2 at2. tt))
+    (λ normal.
+    reads.does (before_closed k next1 closed) f1 taken (omega (arith, room, w)) l' at1
     (λ z f2 h2 t2 wz stays2 at2.
     onward closed (straight (j1 + size_of a) f2 v1 v1 (λ b. Known (bl.ground n) v1 h2 t2 (lefted (word z)) b) (front_of m (c ++ (d ++ q)) l3) (omega arith) (λ b. (at2 b).pc)
     (λ b. let o = (at2 b).holds in record {
@@ -175,26 +178,32 @@ stepping_piece {links = links} {code = code} {i = i} {v = v} {h = h} {t = t} {s 
     (sum_piece (before_closed k next2 closed) routines.raises (bl.temps n) f4 here taken z step k wz ws (λ none. omega (arith, room, w)) (front_of d q l5) serving1
     (λ b. let o = at4 b in record { pc = o.pc; holds = record { body = o.holds.body; regs = (o.holds.regs.1.0, (o.holds.regs.0, tt)) } })
     (λ z2 f5 w2 at5.
-    comes_on k (M.counter_value here (counting block j p) z2 k s) store
+    comes_on k (M.counter_value here (Y.NumberCounter p r) z2 k s) store
     (comes_on k (R.value_of here (checked p z2) k s) as_value
     (fitted_piece (before_closed k as_value (before_closed k store closed)) routines.raises (bl.temps n) f5 here taken p z2 k few w2 (λ none. omega (arith, room, w)) (back_of d q l5) serving1 at5
     (λ f6 fits6 at6. record {
       to =
-          subst (λ u. Comes code u f6 v1 aims (M.assigned here target (BasicNumber z2) k s)) (sym there)
-          (goal z2 f6 h2 t2 (few, fits6) stays2 serving1 (λ b. record { pc = (at6 b).pc ∙ ap (address b) there; holds = (at6 b).holds }));
-    }))))))))))
+          subst (λ u. Comes code u f6 v1 aims (M.assigned here r (BasicNumber z2) k s)) (sym there)
+          (goal z2 f6 h2 t2 (few, fits6) (assigned_unpaused here r (BasicNumber z2) k s normal) stays2 serving1 (λ b. record { pc = (at6 b).pc ∙ ap (address b) there; holds = (at6 b).holds }));
+    })))))))))))
 
 -- ---- the turns
 
--- the code of a turn behind what begins it
-abbrev pub turn_rest : {e : Environment} {block : ℕ} {types : Types} → Block e block types → (j p : ℕ) → Option Y.Number → Option Y.Bit → (line : ℕ) → Code → Code
-turn_rest {e} {block} bl j p limit condition line c =
-    let u = turn_of e bl.taken (counting block j p) limit condition line c in
-    limit_kept e bl.taken (counting block j p) limit (words_behind_limit u)
-    ++ (while_kept e bl.taken condition (words_behind_condition u) ++ (c ++ (stepped_code e bl.taken (counting block j p) line ++ JumpBack (words_back u) ∷ [])))
+-- a variable or an element of the block that counts
+pub record Counts {e : Environment} {block : ℕ} {types : Types} (bl : Block e block types) (links : Links) (code : List Instr) (r : Y.Reference) (p : ℕ) : Type 1 where
+  pub takes : Takes (turning bl) links code r (Y.FixedLeaf p)
+  pub reads : IsProvedNumber block types (Y.NumberIn r)
+  pub room : bl.taken.words + 3 + reference_words r ≤ bl.words
 
-abbrev pub turns_of : {e : Environment} {block : ℕ} {types : Types} → Block e block types → (j p : ℕ) → Option Y.Number → Option Y.Bit → (line : ℕ) → Code → Code
-turns_of {e} {block} bl j p limit condition line c = turns_code (turn_of e bl.taken (counting block j p) limit condition line c)
+-- the code of a turn behind what begins it
+abbrev pub turn_rest : {e : Environment} {block : ℕ} {types : Types} → Block e block types → (r : Y.Reference) → (p : ℕ) → Option Y.Number → Option Y.Bit → (line : ℕ) → Code → Code
+turn_rest {e} {block} bl r p limit condition line c =
+    let u = turn_of e bl.taken (Y.NumberCounter p r) limit condition line c in
+    limit_kept e bl.taken (Y.NumberCounter p r) limit (words_behind_limit u)
+    ++ (while_kept e bl.taken condition (words_behind_condition u) ++ (c ++ (stepped_code e bl.taken (Y.NumberCounter p r) line ++ JumpBack (words_back u) ∷ [])))
+
+abbrev pub turns_of : {e : Environment} {block : ℕ} {types : Types} → Block e block types → (r : Y.Reference) → (p : ℕ) → Option Y.Number → Option Y.Bit → (line : ℕ) → Code → Code
+turns_of {e} {block} bl r p limit condition line c = turns_code (turn_of e bl.taken (Y.NumberCounter p r) limit condition line c)
 
 pub limit_stays : (limit : Option Y.Number) (most : Option ℤ) (t t' : ℕ → ℕ) (j : ℕ) → t' j ≡ t j → LimitWaits limit most t j → LimitWaits limit most t' j
 limit_stays None None t t' j e waits = tt
@@ -203,20 +212,21 @@ limit_stays (Some x) None t t' j e waits = absurd waits
 limit_stays (Some x) (Some m) t t' j e waits = (waits.0, e ∙ waits.1)
 
 -- from the act of a turn on, with credits enough for it
-pub head_piece : {e : Environment} {block : ℕ} {types : Types} (bl : Block e block types) {links : Links} {code : List Instr} (routines : Standing bl links code) (around : Around) (j p : ℕ) (limit : Option Y.Number) (most : Option ℤ) (step : ℤ) (condition : Option Y.Bit) (line : ℕ) (c : Code) (part : Meaning (Unit {0})) → slice_get types j ≡ Some (alone (Y.FixedLeaf p)) → IsWide step → IsProvedBitIf block types condition → bl.taken.words + 3 ≤ bl.words → bl.taken.words + 2 + bit_if condition ≤ bl.words → line < 2 ^ 31 → Does (turning bl) links code around.turns c part → (turns : ℕ) {i : ℕ} {s : State} {v : Services} {h t : ℕ → ℕ} {aims : Aims (Unit {0})} (closed : Closed code aims) (credits old : ℕ) (n : Values) (f : Family) (k : ℕ) → k < turns + v.world.acts → credits + size_of (act_code line) ≤ cost code → Linked links code i (turns_of bl j p limit condition line c) → LimitWaits limit most t bl.taken.words → t (bl.taken.words + 1) ≡ word step → Serving k s v old → AllHold bl.frames v.activations (e.level ∷ bl.depths) s block types n → ((b : Base) → At b (i + size_of (word_stored e (in_turns bl.taken) (whole (own block j)))) (Known (bl.ground n) v h t nothing b) (f b)) → Behind bl k h t (i + size_of (turns_of bl j p limit condition line c)) aims → Enough bl links k around.turns i h t v.world.acts aims.jumped aims.returned → Comes code credits f v aims (repeated_while turns (M.turn_due (at_line around line) (counting block j p) most step condition) (part >> (M.stepped (at_line around line) (counting block j p) step)) k s)
+pub head_piece : {e : Environment} {block : ℕ} {types : Types} (bl : Block e block types) {links : Links} {code : List Instr} (routines : Standing bl links code) (around : Around) (r : Y.Reference) (p : ℕ) (limit : Option Y.Number) (most : Option ℤ) (step : ℤ) (condition : Option Y.Bit) (line : ℕ) (c : Code) (part : Meaning (Unit {0})) → Counts bl links code r p → IsWide step → IsProvedBitIf block types condition → bl.taken.words + 3 ≤ bl.words → bl.taken.words + 2 + bit_if condition ≤ bl.words → line < 2 ^ 31 → Does (turning bl) links code around.turns c part → (turns : ℕ) {i : ℕ} {s : State} {v : Services} {h t : ℕ → ℕ} {aims : Aims (Unit {0})} (closed : Closed code aims) (credits old : ℕ) (n : Values) (f : Family) (k : ℕ) → k < turns + v.world.acts → credits + size_of (act_code line) ≤ cost code → Linked links code i (turns_of bl r p limit condition line c) → LimitWaits limit most t bl.taken.words → t (bl.taken.words + 1) ≡ word step → Serving k s v old → AllHold bl.frames v.activations (e.level ∷ bl.depths) s block types n → ((b : Base) → At b (i + size_of (word_stored e (in_turns bl.taken) r)) (Known (bl.ground n) v h t nothing b) (f b)) → Behind bl k h t (i + size_of (turns_of bl r p limit condition line c)) aims → Enough bl links k around.turns i h t v.world.acts aims.jumped aims.returned → Comes code credits f v aims (repeated_while turns (M.turn_due (at_line around line) (Y.NumberCounter p r) most step condition) (part >> (M.stepped (at_line around line) (Y.NumberCounter p r) step)) k s)
 unfolding repeated_while M.turn_due ◌>>=◌ ◌>>◌ give stuck choose
-head_piece bl routines around j p limit most step condition line c part below ws is room room' fits inner zero closed credits old n f k enough paid l waits at_step serving all at goal more =
+head_piece bl routines around r p limit most step condition line c part counts ws is room room' fits inner zero closed credits old n f k enough paid l waits at_step serving all at goal more =
     absurd (let a = serving.allowed in omega (arith, a, enough))
-head_piece {e} {block} {types} bl {links} {code} routines around j p limit most step condition line c part below ws is room room' fits inner (suc turns) {i} {s} {v} {h} {t} {aims} closed credits old n f k enough paid l waits at_step serving all at goal more =
+head_piece {e} {block} {types} bl {links} {code} routines around r p limit most step condition line c part counts ws is room room' fits inner (suc turns) {i} {s} {v} {h} {t} {aims} closed credits old n f k enough paid l waits at_step serving all at goal more =
     let here = at_line around line in
-    let target = whole (own block j) in
+    let takes = counts.takes in
+    let some = counts.room in
     let w = bl.taken.words in
-    let st = word_stored e (in_turns bl.taken) target in
+    let st = word_stored e (in_turns bl.taken) r in
     let ac = act_code line in
-    let u = turn_of e bl.taken (counting block j p) limit condition line c in
-    let lim = limit_kept e bl.taken (counting block j p) limit (words_behind_limit u) in
+    let u = turn_of e bl.taken (Y.NumberCounter p r) limit condition line c in
+    let lim = limit_kept e bl.taken (Y.NumberCounter p r) limit (words_behind_limit u) in
     let con = while_kept e bl.taken condition (words_behind_condition u) in
-    let sp = stepped_code e bl.taken (counting block j p) line in
+    let sp = stepped_code e bl.taken (Y.NumberCounter p r) line in
     let jump = JumpBack (words_back u) ∷ [] in
     let rest = lim ++ (con ++ (c ++ (sp ++ jump))) in
     let lb = front_of (st ++ ac) rest l in
@@ -234,54 +244,57 @@ head_piece {e} {block} {types} bl {links} {code} routines around j p limit most 
     let s3 = size_append con (c ++ (sp ++ jump)) in
     let s4 = size_append c (sp ++ jump) in
     let s5 = size_append sp jump in
-    let b1 = limit_size e bl.taken (counting block j p) limit (words_behind_limit u) 0 in
+    let b1 = limit_size e bl.taken (Y.NumberCounter p r) limit (words_behind_limit u) 0 in
     let b2 = condition_size e bl.taken condition (words_behind_condition u) 0 in
     let i3 = i1 + size_of lim + size_of con in
     let i5 = i3 + size_of c + size_of sp in
-    let end' = i + size_of (turns_of bl j p limit condition line c) in
+    let end' = i + size_of (turns_of bl r p limit condition line c) in
     let ends : i5 + 2 ≡ end' = omega (arith, s0, s1, s2, s3, s4, s5) in
     let over1 : i1 + size_of lim + words_behind_limit u ≡ end' = omega (arith, s0, s1, s2, s3, s4, s5, b2) in
     let over2 : i3 + words_behind_condition u ≡ end' = omega (arith, s0, s1, s2, s3, s4, s5) in
     let back : i + words_back u ≡ i5 = omega (arith, s0, b1, b2) in
+    let turn = words_back u + 2 in
+    let again_at : i + turn ≡ i5 + 2 = omega (arith, back) in
     let inside = l.inside in
-    let again : Meaning (Unit {0}) = repeated_while turns (M.turn_due here (counting block j p) most step condition) (part >> (M.stepped here (counting block j p) step)) in
-    let branch : Bool → Meaning (Unit {0}) = λ met. choose met ((part >> (M.stepped here (counting block j p) step)) >> again) (give tt) in
+    let again : Meaning (Unit {0}) = repeated_while turns (M.turn_due here (Y.NumberCounter p r) most step condition) (part >> (M.stepped here (Y.NumberCounter p r) step)) in
+    let branch : Bool → Meaning (Unit {0}) = λ met. choose met ((part >> (M.stepped here (Y.NumberCounter p r) step)) >> again) (give tt) in
     let goes : Unit {0} → Meaning (Unit {0}) = λ q. again in
-    let steps : Unit {0} → Meaning (Unit {0}) = λ q. M.stepped here (counting block j p) step in
+    let steps : Unit {0} → Meaning (Unit {0}) = λ q. M.stepped here (Y.NumberCounter p r) step in
     let conditions : Bool → Meaning Bool = λ within. choose within (M.condition_met here condition) (give false) in
-    let tests : Unit {0} → Meaning Bool = λ q. (M.within_limit here (counting block j p) most step) >>= conditions in
+    let tests : Unit {0} → Meaning Bool = λ q. (M.within_limit here (Y.NumberCounter p r) most step) >>= conditions in
     let acts1 = (acted line v).world.acts in
-    comes_on k (M.turn_due here (counting block j p) most step condition k s) branch
+    comes_on k (M.turn_due here (Y.NumberCounter p r) most step condition k s) branch
     (comes_on k (act counted k s) tests
     (act_from (before_closed k tests (before_closed k branch closed)) credits f line old k fits paid la serving at
     (λ f1 serving1 at1.
     let s' = with_world (counted s.world) s in
     let v' = acted line v in
     let all1 : AllHold bl.frames v.activations (e.level ∷ bl.depths) s' block types n = counted_all _ all in
-    comes_on k (M.within_limit here (counting block j p) most step k s') conditions
-    (within_piece bl routines here j p limit most step (words_behind_limit u) (before_closed k conditions (before_closed k branch closed)) n f1 k below waits ws at_step (omega (arith, room)) (omega (arith, inside, over1)) (front_of lim (con ++ (c ++ (sp ++ jump))) l1) serving1 all1 at1 (
+    comes_on k (M.within_limit here (Y.NumberCounter p r) most step k s') conditions
+    (within_piece bl routines here r p limit most step (words_behind_limit u) (before_closed k conditions (before_closed k branch closed)) n f1 k counts.reads waits ws at_step (omega (arith, some)) (omega (arith, inside, over1)) (front_of lim (con ++ (c ++ (sp ++ jump))) l1) serving1 all1 at1 (
       (λ f2 h2 t2 stays2 at2.
           condition_piece bl routines here condition (words_behind_condition u) (before_closed k branch closed) n f2 k is room' (omega (arith, inside, over2)) (front_of con (c ++ (sp ++ jump)) l2) serving1 all1 at2 (
             (λ f3 h3 t3 stays3 at3.
-                comes_on k ((part >> (M.stepped here (counting block j p) step)) k s') goes
+                comes_on k ((part >> (M.stepped here (Y.NumberCounter p r) step)) k s') goes
                 (comes_on k (part k s') steps
                 (comes_since (part k s')
                 (inner.does (since_closed acts1 (before_closed k steps (before_closed k goes closed))) line n f3 k (front_of c (sp ++ jump) l3) serving1 all1 at3
                 (λ s4' v4 line4 n4 h4 t4 f4 serving4 all4 stays4 at4 grown.
                 let stays04 = stays_then stays2 (stays_then stays3 stays4) in
-                stepping_piece bl routines around line j p step (before_closed k goes closed) n4 f4 line4 k fits (all4.numbers j (Y.FixedLeaf p, below) tt).fits.0 below ws (stays04.words (w + 1) (omega arith) ∙ at_step) room (front_of sp jump l4) serving4 all4 at4
-                (λ z f5 h5 t5 wz stays5 serving5 at5.
+                stepping_piece bl routines around line r p step (before_closed k goes closed) n4 f4 line4 k fits (takes.old s4' v4.activations n4 all4).1.0 counts.reads ws (stays04.words (w + 1) (omega arith) ∙ at_step) some (front_of sp jump l4) serving4 all4 at4
+                (λ z f5 h5 t5 wz unpaused stays5 serving5 at5.
                 onward (before_closed k goes closed) (back_piece i5 f5 (words_back u) i back (record { reserved_stay = λ y x. refl; known_stay = λ b y x q. q; set = λ y x. refl }) (back_of sp jump l4) at5)
                 (λ f6 at6.
-                counter_piece bl n4 (before_closed k goes closed) (i5 + 2) f6 here (in_turns bl.taken) j p z k below wz (λ none. omega (arith, room)) all4 ls at6
-                (λ f7 h7 t7 stays7 at7.
+                subst (λ q. Comes code q f6 (on_line line v4) (before code aims k goes) (M.assigned here r (BasicNumber z) k s4')) again_at
+                (comes_later turn (M.assigned here r (BasicNumber z) k s4') unpaused
+                (takes.does (later_closed turn (before_closed k goes closed)) f6 here z n4 k wz ls serving5 all4 at6
+                (λ s7 n7 h7 t7 f7 serving7 all7 stays7 at7.
                 let stays07 = stays_then stays04 (stays_then stays5 stays7) in
-                head_piece bl routines around j p limit most step condition line c part below ws is room room' fits inner turns closed (i5 + 2 + size_of st) line (with_number_at n4 j z) f7 k (omega (arith, enough, grown)) (omega (arith, inside, ends, s0, s1)) l
+                head_piece bl routines around r p limit most step condition line c part counts ws is room room' fits inner turns closed (i + size_of st + turn) line n7 f7 k (omega (arith, enough, grown)) (omega (arith, inside, ends, s0, s1, again_at)) l
                 (limit_stays limit most t t7 w (stays07.words w (omega arith)) waits) (stays07.words (w + 1) (omega arith) ∙ at_step)
-                (record { world = serving5.world; running = serving5.running; line_is = serving5.line_is; input = serving5.input; allowed = serving5.allowed; fits = serving5.fits; nested = serving5.nested; waiting = serving5.waiting })
-                (assigned_all j z below wz all4) at7
+                serving7 all7 at7
                 (λ s8 v8 line8 n8 h8 t8 f8 serving8 all8 stays8 at8. goal s8 v8 line8 n8 h8 t8 f8 serving8 all8 (stays_then (stays_fewer 2 stays07) stays8) at8)
-                (further more (omega arith) (omega (arith, grown)) (stays_fewer 2 stays07))))))
+                (further more (omega arith) (omega (arith, grown)) (stays_fewer 2 stays07))))))))
                 (turning_enough bl (further more (omega arith) (omega arith) (stays_fewer 2 (stays_then stays2 stays3)))))))),
             (λ f3 h3 t3 stays3 at3.
                 record {

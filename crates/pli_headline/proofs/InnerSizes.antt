@@ -10,7 +10,7 @@ use Rattle.pli_coding.specs.Instructions.{store_word}
 use Rattle.pli_coding.specs.Environments.{Environment, Taken, none_taken}
 use Rattle.pli_coding.specs.Arithmetic.{fitted_code}
 use Rattle.pli_coding.specs.Expressions.{number_code, bit_code, text_code}
-use Rattle.pli_coding.specs.Storing.{stored_into}
+use Rattle.pli_coding.specs.Storing.{word_stored, stored_into}
 use Rattle.pli_coding.specs.Allocating.{act_code}
 use Rattle.pli_headline.specs.InnerWords.{inner_words, all_inner_words}
 use Rattle.pli_coding.specs.Temporaries.{number_words, bit_words, reference_words}
@@ -278,7 +278,7 @@ mutual
       (most_more _ _ _ _ (omega (arith, both, m, s1, s2)) (omega (arith, m, o1, s1, s2)))
   statement_inner e t block types has (Y.DoCount (Y.NumberCounter precision target) start limit step condition body line) is =
       let counter = Y.NumberCounter precision target in
-      let z = own_words block types (Y.FixedLeaf precision) target is.0.0 in
+      let z = target_size e (in_turns t) block types (Y.FixedLeaf precision) target is.0.0 in
       let n0 = start_words_size e t block types start is.0.1 in
       let n1 = limit_words_size e t block types limit is.1.0.0 in
       let n2 = number_size e (before_turns t) block types step is.1.0.1 in
@@ -300,6 +300,7 @@ mutual
       let s4 = size_append c1 (c2 ++ c3) in
       let s5 = size_append c2 c3 in
       let s7 = size_append (number_code e (before_turns t) step) (store_word frame_register a0 (step_place t)) in
+      let s0 = size_append (word_stored e (in_turns t) target) (act_code line) in
       let s8 = size_append u.begun (lim ++ (con ++ (c ++ rest))) in
       let s9 = size_append lim (con ++ (c ++ rest)) in
       let s10 = size_append con (c ++ rest) in
@@ -309,7 +310,7 @@ mutual
       most_more _ _ _ _ (omega (arith, n0, n4, four, s1, s2, s3, s8, s9, s10, s11)) (most_more _ _ _ _ (omega (arith, n1, n4, four, s1, s2, s3, s4, s8, s9, s10, s11)) (omega (arith, n2, n4, four, s1, s2, s3, s4, s5, s7, s8, s9, s10, s11))) in
       omega (arith, a, four, s1))
       (let a : max (suc (reference_words target)) (max (bit_if condition) (stmts_words body)) + all_inner_words body ≤ size_of (stmt_code e t (Y.DoCount counter start limit step condition body line)) - 1 =
-      most_more _ _ _ _ (omega (arith, z, four, n4, s1, s2, s8, s9, s10, s11)) (most_more _ _ _ _ (omega (arith, n3, n4, four, s1, s2, s8, s9, s10, s11)) (omega (arith, n4, four, s1, s2, s8, s9, s10, s11))) in
+      most_more _ _ _ _ (omega (arith, z, four, n4, s0, s1, s2, s8, s9, s10, s11)) (most_more _ _ _ _ (omega (arith, n3, n4, four, s1, s2, s8, s9, s10, s11)) (omega (arith, n4, four, s1, s2, s8, s9, s10, s11))) in
       omega (arith, a, four, s1))
   statement_inner e t block types has (Y.Begin (Y.BlockOf head body)) is =
       let e' = begin_environment head e in

@@ -115,6 +115,7 @@ pub mod Waiting
 pub mod Ifs
 pub mod Limits
 pub mod Counters
+pub mod Credits
 pub mod Turnings
 pub mod Counts
 pub mod CountStarts

@@ -250,10 +250,11 @@ mutual
       let a2 = le-max_right (value_words start) (max (number_if limit) (number_words step)) in
       let a4 = le-max_left (number_if limit) (number_words step) in
       let a5 = le-max_right (number_if limit) (number_words step) in
+      let d0 = le-max_left (suc (reference_words target)) (max (bit_if condition) (stmts_words body)) in
       let d1 = le-max_right (suc (reference_words target)) (max (bit_if condition) (stmts_words body)) in
       let d2 = le-max_left (bit_if condition) (stmts_words body) in
       let d3 = le-max_right (bit_if condition) (stmts_words body) in
-      counted_does bl links code routines around target precision start limit step condition body line is.0.0 is.0.1 is.1.0.0 is.1.0.1 is.1.1.0
+      counted_does bl links code routines around target precision start limit step condition body line is.0.0 (omega (arith, room, m2, d0)) is.0.1 is.1.0.0 is.1.0.1 is.1.1.0
       (omega (arith, room, m1, a1)) (omega (arith, room, m1, a2, a4)) (omega (arith, room, m1, a2, a5)) (omega (arith, room, m2, d1, d2)) is.1.1.1.1
       (listed (turning bl) around body (each_does (within (labels_in body) (turning bl)) links code (standing_within (labels_in body) (standing_turning routines)) around same named body is.1.1.1.0 jumps (omega (arith, room, m2, d1, d3)) space bare entering least known calls (ways_within (labels_in body) ways)))
   statement_does {e} {block} bl links code routines around same {all} {procedure} {main} {small} named (Y.Begin (Y.BlockOf head body)) is jumps room space bare {more} entering least known calls ways =

@@ -192,3 +192,12 @@ reach_map P r h =
 -- with more credits
 pub reach_with : {code : List Instr} {i : ℕ} {f : Family} {v : Services} {i' : ℕ} {v' : Services} {Q : Base → Whole → Type 0} (i'' : ℕ) → i' ≤ i'' → Reach code i f v i' v' Q → Reach code i f v i'' v' Q
 reach_with i'' h r = record { count = r.count; paid = omega (arith, r.paid, h); grows = r.grows; goes = r.goes }
+
+-- with so many more on the whole way
+pub reach_later : {code : List Instr} {i : ℕ} {f : Family} {v : Services} {i' : ℕ} {v' : Services} {Q : Base → Whole → Type 0} (more : ℕ) → Reach code i f v i' v' Q → Reach code (i + more) f v (i' + more) v' Q
+reach_later more r =
+    record { count = r.count; paid = (let p = r.paid in omega (arith, p)); grows = r.grows; goes = r.goes }
+
+pub reached_later : {code : List Instr} {i : ℕ} {f : Family} {v : Services} {i' : ℕ} {v' : Services} {Q : Base → Whole → Type 0} (more : ℕ) (r : Reach code i f v i' v' Q) → reached r ≡ reached (reach_later more r)
+unfolding reached reach_later
+reached_later more r = refl

@@ -72,7 +72,7 @@ count_proved : AreProvedStatements 1 (alone (Y.FixedLeaf 31) ∷ []) count
 count_proved =
     let o : IsOwn 1 (alone (Y.FixedLeaf 31) ∷ []) (Y.FixedLeaf 31) whole_i = record { index = 0; declared = refl; is = refl } in
     let i : IsProvedNumber 1 (alone (Y.FixedLeaf 31) ∷ []) (Y.NumberIn whole_i) = (record { precision = 31; part = inl o }, tt) in
-    (((o, lit< tt), ((lit< tt, lit< tt), (tt, (tt, lit< tt)))), tt)
+    ((((inl o, tt), lit< tt), ((lit< tt, lit< tt), (tt, (tt, lit< tt)))), tt)
 
 -- DCL S FIXED BIN(15) INIT(-7), B BIT(1) INIT('1'B);
 abbrev given_once : T.InitialValue → List T.InitialItem
@@ -106,8 +106,8 @@ starts =
 starts_proved : AreProvedStatements 1 (alone (Y.FixedLeaf 31) ∷ []) starts
 starts_proved =
     let o : IsOwn 1 (alone (Y.FixedLeaf 31) ∷ []) (Y.FixedLeaf 31) whole_i = record { index = 0; declared = refl; is = refl } in (
-      ((o, omega arith), ((lit< tt, lit< tt), (tt, (tt, lit< tt)))),
-      (((o, tt), ((tt, lit< tt), (tt, (tt, lit< tt)))), tt),
+      (((inl o, tt), omega arith), ((lit< tt, lit< tt), (tt, (tt, lit< tt)))),
+      ((((inl o, tt), tt), ((tt, lit< tt), (tt, (tt, lit< tt)))), tt),
     )
 
 -- ON ZERODIVIDE SYSTEM; I = ONCODE(); REVERT ZERODIVIDE;
@@ -205,6 +205,22 @@ elements_proved =
     let inner : IsProvedNumber 1 types (Y.NumberIn (element_at (Y.NumberConstant 1) (Y.NumberIn (whole_of 1)))) = (record { precision = 31; part = inr (at (Y.NumberConstant 1) (Y.NumberIn (whole_of 1))) }, (lit< tt, (n, tt))) in
     let lower : IsDimension 1 types (whole_of 0) 2 = record { index = 0; type = Y.FixedLeaf 31; element = (omega arith, omega arith); bound = three; bounds = around_zero ∷ []; declared = refl; place = 1; asked = around_zero; dimension_is = refl; among = refl; is = refl } in
     (((inr (at (Y.NumberIn (element_at (Y.NumberConstant 1) (Y.NumberIn (whole_of 1)))) (Y.LowerBound (whole_of 0) 2)), (inner, (lower, tt))), (n, lit< tt)), tt)
+
+-- DO A(2, I) = 1 TO 5; I = 0; END;
+abbrev element_counts : Y.Stmts
+element_counts =
+    Y.StmtThen []
+    (Y.DoCount (Y.NumberCounter 31 (element_at (Y.NumberConstant 2) (Y.NumberIn (whole_of 1)))) (Y.NumberValue 31 (Y.NumberConstant 1)) (Some (Y.NumberConstant 5)) (Y.NumberConstant 1) None (Y.StmtThen [] (Y.Assign (whole_of 1) (Y.StoredNumber 31 (Y.NumberConstant 0)) 3) (Y.EndOfList [])) 2)
+    (Y.EndOfList [])
+
+element_counts_proved : AreProvedStatements 1 (record { type = Y.FixedLeaf 31; bounds = three ∷ around_zero ∷ [] } ∷ alone (Y.FixedLeaf 31) ∷ []) element_counts
+element_counts_proved =
+    let types : Types = record { type = Y.FixedLeaf 31; bounds = three ∷ around_zero ∷ [] } ∷ alone (Y.FixedLeaf 31) ∷ [] in
+    let o : IsOwn 1 types (Y.FixedLeaf 31) (whole_of 1) = record { index = 1; declared = refl; is = refl } in
+    let n : IsProvedNumber 1 types (Y.NumberIn (whole_of 1)) = (record { precision = 31; part = inl o }, tt) in
+    let at : IsElement 1 types (Y.FixedLeaf 31) (element_at (Y.NumberConstant 2) (Y.NumberIn (whole_of 1))) =
+    record { index = 0; bound = three; bounds = around_zero ∷ []; first = Y.NumberConstant 2; rest = Y.NumberThen (Y.NumberIn (whole_of 1)) Y.NoNumber; declared = refl; many = refl; is = refl } in
+    ((((inr at, (lit< tt, (n, tt))), lit< tt), ((lit< tt, lit< tt), (tt, ((((inl o, tt), (lit< tt, lit< tt)), tt), lit< tt)))), tt)
 
 -- L: DO WHILE ('1'B); IF '0'B THEN GOTO L; M: GOTO M; END;
 abbrev jumping : Y.Stmts

@@ -505,7 +505,7 @@ mutual
       (most _ _ _ (let o0 = o.0 in omega (arith, o0, s1, s2)) (let o1 = o.1 in omega (arith, m, o1, s1, s2)))
   statement_size e t block types has (Y.DoCount (Y.NumberCounter precision target) start limit step condition body line) is =
       let counter = Y.NumberCounter precision target in
-      let z = own_words block types (Y.FixedLeaf precision) target is.0.0 in
+      let z = target_size e (in_turns t) block types (Y.FixedLeaf precision) target is.0.0 in
       let n0 = start_words_size e t block types start is.0.1 in
       let n1 = limit_words_size e t block types limit is.1.0.0 in
       let n2 = number_size e (before_turns t) block types step is.1.0.1 in
@@ -527,6 +527,7 @@ mutual
       let s4 = size_append c1 (c2 ++ c3) in
       let s5 = size_append c2 c3 in
       let s7 = size_append (number_code e (before_turns t) step) (store_word frame_register a0 (step_place t)) in
+      let s0 = size_append (word_stored e (in_turns t) target) (act_code line) in
       let s8 = size_append u.begun (lim ++ (con ++ (c ++ rest))) in
       let s9 = size_append lim (con ++ (c ++ rest)) in
       let s10 = size_append con (c ++ rest) in
@@ -535,7 +536,7 @@ mutual
       let small1 : max (value_words start) (max (number_if limit) (number_words step)) ≤ total - 3 + 1 =
       most _ _ _ (omega (arith, n0, four, s1, s2, s3)) (most _ _ _ (omega (arith, n1, four, s1, s2, s3, s4)) (omega (arith, n2, four, s1, s2, s3, s4, s5, s7))) in
       let small2 : max (suc (reference_words target)) (max (bit_if condition) (stmts_words body)) ≤ total - 2 + 1 =
-      most _ _ _ (omega (arith, z, four, s1)) (most _ _ _ (omega (arith, n3, four, s1, s2, s8, s9, s10)) (omega (arith, n4, four, s1, s2, s8, s9, s10, s11))) in
+      most _ _ _ (omega (arith, z, four, s0, s1, s2, s8)) (most _ _ _ (omega (arith, n3, four, s1, s2, s8, s9, s10)) (omega (arith, n4, four, s1, s2, s8, s9, s10, s11))) in
       most _ _ _ (omega (arith, small1, four, s1)) (omega (arith, small2, four, s1))
   statement_size e t block types has (Y.Goto level label line) is = omega arith
   statement_size e t block types has (Y.Begin (Y.BlockOf head body)) is = omega arith

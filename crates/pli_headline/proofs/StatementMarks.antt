@@ -20,14 +20,15 @@ use Rattle.pli_coding.specs.Storing.{word_stored, assigned_code}
 use Rattle.pli_coding.specs.Streams.{put_pairs, get_pairs, edit_ended, skip_option}
 use Rattle.pli_coding.specs.Allocating.{act_code}
 use Rattle.pli_coding.specs.Statements.{if_met, while_met, once_code, in_turns, before_turns, limit_place, step_place, start_place, start_code, limit_code, step_code, start_loaded, started_code, count_begun, limit_tested, limit_kept, while_kept, stepped_code, turn_of, turns_code, words_behind_limit, words_behind_condition, words_back, signal_code, unwound_to, returned_by, goto_outer, goto_code, marked, stmt_code, stmts_code, stmts_words, block_words, begin_environment, begin_code, condition_given, unit_established, unit_left, unit_variables, owner_of_unit, unit_words, unit_mark}
-use Rattle.pli_headline.specs.ProvedSoFar.{Types, IsOwn, IsProvedNumber, IsProvedNumberIf, IsProvedBit, IsProvedBitIf, IsProvedStatement, AreProvedStatements, IsBare, AreBare, DeclaresNothing, IsProvedStart}
+use Rattle.pli_headline.specs.ProvedSoFar.{Types, IsAssigned, IsProvedNumber, IsProvedNumberIf, IsProvedBit, IsProvedBitIf, IsProvedStatement, AreProvedStatements, IsBare, AreBare, DeclaresNothing, IsProvedStart}
 use Rattle.pli_headline.proofs.Stands.{Stand, stands_of, end_of, inner_stands, all_stands}
 use Rattle.pli_headline.proofs.SymbolsMarked.{symbols_marked, Marks, both_mark, behind, before, either, constant_none, load_none, store_none, plus_none, overflow_none, act_none, fitted_none}
 use Rattle.pli_headline.proofs.PutMarks.{pairs_none, skip_none}
 use Rattle.pli_headline.proofs.GetMarks.{gets_none, get_skip_none}
 use Rattle.pli_headline.proofs.Variables.{HasTypes}
 use Rattle.pli_headline.proofs.OnUnits.{unit_by}
-use Rattle.pli_headline.proofs.ExpressionMarks.{reference_none, number_none, bit_none, target_none, text_stored_none, number_assigned_none, bit_assigned_none, text_none}
+use Rattle.pli_headline.proofs.Targets.{assigned_read}
+use Rattle.pli_headline.proofs.ExpressionMarks.{number_none, bit_none, assigned_none, text_stored_none, number_assigned_none, bit_assigned_none, text_none}
 
 -- the place of a label, or of the end of a block
 abbrev pub place_symbol : ℕ → Option Label → Symbol
@@ -176,39 +177,39 @@ tested_none t words =
     behind a _ [] (load_none u1 frame_register (limit_place t))
     (behind (load_word u2 frame_register (step_place t)) _ [] (load_none u2 frame_register (step_place t)) refl)
 
-kept_none : (e : Environment) (t : Taken) (block : ℕ) (types : Types) (precision : ℕ) (r : Y.Reference) (limit : Option Y.Number) (words : ℕ) → HasTypes e block types → IsOwn block types (Y.FixedLeaf precision) r → Marks (limit_kept e t (Y.NumberCounter precision r) limit words) []
+kept_none : (e : Environment) (t : Taken) (block : ℕ) (types : Types) (precision : ℕ) (r : Y.Reference) (limit : Option Y.Number) (words : ℕ) → HasTypes e block types → IsAssigned block types (Y.FixedLeaf precision) r → Marks (limit_kept e t (Y.NumberCounter precision r) limit words) []
 kept_none e t block types precision r None words has is = refl
 kept_none e t block types precision r (Some x) words has is =
-    behind (number_code e (in_turns t) (Y.NumberIn r)) (limit_tested t words) [] (reference_none e (in_turns t) block types precision r has is) (tested_none t words)
+    behind (number_code e (in_turns t) (Y.NumberIn r)) (limit_tested t words) [] (number_none e (in_turns t) block types (Y.NumberIn r) has (assigned_read block types precision r is)) (tested_none t words)
 
 condition_none : (e : Environment) (t : Taken) (block : ℕ) (types : Types) (condition : Option Y.Bit) (words : ℕ) → HasTypes e block types → IsProvedBitIf block types condition → Marks (while_kept e t condition words) []
 condition_none e t block types None words has is = refl
 condition_none e t block types (Some x) words has is =
     behind (bit_code e (in_turns t) x) (skip_where Test.NotEqual a0 zero_register (JumpAhead words ∷ [])) [] (bit_none e (in_turns t) block types x has is) refl
 
-stepped_none : (e : Environment) (t : Taken) (block : ℕ) (types : Types) (precision : ℕ) (r : Y.Reference) (line : ℕ) → HasTypes e block types → IsOwn block types (Y.FixedLeaf precision) r → Marks (stepped_code e t (Y.NumberCounter precision r) line) []
+stepped_none : (e : Environment) (t : Taken) (block : ℕ) (types : Types) (precision : ℕ) (r : Y.Reference) (line : ℕ) → HasTypes e block types → IsAssigned block types (Y.FixedLeaf precision) r → Marks (stepped_code e t (Y.NumberCounter precision r) line) []
 stepped_none e t block types precision r line has is =
     let read = number_code e (in_turns t) (Y.NumberIn r) in
     let c = load_word a0 frame_register (step_place t) in
     let d = sum_code (in_turns t) in
     let last = fitted_code (in_turns t) precision in
     behind (number a0 line) (small a1 1 ∷ (service 1 ++ (read ++ (move u1 a0 ∷ (c ++ (d ++ last)))))) [] (constant_none a0 (pos line))
-    (behind read (move u1 a0 ∷ (c ++ (d ++ last))) [] (reference_none e (in_turns t) block types precision r has is)
+    (behind read (move u1 a0 ∷ (c ++ (d ++ last))) [] (number_none e (in_turns t) block types (Y.NumberIn r) has (assigned_read block types precision r is))
     (behind c (d ++ last) [] (load_none a0 frame_register (step_place t))
     (behind d last [] (overflow_none (in_turns t)) (fitted_none (in_turns t) precision))))
 
-turns_mark : (e : Environment) (t : Taken) (block : ℕ) (types : Types) (precision : ℕ) (r : Y.Reference) (limit : Option Y.Number) (condition : Option Y.Bit) (line : ℕ) (c : Code) (ss : List Symbol) → HasTypes e block types → IsOwn block types (Y.FixedLeaf precision) r → IsProvedBitIf block types condition → Marks c ss → Marks (turns_code (turn_of e t (Y.NumberCounter precision r) limit condition line c)) ss
-turns_mark e t block types precision r limit condition line c ss has own' isc h =
+turns_mark : (e : Environment) (t : Taken) (block : ℕ) (types : Types) (precision : ℕ) (r : Y.Reference) (limit : Option Y.Number) (condition : Option Y.Bit) (line : ℕ) (c : Code) (ss : List Symbol) → HasTypes e block types → IsAssigned block types (Y.FixedLeaf precision) r → IsProvedBitIf block types condition → Marks c ss → Marks (turns_code (turn_of e t (Y.NumberCounter precision r) limit condition line c)) ss
+turns_mark e t block types precision r limit condition line c ss has target isc h =
     let u = turn_of e t (Y.NumberCounter precision r) limit condition line c in
     let st = word_stored e (in_turns t) r in
     let lim = limit_kept e t (Y.NumberCounter precision r) limit (words_behind_limit u) in
     let con = while_kept e t condition (words_behind_condition u) in
     let sp = stepped_code e t (Y.NumberCounter precision r) line in
     let jump = JumpBack (words_back u) ∷ [] in
-    behind (st ++ act_code line) (lim ++ (con ++ (c ++ (sp ++ jump)))) ss (behind st (act_code line) [] (target_none e (in_turns t) block types (Y.FixedLeaf precision) r tt has own') (act_none line))
-    (behind lim (con ++ (c ++ (sp ++ jump))) ss (kept_none e t block types precision r limit (words_behind_limit u) has own')
+    behind (st ++ act_code line) (lim ++ (con ++ (c ++ (sp ++ jump)))) ss (behind st (act_code line) [] (assigned_none e (in_turns t) block types (Y.FixedLeaf precision) r tt has target) (act_none line))
+    (behind lim (con ++ (c ++ (sp ++ jump))) ss (kept_none e t block types precision r limit (words_behind_limit u) has target)
     (behind con (c ++ (sp ++ jump)) ss (condition_none e t block types condition (words_behind_condition u) has isc)
-    (before c (sp ++ jump) ss h (behind sp jump [] (stepped_none e t block types precision r line has own') refl))))
+    (before c (sp ++ jump) ss h (behind sp jump [] (stepped_none e t block types precision r line has target) refl))))
 
 -- ---- on-units
 

@@ -19,7 +19,7 @@ use Rattle.pli_coding.specs.Expressions.{given_in, type_in}
 use Rattle.pli_coding.specs.Storing.{word_stored}
 use Rattle.pli_coding.specs.Temporaries.{subscripts_words}
 use Rattle.pli_coding.specs.Linking.{Links}
-use Rattle.pli_headline.specs.ProvedSoFar.{Types, Kind, alone, IsOwn, IsElement, IsElementType, AreProvedNumbers}
+use Rattle.pli_headline.specs.ProvedSoFar.{Types, Kind, alone, IsOwn, IsElement, IsElementType, IsAssigned, IsProvedNumber, AreProvedNumbers}
 use Rattle.pli_headline.proofs.Engine.{Base}
 use Rattle.pli_headline.proofs.Items.{Linked, At}
 use Rattle.pli_headline.proofs.Bodies.{Known}
@@ -61,6 +61,11 @@ pub element_target : (e : Environment) (around : Around) (block j : ℕ) (type :
 element_target e around block j type bs first rest same declared =
     ap (λ q. P.type_of_first whole_part (slice_get (variables_of_block q block) j)) same
     ∙ ap (P.type_of_first whole_part) declared.1
+
+-- ---- it is read
+
+pub assigned_read : (block : ℕ) (types : Types) (p : ℕ) (r : Y.Reference) → IsAssigned block types (Y.FixedLeaf p) r → IsProvedNumber block types (Y.NumberIn r)
+assigned_read block types p (Y.Referring v locator part subscripts) is = (record { precision = p; part = is.0 }, is.1)
 
 -- ---- it takes a value
 

@@ -1,6 +1,6 @@
 -- The tests of a turn of DO with a variable that counts: the limit, and then WHILE.
-use Rattle.std.proofs.Common.{◌≡◌, ℕ, ◌+◌, ◌≤◌, List, [], ◌∷◌, ◌++◌, length, Option, None, Some, Bool, true, false, refl, sym, ap, ◌∙◌, subst, arith, inl}
-use Rattle.std.specs.Prelude.{ℤ, ◌==◌, slice_get, if◌then◌else◌}
+use Rattle.std.proofs.Common.{◌≡◌, ℕ, ◌+◌, ◌≤◌, List, [], ◌∷◌, ◌++◌, length, Option, None, Some, Bool, true, false, refl, sym, ap, ◌∙◌, subst, arith}
+use Rattle.std.specs.Prelude.{ℤ, ◌==◌, if◌then◌else◌}
 use Rattle.rv_meaning.specs.declared.instr.Instr.{Instr}
 use Rattle.rv_meaning.specs.declared.instr.RegisterOp.TheVariants as Op
 use Rattle.rv_meaning.specs.declared.instr.BranchTest.TheVariants as Test
@@ -19,8 +19,9 @@ use Rattle.pli_coding.specs.Instructions.{registers, load_word, skip_where}
 use Rattle.pli_coding.specs.Environments.{Environment, Taken}
 use Rattle.pli_coding.specs.Expressions.{number_code, bit_code}
 use Rattle.pli_coding.specs.Statements.{limit_place, step_place, in_turns, counter_read, limit_tested, limit_kept, while_kept, bit_if}
+use Rattle.pli_coding.specs.Temporaries.{reference_words}
 use Rattle.pli_coding.specs.Linking.{Links}
-use Rattle.pli_headline.specs.ProvedSoFar.{Types, IsProvedBitIf, alone, IsProvedNumber}
+use Rattle.pli_headline.specs.ProvedSoFar.{Types, IsProvedBitIf, IsProvedNumber}
 use Rattle.pli_headline.proofs.Engine.{Base, address}
 use Rattle.pli_headline.proofs.Linking.{size_append}
 use Rattle.pli_headline.proofs.Items.{Linked, At}
@@ -29,7 +30,6 @@ use Rattle.pli_headline.proofs.Bodies.{Ground, Known, zero_is}
 use Rattle.pli_headline.proofs.Jumps.{front_of, back_of, rest_of, skip_taken, skip_passed, ahead_piece}
 use Rattle.pli_headline.proofs.Temporaries.{Stays, stays_same, nothing}
 use Rattle.pli_headline.proofs.Calls.{Serving}
-use Rattle.pli_headline.proofs.Variables.{whole, own}
 use Rattle.pli_headline.proofs.Operators.{valued}
 use Rattle.pli_headline.proofs.Expressions.{number_does, bit_does}
 use Rattle.pli_headline.proofs.Statements.{Standing, Block, AllHold}
@@ -37,10 +37,6 @@ use Rattle.pli_headline.proofs.Ifs.{free_far, setting}
 use Rattle.pli_headline.proofs.Limits.{limit_piece}
 use Rattle.pli_headline.proofs.Reach.{Family, Aims, Comes, Closed, before_closed, comes_on, reached, reached_holds}
 use Rattle.pli_headline.proofs.Scalars.{Values}
-
--- a variable of the block that counts
-abbrev pub counting : (block j p : ℕ) → Y.Counter
-counting block j p = Y.NumberCounter p (whole (own block j))
 
 -- what a test comes to: it is met behind its code, or the turns are over at a place
 abbrev pub Met : {e : Environment} {block : ℕ} {types : Types} → Block e block types → Values → Services → State → (h t : ℕ → ℕ) → (met over : ℕ) → Aims Bool → Type 0
@@ -91,29 +87,27 @@ condition_size e taken (Some x) c d =
     size_append (bit_code e (in_turns taken) x) (skip_where Test.NotEqual a0 zero_register (JumpAhead c ∷ []))
     ∙ sym (size_append (bit_code e (in_turns taken) x) (skip_where Test.NotEqual a0 zero_register (JumpAhead d ∷ [])))
 
-pub within_piece : {links : Links} {code : List Instr} {i : ℕ} {v : Services} {h t : ℕ → ℕ} {s : State} {aims : Aims Bool} {e : Environment} {block : ℕ} {types : Types} (bl : Block e block types) (routines : Standing bl links code) (around : Around) (j p : ℕ) (limit : Option Y.Number) (most : Option ℤ) (step : ℤ) (behind : ℕ) (closed : Closed code aims) (n : Values) (f : Family) (k : ℕ) → slice_get types j ≡ Some (alone (Y.FixedLeaf p)) → LimitWaits limit most t bl.taken.words → IsWide step → t (bl.taken.words + 1) ≡ word step → bl.taken.words + 2 ≤ bl.words → i + size_of (limit_kept e bl.taken (counting block j p) limit behind) + behind ≤ length code → Linked links code i (limit_kept e bl.taken (counting block j p) limit behind) → Serving k s v around.line → AllHold bl.frames v.activations (e.level ∷ bl.depths) s block types n → ((b : Base) → At b i (Known (bl.ground n) v h t nothing b) (f b)) → Met bl n v s h t (i + size_of (limit_kept e bl.taken (counting block j p) limit behind)) (i + size_of (limit_kept e bl.taken (counting block j p) limit behind) + behind) aims → Comes code i f v aims (M.within_limit around (counting block j p) most step k s)
+pub within_piece : {links : Links} {code : List Instr} {i : ℕ} {v : Services} {h t : ℕ → ℕ} {s : State} {aims : Aims Bool} {e : Environment} {block : ℕ} {types : Types} (bl : Block e block types) (routines : Standing bl links code) (around : Around) (r : Y.Reference) (p : ℕ) (limit : Option Y.Number) (most : Option ℤ) (step : ℤ) (behind : ℕ) (closed : Closed code aims) (n : Values) (f : Family) (k : ℕ) → IsProvedNumber block types (Y.NumberIn r) → LimitWaits limit most t bl.taken.words → IsWide step → t (bl.taken.words + 1) ≡ word step → bl.taken.words + 2 + reference_words r ≤ bl.words → i + size_of (limit_kept e bl.taken (Y.NumberCounter p r) limit behind) + behind ≤ length code → Linked links code i (limit_kept e bl.taken (Y.NumberCounter p r) limit behind) → Serving k s v around.line → AllHold bl.frames v.activations (e.level ∷ bl.depths) s block types n → ((b : Base) → At b i (Known (bl.ground n) v h t nothing b) (f b)) → Met bl n v s h t (i + size_of (limit_kept e bl.taken (Y.NumberCounter p r) limit behind)) (i + size_of (limit_kept e bl.taken (Y.NumberCounter p r) limit behind) + behind) aims → Comes code i f v aims (M.within_limit around (Y.NumberCounter p r) most step k s)
 unfolding M.within_limit M.counter_number V.number ◌>>=◌ give
-within_piece {i = i} {v = v} {h = h} {t = t} {s = s} {aims = aims} bl routines around j p None None step behind closed n f k below waits ws at_step room inside l serving all at met =
+within_piece {i = i} {v = v} {h = h} {t = t} {s = s} {aims = aims} bl routines around r p None None step behind closed n f k mine waits ws at_step room inside l serving all at met =
     let same : i ≡ i + 0 = omega arith in
     record { to = subst (λ u. aims.done u f v true s) (sym same) (met.0 f h t (stays_same (in_turns bl.taken) h t) (λ b. record { pc = (at b).pc ∙ ap (address b) same; holds = (at b).holds })) }
-within_piece {code = code} {i = i} {v = v} {h = h} {t = t} {s = s} {aims = aims} {e = e} {block = block} {types = types} bl routines around j p (Some x) (Some limit) step behind closed n f k below waits ws at_step room inside l serving all at met =
-    let target = whole (own block j) in
-    let a = number_code e (in_turns bl.taken) (Y.NumberIn target) in
+within_piece {code = code} {i = i} {v = v} {h = h} {t = t} {s = s} {aims = aims} {e = e} {block = block} {types = types} bl routines around r p (Some x) (Some limit) step behind closed n f k mine waits ws at_step room inside l serving all at met =
+    let a = number_code e (in_turns bl.taken) (Y.NumberIn r) in
     let c = limit_tested bl.taken behind in
-    let mine : IsProvedNumber block types (Y.NumberIn target) = (record { precision = p; part = inl (record { index = j; declared = below; is = refl }) }, tt) in
     let size = size_append a c in
     let place : i + size_of a + size_of c ≡ i + size_of (a ++ c) = omega (arith, size) in
     let place' : i + size_of a + size_of c + behind ≡ i + size_of (a ++ c) + behind = omega (arith, size) in
     let w = bl.words_are n in
-    comes_on k (V.number around (Y.NumberIn target) k s) (λ z. give (has_not_passed limit step z))
-    ((number_does (Y.NumberIn target) {e = e} {around = around} (setting bl routines n all serving) mine).does (before_closed k (λ z. give (has_not_passed limit step z)) closed) f (in_turns bl.taken) (omega (arith, room, w)) (front_of a c l) at
+    comes_on k (V.number around (Y.NumberIn r) k s) (λ z. give (has_not_passed limit step z))
+    ((number_does (Y.NumberIn r) {e = e} {around = around} (setting bl routines n all serving) mine).does (before_closed k (λ z. give (has_not_passed limit step z)) closed) f (in_turns bl.taken) (omega (arith, room, w)) (front_of a c l) at
     (λ z f1 h1 t1 wz stays at1.
     subst (Comes code (i + size_of a) f1 v aims) (given_as_chosen (has_not_passed limit step z) k s)
     (limit_piece s k (give true) (give false) closed (bl.temps n) f1 bl.taken limit step z behind waits.0 ws wz (omega (arith, room, w)) (stays.words bl.taken.words (omega arith) ∙ waits.1) (stays.words (bl.taken.words + 1) (omega arith) ∙ at_step) (omega (arith, inside, place')) (back_of a c l) at1
     (λ f2 at2. record { to = subst (λ u. aims.done u f2 v true s) (sym place) (met.0 f2 h1 t1 stays (λ b. record { pc = (at2 b).pc ∙ ap (address b) place; holds = (at2 b).holds })) })
     (λ f2 at2. record { to = subst (λ u. aims.done u f2 v false s) (sym place') (met.1 f2 h1 t1 stays (λ b. record { pc = (at2 b).pc ∙ ap (address b) place'; holds = (at2 b).holds })) }))))
-within_piece bl routines around j p None (Some limit) step behind closed n f k below waits ws at_step room inside l serving all at met = absurd waits
-within_piece bl routines around j p (Some x) None step behind closed n f k below waits ws at_step room inside l serving all at met = absurd waits
+within_piece bl routines around r p None (Some limit) step behind closed n f k mine waits ws at_step room inside l serving all at met = absurd waits
+within_piece bl routines around r p (Some x) None step behind closed n f k mine waits ws at_step room inside l serving all at met = absurd waits
 
 -- ---- WHILE
 

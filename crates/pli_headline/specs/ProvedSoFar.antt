@@ -437,7 +437,7 @@ abbrev mutual
   IsProvedStatement block types (Y.DoOnce target (Y.StoredText x) condition body line) =
       (IsOwnText block types target × IsProvedText block types x) × (IsProvedBitIf block types condition × (AreProvedStatements block types body × IsLine line))
   IsProvedStatement block types (Y.DoCount (Y.NumberCounter precision target) start limit step condition body line) =
-      (IsOwn block types (Y.FixedLeaf precision) target × IsProvedStart block types start)
+      (IsAssigned block types (Y.FixedLeaf precision) target × IsProvedStart block types start)
       × ((IsProvedNumberIf block types limit × IsProvedNumber block types step) × (IsProvedBitIf block types condition × (AreProvedStatements block types body × IsLine line)))
   IsProvedStatement block types (Y.Begin (Y.BlockOf head body)) =
       (head.kind ≡ Y.BeginBlock) × (IsLine head.line × AreProvedStatements block types body)
