@@ -23,7 +23,7 @@ use Rattle.pli_coding.specs.Environments.{Environment, Taken}
 use Rattle.pli_coding.specs.Expressions.{number_code, extremes_code, bit_code, text_code, given_in, BoundAsked, LowerAsked, UpperAsked, ElementsAsked}
 use Rattle.pli_coding.specs.Temporaries.{number_words, numbers_words, bit_words, text_words, subscripts_words}
 use Rattle.pli_coding.specs.Linking.{Links}
-use Rattle.pli_headline.specs.ProvedSoFar.{Types, IsOwn, IsOwnNumber, IsOwnText, IsProvedNumber, AreProvedNumbers, IsProvedBit, IsProvedText, IsPart, IsPartNumber, alone, IsDimension}
+use Rattle.pli_headline.specs.ProvedSoFar.{Types, IsOwn, IsOwnText, IsProvedNumber, AreProvedNumbers, IsProvedBit, IsProvedText, IsPart, IsPartNumber, alone, IsDimension}
 use Rattle.pli_headline.proofs.Engine.{Base}
 use Rattle.pli_headline.proofs.Items.{Linked, At, straight}
 use Rattle.pli_headline.proofs.Numbers.{IsWide, word_small}
@@ -106,22 +106,21 @@ own_piece kind {i = i} {h = h} {t = t} closed e block types held f taken j k {ty
     let r = read_based (0 == e.level) i f scope.base (load_kind type) (pos place) (scope.base + place) (λ b. word (held.numbers j)) scope.reach scope.within (scope.places j below) (λ b m o. scope.reads j below numeric t b m o) l at in
     onward closed r (λ f' at'. record { to = goal x f' h t fits (stays_same taken h t) (λ b. record { pc = (at' b).pc; holds = record { body = (at' b).holds.body; regs = ((at' b).holds.regs.0 ∙ same, tt) } }) })
 
-own_does : {links : Links} {code : List Instr} {g : Ground} {v : Services} {s : State} {k : ℕ} {e : Environment} {block : ℕ} {types : Types} {held : Values} (around : Around) (r : Y.Reference) (words : ℕ) → IsOwnNumber block types r → Scope g e block types s held → Evaluates number_kind links code g v s k words (λ taken. number_code e taken (Y.NumberIn r)) (V.number around (Y.NumberIn r))
-own_does {links} {code} {g} {v} {s} {k} {e} {block} {types} {held} around r words is scope =
+own_does : {links : Links} {code : List Instr} {g : Ground} {v : Services} {s : State} {k : ℕ} {e : Environment} {block : ℕ} {types : Types} {held : Values} (around : Around) (r : Y.Reference) (words p : ℕ) → IsOwn block types (Y.FixedLeaf p) r → Scope g e block types s held → Evaluates number_kind links code g v s k words (λ taken. number_code e taken (Y.NumberIn r)) (V.number around (Y.NumberIn r))
+own_does {links} {code} {g} {v} {s} {k} {e} {block} {types} {held} around r words p is scope =
     record {
       does = λ {i} {h} {t} {aims} closed f taken room l at goal.
-          let p = is.precision in
-          let j = is.own.index in
-          let holds = scope.holds j is.own.declared tt in
-          let eq = number_loaded e taken block j p (scope.declared j is.own.declared) in
+          let j = is.index in
+          let holds = scope.holds j is.declared tt in
+          let eq = number_loaded e taken block j p (scope.declared j is.declared) in
           let loaded = scalar_loaded (Y.FixedLeaf p) e (data_place e block j) in
           let P : Code → Type 0 = λ c. Linked links code i c → Valued number_kind g taken h t v s (i + size_of c) aims → Comes code i f v aims (V.number around (Y.NumberIn (whole (own block j))) k s) in
           let q : P loaded = λ l' goal'.
           subst (Comes code i f v aims) (sym (number_gives around s (own block j) p (held.numbers j) k holds))
-          (own_piece number_kind closed e block types held f taken j k is.own.declared tt (held.numbers j) (fits_wide (Y.FixedLeaf p) (held.numbers j) holds.fits) refl scope l' at goal') in
+          (own_piece number_kind closed e block types held f taken j k is.declared tt (held.numbers j) (fits_wide (Y.FixedLeaf p) (held.numbers j) holds.fits) refl scope l' at goal') in
           let T : Y.Reference → Type 0 = λ u. Linked links code i (number_code e taken (Y.NumberIn u)) → Valued number_kind g taken h t v s (i + size_of (number_code e taken (Y.NumberIn u))) aims → Comes code i f v aims (V.number around (Y.NumberIn u) k s) in
           let w : T (whole (own block j)) = subst P (sym eq) q in
-          subst T (sym is.own.is) w l goal;
+          subst T (sym is.is) w l goal;
     }
 
 own_bit_does : {links : Links} {code : List Instr} {g : Ground} {v : Services} {s : State} {k : ℕ} {e : Environment} {block : ℕ} {types : Types} {held : Values} (around : Around) (r : Y.Reference) (words : ℕ) → IsOwn block types Y.BitLeaf r → Scope g e block types s held → Evaluates bit_kind links code g v s k words (λ taken. bit_code e taken (Y.BitIn r)) (V.bit around (Y.BitIn r))
@@ -169,7 +168,7 @@ number_part_does : {links : Links} {code : List Instr} {g : Ground} {v : Service
 number_part_does {links} {code} {g} {v} {s} {k} {e} {block} {types} {held} {around} r is st all = by_part is.part
   where
     by_part : IsPart block types (Y.FixedLeaf is.precision) r → Evaluates number_kind links code g v s k (number_words (Y.NumberIn r)) (λ taken. number_code e taken (Y.NumberIn r)) (V.number around (Y.NumberIn r))
-    by_part (inl o) = own_does around r (number_words (Y.NumberIn r)) (record { precision = is.precision; own = o }) st.scope
+    by_part (inl o) = own_does around r (number_words (Y.NumberIn r)) is.precision o st.scope
     by_part (inr o) =
         let all' = subst (λ q. AllEvaluate links code g v s k e around (subscripts_in q)) o.is all in
         subst (λ q. Evaluates number_kind links code g v s k (number_words (Y.NumberIn q)) (λ taken. number_code e taken (Y.NumberIn q)) (V.number around (Y.NumberIn q))) (sym o.is)

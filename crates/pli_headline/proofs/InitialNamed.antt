@@ -14,7 +14,7 @@ use Rattle.pli_coding.specs.Procedures.{procedure_ended, procedure_in, procedure
 use Rattle.pli_coding.specs.Linking.{links_of}
 use Rattle.pli_coding.specs.Images.{environment_of, start_code, raise_code, code_of, linked_code, picture_of}
 use Rattle.pli_headline.specs.Headline.{parts, FitsMemory}
-use Rattle.pli_headline.specs.ProvedSoFar.{AllPlain, types_of, IsHeld, IsBegun, Kind}
+use Rattle.pli_headline.specs.ProvedSoFar.{AllPlain, types_of, IsHeld, AreConstants, Kind}
 use Rattle.pli_headline.proofs.DataNamed.{is_named_front, is_named_back}
 use Rattle.pli_headline.proofs.Scalars.{Declared, place_taken, kind_is}
 use Rattle.pli_headline.proofs.InitialRead.{start_datum, IsNamedIf, kind_reads}
@@ -105,7 +105,7 @@ all_ready program block line body all few alone fits some j h =
     let found = place_taken (types_of ds) j (omega (arith, h, long)) in
     let same = kind_is (types_of ds) j found.1 in
     let number = subst (λ t. Numbered (table_of program) t) (sym same) (main_numbered program block j all few found.1) in
-    let begins = subst (λ (k : Kind). IsBegun k.type k.bounds (kind j).initial) (sym same) (begins_at ds j are found.1) in
+    let begins = subst (λ (k : Kind). AreConstants k.type (kind j).initial) (sym same) (begins_at ds j are found.1) in
     let named = program_named program block line body (start_datum (kind j).initial) alone (own_named program block line kind j ds (are_of ds are) numbered h) in
     record {
       numbered = number;

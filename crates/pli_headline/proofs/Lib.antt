@@ -61,6 +61,9 @@ pub mod TextsStay
 pub mod Holdings
 pub mod TextVariables
 pub mod TextsKept
+pub mod TextsBegun
+pub mod InitialLists
+pub mod TextItems
 pub mod OnCodes
 pub mod Expressions
 pub mod Assignments

@@ -26,7 +26,7 @@ use Rattle.pli_coding.specs.Entries.{frame_begun, variables_code}
 use Rattle.pli_coding.specs.Statements.{stmts_code}
 use Rattle.pli_coding.specs.Procedures.{finish_code, procedure_ended, procedure_in}
 use Rattle.pli_coding.specs.Linking.{Links, place_of}
-use Rattle.pli_headline.specs.ProvedSoFar.{AllPlain, Types, types_of, text_leaf, alone, IsBegun, Kind}
+use Rattle.pli_headline.specs.ProvedSoFar.{AllPlain, Types, types_of, text_leaf, alone, AreConstants, Kind}
 use Rattle.pli_headline.proofs.Engine.{Base, address, most_code}
 use Rattle.pli_headline.proofs.Linking.{size_append}
 use Rattle.pli_headline.proofs.Items.{Linked, At}
@@ -215,7 +215,7 @@ main_holds links code first program block input all ready j b numeric =
     let inside = main_inside program block j (alone b.0) b.1 in
     let held = kind_held (variables_of_block program block) j (alone b.0) (main_plain program block all) b.1 in
     scalars_hold kind input block (main_count program block) j b.0 inside same (scalar_limited b.0 held numeric)
-    (subst (λ (k : Kind). IsBegun k.type k.bounds (kind j).initial) same (ready j inside).begins)
+    (subst (λ (k : Kind). AreConstants k.type (kind j).initial) same (ready j inside).begins)
 
 main_texts_hold : (links : Links) (code : List Instr) (first : List ℕ) (program : Y.Program) (block : ℕ) (input : List ℕ) → AllPlain program.variables → AllReady links code first program block → (j : ℕ) (varying : Bool) (most : ℕ) → IsTextAt (main_types program block) j varying most → KeepsText (main_state (main_kind program block) input (main_count program block)) block j varying most (begin_text (main_kind program block j).kind.type (main_kind program block j).initial)
 main_texts_hold links code first program block input all ready j varying most at =
@@ -225,7 +225,7 @@ main_texts_hold links code first program block input all ready j varying most at
     let inside = main_inside program block j (alone type) at in
     texts_hold kind input block (main_count program block) j varying most inside same
     (text_few varying most (kind_held (variables_of_block program block) j (alone type) (main_plain program block all) at))
-    (subst (λ (k : Kind). IsBegun k.type k.bounds (kind j).initial) same (ready j inside).begins)
+    (subst (λ (k : Kind). AreConstants k.type (kind j).initial) same (ready j inside).begins)
 
 main_arrays_hold : (links : Links) (code : List Instr) (first : List ℕ) (program : Y.Program) (block : ℕ) (input : List ℕ) → AllPlain program.variables → AllReady links code first program block → (j : ℕ) (type : Y.LeafType) (b : Bounds) (bs : List Bounds) → IsArrayAt (main_types program block) j type b bs → HoldsArray (main_state (main_kind program block) input (main_count program block)) block j type (b ∷ bs) (numbers_of (main_kind program block j).initial)
 main_arrays_hold links code first program block input all ready j type b bs at =
@@ -234,7 +234,7 @@ main_arrays_hold links code first program block input all ready j type b bs at =
     let same = kind_is (main_types program block) j at in
     let inside = main_inside program block j is at in
     let held = kind_held (variables_of_block program block) j is (main_plain program block all) at in
-    let begins = subst (λ (k : Kind). IsBegun k.type k.bounds (kind j).initial) same (ready j inside).begins in
+    let begins = subst (λ (k : Kind). AreConstants k.type (kind j).initial) same (ready j inside).begins in
     arrays_hold kind input block (main_count program block) j type (b ∷ bs) inside same held.0 begins
 
 main_hold : (known : ℕ → Y.Block → ℕ → Type 0) (links : Links) (code : List Instr) (first : List ℕ) (program : Y.Program) (block : ℕ) (input : List ℕ) (frame at line : ℕ) → at ≡ frame → AllPlain program.variables → AllReady links code first program block → AllHold (lone frame known) (main_services (table_of program) (main_kind program block) input at line (main_count program block)).activations (0 ∷ []) (main_state (main_kind program block) input (main_count program block)) block (main_types program block) (begin_values (main_kind program block))

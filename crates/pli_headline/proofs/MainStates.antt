@@ -2,7 +2,6 @@
 use Rattle.std.proofs.Common.{◌≡◌, ℕ, zero, suc, ◌+◌, ◌*◌, ◌<◌, List, [], ◌∷◌, map, Some, None, Bool, true, false, refl, sym, ap, ◌∙◌, subst, arith, ◌≤◌, lit<}
 use Rattle.std.specs.Prelude.{ℤ, pos, cond, nat_le, ◌==◌, nat_lt, ◌-◌}
 use Rattle.std.proofs.lemmas.Bool.{eqb-true}
-use Rattle.std.proofs.lemmas.List.{length-replicate}
 use Rattle.std.proofs.lemmas.Bool.Decides.{nat_tests}
 use Rattle.rv_meaning.specs.Tables.{TableSignature}
 use Rattle.pli_meaning.specs.World.{first_world}
@@ -18,16 +17,16 @@ use Rattle.pli_serving.specs.Templates.{template_of}
 use Rattle.pli_serving.specs.ServiceState as S
 use Rattle.pli_serving.specs.ServiceState.{Services}
 use Rattle.pli_serving.specs.Making as G
-use Rattle.pli_headline.specs.ProvedSoFar.{IsConstantOf, IsInitial, IsScalar, text_leaf, IsHeld, Kind, alone, IsElementType, AreConstants, IsConstantIf}
-use Rattle.pli_headline.proofs.Scalars.{Declared, IsNumeric, by_type, is_numeric, by_held, value_as, bit_back, constant_number, constant_text, begin_text, begin_of, begin_fits, IsLimited, Values, by_shape, element_numeric, constant_if}
+use Rattle.pli_headline.specs.ProvedSoFar.{IsConstantOf, IsScalar, text_leaf, IsHeld, Kind, alone, IsElementType, AreConstants}
+use Rattle.pli_headline.proofs.Scalars.{Declared, IsNumeric, by_type, is_numeric, by_held, value_as, bit_back, constant_number, constant_text, begin_text, begin_of, begin_fits, IsLimited, Values, by_shape, element_numeric}
 use Rattle.pli_headline.proofs.VariablePlaces.{room_of, number_place, frame_size, sizes_of, text_print, scalar_size, size_for, many_is}
 use Rattle.pli_headline.proofs.Holdings.{Content}
 use Rattle.pli_headline.proofs.MainGround.{contents}
-use Rattle.pli_headline.proofs.InitialRead.{once_only}
+use Rattle.pli_headline.proofs.TextsBegun.{text_seen}
 use Rattle.pli_headline.proofs.PlainNumbers.{number_for, Numbered, numbered_shape}
 use Rattle.pli_headline.proofs.TextLengths.{IsShort}
 use Rattle.pli_headline.proofs.TextPlaces.{text_kind_of}
-use Rattle.pli_headline.proofs.TextsKept.{blanks_taken, kept_seen, kept_short}
+use Rattle.pli_headline.proofs.TextsKept.{kept_short}
 use Rattle.pli_headline.proofs.TextStates.{KeepsText}
 use Rattle.pli_headline.proofs.Activations.{Nested}
 use Rattle.pli_headline.proofs.States.{Holds, NoneOwned}
@@ -140,15 +139,10 @@ first_begins type (i ∷ more) is h =
     ap (λ n. K.initial_of (kind_of [] type) (cond (nat_lt 0 i.repetition) i.value (K.initial_at more n))) none
     ∙ either_begins type (nat_lt 0 i.repetition) i.value (K.initial_at more 0) (constant_number i.value) (begin_of more) (constant_begins type i.value is h.1.0) (first_begins type more is h.1.1)
 
-numeric_constants : (type : Y.LeafType) (items : List T.InitialItem) → IsNumeric type → IsInitial type items → AreConstants type items
-numeric_constants (Y.FixedLeaf p) items is h = h
-numeric_constants Y.BitLeaf items is h = h
-numeric_constants _ items is h = absurd is
-
-pub begins_as : (type : Y.LeafType) (items : List T.InitialItem) → IsNumeric type → IsInitial type items → (fresh_scalar (record { kind = alone type; initial = items })).values 0 [] ≡ value_as type (begin_of items)
+pub begins_as : (type : Y.LeafType) (items : List T.InitialItem) → IsNumeric type → AreConstants type items → (fresh_scalar (record { kind = alone type; initial = items })).values 0 [] ≡ value_as type (begin_of items)
 begins_as type items is h =
     by_type (λ t. (fresh_scalar (record { kind = alone t; initial = items })).values 0 [] ≡ K.initial_of (kind_of [] t) (K.initial_at items 0)) (λ p. refl) refl type is
-    ∙ first_begins type items is (numeric_constants type items is h)
+    ∙ first_begins type items is h
 
 -- the numbers with which they begin
 abbrev pub begin_numbers : (kind : ℕ → Declared) → ℕ → ℤ
@@ -164,7 +158,7 @@ abbrev pub begin_contents : (kind : ℕ → Declared) → ℕ → Content
 begin_contents kind = contents (λ j. (kind j).kind) (begin_values kind)
 
 -- all variables hold what they begin with
-pub scalars_hold : (kind : ℕ → Declared) (input : List ℕ) (block count j : ℕ) (type : Y.LeafType) → j < count → (kind j).kind ≡ alone type → IsLimited type → IsInitial type (kind j).initial → Holds (main_state kind input count) block j type (begin_numbers kind j)
+pub scalars_hold : (kind : ℕ → Declared) (input : List ℕ) (block count j : ℕ) (type : Y.LeafType) → j < count → (kind j).kind ≡ alone type → IsLimited type → AreConstants type (kind j).initial → Holds (main_state kind input count) block j type (begin_numbers kind j)
 scalars_hold kind input block count j type below alike is begins =
     let items = (kind j).initial in
     record {
@@ -188,28 +182,16 @@ arrays_hold kind input block count j type bs below alike is are =
       fits = λ p inside. numbers_fit type items p is (all_given type items is are).0;
     }
 
--- what a constant text comes to
-text_given : (varying : Bool) (most : ℕ) (v : T.InitialValue) → IsConstantOf (text_leaf varying most) v → seen (text_kind_of varying most) ((fresh_scalar (record { kind = alone (text_leaf varying most); initial = once_only v ∷ [] })).values 0 []) ≡ BasicText (begin_text (text_leaf varying most) (once_only v ∷ []))
-text_given false most (T.InitialText t) h = kept_seen false most (BasicText []) t
-text_given true most (T.InitialText t) h = kept_seen true most (BasicText []) t
-text_given false most _ h = absurd h
-text_given true most _ h = absurd h
-
-text_begins : (varying : Bool) (most : ℕ) (items : List T.InitialItem) → IsConstantIf (text_leaf varying most) items → seen (text_kind_of varying most) ((fresh_scalar (record { kind = alone (text_leaf varying most); initial = items })).values 0 []) ≡ BasicText (begin_text (text_leaf varying most) items)
-text_begins false most [] h = ap BasicText (blanks_taken most)
-text_begins true most [] h = refl
-text_begins varying most (i ∷ []) h =
-    subst (λ (q : T.InitialItem). seen (text_kind_of varying most) ((fresh_scalar (record { kind = alone (text_leaf varying most); initial = q ∷ [] })).values 0 []) ≡ BasicText (begin_text (text_leaf varying most) (q ∷ []))) (sym (ap (λ n. record { repetition = n; value = i.value }) h.0)) (text_given varying most i.value h.1)
-text_begins varying most (i ∷ j ∷ more) h = absurd h
+text_begins : (varying : Bool) (most : ℕ) (items : List T.InitialItem) → AreConstants (text_leaf varying most) items → seen (text_kind_of varying most) ((fresh_scalar (record { kind = alone (text_leaf varying most); initial = items })).values 0 []) ≡ BasicText (begin_text (text_leaf varying most) items)
+text_begins false most items h = text_seen false most items h
+text_begins true most items h = text_seen true most items h
 
 text_short : (varying : Bool) (most : ℕ) (items : List T.InitialItem) → most ≤ 1024 → IsShort (begin_text (text_leaf varying most) items)
-text_short false most [] few = let e = length-replicate {A = ℕ} most 32 in omega (arith, e, few)
-text_short false most (i ∷ is) few = kept_short false most (constant_text i.value) few
-text_short true most [] few = omega arith
-text_short true most (i ∷ is) few = kept_short true most (constant_text i.value) few
+text_short false most items few = kept_short false most (constant_text (K.initial_at items 0)) few
+text_short true most items few = kept_short true most (constant_text (K.initial_at items 0)) few
 
--- blank, or empty where they vary, without INITIAL
-pub texts_hold : (kind : ℕ → Declared) (input : List ℕ) (block count j : ℕ) (varying : Bool) (most : ℕ) → j < count → (kind j).kind ≡ alone (text_leaf varying most) → most ≤ 1024 → IsInitial (text_leaf varying most) (kind j).initial → KeepsText (main_state kind input count) block j varying most (begin_text (kind j).kind.type (kind j).initial)
+-- blank, or empty where they vary, without a constant
+pub texts_hold : (kind : ℕ → Declared) (input : List ℕ) (block count j : ℕ) (varying : Bool) (most : ℕ) → j < count → (kind j).kind ≡ alone (text_leaf varying most) → most ≤ 1024 → AreConstants (text_leaf varying most) (kind j).initial → KeepsText (main_state kind input count) block j varying most (begin_text (kind j).kind.type (kind j).initial)
 texts_hold kind input block count j varying most below is few begins =
     let items = (kind j).initial in
     let type = text_leaf varying most in
@@ -218,7 +200,7 @@ texts_hold kind input block count j varying most below is few begins =
       values = (fresh' (alone type)).values;
       stands = scalars_stand kind count j below ∙ ap (λ k. Some (kind_binding k j (suc j))) is;
       lives = scalars_live kind count j below ∙ ap (λ k. Some (fresh' k)) is;
-      value = text_begins varying most items (constant_if varying most items begins);
+      value = text_begins varying most items begins;
       short = text_short varying most items few;
     })
 

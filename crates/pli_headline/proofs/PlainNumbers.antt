@@ -9,7 +9,7 @@ use Rattle.pli_typing.specs.TypedTree as Y
 use Rattle.pli_meaning.specs.DeclaredShapes.{variables_of_block}
 use Rattle.pli_serving.specs.Templates.{template_of, shape_at}
 use Rattle.pli_coding.specs.SignatureTable.{signature_of, number_in_table, table_of}
-use Rattle.pli_headline.specs.ProvedSoFar.{ArePlain, AllPlain, types_of, IsScalar, alone, array_variable, IsHeld, IsBegun, IsElementType, AreBounds, Kind, declared_kind}
+use Rattle.pli_headline.specs.ProvedSoFar.{ArePlain, AllPlain, types_of, IsScalar, alone, array_variable, IsHeld, AreConstants, IsElementType, AreBounds, Kind, declared_kind}
 use Rattle.pli_headline.proofs.PlainSignatures.{HasSignature, HasAll, kind_signature}
 use Rattle.pli_headline.proofs.Scalars.{kind_at, kind_is, Declared, place_below, by_shape}
 use Rattle.pli_headline.proofs.Variables.{scalar_shape}
@@ -149,11 +149,11 @@ are_of ds are =
     are_from (scalars_of ds) 0 ds are (λ i k b. ap (kind_at (types_of ds)) (none_before i) ∙ kind_is (types_of ds) i b) (λ i. ap (initial_at ds) (none_before i))
 
 -- constants of their types
-pub begins_at : (ds : List Y.DeclaredVariable) (j : ℕ) {kind : Kind} → ArePlain ds → slice_get (types_of ds) j ≡ Some kind → IsBegun kind.type kind.bounds (initial_at ds j)
+pub begins_at : (ds : List Y.DeclaredVariable) (j : ℕ) {kind : Kind} → ArePlain ds → slice_get (types_of ds) j ≡ Some kind → AreConstants kind.type (initial_at ds j)
 begins_at [] j are h = absurd (cc h)
 begins_at (d ∷ ds) zero {kind} are h =
     let e : declared_kind d ≡ kind = cc h in
-    subst (λ (k : Kind). IsBegun k.type k.bounds (initial_in d.leaves)) (plain_kind d are.0 ∙ e) (subst (λ (u : Y.DeclaredVariable). IsBegun are.0.type are.0.bounds (initial_in u.leaves)) (sym are.0.is) are.0.begins)
+    subst (λ (k : Kind). AreConstants k.type (initial_in d.leaves)) (plain_kind d are.0 ∙ e) (subst (λ (u : Y.DeclaredVariable). AreConstants are.0.type (initial_in u.leaves)) (sym are.0.is) are.0.begins)
 begins_at (d ∷ ds) (suc j) are h = begins_at ds j are.1 h
 
 pub length_types : (ds : List Y.DeclaredVariable) → length (types_of ds) ≡ length ds

@@ -142,11 +142,23 @@ kinds_proved =
     let n : IsProvedNumber 1 types (Y.NumberIn (whole_of 0)) = (record { precision = 15; part = inl s }, tt) in
     (((inl b, tt), ((n, lit< tt), lit< tt)), (((inl b, tt), (((inl s, tt), ((n, lit< tt), lit< tt)), lit< tt)), tt))
 
--- DCL C CHAR(5), V CHAR(8) VARYING INIT('AB');
-texts_plain : ArePlain (plain_variable (text_leaf false 5) [] ∷ plain_variable (text_leaf true 8) (given_once (T.InitialText (65 ∷ 66 ∷ []))) ∷ [])
+-- DCL C CHAR(5) INIT((2) *, 'X'), V CHAR(8) VARYING INIT((2) 'AB'), D CHAR(3), W CHAR(4) VARYING INIT('CD');
+abbrev given_blank : List T.InitialItem
+given_blank = record { repetition = 2; value = T.InitialSkip } ∷ record { repetition = 1; value = T.InitialText (88 ∷ []) } ∷ []
+
+abbrev given_twice : List T.InitialItem
+given_twice = record { repetition = 2; value = T.InitialText (65 ∷ 66 ∷ []) } ∷ []
+
+texts_plain : ArePlain (plain_variable (text_leaf false 5) given_blank ∷ plain_variable (text_leaf true 8) given_twice ∷ plain_variable (text_leaf false 3) [] ∷ plain_variable (text_leaf true 4) (given_once (T.InitialText (67 ∷ 68 ∷ []))) ∷ [])
 texts_plain = (
-  record { type = text_leaf false 5; bounds = []; initial = []; held = (omega arith, omega arith); begins = tt; is = refl },
-  (record { type = text_leaf true 8; bounds = []; initial = given_once (T.InitialText (65 ∷ 66 ∷ [])); held = (omega arith, omega arith); begins = (refl, omega arith); is = refl }, tt),
+  record { type = text_leaf false 5; bounds = []; initial = given_blank; held = (omega arith, omega arith); begins = (lit< tt, (tt, (lit< tt, (omega arith, tt)))); is = refl },
+  (
+    record { type = text_leaf true 8; bounds = []; initial = given_twice; held = (omega arith, omega arith); begins = (lit< tt, (omega arith, tt)); is = refl },
+    (
+      record { type = text_leaf false 3; bounds = []; initial = []; held = (omega arith, omega arith); begins = tt; is = refl },
+      (record { type = text_leaf true 4; bounds = []; initial = given_once (T.InitialText (67 ∷ 68 ∷ [])); held = (omega arith, omega arith); begins = (lit< tt, (omega arith, tt)); is = refl }, tt),
+    ),
+  ),
 )
 
 -- V = C || 'AB'; IF C = V THEN C = SUBSTR(V, LENGTH(C));

@@ -14,9 +14,9 @@ use Rattle.pli_typing.specs.Signatures.{Bounds}
 use Rattle.pli_typing.specs.TypedTree as Y
 use Rattle.pli_meaning.specs.BasicValues.{BasicValue, BasicNumber, BasicBit}
 use Rattle.pli_meaning.specs.Numbers.{is_of_precision}
-use Rattle.pli_meaning.specs.Stream.{blanks}
+use Rattle.pli_meaning.specs.Contents.{initial_at}
 use Rattle.pli_meaning.specs.Texts.{bit_number, fitted}
-use Rattle.pli_headline.specs.ProvedSoFar.{plain_variable, array_variable, AreBounds, IsElementType, IsScalar, IsHeld, IsConstantOf, IsInitial, IsPlain, Kind, Types, alone, AreConstants, IsConstantIf, text_leaf}
+use Rattle.pli_headline.specs.ProvedSoFar.{plain_variable, array_variable, AreBounds, IsElementType, IsScalar, IsHeld, IsConstantOf, IsPlain, Kind, Types, alone, AreConstants}
 use Rattle.pli_headline.proofs.Numbers.{IsWide}
 use Rattle.pli_headline.proofs.WordPrecisions.{below, below_is}
 
@@ -158,16 +158,6 @@ pub record Values : Type 0 where
 
 -- ---- INITIAL
 
--- INITIAL of numbers and bits, and of texts
-pub constants_of : (type : Y.LeafType) (items : List T.InitialItem) → IsLimited type → IsInitial type items → AreConstants type items
-constants_of (Y.FixedLeaf p) items is h = h
-constants_of Y.BitLeaf items is h = h
-constants_of _ items is h = absurd is
-
-pub constant_if : (varying : Bool) (most : ℕ) (items : List T.InitialItem) → IsInitial (text_leaf varying most) items → IsConstantIf (text_leaf varying most) items
-constant_if false most items h = h
-constant_if true most items h = h
-
 -- a type with bounds, and what INITIAL gives
 pub record Declared : Type 0 where
   pub kind : Kind
@@ -178,17 +168,16 @@ constant_number (T.InitialNumber z) = z
 constant_number (T.InitialBit b) = bit_number b
 constant_number _ = pos 0
 
--- the text of a constant
+-- the text of a constant, none of an asterisk
 abbrev pub constant_text : T.InitialValue → List ℕ
 constant_text (T.InitialText t) = t
 constant_text _ = []
 
--- the text with which a variable that holds texts begins: blank, or empty where it varies, without INITIAL
+-- the text with which a variable that holds texts begins: blank, or empty where it varies, without a constant
 abbrev pub begin_text : Y.LeafType → List T.InitialItem → List ℕ
-begin_text (Y.CharacterLeaf (Y.ConstantExtent (pos n))) [] = blanks n
-begin_text (Y.CharacterLeaf (Y.ConstantExtent (pos n))) (i ∷ is) = fitted n (constant_text i.value)
-begin_text (Y.VaryingLeaf (Y.ConstantExtent (pos n))) (i ∷ is) = take n (constant_text i.value)
-begin_text _ _ = []
+begin_text (Y.CharacterLeaf (Y.ConstantExtent (pos n))) items = fitted n (constant_text (initial_at items 0))
+begin_text (Y.VaryingLeaf (Y.ConstantExtent (pos n))) items = take n (constant_text (initial_at items 0))
+begin_text _ items = []
 
 -- the number with which a scalar begins
 abbrev pub begin_of : List T.InitialItem → ℤ
@@ -208,12 +197,9 @@ either_fits : (type : Y.LeafType) (q : Bool) (x y : ℤ) → Fits type x → Fit
 either_fits type true x y f g = f
 either_fits type false x y f g = g
 
-first_fits : (type : Y.LeafType) (items : List T.InitialItem) → IsLimited type → AreConstants type items → Fits type (begin_of items)
-first_fits type [] is h = zero_fits type is
-first_fits type (i ∷ more) is h = either_fits type (nat_lt 0 i.repetition) _ _ (constant_fits type i.value is h.1.0) (first_fits type more is h.1.1)
-
-pub begin_fits : (type : Y.LeafType) (items : List T.InitialItem) → IsLimited type → IsInitial type items → Fits type (begin_of items)
-begin_fits type items is h = first_fits type items is (constants_of type items is h)
+pub begin_fits : (type : Y.LeafType) (items : List T.InitialItem) → IsLimited type → AreConstants type items → Fits type (begin_of items)
+begin_fits type [] is h = zero_fits type is
+begin_fits type (i ∷ more) is h = either_fits type (nat_lt 0 i.repetition) _ _ (constant_fits type i.value is h.1.0) (begin_fits type more is h.1.1)
 
 -- ---- in memory
 

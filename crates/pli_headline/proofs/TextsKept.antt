@@ -139,9 +139,12 @@ padded_there n text zeros m at e h =
     ∙ front_there n front (zeros ++ []) m at (fitted_length n text) (omega (arith, h, size))
     ∙ fitted_same n text e
 
+-- all of a text
+pub all_taken : (n : ℕ) (t : List ℕ) → length t ≡ n → take n t ≡ t
+all_taken n t e = ap (take n) (sym (append-nil t)) ∙ seam_taken n t [] e
+
 pub blanks_taken : (n : ℕ) → take n (blanks n) ≡ blanks n
-blanks_taken n =
-    ap (take n) (sym (append-nil (blanks n))) ∙ seam_taken n (blanks n) [] (length-replicate {A = ℕ} n 32)
+blanks_taken n = all_taken n (blanks n) (length-replicate {A = ℕ} n 32)
 
 none_dropped : (n : ℕ) → drop {A = ℕ} n [] ≡ []
 none_dropped zero = refl

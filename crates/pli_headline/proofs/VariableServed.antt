@@ -16,14 +16,14 @@ use Rattle.pli_language.specs.Tree as T
 use Rattle.pli_meaning.specs.Texts.{fitted}
 use Rattle.std.proofs.lemmas.List.{length-replicate}
 use Rattle.pli_typing.specs.TypedTree as Y
-use Rattle.pli_meaning.specs.Contents.{footprint_of, fresh}
+use Rattle.pli_meaning.specs.Contents.{footprint_of, fresh, initial_at}
 use Rattle.pli_meaning.specs.StorageState.{most_automatic}
 use Rattle.pli_serving.specs.Bytes.{is_data, with_bytes, number_bytes, name_bytes}
 use Rattle.pli_serving.specs.Templates.{template_of}
 use Rattle.pli_serving.specs.Values.{value_bytes, element_bytes, generation_bytes}
 use Rattle.pli_meaning.specs.DeclaredShapes.{kind_of}
 use Rattle.pli_coding.specs.Linking.{Links}
-use Rattle.pli_headline.specs.ProvedSoFar.{IsConstantOf, IsInitial, IsScalar, text_leaf, IsHeld, IsBegun, Kind, alone, IsConstantIf}
+use Rattle.pli_headline.specs.ProvedSoFar.{AreConstants, IsScalar, text_leaf, IsHeld, Kind, alone}
 use Rattle.rv_meaning.specs.declared.instr.StoreKind.TheVariants as Store
 use Rattle.rv_meaning.specs.Words.{word}
 use Rattle.pli_serving.specs.ServiceState.{Services}
@@ -41,9 +41,10 @@ use Rattle.pli_headline.proofs.MainGround.{Stands}
 use Rattle.pli_headline.proofs.MainFrame.{main_frame}
 use Rattle.pli_headline.proofs.Scalars.{Declared, by_type, is_numeric, by_held, value_as, bit_of, bit_word, Fits, fits_wide, constant_text, begin_text, begin_of, begin_fits, store_kind, IsLimited, by_shape, element_numeric}
 use Rattle.pli_headline.proofs.Numbers.{word_small}
-use Rattle.pli_headline.proofs.InitialRead.{start_datum, start_of, Reads, once_only}
+use Rattle.pli_headline.proofs.InitialRead.{start_datum, start_of, Reads}
 use Rattle.pli_headline.proofs.Cells.{Cell, kept_by, kind_bytes, kind_length, cell_written, content, content_word}
-use Rattle.pli_headline.proofs.TextsKept.{fitted_length, taken_most, fitted_alone, padded_there, cut_there}
+use Rattle.pli_headline.proofs.TextsKept.{fitted_length, taken_most, padded_there, cut_there}
+use Rattle.pli_headline.proofs.TextsBegun.{text_begun}
 use Rattle.pli_headline.proofs.TextPlaces.{TextThere}
 use Rattle.pli_headline.proofs.TextsStay.{text_beside}
 use Rattle.pli_headline.proofs.Holdings.{Content, Counted, Written, Many, There, size_in, content_of, content_numeric, content_fits, content_by}
@@ -62,7 +63,7 @@ use Rattle.pli_headline.proofs.ArrayInitial.{numbers_of, numbers_fit, begun_arra
 -- a scalar of which all is known that it begins with
 pub record Ready (links : Links) (code : List Instr) (first : List ℕ) (table : List TableSignature) (s : Declared) : Type 0 where
   pub numbered : Numbered table s.kind
-  pub begins : IsBegun s.kind.type s.kind.bounds s.initial
+  pub begins : AreConstants s.kind.type s.initial
   pub reads : Reads links code first s.kind s.initial
 
 -- where its INITIAL values stand
@@ -173,28 +174,17 @@ value_written Y.BitLeaf z fits =
     ap (λ w. w % 256 ∷ 0 ∷ 0 ∷ 0 ∷ []) (bit_word (bit_of z) ∙ ap word (sym fits))
 value_written _ z fits = absurd fits
 
-scalar_bytes : (c : Call) (place : ℕ) (type : Y.LeafType) (items : List T.InitialItem) → IsLimited type → IsInitial type items → G.bytes_made c place (fresh_scalar (record { kind = alone type; initial = items })) (capacity_of (scalar_shape type)) ≡ kind_bytes (store_kind type) (word (begin_of items))
+scalar_bytes : (c : Call) (place : ℕ) (type : Y.LeafType) (items : List T.InitialItem) → IsLimited type → AreConstants type items → G.bytes_made c place (fresh_scalar (record { kind = alone type; initial = items })) (capacity_of (scalar_shape type)) ≡ kind_bytes (store_kind type) (word (begin_of items))
 scalar_bytes c place type items is begins =
     by_type (λ t. G.bytes_made c place (fresh_scalar (record { kind = alone t; initial = items })) (capacity_of (scalar_shape t)) ≡ (element_bytes (kind_of [] t) ((fresh_scalar (record { kind = alone t; initial = items })).values 0 []) ++ []) ++ []) (λ p. refl) refl type (is_numeric type is)
     ∙ ap (λ v. (element_bytes (kind_of [] type) v ++ []) ++ []) (begins_as type items (is_numeric type is) begins)
     ∙ value_written type (begin_of items) (begin_fits type items is begins)
 
--- a text that INITIAL gives
-given_bytes : (c : Call) (place : ℕ) (varying : Bool) (n : ℕ) (v : T.InitialValue) → IsConstantOf (text_leaf varying n) v → G.bytes_made c place (fresh_scalar (record { kind = alone (text_leaf varying n); initial = once_only v ∷ [] })) (capacity_of (scalar_shape (text_leaf varying n))) ≡ data_by (text_leaf varying n) (pos 0) (begin_text (text_leaf varying n) (once_only v ∷ []))
-given_bytes c place false n (T.InitialText t) h = ap (λ u. (element_bytes (Character n) (BasicText u) ++ []) ++ []) (fitted_alone n t)
-given_bytes c place true n (T.InitialText t) h = refl
-given_bytes c place false n _ h = absurd h
-given_bytes c place true n _ h = absurd h
+text_bytes_by : (c : Call) (place : ℕ) (varying : Bool) (n : ℕ) (items : List T.InitialItem) → AreConstants (text_leaf varying n) items → G.bytes_made c place (fresh_scalar (record { kind = alone (text_leaf varying n); initial = items })) (capacity_of (scalar_shape (text_leaf varying n))) ≡ data_by (text_leaf varying n) (pos 0) (begin_text (text_leaf varying n) items)
+text_bytes_by c place false n items h = ap (λ v. (element_bytes (Character n) v ++ []) ++ []) (text_begun false n items h)
+text_bytes_by c place true n items h = ap (λ v. (element_bytes (Varying n) v ++ []) ++ []) (text_begun true n items h)
 
-text_bytes_by : (c : Call) (place : ℕ) (varying : Bool) (n : ℕ) (items : List T.InitialItem) → IsConstantIf (text_leaf varying n) items → G.bytes_made c place (fresh_scalar (record { kind = alone (text_leaf varying n); initial = items })) (capacity_of (scalar_shape (text_leaf varying n))) ≡ data_by (text_leaf varying n) (pos 0) (begin_text (text_leaf varying n) items)
-text_bytes_by c place false n [] h = refl
-text_bytes_by c place true n [] h = refl
-text_bytes_by c place varying n (i ∷ []) h =
-    let type = text_leaf varying n in
-    subst (λ (q : T.InitialItem). G.bytes_made c place (fresh_scalar (record { kind = alone type; initial = q ∷ [] })) (capacity_of (scalar_shape type)) ≡ data_by type (pos 0) (begin_text type (q ∷ []))) (sym (ap (λ u. record { repetition = u; value = i.value }) h.0)) (given_bytes c place varying n i.value h.1)
-text_bytes_by c place varying n (i ∷ j ∷ more) h = absurd h
-
-held_bytes : (c : Call) (place : ℕ) (type : Y.LeafType) (items : List T.InitialItem) → IsScalar type → IsInitial type items → G.bytes_made c place (fresh_scalar (record { kind = alone type; initial = items })) (capacity_of (scalar_shape type)) ≡ data_by type (begin_of items) (begin_text type items)
+held_bytes : (c : Call) (place : ℕ) (type : Y.LeafType) (items : List T.InitialItem) → IsScalar type → AreConstants type items → G.bytes_made c place (fresh_scalar (record { kind = alone type; initial = items })) (capacity_of (scalar_shape type)) ≡ data_by type (begin_of items) (begin_text type items)
 held_bytes c place (Y.FixedLeaf p) items is begins = scalar_bytes c place (Y.FixedLeaf p) items is begins
 held_bytes c place Y.BitLeaf items is begins = scalar_bytes c place Y.BitLeaf items tt begins
 held_bytes c place (Y.CharacterLeaf (Y.ConstantExtent (pos n))) items is begins = text_bytes_by c place false n items begins
@@ -202,7 +192,7 @@ held_bytes c place (Y.VaryingLeaf (Y.ConstantExtent (pos n))) items is begins = 
 held_bytes c place _ items is begins = absurd is
 
 -- the bytes with which a variable begins
-kind_bytes_made : (c : Call) (place : ℕ) (type : Y.LeafType) (bs : List Bounds) (items : List T.InitialItem) → IsHeld type bs → IsBegun type bs items → G.bytes_made c place (fresh_scalar (record { kind = record { type = type; bounds = bs }; initial = items })) (capacity_of (array_shape type bs)) ≡ data_for type bs items
+kind_bytes_made : (c : Call) (place : ℕ) (type : Y.LeafType) (bs : List Bounds) (items : List T.InitialItem) → IsHeld type bs → AreConstants type items → G.bytes_made c place (fresh_scalar (record { kind = record { type = type; bounds = bs }; initial = items })) (capacity_of (array_shape type bs)) ≡ data_for type bs items
 kind_bytes_made c place type [] items is begins = held_bytes c place type items is begins
 kind_bytes_made c place type (b ∷ bs) items is begins =
     by_type (λ t. G.bytes_made c place (begun_array t (b ∷ bs) items) (capacity_of (array_shape t (b ∷ bs))) ≡ generation_bytes (begun_array t (b ∷ bs) items)) (λ p. refl) refl type (element_numeric type is.0)
@@ -216,7 +206,7 @@ made_bytes c name n place serial size bytes =
     (with_bytes (name_bytes (VariableName serial)) name (with_bytes bytes place c.memory))
     name n)
 
-scalar_made : (c : Call) (name n place serial : ℕ) (s : Declared) → IsHeld s.kind.type s.kind.bounds → IsBegun s.kind.type s.kind.bounds s.initial → G.variable_made c name n place 1 serial (fresh_scalar s) ≡ made_bytes c name n place serial (data_size s.kind) (data_of s)
+scalar_made : (c : Call) (name n place serial : ℕ) (s : Declared) → IsHeld s.kind.type s.kind.bounds → AreConstants s.kind.type s.initial → G.variable_made c name n place 1 serial (fresh_scalar s) ≡ made_bytes c name n place serial (data_size s.kind) (data_of s)
 scalar_made c name n place serial s is begins =
     ap (λ size. made_bytes c name n place serial size (G.bytes_made c place (fresh_scalar s) (capacity_of (kind_shape s.kind)))) (kind_size c s.kind is)
     ∙ ap (made_bytes c name n place serial (data_size s.kind)) (kind_bytes_made c place s.kind.type s.kind.bounds s.initial is begins)
@@ -275,7 +265,7 @@ made_loaded n m bytes at o j room =
     load-with_other n (name_bytes (VariableName (j + 1))) (with_bytes bytes (at + (144 + o + 16)) m) (at + (144 + o)) (at + (144 + o + 16)) (omega (arith, room, one)) (inr (omega arith))
 
 -- the scalar itself
-made_cell : (m : List ℕ) (at o j : ℕ) (type : Y.LeafType) (items : List T.InitialItem) → IsLimited type → IsInitial type items → at + 204 + o ≤ length m → Cell (with_number_made m at o j (kind_bytes (store_kind type) (word (begin_of items)))) (at + (160 + o)) (word (content type (begin_of items)))
+made_cell : (m : List ℕ) (at o j : ℕ) (type : Y.LeafType) (items : List T.InitialItem) → IsLimited type → AreConstants type items → at + 204 + o ≤ length m → Cell (with_number_made m at o j (kind_bytes (store_kind type) (word (begin_of items)))) (at + (160 + o)) (word (content type (begin_of items)))
 made_cell m at o j type items is begins inside =
     let z = begin_of items in
     let wide = fits_wide type z (begin_fits type items is begins) in
@@ -299,7 +289,7 @@ scalar_data (Y.FixedLeaf p) z text is = refl
 scalar_data Y.BitLeaf z text is = refl
 scalar_data _ z text is = absurd is
 
-made_scalar : (m : List ℕ) (at o j : ℕ) (type : Y.LeafType) (items : List T.InitialItem) → IsLimited type → IsInitial type items → at + 204 + o ≤ length m → Cell (with_number_made m at o j (data_by type (begin_of items) (begin_text type items))) (at + (160 + o)) (word (content type (begin_of items)))
+made_scalar : (m : List ℕ) (at o j : ℕ) (type : Y.LeafType) (items : List T.InitialItem) → IsLimited type → AreConstants type items → at + 204 + o ≤ length m → Cell (with_number_made m at o j (data_by type (begin_of items) (begin_text type items))) (at + (160 + o)) (word (content type (begin_of items)))
 made_scalar m at o j type items is begins inside =
     subst (λ bytes. Cell (with_number_made m at o j bytes) (at + (160 + o)) (word (content type (begin_of items)))) (sym (scalar_data type (begin_of items) (begin_text type items) is)) (made_cell m at o j type items is begins inside)
 
@@ -328,7 +318,7 @@ variable_by s false m bytes held at i j e room size mine below o =
     let r = room_next s i j less in
     made_there m bytes at (room_of s j) j (at + number_place s i) (held i) room (omega (arith, r, size)) (o less)
 
-made_number : (m : List ℕ) (at o j : ℕ) (type : Y.LeafType) (items : List T.InitialItem) → IsLimited type → IsInitial type items → at + 204 + o ≤ length m → There (with_number_made m at o j (data_by type (begin_of items) (begin_text type items))) (at + (160 + o)) (content_of type (begin_of items) (begin_text type items))
+made_number : (m : List ℕ) (at o j : ℕ) (type : Y.LeafType) (items : List T.InitialItem) → IsLimited type → AreConstants type items → at + 204 + o ≤ length m → There (with_number_made m at o j (data_by type (begin_of items) (begin_text type items))) (at + (160 + o)) (content_of type (begin_of items) (begin_text type items))
 made_number m at o j type items is begins inside =
     subst (There (with_number_made m at o j (data_by type (begin_of items) (begin_text type items))) (at + (160 + o))) (sym (content_numeric type (begin_of items) (begin_text type items) (begin_fits type items is begins))) (made_scalar m at o j type items is begins inside)
 
@@ -342,14 +332,12 @@ text_made varying most m bytes text at o j room there =
     (text_beside varying most place (with_bytes bytes place m) text (name_bytes (VariableName (j + 1))) (at + (144 + o)) (omega (arith, room, one)) (inl (omega arith)) there)
 
 begin_size : (n : ℕ) (items : List T.InitialItem) → length (begin_text (Y.CharacterLeaf (Y.ConstantExtent (pos n))) items) ≡ n
-begin_size n [] = length-replicate {A = ℕ} n 32
-begin_size n (i ∷ is) = fitted_length n (constant_text i.value)
+begin_size n items = fitted_length n (constant_text (initial_at items 0))
 
 begin_few : (n : ℕ) (items : List T.InitialItem) → length (begin_text (Y.VaryingLeaf (Y.ConstantExtent (pos n))) items) ≤ n
-begin_few n [] = omega arith
-begin_few n (i ∷ is) = taken_most n (constant_text i.value)
+begin_few n items = taken_most n (constant_text (initial_at items 0))
 
-made_content : (m : List ℕ) (at o j : ℕ) (type : Y.LeafType) (items : List T.InitialItem) → IsScalar type → IsInitial type items → at + 200 + o + length (data_by type (begin_of items) (begin_text type items)) ≤ length m → There (with_number_made m at o j (data_by type (begin_of items) (begin_text type items))) (at + (160 + o)) (content_of type (begin_of items) (begin_text type items))
+made_content : (m : List ℕ) (at o j : ℕ) (type : Y.LeafType) (items : List T.InitialItem) → IsScalar type → AreConstants type items → at + 200 + o + length (data_by type (begin_of items) (begin_text type items)) ≤ length m → There (with_number_made m at o j (data_by type (begin_of items) (begin_text type items))) (at + (160 + o)) (content_of type (begin_of items) (begin_text type items))
 made_content m at o j (Y.FixedLeaf p) items is begins room =
     let four = kind_length (store_kind (Y.FixedLeaf p)) (word (begin_of items)) in
     made_number m at o j (Y.FixedLeaf p) items is begins (omega (arith, room, four))
@@ -379,7 +367,7 @@ array_there m at o j count type z fits room =
     subst (λ q. There (with_number_made m at o j bytes) q (Many count (contents_of type z))) here
     (elements_beside (name_bytes (VariableName (j + 1))) (with_bytes bytes place m) (at + (144 + o)) place count (contents_of type z) (omega (arith, room, one)) (inr (omega arith)) (elements_written type z m place count (omega (arith, room)) fits))
 
-made_kind : (m : List ℕ) (at o j : ℕ) (type : Y.LeafType) (bs : List Bounds) (items : List T.InitialItem) → IsHeld type bs → IsBegun type bs items → at + 200 + o + length (data_for type bs items) ≤ length m → There (with_number_made m at o j (data_for type bs items)) (at + (160 + o)) (content_by type bs (begin_of items) (begin_text type items) (numbers_of items))
+made_kind : (m : List ℕ) (at o j : ℕ) (type : Y.LeafType) (bs : List Bounds) (items : List T.InitialItem) → IsHeld type bs → AreConstants type items → at + 200 + o + length (data_for type bs items) ≤ length m → There (with_number_made m at o j (data_for type bs items)) (at + (160 + o)) (content_by type bs (begin_of items) (begin_text type items) (numbers_of items))
 made_kind m at o j type [] items is begins room = made_content m at o j type items is begins room
 made_kind m at o j type (b ∷ bs) items is begins room =
     let count = element_count (b ∷ bs) in
@@ -387,7 +375,7 @@ made_kind m at o j type (b ∷ bs) items is begins room =
     array_there m at o j count type (numbers_of items) (λ p below. numbers_fit type items p is.0 (all_given type items is.0 begins).0) (omega (arith, room, long))
 
 -- the frame with one more variable
-pub more_stands : (kind : ℕ → Declared) (words j : ℕ) (small' : words ≤ most_code) (few : room_of (sizes_of kind) j ≤ 2 ^ 20) (few' : room_of (sizes_of kind) (suc j) ≤ 2 ^ 20) (first : List ℕ) (t : ℕ → ℕ) (b : Base) (m : List ℕ) → ((i : ℕ) → i < suc j → IsHeld (kind i).kind.type (kind i).kind.bounds) → IsBegun (kind j).kind.type (kind j).kind.bounds (kind j).initial → length m ≡ memory_size → Stands (main_frame words (sizes_of kind) j small' few) first (begin_contents kind) t b m → Stands (main_frame words (sizes_of kind) (suc j) small' few') first (begin_contents kind) t b (with_number_made m (main_frame words (sizes_of kind) j small' few).at (room_of (sizes_of kind) j) j (data_of (kind j)))
+pub more_stands : (kind : ℕ → Declared) (words j : ℕ) (small' : words ≤ most_code) (few : room_of (sizes_of kind) j ≤ 2 ^ 20) (few' : room_of (sizes_of kind) (suc j) ≤ 2 ^ 20) (first : List ℕ) (t : ℕ → ℕ) (b : Base) (m : List ℕ) → ((i : ℕ) → i < suc j → IsHeld (kind i).kind.type (kind i).kind.bounds) → AreConstants (kind j).kind.type (kind j).initial → length m ≡ memory_size → Stands (main_frame words (sizes_of kind) j small' few) first (begin_contents kind) t b m → Stands (main_frame words (sizes_of kind) (suc j) small' few') first (begin_contents kind) t b (with_number_made m (main_frame words (sizes_of kind) j small' few).at (room_of (sizes_of kind) j) j (data_of (kind j)))
 more_stands kind words j small' few few' first t b m held begins len o =
     let f = main_frame words (sizes_of kind) j small' few in
     let above = f.above_statics in

@@ -58,25 +58,15 @@ IsConstantOf (Y.FixedLeaf p) T.InitialSkip = ⊤
 IsConstantOf Y.BitLeaf (T.InitialBit b) = ⊤
 IsConstantOf Y.BitLeaf T.InitialSkip = ⊤
 IsConstantOf (Y.CharacterLeaf (Y.ConstantExtent (pos n))) (T.InitialText bytes) = length bytes ≤ 1024
+IsConstantOf (Y.CharacterLeaf (Y.ConstantExtent (pos n))) T.InitialSkip = ⊤
 IsConstantOf (Y.VaryingLeaf (Y.ConstantExtent (pos n))) (T.InitialText bytes) = length bytes ≤ 1024
+IsConstantOf (Y.VaryingLeaf (Y.ConstantExtent (pos n))) T.InitialSkip = ⊤
 IsConstantOf _ _ = ⊥
 
--- any number of these, of which the first that is repeated at all is used
+-- any number of these; a scalar begins with the first that is repeated at all
 abbrev pub AreConstants : Y.LeafType → List T.InitialItem → Type 0
 AreConstants type [] = ⊤
 AreConstants type (i ∷ is) = (i.repetition < 2 ^ 31) × (IsConstantOf type i.value × AreConstants type is)
-
--- none, or one
-abbrev pub IsConstantIf : Y.LeafType → List T.InitialItem → Type 0
-IsConstantIf type [] = ⊤
-IsConstantIf type (i ∷ []) = (i.repetition ≡ 1) × IsConstantOf type i.value
-IsConstantIf type _ = ⊥
-
--- INITIAL of numbers and bits, and of texts
-abbrev pub IsInitial : Y.LeafType → List T.InitialItem → Type 0
-IsInitial (Y.CharacterLeaf extent) items = IsConstantIf (Y.CharacterLeaf extent) items
-IsInitial (Y.VaryingLeaf extent) items = IsConstantIf (Y.VaryingLeaf extent) items
-IsInitial type items = AreConstants type items
 
 -- ---- arrays
 
@@ -99,13 +89,13 @@ abbrev pub IsBounds : Bounds → Type 0
 IsBounds b = (is_of_precision 31 b.lower ≡ true) × ((is_of_precision 31 b.upper ≡ true) × (int_le b.lower b.upper ≡ true))
 
 abbrev pub AreBounds : List Bounds → Type 0
-AreBounds [] = Unit {0}
+AreBounds [] = ⊤
 AreBounds (b ∷ bs) = IsBounds b × AreBounds bs
 
 -- FIXED BINARY of 1 to 31 bits, and BIT(1)
 abbrev pub IsElementType : Y.LeafType → Type 0
 IsElementType (Y.FixedLeaf p) = (1 ≤ p) × (p ≤ 31)
-IsElementType Y.BitLeaf = Unit {0}
+IsElementType Y.BitLeaf = ⊤
 IsElementType _ = ⊥
 
 -- a scalar, or an array of up to eight dimensions
@@ -113,17 +103,12 @@ abbrev pub IsHeld : Y.LeafType → List Bounds → Type 0
 IsHeld type [] = IsScalar type
 IsHeld type (b ∷ bs) = IsElementType type × ((IsBounds b × AreBounds bs) × (length bs ≤ 7))
 
--- what INITIAL gives it: an array has any constants, or none
-abbrev pub IsBegun : Y.LeafType → List Bounds → List T.InitialItem → Type 0
-IsBegun type [] items = IsInitial type items
-IsBegun type (b ∷ bs) items = AreConstants type items
-
 pub record IsPlain (d : Y.DeclaredVariable) : Type 0 where
   pub type : Y.LeafType
   pub bounds : List Bounds
   pub initial : List T.InitialItem
   pub held : IsHeld type bounds
-  pub begins : IsBegun type bounds initial
+  pub begins : AreConstants type initial
   pub is : d ≡ array_variable type bounds initial
 
 abbrev pub ArePlain : List Y.DeclaredVariable → Type 0
@@ -194,12 +179,7 @@ pub record IsDimension (block : ℕ) (types : Types) (r : Y.Reference) (dimensio
   pub among : slice_get (bound ∷ bounds) place ≡ Some asked
   pub is : r ≡ Y.Referring (record { class = Y.AutomaticClass; block = block; level = 0; index = index }) Y.NotLocated (record { first = 0; count = 1 }) Y.NoNumber
 
--- a variable that holds a number
-pub record IsOwnNumber (block : ℕ) (types : Types) (r : Y.Reference) : Type 0 where
-  pub precision : ℕ
-  pub own : IsOwn block types (Y.FixedLeaf precision) r
-
--- one that holds a text
+-- a variable that holds a text
 pub record IsOwnText (block : ℕ) (types : Types) (r : Y.Reference) : Type 0 where
   pub varying : Bool
   pub most : ℕ
