@@ -17,7 +17,7 @@ use Rattle.pli_typing.specs.Signatures.{rounded_up}
 use Rattle.pli_coding.specs.Frames.{MemoryParts}
 use Rattle.pli_coding.specs.SignatureTable.{table_of}
 use Rattle.pli_coding.specs.Images.{picture_of_code, code_of}
-use Rattle.pli_meaning.specs.Headline.{Picture}
+use Rattle.pli_meaning.specs.Pictures.{Picture}
 
 -- where things lie: the stacks, and the heap with its capacity, up to the end
 pub record Short : Type 0 where

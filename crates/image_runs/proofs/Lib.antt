@@ -1,4 +1,1 @@
-mod Carried
-mod FormatsCarried
-mod ServicesCarried
-pub mod RunsCarried
+mod RunRows

@@ -1,4 +1,2 @@
-// Runs of images over the services of the whole language, as definitions, and their laws.
+// Runs of images over the services of the whole language, as definitions.
 #![tactic(auto)]
-
-pub mod laws;

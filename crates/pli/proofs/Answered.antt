@@ -4,7 +4,7 @@ use Rattle.rv_meaning.specs.Machine.{IsValidBase}
 use Rattle.rv_meaning.specs.Images as Images
 use Rattle.rv_meaning.specs.Tables.{TableSignature}
 use Rattle.pli_typing.specs.TypedTree as Y
-use Rattle.pli_meaning.specs.Headline.{Picture}
+use Rattle.pli_meaning.specs.Pictures.{Picture}
 use Rattle.pli_coding.specs.Images.{picture_of}
 use Rattle.pli_coding.specs.SignatureTable.{table_of}
 use Rattle.image_runs.specs.Runs.{Run, run_of, shown_by}

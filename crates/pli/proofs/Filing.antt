@@ -4,7 +4,7 @@ use Rattle.std.specs.Prelude.{slice_index}
 use Rattle.rv_meaning.specs.declared.instr.Instr.{Instr}
 use Rattle.rv_meaning.specs.Encoding.{word_of, Fits}
 use Rattle.rv_meaning.specs.Images.{Image, IsInstruction, IsLoadable}
-use Rattle.pli_meaning.specs.Headline.{Picture}
+use Rattle.pli_meaning.specs.Pictures.{Picture}
 use Rattle.rv_machine.specs.Fitting.{AllFit}
 use Rattle.rv_meaning.specs.Tables.{TableSignature}
 use Rattle.pli_run.specs.Running.{IsPicture, IsTabled}

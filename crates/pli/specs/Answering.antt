@@ -9,7 +9,7 @@ use Rattle.pli_meaning.specs.Executing.{meaning}
 use Rattle.rv_meaning.specs.Machine.{IsValidBase}
 use Rattle.rv_meaning.specs.Images.{Image}
 use Rattle.rv_meaning.specs.Tables.{TableSignature}
-use Rattle.pli_meaning.specs.Headline.{Picture}
+use Rattle.pli_meaning.specs.Pictures.{Picture}
 use Rattle.pli_coding.specs.Images.{picture_of}
 use Rattle.pli_coding.specs.SignatureTable.{table_of}
 use Rattle.image_runs.specs.Runs.{run_of, shown_by}

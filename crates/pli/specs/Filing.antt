@@ -4,7 +4,7 @@ use Rattle.pli_meaning.specs.declared.outcome.Outcome.{Outcome}
 use Rattle.rv_meaning.specs.Machine.{IsValidBase}
 use Rattle.rv_meaning.specs.Images.{Image, HasBytes}
 use Rattle.rv_meaning.specs.Tables.{TableSignature}
-use Rattle.pli_meaning.specs.Headline.{Picture}
+use Rattle.pli_meaning.specs.Pictures.{Picture}
 use Rattle.image_runs.specs.Runs.{run_of}
 use Rattle.pli_run.specs.Running.{IsPicture, IsTabled, Tells}
 use Rattle.pli_run.specs.declared.run.RunFault.{RunFault}

@@ -9,7 +9,7 @@ use Rattle.rv_meaning.specs.Images.{Image, image}
 use Rattle.rv_meaning.specs.Tables.{table_words}
 use Rattle.pli_typing.specs.TypedTree as Y
 use Rattle.pli_meaning.specs.DeclaredShapes.{head_of}
-use Rattle.pli_meaning.specs.Headline.{Picture}
+use Rattle.pli_meaning.specs.Pictures.{Picture}
 use Rattle.pli_coding.specs.Registers.{zero_register, return_register, stack_register, frame_register, a0, a1, a2, a3, a4, u0, u1}
 use Rattle.pli_coding.specs.Assembly.{NumberWord, ProcedureEntry, RaiseCondition, RaiseError, ErrorEnd, DataPlace, Plain, BaseIn, OffsetOf, CallTo, JumpAhead, Mark, Code, size_of}
 use Rattle.pli_coding.specs.Linking.{linked, links_of, data_bytes}

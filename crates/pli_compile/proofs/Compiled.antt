@@ -16,7 +16,7 @@ use Rattle.pli_language.proofs.UniqueSource.{never_both, spelled_once}
 use Rattle.pli_lex.proofs.Unique.{one_list, not_both}
 use Rattle.pli_typing.specs.Resolving.{typing_faults, IsMistyped, Resolves, resolves}
 use Rattle.pli_typing.specs.TypedTree as Y
-use Rattle.pli_meaning.specs.Headline.{step_cost}
+use Rattle.pli_meaning.specs.Pictures.{step_cost}
 use Rattle.pli_coding.specs.Images.{image_of, picture_of}
 use Rattle.rv_meaning.specs.Encoding.{word_of}
 use Rattle.rv_meaning.specs.Images as Images

@@ -9,7 +9,7 @@ use Rattle.pli_typing.specs.Signatures.{Bounds}
 use Rattle.pli_typing.specs.TypedTree as Y
 use Rattle.pli_language.specs.Tree as T
 use Rattle.pli_meaning.specs.DeclaredShapes.{kind_of}
-use Rattle.pli_meaning.specs.Headline.{first_bytes}
+use Rattle.pli_meaning.specs.Pictures.{first_bytes}
 use Rattle.pli_serving.specs.ServiceState.{Services}
 use Rattle.pli_serving.specs.Bytes.{word_at}
 use Rattle.pli_serving.specs.InitialValues.{initial_values}

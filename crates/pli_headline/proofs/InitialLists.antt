@@ -9,7 +9,7 @@ use Rattle.rv_meaning.specs.declared.instr.Instr.{Instr}
 use Rattle.rv_meaning.specs.Memory.{bytes_of_words}
 use Rattle.pli_language.specs.Tree as T
 use Rattle.pli_typing.specs.Signatures.{Bounds, LeafKind, Leaf}
-use Rattle.pli_meaning.specs.Headline.{first_bytes}
+use Rattle.pli_meaning.specs.Pictures.{first_bytes}
 use Rattle.pli_serving.specs.Bytes.{is_data, word_at}
 use Rattle.pli_serving.specs.Finding.{Call}
 use Rattle.pli_serving.specs.ServiceState.{Services}

@@ -2,7 +2,7 @@
 use Rattle.std.proofs.Common.{◌≡◌, ℕ, zero, suc, ◌+◌, ◌<◌, inr, List, [], ◌∷◌, ◌++◌, length, Option, Some, None, true, refl, sym, subst, arith, ◌^◌}
 use Rattle.pli_typing.specs.TypedTree as Y
 use Rattle.pli_meaning.specs.DeclaredShapes.{variables_of_block}
-use Rattle.pli_meaning.specs.Headline.{first_bytes}
+use Rattle.pli_meaning.specs.Pictures.{first_bytes}
 use Rattle.pli_coding.specs.Assembly.{Datum, Code}
 use Rattle.pli_coding.specs.Environments.{none_taken}
 use Rattle.pli_coding.specs.Frames.{automatic_place}

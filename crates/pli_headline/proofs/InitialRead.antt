@@ -13,7 +13,7 @@ use Rattle.pli_coding.specs.Assembly.{Datum, InitialValues, DataPlace, Code}
 use Rattle.pli_coding.specs.StaticForms.{initial_datum}
 use Rattle.pli_coding.specs.Linking.{Links, links_of, place_of}
 use Rattle.pli_coding.specs.Images.{linked_code, picture_of_code}
-use Rattle.pli_meaning.specs.Headline.{first_bytes}
+use Rattle.pli_meaning.specs.Pictures.{first_bytes}
 use Rattle.pli_headline.specs.Headline.{FitsMemory}
 use Rattle.pli_headline.specs.ProvedSoFar.{plain_variable, text_leaf, IsHeld, IsElementType, Kind, alone, AreConstants}
 use Rattle.pli_headline.proofs.Engine.{call_at}

@@ -13,7 +13,7 @@ use Rattle.pli_meaning.specs.Executing as M
 use Rattle.pli_meaning.specs.Executing.{meaning, run}
 use Rattle.pli_meaning.specs.Laws.{StorageStays, StorageActsAllowed}
 use Rattle.rv_meaning.specs.Tables.{TableSignature}
-use Rattle.pli_meaning.specs.Headline.{Picture, first_machine}
+use Rattle.pli_meaning.specs.Pictures.{Picture, first_machine}
 use Rattle.image_runs.specs.Runs.{Whole, Run, Runs, Ended, Stopped, next, run_on, shown_by}
 use Rattle.pli_headline.specs.Headline.{Keeps, Headline}
 use Rattle.pli_headline.proofs.Engine.{Base, at_base, run_on-add, run_on-ended, run_on-stopped}

@@ -9,7 +9,7 @@ use Rattle.pli_language.specs.Tree as T
 use Rattle.pli_language.specs.Formats.{format_moves_data, formats_move_data}
 use Rattle.pli_typing.specs.TypedTree as Y
 use Rattle.image_runs.specs.Runs.{Stopped, layout_of, shown_by}
-use Rattle.pli_meaning.specs.Headline.{step_cost}
+use Rattle.pli_meaning.specs.Pictures.{step_cost}
 use Rattle.pli_headline.specs.Headline.{parts}
 use Rattle.pli_meaning.specs.Executing.{labels_in}
 use Rattle.pli_headline.specs.ProvedSoFar.{IsProvedSoFar, ArePlain, Types, AreProvedStatements, AllJumpAround, main_outer, all_labels, AreProvedFormats, AreProvedPairs, IsTimes, HasData, IsOwn, IsOwnText, IsTarget, plain_variable, text_leaf, alone, array_variable, IsProvedNumber, IsElement, IsDimension}

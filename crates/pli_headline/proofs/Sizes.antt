@@ -12,7 +12,7 @@ use Rattle.pli_typing.specs.Signatures.{rounded_up}
 use Rattle.pli_typing.specs.TypedTree as Y
 use Rattle.pli_language.specs.Tree as T
 use Rattle.pli_meaning.specs.DeclaredShapes.{variables_of_block}
-use Rattle.pli_meaning.specs.Headline.{Picture, first_bytes}
+use Rattle.pli_meaning.specs.Pictures.{Picture, first_bytes}
 use Rattle.rv_meaning.specs.declared.instr.BranchTest.TheVariants as Test
 use Rattle.pli_coding.specs.Registers.{zero_register, a0, a1, a2, u1, frame_register}
 use Rattle.pli_coding.specs.Assembly.{Code, size_of, JumpAhead, JumpBack}

@@ -9,7 +9,7 @@ use Rattle.rv_meaning.specs.Encoding.{word_of}
 use Rattle.rv_meaning.specs.Machine.{memory_size}
 use Rattle.rv_meaning.proofs.ImageBytes.{length-bytes_of_words}
 use Rattle.pli_typing.specs.Signatures.{rounded_up}
-use Rattle.pli_meaning.specs.Headline.{first_bytes}
+use Rattle.pli_meaning.specs.Pictures.{first_bytes}
 use Rattle.pli_coding.specs.Assembly.{InitialLeaf, Datum, ConstantBytes, InitialValues, NumberWord, StaticStorage, same_datum, DataPlace, Code, size_of}
 use Rattle.pli_coding.specs.StaticData.{once, is_initial, is_constant, is_word, is_storage, values_of, datum_size, begins_at, PlacedDatum, placed_from, datum_place, leaf_bytes, datum_bytes, bytes_from, static_data}
 use Rattle.pli_coding.specs.Linking.{place_of, data_start, links_of, data_bytes}

@@ -6,7 +6,7 @@ use Rattle.pli_typing.specs.TypedTree as Y
 use Rattle.pli_meaning.specs.DeclaredShapes.{variables_of_block}
 use Rattle.pli_meaning.specs.StorageState.{first_state}
 use Rattle.pli_meaning.specs.Executing.{meaning, run}
-use Rattle.pli_meaning.specs.Headline.{first_bytes}
+use Rattle.pli_meaning.specs.Pictures.{first_bytes}
 use Rattle.pli_serving.specs.ServiceState.{first_services}
 use Rattle.pli_coding.specs.SignatureTable.{table_of}
 use Rattle.pli_coding.specs.Entries.{variables_words}

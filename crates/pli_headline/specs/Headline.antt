@@ -7,7 +7,7 @@ use Rattle.pli_typing.specs.TypedTree as Y
 use Rattle.pli_meaning.specs.declared.outcome.End.TheVariants.{Running}
 use Rattle.pli_meaning.specs.World.{World}
 use Rattle.pli_meaning.specs.Executing.{meaning}
-use Rattle.pli_meaning.specs.Headline.{Picture, step_cost}
+use Rattle.pli_meaning.specs.Pictures.{Picture, step_cost}
 use Rattle.area_keeper.specs.Chain.{chain}
 use Rattle.pli_coding.specs.Frames.{MemoryParts, usual_parts}
 use Rattle.pli_coding.specs.SignatureTable.{table_of}

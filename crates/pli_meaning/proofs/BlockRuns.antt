@@ -299,6 +299,15 @@ put_sum-runs :
 unfolding computing
 put_sum-runs = refl
 
+put_sum-goes_on :
+    map (run_within put_sum []) (0 ∷ 3 ∷ 4 ∷ []) ≡ (
+    running 0 [] [] ∷
+    running 3 (codes "    3") [] ∷
+    Some (record { acts = 4; output = codes "    3" ++ (10 ∷ []); raised = []; end = E.Finished }) ∷
+    [])
+unfolding computing
+put_sum-goes_on = refl
+
 -- T: PROC OPTIONS(MAIN);
 -- DCL I FIXED BIN(31); DO I = 'X' TO 1; END;
 -- END T;

@@ -1,8 +1,3 @@
-mod MeaningRows
-pub mod Steps
-pub mod Growth
-pub mod Engine
-pub mod Whole
 mod AreaRuns
 mod BlockRuns
 mod ConditionRuns

@@ -12,7 +12,6 @@ use Rattle.pli_typing.specs.Signatures as D
 use Rattle.pli_typing.specs.Signatures.{LeafKind}
 use Rattle.pli_meaning.specs.Stream.{column_of, line_feed, blanks}
 use Rattle.pli_typing.specs.TypedTree as Y
-use Rattle.pli_meaning.proofs.Steps.{prefix_append, counted_shows, raising_shows, field_shows}
 use Rattle.pli_meaning.specs.BasicValues.{Name, NullName, VariableName, BasedName, BasicValue}
 use Rattle.pli_meaning.specs.Contents.{Shape, Generation}
 use Rattle.pli_meaning.specs.StorageState.{OnUnit, SystemUnit, BlockUnit, Activation, force, AreaContents}
@@ -25,7 +24,7 @@ use Rattle.pli_meaning.specs.Placing as A
 use Rattle.pli_meaning.specs.StreamOrder.{Element}
 use Rattle.pli_meaning.specs.Streaming as S
 use Rattle.pli_meaning.specs.Executing as M
-use Rattle.pli_meaning.proofs.StorageSteps.{written_shows, Agree, give_agrees, stuck_agrees, stuck_self, bind_agrees, then_agrees, looked_agrees, stored_agrees, act_agrees, finish_agrees, returns_agrees, jumps_agrees, choose_agrees, given_agrees, leaving_agrees, while_agrees, list_agrees}
+use Rattle.pli_meaning.proofs.StorageSteps.{prefix_append, counted_shows, raising_shows, field_shows, written_shows, Agree, give_agrees, stuck_agrees, stuck_self, bind_agrees, then_agrees, looked_agrees, stored_agrees, act_agrees, finish_agrees, returns_agrees, jumps_agrees, choose_agrees, given_agrees, leaving_agrees, while_agrees, list_agrees}
 
 -- ---- what stands around
 

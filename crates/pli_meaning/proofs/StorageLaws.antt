@@ -4,11 +4,10 @@ use Rattle.pli_meaning.specs.declared.outcome.End.TheVariants as E
 use Rattle.pli_meaning.specs.Laws.{Extends}
 use Rattle.pli_typing.specs.TypedTree as Y
 use Rattle.pli_meaning.specs.World.{World, first_world}
-use Rattle.pli_meaning.proofs.Steps.{extends_refl}
 use Rattle.pli_meaning.specs.StorageState.{State, first_state}
 use Rattle.pli_meaning.specs.Control.{Flow, Normal, Jump, Return, Ended, Paused, Stuck}
 use Rattle.pli_meaning.specs.Executing as M
-use Rattle.pli_meaning.proofs.StorageSteps.{Later, Follows, Kept}
+use Rattle.pli_meaning.proofs.StorageSteps.{extends_refl, Later, Follows, Kept}
 use Rattle.pli_meaning.proofs.StorageGrowth.{run_agrees}
 
 -- what is shown, from a flow

@@ -1,17 +1,65 @@
 -- The steps of the storage machine, compared at two numbers of acts allowed: up to a pause they come to the same, and what
 -- follows a pause shows all that was shown before it.
-use Rattle.std.proofs.Common.{◌≡◌, ◌≢◌, ℕ, zero, suc, ◌<◌, ◌≤◌, List, [], ◌∷◌, ◌++◌, Option, Some, None, Bool, true, false, refl, sym, ap, ◌∙◌, subst, arith}
+use Rattle.std.proofs.Common.{◌≡◌, ◌≢◌, ℕ, zero, suc, ◌+◌, ◌<◌, ◌≤◌, List, [], ◌∷◌, ◌++◌, Option, Some, None, Bool, true, false, refl, sym, ap, ◌∙◌, subst, arith, append_assoc, append-nil}
 use Rattle.std.specs.Prelude.{◌==◌, ◌&&◌, nat_lt, cond}
 use Rattle.std.proofs.lemmas.Bool.Decides.{nat_tests}
+use Rattle.pli_language.specs.declared.condition.Condition.{Condition}
 use Rattle.pli_meaning.specs.declared.outcome.End.{End}
 use Rattle.pli_meaning.specs.declared.outcome.End.TheVariants.{Running}
-use Rattle.pli_meaning.specs.Stream.{column_of, line_feed}
-use Rattle.pli_meaning.specs.World.{World, written, ending}
+use Rattle.pli_meaning.specs.Stream.{with_field, column_of, line_feed}
+use Rattle.pli_meaning.specs.World.{World, counted, written, raising, ending}
 use Rattle.pli_meaning.specs.Laws.{IsPrefix, Extends}
-use Rattle.pli_meaning.proofs.Steps.{prefix_refl, prefix_append, extends_refl, extends_trans, Shows}
 use Rattle.pli_meaning.specs.BasicValues.{BasicValue}
 use Rattle.pli_meaning.specs.StorageState.{State, with_world}
 use Rattle.pli_meaning.specs.Control.{Label, Flow, Normal, Jump, Return, Ended, Paused, Stuck, Meaning, give, stuck, flow_on, ◌>>=◌, ◌>>◌, looked, stored, act, finish, returns, jumps, choose, given, is_among, caught, list_from, repeated_while, left, leaving}
+
+-- ---- worlds
+
+prefix_refl : {X : Type 0} (xs : List X) → IsPrefix xs xs
+prefix_refl xs = record { rest = []; joined = sym (append-nil xs) }
+
+pub prefix_append : {X : Type 0} (xs ys : List X) → IsPrefix xs (xs ++ ys)
+prefix_append xs ys = record { rest = ys; joined = refl }
+
+prefix_trans : {X : Type 0} {xs ys zs : List X} → IsPrefix xs ys → IsPrefix ys zs → IsPrefix xs zs
+prefix_trans {xs = xs} p q =
+    record {
+      rest = p.rest ++ q.rest;
+      joined = q.joined ∙ ap (λ u. u ++ q.rest) p.joined ∙ append_assoc xs p.rest q.rest;
+    }
+
+pub extends_refl : (w : World) → Extends w w
+extends_refl w = record { acts = omega arith; output = prefix_refl w.output; raised = prefix_refl w.raised }
+
+extends_trans : {u v w : World} → Extends u v → Extends v w → Extends u w
+extends_trans p q =
+    record {
+      acts = omega (arith, p.acts, q.acts);
+      output = prefix_trans p.output q.output;
+      raised = prefix_trans p.raised q.raised;
+    }
+
+-- a change of the world that an act may make: it shows more, and counts one
+pub record Shows (change : World → World) : Type 0 where
+  pub more : (w : World) → Extends w (change w)
+  pub one : (w : World) → (change w).acts ≡ w.acts + 1
+  pub going : (w : World) → (change w).end ≡ w.end
+
+pub counted_shows : Shows counted
+counted_shows =
+    record {
+      more = λ w. record { acts = omega arith; output = prefix_refl w.output; raised = prefix_refl w.raised };
+      one = λ w. refl;
+      going = λ w. refl;
+    }
+
+pub raising_shows : (c : Condition) (code : ℕ) → Shows (raising c code)
+raising_shows c code =
+    record {
+      more = λ w. record { acts = omega arith; output = prefix_refl w.output; raised = prefix_append w.raised ((c, code) ∷ []) };
+      one = λ w. refl;
+      going = λ w. refl;
+    }
 
 -- an item that writes shows more
 pub written_shows : (item : List ℕ → List ℕ) → ((output : List ℕ) → IsPrefix output (item output)) → Shows (written item)
@@ -21,6 +69,9 @@ written_shows item longer =
       one = λ w. refl;
       going = λ w. refl;
     }
+
+pub field_shows : (field : List ℕ) → Shows (written (with_field field))
+field_shows field = written_shows (with_field field) (λ output. prefix_append output field)
 
 finished_by : (t : Bool) (output : List ℕ) → IsPrefix output (cond t output (output ++ line_feed ∷ []))
 finished_by true output = prefix_refl output

@@ -2,11 +2,9 @@
 use Rattle.std.specs.Prelude.{◌≡◌, ◌≢◌, ◌↔◌, ℕ, suc, ◌≤◌, List, ◌++◌, Some}
 use Rattle.pli_meaning.specs.declared.outcome.End.TheVariants.{Running}
 use Rattle.pli_meaning.specs.World.{World}
-use Rattle.pli_meaning.specs.Typed.{Program}
-use Rattle.pli_meaning.specs.Meaning.{meaning}
-use Rattle.pli_typing.specs.TypedTree as Y
+use Rattle.pli_typing.specs.TypedTree.{Program}
 use Rattle.pli_meaning.specs.Contents.{Placed, footprint_of, IsGap, IsOrdered, gap, with_placed, without_offset, greatest_end}
-use Rattle.pli_meaning.specs.Executing.{meaning as storage_meaning}
+use Rattle.pli_meaning.specs.Executing.{meaning}
 
 -- ys begins with xs
 pub record IsPrefix {X : Type 0} (xs ys : List X) : Type 0 where
@@ -20,26 +18,16 @@ pub record Extends (earlier later : World) : Type 0 where
   pub raised : IsPrefix earlier.raised later.raised
 
 -- with one more act allowed a program shows all that it showed
-abbrev pub MeaningGrows : Type 0
-MeaningGrows = (program : Program) (input : List ℕ) (k : ℕ) (w w' : World) → meaning program input k ≡ Some w → meaning program input (suc k) ≡ Some w' → Extends w w'
+abbrev pub StorageGrows : Type 0
+StorageGrows = (program : Program) (input : List ℕ) (k : ℕ) (w w' : World) → meaning program input k ≡ Some w → meaning program input (suc k) ≡ Some w' → Extends w w'
 
--- a meaning that has ended stays as it is
-abbrev pub EndedStays : Type 0
-EndedStays = (program : Program) (input : List ℕ) (k : ℕ) (w : World) → meaning program input k ≡ Some w → w.end ≢ Running → meaning program input (suc k) ≡ Some w
+-- a program that has ended stays as it is
+abbrev pub StorageStays : Type 0
+StorageStays = (program : Program) (input : List ℕ) (k : ℕ) (w : World) → meaning program input k ≡ Some w → w.end ≢ Running → meaning program input (suc k) ≡ Some w
 
 -- a program does at most the acts that are allowed, and exactly those where it is still running
-abbrev pub ActsAllowed : Type 0
-ActsAllowed = (program : Program) (input : List ℕ) (k : ℕ) (w : World) → meaning program input k ≡ Some w → (w.acts ≤ k) × (w.end ≡ Running → w.acts ≡ k)
-
--- the same three of the storage machine of the whole language
-abbrev pub StorageGrows : Type 0
-StorageGrows = (program : Y.Program) (input : List ℕ) (k : ℕ) (w w' : World) → storage_meaning program input k ≡ Some w → storage_meaning program input (suc k) ≡ Some w' → Extends w w'
-
-abbrev pub StorageStays : Type 0
-StorageStays = (program : Y.Program) (input : List ℕ) (k : ℕ) (w : World) → storage_meaning program input k ≡ Some w → w.end ≢ Running → storage_meaning program input (suc k) ≡ Some w
-
 abbrev pub StorageActsAllowed : Type 0
-StorageActsAllowed = (program : Y.Program) (input : List ℕ) (k : ℕ) (w : World) → storage_meaning program input k ≡ Some w → (w.acts ≤ k) × (w.end ≡ Running → w.acts ≡ k)
+StorageActsAllowed = (program : Program) (input : List ℕ) (k : ℕ) (w : World) → meaning program input k ≡ Some w → (w.acts ≤ k) × (w.end ≡ Running → w.acts ≡ k)
 
 -- an offset is found for so many bytes just where it is the least that fits
 abbrev pub GapExact : Type 0

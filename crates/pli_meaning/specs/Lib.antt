@@ -2,10 +2,6 @@ pub mod Stream
 pub mod World
 pub mod Codes
 pub mod Numbers
-pub mod Typed
-pub mod Storage
-pub mod Flow
-pub mod Meaning
 pub mod Texts
 pub mod InputLines
 pub mod BasicValues
@@ -22,7 +18,5 @@ pub mod Placing
 pub mod StreamOrder
 pub mod Streaming
 pub mod Executing
-pub mod Typing
 pub mod Laws
-pub mod Services
-pub mod Headline
+pub mod Pictures

@@ -1,5 +1,5 @@
 -- Numbers: FIXED BINARY(p) holds -2^p to 2^p - 1. Results are exact whole numbers that are then checked against p.
-use Rattle.std.specs.Prelude.{ℕ, ◌+◌, ◌-◌, ◌%◌, ◌^◌, ℤ, pos, negsuc, ◌+ℤ◌, ◌-ℤ◌, neg_ℤ, Bool, nat_lt, if◌then◌else◌}
+use Rattle.std.specs.Prelude.{ℕ, ◌+◌, ◌-◌, ◌%◌, ◌^◌, ℤ, pos, negsuc, neg_ℤ, Bool, nat_lt, if◌then◌else◌}
 use Rattle.pli_language.specs.declared.condition.Condition.{Condition}
 use Rattle.pli_typing.specs.TypedTree.{Sign, Positive, Negative}
 use Rattle.pli_meaning.specs.Codes.{fixed_overflow_code}
@@ -34,19 +34,9 @@ checked p z = if is_of_precision p z then Gives z else Raises FixedOverflow fixe
 abbrev pub operator_precision : ℕ
 operator_precision = 31
 
-pub data Operator : Type 0 where
-  Add Subtract : Operator
-
 abbrev pub signed_result : Sign → ℤ → ℤ
 signed_result Positive z = z
 signed_result Negative z = neg_ℤ z
 
-abbrev pub operator_result : Operator → ℤ → ℤ → ℤ
-operator_result Add a b = a +ℤ b
-operator_result Subtract a b = a -ℤ b
-
 abbrev pub sign_applied : Sign → ℤ → Checked
 sign_applied s z = checked operator_precision (signed_result s z)
-
-abbrev pub operator_applied : Operator → ℤ → ℤ → Checked
-operator_applied o a b = checked operator_precision (operator_result o a b)

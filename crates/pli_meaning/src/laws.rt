@@ -1,33 +1,18 @@
 // Laws of the definitions: each function's contract is one law, and calling it does nothing.
 
-ghost use Rattle.pli_meaning.specs.Laws.{MeaningGrows, EndedStays, ActsAllowed, StorageGrows, StorageStays, StorageActsAllowed, GapExact, FootprintsApart};
+ghost use Rattle.pli_meaning.specs.Laws.{StorageGrows, StorageStays, StorageActsAllowed, GapExact, FootprintsApart};
 
 /// The output and the raised conditions of a program at k acts are prefixes of those at k + 1.
-pub fn meaning_grows()
-    ensures { MeaningGrows }
-{}
-
-/// A meaning that has ended stays the same with more acts allowed.
-pub fn ended_stays()
-    ensures { EndedStays }
-{}
-
-/// A program does at most the acts that are allowed, and exactly those where it is still running.
-pub fn acts_allowed()
-    ensures { ActsAllowed }
-{}
-
-/// The output and the raised conditions of a program of the whole language at k acts are prefixes of those at k + 1.
 pub fn storage_grows()
     ensures { StorageGrows }
 {}
 
-/// A program of the whole language that has ended stays as it is with more acts allowed.
+/// A program that has ended stays as it is with more acts allowed.
 pub fn storage_stays()
     ensures { StorageStays }
 {}
 
-/// A program of the whole language does at most the acts that are allowed, and exactly those where it is still running.
+/// A program does at most the acts that are allowed, and exactly those where it is still running.
 pub fn storage_acts_allowed()
     ensures { StorageActsAllowed }
 {}

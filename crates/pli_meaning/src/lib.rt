@@ -1,4 +1,4 @@
-// What a program means, what the services do, and the headline that ties images to programs, with their laws.
+// What a program means, with the laws of that, and what of an image takes part in its run.
 #![tactic(auto)]
 
 pub mod laws;

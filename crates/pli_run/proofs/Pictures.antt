@@ -4,9 +4,9 @@ use Rattle.rv_meaning.specs.declared.instr.Instr.{Instr}
 use Rattle.rv_meaning.specs.Encoding.{word_of}
 use Rattle.rv_meaning.specs.Memory.{bytes_of_words}
 use Rattle.rv_meaning.specs.Machine.{memory_size}
-use Rattle.pli_meaning.specs.Headline.{Picture, first_bytes}
+use Rattle.pli_meaning.specs.Pictures.{Picture, first_bytes}
 use Rattle.rv_meaning.specs.Images.{Image}
-use Rattle.pli_meaning.specs.Headline.{loaded_at, first_machine}
+use Rattle.pli_meaning.specs.Pictures.{loaded_at, first_machine}
 use Rattle.image_runs.specs.Runs.{Run, Runs, run_on, run_of, shown_by}
 use Rattle.rv_meaning.specs.Tables.{TableSignature}
 use Rattle.rv_meaning.specs.Machine.{Loaded, State}

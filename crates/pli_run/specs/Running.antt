@@ -4,7 +4,7 @@ use Rattle.pli_meaning.specs.declared.outcome.Outcome.{Outcome}
 use Rattle.rv_meaning.specs.declared.instr.Fault.{Fault}
 use Rattle.rv_meaning.specs.Encoding.{word_of}
 use Rattle.pli_meaning.specs.World.{World}
-use Rattle.pli_meaning.specs.Headline.{Picture}
+use Rattle.pli_meaning.specs.Pictures.{Picture}
 use Rattle.image_runs.specs.Runs.{Run, Stopped, shown_by}
 use Rattle.rv_meaning.specs.Tables.{TableSignature, AreSignatures, table_words}
 use Rattle.rv_meaning.specs.Images.{Image}

@@ -3,7 +3,7 @@
 ghost use Rattle.std.specs.Prelude.{◌≡◌, ◌↔◌, ◌*◌, List, length, IsErrOf};
 ghost use Rattle.rv_meaning.specs.Machine.{IsValidBase};
 ghost use Rattle.rv_meaning.specs.Tables.{TableSignature};
-ghost use Rattle.pli_meaning.specs.Headline.{Picture};
+ghost use Rattle.pli_meaning.specs.Pictures.{Picture};
 ghost use Rattle.image_runs.specs.Runs.{run_of};
 ghost use Rattle.pli_run.specs.Running.{number_of, IsUnstarted, IsPicture, IsTabled, Tells};
 
