@@ -23,8 +23,9 @@ use Rattle.rv_meaning.specs.Images as Images
 use Rattle.rv_program.specs.Generated.{IsCodeOf}
 use Rattle.pli_headline.specs.ProvedSoFar.{IsProvedSoFar}
 use Rattle.pli_headline.specs.Headline.{parts, FitsMemory, HeadlineSoFar}
+use Rattle.pli_headline.specs.FirstPathTrees.{IsFirstPath}
 use Rattle.pli_headline.specs.FirstPath.{FirstPathProved, FirstPathSmall}
-use Rattle.pli_compile.specs.Compiling.{most_words, most_step_cost, FirstPathShort, IsFirstPath, IsImageFor, IsParsed, IsProgramOf, IsRefused, IsTreeCoded, out_of_memory, no_tokens, no_tree, bad_declarations, bad_types, RefusedNever}
+use Rattle.pli_compile.specs.Compiling.{most_words, most_step_cost, FirstPathShort, IsImageFor, IsParsed, IsProgramOf, IsRefused, IsTreeCoded, out_of_memory, no_tokens, no_tree, bad_declarations, bad_types, RefusedNever}
 use Rattle.pli_compile.proofs.Measures.{tree_weighs, lines_small, tokens_small}
 
 -- ---- images
@@ -45,12 +46,12 @@ costs program image tokens made short =
     omega (arith, words, same)
 
 proved_of : {s : List ℕ} {ts : List Token} {tree : T.Tree} {program : Y.Program} → Tokens s ts → Spells s ts tree → Resolves tree program → FirstPathProved → IsFirstPath tree → IsProvedSoFar program
-proved_of {tree = tree} read spelled (resolves kept) proved first = proved tree first.0 first.1 (lines_small spelled (tokens_small read))
+proved_of {tree = tree} read spelled (resolves kept) proved first = proved tree first (lines_small spelled (tokens_small read))
 
 pub first_path_short : FirstPathSmall → FirstPathShort
 first_path_short small s tokens tree program accepted (resolves kept) first =
     let lines = lines_small accepted.spelled (tokens_small accepted.read) in
-    let words = small tree first.0 first.1 lines in
+    let words = small tree first lines in
     let weighs = tree_weighs accepted.spelled (tokens_small accepted.read) in
     omega (arith, words, weighs)
 

@@ -1,5 +1,5 @@
 -- What image a source has, what that image keeps, and why a source without one is refused.
-use Rattle.std.specs.Prelude.{◌≡◌, ◌≢◌, ℕ, ◌+◌, ◌*◌, ◌≤◌, List, [], length, Some}
+use Rattle.std.specs.Prelude.{◌≡◌, ◌≢◌, ℕ, ◌+◌, ◌*◌, ◌≤◌, List, [], length}
 use Rattle.pli_language.specs.declared.fault.SourceFault.{SourceFault}
 use Rattle.pli_language.specs.declared.token.Token.{Token}
 use Rattle.pli_language.specs.Tokens.{Tokens, Refuses}
@@ -9,15 +9,14 @@ use Rattle.pli_language.specs.Declaring.{declaring_faults}
 use Rattle.pli_language.specs.Refusals.{IsLeast, want_of_memory}
 use Rattle.pli_typing.specs.Resolving.{typing_faults, IsMistyped, Resolves}
 use Rattle.pli_typing.specs.TypedTree as Y
-use Rattle.pli_meaning.specs.Typed.{Program}
-use Rattle.pli_meaning.specs.Typing.{typed}
-use Rattle.pli_meaning.specs.Headline.{step_cost}
+use Rattle.pli_meaning.specs.Pictures.{step_cost}
 use Rattle.pli_coding.specs.Images.{picture_of}
 use Rattle.pli_coding.specs.SignatureTable.{table_of}
 use Rattle.rv_meaning.specs.Images as Images
 use Rattle.rv_program.specs.Generated.{IsCodeOf}
 use Rattle.pli_headline.specs.ProvedSoFar.{IsProvedSoFar}
 use Rattle.pli_headline.specs.Headline.{parts, Headline}
+use Rattle.pli_headline.specs.FirstPathTrees.{IsFirstPath}
 use Rattle.pli_compile.specs.Stacks.{HasSmallFrames}
 
 -- a source has these tokens, which spell a tree that breaks no rule of declarations and none of typing
@@ -47,10 +46,6 @@ pub record IsParsed (s : List ℕ) (count : ℕ) (tree : T.Tree) : Type 0 where
 abbrev pub IsTreeCoded : T.Tree → Images.Image → Type 0
 IsTreeCoded tree image =
     (program : Y.Program) × Resolves tree program × IsCodeOf program image × HasSmallFrames program × Images.IsLoadable image
-
--- a program of the first path of the language: one procedure with declarations of FIXED BINARY(31), assignments and PUT EDIT
-abbrev pub IsFirstPath : T.Tree → Type 0
-IsFirstPath tree = (p : Program) × (typed tree ≡ Some p)
 
 -- the most words of code that so many tokens are compiled to, and so the most that an act costs
 abbrev pub most_words : ℕ → ℕ

@@ -17,7 +17,7 @@ use Rattle.pli_typing.specs.Converting.{Referent, Designates, Gives, Operand, re
 use Rattle.pli_typing.specs.Variables.{what_of}
 use Rattle.pli_typing.specs.References.{Named, given, found_referent, what_referent, expression, reference, qualified, arguments, expressions}
 use Rattle.pli_headline.specs.FirstForms.{IsFirstReference, IsFirstNumber}
-use Rattle.pli_headline.proofs.FirstPathTrees.{IsVariable, IsExpression, IsSign, IsSum}
+use Rattle.pli_headline.specs.FirstPathTrees.{IsVariable, IsExpression, IsSign, IsSum}
 use Rattle.pli_headline.proofs.FirstPathDeclared.{plain_held, letters_of, declarations_among}
 use Rattle.pli_headline.proofs.FirstPathDeclared as D
 use Rattle.pli_headline.proofs.FirstPathNames.{main_blocks, name_means, whole, whole_number, number_at}

@@ -3,8 +3,6 @@ use Rattle.std.proofs.Common.{◌≡◌, ℕ, zero, suc, ◌+◌, ◌*◌, ◌<�
 use Rattle.pli_language.specs.declared.expr.Place.{Place}
 use Rattle.pli_language.specs.Tree as T
 use Rattle.pli_language.specs.Declarations.{blocks_in_stmt}
-use Rattle.pli_meaning.specs.Typed.{Program}
-use Rattle.pli_meaning.specs.Typing.{typed}
 use Rattle.pli_typing.specs.Converting.{Referent, Designates, Operand}
 use Rattle.pli_typing.specs.References.{expression, reference}
 use Rattle.pli_typing.specs.Assigning.{assignment}
@@ -17,8 +15,8 @@ use Rattle.pli_coding.specs.Linking.{data_bytes}
 use Rattle.pli_coding.specs.Images.{code_of}
 use Rattle.pli_headline.specs.Headline.{parts, HeadlineSoFar}
 use Rattle.pli_headline.specs.FirstPath.{stmt_weight, items_weight, SmallLines, FirstPathFits, FirstPathKeeps}
-use Rattle.pli_headline.proofs.FirstPathTrees.{IsField, IsStatement, AreStatements}
-use Rattle.pli_headline.proofs.FirstPathDeclared.{Named, letters_of, IsBody, Body, main_items, first_path}
+use Rattle.pli_headline.specs.FirstPathTrees.{IsField, IsStatement, AreStatements, IsBody, main_items, IsFirstPath}
+use Rattle.pli_headline.proofs.FirstPathDeclared.{Named, letters_of, Body, body_of}
 use Rattle.pli_headline.proofs.FirstPathExpressions.{main_scope, IsWhole, variable_whole}
 use Rattle.pli_headline.proofs.FirstPathStatements.{main_context}
 use Rattle.pli_headline.proofs.FirstPathProved.{tree_with, main_program, typed_is, program_proved, first_path_proved}
@@ -75,7 +73,7 @@ among_data label place ns labels next _ h = absurd h
 body_data : (label : T.Name) (place : Place) (ns : List Named) (labels : List T.Name) (next : ℕ) (items : T.Items) → IsBody (letters_of ns) items → IsLightData (items_weight items) (stmts_data (statements (main_context label place ns labels) next items).value)
 unfolding statements
 body_data label place ns labels next (T.ItemThen (T.Declare ds at) rest) h =
-    let a = body_data label place ns labels next rest h in
+    let a = body_data label place ns labels next rest h.1 in
     let b = a.1 in
     (a.0, omega (arith, b))
 body_data label place ns labels next T.NoItem h = (tt, omega arith)
@@ -85,21 +83,20 @@ body_data label place ns labels next (T.ItemThen (T.EndLabels ls at) rest) h = a
 
 -- ---- static data
 
-program_data : (label : T.Name) (place : Place) (body : T.Items) (b : Body [] body) → place.line < 2 ^ 31 → SmallLines body → length (data_bytes (code_of parts (main_program label place b.names body))) ≤ 16 * items_weight body
+program_data : (label : T.Name) (place : Place) (body : T.Items) (b : Body body) → place.line < 2 ^ 31 → SmallLines body → length (data_bytes (code_of parts (main_program label place b.names body))) ≤ 16 * items_weight body
 unfolding program_proved
 program_data label place body b line l =
     let program = main_program label place b.names body in
-    let is = program_proved label place b.names body b.statements line l in
-    let d = body_data label place b.names (labels_in body) 2 body b.statements in
+    let is = program_proved label place b.names body b.holds line l in
+    let d = body_data label place b.names (labels_in body) 2 body b.holds in
     let n = statics_most (code_of parts program) (stmts_data is.body) (program_names program is.head.number is.head.line is.body is.plain (alone_of program (program_wider program is)) refl is.block.statements) d.0 in
     let m = d.1 in
     omega (arith, n, m)
 
-items_data : (items : T.Items) (p : Program) → typed (tree_with items) ≡ Some p → SmallLines items → length (data_bytes (code_of parts (typed_tree (tree_with items)))) ≤ 16 * items_weight items
-items_data items p e l =
-    let f = first_path items p e in
+items_data : (items : T.Items) → IsFirstPath (tree_with items) → SmallLines items → length (data_bytes (code_of parts (typed_tree (tree_with items)))) ≤ 16 * items_weight items
+items_data items f l =
     let lines = subst (λ is. SmallLines is) f.is l in
-    let b = f.declared in
+    let b = body_of f.body f.holds in
     let n = program_data f.label f.place f.body b lines.0.0 lines.0.1 in
     subst (λ is. length (data_bytes (code_of parts (typed_tree (tree_with is)))) ≤ 16 * items_weight is) (sym f.is)
     (subst (λ q. length (data_bytes (code_of parts q)) ≤ 16 * items_weight (main_items f.label f.place f.body)) (sym (typed_is f.label f.place f.body b lines.0.1))
@@ -108,15 +105,15 @@ items_data items p e l =
 -- ---- the laws
 
 pub first_path_fits : FirstPathFits
-first_path_fits tree p e l light =
-    let a = first_path_small tree p e l in
-    let b = items_data tree.procedures p e l in
+first_path_fits tree f l light =
+    let a = first_path_small tree f l in
+    let b = items_data tree.procedures f l in
     record { code_fits = omega (arith, a, light); statics_fit = omega (arith, b, light) }
 
 pub first_path_keeps : HeadlineSoFar → FirstPathKeeps
-first_path_keeps headline tree p e l light =
-    let n = first_path_small tree p e l in
+first_path_keeps headline tree f l light =
+    let n = first_path_small tree f l in
     record {
-      keeps = headline (typed_tree tree) (first_path_proved tree p e l) (first_path_fits tree p e l light);
+      keeps = headline (typed_tree tree) (first_path_proved tree f l) (first_path_fits tree f l light);
       cheap = omega (arith, n);
     }

@@ -1,7 +1,8 @@
 -- Each name of a program of the first path means a variable of the main procedure, which is all of it.
 use Rattle.std.proofs.Common.{◌≡◌, ◌⊎◌, inl, inr, ℕ, suc, ◌+◌, ◌<◌, List, [], ◌∷◌, map, length, Bool, true, false, Some, refl, sym, ap, ◌∙◌, subst, arith, true≢false, unwrap_or}
-use Rattle.std.specs.Prelude.{◌==◌, ◌&&◌, nat_lt, if◌then◌else◌, slice_get}
+use Rattle.std.specs.Prelude.{◌==◌, ◌&&◌, nat_lt, if◌then◌else◌, slice_get, Contains}
 use Rattle.std.proofs.lemmas.Bool.Decides.{nat_tests}
+use Rattle.std.proofs.lemmas.List.Elements.{Contains-append_cases, Contains-push_cases}
 use Rattle.pli_language.specs.declared.expr.Place.{Place}
 use Rattle.pli_language.specs.declared.scope.Found.TheVariants as F
 use Rattle.pli_language.specs.Keywords.{same_bytes}
@@ -9,13 +10,12 @@ use Rattle.pli_language.specs.Tree as T
 use Rattle.pli_language.specs.Declaring.{same_place}
 use Rattle.pli_language.specs.Declarations.{Block, Held, variable_declared, outermost}
 use Rattle.pli_language.specs.Means.{is_full_match, is_match, places, chosen, or_else, means_from, names_mean}
-use Rattle.pli_meaning.specs.Typing.{◌and_then◌, index_of}
 use Rattle.pli_typing.specs.TypedTree as Y
 use Rattle.pli_typing.specs.Converting.{Designated}
 use Rattle.pli_typing.specs.Variables.{variables_in, members_first, index_where, begins_at, part_of, part_from, leaves_of, with_members, from_place, is_structure}
 use Rattle.pli_typing.specs.Calls.{part_designated}
-use Rattle.pli_headline.proofs.FirstPathTrees.{IsDeclared, and_some}
-use Rattle.pli_headline.proofs.FirstPathDeclared.{Named, plain_held, letters_of, declarations_among, main_head}
+use Rattle.pli_headline.specs.FirstPathTrees.{Names, main_head}
+use Rattle.pli_headline.proofs.FirstPathDeclared.{Named, plain_held, letters_of, declarations_among}
 
 -- ---- the two blocks
 
@@ -32,13 +32,20 @@ abbrev pub Among : Named → List Named → Type 0
 Among n [] = ⊥
 Among n (m ∷ ms) = (n ≡ m) ⊎ Among n ms
 
-pub flipped : (a b : List ℕ) → same_bytes a b ≡ same_bytes b a
-flipped [] [] = refl
-flipped [] (y ∷ ys) = refl
-flipped (x ∷ xs) [] = refl
-flipped (x ∷ xs) (y ∷ ys) =
-    let e : (x == y) ≡ (y == x) = grind (arith, nat_tests) in
-    ap (λ t. t && same_bytes xs ys) e ∙ ap (λ t. (y == x) && t) (flipped xs ys)
+same_word : (word : List ℕ) → same_bytes word word ≡ true
+same_word [] = refl
+same_word (x ∷ xs) =
+    let e : (x == x) ≡ true = grind (arith, nat_tests) in ap (λ t. t && same_bytes xs xs) e ∙ same_word xs
+
+none_among : (word : List ℕ) → Contains [] word → ⊥
+none_among word h = let below : h.0 < 0 = h.1 in omega arith
+
+-- the first of the names, or one behind it
+among_cases : (name word : List ℕ) (names : Names) → Contains (name ∷ names) word → (name ≡ word) ⊎ Contains names word
+among_cases name word names h = elim (Contains-append_cases (name ∷ []) names word h) [ inl one ↦ inl (alone one) | inr more ↦ inr more ]
+  where
+    alone : Contains (name ∷ []) word → name ≡ word
+    alone one = elim (Contains-push_cases [] name word one) [ inl none ↦ absurd (none_among word none) | inr same ↦ same ]
 
 -- the first place among these from a number on where a name stands
 record Meant (word : List ℕ) (from : ℕ) (ns : List Named) : Type 0 where
@@ -73,18 +80,16 @@ meant_later word from n ns e m =
       stands = m.stands;
     }
 
-meant_next : (word : List ℕ) (from : ℕ) (n : Named) (ns : List Named) → (i : ℕ) → index_of (letters_of (n ∷ ns)) word ≡ Some i → ((from' : ℕ) → IsDeclared (letters_of ns) word → Meant word from' ns) → (t : Bool) → same_bytes n.0.letters word ≡ t → Meant word from (n ∷ ns)
-meant_next word from n ns i h later true e = meant_first word from n ns (flipped word n.0.letters ∙ e)
-meant_next word from n ns i h later false e =
-    let found : (index_of (letters_of ns) word and_then (λ i. Some (i + 1))) ≡ Some i =
-    subst (λ t. (if t then Some 0 else (index_of (letters_of ns) word and_then (λ i. Some (i + 1)))) ≡ Some i) e h in
-    let k = and_some (index_of (letters_of ns) word) (λ i. Some (i + 1)) i found in
-    meant_later word from n ns (flipped word n.0.letters ∙ e) (later (from + 1) (k.0, k.1))
+meant_next : (word : List ℕ) (from : ℕ) (n : Named) (ns : List Named) → (n.0.letters ≡ word) ⊎ Contains (letters_of ns) word → (Contains (letters_of ns) word → Meant word (from + 1) ns) → (t : Bool) → same_bytes word n.0.letters ≡ t → Meant word from (n ∷ ns)
+meant_next word from n ns h later true e = meant_first word from n ns e
+meant_next word from n ns (inl same) later false e =
+    absurd (true≢false (sym (subst (λ w. same_bytes w n.0.letters ≡ true) same (same_word n.0.letters)) ∙ e))
+meant_next word from n ns (inr more) later false e = meant_later word from n ns e (later more)
 
-meant : (word : List ℕ) (from : ℕ) (ns : List Named) → IsDeclared (letters_of ns) word → Meant word from ns
-meant word from [] h = absurd (cc h.1)
+meant : (word : List ℕ) (from : ℕ) (ns : List Named) → Contains (letters_of ns) word → Meant word from ns
+meant word from [] h = absurd (none_among word h)
 meant word from (n ∷ ns) h =
-    meant_next word from n ns h.0 h.1 (λ from' k. meant word from' ns k) (same_bytes n.0.letters word) refl
+    meant_next word from n ns (among_cases n.0.letters word (letters_of ns) h) (λ more. meant word (from + 1) ns more) (same_bytes word n.0.letters) refl
 
 -- a declared name means a variable of the main procedure
 pub record Means (label : T.Name) (place : Place) (ns : List Named) (word : List ℕ) : Type 0 where
@@ -94,7 +99,7 @@ pub record Means (label : T.Name) (place : Place) (ns : List Named) (word : List
   pub means_it : names_mean (main_blocks label place ns) 1 (word ∷ []) ≡ F.One (record { block = 1; index = index })
   pub stands : slice_get (declarations_among ns) index ≡ Some (variable_declared (plain_held named))
 
-pub name_means : (label : T.Name) (place : Place) (ns : List Named) (word : List ℕ) → IsDeclared (letters_of ns) word → Means label place ns word
+pub name_means : (label : T.Name) (place : Place) (ns : List Named) (word : List ℕ) → Contains (letters_of ns) word → Means label place ns word
 unfolding means_from
 name_means label place ns word h =
     let m = meant word 0 ns h in

@@ -3,8 +3,6 @@ use Rattle.std.proofs.Common.{◌≡◌, suc, ◌<◌, ◌^◌, List, [], ◌∷
 use Rattle.pli_language.specs.declared.expr.Place.{Place}
 use Rattle.pli_language.specs.Tree as T
 use Rattle.pli_language.specs.Declarations.{Block, outermost, blocks_in, blocks_in_item, blocks_of}
-use Rattle.pli_meaning.specs.Typed.{Program}
-use Rattle.pli_meaning.specs.Typing.{typed}
 use Rattle.pli_typing.specs.TypedTree as Y
 use Rattle.pli_typing.specs.Judging.{each}
 use Rattle.pli_typing.specs.Variables.{variables_in}
@@ -14,7 +12,8 @@ use Rattle.pli_typing.specs.Resolving.{statements, program_resolved, resolved, t
 use Rattle.pli_headline.specs.FirstForms.{plain_number, AreNumbers, IsFirstProgram, AreFirstStatements}
 use Rattle.pli_headline.proofs.FirstForms.{program_wider}
 use Rattle.pli_headline.specs.FirstPath.{SmallLines, FirstPathProved}
-use Rattle.pli_headline.proofs.FirstPathDeclared.{Named, letters_of, declarations_among, IsBody, Body, main_head, main_items, first_path}
+use Rattle.pli_headline.specs.FirstPathTrees.{IsBody, main_head, main_items, IsFirstPath}
+use Rattle.pli_headline.proofs.FirstPathDeclared.{Named, letters_of, declarations_among, Body, body_of}
 use Rattle.pli_headline.proofs.FirstPathNames.{main_block, main_blocks, groups_among, groups_in}
 use Rattle.pli_headline.proofs.FirstPathExpressions.{main_scope}
 use Rattle.pli_headline.proofs.FirstPathStatements.{main_context, no_blocks, list_proved}
@@ -24,11 +23,11 @@ use Rattle.pli_headline.proofs.FirstPathStatements.{main_context, no_blocks, lis
 abbrev pub tree_with : T.Items → T.Tree
 tree_with items = record { procedures = items }
 
-pub blocks_are : (label : T.Name) (place : Place) (body : T.Items) (b : Body [] body) → blocks_of (tree_with (main_items label place body)) ≡ main_blocks label place b.names
+pub blocks_are : (label : T.Name) (place : Place) (body : T.Items) (b : Body body) → blocks_of (tree_with (main_items label place body)) ≡ main_blocks label place b.names
 unfolding blocks_of blocks_in blocks_in_item
 blocks_are label place body b =
     ap (λ ds. outermost ∷ record { around = 1 ∷ 0 ∷ []; head = Some (main_head label place); declarations = ds } ∷ (blocks_in (1 ∷ 0 ∷ []) 2 body ++ [])) b.declares
-    ∙ ap (λ bs. outermost ∷ main_block label place b.names ∷ (bs ++ [])) (no_blocks (letters_of b.names) (1 ∷ 0 ∷ []) 2 body b.statements)
+    ∙ ap (λ bs. outermost ∷ main_block label place b.names ∷ (bs ++ [])) (no_blocks (letters_of b.names) (1 ∷ 0 ∷ []) 2 body b.holds)
 
 -- ---- its variables
 
@@ -78,11 +77,11 @@ resolved_so label place ns body h l =
     ap (λ ds. program_with label place ns body ds inside) (variables_plain label place ns)
     ∙ ap (λ ps. program_with label place ns body (plain_numbers ns) ps) m.alone
 
-pub typed_is : (label : T.Name) (place : Place) (body : T.Items) (b : Body [] body) → SmallLines body → typed_tree (tree_with (main_items label place body)) ≡ main_program label place b.names body
+pub typed_is : (label : T.Name) (place : Place) (body : T.Items) (b : Body body) → SmallLines body → typed_tree (tree_with (main_items label place body)) ≡ main_program label place b.names body
 unfolding resolved
 typed_is label place body b l =
     ap (λ bs. tree_of_blocks bs (main_items label place body)) (blocks_are label place body b)
-    ∙ resolved_so label place b.names body b.statements l
+    ∙ resolved_so label place b.names body b.holds l
 
 -- ---- the law
 
@@ -110,14 +109,13 @@ program_proved label place ns body h line l =
       };
     }
 
-items_proved : (items : T.Items) (p : Program) → typed (tree_with items) ≡ Some p → SmallLines items → IsFirstProgram (typed_tree (tree_with items))
-items_proved items p e l =
-    let f = first_path items p e in
+items_proved : (items : T.Items) → IsFirstPath (tree_with items) → SmallLines items → IsFirstProgram (typed_tree (tree_with items))
+items_proved items f l =
     let lines = subst (λ is. SmallLines is) f.is l in
-    let b = f.declared in
+    let b = body_of f.body f.holds in
     subst (λ is. IsFirstProgram (typed_tree (tree_with is))) (sym f.is)
     (subst (λ q. IsFirstProgram q) (sym (typed_is f.label f.place f.body b lines.0.1))
-    (program_proved f.label f.place b.names f.body b.statements lines.0.0 lines.0.1))
+    (program_proved f.label f.place b.names f.body b.holds lines.0.0 lines.0.1))
 
 pub first_path_proved : FirstPathProved
-first_path_proved tree p e l = program_wider (typed_tree tree) (items_proved tree.procedures p e l)
+first_path_proved tree f l = program_wider (typed_tree tree) (items_proved tree.procedures f l)

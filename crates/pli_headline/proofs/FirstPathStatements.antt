@@ -16,8 +16,8 @@ use Rattle.pli_coding.specs.Streams.{has_text}
 use Rattle.pli_headline.specs.ProvedSoFar.{AreProvedFormats, HasData}
 use Rattle.pli_headline.specs.FirstForms.{IsFirstItem, AreFirstItems, IsFirstStatement, AreFirstStatements}
 use Rattle.pli_headline.specs.FirstPath.{stmt_line, SmallLines}
-use Rattle.pli_headline.proofs.FirstPathTrees.{IsField, IsSingle, IsStatement, AreStatements}
-use Rattle.pli_headline.proofs.FirstPathDeclared.{Named, letters_of, IsBody}
+use Rattle.pli_headline.specs.FirstPathTrees.{IsField, IsSingle, IsStatement, AreStatements, IsBody}
+use Rattle.pli_headline.proofs.FirstPathDeclared.{Named, letters_of}
 use Rattle.pli_headline.proofs.FirstPathNames.{main_blocks}
 use Rattle.pli_headline.proofs.FirstPathExpressions.{main_scope, IsWhole, IsNumber, IsValue, value_proved, number_proved, variable_whole, expression_number}
 
@@ -98,7 +98,7 @@ no_blocks_among scope around next _ h = absurd h
 
 pub no_blocks : (scope : _) (around : List ℕ) (next : ℕ) (items : T.Items) → IsBody scope items → blocks_in around next items ≡ []
 unfolding blocks_in blocks_in_item
-no_blocks scope around next (T.ItemThen (T.Declare ds at) rest) h = no_blocks scope around (next + 0) rest h
+no_blocks scope around next (T.ItemThen (T.Declare ds at) rest) h = no_blocks scope around (next + 0) rest h.1
 no_blocks scope around next T.NoItem h = refl
 no_blocks scope around next (T.ItemThen (T.Statement ls s) rest) h = no_blocks_among scope around next (T.ItemThen (T.Statement ls s) rest) h
 no_blocks scope around next (T.ItemThen (T.Procedure head body) rest) h = absurd h
@@ -127,7 +127,7 @@ among_proved label place ns labels next _ h l = absurd h
 pub list_proved : (label : T.Name) (place : Place) (ns : List Named) (labels : List T.Name) (next : ℕ) (items : T.Items) → IsBody (letters_of ns) items → SmallLines items → ListProved label place ns labels next items
 unfolding statements
 list_proved label place ns labels next (T.ItemThen (T.Declare ds at) rest) h l =
-    let m = list_proved label place ns labels next rest h l.1 in
+    let m = list_proved label place ns labels next rest h.1 l.1 in
     record { proved = m.proved; alone = m.alone }
 list_proved label place ns labels next T.NoItem h l = record { proved = tt; alone = refl }
 list_proved label place ns labels next (T.ItemThen (T.Statement ls s) rest) h l = among_proved label place ns labels next (T.ItemThen (T.Statement ls s) rest) h l

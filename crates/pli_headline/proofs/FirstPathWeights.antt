@@ -1,5 +1,6 @@
 -- What a program of the first path comes to has at most two nodes for each unit of its tree's weight.
-use Rattle.std.proofs.Common.{◌≡◌, ℕ, ◌+◌, ◌*◌, ◌≤◌, List, [], ◌∷◌, length, Option, Some, None, refl, sym, ap, subst, arith}
+use Rattle.std.proofs.Common.{◌≡◌, ℕ, ◌+◌, ◌*◌, ◌≤◌, List, [], ◌∷◌, map, length, Option, Some, None, refl, sym, ap, ◌∙◌, subst, length-append, arith}
+use Rattle.std.proofs.lemmas.List.{length-map}
 use Rattle.pli_language.specs.declared.expr.Place.{Place}
 use Rattle.pli_language.specs.declared.expr.PrefixOp.{PrefixOp}
 use Rattle.pli_language.specs.declared.expr.PrefixOp.TheVariants as P
@@ -17,8 +18,8 @@ use Rattle.pli_typing.specs.Assigning.{assignment, computational, put_scalar, pu
 use Rattle.pli_typing.specs.Resolving.{statement, statements}
 use Rattle.pli_headline.specs.FirstPath.{expr_weight, exprs_weight, stmt_weight, declared_weight, items_weight}
 use Rattle.pli_headline.proofs.CodeSizes.{number_nodes, item_nodes, items_nodes, stmt_nodes, stmts_nodes}
-use Rattle.pli_headline.proofs.FirstPathTrees.{IsExpression, IsSign, IsSum, IsSingle, IsStatement, AreStatements}
-use Rattle.pli_headline.proofs.FirstPathDeclared.{Named, letters_of, IsBody, body_names, names_in}
+use Rattle.pli_headline.specs.FirstPathTrees.{IsExpression, IsSign, IsSum, IsSingle, IsStatement, AreStatements, names_in, names_of, IsBody}
+use Rattle.pli_headline.proofs.FirstPathDeclared.{Named, letters_of}
 use Rattle.pli_headline.proofs.FirstPathExpressions.{main_scope, IsWhole, IsNumber, variable_whole, expression_number}
 use Rattle.pli_headline.proofs.FirstPathStatements.{main_context}
 
@@ -151,17 +152,21 @@ among_light label place ns labels next (T.ItemThen (T.Statement [] s) rest) h =
     omega (arith, a, b)
 among_light label place ns labels next _ h = absurd h
 
-names_weigh : (ds : List T.DeclareItem) → names_in ds ≡ declared_weight ds
+names_weigh : (ds : List T.DeclareItem) → length (names_in ds) ≡ declared_weight ds
 names_weigh [] = refl
-names_weigh (d ∷ ds) = ap (λ n. length d.names + n) (names_weigh ds)
+names_weigh (d ∷ ds) =
+    length-append (map (λ (n : T.DeclaredName). n.name.letters) d.names) (names_in ds)
+    ∙ ap (λ k. k + length (names_in ds)) (length-map d.names (λ n. n.name.letters))
+    ∙ ap (λ k. length d.names + k) (names_weigh ds)
 
 -- the names weigh too
-pub body_light : (label : T.Name) (place : Place) (ns : List Named) (labels : List T.Name) (next : ℕ) (items : T.Items) → IsBody (letters_of ns) items → stmts_nodes (statements (main_context label place ns labels) next items).value + body_names items ≤ 2 * items_weight items
+pub body_light : (label : T.Name) (place : Place) (ns : List Named) (labels : List T.Name) (next : ℕ) (items : T.Items) → IsBody (letters_of ns) items → stmts_nodes (statements (main_context label place ns labels) next items).value + length (names_of items) ≤ 2 * items_weight items
 unfolding statements
 body_light label place ns labels next (T.ItemThen (T.Declare ds at) rest) h =
-    let a = body_light label place ns labels next rest h in
+    let a = body_light label place ns labels next rest h.1 in
     let b = names_weigh ds in
-    omega (arith, a, b)
+    let c = length-append (names_in ds) (names_of rest) in
+    omega (arith, a, b, c)
 body_light label place ns labels next T.NoItem h = omega arith
 body_light label place ns labels next (T.ItemThen (T.Statement ls s) rest) h =
     let a = among_light label place ns labels next (T.ItemThen (T.Statement ls s) rest) h in omega (arith, a)

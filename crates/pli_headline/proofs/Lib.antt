@@ -195,7 +195,6 @@ pub mod ProcedurePlaces
 pub mod LabelMarks
 pub mod Whole
 mod Rows
-pub mod FirstPathTrees
 pub mod FirstPathDeclared
 pub mod FirstPathNames
 pub mod FirstPathExpressions

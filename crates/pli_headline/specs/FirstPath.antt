@@ -1,14 +1,13 @@
 -- The programs of the first path among those for which the headline is proved.
-use Rattle.std.specs.Prelude.{◌≡◌, ℕ, ◌+◌, ◌*◌, ◌<◌, ◌≤◌, ◌^◌, List, [], ◌∷◌, length, Some, ⊤}
+use Rattle.std.specs.Prelude.{◌≡◌, ℕ, ◌+◌, ◌*◌, ◌<◌, ◌≤◌, ◌^◌, List, [], ◌∷◌, length, ⊤}
 use Rattle.pli_language.specs.Tree as T
 use Rattle.pli_typing.specs.TypedTree as Y
-use Rattle.pli_meaning.specs.Headline.{step_cost}
-use Rattle.pli_meaning.specs.Typed.{Program}
-use Rattle.pli_meaning.specs.Typing.{typed}
+use Rattle.pli_meaning.specs.Pictures.{step_cost}
 use Rattle.pli_typing.specs.Resolving.{typed_tree}
 use Rattle.pli_coding.specs.SignatureTable.{table_of}
 use Rattle.pli_coding.specs.Images.{code_of, linked_code, picture_of}
 use Rattle.pli_headline.specs.ProvedSoFar.{IsProvedSoFar}
+use Rattle.pli_headline.specs.FirstPathTrees.{IsFirstPath}
 use Rattle.pli_headline.specs.Headline.{parts, FitsMemory, Headline}
 
 -- ---- weights: expressions' nodes, statements and declared names
@@ -75,7 +74,7 @@ abbrev mutual
 -- a program of the first path is one for which the headline is proved
 abbrev pub FirstPathProved : Type 0
 FirstPathProved =
-    (tree : T.Tree) (p : Program) → typed tree ≡ Some p → SmallLines tree.procedures → IsProvedSoFar (typed_tree tree)
+    (tree : T.Tree) → IsFirstPath tree → SmallLines tree.procedures → IsProvedSoFar (typed_tree tree)
 
 -- the words that the code of a tree takes at most, by its weight
 abbrev pub most_words : ℕ → ℕ
@@ -84,7 +83,7 @@ most_words weight = 4000 + 104 * weight
 -- the code of a program of the first path is short
 abbrev pub FirstPathSmall : Type 0
 FirstPathSmall =
-    (tree : T.Tree) (p : Program) → typed tree ≡ Some p → SmallLines tree.procedures
+    (tree : T.Tree) → IsFirstPath tree → SmallLines tree.procedures
     → length (linked_code (code_of parts (typed_tree tree))) ≤ most_words (weight tree)
 
 -- a source has no more tokens, and its tree weighs no more than these
@@ -94,7 +93,7 @@ most_weight = 10000
 -- its image fits a machine's memory
 abbrev pub FirstPathFits : Type 0
 FirstPathFits =
-    (tree : T.Tree) (p : Program) → typed tree ≡ Some p → SmallLines tree.procedures → weight tree ≤ most_weight
+    (tree : T.Tree) → IsFirstPath tree → SmallLines tree.procedures → weight tree ≤ most_weight
     → FitsMemory (picture_of parts (typed_tree tree))
 
 -- the image of a typed tree keeps the headline, and its step cost is small for a tree of this weight
@@ -105,5 +104,5 @@ pub record IsKept (program : Y.Program) (weight : ℕ) : Type 0 where
 -- so a program of the first path keeps the headline
 abbrev pub FirstPathKeeps : Type 0
 FirstPathKeeps =
-    (tree : T.Tree) (p : Program) → typed tree ≡ Some p → SmallLines tree.procedures → weight tree ≤ most_weight
+    (tree : T.Tree) → IsFirstPath tree → SmallLines tree.procedures → weight tree ≤ most_weight
     → IsKept (typed_tree tree) (weight tree)

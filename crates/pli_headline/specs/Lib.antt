@@ -2,4 +2,5 @@ pub mod InnerWords
 pub mod ProvedSoFar
 pub mod Headline
 pub mod FirstForms
+pub mod FirstPathTrees
 pub mod FirstPath
