@@ -241,7 +241,7 @@ dimension_does {links} {code} {g} {v} {s} {k} {e} {block} {j} {type} {bs} asked 
     let most = spans.1 in
     let all = scope.few in
     let few : word (b.upper -ℤ b.lower) < 2 ^ 20 = omega (arith, is, most, all) in
-    let wide = elements_wide b.lower b.upper is.0 is.1.0 is.1.1 few in
+    let wide = elements_wide b.lower b.upper spans.0.0 spans.0.1.0 spans.0.1.1 few in
     let o = answers {links = links} {code = code} {g = g} {v = v} {s = s} {k = k} asked (number_words x) b spans.0 few in
     record {
       does = λ {i} {h} {t} {aims} closed f taken room l at goal.
