@@ -31,6 +31,25 @@ controlled_extents-runs :
 controlled_extents-runs = refl
 
 -- T: PROC OPTIONS(MAIN);
+-- DCL N FIXED BIN(31) INIT(2), C(N) FIXED BIN(31) CTL, L(5) FIXED BIN(31); ALLOCATE C; PUT EDIT (DIM(C,1), DIM(L,1)) (F(2));
+-- END T;
+abbrev counted_elements : Y.Program
+counted_elements =
+    program ([] ∷ ((declared Y.AutomaticClass ((member 0 0) ∷ []) ((leaf (Y.FixedLeaf 31) [] ((initial 1 (T.InitialNumber (pos
+    2))) ∷ [])) ∷ []) None []) ∷ (declared Y.ControlledClass ((member 0 1) ∷ []) ((leaf (Y.FixedLeaf 31) ((bounds
+    (Y.ConstantExtent (pos 1)) (Y.EvaluatedExtent 0)) ∷ []) []) ∷ []) None ((evaluation (Y.NumberIn (whole (automatic 1 0 0)))
+    (Y.BoundsCheck (bounds (Y.ConstantExtent (pos 1)) (Y.EvaluatedExtent 0)))) ∷ [])) ∷ (declared Y.AutomaticClass ((member 0
+    1) ∷ []) ((leaf (Y.FixedLeaf 31) ((bounds (Y.ConstantExtent (pos 1)) (Y.ConstantExtent (pos 5))) ∷ []) []) ∷ []) None [])
+    ∷ []) ∷ []) ((procedure (Y.BlockOf (head Y.ProcedureBlock 1 0 1) (Y.StmtThen [] (Y.Allocate ((Y.AllocateControlled
+    (controlled 1 0 1)) ∷ []) 2) (Y.StmtThen [] (Y.Put None ((put_pair ((Y.PutValue (Y.NumberValue 31 (Y.ElementsOf (whole
+    (controlled 1 0 1)) 1))) ∷ (Y.PutValue (Y.NumberValue 31 (Y.ElementsOf (whole (automatic 1 0 2)) 1))) ∷ []) (T.FormatThen
+    place 1 (T.FixedFormat 2) T.NoFormat)) ∷ []) 2) (Y.EndOfList [])))) [] None) ∷ [])
+
+counted_elements-runs :
+    run_of (fitted counted_elements 1024 256) 20000 counted_elements [] ≡ Shows (record { acts = 7; output = codes " 2 5" ++ (10 ∷ []); raised = []; end = E.Finished })
+counted_elements-runs = refl
+
+-- T: PROC OPTIONS(MAIN);
 -- DCL C FIXED BIN(31) CTL, I FIXED BIN(31); CALL R(2); PUT EDIT (ALLOCATION(C)) (F(2)); DO I = 1 TO 3; FREE C; PUT EDIT
 -- (ALLOCATION(C)) (F(2)); END; PUT EDIT (C) (F(2)); R: PROC(K) RECURSIVE; DCL K FIXED BIN(31); IF K = 0 THEN RETURN;
 -- ALLOCATE C; C = K; CALL R(K-1); END R;

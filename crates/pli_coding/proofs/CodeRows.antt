@@ -1,5 +1,5 @@
 -- The code of small forms, the frame of a block, the table and the static data, computed.
-use Rattle.std.proofs.Common.{◌≡◌, ℕ, zero, suc, ◌+◌, pos, negsuc, false, List, [], ◌∷◌, ◌++◌, map, None, refl}
+use Rattle.std.proofs.Common.{◌≡◌, ℕ, zero, suc, ◌+◌, pos, negsuc, true, false, List, [], ◌∷◌, ◌++◌, map, None, refl}
 use lib.Chars.{codes}
 use Rattle.rv_meaning.specs.declared.instr.Instr.TheVariants as I
 use Rattle.rv_meaning.specs.declared.instr.RegisterOp.TheVariants as Op
@@ -18,7 +18,7 @@ use Rattle.pli_coding.specs.SignatureTable.{table_of}
 use Rattle.pli_coding.specs.Environments.{Environment, none_taken, block_around}
 use Rattle.pli_coding.specs.Arithmetic.{sum_code}
 use Rattle.pli_coding.specs.Locating.{leaf_resolved, located}
-use Rattle.pli_coding.specs.Expressions.{number_code, text_code}
+use Rattle.pli_coding.specs.Expressions.{are_few, elements_code, number_code, text_code}
 use Rattle.pli_coding.specs.Temporaries.{number_words}
 use Rattle.pli_coding.specs.Images.{environment_of, code_of, blocks_of}
 use Rattle.pli_coding.proofs.RowPieces.{part, automatic, parameter, whole, scalar, bounds, initial, leaf, member, declared, head, procedure, program}
@@ -135,6 +135,35 @@ sum_is_tested :
     ∷ Plain (I.Immediate Imm.Add R.a0 (R.held 0) (pos 0))
     ∷ [])
 sum_is_tested = refl
+
+-- a count that isn't above 0
+count_is_tested :
+    elements_code none_taken (bounds (Y.ConstantExtent (pos 1)) (Y.EvaluatedExtent 0)) 0
+    ≡ (Plain (I.Load Load.Word R.a0 R.frame_register (pos 76))
+    ∷ Plain (I.Immediate Imm.Add R.u1 R.zero_register (pos 1))
+    ∷ Plain (I.Registers Op.Subtract R.a0 R.a0 R.u1)
+    ∷ Plain (I.Immediate Imm.Add R.a0 R.a0 (pos 1))
+    ∷ Plain (I.Branch Test.Less R.zero_register R.a0 (pos 28))
+    ∷ Plain (I.Immediate Imm.Add (R.held 0) R.a0 (pos 0))
+    ∷ Plain (I.Immediate Imm.Add R.a0 R.zero_register (pos 2))
+    ∷ Plain (I.Immediate Imm.Add R.a1 R.zero_register (pos 20))
+    ∷ CallTo RaiseCondition
+    ∷ Plain (I.Immediate Imm.Add R.a0 (R.held 0) (pos 0))
+    ∷ [])
+count_is_tested = refl
+
+few_elements_need_no_test :
+    elements_code none_taken (up_to 3) 0
+    ≡ (Plain (I.Immediate Imm.Add R.a0 R.zero_register (pos 3))
+    ∷ Plain (I.Immediate Imm.Add R.u1 R.zero_register (pos 1))
+    ∷ Plain (I.Registers Op.Subtract R.a0 R.a0 R.u1)
+    ∷ Plain (I.Immediate Imm.Add R.a0 R.a0 (pos 1))
+    ∷ [])
+few_elements_need_no_test = refl
+
+-- 2^31 - 1 and 2^31 elements
+few_is_what_a_number_holds : map (λ n. are_few (Y.ConstantExtent (pos 1)) (Y.ConstantExtent (pos n))) (2147483647 ∷ 2147483648 ∷ []) ≡ (true ∷ false ∷ [])
+few_is_what_a_number_holds = refl
 
 abbrev first_of : Code → Code
 first_of [] = []

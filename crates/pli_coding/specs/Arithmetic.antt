@@ -127,6 +127,10 @@ abbrev pub sign_code : Code
 sign_code =
     immediate Imm.SetLess u1 a0 (pos 0) ∷ registers Op.SetLess u2 zero_register a0 ∷ subtract a0 u2 u1 ∷ []
 
+-- a count of 2^31 or more isn't above 0 as a number
+abbrev pub count_checked : Taken → Code
+count_checked t = skip_where Test.Less zero_register a0 (overflow_raised t)
+
 -- ---- MOD, MAX, MIN
 
 -- a negative remainder gets the absolute divisor added

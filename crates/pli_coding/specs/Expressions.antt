@@ -1,16 +1,17 @@
 -- The code of expressions. A number, a bit or an OFFSET value comes in a0, a text on top of the text stack, and a POINTER value in
 -- the four words of the frame behind the temporaries in use.
-use Rattle.std.specs.Prelude.{ℕ, zero, suc, ◌+◌, ◌*◌, ℤ, pos, negsuc, ◌+ℤ◌, Bool, true, false, not, List, [], ◌∷◌, ◌++◌, length, slice_get, unwrap_or, if◌then◌else◌}
+use Rattle.std.specs.Prelude.{ℕ, zero, suc, ◌+◌, ◌*◌, ℤ, pos, negsuc, ◌+ℤ◌, ◌-ℤ◌, Bool, true, false, not, List, [], ◌∷◌, ◌++◌, length, slice_get, unwrap_or, if◌then◌else◌}
 use Rattle.rv_meaning.specs.declared.instr.Register.{Register}
 use Rattle.rv_meaning.specs.declared.instr.RegisterOp.TheVariants as Op
 use Rattle.rv_meaning.specs.declared.instr.ImmediateOp.TheVariants as Imm
 use Rattle.pli_typing.specs.TypedTree as Y
+use Rattle.pli_meaning.specs.Numbers.{is_of_precision, operator_precision}
 use Rattle.pli_coding.specs.Registers.{zero_register, frame_register, a0, a1, a2, a3, u0, u1, u2}
 use Rattle.pli_coding.specs.Assembly.{ConstantBytes, ProcedureEntry, DataPlace, OffsetOf, CallTo, Code}
 use Rattle.pli_coding.specs.Instructions.{immediate, registers, subtract, move, small, constant, number, plus, load_word, store_word, service, tested_service}
 use Rattle.pli_coding.specs.Frames.{buffer_lower, buffer_upper, are_constant, words_place, word_in}
 use Rattle.pli_coding.specs.Environments.{Environment, Taken, with_words, with_number, save, fetch}
-use Rattle.pli_coding.specs.Arithmetic.{calculated_code, fitted_code, divided_code, signed_code, absolute_code, sign_code, modulo_code, extreme_code, negated_code, combined_code, equal_code, compared_code}
+use Rattle.pli_coding.specs.Arithmetic.{calculated_code, fitted_code, divided_code, signed_code, absolute_code, count_checked, sign_code, modulo_code, extreme_code, negated_code, combined_code, equal_code, compared_code}
 use Rattle.pli_coding.specs.Locating.{frame_found, frame_in, own_place, Located, located, name_offset, number_loaded, controlled_number, class_found, behind_locator, waiting_name, leaf_number, is_direct, is_referred, refer_read, leaf_found, bound_loaded, Address, address_of, reached, loaded, name_copied, in_own_frame, text_pushed}
 
 -- ---- references
@@ -60,17 +61,23 @@ lower_code b n = bound_loaded a0 b.lower (buffer_lower n)
 abbrev pub upper_code : Y.Bounds → (n : ℕ) → Code
 upper_code b n = bound_loaded a0 b.upper (buffer_upper n)
 
--- from a0, the upper bound, and u1, the lower one
-abbrev pub elements_code : Y.Bounds → (n : ℕ) → Code
-elements_code b n =
-    upper_code b n
-    ++ (bound_loaded u1 b.lower (buffer_lower n) ++ (subtract a0 a0 u1 ∷ immediate Imm.Add a0 a0 (pos 1) ∷ []))
+-- whether constant bounds tell that a number holds how many there are
+abbrev pub are_few : (lower upper : Y.Extent) → Bool
+are_few (Y.ConstantExtent l) (Y.ConstantExtent u) = is_of_precision operator_precision (u -ℤ l +ℤ pos 1)
+are_few _ _ = false
 
-abbrev pub bound_code : BoundAsked → Y.Bounds → (dimension : ℕ) → Code
-bound_code asked b zero = []
-bound_code LowerAsked b (suc n) = lower_code b n
-bound_code UpperAsked b (suc n) = upper_code b n
-bound_code ElementsAsked b (suc n) = elements_code b n
+-- from a0, the upper bound, and u1, the lower one
+abbrev pub elements_code : Taken → Y.Bounds → (n : ℕ) → Code
+elements_code t b n =
+    upper_code b n
+    ++ (bound_loaded u1 b.lower (buffer_lower n)
+    ++ (subtract a0 a0 u1 ∷ immediate Imm.Add a0 a0 (pos 1) ∷ (if are_few b.lower b.upper then [] else count_checked t)))
+
+abbrev pub bound_code : Taken → BoundAsked → Y.Bounds → (dimension : ℕ) → Code
+bound_code t asked b zero = []
+bound_code t LowerAsked b (suc n) = lower_code b n
+bound_code t UpperAsked b (suc n) = upper_code b n
+bound_code t ElementsAsked b (suc n) = elements_code t b n
 
 abbrev pub bounds_found : Environment → Taken → Y.Variable → Y.Part → Y.Bounds → Code
 bounds_found e t v part b =
@@ -79,7 +86,7 @@ bounds_found e t v part b =
 
 abbrev pub dimension_code : Environment → Taken → Y.Variable → Y.Part → BoundAsked → (dimension : ℕ) → Code
 dimension_code e t v part asked dimension =
-    bounds_found e t v part (bounds_at e v part dimension) ++ bound_code asked (bounds_at e v part dimension) dimension
+    bounds_found e t v part (bounds_at e v part dimension) ++ bound_code t asked (bounds_at e v part dimension) dimension
 
 -- ---- names
 

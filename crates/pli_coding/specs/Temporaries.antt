@@ -27,7 +27,7 @@ abbrev mutual
   number_words (Y.VerifyOf searched allowed) = max (text_words searched) (text_words allowed)
   number_words (Y.LowerBound r dimension) = reference_words r
   number_words (Y.UpperBound r dimension) = reference_words r
-  number_words (Y.ElementsOf r dimension) = reference_words r
+  number_words (Y.ElementsOf r dimension) = max 1 (reference_words r)
   number_words (Y.AllocationsOf v) = 0
   number_words Y.OnCode = 0
 

@@ -83,7 +83,7 @@ pub number-UpperBound : (a : _) (r : _) (n : _) → number_words (number_of (N.U
 unfolding number_of
 number-UpperBound a r n = refl
 
-pub number-ElementsOf : (a : _) (r : _) (n : _) → number_words (number_of (N.ElementsOf' a r n)) ≡ reference_words (reference_of r)
+pub number-ElementsOf : (a : _) (r : _) (n : _) → number_words (number_of (N.ElementsOf' a r n)) ≡ max 1 (reference_words (reference_of r))
 unfolding number_of
 number-ElementsOf a r n = refl
 

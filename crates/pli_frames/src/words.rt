@@ -87,7 +87,7 @@ pub fn number_words(number: &Number) -> Result<u32, AllocError>
         }
         Number::LowerBound { array, .. } => reference_words(array),
         Number::UpperBound { array, .. } => reference_words(array),
-        Number::ElementsOf { array, .. } => reference_words(array),
+        Number::ElementsOf { array, .. } => Ok(1u32.max(reference_words(array)?)),
         Number::AllocationsOf(_) => Ok(0),
         Number::OnCode => Ok(0),
     }

@@ -1,5 +1,5 @@
 -- The bounds of a dimension and the number of its subscripts (LBOUND, HBOUND and DIMENSION), for a ground on which the array stands.
-use Rattle.std.proofs.Common.{◌≡◌, ℕ, zero, suc, ◌+◌, ◌*◌, ◌^◌, ◌<◌, ◌≤◌, List, [], ◌∷◌, ◌++◌, map, Option, Some, None, true, refl, sym, ap, ◌∙◌, subst, arith}
+use Rattle.std.proofs.Common.{◌≡◌, ℕ, zero, suc, ◌+◌, ◌*◌, ◌^◌, ◌<◌, ◌≤◌, List, [], ◌∷◌, ◌++◌, map, Option, Some, None, Bool, true, refl, sym, ap, ◌∙◌, subst, arith}
 use Rattle.std.specs.Prelude.{ℤ, pos, negsuc, ◌-ℤ◌, ◌+ℤ◌, cond, int_le, slice_get, take, unwrap_or, not, if◌then◌else◌}
 use Rattle.std.proofs.lemmas.Int.{ints}
 use Rattle.std.proofs.lemmas.Bool.Decides.{nat_tests}
@@ -9,10 +9,13 @@ use Rattle.rv_meaning.specs.declared.instr.RegisterOp.TheVariants as Op
 use Rattle.rv_meaning.specs.Words.{word, sum, operated}
 use Rattle.pli_typing.specs.Signatures.{Bounds, span, element_count}
 use Rattle.pli_typing.specs.TypedTree as Y
+use Rattle.pli_language.specs.declared.condition.Condition.TheVariants.{FixedOverflow}
+use Rattle.pli_meaning.specs.Codes.{fixed_overflow_code}
+use Rattle.pli_meaning.specs.Numbers.{is_of_precision, wrapped, Gives, Raises, checked}
 use Rattle.pli_meaning.specs.BasicValues.{VariableName}
 use Rattle.pli_meaning.specs.Contents.{is_within}
 use Rattle.pli_meaning.specs.StorageState.{State, if_same_shape, named}
-use Rattle.pli_meaning.specs.Control.{give, given, stuck, flow_on, looked, choose, ◌>>=◌, ◌>>◌}
+use Rattle.pli_meaning.specs.Control.{Meaning, give, given, stuck, flow_on, looked, choose, ◌>>=◌, ◌>>◌}
 use Rattle.pli_meaning.specs.Raising as R
 use Rattle.pli_meaning.specs.Raising.{Around}
 use Rattle.pli_meaning.specs.Evaluating as V
@@ -22,6 +25,7 @@ use Rattle.pli_coding.specs.Assembly.{Code, size_of}
 use Rattle.pli_coding.specs.Instructions.{constant, subtract, immediate}
 use Rattle.pli_coding.specs.Frames.{has_constant_size, are_constant}
 use Rattle.pli_coding.specs.Environments.{Environment, Taken}
+use Rattle.pli_coding.specs.Arithmetic.{count_checked}
 use Rattle.pli_coding.specs.Expressions.{BoundAsked, LowerAsked, UpperAsked, ElementsAsked, bounds_at, no_bounds, bound_code, number_code, asked_code}
 use Rattle.pli_coding.specs.Locating as L
 use Rattle.pli_coding.specs.Temporaries.{number_words}
@@ -57,11 +61,29 @@ answer_of ElementsAsked b = V.elements_between b
 
 -- ---- the code
 
-abbrev pub answer_code : BoundAsked → Bounds → Code
-answer_code LowerAsked b = constant a0 b.lower
-answer_code UpperAsked b = constant a0 b.upper
-answer_code ElementsAsked b =
+abbrev few_code : BoundAsked → Bounds → Code
+few_code LowerAsked b = constant a0 b.lower
+few_code UpperAsked b = constant a0 b.upper
+few_code ElementsAsked b =
     constant a0 b.upper ++ (constant u1 b.lower ++ (subtract a0 a0 u1 ∷ immediate Imm.Add a0 a0 (pos 1) ∷ []))
+
+abbrev pub checked_if : Bool → Taken → Code
+checked_if q t = if q then [] else count_checked t
+
+abbrev pub answer_code : Taken → BoundAsked → Bounds → Code
+answer_code t LowerAsked b = constant a0 b.lower
+answer_code t UpperAsked b = constant a0 b.upper
+answer_code t ElementsAsked b =
+    constant a0 b.upper
+    ++ (constant u1 b.lower
+    ++ (subtract a0 a0 u1 ∷ immediate Imm.Add a0 a0 (pos 1) ∷ checked_if (is_of_precision 31 (V.elements_between b)) t))
+
+-- where a number holds how many there are
+few_is : (t : Taken) (asked : BoundAsked) (b : Bounds) → IsWide (V.elements_between b) → answer_code t asked b ≡ few_code asked b
+few_is t LowerAsked b wide = refl
+few_is t UpperAsked b wide = refl
+few_is t ElementsAsked b wide =
+    ap (λ q. constant a0 b.upper ++ (constant u1 b.lower ++ (subtract a0 a0 u1 ∷ immediate Imm.Add a0 a0 (pos 1) ∷ checked_if q t))) wide
 
 -- by the array's declaration
 abbrev bounds_by : Option Y.DeclaredVariable → (place : ℕ) → Y.Bounds
@@ -77,24 +99,24 @@ bounds_mapped [] n b h = absurd (cc h)
 bounds_mapped (c ∷ bs) zero b h = let e : c ≡ b = cc h in ap (λ u. Some (constant_bounds u)) e
 bounds_mapped (c ∷ bs) (suc n) b h = bounds_mapped bs n b h
 
-code_by : (asked : BoundAsked) (b : Bounds) (n : ℕ) → bound_code asked (constant_bounds b) (suc n) ≡ answer_code asked b
-code_by LowerAsked b n = refl
-code_by UpperAsked b n = refl
-code_by ElementsAsked b n = refl
+code_by : (t : Taken) (asked : BoundAsked) (b : Bounds) (n : ℕ) → bound_code t asked (constant_bounds b) (suc n) ≡ answer_code t asked b
+code_by t LowerAsked b n = refl
+code_by t UpperAsked b n = refl
+code_by t ElementsAsked b n = refl
 
 asked_alike : (asked : BoundAsked) (e : Environment) (t : Taken) (r : Y.Reference) (dimension : ℕ) → number_code e t (asked_number asked r dimension) ≡ asked_code e t r asked dimension
 asked_alike LowerAsked e t r dimension = refl
 asked_alike UpperAsked e t r dimension = refl
 asked_alike ElementsAsked e t r dimension = refl
 
-pub answer_is : (asked : BoundAsked) (e : Environment) (t : Taken) (block j : ℕ) (type : Y.LeafType) (bs : List Bounds) (n : ℕ) (b : Bounds) → IsNumeric type → IsDeclaredArray e block j type bs → slice_get bs n ≡ Some b → number_code e t (asked_number asked (whole (own block j)) (suc n)) ≡ answer_code asked b
+pub answer_is : (asked : BoundAsked) (e : Environment) (t : Taken) (block j : ℕ) (type : Y.LeafType) (bs : List Bounds) (n : ℕ) (b : Bounds) → IsNumeric type → IsDeclaredArray e block j type bs → slice_get bs n ≡ Some b → number_code e t (asked_number asked (whole (own block j)) (suc n)) ≡ answer_code t asked b
 answer_is asked e t block j type bs n b is declared among =
     let other = found_otherwise e t block j n in
     asked_alike asked e t (whole (own block j)) (suc n)
-    ∙ ap (λ o. (if has_constant_size (declared_in o) then [] else other) ++ bound_code asked (bounds_by o n) (suc n)) declared.1
-    ∙ ap (λ q. (if q then [] else other) ++ bound_code asked (unwrap_or (slice_get (map constant_bounds bs) n) no_bounds) (suc n)) (size_constant type is bs declared.0)
-    ∙ ap (λ o. bound_code asked (unwrap_or o no_bounds) (suc n)) (bounds_mapped bs n b among)
-    ∙ code_by asked b n
+    ∙ ap (λ o. (if has_constant_size (declared_in o) then [] else other) ++ bound_code t asked (bounds_by o n) (suc n)) declared.1
+    ∙ ap (λ q. (if q then [] else other) ++ bound_code t asked (unwrap_or (slice_get (map constant_bounds bs) n) no_bounds) (suc n)) (size_constant type is bs declared.0)
+    ∙ ap (λ o. bound_code t asked (unwrap_or o no_bounds) (suc n)) (bounds_mapped bs n b among)
+    ∙ code_by t asked b n
 
 -- ---- the meaning
 
@@ -106,17 +128,20 @@ array_designated {s = s} {j = j} {type = type} {bs = bs} around k h =
     ap (λ o. flow_on k (R.or_error around 101 o k s) (λ b. V.part_designated around b.name b.shape whole_part [])) h.stands
     ∙ ap (λ o. flow_on k (R.or_error around 101 o k s) (λ g. ◌>>=◌ (R.or_error around 107 (V.extent_in_force g whole_part)) (λ e. ◌>>◌ (R.demanded around 102 (is_within (take 0 (V.leaf_at (array_shape type bs) e 0).bounds) [])) (give (record { name = VariableName (suc j); generation = g; extent = e; part = whole_part; subscripts = [] }))))) lives
 
-pub answer_meant : {s : State} {block j : ℕ} {type : Y.LeafType} {bs : List Bounds} {m : ℕ → ℤ} (asked : BoundAsked) (around : Around) (k n : ℕ) (b : Bounds) (h : HoldsArray s block j type bs m) → slice_get bs n ≡ Some b → V.number around (asked_number asked (whole (own block j)) (suc n)) k s ≡ give (answer_of asked b) k s
-unfolding V.number ◌>>=◌ give given
-answer_meant {s = s} LowerAsked around k n b h among =
+pub answer_meant : {s : State} {block j : ℕ} {type : Y.LeafType} {bs : List Bounds} {m : ℕ → ℤ} (asked : BoundAsked) (around : Around) (k n : ℕ) (b : Bounds) (h : HoldsArray s block j type bs m) → slice_get bs n ≡ Some b → IsWide (V.elements_between b) → V.number around (asked_number asked (whole (own block j)) (suc n)) k s ≡ give (answer_of asked b) k s
+unfolding V.number ◌>>=◌ give given R.value_of
+answer_meant {s = s} LowerAsked around k n b h among wide =
     ap (λ q. flow_on k q (λ d. given (V.bounds_in d (suc n)) (λ c. give c.lower) stuck)) (array_designated around k h)
     ∙ ap (λ o. given o (λ (c : Bounds). give c.lower) stuck k s) among
-answer_meant {s = s} UpperAsked around k n b h among =
+answer_meant {s = s} UpperAsked around k n b h among wide =
     ap (λ q. flow_on k q (λ d. given (V.bounds_in d (suc n)) (λ c. give c.upper) stuck)) (array_designated around k h)
     ∙ ap (λ o. given o (λ (c : Bounds). give c.upper) stuck k s) among
-answer_meant {s = s} ElementsAsked around k n b h among =
-    ap (λ q. flow_on k q (λ d. given (V.bounds_in d (suc n)) (λ c. give (V.elements_between c)) stuck)) (array_designated around k h)
-    ∙ ap (λ o. given o (λ (c : Bounds). give (V.elements_between c)) stuck k s) among
+answer_meant {s = s} ElementsAsked around k n b h among wide =
+    let z = V.elements_between b in
+    let told : Bounds → Meaning ℤ = λ c. R.value_of around (checked 31 (V.elements_between c)) in
+    ap (λ q. flow_on k q (λ d. given (V.bounds_in d (suc n)) told stuck)) (array_designated around k h)
+    ∙ ap (λ o. given o told stuck k s) among
+    ∙ ap (λ q. R.value_of around (if q then Gives z else Raises FixedOverflow fixed_overflow_code (wrapped 31 z)) k s) wide
 
 -- ---- no dimension has more subscripts than there are elements
 
@@ -171,7 +196,7 @@ constant_answers words z wide =
           (λ f' at'. record { to = goal z f' h t wide (stays_same taken h t) at' });
     }
 
-elements_answer : {links : Links} {code : List Instr} {g : Ground} {v : Services} {s : State} {k : ℕ} (words : ℕ) (b : Bounds) → IsBounds b → word (b.upper -ℤ b.lower) < 2 ^ 20 → Evaluates number_kind links code g v s k words (λ taken. answer_code ElementsAsked b) (give (V.elements_between b))
+elements_answer : {links : Links} {code : List Instr} {g : Ground} {v : Services} {s : State} {k : ℕ} (words : ℕ) (b : Bounds) → IsBounds b → word (b.upper -ℤ b.lower) < 2 ^ 20 → Evaluates number_kind links code g v s k words (λ taken. few_code ElementsAsked b) (give (V.elements_between b))
 unfolding give
 elements_answer {g = g} {v = v} {s = s} words b is few =
     record {
@@ -185,7 +210,7 @@ elements_answer {g = g} {v = v} {s = s} words b is few =
           let l2 = back_of first (second ++ last) l in
           let s1 = size_append first (second ++ last) in
           let s2 = size_append second last in
-          let place : i + size_of first + size_of second + size_of last ≡ i + size_of (answer_code ElementsAsked b) = omega (arith, s1, s2) in
+          let place : i + size_of first + size_of second + size_of last ≡ i + size_of (few_code ElementsAsked b) = omega (arith, s1, s2) in
           onward closed (constant_piece i f a0 b.upper (word_small b.upper is.1.0) free_a0 (front_of first (second ++ last) l) at)
           (λ f1 at1.
           onward closed (constant_piece (i + size_of first) f1 u1 b.lower (word_small b.lower is.0) (record { reserved_stay = λ y u. refl; known_stay = λ base y u q. q; set = λ y u. refl }) (front_of second last l2) at1)
@@ -201,7 +226,7 @@ elements_answer {g = g} {v = v} {s = s} words b is few =
     }
 
 -- by what is asked
-answers : {links : Links} {code : List Instr} {g : Ground} {v : Services} {s : State} {k : ℕ} (asked : BoundAsked) (words : ℕ) (b : Bounds) → IsBounds b → word (b.upper -ℤ b.lower) < 2 ^ 20 → Evaluates number_kind links code g v s k words (λ taken. answer_code asked b) (give (answer_of asked b))
+answers : {links : Links} {code : List Instr} {g : Ground} {v : Services} {s : State} {k : ℕ} (asked : BoundAsked) (words : ℕ) (b : Bounds) → IsBounds b → word (b.upper -ℤ b.lower) < 2 ^ 20 → Evaluates number_kind links code g v s k words (λ taken. few_code asked b) (give (answer_of asked b))
 answers LowerAsked words b is few = constant_answers words b.lower is.0
 answers UpperAsked words b is few = constant_answers words b.upper is.1.0
 answers ElementsAsked words b is few = elements_answer words b is few
@@ -216,13 +241,14 @@ dimension_does {links} {code} {g} {v} {s} {k} {e} {block} {j} {type} {bs} asked 
     let most = spans.1 in
     let all = scope.few in
     let few : word (b.upper -ℤ b.lower) < 2 ^ 20 = omega (arith, is, most, all) in
+    let wide = elements_wide b.lower b.upper spans.0.0 spans.0.1.0 spans.0.1.1 few in
     let o = answers {links = links} {code = code} {g = g} {v = v} {s = s} {k = k} asked (number_words x) b spans.0 few in
     record {
       does = λ {i} {h} {t} {aims} closed f taken room l at goal.
-          let eq = answer_is asked e taken block j type bs n b holds.numeric scope.declared among in
+          let eq = answer_is asked e taken block j type bs n b holds.numeric scope.declared among ∙ few_is taken asked b wide in
           let same = ap size_of eq in
-          let there : i + size_of (answer_code asked b) ≡ i + size_of (number_code e taken x) = omega (arith, same) in
-          subst (Comes code i f v aims) (sym (answer_meant asked around k n b holds among))
+          let there : i + size_of (few_code asked b) ≡ i + size_of (number_code e taken x) = omega (arith, same) in
+          subst (Comes code i f v aims) (sym (answer_meant asked around k n b holds among wide))
           (o.does closed f taken room (subst (Linked links code i) eq l) at
-          (λ z f1 h1 t1 wide stays at1. subst (λ u. aims.done u f1 v z s) (sym there) (goal z f1 h1 t1 wide stays (λ base. record { pc = (at1 base).pc ∙ ap (address base) there; holds = (at1 base).holds }))));
+          (λ z f1 h1 t1 small stays at1. subst (λ u. aims.done u f1 v z s) (sym there) (goal z f1 h1 t1 small stays (λ base. record { pc = (at1 base).pc ∙ ap (address base) there; holds = (at1 base).holds }))));
     }

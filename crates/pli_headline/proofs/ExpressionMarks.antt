@@ -3,12 +3,14 @@ use Rattle.std.proofs.Common.{◌≡◌, ℕ, [], ◌∷◌, ◌++◌, length, B
 use Rattle.std.specs.Prelude.{pos, cond, ◌==◌}
 use Rattle.rv_meaning.specs.declared.instr.ImmediateOp.TheVariants as Imm
 use Rattle.pli_typing.specs.TypedTree as Y
+use Rattle.pli_meaning.specs.Numbers.{is_of_precision}
+use Rattle.pli_meaning.specs.Evaluating as V
 use Rattle.pli_coding.specs.Registers.{frame_register, a0, a1, a2, u1, u3}
 use Rattle.pli_coding.specs.Assembly.{Code}
 use Rattle.pli_coding.specs.Instructions.{is_immediate, small, number, load_word, move, service, tested_service, constant, subtract, immediate}
 use Rattle.pli_coding.specs.Frames.{display}
 use Rattle.pli_coding.specs.Environments.{Environment, Taken, with_number, save, fetch}
-use Rattle.pli_coding.specs.Arithmetic.{calculated_code, fitted_code, divided_code, signed_code, absolute_code, sign_code, modulo_code, extreme_code, negated_code, combined_code, compared_code}
+use Rattle.pli_coding.specs.Arithmetic.{calculated_code, fitted_code, divided_code, signed_code, absolute_code, count_checked, sign_code, modulo_code, extreme_code, negated_code, combined_code, compared_code}
 use Rattle.pli_coding.specs.Locating.{frame_found, stored, address_offset}
 use Rattle.pli_coding.specs.Expressions.{number_code, extremes_code, text_code, bit_code, type_in, address_in, subscripts_code, BoundAsked, LowerAsked, UpperAsked, ElementsAsked}
 use Rattle.pli_coding.specs.Streams.{as_text}
@@ -21,7 +23,7 @@ use Rattle.pli_headline.proofs.TextVariables.{text_loaded, text_kept}
 use Rattle.pli_headline.proofs.Variables.{own, whole, data_place, base_found, scalar_loaded, scalar_stored, number_loaded, bit_loaded, scalar_found, scalar_kept, HasTypes, subscripts_in}
 use Rattle.pli_headline.proofs.SymbolsMarked.{symbols_marked, Marks, behind, either, constant_none, load_none, plus_none, saved_none, fetched_none, overflow_none, calculated_none, fitted_none, divided_none, sign_none, extreme_none, combined_none, compared_none}
 use Rattle.pli_headline.proofs.ArrayMarks.{next_none, part_none, kept_element_none}
-use Rattle.pli_headline.proofs.ArrayDimensions.{asked_number, answer_code, answer_is}
+use Rattle.pli_headline.proofs.ArrayDimensions.{asked_number, checked_if, answer_code, answer_is}
 use Rattle.pli_typing.specs.Signatures.{Bounds}
 
 base_none : (e : Environment) → Marks (base_found e) []
@@ -85,21 +87,23 @@ bit_part_none e t block types r has (inr o) none =
     subst (λ q. Marks (bit_code e t (Y.BitIn q)) []) (sym o.is) (part_none e t block o.index Y.BitLeaf (o.bound ∷ o.bounds) o.first o.rest tt (has o.index kind o.declared) none')
 
 -- a bound, or the number of subscripts
-answer_none : (asked : BoundAsked) (b : Bounds) → Marks (answer_code asked b) []
-answer_none LowerAsked b = constant_none a0 b.lower
-answer_none UpperAsked b = constant_none a0 b.upper
-answer_none ElementsAsked b =
-    let last = subtract a0 a0 u1 ∷ immediate Imm.Add a0 a0 (pos 1) ∷ [] in
-    behind (constant a0 b.upper) (constant u1 b.lower ++ last) [] (constant_none a0 b.upper) (behind (constant u1 b.lower) last [] (constant_none u1 b.lower) refl)
+answer_none : (t : Taken) (asked : BoundAsked) (b : Bounds) → Marks (answer_code t asked b) []
+answer_none t LowerAsked b = constant_none a0 b.lower
+answer_none t UpperAsked b = constant_none a0 b.upper
+answer_none t ElementsAsked b =
+    let q = is_of_precision 31 (V.elements_between b) in
+    let last = subtract a0 a0 u1 ∷ immediate Imm.Add a0 a0 (pos 1) ∷ checked_if q t in
+    behind (constant a0 b.upper) (constant u1 b.lower ++ last) [] (constant_none a0 b.upper)
+    (behind (constant u1 b.lower) last [] (constant_none u1 b.lower) (either q [] (count_checked t) refl (overflow_none t)))
 
 dimension_none : (e : Environment) (t : Taken) (block : ℕ) (types : Types) (asked : BoundAsked) (r : Y.Reference) (dimension : ℕ) → HasTypes e block types → IsDimension block types r dimension → Marks (number_code e t (asked_number asked r dimension)) []
 dimension_none e t block types asked r dimension has is =
     let kind : Kind = record { type = is.type; bounds = is.bound ∷ is.bounds } in
-    let same : number_code e t (asked_number asked r dimension) ≡ answer_code asked is.asked =
+    let same : number_code e t (asked_number asked r dimension) ≡ answer_code t asked is.asked =
     ap (λ q. number_code e t (asked_number asked q dimension)) is.is
     ∙ ap (λ n. number_code e t (asked_number asked (whole (own block is.index)) n)) is.dimension_is
     ∙ answer_is asked e t block is.index is.type (is.bound ∷ is.bounds) is.place is.asked (element_numeric is.type is.element) (has is.index kind is.declared) is.among in
-    ap symbols_marked same ∙ answer_none asked is.asked
+    ap symbols_marked same ∙ answer_none t asked is.asked
 
 -- two operands, the first of which waits
 operands_none : (a c last : Code) (t : Taken) → Marks a [] → Marks c [] → Marks last [] → Marks (a ++ (save a0 t ++ (c ++ (fetch u1 t ++ last)))) []

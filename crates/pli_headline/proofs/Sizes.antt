@@ -139,7 +139,9 @@ mutual
       (text_size e t block types searched is.0) (text_size e t block types allowed is.1)
   number_size e t block types (Y.LowerBound r dimension) is = let z = asked_words block types r dimension is in omega (arith, z)
   number_size e t block types (Y.UpperBound r dimension) is = let z = asked_words block types r dimension is in omega (arith, z)
-  number_size e t block types (Y.ElementsOf r dimension) is = let z = asked_words block types r dimension is in omega (arith, z)
+  number_size e t block types (Y.ElementsOf r dimension) is =
+      let z = asked_words block types r dimension is in
+      most _ _ _ (omega arith) (omega (arith, z))
   number_size e t block types Y.OnCode is = omega arith
   number_size e t block types _ is = absurd is
 

@@ -183,7 +183,7 @@ mutual
   number_agrees (Y.VerifyOf s t) h = bind_agrees (text_agrees s h) (λ u. bind_agrees (text_agrees t h) (λ v. give_agrees _))
   number_agrees (Y.LowerBound r dimension) h = bind_agrees (designated_agrees r h) (λ d. given_agrees _ (λ b. give_agrees _) stuck_self)
   number_agrees (Y.UpperBound r dimension) h = bind_agrees (designated_agrees r h) (λ d. given_agrees _ (λ b. give_agrees _) stuck_self)
-  number_agrees (Y.ElementsOf r dimension) h = bind_agrees (designated_agrees r h) (λ d. given_agrees _ (λ b. give_agrees _) stuck_self)
+  number_agrees (Y.ElementsOf r dimension) h = bind_agrees (designated_agrees r h) (λ d. given_agrees _ (λ b. value_of_agrees _ h) stuck_self)
   number_agrees (Y.AllocationsOf v) h = bind_agrees looked_agrees (λ s. give_agrees _)
   number_agrees Y.OnCode h = bind_agrees looked_agrees (λ s. give_agrees _)
 

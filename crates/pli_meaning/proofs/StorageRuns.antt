@@ -32,6 +32,35 @@ unfolding computing
 controlled_extents-runs = refl
 
 -- T: PROC OPTIONS(MAIN);
+-- DCL N FIXED BIN(31) INIT(2147483647), A(0:2147483647) CHAR(0), C(N) CHAR(0) CTL; ON FIXEDOVERFLOW; ALLOCATE C;
+-- PUT EDIT (DIM(C,1), DIM(A,1)) (F(12));
+-- END T;
+abbrev too_many_elements : Y.Program
+too_many_elements =
+    program ([] ∷ ((declared Y.AutomaticClass ((member 0 0) ∷ []) ((leaf (Y.FixedLeaf 31) [] ((initial 1 (T.InitialNumber (pos
+    2147483647))) ∷ [])) ∷ []) None []) ∷ (declared Y.AutomaticClass ((member 0 1) ∷ []) ((leaf (Y.CharacterLeaf
+    (Y.ConstantExtent (pos 0))) ((bounds (Y.ConstantExtent (pos 0)) (Y.ConstantExtent (pos 2147483647))) ∷ []) []) ∷ []) None
+    []) ∷ (declared Y.ControlledClass ((member 0 1) ∷ []) ((leaf (Y.CharacterLeaf (Y.ConstantExtent (pos 0))) ((bounds
+    (Y.ConstantExtent (pos 1)) (Y.EvaluatedExtent 0)) ∷ []) []) ∷ []) None ((evaluation (Y.NumberIn (whole (automatic 1 0 0)))
+    (Y.BoundsCheck (bounds (Y.ConstantExtent (pos 1)) (Y.EvaluatedExtent 0)))) ∷ [])) ∷ []) ∷ []) ((procedure (Y.BlockOf (head
+    Y.ProcedureBlock 1 0 1) (Y.StmtThen [] (Y.OnUnit C.FixedOverflow (Y.BlockOf (head Y.SimpleUnit 1 1 2) (Y.StmtThen []
+    (Y.Null 2) (Y.EndOfList []))) 2) (Y.StmtThen [] (Y.Allocate ((Y.AllocateControlled (controlled 1 0 2)) ∷ []) 2)
+    (Y.StmtThen [] (Y.Put None ((put_pair ((Y.PutValue (Y.NumberValue 31 (Y.ElementsOf (whole (controlled 1 0 2)) 1))) ∷
+    (Y.PutValue (Y.NumberValue 31 (Y.ElementsOf (whole (automatic 1 0 1)) 1))) ∷ []) (T.FormatThen place 1 (T.FixedFormat 12)
+    T.NoFormat)) ∷ []) 3) (Y.EndOfList []))))) [] None) ∷ [])
+
+too_many_elements-runs :
+    run_of too_many_elements [] ≡ Some (record {
+      acts = 11;
+      output = codes "  2147483647 -2147483648" ++ (10 ∷ []);
+      raised = ((C.FixedOverflow, 20) ∷
+          []);
+      end = E.Finished;
+    })
+unfolding computing
+too_many_elements-runs = refl
+
+-- T: PROC OPTIONS(MAIN);
 -- DCL C FIXED BIN(31) CTL, I FIXED BIN(31); CALL R(2); PUT EDIT (ALLOCATION(C)) (F(2)); DO I = 1 TO 3; FREE C; PUT EDIT
 -- (ALLOCATION(C)) (F(2)); END; PUT EDIT (C) (F(2)); R: PROC(K) RECURSIVE; DCL K FIXED BIN(31); IF K = 0 THEN RETURN;
 -- ALLOCATE C; C = K; CALL R(K-1); END R;

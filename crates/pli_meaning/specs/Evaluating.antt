@@ -2,7 +2,7 @@
 use Rattle.std.specs.Prelude.{ℕ, zero, suc, ◌+◌, ◌-◌, ℤ, pos, ◌-ℤ◌, ◌+ℤ◌, int_le, Bool, not, ◌&&◌, ◌||◌, ◌==◌, List, [], ◌∷◌, take, length, Option, Some, None, is_some, slice_get, unwrap_or, if◌then◌else◌}
 use Rattle.std.specs.Ordering.{int_cmp}
 use Rattle.pli_meaning.specs.Codes.{no_generation_code, subscript_code, substring_code, conversion_code, extent_code, too_long_code, not_in_area_code}
-use Rattle.pli_meaning.specs.Numbers.{sign_applied, checked}
+use Rattle.pli_meaning.specs.Numbers.{sign_applied, checked, operator_precision}
 use Rattle.pli_typing.specs.Signatures.{Bounds, Leaf}
 use Rattle.pli_typing.specs.TypedTree as Y
 use Rattle.pli_meaning.specs.Texts.{number_text, bit_text, bit_number, number_in_text, bit_in_text, holds, text_order, bit_order, joined, substring_from, substring, index_of, verify_of}
@@ -242,7 +242,7 @@ unfoldable mutual
     given (bounds_in d dimension) (λ b. give b.upper) stuck
   number around (Y.ElementsOf r dimension) = do
     d ← designated around r
-    given (bounds_in d dimension) (λ b. give (elements_between b)) stuck
+    given (bounds_in d dimension) (λ b. value_of around (checked operator_precision (elements_between b))) stuck
   number around (Y.AllocationsOf v) = do
     s ← looked
     give (pos (length (offsets_of s.controlled v.block v.index)))

@@ -270,6 +270,13 @@ pub fn sign_code(code: &mut Code) -> Result<(), AllocError>
     code.subtract(a0(), u2(), u1())
 }
 
+/// A count of 2^31 or more isn't above 0 as a number.
+pub fn count_checked(code: &mut Code, taken: Taken) -> Result<(), AllocError>
+    ensures { OnOk result (code.new ≡ code.old ++ form.count_checked (taken_of taken)) }
+{
+    overflow_unless(code, BranchTest::Less, zero(), a0(), taken)
+}
+
 // ---- MOD, MAX, MIN
 
 /// A negative remainder gets the absolute divisor added.

@@ -1,7 +1,8 @@
 // What is known of a reference, and what is asked of it: its kind, its address, its name, its bounds.
 
 ghost use Rattle.std.specs.Prelude.{◌≡◌, suc, ◌+◌, map, ◌++◌, OnOk, IfOk};
-ghost use Rattle.pli_typing.specs.TypedView.{bounds_of, leaf_of, leaf_type_of, numbers_of, part_of, reference_of, variable_of};
+ghost use Rattle.pli_meaning.specs.Numbers.{is_of_precision};
+ghost use Rattle.pli_typing.specs.TypedView.{bounds_of, extent_of, leaf_of, leaf_type_of, numbers_of, part_of, reference_of, variable_of};
 ghost use Rattle.pli_coding.specs.Expressions as form;
 ghost use Rattle.pli_coding.specs.Locating.{leaf_number, own_place, waiting_name};
 ghost use Rattle.rv_address.specs.Around.{environment_of, taken_of};
@@ -9,6 +10,7 @@ ghost use Rattle.rv_address.specs.Places.{address_of, located_of};
 ghost use Rattle.rv_operation.specs.Asked.{asked_of};
 ghost use Rattle.rv_operation.specs.Pieces.{bound_told, element_reached, name_kept, part_named, text_loaded, value_loaded};
 
+use crate::arithmetic::count_checked;
 use crate::pointer::waiting_address;
 use pli_frames::fixed::{buffer_lower, buffer_upper};
 use pli_typing::typed::{Bounds, Extent, LeafType, Numbers, Part, Reference, Variable};
@@ -274,22 +276,51 @@ fn bounds_at(
     Ok(leaf.bounds[place])
 }
 
-fn elements_code(code: &mut Code, bounds: Bounds, n: u8) -> Result<(), AllocError>
-    ensures { OnOk result (code.new ≡ code.old ++ form.elements_code (bounds_of bounds) n) }
+fn is_number(count: i128) -> bool
+    ensures { result ≡ is_of_precision 31 count }
+{
+    i128::from(i32::MIN) <= count && count <= i128::from(i32::MAX)
+}
+
+/// Whether constant bounds tell that a number holds how many there are.
+fn are_few(bounds: Bounds) -> Result<bool, AllocError>
+    ensures { IfOk result (λ few. few ≡ form.are_few (extent_of bounds.lower) (extent_of bounds.upper)) }
+{
+    match (bounds.lower, bounds.upper) {
+        (Extent::Constant(lower), Extent::Constant(upper)) => {
+            let distance = upper.checked_sub(lower).ok_or(AllocError)?;
+            Ok(is_number(distance.checked_add(1).ok_or(AllocError)?))
+        }
+        _ => Ok(false),
+    }
+}
+
+fn elements_code(
+    code: &mut Code,
+    taken: Taken,
+    bounds: Bounds,
+    n: u8,
+) -> Result<(), AllocError>
+    ensures { OnOk result (code.new ≡ code.old ++ form.elements_code (taken_of taken) (bounds_of bounds) n) }
 {
     bound_loaded(code, a0(), bounds.upper, buffer_upper(n))?;
     bound_loaded(code, u1(), bounds.lower, buffer_lower(n))?;
     code.subtract(a0(), a0(), u1())?;
-    code.immediate(ImmediateOp::Add, a0(), a0(), 1)
+    code.immediate(ImmediateOp::Add, a0(), a0(), 1)?;
+    if are_few(bounds)? {
+        return Ok(());
+    }
+    count_checked(code, taken)
 }
 
 fn bound_code(
     code: &mut Code,
+    taken: Taken,
     asked: BoundAsked,
     bounds: Bounds,
     dimension: u64,
 ) -> Result<(), AllocError>
-    ensures { OnOk result (code.new ≡ code.old ++ form.bound_code (asked_of asked) (bounds_of bounds) dimension) }
+    ensures { OnOk result (code.new ≡ code.old ++ form.bound_code (taken_of taken) (asked_of asked) (bounds_of bounds) dimension) }
 {
     if dimension == 0 {
         return Ok(());
@@ -301,7 +332,7 @@ fn bound_code(
     match asked {
         BoundAsked::Lower => bound_loaded(code, a0(), bounds.lower, buffer_lower(n)),
         BoundAsked::Upper => bound_loaded(code, a0(), bounds.upper, buffer_upper(n)),
-        BoundAsked::Elements => elements_code(code, bounds, n),
+        BoundAsked::Elements => elements_code(code, taken, bounds, n),
     }
 }
 
@@ -339,7 +370,7 @@ fn dimension_code(
 {
     let bounds = bounds_at(environment, variable, part, dimension)?;
     bounds_found(code, environment, taken, variable, part, bounds)?;
-    bound_code(code, asked, bounds, dimension)
+    bound_code(code, taken, asked, bounds, dimension)
 }
 
 /// LBOUND, HBOUND or DIM of a reference, behind its locator.
