@@ -12,3 +12,4 @@ pub mod Lists
 pub mod Stops
 pub mod Arguments
 pub mod Beginnings
+pub mod Prefixes
