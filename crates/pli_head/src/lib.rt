@@ -2,6 +2,7 @@
 #![tactic(auto)]
 
 mod beginning;
+pub mod continuing;
 mod group;
 mod heads;
 pub mod reading;

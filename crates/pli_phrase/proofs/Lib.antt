@@ -13,3 +13,4 @@ pub mod Stops
 pub mod Arguments
 pub mod Beginnings
 pub mod Prefixes
+pub mod OpenRests
