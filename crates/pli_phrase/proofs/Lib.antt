@@ -13,3 +13,5 @@ pub mod Stops
 pub mod Arguments
 pub mod Beginnings
 pub mod Prefixes
+pub mod PhrasePrefixes
+pub mod RepeatPrefixes
