@@ -1,6 +1,6 @@
 -- What reading tells of the beginnings of names, numbers and counts.
 use Rattle.std.proofs.Common.{◌≡◌, ℕ, List, [], ◌∷◌, ◌++◌, Bool, true, false, Ok, Err, inr, refl, ap, ◌∙◌, sym, subst}
-use Rattle.std.specs.Prelude.{⊤, if◌then◌else◌}
+use Rattle.std.specs.Prelude.{if◌then◌else◌}
 use Rattle.pli_language.specs.declared.token.Word.TheVariants as W
 use Rattle.pli_language.specs.declared.token.Symbol.TheVariants as S
 use Rattle.pli_language.specs.declared.token.Kind.{Kind}
@@ -9,7 +9,7 @@ use Rattle.pli_language.specs.declared.token.Token.{Token}
 use Rattle.pli_language.specs.Marks.{Marks}
 use Rattle.pli_language.specs.Spells.{name_at}
 use Rattle.pli_language.specs.Tree as T
-use Rattle.pli_phrase.specs.Cursor.{Cursor, Missed, Stuck, Ended, Read, ◌>>=◌}
+use Rattle.pli_phrase.specs.Cursor.{Cursor, Ended, Read, ◌>>=◌}
 use Rattle.pli_phrase.specs.Tokens.{starts, begins, taken, named, name_from, numbered, number_from, count_from}
 use Rattle.pli_phrase.proofs.Tokens.{symbol_is}
 use Rattle.pli_phrase.proofs.Prefixes.{longer, Stays, Open, Closing, Prefixes, Steady, Firm, StartsNot, Next, Any, made, open_stays, prefix_ok, prefix_bind, prefix_taken, firm_prefix}
@@ -131,3 +131,61 @@ prefix_count =
     (λ n. prefix_bind (taken (K.Symbol S.CloseParenthesis)) (λ u. Ok (n, u.1)) (prefix_symbol S.CloseParenthesis) (λ u. prefix_ok n) (λ w h. tt))
     (λ w h. tt))
     (λ w h. tt)
+
+-- ---- one reader for where a word or symbol stands, another for where it doesn't
+
+module _ {X : Type 0} {Q F : List Token → Type 0} (k : Kind) (a b : Cursor → Read X) (p : Steady F a) (q : Prefixes Q F b) (other : (w : List Token) → Q w → StartsNot k w) where
+  abbrev either : Cursor → Read X
+  either c = if begins k c then a c else b c
+
+  either_is : (x : Bool) (c : Cursor) → starts k c.tokens ≡ x → either c ≡ (if x then a c else b c)
+  either_is x c e = ap (λ u. if u then a c else b c) e
+
+  stays_either : (ts more : List Token) (m : Marks) → Stays more (either (record { tokens = ts; marks = m })) (either (record { tokens = ts ++ more; marks = m }))
+  stays_either [] more m = open_stays more (b (record { tokens = []; marks = m })) _ (q.opens (record { tokens = []; marks = m }) refl)
+  stays_either (t ∷ ts) more m = stays_at (starts k (t ∷ ts))
+    where
+      stays_at : (x : Bool) → Stays more (if x then a (record { tokens = t ∷ ts; marks = m }) else b (record { tokens = t ∷ ts; marks = m })) (if x then a (record { tokens = t ∷ (ts ++ more); marks = m }) else b (record { tokens = t ∷ (ts ++ more); marks = m }))
+      stays_at true = p.stays (record { tokens = t ∷ ts; marks = m }) more
+      stays_at false = q.stays (record { tokens = t ∷ ts; marks = m }) more
+
+  closes_either : (ts : List Token) (m : Marks) → Open (either (record { tokens = ts; marks = m })) → Closing Q F either (record { tokens = ts; marks = m })
+  closes_either [] m o =
+      let h = q.closes (record { tokens = []; marks = m }) o in
+      record {
+        more = h.more;
+        given = h.given;
+        marks = h.marks;
+        reads = λ w i. either_is false (record { tokens = h.more ++ w; marks = m }) (other (h.more ++ w) (h.leads refl w i)) ∙ h.reads w i;
+        leads = λ e w i. h.leads refl w i;
+      }
+  closes_either (t ∷ ts) m o = closes_by (starts k (t ∷ ts)) refl o
+    where
+      closes_by : (x : Bool) → starts k (t ∷ ts) ≡ x → Open (if x then a (record { tokens = t ∷ ts; marks = m }) else b (record { tokens = t ∷ ts; marks = m })) → Closing Q F either (record { tokens = t ∷ ts; marks = m })
+      closes_by true e o =
+          let h = p.closes (record { tokens = t ∷ ts; marks = m }) o in
+          record {
+            more = h.more;
+            given = h.given;
+            marks = h.marks;
+            reads = λ w i. either_is true (record { tokens = t ∷ (ts ++ (h.more ++ w)); marks = m }) e ∙ h.reads w i;
+            leads = λ n. absurd (cc n);
+          }
+      closes_by false e o =
+          let h = q.closes (record { tokens = t ∷ ts; marks = m }) o in
+          record {
+            more = h.more;
+            given = h.given;
+            marks = h.marks;
+            reads = λ w i. either_is false (record { tokens = t ∷ (ts ++ (h.more ++ w)); marks = m }) e ∙ h.reads w i;
+            leads = λ n. absurd (cc n);
+          }
+
+-- the first may be stuck where there is no token: the second is asked for a completion there
+pub prefix_when : {X : Type 0} {Q F : List Token → Type 0} (k : Kind) (a b : Cursor → Read X) → Steady F a → Prefixes Q F b → ((w : List Token) → Q w → StartsNot k w) → Prefixes Q F (λ c. if begins k c then a c else b c)
+prefix_when k a b p q other =
+    record {
+      stays = λ c more. stays_either k a b p q other c.tokens more c.marks;
+      opens = λ c e. subst (λ u. Open (if starts k u then a c else b c)) (sym e) (q.opens c e);
+      closes = λ c o. closes_either k a b p q other c.tokens c.marks o;
+    }

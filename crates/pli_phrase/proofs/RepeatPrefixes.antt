@@ -5,7 +5,7 @@ use Rattle.pli_language.specs.declared.token.Symbol.TheVariants as S
 use Rattle.pli_language.specs.declared.token.Kind.TheVariants as K
 use Rattle.pli_language.specs.declared.token.Token.{Token}
 use Rattle.pli_language.specs.Marks.{Marks}
-use Rattle.pli_phrase.specs.Cursor.{Cursor, Missed, Stuck, Ended, LeavesOut, Read, ◌>>=◌}
+use Rattle.pli_phrase.specs.Cursor.{Cursor, Stuck, Ended, LeavesOut, Read, ◌>>=◌}
 use Rattle.pli_phrase.specs.Tokens.{is_terminal, starts, begins, taken}
 use Rattle.pli_phrase.proofs.Prefixes.{longer, Stays, Open, Closing, Prefixes, StartsNot, open_stays, stays_bind}
 
@@ -117,6 +117,7 @@ module _ {St X Y : Type 0} {P Fe F : List Token → Type 0} (one : St → Cursor
     where
       k : Closing P Fe (one st) c
       k = (p st).closes c o
+
       reads_last : (n : ℕ) (w : List Token) → F w → length (c.tokens ++ (k.more ++ w)) < n → list n st (longer c (k.more ++ w)) ≡ Ok (r.last st k.given, record { tokens = w; marks = k.marks })
       reads_last zero w f h = absurd (omega (arith, h))
       reads_last (suc n) w f h =
