@@ -15,3 +15,4 @@ pub mod Beginnings
 pub mod Prefixes
 pub mod PhrasePrefixes
 pub mod RepeatPrefixes
+pub mod RunPrefixes
