@@ -20,7 +20,7 @@ use Rattle.pli_phrase.specs.declared.expression.Beginning.TheVariants.{Begins, D
 use Rattle.pli_phrase.specs.Reading.{run, expr_from, reference_from, begun_by, begun, assignment_begins}
 use Rattle.pli_phrase.proofs.Tokens.{terminal_kind, word_is, symbol_is}
 use Rattle.pli_phrase.proofs.OpenRests.{open_expr_rest, open_reference_rest}
-use Rattle.pli_phrase.proofs.ExpressionPrefixes.{prefix_expr, prefix_reference, begins_stays, unknown_opens}
+use Rattle.pli_phrase.proofs.PhrasePrefixes.{is_plain, prefix_expr, expr_more, prefix_reference, reference_more, begins_stays, unknown_opens}
 use Rattle.pli_phrase.proofs.Prefixes.{longer, Stays, Open, Closing, Prefixes, made}
 use Rattle.pli_head.specs.Reading.{then_behind, condition_then, if_at, begins_if, assigns, closed, assignment_from, if_from, simple_from, head_behind, head_from}
 use Rattle.pli_head.specs.Continuing.{is_ended, may_assign, is_not_begun, is_if, ends_assignment, ends_word}
@@ -28,9 +28,6 @@ use Rattle.pli_head.proofs.HeadPrefixes.{prefix_if_then, Whole, word_closes}
 use Rattle.pli_head.proofs.Continuing.{if_true, chosen_first, chosen_second, both_first, both_second, expr_never, nothing_read, is_ended_so, assigns_if, assigns_else, not_if, differs_longer, IsAssigned, assigning_is, if_then_read, at, assigning, wording, head_begun, head_worded, if_behind}
 
 -- ---- tokens without THEN and `=`
-
-abbrev pub is_plain : Token → Bool
-is_plain t = not (is_terminal (K.Name W.Then) t.kind || is_terminal (K.Symbol S.Equal) t.kind)
 
 abbrev pub Plain : List Token → Type 0
 Plain ts = IsTrue (list_all is_plain ts)
@@ -43,14 +40,14 @@ plain_no_equal [] (t ∷ ts) p e =
     plain_first (is_terminal (K.Name W.Then) t.kind) (is_terminal (K.Symbol S.Equal) t.kind) (ap (is_terminal (K.Symbol S.Equal)) k ∙ symbol_is S.Equal) p
   where
     plain_first : (b x : Bool) → x ≡ true → IsTrue (not (b || x) && list_all is_plain ts) → ⊥
-    plain_first true x e p = p
-    plain_first false true e p = p
+    plain_first true x e p = cc p
+    plain_first false true e p = cc p
     plain_first false false e p = cc e
 plain_no_equal (u ∷ front) ts p e = plain_no_equal front ts (plain_rest (is_plain u) p) e
   where
     plain_rest : (b : Bool) → IsTrue (b && list_all is_plain (front ++ ts)) → IsTrue (list_all is_plain (front ++ ts))
     plain_rest true p = p
-    plain_rest false p = absurd p
+    plain_rest false p = absurd (cc p)
 
 -- ---- tokens without THEN
 
@@ -65,21 +62,21 @@ no_then_behind [] [] p e = cc e
 no_then_behind [] (t ∷ ts) p e = first_no (is_terminal (K.Name W.Then) t.kind) e p
   where
     first_no : (b : Bool) → b ≡ true → IsTrue (not b && list_all is_no_then ts) → ⊥
-    first_no true e p = p
+    first_no true e p = cc p
     first_no false e p = cc e
 no_then_behind (u ∷ front) ts p e = no_then_behind front ts (rest_no (is_no_then u) p) e
   where
     rest_no : (b : Bool) → IsTrue (b && list_all is_no_then (front ++ ts)) → IsTrue (list_all is_no_then (front ++ ts))
     rest_no true p = p
-    rest_no false p = absurd p
+    rest_no false p = absurd (cc p)
 
 plain_joined : (xs ys : List Token) → Plain xs → NoThen ys → NoThen (xs ++ ys)
 plain_joined [] ys p n = n
 plain_joined (t ∷ xs) ys p n = joined_by (is_terminal (K.Name W.Then) t.kind) (is_terminal (K.Symbol S.Equal) t.kind) p (λ q. plain_joined xs ys q n)
   where
     joined_by : (b x : Bool) → IsTrue (not (b || x) && list_all is_plain xs) → (Plain xs → NoThen (xs ++ ys)) → IsTrue (not b && list_all is_no_then (xs ++ ys))
-    joined_by true x p h = absurd p
-    joined_by false true p h = absurd p
+    joined_by true x p h = absurd (cc p)
+    joined_by false true p h = absurd (cc p)
     joined_by false false p h = h p
 
 -- ---- IF

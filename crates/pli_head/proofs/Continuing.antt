@@ -18,7 +18,7 @@ use Rattle.pli_phrase.specs.declared.expression.Beginning.{Beginning}
 use Rattle.pli_phrase.specs.declared.expression.Beginning.TheVariants.{Begins, Differs, Unknown}
 use Rattle.pli_phrase.specs.Reading.{run, expr_from, reference_from, assignment_begins}
 use Rattle.pli_phrase.proofs.Prefixes.{longer, Stays, Open, Closing, Prefixes}
-use Rattle.pli_phrase.proofs.ExpressionPrefixes.{prefix_expr, prefix_reference, begins_stays, unknown_opens}
+use Rattle.pli_phrase.proofs.PhrasePrefixes.{prefix_expr, prefix_reference, begins_stays, unknown_opens}
 use Rattle.pli_attributes.proofs.Posts.{post_is, post_leaves}
 use Rattle.pli_attributes.proofs.Expressions.{expr_post}
 use Rattle.pli_attributes.proofs.Tokens.{terminal_is, is_word}

@@ -8,24 +8,28 @@ use Rattle.pli_language.specs.declared.token.Symbol.TheVariants as S
 use Rattle.pli_language.specs.declared.token.Kind.TheVariants as K
 use Rattle.pli_language.specs.declared.token.Token.{Token}
 use Rattle.pli_language.specs.Formats.{Direction, Getting, Putting}
-use Rattle.pli_language.specs.Heads.{Head, ProcedureFront, Declaring, Simple, IfThen, Else, DoGroup, DoWhileGroup, DoCountGroup, BeginBlock, On, System, EndOf, moving}
+use Rattle.pli_language.specs.Heads.{is_left_out_head, Head, ProcedureFront, Declaring, Simple, IfThen, Else, DoGroup, DoWhileGroup, DoCountGroup, BeginBlock, On, System, EndOf, moving}
 use Rattle.pli_language.specs.Marks.{Marks}
+use Rattle.pli_language.specs.Spells.{next_kind}
 use Rattle.pli_language.specs.Tree as T
-use Rattle.pli_phrase.specs.Cursor.{Cursor, Stuck, Ended, LeavesOut, Read, ◌>>=◌}
-use Rattle.pli_phrase.specs.Tokens.{begins, taken, name_from}
+use Rattle.pli_phrase.specs.Cursor.{Cursor, Stuck, Ended, LeavesOut, Read, ◌>>=◌, onto}
+use Rattle.pli_phrase.specs.Tokens.{is_terminal, begins, taken_at, taken, name_from}
 use Rattle.pli_phrase.specs.declared.expression.Beginning.{Beginning}
 use Rattle.pli_phrase.specs.declared.expression.Beginning.TheVariants.{Begins, Differs, Unknown}
 use Rattle.pli_phrase.specs.Reading.{expr_from, reference_from, arguments_from, begun_by, begun, assignment_begins}
-use Rattle.pli_phrase.proofs.Prefixes.{longer, Stays, Open, Closing, Prefixes, Steady, StartsNot, Next, Allows, Any, next_not, next_allows, prefix_ok, prefix_as, prefix_bind, prefix_if, steady}
-use Rattle.pli_phrase.proofs.PhrasePrefixes.{prefix_symbol, prefix_word, prefix_name}
-use Rattle.pli_phrase.proofs.ExpressionPrefixes.{stops_expr, stops_reference, prefix_expr, prefix_reference, prefix_arguments, begins_stays, unknown_opens}
+use Rattle.pli_phrase.proofs.Prefixes.{longer, Stays, Open, Closing, Prefixes, Steady, StartsNot, Next, Allows, Any, next_not, next_allows, prefix_ok, prefix_as, prefix_bind, prefix_taken, steady}
+use Rattle.pli_phrase.proofs.PhrasePrefixes.{stops_expr, stops_reference, stops_arguments, prefix_symbol, prefix_when, prefix_name, prefix_expr, prefix_reference, prefix_arguments, begins_stays, unknown_opens}
+use Rattle.pli_phrase.proofs.Tokens.{terminal_kind, word_is}
 use Rattle.pli_attributes.specs.Reading.{declare_items_from}
 use Rattle.pli_attributes.proofs.AttributePrefixes.{prefix_declare_items}
 use Rattle.pli_stream.specs.Reading.{transfer_from}
 use Rattle.pli_stream.proofs.StreamPrefixes.{prefix_transfer}
-use Rattle.pli_clause.specs.Reading.{condition_from, parameters_from, options_from, in_parentheses_from, counting_from, allocations_from, freeings_from, value_from}
+use Rattle.pli_clause.specs.Reading.{condition_from, parameters_from, options_from, in_parentheses_from, range_from, while_from, counted, counting_from, allocations_from, freeings_from, value_from}
 use Rattle.pli_clause.proofs.ClausePrefixes.{prefix_condition, prefix_parameters, prefix_options, prefix_in_parentheses, prefix_counting, prefix_allocations, prefix_freeings, prefix_value}
 use Rattle.pli_head.specs.Reading.{closed, assignment_from, call_from, return_from, label_from, go_from, signal_from, revert_from, allocate_from, free_from, moved_from, procedure_from, declaring_from, if_from, do_while_from, do_count_from, do_worded, do_from, on_from, end_from, simple_from, simple_behind, other_from, head_behind}
+
+prefix_word : (w : Word) → Prefixes (Next (K.Name w)) Any (taken (K.Name w))
+prefix_word w = prefix_taken (K.Name w) (word_is w)
 
 -- ---- up to a semicolon
 
@@ -35,6 +39,9 @@ prefix_closed h = prefix_bind (taken (K.Symbol S.Semicolon)) (λ u. Ok (h, u.1))
 -- a simple statement behind which a semicolon may stand
 pub prefix_simple : {P F : List Token → Type 0} (f : Cursor → Read T.Stmt) → Prefixes P F f → ((w : List Token) → Next (K.Symbol S.Semicolon) w → F w) → Prefixes P Any (λ c. simple_from (f c))
 prefix_simple f p into = prefix_bind f (λ x. closed (Simple x.0) x.1) p (λ x. prefix_closed (Simple x)) into
+
+arguments_stop : (w : List Token) → Next (K.Symbol S.Semicolon) w → Allows stops_arguments w
+arguments_stop w q = next_allows stops_arguments (K.Symbol S.Semicolon) w refl q
 
 semicolon_expr : (w : List Token) → Next (K.Symbol S.Semicolon) w → Allows stops_expr w
 semicolon_expr w q = next_allows stops_expr (K.Symbol S.Semicolon) w refl q

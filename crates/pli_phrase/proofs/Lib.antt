@@ -14,3 +14,6 @@ pub mod Arguments
 pub mod Beginnings
 pub mod Prefixes
 pub mod OpenRests
+pub mod PhrasePrefixes
+pub mod RepeatPrefixes
+pub mod RunPrefixes
