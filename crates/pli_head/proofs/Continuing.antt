@@ -55,7 +55,7 @@ chosen_second true x e = e
 chosen_second false x e = absurd (cc e)
 
 -- a word that stands first does so with more behind
-begins_longer : (k : Kind) (c : Cursor) (more : List Token) → begins k c ≡ true → begins k (longer c more) ≡ true
+pub begins_longer : (k : Kind) (c : Cursor) (more : List Token) → begins k c ≡ true → begins k (longer c more) ≡ true
 begins_longer k c more e = front_longer c.tokens e
   where
     front_longer : (ts : List Token) → starts k ts ≡ true → starts k (ts ++ more) ≡ true
@@ -262,8 +262,8 @@ module _ (s : List ℕ) (t : Token) (w : Word) (m : Marks) (is : t.kind ≡ K.Na
   -- what it goes on as
   pub data GoesOn (x : Head × Cursor) : Type 0 where
     assigned : ends_assignment s (assigns s here) (place_of t) here ≡ true → IsAssigned x.0 → GoesOn x
-    worded : ends_word s (assigns s here) (t ∷ mid) (place_of t) w (at s t w m is mid) ≡ true → wording s t w m is (t ∷ (mid ++ more)) (mid ++ more) ≡ Ok x → GoesOn x
-    else_again : w ≡ W.Else → wording s t w m is (t ∷ (mid ++ more)) (mid ++ more) ≡ Ok x → GoesOn x
+    worded : ends_word s (assigns s here) (t ∷ mid) (place_of t) w (at s t w m is mid) ≡ true → assigns s there ≢ Begins → GoesOn x
+    else_again : w ≡ W.Else → assigns s here ≢ Begins → assigns s there ≢ Begins → GoesOn x
 
   abbrev assigning_here : Read Head
   assigning_here = assigning s t w m is (t ∷ mid)
@@ -295,8 +295,8 @@ module _ (s : List ℕ) (t : Token) (w : Word) (m : Marks) (is : t.kind ≡ K.Na
   wording_longer : Stays more wording_here wording_there
   wording_longer = word_stays s (t ∷ mid) (t ∷ (mid ++ more)) (place_of t) w (at s t w m is mid) more
 
-  worded_ends : (x : Head × Cursor) → (is_not_begun (assigns s here) || is_if w) ≡ true → wording_here ≡ Err Ended → wording_there ≡ Ok x → GoesOn x
-  worded_ends x may ends i = GoesOn.worded (ap (λ u. u && is_ended wording_here) may ∙ ended_is wording_here ends) i
+  worded_ends : (x : Head × Cursor) → (is_not_begun (assigns s here) || is_if w) ≡ true → wording_here ≡ Err Ended → assigns s there ≢ Begins → GoesOn x
+  worded_ends x may ends no = GoesOn.worded (ap (λ u. u && is_ended wording_here) may ∙ ended_is wording_here ends) no
 
   not_begun_may : (b : Beginning) → b ≢ Begins → (is_not_begun b || is_if w) ≡ true
   not_begun_may Begins n = absurd (n refl)
@@ -304,10 +304,10 @@ module _ (s : List ℕ) (t : Token) (w : Word) (m : Marks) (is : t.kind ≡ K.Na
   not_begun_may Unknown n = refl
 
   -- it is no assignment, with more behind or without
-  as_worded : (x : Head × Cursor) → NotWhole s here w → wording_there ≡ Ok x → assigns s here ≢ Begins → GoesOn x
-  as_worded x (NotWhole.is_else j no) i n = GoesOn.else_again j i
-  as_worded x (NotWhole.ends j) i n = worded_ends x (not_begun_may (assigns s here) n) (sym (head_worded s t w m is mid n) ∙ j) i
-  as_worded x (NotWhole.stuck j) i n =
+  as_worded : (x : Head × Cursor) → NotWhole s here w → wording_there ≡ Ok x → assigns s there ≢ Begins → assigns s here ≢ Begins → GoesOn x
+  as_worded x (NotWhole.is_else j k) i no n = GoesOn.else_again j n no
+  as_worded x (NotWhole.ends j) i no n = worded_ends x (not_begun_may (assigns s here) n) (sym (head_worded s t w m is mid n) ∙ j) no
+  as_worded x (NotWhole.stuck j) i no n =
       let k : wording_there ≡ Err Stuck = stuck_longer more wording_here wording_there wording_longer (sym (head_worded s t w m is mid n) ∙ j) in
       absurd (cc (i, k))
 
@@ -345,16 +345,16 @@ module _ (s : List ℕ) (t : Token) (w : Word) (m : Marks) (is : t.kind ≡ K.Na
   if_behind front ts i = ap (λ v. head_behind s front (place_of t) v (at s t w m is ts)) i
 
   -- what begins an assignment goes on as an IF
-  as_if : (x : Head × Cursor) → w ≡ W.If → begins_if s there ≡ true → assigns s here ≡ Begins → wording_there ≡ Ok x → (r : Read Head) → wording_here ≡ r → GoesOn x
-  as_if x i e b j (Ok y) h =
+  as_if : (x : Head × Cursor) → w ≡ W.If → begins_if s there ≡ true → assigns s here ≡ Begins → wording_there ≡ Ok x → assigns s there ≢ Begins → (r : Read Head) → wording_here ≡ r → GoesOn x
+  as_if x i e b j no (Ok y) h =
       let k = if_then_read s (place_of t) (at s t w m is mid) y (sym (if_behind (t ∷ mid) mid i) ∙ h) in
       let d : assigns s here ≡ Differs = assigns_if s here (if_here e k) in
       absurd (cc (b, d))
-  as_if x i e b j (Err Stuck) h = absurd (cc (j, stuck_longer more wording_here wording_there wording_longer h))
-  as_if x i e b j (Err Ended) h =
+  as_if x i e b j no (Err Stuck) h = absurd (cc (j, stuck_longer more wording_here wording_there wording_longer h))
+  as_if x i e b j no (Err Ended) h =
       let a : (is_not_begun (assigns s here) || is_if w) ≡ true = ap (λ u. is_not_begun u || is_if w) b ∙ ap is_if i in
-      worded_ends x a h j
-  as_if x i e b j (Err (LeavesOut d)) h =
+      worded_ends x a h no
+  as_if x i e b j no (Err (LeavesOut d)) h =
       absurd (if_never s (place_of t) (at s t w m is mid) d (sym (if_behind (t ∷ mid) mid i) ∙ h))
 
   -- an assignment begins here, and with more behind doesn't
@@ -370,9 +370,9 @@ module _ (s : List ℕ) (t : Token) (w : Word) (m : Marks) (is : t.kind ≡ K.Na
   worded_there : (x : Head × Cursor) → NotWhole s here w → wording_there ≡ Ok x → assigns s there ≢ Begins → (b : Beginning) → assigns s here ≡ b → GoesOn x
   worded_there x n i no Begins h =
       let e = begun_if h no in
-      as_if x (word_if e) e h i wording_here refl
-  worded_there x n i no Differs h = as_worded x n i (λ u. cc (h, u))
-  worded_there x n i no Unknown h = as_worded x n i (λ u. cc (h, u))
+      as_if x (word_if e) e h i no wording_here refl
+  worded_there x n i no Differs h = as_worded x n i no (λ u. cc (h, u))
+  worded_there x n i no Unknown h = as_worded x n i no (λ u. cc (h, u))
 
   -- a head with more behind goes on as an assignment, or as its word says
   pub goes_on : (x : Head × Cursor) → NotWhole s here w → head_from s there ≡ Ok x → GoesOn x
