@@ -5,7 +5,3 @@ pub mod CompleteStatements
 pub mod CompleteHeads
 pub mod LeftOut
 pub mod Laws
-pub mod HeadPrefixes
-pub mod Continuing
-pub mod Completing
-pub mod ProcedureEnds

@@ -11,7 +11,7 @@ use Rattle.pli_language.specs.Spells.{place_of}
 use Rattle.pli_phrase.specs.Cursor.{Cursor, Ended, Read, onto}
 use Rattle.pli_phrase.specs.declared.expression.Beginning.{Beginning}
 use Rattle.pli_phrase.specs.declared.expression.Beginning.TheVariants.{Begins, Differs, Unknown}
-use Rattle.pli_head.specs.declared.continuing.Continuations.{Continuations}
+use Rattle.pli_head.specs.declared.continuation.Continuations.{Continuations}
 use Rattle.pli_head.specs.Reading.{assigns, assignment_from, simple_from, head_behind}
 
 abbrev pub is_ended : {X : Type 0} → Read X → Bool

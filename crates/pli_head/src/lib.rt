@@ -2,7 +2,7 @@
 #![tactic(auto)]
 
 mod beginning;
-pub mod continuing;
+pub mod continuation;
 mod group;
 mod heads;
 pub mod reading;

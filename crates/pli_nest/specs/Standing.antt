@@ -6,7 +6,7 @@ use Rattle.pli_language.specs.declared.token.Word.TheVariants as W
 use Rattle.pli_language.specs.Heads.{Head, ProcedureFront, Declaring, Simple, IfThen, Else, DoGroup, DoWhileGroup, DoCountGroup, BeginBlock, On, System, EndOf}
 use Rattle.pli_language.specs.Tree.{Name, Return, Revert}
 use Rattle.pli_language.specs.Nesting.{Nest, Opener, OfProcedure, Frame, InList, ThenDue, ThenWhole, ElseDue, UnitDue, may_return, misplaced}
-use Rattle.pli_head.specs.declared.continuing.Continuations.{Continuations}
+use Rattle.pli_head.specs.declared.continuation.Continuations.{Continuations}
 use Rattle.pli_nest.specs.declared.standing.Front.{Front}
 use Rattle.pli_nest.specs.declared.standing.Front.TheVariants as R
 use Rattle.pli_nest.specs.Steps.{no_name, is_block_list, is_else, is_then_whole}

@@ -13,7 +13,7 @@ use crate::limits::{is_block_list, may_return};
 use crate::place::misplaced;
 use crate::settle::{is_else, is_then_whole, settled};
 use pli_head::Head;
-use pli_head::continuing::Continuations;
+use pli_head::continuation::Continuations;
 use pli_language::expr::{Name, Place};
 use pli_language::token::Word;
 use std::alloc::{AllocError, Global};

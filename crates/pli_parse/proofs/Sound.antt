@@ -65,7 +65,7 @@ module _ (s : List ℕ) (n : Nest) (ts : List Token) (ls : List Name) (t : Token
   here = record { tokens = t ∷ mid; marks = no_marks }
 
   entered_read : (h : Head) (c : Cursor) (o : Option Nest) → entered n ls h ≡ o → SpellsHead s (t ∷ mid) no_marks h c.tokens c.marks → length c.tokens < length (t ∷ mid) → TurnReads s n ts (placed (entry_as (misplaced (settled n.frames) ls (place_of t)) (nest_faults (settled n.frames) h) o) (t ∷ mid) c)
-  entered_read h c None e g shorter = record { holds = P.misplaced_head n ts mid c.tokens ls h c.marks t front g e }
+  entered_read h c None e g shorter = record { holds = misplaced_read h c e g }
   entered_read h c (Some n') e g shorter =
       let fewer : length c.tokens < length ts = omega (arith, shorter, less) in
       record { holds = (fewer, λ gs tree r. subst (λ u. Reads s n ts u tree) (sym (append_assoc (faults_of (t ∷ mid) c.tokens c.marks) (nest_faults (settled n.frames) h) gs)) (P.head n n' ts (t ∷ mid) c.tokens ls h c.marks gs tree front g e r)) }

@@ -18,7 +18,7 @@ use crate::end::end_of;
 use crate::labels::labels;
 use crate::least::{sooner, soonest};
 use crate::parentheses::{before, parentheses};
-use pli_head::continuing::continuations;
+use pli_head::continuation::continuations_at;
 use pli_head::reading::head;
 use pli_language::expr::{Name, Place};
 use pli_language::fault::{SourceFault, SourceKind};
@@ -222,7 +222,7 @@ fn broken<'a>(
         tokens,
         marks: no_marks(alloc),
     };
-    let continuations = continuations(alloc, source, &start)?;
+    let continuations = continuations_at(alloc, source, &start)?;
     let place = refused_place(alloc, nest, labels, at, end_of(source), continuations)?;
     Ok(stuck(found, place))
 }

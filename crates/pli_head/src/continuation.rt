@@ -141,7 +141,7 @@ fn none() -> Continuations
 ///
 /// Without memory.
 #[tactic(auto, unfolding(crate::specs::Continuing::continuations))]
-pub fn continuations(
+pub fn continuations_at(
     alloc: Global,
     source: &[u8],
     cursor: &Cursor,
