@@ -12,4 +12,5 @@ pub mod Lists
 pub mod Stops
 pub mod Arguments
 pub mod Beginnings
+pub mod PrefixesAt
 pub mod Prefixes
