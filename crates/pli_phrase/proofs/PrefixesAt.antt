@@ -78,6 +78,18 @@ at_weaken f c narrow wide a =
       };
     }
 
+-- with a token nothing has to be said of what it begins with
+pub at_some : {X : Type 0} {T : Token → Bool} {P Q F : List Token → Type 0} (f : Cursor → Read X) (t : Token) (ts : List Token) (m : Marks) → At T P F f (at (t ∷ ts) m) → At T Q F f (at (t ∷ ts) m)
+at_some f t ts m a =
+    record {
+      stays = a.stays;
+      opens = a.opens;
+      closes = λ o. let k = a.closes o in record {
+        closing = record { more = k.closing.more; given = k.closing.given; marks = k.closing.marks; reads = k.closing.reads; leads = λ n. absurd (cc n) };
+        passes = k.passes;
+      };
+    }
+
 -- ---- without a token, and with one that decides
 
 -- where the tokens end
@@ -98,6 +110,14 @@ at_stuck t ts m = record { stays = λ more. refl; opens = λ n. absurd (cc n); c
 
 pub at_left : {X : Type 0} {T : Token → Bool} {P F : List Token → Type 0} (d : Cursor → Cursor) (t : Token) (ts : List Token) (m : Marks) → At {X = X} T P F (λ c. Err (LeavesOut (d c))) (at (t ∷ ts) m)
 at_left d t ts m = record { stays = λ more. tt; opens = λ n. absurd (cc n); closes = λ o. absurd o }
+
+-- nothing is read
+pub at_ok : {X : Type 0} {T : Token → Bool} {F : List Token → Type 0} (x : X) (c : Cursor) → At T F F (λ d. Ok (x, d)) c
+at_ok {X} {T} {F} x c = by_tokens c.tokens c.marks
+  where
+    by_tokens : (ts : List Token) (m : Marks) → At T F F (λ d. Ok (x, d)) (at ts m)
+    by_tokens [] m = at_end_ok (λ d. Ok (x, d)) x m refl (λ w h. refl)
+    by_tokens (t ∷ ts) m = at_done x t ts m
 
 if_so : {A : Type 0} (b b' : Bool) (x y : A) → b ≡ b' → (if b then x else y) ≡ (if b' then x else y)
 if_so b b' x y e = ap (λ u. if u then x else y) e
@@ -223,14 +243,53 @@ at_bind f g c a q n into =
 
 -- what was read, made into something else
 pub at_map : {X Y : Type 0} {T : Token → Bool} {P F : List Token → Type 0} (f : Cursor → Read X) (to : X → Y) (c : Cursor) → At T P F f c → At T P F (λ d. f d >>= λ x. Ok (to x.0, x.1)) c
-at_map {X} {Y} {T} {P} {F} f to c a = at_bind f (λ x. Ok (to x.0, x.1)) c a (λ x e. ends (to x.0) x.1) (λ x m. ends (to x) (at [] m)) (λ w h. h)
+at_map f to c a = at_bind f (λ x. Ok (to x.0, x.1)) c a (λ x e. at_ok (to x.0) x.1) (λ x m. at_ok (to x) (at [] m)) (λ w h. h)
+
+-- ---- single tokens
+
+taken_first : (k : Kind) (t : Token) (ts : List Token) (m : Marks) → is_terminal k t.kind ≡ true → taken k (at (t ∷ ts) m) ≡ Ok (t, at ts m)
+unfolding taken
+taken_first k t ts m e = if_so (is_terminal k t.kind) true (Ok (t, at ts m)) (Err Stuck) e
+
+taken_other : (k : Kind) (t : Token) (ts : List Token) (m : Marks) → is_terminal k t.kind ≡ false → taken k (at (t ∷ ts) m) ≡ Err Stuck
+unfolding taken
+taken_other k t ts m e = if_so (is_terminal k t.kind) false (Ok (t, at ts m)) (Err Stuck) e
+
+taken_none : (k : Kind) (m : Marks) → taken k (at [] m) ≡ Err Ended
+unfolding taken
+taken_none k m = refl
+
+-- a token that stands first
+pub at_taken_first : {T : Token → Bool} {P F : List Token → Type 0} (k : Kind) (t : Token) (ts : List Token) (m : Marks) → is_terminal k t.kind ≡ true → At T P F (taken k) (at (t ∷ ts) m)
+at_taken_first {T} {P} {F} k t ts m e =
+    record {
+      stays = λ more. subst (λ r. Stays more r (taken k (at (t ∷ (ts ++ more)) m))) (sym (taken_first k t ts m e)) (inr (taken_first k t (ts ++ more) m e));
+      opens = λ n. absurd (cc n);
+      closes = λ o. ends (subst Open (taken_first k t ts m e) o);
+    }
   where
-    ends : (y : Y) (d : Cursor) → At T F F (λ e. Ok (y, e)) d
-    ends y d = by_tokens d.tokens d.marks
+    ends : ts ≡ [] → Ending T P F (taken k) (at (t ∷ ts) m)
+    ends n =
+        record {
+          closing = record { more = []; given = t; marks = m; reads = λ w h. taken_first k t (ts ++ w) m e ∙ ap (λ u. Ok (t, at (u ++ w) m)) n; leads = λ i. absurd (cc i) };
+          passes = refl;
+        }
+
+pub at_taken : {T : Token → Bool} (k : Kind) → is_terminal k k ≡ true → T (made k) ≡ true → (c : Cursor) → At T (Next k) Any (taken k) c
+at_taken {T} k self passes c = by_tokens c.tokens c.marks
+  where
+    by_tokens : (ts : List Token) (m : Marks) → At T (Next k) Any (taken k) (at ts m)
+    by_tokens [] m =
+        at_end (taken k) m (subst Open (sym (taken_none k m)) tt) (record {
+          closing = record { more = made k ∷ []; given = made k; marks = m; reads = λ w h. taken_first k (made k) w m self; leads = λ n w h. refl };
+          passes = ap (λ u. u && true) passes;
+        })
+    by_tokens (t ∷ ts) m = by_kind (is_terminal k t.kind) refl
       where
-        by_tokens : (ts : List Token) (m : Marks) → At T F F (λ e. Ok (y, e)) (at ts m)
-        by_tokens [] m = at_end_ok (λ e. Ok (y, e)) y m refl (λ w h. refl)
-        by_tokens (t ∷ ts) m = at_done y t ts m
+        by_kind : (b : Bool) → is_terminal k t.kind ≡ b → At T (Next k) Any (taken k) (at (t ∷ ts) m)
+        by_kind true e = at_taken_first k t ts m e
+        by_kind false e =
+            at_as (λ c. Err Stuck) (taken k) (at (t ∷ ts) m) (taken_other k t ts m e) (λ more. taken_other k t (ts ++ more) m e) (at_stuck t ts m)
 
 -- ---- loops
 
