@@ -11,3 +11,4 @@ pub mod AttributeLaws
 pub mod Items
 pub mod Loops
 pub mod Laws
+pub mod ListPrefixes

@@ -14,3 +14,5 @@ pub mod Arguments
 pub mod Beginnings
 pub mod PrefixesAt
 pub mod Prefixes
+pub mod PhrasePrefixes
+pub mod RepeatPrefixes
