@@ -7,8 +7,8 @@ use Rattle.pli_language.specs.declared.token.Token.{Token}
 use Rattle.pli_language.specs.Marks.{Marks}
 use Rattle.pli_phrase.specs.Cursor.{Cursor, Read, ◌>>=◌}
 use Rattle.pli_phrase.specs.Tokens.{starts, taken}
-use Rattle.pli_phrase.proofs.Prefixes.{longer, Prefixes, Any, Next, StartsNot, made}
-use Rattle.pli_phrase.proofs.PrefixesAt.{At, at, anything, at_one, at_all, at_as, at_weaken, at_some, at_ok, at_test, at_end_test, at_taken, at_taken_first, at_bind, at_map, loop_at, bind_same}
+use Rattle.pli_phrase.proofs.Prefixes.{longer, Any, Next, StartsNot, made}
+use Rattle.pli_phrase.proofs.PrefixesAt.{At, at, at_as, at_weaken, at_some, at_ok, at_test, at_end_test, at_taken, at_taken_first, at_bind, at_map, loop_at, bind_same}
 use Rattle.pli_attributes.specs.Lists.{One, enclosed_from, optional_from, further_from, list_at, list_from}
 use Rattle.pli_attributes.proofs.Posts.{post_is}
 use Rattle.pli_attributes.proofs.Tokens.{taken_post}
@@ -35,12 +35,6 @@ module _ {X : Type 0} {T : Token → Bool} {P F : List Token → Type 0} (inner 
           at_end_test (starts (K.Symbol S.OpenParenthesis)) (enclosed_from inner) (λ d. Ok (absent, d)) m refl no_open (at_ok absent (at [] m))
       by_tokens (t ∷ ts) m =
           at_test (λ d. starts (K.Symbol S.OpenParenthesis) d.tokens) (enclosed_from inner) (λ d. Ok (absent, d)) (at (t ∷ ts) m) (λ more. refl) (λ e. at_some (enclosed_from inner) t ts m (at_weaken (enclosed_from inner) (at (t ∷ ts) m) (λ w h. tt) (λ w h. h) (at_enclosed (at (t ∷ ts) m)))) (λ e. at_ok absent (at (t ∷ ts) m))
-
-pub prefix_enclosed : {X : Type 0} {P F : List Token → Type 0} (inner : Cursor → Read X) → Prefixes P F inner → ((w : List Token) → Next (K.Symbol S.CloseParenthesis) w → F w) → Prefixes (Next (K.Symbol S.OpenParenthesis)) Any (enclosed_from inner)
-prefix_enclosed inner p ends = at_all (at_enclosed inner (at_one p) ends refl refl)
-
-pub prefix_optional : {X : Type 0} {P F G : List Token → Type 0} (absent : X) (inner : Cursor → Read X) → Prefixes P F inner → ((w : List Token) → Next (K.Symbol S.CloseParenthesis) w → F w) → ((w : List Token) → G w → StartsNot (K.Symbol S.OpenParenthesis) w) → Prefixes G G (optional_from absent inner)
-prefix_optional absent inner p ends no_open = at_all (at_optional inner (at_one p) ends refl refl absent no_open)
 
 -- ---- lists
 
@@ -100,6 +94,3 @@ module _ {X : Type 0} (one : One X) (short : (i : ℕ) (c : Cursor) (x : X × Cu
     pub at_list : (c : Cursor) → At T P F (list_from one) c
     unfolding list_from
     at_list c = loop_at whole whole_none whole_step 0 c
-
-pub prefix_list : {X : Type 0} {P Ff F : List Token → Type 0} (one : One X) → ((i : ℕ) (c : Cursor) (x : X × Cursor) → one i c ≡ Ok x → length x.1.tokens ≤ length c.tokens) → ((i : ℕ) → Prefixes P Ff (one i)) → ((w : List Token) → F w → Ff w × StartsNot (K.Symbol S.Comma) w) → Prefixes P F (list_from one)
-prefix_list one short p narrow = at_all (at_list one short (λ i c. at_one (p i) c) narrow)

@@ -158,10 +158,55 @@ prefix_test {X} {Q} {F} test a b none first p q other = at_all (λ c. by_tokens 
     by_tokens (t ∷ ts) m =
         at_test (λ d. test d.tokens) a b (at (t ∷ ts) m) (first t ts) (λ e. at_steady p t ts m) (λ e. at_one q (at (t ∷ ts) m))
 
--- this word or symbol must not stand first
-pub prefix_without : {X : Type 0} {Q F : List Token → Type 0} (k : Kind) (b : Cursor → Read X) → Prefixes Q F b → ((w : List Token) → Q w → StartsNot k w) → Prefixes Q F (λ c. if begins k c then Err Stuck else b c)
-prefix_without k b q other =
-    prefix_test (starts k) (λ c. Err Stuck) b refl (λ t ts more. refl) (record { stays = λ c more. refl; closes = λ c o. absurd o }) q other
+-- ---- what the first token leads to
+
+-- a reader that goes on behind its first token
+pub at_behind : {X : Type 0} {P F : List Token → Type 0} (f g : Cursor → Read X) (t : Token) (ts : List Token) (m : Marks) → ((us : List Token) → f (at (t ∷ us) m) ≡ g (at us m)) → Steady F g → At anything P F f (at (t ∷ ts) m)
+at_behind f g t ts m is p =
+    record {
+      stays = λ more. subst (λ r. Stays more r (f (at (t ∷ (ts ++ more)) m))) (sym (is ts)) (subst (λ r. Stays more (g (at ts m)) r) (sym (is (ts ++ more))) (p.stays (at ts m) more));
+      opens = λ n. absurd (cc n);
+      closes = λ o. let k = p.closes (at ts m) (subst Open (is ts) o) in record {
+        closing = record { more = k.more; given = k.given; marks = k.marks; reads = λ w h. is (ts ++ (k.more ++ w)) ∙ k.reads w h; leads = λ n. absurd (cc n) };
+        passes = all_pass k.more;
+      };
+    }
+
+-- where the tokens end, it goes on behind a token of this kind
+pub at_end_behind : {X : Type 0} {Q F : List Token → Type 0} (f g : Cursor → Read X) (k : Kind) (m : Marks) → f (at [] m) ≡ Err Ended → ((us : List Token) → f (at (made k ∷ us) m) ≡ g (at us m)) → Prefixes Q F g → At anything (Next k) F f (at [] m)
+at_end_behind f g k m none is q =
+    let o = q.opens (at [] m) refl in
+    let j = q.closes (at [] m) o in
+    at_end f m (subst Open (sym none) tt) (record {
+      closing = record { more = made k ∷ j.more; given = j.given; marks = j.marks; reads = λ w h. is (j.more ++ w) ∙ j.reads w h; leads = λ n w h. refl };
+      passes = all_pass j.more;
+    })
+
+-- ---- marks
+
+-- what is read is marked
+pub prefix_marked : {X : Type 0} {F : List Token → Type 0} (x : X) (mark : Marks → Marks) → Prefixes F F (λ c. Ok (x, at c.tokens (mark c.marks)))
+prefix_marked x mark =
+    record {
+      stays = λ c more. inr refl;
+      opens = λ c e. e;
+      closes = λ c e. record {
+        more = [];
+        given = x;
+        marks = mark c.marks;
+        reads = λ w h. ap (λ ts. Ok (x, at (ts ++ w) (mark c.marks))) e;
+        leads = λ i w h. h;
+      };
+    }
+
+-- marks before a reader
+pub prefix_behind_marks : {X : Type 0} {P F : List Token → Type 0} (f : Cursor → Read X) (mark : Marks → Marks) → Prefixes P F f → Prefixes P F (λ c. f (at c.tokens (mark c.marks)))
+prefix_behind_marks f mark p =
+    record {
+      stays = λ c more. p.stays (at c.tokens (mark c.marks)) more;
+      opens = λ c e. p.opens (at c.tokens (mark c.marks)) e;
+      closes = λ c o. let k = p.closes (at c.tokens (mark c.marks)) o in record { more = k.more; given = k.given; marks = k.marks; reads = k.reads; leads = k.leads };
+    }
 
 -- ---- in a row
 
@@ -247,15 +292,15 @@ at_map f to c a = at_bind f (λ x. Ok (to x.0, x.1)) c a (λ x e. at_ok (to x.0)
 
 -- ---- single tokens
 
-taken_first : (k : Kind) (t : Token) (ts : List Token) (m : Marks) → is_terminal k t.kind ≡ true → taken k (at (t ∷ ts) m) ≡ Ok (t, at ts m)
+pub taken_first : (k : Kind) (t : Token) (ts : List Token) (m : Marks) → is_terminal k t.kind ≡ true → taken k (at (t ∷ ts) m) ≡ Ok (t, at ts m)
 unfolding taken
 taken_first k t ts m e = if_so (is_terminal k t.kind) true (Ok (t, at ts m)) (Err Stuck) e
 
-taken_other : (k : Kind) (t : Token) (ts : List Token) (m : Marks) → is_terminal k t.kind ≡ false → taken k (at (t ∷ ts) m) ≡ Err Stuck
+pub taken_other : (k : Kind) (t : Token) (ts : List Token) (m : Marks) → is_terminal k t.kind ≡ false → taken k (at (t ∷ ts) m) ≡ Err Stuck
 unfolding taken
 taken_other k t ts m e = if_so (is_terminal k t.kind) false (Ok (t, at ts m)) (Err Stuck) e
 
-taken_none : (k : Kind) (m : Marks) → taken k (at [] m) ≡ Err Ended
+pub taken_none : (k : Kind) (m : Marks) → taken k (at [] m) ≡ Err Ended
 unfolding taken
 taken_none k m = refl
 

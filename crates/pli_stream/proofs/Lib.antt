@@ -6,3 +6,4 @@ pub mod Pairs
 pub mod Options
 pub mod Laws
 pub mod Loops
+pub mod FormatPrefixes
