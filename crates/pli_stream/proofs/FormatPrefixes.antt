@@ -20,6 +20,7 @@ use Rattle.pli_phrase.proofs.PhrasePrefixes.{prefix_number, prefix_count, prefix
 use Rattle.pli_phrase.proofs.PrefixesAt.{Ending, At, at, anything, at_one, at_all, at_as, at_some, at_end, at_ok, at_done, at_behind, at_end_behind, at_bind, loop_at, bind_same, prefix_marked, prefix_behind_marks, taken_first}
 use Rattle.pli_attributes.specs.Reading.{starts_number}
 use Rattle.pli_attributes.proofs.Posts.{post_is}
+use Rattle.pli_attributes.proofs.Tokens.{number_read}
 use Rattle.pli_stream.specs.Reading.{checked, repetition_from, number_or_one_from, width_from, is_text_width, worded, format_of_kind, format_at, format_from, State, Outer, Item, start, Turn, On, Closed, with_item, opened, further, closed, listed, repeated, item_at, item_from, behind_item, turn, follow, run, formats_from}
 use Rattle.pli_stream.proofs.Sound.{turn_post, any_at}
 
@@ -298,3 +299,125 @@ whole_none d st m = by_due st.is_due
         let x = state false st.items st.outer st.moves_data in
         let e : whole d x (at [] m) ≡ Err Ended = unrolled d x (at [] m) ∙ ap (λ r. r >>= λ z. on d z) (behind_none x m) in
         at_end (whole d x) m (subst Open (sym e) tt) (closes_lists d st.items st.outer st.moves_data m)
+
+-- ---- an open parenthesis and a number, which may be a count or begin a list
+
+number_first : (t : Token) (n : ℕ) (us : List Token) (m : Marks) → t.kind ≡ K.Number n → number_from (at (t ∷ us) m) ≡ Ok (n, at us m)
+number_first t n us m e = number_read m (record { is = refl; of_kind = e })
+
+times_read : (d : Direction) (st : State) (u : Token) (n : ℕ) (us : List Token) (m : Marks) → u.kind ≡ K.Number n → item_from d st (at (u ∷ us) m) ≡ behind_times d st (place_of u) (n, at us m)
+times_read d st u n us m e =
+    item_is d st u us m true (is_count (u ∷ us)) (ap (λ k. starts_number (Some k)) e) refl ∙ ap (λ r. r >>= λ x. behind_times d st (place_of u) x) (number_first u n us m e)
+
+times_none : (d : Direction) (st : State) (p : Place) (n : ℕ) (m : Marks) → behind_times d st p (n, at [] m) ≡ Err Ended
+unfolding format_from
+times_none d st p n m = refl
+
+module _ (d : Direction) (st : State) (due : st.is_due ≡ true) (t u : Token) (n : ℕ) (m : Marks) (no_number : starts_number (Some t.kind) ≡ false) (is_open : is_terminal (K.Symbol S.OpenParenthesis) t.kind ≡ true) (is_number : u.kind ≡ K.Number n) where
+  -- inside the list that is opened
+  abbrev inside : State
+  inside = opened st (place_of t) 1
+
+  abbrev inside_marks : Marks
+  inside_marks = noted (is_times 1) (place_of t) m
+
+  abbrev behind_text : State
+  behind_text = with_item inside (place_of u) n (T.TextFormat None)
+
+  abbrev text_marks : Marks
+  text_marks = noted (is_text_width d None) (place_of u) (noted (is_times n) (place_of u) inside_marks)
+
+  due_turn : (c : Cursor) → turn d st c ≡ item_from d st c
+  due_turn c = ap (λ b. if b then item_from d st c else behind_item st c) due
+
+  list_begun : (us : List Token) → is_count (t ∷ u ∷ us) ≡ false → whole d st (at (t ∷ u ∷ us) m) ≡ (behind_times d inside (place_of u) (n, at us inside_marks) >>= λ z. on d z)
+  list_begun us i =
+      let first = due_turn (at (t ∷ u ∷ us) m) ∙ open_read d st t (u ∷ us) m no_number is_open i in
+      let second = times_read d inside u n us inside_marks is_number in
+      unrolled d st (at (t ∷ u ∷ us) m) ∙ ap (λ r. r >>= λ z. on d z) first ∙ unrolled d inside (at (u ∷ us) inside_marks) ∙ ap (λ r. r >>= λ z. on d z) second
+
+  begun_ended : whole d st (at (t ∷ u ∷ []) m) ≡ Err Ended
+  begun_ended = list_begun [] refl ∙ ap (λ r. r >>= λ z. on d z) (times_none d inside (place_of u) n inside_marks)
+
+  begun_closes : Ending anything Fresh Fresh (whole d st) (at (t ∷ u ∷ []) m)
+  begun_closes =
+      let h = closes_lists d behind_text.items behind_text.outer behind_text.moves_data text_marks in
+      let text = made (K.Name W.A) in
+      record {
+        closing = record {
+          more = text ∷ h.closing.more;
+          given = h.closing.given;
+          marks = h.closing.marks;
+          reads = λ w i. list_begun (text ∷ (h.closing.more ++ w)) (third_word t.kind u.kind W.A) ∙ ap (λ r. r >>= λ z. on d z) (text_read d inside (place_of u) n (h.closing.more ++ w) inside_marks (h.closing.leads refl w i).0) ∙ h.closing.reads w i;
+          leads = λ i. absurd (cc i);
+        };
+        passes = h.passes;
+      }
+
+  begun_list : At anything Fresh Fresh (whole d st) (at (t ∷ u ∷ []) m)
+  begun_list =
+      record {
+        stays = λ more. subst (λ r. Stays more r (whole d st (at (t ∷ u ∷ more) m))) (sym begun_ended) tt;
+        opens = λ i. absurd (cc i);
+        closes = λ o. begun_closes;
+      }
+
+-- ---- all turns
+
+module _ (d : Direction) (st : State) (t : Token) (ts : List Token) (m : Marks) (others : (j : State) (c : Cursor) → length c.tokens ≤ length ts → At anything Fresh Fresh (whole d j) c) where
+  on_at : (z : Turn) (c : Cursor) → length c.tokens ≤ length ts → At anything Fresh Fresh (λ e. on d (z, e)) c
+  on_at (On j) c l = others j c l
+  on_at (Closed fs moves) c l = at_ok (fs, moves) c
+
+  on_none : (z : Turn) (k : Marks) → At anything Fresh Fresh (λ e. on d (z, e)) (at [] k)
+  on_none (On j) k = whole_none d j k
+  on_none (Closed fs moves) k = at_ok (fs, moves) (at [] k)
+
+  turned : At anything Fresh Fresh (turn d st) (at (t ∷ ts) m) → At anything Fresh Fresh (whole d st) (at (t ∷ ts) m)
+  turned a =
+      at_as (λ c. turn d st c >>= λ z. on d z) (whole d st) (at (t ∷ ts) m) (unrolled d st (at (t ∷ ts) m)) (λ more. unrolled d st (at (t ∷ (ts ++ more)) m)) (at_bind (turn d st) (λ z. on d z) (at (t ∷ ts) m) a (λ z e. on_at z.0 z.1 (omega (arith, turn_less d st (at (t ∷ ts) m) z e))) on_none (λ w h. h))
+
+  item_turned : st.is_due ≡ true → At anything Fresh Fresh (item_from d st) (at (t ∷ ts) m) → At anything Fresh Fresh (whole d st) (at (t ∷ ts) m)
+  item_turned due a =
+      turned (at_as (item_from d st) (turn d st) (at (t ∷ ts) m) (ap (λ b. if b then item_from d st (at (t ∷ ts) m) else behind_item st (at (t ∷ ts) m)) due) (λ more. ap (λ b. if b then item_from d st (at (t ∷ (ts ++ more)) m) else behind_item st (at (t ∷ (ts ++ more)) m)) due) a)
+
+  behind_turned : st.is_due ≡ false → At anything Fresh Fresh (whole d st) (at (t ∷ ts) m)
+  behind_turned due =
+      turned (at_as (behind_item st) (turn d st) (at (t ∷ ts) m) (ap (λ b. if b then item_from d st (at (t ∷ ts) m) else behind_item st (at (t ∷ ts) m)) due) (λ more. ap (λ b. if b then item_from d st (at (t ∷ (ts ++ more)) m) else behind_item st (at (t ∷ (ts ++ more)) m)) due) (at_some (behind_item st) t ts m (at_one (prefix_behind_item st) (at (t ∷ ts) m))))
+
+-- behind an open parenthesis: whether a count stands there shows in the three tokens, where there are three
+opened_step : (d : Direction) (st : State) (t : Token) (ts : List Token) (m : Marks) → ((j : State) (c : Cursor) → length c.tokens ≤ length ts → At anything Fresh Fresh (whole d j) c) → st.is_due ≡ true → starts_number (Some t.kind) ≡ false → is_terminal (K.Symbol S.OpenParenthesis) t.kind ≡ true → At anything Fresh Fresh (whole d st) (at (t ∷ ts) m)
+opened_step d st t [] m others due no_number o = item_turned d st t [] m others due (item_open d st t m no_number o)
+opened_step d st t (u ∷ []) m others due no_number o = by_kind u.kind refl
+  where
+    by_kind : (k : Kind) → u.kind ≡ k → At anything Fresh Fresh (whole d st) (at (t ∷ u ∷ []) m)
+    by_kind (K.Number n) e = begun_list d st due t u n m no_number o e
+    by_kind k e =
+        let no : starts_number (Some u.kind) ≡ false = ap (λ k. starts_number (Some k)) e in
+        item_turned d st t (u ∷ []) m others due (item_once d st t (u ∷ []) m no_number refl (λ more. count_fresh t (u ∷ more) no))
+opened_step d st t (u ∷ v ∷ ts) m others due no_number o = by_count (are_count t.kind u.kind v.kind) refl
+  where
+    by_count : (b : Bool) → are_count t.kind u.kind v.kind ≡ b → At anything Fresh Fresh (whole d st) (at (t ∷ u ∷ v ∷ ts) m)
+    by_count true e = item_turned d st t (u ∷ v ∷ ts) m others due (item_count d st t (u ∷ v ∷ ts) m no_number e (λ more. e))
+    by_count false e = item_turned d st t (u ∷ v ∷ ts) m others due (item_once d st t (u ∷ v ∷ ts) m no_number e (λ more. e))
+
+whole_step : (d : Direction) (st : State) (t : Token) (ts : List Token) (m : Marks) → ((j : State) (c : Cursor) → length c.tokens ≤ length ts → At anything Fresh Fresh (whole d j) c) → At anything Fresh Fresh (whole d st) (at (t ∷ ts) m)
+whole_step d st t ts m others = by_due st.is_due refl
+  where
+    by_open : (b : Bool) → st.is_due ≡ true → starts_number (Some t.kind) ≡ false → is_terminal (K.Symbol S.OpenParenthesis) t.kind ≡ b → At anything Fresh Fresh (whole d st) (at (t ∷ ts) m)
+    by_open true due no_number o = opened_step d st t ts m others due no_number o
+    by_open false due no_number o =
+        item_turned d st t ts m others due (item_once d st t ts m no_number (no_count t ts o) (λ more. no_count t (ts ++ more) o))
+
+    by_number : (b : Bool) → st.is_due ≡ true → starts_number (Some t.kind) ≡ b → At anything Fresh Fresh (whole d st) (at (t ∷ ts) m)
+    by_number true due e = item_turned d st t ts m others due (item_number d st t ts m e)
+    by_number false due e = by_open (is_terminal (K.Symbol S.OpenParenthesis) t.kind) due e refl
+
+    by_due : (b : Bool) → st.is_due ≡ b → At anything Fresh Fresh (whole d st) (at (t ∷ ts) m)
+    by_due true due = by_number (starts_number (Some t.kind)) due refl
+    by_due false due = behind_turned d st t ts m others due
+
+-- what stands behind the open parenthesis of a format list
+pub prefix_formats : (d : Direction) → Prefixes Fresh Fresh (formats_from d)
+unfolding formats_from
+prefix_formats d = at_all (loop_at (whole d) (whole_none d) (whole_step d) start)
