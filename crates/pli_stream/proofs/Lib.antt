@@ -7,3 +7,4 @@ pub mod Options
 pub mod Laws
 pub mod Loops
 pub mod FormatPrefixes
+pub mod StreamPrefixes
