@@ -16,3 +16,4 @@ pub mod PrefixesAt
 pub mod Prefixes
 pub mod PhrasePrefixes
 pub mod RepeatPrefixes
+pub mod RunPrefixes

@@ -23,6 +23,10 @@ open_first (Err Ended) f o = tt
 open_first (Err Stuck) f o = absurd o
 open_first (Err (LeavesOut d)) f o = absurd o
 
+pub bind_same : {X Y : Type 0} (r : Read X) (f g : X × Cursor → Read Y) → ((x : X × Cursor) → f x ≡ g x) → (r >>= f) ≡ (r >>= g)
+bind_same (Ok x) f g h = h x
+bind_same (Err e) f g h = refl
+
 -- what was done before the tokens end is done with further ones
 pub done_longer : {X : Type 0} (r r' : Read X) (more : List Token) (x : X × Cursor) (t : Token) (ts : List Token) → Stays more r r' → r ≡ Ok x → x.1.tokens ≡ t ∷ ts → r' ≡ Ok (x.0, longer x.1 more)
 done_longer {X} r r' more x t ts s e i = done_by (subst (λ u. Stays more u r') e s)
