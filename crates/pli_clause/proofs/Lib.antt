@@ -6,3 +6,4 @@ pub mod OptionLaws
 pub mod Countings
 pub mod Placings
 pub mod Loops
+pub mod ClausePrefixes

@@ -304,31 +304,39 @@ pub taken_none : (k : Kind) (m : Marks) → taken k (at [] m) ≡ Err Ended
 unfolding taken
 taken_none k m = refl
 
--- a token that stands first
-pub at_taken_first : {T : Token → Bool} {P F : List Token → Type 0} (k : Kind) (t : Token) (ts : List Token) (m : Marks) → is_terminal k t.kind ≡ true → At T P F (taken k) (at (t ∷ ts) m)
-at_taken_first {T} {P} {F} k t ts m e =
+-- a reader of the first token alone
+pub at_first : {X : Type 0} {T : Token → Bool} {P F : List Token → Type 0} (f : Cursor → Read X) (x : X) (t : Token) (ts : List Token) (m k : Marks) → ((us : List Token) → f (at (t ∷ us) m) ≡ Ok (x, at us k)) → At T P F f (at (t ∷ ts) m)
+at_first {X} {T} {P} {F} f x t ts m k e =
     record {
-      stays = λ more. subst (λ r. Stays more r (taken k (at (t ∷ (ts ++ more)) m))) (sym (taken_first k t ts m e)) (inr (taken_first k t (ts ++ more) m e));
+      stays = λ more. subst (λ r. Stays more r (f (at (t ∷ (ts ++ more)) m))) (sym (e ts)) (inr (e (ts ++ more)));
       opens = λ n. absurd (cc n);
-      closes = λ o. ends (subst Open (taken_first k t ts m e) o);
+      closes = λ o. ends (subst Open (e ts) o);
     }
   where
-    ends : ts ≡ [] → Ending T P F (taken k) (at (t ∷ ts) m)
+    ends : ts ≡ [] → Ending T P F f (at (t ∷ ts) m)
     ends n =
         record {
-          closing = record { more = []; given = t; marks = m; reads = λ w h. taken_first k t (ts ++ w) m e ∙ ap (λ u. Ok (t, at (u ++ w) m)) n; leads = λ i. absurd (cc i) };
+          closing = record { more = []; given = x; marks = k; reads = λ w h. e (ts ++ w) ∙ ap (λ u. Ok (x, at (u ++ w) k)) n; leads = λ i. absurd (cc i) };
           passes = refl;
         }
+
+-- where the tokens end, it reads a token of this kind
+pub at_end_first : {X : Type 0} {T : Token → Bool} (f : Cursor → Read X) (x : X) (j : Kind) (m k : Marks) → f (at [] m) ≡ Err Ended → ((us : List Token) → f (at (made j ∷ us) m) ≡ Ok (x, at us k)) → T (made j) ≡ true → At T (Next j) Any f (at [] m)
+at_end_first f x j m k none e passes =
+    at_end f m (subst Open (sym none) tt) (record {
+      closing = record { more = made j ∷ []; given = x; marks = k; reads = λ w h. e w; leads = λ n w h. refl };
+      passes = ap (λ u. u && true) passes;
+    })
+
+-- a token that stands first
+pub at_taken_first : {T : Token → Bool} {P F : List Token → Type 0} (k : Kind) (t : Token) (ts : List Token) (m : Marks) → is_terminal k t.kind ≡ true → At T P F (taken k) (at (t ∷ ts) m)
+at_taken_first k t ts m e = at_first (taken k) t t ts m m (λ us. taken_first k t us m e)
 
 pub at_taken : {T : Token → Bool} (k : Kind) → is_terminal k k ≡ true → T (made k) ≡ true → (c : Cursor) → At T (Next k) Any (taken k) c
 at_taken {T} k self passes c = by_tokens c.tokens c.marks
   where
     by_tokens : (ts : List Token) (m : Marks) → At T (Next k) Any (taken k) (at ts m)
-    by_tokens [] m =
-        at_end (taken k) m (subst Open (sym (taken_none k m)) tt) (record {
-          closing = record { more = made k ∷ []; given = made k; marks = m; reads = λ w h. taken_first k (made k) w m self; leads = λ n w h. refl };
-          passes = ap (λ u. u && true) passes;
-        })
+    by_tokens [] m = at_end_first (taken k) (made k) k m m (taken_none k m) (λ us. taken_first k (made k) us m self) passes
     by_tokens (t ∷ ts) m = by_kind (is_terminal k t.kind) refl
       where
         by_kind : (b : Bool) → is_terminal k t.kind ≡ b → At T (Next k) Any (taken k) (at (t ∷ ts) m)

@@ -15,8 +15,8 @@ use Rattle.pli_language.specs.Tree as T
 use Rattle.pli_phrase.specs.Cursor.{Cursor, Stuck, Ended, LeavesOut, Read, ◌>>=◌}
 use Rattle.pli_phrase.specs.Tokens.{is_terminal, starts, taken}
 use Rattle.pli_phrase.specs.Reading.{exprs_from}
-use Rattle.pli_phrase.proofs.Prefixes.{longer, Prefixes, Any, Next, StartsNot, Steady, made, prefix_ok, prefix_as, prefix_bind, prefix_taken, next_not, steady, steady_err}
-use Rattle.pli_phrase.proofs.PhrasePrefixes.{prefix_symbol, prefix_when}
+use Rattle.pli_phrase.proofs.Prefixes.{longer, Prefixes, Any, Next, StartsNot, Steady, made, prefix_ok, prefix_as, prefix_bind, prefix_taken, next_not, next_allows, steady, steady_err}
+use Rattle.pli_phrase.proofs.PhrasePrefixes.{stops_exprs, prefix_exprs, prefix_symbol, prefix_when}
 use Rattle.pli_phrase.proofs.PrefixesAt.{At, at, anything, at_one, at_all, at_as, at_some, at_ok, at_test, at_end_test, at_bind, at_map, loop_at, bind_same, prefix_test, prefix_marked, taken_first, taken_other, taken_none}
 use Rattle.pli_attributes.specs.Lists.{enclosed_from}
 use Rattle.pli_attributes.proofs.Posts.{post_is}
@@ -76,9 +76,25 @@ module _ {F : List Token → Type 0} (ends : (w : List Token) → F w → NoOpti
       (λ w h. h))
       (λ w h. h)
 
+-- ---- the whole
+
+-- what it begins with
+abbrev pub Begins : List Token → Type 0
+Begins w = NoOption w × (is_left_out_kind (next_kind w) ≡ false)
+
+-- what may stand behind
+abbrev pub Ends : List Token → Type 0
+Ends w = Begins w × (StartsNot (K.Name W.Edit) w × Fresh w)
+
+pub semicolon_ends : (w : List Token) → Next (K.Symbol S.Semicolon) w → Ends w
+semicolon_ends w n =
+    let k = K.Symbol S.Semicolon in
+    let no_open = next_not (K.Symbol S.OpenParenthesis) k w refl n in
+    (((next_not (K.Name W.File) k w refl n, (next_not (K.Name W.Skip) k w refl n, no_open)), ap is_left_out_kind n), (next_not (K.Name W.Edit) k w refl n, (no_open, ap starts_number n)))
+
 -- ---- pairs
 
-module _ {Stops : List Token → Type 0} (s : List ℕ) (exprs : Prefixes (Next (K.Number 1)) Stops (exprs_from s)) (close : (w : List Token) → Next (K.Symbol S.CloseParenthesis) w → Stops w) (d : Direction) where
+module _ (s : List ℕ) (d : Direction) where
   prefix_by_formats : (es : T.Exprs) (t : Token) → Prefixes Fresh Fresh (λ c. by_formats d es (t, c))
   prefix_by_formats es t =
       prefix_bind (formats_from d) (λ fs. Ok (record { items = es; formats = fs.0.0; place = place_of t }, checked fs.0.1 (place_of t) fs.1)) (prefix_formats d) (λ fs. prefix_marked (record { items = es; formats = fs.0; place = place_of t }) (noted fs.1 (place_of t))) (λ w h. h)
@@ -86,7 +102,7 @@ module _ {Stops : List Token → Type 0} (s : List ℕ) (exprs : Prefixes (Next 
   prefix_pair : Prefixes (Next (K.Symbol S.OpenParenthesis)) Fresh (pair_from s d)
   unfolding pair_from
   prefix_pair =
-      prefix_bind (enclosed_from (exprs_from s)) (λ es. taken (K.Symbol S.OpenParenthesis) es.1 >>= λ t. by_formats d es.0 t) (prefix_enclosed (exprs_from s) exprs close)
+      prefix_bind (enclosed_from (exprs_from s)) (λ es. taken (K.Symbol S.OpenParenthesis) es.1 >>= λ t. by_formats d es.0 t) (prefix_enclosed (exprs_from s) (prefix_exprs s) (λ w h. next_allows stops_exprs (K.Symbol S.CloseParenthesis) w refl h))
       (λ es. prefix_bind (taken (K.Symbol S.OpenParenthesis)) (λ t. by_formats d es t) (prefix_symbol S.OpenParenthesis) (λ t. prefix_by_formats es t) (λ w h. tt))
       (λ w h. tt)
 
@@ -144,16 +160,6 @@ module _ {Stops : List Token → Type 0} (s : List ℕ) (exprs : Prefixes (Next 
   pub prefix_pairs : Prefixes (Next (K.Symbol S.OpenParenthesis)) Fresh (pairs_from s d)
   prefix_pairs =
       at_all (λ c. at_as some_pairs (pairs_from s d) c (pairs_are c) (λ more. pairs_are (longer c more)) (at_one prefix_some c))
-
-  -- ---- the whole
-
-  -- what it begins with
-  abbrev Begins : List Token → Type 0
-  Begins w = NoOption w × (is_left_out_kind (next_kind w) ≡ false)
-
-  -- what may stand behind
-  abbrev Ends : List Token → Type 0
-  Ends w = Begins w × (StartsNot (K.Name W.Edit) w × Fresh w)
 
   abbrev transfer : Option T.Skip → List T.EditPair → Transfer
   transfer k ps = record { skip = k; pairs = ps }
