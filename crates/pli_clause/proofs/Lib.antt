@@ -7,3 +7,4 @@ pub mod Countings
 pub mod Placings
 pub mod Loops
 pub mod ClausePrefixes
+pub mod OptionPrefixes
