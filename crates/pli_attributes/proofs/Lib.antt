@@ -1,6 +1,7 @@
 pub mod Posts
 pub mod Tokens
 pub mod Lists
+pub mod ListsAt
 pub mod Enclosed
 pub mod Expressions
 pub mod Extents

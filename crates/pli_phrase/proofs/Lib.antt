@@ -12,6 +12,7 @@ pub mod Lists
 pub mod Stops
 pub mod Arguments
 pub mod Beginnings
+pub mod PrefixesAt
 pub mod Prefixes
 pub mod OpenRests
 pub mod PhrasePrefixes
