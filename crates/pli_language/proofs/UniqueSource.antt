@@ -5,11 +5,11 @@ use Rattle.pli_language.specs.declared.expr.Place.{Place}
 use Rattle.pli_language.specs.declared.fault.SourceFault.{SourceFault}
 use Rattle.pli_language.specs.declared.fault.SourceKind.TheVariants.{LeftOut}
 use Rattle.pli_language.specs.declared.token.Token.{Token}
-use Rattle.pli_language.specs.Heads.{Head, SpellsHead, LeavesOut}
+use Rattle.pli_language.specs.Heads.{Head, Else, SpellsHead, LeavesOut}
 use Rattle.pli_language.specs.Marks.{Marks, no_marks, fault_at}
 use Rattle.pli_language.specs.Nesting.{Nest, outermost, entered, settled, misplaced, nest_faults, items_of_list}
 use Rattle.pli_language.specs.Parsing as G
-use Rattle.pli_language.specs.Parsing.{label_ahead, SpellsLabels, faults_of, syntax_at, end_of, BeginsHead, BeginsLeftOut, MayGoOn, IsRefusedAt, Reads, Spells, RefusesTokens}
+use Rattle.pli_language.specs.Parsing.{label_ahead, SpellsLabels, faults_of, syntax_at, end_of, BeginsHead, BeginsLeftOut, MayGoOn, IsRefusedAt, IsMisplacedAt, Reads, Spells, RefusesTokens}
 use Rattle.pli_language.specs.Spells.{name_at, place_of}
 use Rattle.pli_language.specs.Tree.{Name, Tree}
 use Rattle.pli_language.proofs.Unique.{Same}
@@ -104,16 +104,6 @@ goes_along : {s : List ℕ} {n n' : Nest} {ls ls' : List Name} {ts ts' : List To
 goes_along {s} {n} {n'} {ls} {ls'} {ts} {ts'} e f g a =
     subst (λ u. MayGoOn s u ls' ts') e (subst (λ u. MayGoOn s n u ts') f (subst (λ u. MayGoOn s n ls u) g a))
 
-pub record SameReading (fs fs' : List SourceFault) (x x' : Option Tree) : Type 0 where
-  pub faults : fs ≡ fs'
-  pub tree : x ≡ x'
-
-prepended : {a a' fs fs' : List SourceFault} → a ≡ a' → fs ≡ fs' → a ++ fs ≡ a' ++ fs'
-prepended e f = cc (e, f)
-
-one_fault : Place → List SourceFault
-one_fault p = syntax_at p ∷ []
-
 -- a head is refused at one place
 refused_once : {s : List ℕ} {n n' : Nest} {ls ls' : List Name} {t t' : Token} {mid mid' : List Token} {p p' : Place} → n ≡ n' → ls ≡ ls' → t ≡ t' → mid ≡ mid' → IsRefusedAt s n ls t mid p → IsRefusedAt s n' ls' t' mid' p' → p ≡ p'
 refused_once e f g h (inl a) (inl a') = cc (a.1, a'.1)
@@ -124,6 +114,25 @@ refused_once {t = t} {t' = t'} {mid = mid} {mid' = mid'} e f g h (inr a) (inl a'
     let same : t' ∷ mid' ≡ t ∷ mid = cc (g, h) in
     absurd (a.0 (goes_along (sym e) (sym f) same a'.0))
 refused_once e f g h (inr a) (inr a') = cc (a.1, a'.1, ap place_of g)
+
+one_place : (s : List ℕ) {n n' : Nest} {ls ls' : List Name} {t t' : Token} {mid mid' : List Token} {p p' : Place} (h : Head) → n ≡ n' → ls ≡ ls' → t ≡ t' → mid ≡ mid' → IsMisplacedAt s n ls h t mid p → IsMisplacedAt s n' ls' h t' mid' p' → p ≡ p'
+one_place s (Else q) e f g k a b = refused_once e f g k a b
+one_place s _ e f g k a b = cc (a, b, ap place_of g)
+
+-- a head that may not stand is refused at one place
+misplaced_once : (s : List ℕ) {n n' : Nest} {ls ls' : List Name} {t t' : Token} {mid mid' : List Token} {p p' : Place} {h h' : Head} → h ≡ h' → n ≡ n' → ls ≡ ls' → t ≡ t' → mid ≡ mid' → IsMisplacedAt s n ls h t mid p → IsMisplacedAt s n' ls' h' t' mid' p' → p ≡ p'
+misplaced_once s {n' = n'} {ls' = ls'} {t' = t'} {mid' = mid'} {p' = p'} {h = h} i e f g k a b =
+    one_place s h e f g k a (subst (λ u. IsMisplacedAt s n' ls' u t' mid' p') (sym i) b)
+
+pub record SameReading (fs fs' : List SourceFault) (x x' : Option Tree) : Type 0 where
+  pub faults : fs ≡ fs'
+  pub tree : x ≡ x'
+
+prepended : {a a' fs fs' : List SourceFault} → a ≡ a' → fs ≡ fs' → a ++ fs ≡ a' ++ fs'
+prepended e f = cc (e, f)
+
+one_fault : Place → List SourceFault
+one_fault p = syntax_at p ∷ []
 
 misplaced_same : {n n' : Nest} {ls ls' : List Name} {p p' : Place} → n ≡ n' → ls ≡ ls' → p ≡ p' → one_fault (misplaced (settled n.frames) ls p) ≡ one_fault (misplaced (settled n'.frames) ls' p')
 misplaced_same {n} {n'} {ls} {ls'} {p} {p'} e f g =
@@ -170,9 +179,10 @@ reads_same e k (G.misplaced_head n ts mid rest ls h m t p labels of enters_none 
     let g = head_same f.rest refl of of' in
     let there : entered n ls h ≡ entered n' ls' h' = cc (ap entered e, f.value, g.value) in
     absurd (cc (there, enters_none, enters'))
-reads_same e k (G.misplaced_head n ts mid rest ls h m t p labels of enters_none at) (G.misplaced_head n' ts' mid' rest' ls' h' m' t' p' labels' of' enters_none' at') =
+reads_same {s} e k (G.misplaced_head n ts mid rest ls h m t p labels of enters_none at) (G.misplaced_head n' ts' mid' rest' ls' h' m' t' p' labels' of' enters_none' at') =
     let f = labels_same k labels labels' in
-    let place : p ≡ p' = refused_once e f.value (cc (f.rest)) (cc (f.rest)) at at' in
+    let g = head_same f.rest refl of of' in
+    let place : p ≡ p' = misplaced_once s g.value e f.value (cc (f.rest)) (cc (f.rest)) at at' in
     record { faults = misplaced_same e f.value place; tree = refl }
 reads_same e k (G.left_out n ts mid rest ls m t labels of) (G.left_out n' ts' mid' rest' ls' m' t' labels' of') =
     let f = labels_same k labels labels' in

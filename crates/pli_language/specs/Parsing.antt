@@ -9,7 +9,7 @@ use Rattle.pli_language.specs.declared.token.Symbol.TheVariants as S
 use Rattle.pli_language.specs.declared.token.Kind.{Kind}
 use Rattle.pli_language.specs.declared.token.Kind.TheVariants as K
 use Rattle.pli_language.specs.declared.token.Token.{Token}
-use Rattle.pli_language.specs.Heads.{Head, SpellsHead, LeavesOut}
+use Rattle.pli_language.specs.Heads.{Head, Else, SpellsHead, LeavesOut}
 use Rattle.pli_language.specs.Marks.{Marks, no_marks, fault_at, parentheses_marks}
 use Rattle.pli_language.specs.Nesting.{Nest, outermost, entered, settled, misplaced, nest_faults, items_of_list}
 use Rattle.pli_language.specs.Refusals.{IsLeast}
@@ -64,6 +64,11 @@ abbrev pub IsRefusedAt : List ℕ → Nest → List Name → Token → List Toke
 IsRefusedAt s n ls t mid p =
     (MayGoOn s n ls (t ∷ mid) × (p ≡ end_of s)) ⊎ ((¬ MayGoOn s n ls (t ∷ mid)) × (p ≡ place_of t))
 
+-- where a head that is spelled may not stand: at its first token; but ELSE may go on, as a variable of that name
+abbrev pub IsMisplacedAt : List ℕ → Nest → List Name → Head → Token → List Token → Place → Type 0
+IsMisplacedAt s n ls (Else q) t mid p = IsRefusedAt s n ls t mid p
+IsMisplacedAt s n ls h t mid p = p ≡ place_of t
+
 -- What is read from a place on, where a nest is open: all that the heads break that are read, and the head behind them;
 -- and the tree, where all is read. A source ends too early, or a head may not stand where it stands, or no head is spelled;
 -- but a form that is left out is told as such.
@@ -71,7 +76,7 @@ pub data Reads (s : List ℕ) : Nest → List Token → List SourceFault → Opt
   all_read : (n : Nest) → n.frames ≡ [] → Reads s n [] [] (Some (record { procedures = items_of_list n.outer }))
   too_early : (n : Nest) (ts : List Token) (ls : List Name) → SpellsLabels s ts ls [] → (n.frames ≢ []) ⊎ (ls ≢ []) → Reads s n ts (syntax_at (misplaced (settled n.frames) ls (end_of s)) ∷ []) None
   head : (n n' : Nest) (ts mid rest : List Token) (ls : List Name) (h : Head) (m : Marks) (fs : List SourceFault) (tree : Option Tree) → SpellsLabels s ts ls mid → SpellsHead s mid no_marks h rest m → entered n ls h ≡ Some n' → Reads s n' rest fs tree → Reads s n ts (faults_of mid rest m ++ (nest_faults (settled n.frames) h ++ fs)) tree
-  misplaced_head : (n : Nest) (ts mid rest : List Token) (ls : List Name) (h : Head) (m : Marks) (t : Token) (p : Place) → SpellsLabels s ts ls (t ∷ mid) → SpellsHead s (t ∷ mid) no_marks h rest m → entered n ls h ≡ None → IsRefusedAt s n ls t mid p → Reads s n ts (syntax_at (misplaced (settled n.frames) ls p) ∷ []) None
+  misplaced_head : (n : Nest) (ts mid rest : List Token) (ls : List Name) (h : Head) (m : Marks) (t : Token) (p : Place) → SpellsLabels s ts ls (t ∷ mid) → SpellsHead s (t ∷ mid) no_marks h rest m → entered n ls h ≡ None → IsMisplacedAt s n ls h t mid p → Reads s n ts (syntax_at (misplaced (settled n.frames) ls p) ∷ []) None
   left_out : (n : Nest) (ts mid rest : List Token) (ls : List Name) (m : Marks) (t : Token) → SpellsLabels s ts ls mid → LeavesOut s mid no_marks (t ∷ rest) m → Reads s n ts (faults_of mid (t ∷ rest) m ++ fault_at (place_of t) LeftOut ∷ []) None
   no_head : (n : Nest) (ts mid : List Token) (ls : List Name) (t : Token) (p : Place) → SpellsLabels s ts ls (t ∷ mid) → ¬ BeginsHead s (t ∷ mid) → ¬ BeginsLeftOut s (t ∷ mid) → IsRefusedAt s n ls t mid p → Reads s n ts (syntax_at (misplaced (settled n.frames) ls p) ∷ []) None
 
