@@ -89,12 +89,13 @@ counting_assigns (G.counting ts mid after later at rest m m' t v e r w g equal a
 
 do_count_read : {s : List ℕ} {ts mid rest : List Token} {u : Token} {x : T.Counting} {m m' : Marks} (p : Place) → SpellsCounting s ts m x mid m' → Takes mid (K.Symbol S.Semicolon) u rest → do_from s p (record { tokens = ts; marks = m }) ≡ Ok (G.DoCountGroup x p, record { tokens = rest; marks = m' })
 unfolding do_from
-do_count_read {s} {ts} {x = x} {m = m} {m' = m'} p g k =
+do_count_read {s} {ts} {rest = rest} {x = x} {m = m} {m' = m'} p g k =
     let i = counting_assigns g in
     let n = reference_begins i.spelled in
     let a = not_begins (K.Symbol S.Semicolon) ts (λ z. cc (n.first, z)) in
     let d = counting_complete g in
-    rw a (while_counts p m (begins (K.Name W.While) (record { tokens = ts; marks = m })) i) ∙ rw d (closed_read (G.DoCountGroup x p) m' k)
+    let counted : do_count_from s p (record { tokens = ts; marks = m }) ≡ Ok (G.DoCountGroup x p, record { tokens = rest; marks = m' }) = rw d (closed_read (G.DoCountGroup x p) m' k) in
+    rw a (while_counts p m (begins (K.Name W.While) (record { tokens = ts; marks = m })) i ∙ counted)
 
 -- ---- END
 
