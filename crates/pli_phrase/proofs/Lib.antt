@@ -16,3 +16,5 @@ pub mod Prefixes
 pub mod PhrasePrefixes
 pub mod RepeatPrefixes
 pub mod RunPrefixes
+pub mod FirstPrefixes
+pub mod WhilePrefixes
