@@ -18,3 +18,5 @@ pub mod OpenRests
 pub mod PhrasePrefixes
 pub mod RepeatPrefixes
 pub mod RunPrefixes
+pub mod FirstPrefixes
+pub mod WhilePrefixes
