@@ -1,5 +1,5 @@
 -- How readers of lists, and of what may stand in parentheses, do with beginnings.
-use Rattle.std.proofs.Common.{◌≡◌, ℕ, zero, suc, ◌<◌, ◌≤◌, List, [], ◌∷◌, length, Bool, true, false, Ok, refl, ap, arith}
+use Rattle.std.proofs.Common.{◌≡◌, ℕ, zero, suc, ◌<◌, ◌≤◌, List, [], ◌∷◌, length, Bool, true, Ok, refl, ap, arith}
 use Rattle.std.specs.Prelude.{if◌then◌else◌}
 use Rattle.pli_language.specs.declared.token.Symbol.TheVariants as S
 use Rattle.pli_language.specs.declared.token.Kind.TheVariants as K

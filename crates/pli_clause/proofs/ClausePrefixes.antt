@@ -1,6 +1,6 @@
 -- What reading tells of the beginnings of the parts of heads.
-use Rattle.std.proofs.Common.{◌≡◌, ℕ, zero, suc, ◌<◌, ◌≤◌, List, [], ◌∷◌, ◌++◌, length, Option, Some, None, Bool, true, false, Ok, Err, inr, refl, sym, ap, ◌∙◌, subst, arith}
-use Rattle.std.specs.Prelude.{⊤, if◌then◌else◌, IsTrue}
+use Rattle.std.proofs.Common.{◌≡◌, ℕ, ◌≤◌, List, [], ◌∷◌, ◌++◌, length, Option, Some, None, Ok, Err, inr, refl, ap}
+use Rattle.std.specs.Prelude.{if◌then◌else◌, IsTrue}
 use Rattle.std.specs.List.{list_all}
 use Rattle.pli_language.specs.declared.condition.Condition.{Condition}
 use Rattle.pli_language.specs.declared.condition.Condition.TheVariants as C
@@ -11,22 +11,22 @@ use Rattle.pli_language.specs.declared.token.Kind.{Kind}
 use Rattle.pli_language.specs.declared.token.Kind.TheVariants as K
 use Rattle.pli_language.specs.declared.token.Token.{Token}
 use Rattle.pli_language.specs.Marks.{Marks}
-use Rattle.pli_language.specs.Spells.{next_kind, name_at}
+use Rattle.pli_language.specs.Spells.{name_at}
 use Rattle.pli_language.specs.Heads.{plain_condition}
 use Rattle.pli_language.specs.Tree as T
-use Rattle.pli_phrase.specs.Cursor.{Cursor, Missed, Stuck, Ended, Read, ◌>>=◌}
-use Rattle.pli_phrase.specs.Tokens.{is_terminal, starts, begins, taken, starts_name, named, name_from}
+use Rattle.pli_phrase.specs.Cursor.{Cursor, Stuck, Ended, Read, ◌>>=◌}
+use Rattle.pli_phrase.specs.Tokens.{begins, taken, named, name_from}
 use Rattle.pli_phrase.specs.Reading.{expr_from, reference_from}
-use Rattle.pli_phrase.proofs.Prefixes.{longer, Stays, Open, Prefixes, Any, Next, Allows, StartsNot, Steady, Firm, made, prefix_ok, prefix_as, prefix_bind, prefix_taken, next_not, next_allows, steady, steady_err, firm_bind}
+use Rattle.pli_phrase.proofs.Prefixes.{longer, Stays, Open, Prefixes, Any, Next, Allows, StartsNot, Steady, Firm, made, prefix_ok, prefix_bind, prefix_taken, next_not, next_allows, steady, steady_err, firm_bind}
 use Rattle.pli_phrase.proofs.PhrasePrefixes.{stops_reference, stops_expr, stops_arguments, is_plain, prefix_name, prefix_symbol, prefix_when, prefix_expr, prefix_reference, allows_not}
-use Rattle.pli_phrase.proofs.PrefixesAt.{At, at, anything, at_one, at_all, at_as, at_weaken, at_some, at_end, at_done, at_stuck, at_test, at_first, at_end_first, at_bind, at_map, loop_at, bind_same, taken_first, taken_other, taken_none}
-use Rattle.pli_attributes.specs.Lists.{enclosed_from, optional_from}
+use Rattle.pli_phrase.proofs.PrefixesAt.{At, at, at_all, at_as, at_weaken, at_stuck, at_first, at_end_first}
+use Rattle.pli_attributes.specs.Lists.{enclosed_from}
 use Rattle.pli_attributes.proofs.Posts.{post_is}
 use Rattle.pli_attributes.proofs.Tokens.{is_word}
 use Rattle.pli_attributes.proofs.ListPrefixes.{prefix_enclosed, prefix_optional, prefix_list}
 use Rattle.pli_attributes.proofs.ListsAt.{at_list, at_optional}
 use Rattle.pli_clause.specs.Parts.{word_of_kind, word_at, word_from, behind_word, ended_by, in_order, in_reverse, both_from}
-use Rattle.pli_clause.specs.Reading.{endfile_from, plain_from, condition_behind, condition_from, one_parameter, parameter_at, names_from, parameters_from, in_parentheses_from, range_from, while_from, counted, counting_from, into_from, placing_from, placed, allocation_from, allocations_from, freed, freeing_from, freeings_from, some_expr_from, value_from}
+use Rattle.pli_clause.specs.Reading.{plain_from, condition_behind, condition_from, one_parameter, parameter_at, names_from, parameters_from, in_parentheses_from, range_from, while_from, counted, counting_from, into_from, placing_from, placed, allocation_from, allocations_from, freed, freeing_from, freeings_from, some_expr_from, value_from}
 use Rattle.pli_clause.proofs.ParameterLaws.{one_parameter_post}
 use Rattle.pli_clause.proofs.Placings.{allocation_post, freeing_post}
 
@@ -252,3 +252,20 @@ pub prefix_value : (s : List ℕ) → Prefixes (StartsNot (K.Symbol S.OpenParent
 unfolding value_from
 prefix_value s =
     prefix_optional None (some_expr_from s) (prefix_some_expr s) (λ w h. next_allows stops_expr (K.Symbol S.CloseParenthesis) w refl h) (λ w h. h)
+
+-- ---- a semicolon may stand behind
+
+pub semicolon_counting : (w : List Token) → Next (K.Symbol S.Semicolon) w → EndsCounting w
+semicolon_counting w n =
+    let k = K.Symbol S.Semicolon in
+    (next_allows stops_expr k w refl n, (next_not (K.Name W.To) k w refl n, (next_not (K.Name W.By) k w refl n, next_not (K.Name W.While) k w refl n)))
+
+pub semicolon_allocation : (w : List Token) → Next (K.Symbol S.Semicolon) w → EndsAllocation w × StartsNot (K.Symbol S.Comma) w
+semicolon_allocation w n =
+    let k = K.Symbol S.Semicolon in
+    ((next_not (K.Name W.In) k w refl n, next_not (K.Name W.Set) k w refl n), next_not (K.Symbol S.Comma) k w refl n)
+
+pub semicolon_freeing : (w : List Token) → Next (K.Symbol S.Semicolon) w → EndsFreeing w × StartsNot (K.Symbol S.Comma) w
+semicolon_freeing w n =
+    let k = K.Symbol S.Semicolon in
+    ((next_allows stops_reference k w refl n, next_not (K.Name W.In) k w refl n), next_not (K.Symbol S.Comma) k w refl n)

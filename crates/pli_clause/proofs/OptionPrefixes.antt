@@ -12,7 +12,7 @@ use Rattle.pli_language.specs.Spells.{next_kind}
 use Rattle.pli_language.specs.Tree as T
 use Rattle.pli_phrase.specs.Cursor.{Cursor, Stuck, Ended, Read, ◌>>=◌}
 use Rattle.pli_phrase.specs.Tokens.{is_terminal, starts, taken, starts_name}
-use Rattle.pli_phrase.proofs.Prefixes.{longer, Open, Prefixes, Any, Next, Steady, made, prefix_ok, prefix_as, prefix_bind, prefix_taken, steady, steady_err, firm_bind}
+use Rattle.pli_phrase.proofs.Prefixes.{longer, Open, Prefixes, Any, Next, Steady, made, prefix_ok, prefix_bind, prefix_taken, steady, steady_err, firm_bind}
 use Rattle.pli_phrase.proofs.PhrasePrefixes.{prefix_symbol}
 use Rattle.pli_phrase.proofs.PrefixesAt.{At, at, anything, at_one, at_all, at_as, at_some, at_end, at_done, at_test, at_bind, at_map, loop_at, bind_same, taken_none}
 use Rattle.pli_attributes.specs.Lists.{enclosed_from}

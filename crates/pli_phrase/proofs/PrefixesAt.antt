@@ -1,14 +1,14 @@
 -- How a reader does with beginnings at one cursor: for readers that go on in loops, look ahead, or differ by what stands first.
 use Rattle.std.proofs.Common.{◌≡◌, ◌⊎◌, inl, inr, ℕ, zero, suc, ◌≤◌, List, [], ◌∷◌, ◌++◌, length, Bool, true, false, Ok, Err, refl, sym, ap, ◌∙◌, subst, append_assoc, arith}
-use Rattle.std.specs.Prelude.{⊤, if◌then◌else◌, ◌&&◌, IsTrue}
+use Rattle.std.specs.Prelude.{if◌then◌else◌, ◌&&◌, IsTrue}
 use Rattle.std.specs.List.{list_all}
 use Rattle.std.proofs.lemmas.List.Folds.{list_all-append}
 use Rattle.pli_language.specs.declared.token.Kind.{Kind}
 use Rattle.pli_language.specs.declared.token.Token.{Token}
 use Rattle.pli_language.specs.Marks.{Marks}
-use Rattle.pli_phrase.specs.Cursor.{Cursor, Missed, Stuck, Ended, LeavesOut, Read, ◌>>=◌}
-use Rattle.pli_phrase.specs.Tokens.{is_terminal, starts, begins, taken}
-use Rattle.pli_phrase.proofs.Prefixes.{longer, Stays, Open, Closing, Prefixes, open_stays, Any, Next, made, StartsNot, Steady}
+use Rattle.pli_phrase.specs.Cursor.{Cursor, Stuck, Ended, LeavesOut, Read, ◌>>=◌}
+use Rattle.pli_phrase.specs.Tokens.{is_terminal, taken}
+use Rattle.pli_phrase.proofs.Prefixes.{longer, Stays, Open, Closing, Prefixes, open_stays, Any, Next, made, Steady}
 
 -- tokens that make a reader done, all of which pass a test
 pub record Ending {X : Type 0} (T : Token → Bool) (P F : List Token → Type 0) (f : Cursor → Read X) (c : Cursor) : Type 0 where
@@ -107,9 +107,6 @@ at_done x t ts m = record { stays = λ more. inr refl; opens = λ n. absurd (cc 
 
 pub at_stuck : {X : Type 0} {T : Token → Bool} {P F : List Token → Type 0} (t : Token) (ts : List Token) (m : Marks) → At {X = X} T P F (λ c. Err Stuck) (at (t ∷ ts) m)
 at_stuck t ts m = record { stays = λ more. refl; opens = λ n. absurd (cc n); closes = λ o. absurd o }
-
-pub at_left : {X : Type 0} {T : Token → Bool} {P F : List Token → Type 0} (d : Cursor → Cursor) (t : Token) (ts : List Token) (m : Marks) → At {X = X} T P F (λ c. Err (LeavesOut (d c))) (at (t ∷ ts) m)
-at_left d t ts m = record { stays = λ more. tt; opens = λ n. absurd (cc n); closes = λ o. absurd o }
 
 -- nothing is read
 pub at_ok : {X : Type 0} {T : Token → Bool} {F : List Token → Type 0} (x : X) (c : Cursor) → At T F F (λ d. Ok (x, d)) c

@@ -1,5 +1,5 @@
 -- What reading tells of the beginnings of numbers and format lists.
-use Rattle.std.proofs.Common.{◌≡◌, ◌≢◌, ℕ, zero, suc, ◌<◌, ◌≤◌, List, [], ◌∷◌, ◌++◌, length, Option, Some, None, Bool, true, false, Ok, Err, refl, sym, ap, ◌∙◌, subst, arith, inl, inr}
+use Rattle.std.proofs.Common.{◌≡◌, ℕ, zero, suc, ◌<◌, ◌≤◌, List, [], ◌∷◌, ◌++◌, length, Some, None, Bool, true, false, Ok, Err, refl, sym, ap, ◌∙◌, subst, arith, inl}
 use Rattle.std.specs.Prelude.{if◌then◌else◌}
 use Rattle.pli_language.specs.declared.token.Word.{Word}
 use Rattle.pli_language.specs.declared.token.Word.TheVariants as W
@@ -8,20 +8,19 @@ use Rattle.pli_language.specs.declared.token.Kind.{Kind}
 use Rattle.pli_language.specs.declared.token.Kind.TheVariants as K
 use Rattle.pli_language.specs.declared.token.Token.{Token}
 use Rattle.pli_language.specs.declared.expr.Place.{Place}
-use Rattle.pli_language.specs.declared.fault.SourceKind.TheVariants.{BadFormat}
-use Rattle.pli_language.specs.Marks.{Marks, note_if}
+use Rattle.pli_language.specs.Marks.{Marks}
 use Rattle.pli_language.specs.Spells.{next_kind, place_of}
 use Rattle.pli_language.specs.Formats.{is_count, are_count, is_times, is_width, Direction}
 use Rattle.pli_language.specs.Tree as T
 use Rattle.pli_phrase.specs.Cursor.{Cursor, Stuck, Ended, Read, ◌>>=◌}
-use Rattle.pli_phrase.specs.Tokens.{is_terminal, starts, begins, taken, number_from, count_from}
-use Rattle.pli_phrase.proofs.Prefixes.{longer, Stays, Open, Closing, Prefixes, Any, Next, StartsNot, Steady, made, prefix_ok, prefix_as, prefix_bind, next_not, steady, steady_err}
+use Rattle.pli_phrase.specs.Tokens.{is_terminal, taken, number_from, count_from}
+use Rattle.pli_phrase.proofs.Prefixes.{Stays, Open, Prefixes, Next, StartsNot, Steady, made, prefix_ok, prefix_as, prefix_bind, next_not, steady, steady_err}
 use Rattle.pli_phrase.proofs.PhrasePrefixes.{prefix_number, prefix_count, prefix_symbol, prefix_when}
-use Rattle.pli_phrase.proofs.PrefixesAt.{Ending, At, at, anything, at_one, at_all, at_as, at_some, at_end, at_ok, at_done, at_behind, at_end_behind, at_bind, loop_at, bind_same, prefix_marked, prefix_behind_marks, taken_first}
+use Rattle.pli_phrase.proofs.PrefixesAt.{Ending, At, at, anything, at_one, at_all, at_as, at_some, at_end, at_ok, at_behind, at_end_behind, at_bind, loop_at, bind_same, prefix_marked, prefix_behind_marks, taken_first}
 use Rattle.pli_attributes.specs.Reading.{starts_number}
 use Rattle.pli_attributes.proofs.Posts.{post_is}
 use Rattle.pli_attributes.proofs.Tokens.{number_read}
-use Rattle.pli_stream.specs.Reading.{checked, repetition_from, number_or_one_from, width_from, is_text_width, worded, format_of_kind, format_at, format_from, State, Outer, Item, start, Turn, On, Closed, with_item, opened, further, closed, listed, repeated, item_at, item_from, behind_item, turn, follow, run, formats_from}
+use Rattle.pli_stream.specs.Reading.{checked, repetition_from, number_or_one_from, width_from, is_text_width, worded, format_of_kind, format_from, State, Outer, Item, start, Turn, On, Closed, with_item, opened, further, closed, listed, repeated, item_from, behind_item, turn, follow, run, formats_from}
 use Rattle.pli_stream.proofs.Sound.{turn_post, any_at}
 
 -- no number follows, and none in parentheses

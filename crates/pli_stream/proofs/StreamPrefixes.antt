@@ -3,7 +3,6 @@ use Rattle.std.proofs.Common.{◌≡◌, ℕ, zero, suc, ◌<◌, ◌≤◌, Lis
 use Rattle.std.specs.Prelude.{⊤, ◌||◌, if◌then◌else◌}
 use Rattle.pli_language.specs.declared.token.Word.TheVariants as W
 use Rattle.pli_language.specs.declared.token.Symbol.TheVariants as S
-use Rattle.pli_language.specs.declared.token.Kind.{Kind}
 use Rattle.pli_language.specs.declared.token.Kind.TheVariants as K
 use Rattle.pli_language.specs.declared.token.Token.{Token}
 use Rattle.pli_language.specs.declared.expr.Place.{Place}
@@ -12,10 +11,10 @@ use Rattle.pli_language.specs.Spells.{next_kind, place_of}
 use Rattle.pli_language.specs.Formats.{is_times, Direction}
 use Rattle.pli_language.specs.Heads.{file_word}
 use Rattle.pli_language.specs.Tree as T
-use Rattle.pli_phrase.specs.Cursor.{Cursor, Stuck, Ended, LeavesOut, Read, ◌>>=◌}
+use Rattle.pli_phrase.specs.Cursor.{Cursor, Stuck, LeavesOut, Read, ◌>>=◌}
 use Rattle.pli_phrase.specs.Tokens.{is_terminal, starts, taken}
 use Rattle.pli_phrase.specs.Reading.{exprs_from}
-use Rattle.pli_phrase.proofs.Prefixes.{longer, Prefixes, Any, Next, StartsNot, Steady, made, prefix_ok, prefix_as, prefix_bind, prefix_taken, next_not, next_allows, steady, steady_err}
+use Rattle.pli_phrase.proofs.Prefixes.{longer, Prefixes, Next, StartsNot, prefix_ok, prefix_as, prefix_bind, prefix_taken, next_not, next_allows, steady, steady_err}
 use Rattle.pli_phrase.proofs.PhrasePrefixes.{stops_exprs, prefix_exprs, prefix_symbol, prefix_when}
 use Rattle.pli_phrase.proofs.PrefixesAt.{At, at, anything, at_one, at_all, at_as, at_some, at_ok, at_test, at_end_test, at_bind, at_map, loop_at, bind_same, prefix_test, prefix_marked, taken_first, taken_other, taken_none}
 use Rattle.pli_attributes.specs.Lists.{enclosed_from}
@@ -23,7 +22,7 @@ use Rattle.pli_attributes.proofs.Posts.{post_is}
 use Rattle.pli_attributes.proofs.Tokens.{is_word}
 use Rattle.pli_attributes.proofs.ListPrefixes.{prefix_enclosed}
 use Rattle.pli_attributes.specs.Reading.{starts_number}
-use Rattle.pli_stream.specs.Reading.{checked, number_or_one_from, formats_from, by_formats, pair_from, further_pairs, pairs_from, file_from, skip_with, skip_from, late_file_from, options_end, options_from, edit_from, Transfer, missing, moved, is_left_out_kind, transfer_from}
+use Rattle.pli_stream.specs.Reading.{checked, number_or_one_from, formats_from, by_formats, pair_from, further_pairs, pairs_from, file_from, skip_with, skip_from, late_file_from, options_end, options_from, edit_from, Transfer, moved, is_left_out_kind, transfer_from}
 use Rattle.pli_stream.proofs.Pairs.{pair_post}
 use Rattle.pli_stream.proofs.FormatPrefixes.{NoOpen, Fresh, prefix_number_or_one, prefix_formats}
 
