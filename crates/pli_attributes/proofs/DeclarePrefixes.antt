@@ -103,7 +103,7 @@ items_attributes : (o : Option Kind) → stops_items o ≡ true → stops_attrib
 items_attributes (Some (K.Symbol S.Comma)) e = refl
 items_attributes _ e = e
 
-attributes_end : (w : List Token) → Allows stops_attributes w → NoParenthesis w × (starts_name (next_kind w) ≡ false)
+pub attributes_end : (w : List Token) → Allows stops_attributes w → NoParenthesis w × (starts_name (next_kind w) ≡ false)
 attributes_end w h = (allows_not stops_attributes (K.Symbol S.OpenParenthesis) w refl h, attributes_no_name (next_kind w) h)
 
 abbrev stops_names : Option Kind → Bool

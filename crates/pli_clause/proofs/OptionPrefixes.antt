@@ -12,7 +12,7 @@ use Rattle.pli_language.specs.Spells.{next_kind}
 use Rattle.pli_language.specs.Tree as T
 use Rattle.pli_phrase.specs.Cursor.{Cursor, Stuck, Ended, Read, ◌>>=◌}
 use Rattle.pli_phrase.specs.Tokens.{is_terminal, starts, taken, starts_name}
-use Rattle.pli_phrase.proofs.Prefixes.{longer, Open, Prefixes, Any, Next, Steady, made, prefix_ok, prefix_bind, prefix_taken, steady, steady_err, firm_bind}
+use Rattle.pli_phrase.proofs.Prefixes.{longer, Open, Prefixes, Any, Next, next_allows, Steady, made, prefix_ok, prefix_bind, prefix_taken, steady, steady_err, firm_bind}
 use Rattle.pli_phrase.proofs.PhrasePrefixes.{prefix_symbol}
 use Rattle.pli_phrase.proofs.PrefixesAt.{At, at, anything, at_one, at_all, at_as, at_some, at_end, at_done, at_test, at_bind, at_map, loop_at, bind_same, taken_none}
 use Rattle.pli_attributes.specs.Lists.{enclosed_from}
@@ -20,6 +20,7 @@ use Rattle.pli_attributes.specs.Reading.{attribute_of_kind, attribute_from, attr
 use Rattle.pli_attributes.proofs.Posts.{post_is}
 use Rattle.pli_attributes.proofs.AttributeLaws.{attribute_post}
 use Rattle.pli_attributes.proofs.ListPrefixes.{prefix_enclosed}
+use Rattle.pli_attributes.proofs.DeclarePrefixes.{stops_attributes, attributes_end, prefix_attribute, prefix_attributes_as}
 use Rattle.pli_clause.specs.Parts.{word_from}
 use Rattle.pli_clause.specs.Reading.{main_from, returning, returns_from, option_behind, option_from, options_at, options_from}
 use Rattle.pli_clause.proofs.OptionLaws.{option_post}
@@ -211,3 +212,8 @@ module _ {P Fa Fb : List Token → Type 0} (s : List ℕ) (attribute : Prefixes 
   -- a semicolon has to stand behind
   pub prefix_options : Prefixes Stops Stops (options_from s)
   prefix_options = at_all (λ c. loop_at (λ i. options_from s) options_none options_step tt c)
+
+-- all options of a procedure, with the attributes of what it returns
+pub prefix_procedure_options : (s : List ℕ) → Prefixes (Next (K.Symbol S.Semicolon)) (Next (K.Symbol S.Semicolon)) (options_from s)
+prefix_procedure_options s =
+    prefix_options s (prefix_attribute s) (prefix_attributes_as s attributes_end) (λ w h. (attributes_end w h).0) (λ w h. next_allows stops_attributes (K.Symbol S.CloseParenthesis) w refl h)

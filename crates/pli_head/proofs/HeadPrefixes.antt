@@ -22,12 +22,12 @@ use Rattle.pli_phrase.proofs.Prefixes.{longer, Stays, Open, Closing, Prefixes, S
 use Rattle.pli_phrase.proofs.PhrasePrefixes.{stops_expr, stops_reference, stops_arguments, prefix_symbol, prefix_when, prefix_name, prefix_expr, prefix_reference, prefix_arguments, begins_stays, unknown_opens}
 use Rattle.pli_phrase.proofs.Tokens.{terminal_kind, word_is}
 use Rattle.pli_attributes.specs.Reading.{declare_items_from}
-use Rattle.pli_attributes.proofs.AttributePrefixes.{prefix_declare_items}
+use Rattle.pli_attributes.proofs.DeclarePrefixes.{stops_items, prefix_declare_items}
 use Rattle.pli_stream.specs.Reading.{transfer_from}
 use Rattle.pli_stream.proofs.StreamPrefixes.{semicolon_ends, prefix_transfer}
 use Rattle.pli_clause.specs.Reading.{condition_from, parameters_from, options_from, in_parentheses_from, range_from, while_from, counted, counting_from, allocations_from, freeings_from, value_from}
 use Rattle.pli_clause.proofs.ClausePrefixes.{EndsCounting, EndsAllocation, EndsFreeing, prefix_condition, prefix_parameters, prefix_in_parentheses, prefix_counting, prefix_allocations, prefix_freeings, prefix_value}
-use Rattle.pli_clause.proofs.OptionPrefixes.{prefix_options}
+use Rattle.pli_clause.proofs.OptionPrefixes.{prefix_procedure_options}
 use Rattle.pli_head.specs.Reading.{closed, assignment_from, call_from, return_from, label_from, go_from, signal_from, revert_from, allocate_from, free_from, moved_from, procedure_from, declaring_from, if_from, do_while_from, do_count_from, do_worded, do_from, on_from, end_from, simple_from, simple_behind, other_from, head_behind}
 
 prefix_word : (w : Word) → Prefixes (Next (K.Name w)) Any (taken (K.Name w))
@@ -120,12 +120,12 @@ prefix_procedure : (s : List ℕ) (p : Place) → Prefixes Any Any (procedure_fr
 unfolding procedure_from
 prefix_procedure s p =
     prefix_bind (parameters_from s) (λ ns. options_from s ns.1 >>= λ options. closed (ProcedureFront p ns.0 options.0) options.1) (prefix_as (λ w h. h) (λ w h. tt) (prefix_parameters s))
-    (λ ns. prefix_bind (options_from s) (λ options. closed (ProcedureFront p ns options.0) options.1) (prefix_options s) (λ options. prefix_closed (ProcedureFront p ns options)) (λ w q. q))
+    (λ ns. prefix_bind (options_from s) (λ options. closed (ProcedureFront p ns options.0) options.1) (prefix_procedure_options s) (λ options. prefix_closed (ProcedureFront p ns options)) (λ w q. q))
     (λ w q. next_allows stops_arguments (K.Symbol S.Semicolon) w refl q)
 
 prefix_declaring : (s : List ℕ) (p : Place) → Prefixes Any Any (declaring_from s p)
 prefix_declaring s p =
-    prefix_bind (declare_items_from s) (λ ds. closed (Declaring ds.0 p) ds.1) (prefix_as items_stop (λ w h. tt) (prefix_declare_items s)) (λ ds. prefix_closed (Declaring ds p)) (λ w q. q)
+    prefix_bind (declare_items_from s) (λ ds. closed (Declaring ds.0 p) ds.1) (prefix_as (λ w q. next_allows stops_items (K.Symbol S.Semicolon) w refl q) (λ w h. tt) (prefix_declare_items s)) (λ ds. prefix_closed (Declaring ds p)) (λ w q. q)
 
 pub prefix_if_then : (s : List ℕ) (p : Place) → Prefixes (Next (K.Number 1)) Any (if_from s p)
 prefix_if_then s p =
