@@ -1,6 +1,7 @@
 pub mod Posts
 pub mod Tokens
 pub mod Lists
+pub mod ListsAt
 pub mod Enclosed
 pub mod Expressions
 pub mod Extents
@@ -10,3 +11,6 @@ pub mod AttributeLaws
 pub mod Items
 pub mod Loops
 pub mod Laws
+pub mod ListPrefixes
+pub mod AttributePrefixes
+pub mod DeclarePrefixes

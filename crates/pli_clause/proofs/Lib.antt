@@ -6,3 +6,5 @@ pub mod OptionLaws
 pub mod Countings
 pub mod Placings
 pub mod Loops
+pub mod ClausePrefixes
+pub mod OptionPrefixes

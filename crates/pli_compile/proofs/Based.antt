@@ -260,7 +260,7 @@ reads_found (P.all_read n closed) h = listed n.outer (subst (λ fs. Stands n.out
 reads_found (P.too_early n ts ls labels stays) h = tt
 reads_found (P.head n behind ts mid rest ls x m fs tree labels spelled is others) h =
     reads_found others (subst StandsIf is (entered_stands n ls x (stands_open n.outer n.frames h)))
-reads_found (P.misplaced_head n ts mid rest ls x m t labels spelled is) h = tt
+reads_found (P.misplaced_head n ts mid rest ls x m t p labels spelled is at) h = tt
 reads_found (P.left_out n ts mid rest ls m t labels left) h = tt
 reads_found (P.no_head n ts mid ls t p labels no_head no_left at) h = tt
 
@@ -270,7 +270,7 @@ once_read (P.all_read n closed) h = inl refl
 once_read (P.too_early n ts ls labels stays) h = inr tt
 once_read (P.head n behind ts mid rest ls x m fs tree labels spelled is others) h =
     inr (reads_found others (subst StandsIf is (entered_stands n ls x (subst Open (sym h) tt))))
-once_read (P.misplaced_head n ts mid rest ls x m t labels spelled is) h = inr tt
+once_read (P.misplaced_head n ts mid rest ls x m t p labels spelled is at) h = inr tt
 once_read (P.left_out n ts mid rest ls m t labels left) h = inr tt
 once_read (P.no_head n ts mid ls t p labels no_head no_left at) h = inr tt
 

@@ -45,7 +45,7 @@ reads_hold (P.head n behind ts mid rest ls h m fs tree labels spelled is others)
     let keeps : KeepsNest n behind (head_weight h) = subst (λ o. LeadsNest n o (head_weight h)) is (entered_leads n ls h lines) in
     let eats : Eats ts rest (head_weight h) = least (omega arith) (both before begins.eats) in
     head_holds n behind ts rest (head_weight h) tree eats keeps (reads_hold others (eats.small small))
-reads_hold (P.misplaced_head n ts mid rest ls h m t labels spelled is) small = tt
+reads_hold (P.misplaced_head n ts mid rest ls h m t p labels spelled is at) small = tt
 reads_hold (P.left_out n ts mid rest ls m t labels left) small = tt
 reads_hold (P.no_head n ts mid ls t p labels no_head no_left at) small = tt
 

@@ -14,21 +14,20 @@ use Rattle.pli_language.specs.Spells.{Takes, next_kind, place_of, name_at, Begin
 use Rattle.pli_language.specs.Heads as G
 use Rattle.pli_language.specs.Heads.{SpellsParameters, SpellsOptions, SpellsInParentheses, SpellsCounting, SpellsHead, parameters_marks, options_marks}
 use Rattle.pli_language.specs.Tree as T
-use Rattle.pli_language.proofs.Unique.{next_taken, begins_expr, expr_begins, reference_begins, reference_same}
+use Rattle.pli_language.proofs.Unique.{next_taken, begins_expr, expr_begins, reference_begins}
 use Rattle.pli_phrase.specs.Tokens.{begins}
-use Rattle.pli_phrase.specs.declared.expression.Beginning.{Beginning}
-use Rattle.pli_phrase.specs.declared.expression.Beginning.TheVariants.{Begins, Differs, Unknown}
-use Rattle.pli_phrase.specs.Reading.{assignment_begins}
-use Rattle.pli_phrase.proofs.Beginnings.{begins_sound, begins_complete}
+use Rattle.pli_phrase.specs.declared.expression.Beginning.TheVariants.{Differs}
+use Rattle.pli_phrase.specs.Reading.{begun_by, begun, assignment_begins}
+use Rattle.pli_phrase.proofs.Beginnings.{begins_complete}
 use Rattle.pli_attributes.proofs.Tokens.{not_begins, begins_symbol, begins_word, word_read, name_read, takes_next}
 use Rattle.pli_attributes.proofs.Expressions.{expr_complete}
 use Rattle.pli_attributes.proofs.Items.{declare_items_complete}
-use Rattle.pli_clause.proofs.References.{in_parentheses_complete}
+use Rattle.pli_clause.proofs.References.{reference_complete, in_parentheses_complete}
 use Rattle.pli_clause.proofs.Conditions.{condition_complete}
 use Rattle.pli_clause.proofs.ParameterLaws.{parameters_complete}
 use Rattle.pli_clause.proofs.OptionLaws.{options_complete}
 use Rattle.pli_clause.proofs.Countings.{counting_complete}
-use Rattle.pli_head.specs.Reading.{procedure_from, declaring_from, if_from, is_not_begun, while_begins, do_from, end_from, head_behind, head_from}
+use Rattle.pli_head.specs.Reading.{procedure_from, declaring_from, if_from, do_worded, do_count_from, do_from, end_from, head_behind, head_from}
 use Rattle.pli_head.proofs.CompleteStatements.{head_named, closed_read, simple_complete}
 
 procedure_read : {s : List ℕ} {ts mid later rest : List Token} {u : Token} {ns : List T.Name} {options : List T.ProcedureOption} (p : Place) (m : Marks) → SpellsParameters s ts ns mid → SpellsOptions s mid options later → Takes later (K.Symbol S.Semicolon) u rest → procedure_from s p (record { tokens = ts; marks = m }) ≡ Ok (G.ProcedureFront p ns options, record { tokens = rest; marks = options_marks options (parameters_marks 0 ns m) })
@@ -50,38 +49,25 @@ if_read {e = e} p m g k =
 
 -- ---- DO
 
--- WHILE with an expression and a semicolon behind it begins no assignment
-while_no_assignment : {s : List ℕ} {ts mid later rest : List Token} {u v : Token} {e : T.Expr} → Takes ts (K.Name W.While) u mid → SpellsInParentheses s mid e later → Takes later (K.Symbol S.Semicolon) v rest → BeginsAssignment s ts → ⊥
-while_no_assignment {s} {ts} {u = u} take (G.in_parentheses mid after inner later t w e o g c) semi b =
+-- WHILE with an expression in parentheses and a semicolon behind it is a reference, and begins no assignment
+while_reference : {s : List ℕ} {ts mid later rest : List Token} {u v : Token} {e : T.Expr} → Takes ts (K.Name W.While) u mid → SpellsInParentheses s mid e later → Takes later (K.Symbol S.Semicolon) v rest → SpellsReference s ts (T.Plain (T.Last (name_at s u W.While) (T.Listed (T.ExprThen e T.NoExpr)))) later
+while_reference {s} {ts} {u = u} take (G.in_parentheses mid after inner later t w e o g c) semi =
     let no_close : next_kind after ≢ Some (K.Symbol S.CloseParenthesis) = λ z. cc (ap begins_expr z, expr_begins g) in
     let no_comma : next_kind inner ≢ Some (K.Symbol S.Comma) = λ z. cc (z, next_taken c) in
     let args : SpellsArguments s mid (T.Listed (T.ExprThen e T.NoExpr)) later = E.listed mid after inner later t w (T.ExprThen e T.NoExpr) o no_close (E.one after inner e g no_comma) c in
     let no_point : next_kind later ≢ Some (K.Symbol S.Point) = λ z. cc (z, next_taken semi) in
     let no_arrow : next_kind later ≢ Some (K.Symbol S.Arrow) = λ z. cc (z, next_taken semi) in
     let q : T.Qualified = T.Last (name_at s u W.While) (T.Listed (T.ExprThen e T.NoExpr)) in
-    let r : SpellsReference s ts (T.Plain q) later = E.basic ts later later q (T.Plain q) (E.last ts mid later u W.While (T.Listed (T.ExprThen e T.NoExpr)) take args no_point) (E.no_arrow (T.Plain q) later no_arrow) in
-    let f = reference_same refl r b.spelled in
-    cc (ap next_kind f.rest, next_taken semi, b.equal)
+    E.basic ts later later q (T.Plain q) (E.last ts mid later u W.While (T.Listed (T.ExprThen e T.NoExpr)) take args no_point) (E.no_arrow (T.Plain q) later no_arrow)
 
-not_begun : (b : Beginning) → b ≢ Begins → is_not_begun b ≡ true
-not_begun Begins n = absurd (n refl)
-not_begun Differs n = refl
-not_begun Unknown n = refl
+while_differs : {s : List ℕ} {ts mid later rest : List Token} {u v : Token} {e : T.Expr} (m : Marks) → Takes ts (K.Name W.While) u mid → SpellsInParentheses s mid e later → Takes later (K.Symbol S.Semicolon) v rest → assignment_begins s (record { tokens = ts; marks = m }) ≡ Differs
+unfolding assignment_begins
+while_differs m take g semi =
+    ap begun (reference_complete m (while_reference take g semi)) ∙ ap begun_by (next_taken semi)
 
-while_stands : {s : List ℕ} {ts mid : List Token} {u : Token} (m : Marks) → Takes ts (K.Name W.While) u mid → (BeginsAssignment s ts → ⊥) → while_begins s (record { tokens = ts; marks = m }) ≡ true
-unfolding while_begins
-while_stands {s} {ts} m take differs =
-    let a = begins_word W.While take in
-    rw a (not_begun (assignment_begins s (record { tokens = ts; marks = m })) (λ e. differs (begins_sound s (record { tokens = ts; marks = m }) e)))
-
-if_false : (b : Bool) → (if b then false else false) ≡ false
-if_false true = refl
-if_false false = refl
-
-while_counts : {s : List ℕ} {ts : List Token} (m : Marks) → BeginsAssignment s ts → while_begins s (record { tokens = ts; marks = m }) ≡ false
-unfolding while_begins
-while_counts {s} {ts} m b =
-    ap (λ u. if begins (K.Name W.While) (record { tokens = ts; marks = m }) then is_not_begun u else false) (begins_complete s (record { tokens = ts; marks = m }) b) ∙ if_false (begins (K.Name W.While) (record { tokens = ts; marks = m }))
+while_counts : {s : List ℕ} {ts : List Token} (p : Place) (m : Marks) (b : Bool) → BeginsAssignment s ts → (if b then do_worded s p (assignment_begins s (record { tokens = ts; marks = m })) (record { tokens = ts; marks = m }) else do_count_from s p (record { tokens = ts; marks = m })) ≡ do_count_from s p (record { tokens = ts; marks = m })
+while_counts {s} {ts} p m true i = ap (λ b. do_worded s p b (record { tokens = ts; marks = m })) (begins_complete s (record { tokens = ts; marks = m }) i)
+while_counts p m false i = refl
 
 do_group_read : (s : List ℕ) {ts rest : List Token} {u : Token} (p : Place) (m : Marks) → Takes ts (K.Symbol S.Semicolon) u rest → do_from s p (record { tokens = ts; marks = m }) ≡ Ok (G.DoGroup p, record { tokens = rest; marks = m })
 unfolding do_from
@@ -91,10 +77,11 @@ do_while_read : {s : List ℕ} {ts mid later rest : List Token} {u v : Token} {e
 unfolding do_from
 do_while_read {s} {ts} {e = e} p m take g k =
     let a = not_begins (K.Symbol S.Semicolon) ts (λ z. cc (takes_next take, z)) in
-    let b = while_stands m take (λ i. while_no_assignment take g k i) in
+    let b = begins_word W.While take in
+    let c = while_differs m take g k in
     let d = word_read W.While m take in
     let f = in_parentheses_complete m g in
-    rw (a, b, d, f) (closed_read (G.DoWhileGroup e p) (expr_marks e m) k)
+    rw (a, b, c, d, f) (closed_read (G.DoWhileGroup e p) (expr_marks e m) k)
 
 counting_assigns : {s : List ℕ} {ts rest : List Token} {x : T.Counting} {m m' : Marks} → SpellsCounting s ts m x rest m' → BeginsAssignment s ts
 counting_assigns (G.counting ts mid after later at rest m m' t v e r w g equal a b h) =
@@ -102,13 +89,13 @@ counting_assigns (G.counting ts mid after later at rest m m' t v e r w g equal a
 
 do_count_read : {s : List ℕ} {ts mid rest : List Token} {u : Token} {x : T.Counting} {m m' : Marks} (p : Place) → SpellsCounting s ts m x mid m' → Takes mid (K.Symbol S.Semicolon) u rest → do_from s p (record { tokens = ts; marks = m }) ≡ Ok (G.DoCountGroup x p, record { tokens = rest; marks = m' })
 unfolding do_from
-do_count_read {s} {ts} {x = x} {m = m} {m' = m'} p g k =
+do_count_read {s} {ts} {rest = rest} {x = x} {m = m} {m' = m'} p g k =
     let i = counting_assigns g in
     let n = reference_begins i.spelled in
     let a = not_begins (K.Symbol S.Semicolon) ts (λ z. cc (n.first, z)) in
-    let b = while_counts m i in
     let d = counting_complete g in
-    rw (a, b, d) (closed_read (G.DoCountGroup x p) m' k)
+    let counted : do_count_from s p (record { tokens = ts; marks = m }) ≡ Ok (G.DoCountGroup x p, record { tokens = rest; marks = m' }) = rw d (closed_read (G.DoCountGroup x p) m' k) in
+    rw a (while_counts p m (begins (K.Name W.While) (record { tokens = ts; marks = m })) i ∙ counted)
 
 -- ---- END
 

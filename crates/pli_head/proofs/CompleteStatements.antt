@@ -29,15 +29,15 @@ use Rattle.pli_head.proofs.Beginnings.{assigns_complete, not_assigns}
 
 -- ---- how a head goes on behind its word
 
-worded_not : (s : List ℕ) (b : Beginning) (at : List Token) (w : (Token × Word) × Cursor) → b ≢ Begins → worded s b at w ≡ head_behind s b at (place_of w.0.0) w.0.1 w.1
+pub worded_not : (s : List ℕ) (b : Beginning) (at : List Token) (w : (Token × Word) × Cursor) → b ≢ Begins → worded s b at w ≡ head_behind s at (place_of w.0.0) w.0.1 w.1
 worded_not s Begins at w n = absurd (n refl)
 worded_not s Differs at w n = refl
 worded_not s Unknown at w n = refl
 
-no_semicolon : {ts rest : List Token} {t : Token} {w : Word} → Takes ts (K.Name w) t rest → (m : Marks) → begins (K.Symbol S.Semicolon) (record { tokens = ts; marks = m }) ≡ false
+pub no_semicolon : {ts rest : List Token} {t : Token} {w : Word} → Takes ts (K.Name w) t rest → (m : Marks) → begins (K.Symbol S.Semicolon) (record { tokens = ts; marks = m }) ≡ false
 no_semicolon {ts} a m = not_begins (K.Symbol S.Semicolon) ts (λ e. cc (takes_next a, e))
 
-pub head_named : {s : List ℕ} {ts after : List Token} {t : Token} {w : Word} (m : Marks) → Opens s ts w t after → head_from s (record { tokens = ts; marks = m }) ≡ head_behind s (assigns s (record { tokens = ts; marks = m })) ts (place_of t) w (record { tokens = after; marks = m })
+pub head_named : {s : List ℕ} {ts after : List Token} {t : Token} {w : Word} (m : Marks) → Opens s ts w t after → head_from s (record { tokens = ts; marks = m }) ≡ head_behind s ts (place_of t) w (record { tokens = after; marks = m })
 unfolding head_from
 head_named {s} {ts} {after} {t} {w} m o =
     let a = no_semicolon o.taken m in

@@ -16,7 +16,7 @@ use Rattle.pli_phrase.specs.Cursor.{Cursor, Read, onto}
 use Rattle.pli_phrase.specs.Tokens.{begins}
 use Rattle.pli_phrase.specs.declared.expression.Beginning.{Beginning}
 use Rattle.pli_phrase.specs.declared.expression.Beginning.TheVariants.{Begins, Differs, Unknown}
-use Rattle.pli_attributes.proofs.Posts.{Post, never, post_ok, post_bind, post_if, post_weaken}
+use Rattle.pli_attributes.proofs.Posts.{Post, never, post_ok, post_ended, post_bind, post_if, post_weaken}
 use Rattle.pli_attributes.proofs.Tokens.{TakenBy, taken_post, name_post}
 use Rattle.pli_attributes.proofs.Lists.{Reads}
 use Rattle.pli_attributes.proofs.Expressions.{expr_post}
@@ -27,7 +27,8 @@ use Rattle.pli_clause.proofs.Conditions.{condition_post}
 use Rattle.pli_clause.proofs.ParameterLaws.{parameters_post}
 use Rattle.pli_clause.proofs.OptionLaws.{LeavesOptions, options_post}
 use Rattle.pli_clause.proofs.Countings.{counting_post}
-use Rattle.pli_head.specs.Reading.{assigns, closed, assignment_from, procedure_from, declaring_from, if_from, while_begins, do_while_from, do_count_from, do_from, on_from, end_from, simple_from, head_behind, null_from, worded, head_from}
+use Rattle.pli_phrase.specs.Reading.{assignment_begins}
+use Rattle.pli_head.specs.Reading.{assigns, closed, assignment_from, procedure_from, declaring_from, if_from, do_worded, do_while_from, do_count_from, do_from, on_from, end_from, simple_from, head_behind, null_from, worded, head_from}
 use Rattle.pli_head.proofs.Beginnings.{assigns_sound, assigns_not}
 use Rattle.pli_head.proofs.Statements.{LeavesHead, assignment_post, simple_post}
 
@@ -78,12 +79,17 @@ module _ (s : List ℕ) (c d : Cursor) (t : Token) (m : d.marks ≡ c.marks) (l 
   do_count_post a =
       post_bind _ _ (never _ _ (counting_post s d)) (λ x g. closed_post (G.DoCountGroup x.0 (place_of t)) x.1 (λ u k. made s c (G.DoCountGroup x.0 (place_of t)) u.1 x.1.marks (G.do_count c.tokens d.tokens x.1.tokens u.1.tokens c.marks x.1.marks t u.0 x.0 (opened W.Do a) (subst (λ n. SpellsCounting s d.tokens n x.0 x.1.tokens x.1.marks) m g.spelled) k.take) k.marked (omega (arith, l, g.shorter, k.shorter))))
 
+  do_worded_post : Takes c.tokens (K.Name W.Do) t d.tokens → (b : Beginning) → Post (HeadRead s c) (LeavesHead s c) (do_worded s (place_of t) b d)
+  do_worded_post a Begins = do_count_post a
+  do_worded_post a Differs = do_while_post a
+  do_worded_post a Unknown = post_ended
+
   do_post : Takes c.tokens (K.Name W.Do) t d.tokens → Post (HeadRead s c) (LeavesHead s c) (do_from s (place_of t) d)
   unfolding do_from
   do_post a =
-      post_if (begins (K.Symbol S.Semicolon) d) (closed (G.DoGroup (place_of t)) d) (if while_begins s d then do_while_from s (place_of t) d else do_count_from s (place_of t) d)
+      post_if (begins (K.Symbol S.Semicolon) d) (closed (G.DoGroup (place_of t)) d) (if begins (K.Name W.While) d then do_worded s (place_of t) (assignment_begins s d) d else do_count_from s (place_of t) d)
       (λ b. closed_post (G.DoGroup (place_of t)) d (λ u k. made s c (G.DoGroup (place_of t)) u.1 c.marks (G.do_group c.tokens d.tokens u.1.tokens c.marks t u.0 (opened W.Do a) k.take) (k.marked ∙ m) (omega (arith, l, k.shorter))))
-      (λ b. post_if (while_begins s d) (do_while_from s (place_of t) d) (do_count_from s (place_of t) d) (λ e. do_while_post a) (λ e. do_count_post a))
+      (λ b. post_if (begins (K.Name W.While) d) (do_worded s (place_of t) (assignment_begins s d) d) (do_count_from s (place_of t) d) (λ e. do_worded_post a (assignment_begins s d)) (λ e. do_count_post a))
 
   on_post : Takes c.tokens (K.Name W.On) t d.tokens → Post (HeadRead s c) (LeavesHead s c) (on_from (place_of t) d)
   on_post a =
@@ -96,21 +102,21 @@ module _ (s : List ℕ) (c d : Cursor) (t : Token) (m : d.marks ≡ c.marks) (l 
       (λ b. closed_post (G.EndOf None (place_of t)) d (λ u k. made s c (G.EndOf None (place_of t)) u.1 c.marks (G.unnamed_end c.tokens d.tokens u.1.tokens c.marks t u.0 (opened W.End a) k.take) (k.marked ∙ m) (omega (arith, l, k.shorter))))
       (λ b. post_bind _ _ (never _ _ (name_post s d)) (λ n i. closed_post (G.EndOf (Some n.0) (place_of t)) n.1 (λ u k. made s c (G.EndOf (Some n.0) (place_of t)) u.1 c.marks (subst (λ v. SpellsHead s c.tokens c.marks (G.EndOf (Some v) (place_of t)) u.1.tokens c.marks) (sym i.is) (G.named_end c.tokens d.tokens n.1.tokens u.1.tokens c.marks t i.token u.0 i.word (opened W.End a) i.take k.take)) (k.marked ∙ i.marked ∙ m) (omega (arith, l, i.shorter, k.shorter)))))
 
-  behind_post : (b : Beginning) (word : Word) → Takes c.tokens (K.Name word) t d.tokens → Post (HeadRead s c) (LeavesHead s c) (head_behind s b c.tokens (place_of t) word d)
+  behind_post : (word : Word) → Takes c.tokens (K.Name word) t d.tokens → Post (HeadRead s c) (LeavesHead s c) (head_behind s c.tokens (place_of t) word d)
   unfolding head_behind
-  behind_post b W.Procedure a = procedure_post a
-  behind_post b W.Declare a = declaring_post a
-  behind_post b W.If a = if_post a
-  behind_post b W.Else a =
+  behind_post W.Procedure a = procedure_post a
+  behind_post W.Declare a = declaring_post a
+  behind_post W.If a = if_post a
+  behind_post W.Else a =
       post_ok (made s c (G.Else (place_of t)) d c.marks (G.else' c.tokens d.tokens c.marks t (opened W.Else a)) m l)
-  behind_post b W.Do a = do_post a
-  behind_post b W.Begin a =
+  behind_post W.Do a = do_post a
+  behind_post W.Begin a =
       closed_post (G.BeginBlock (place_of t)) d (λ u k. made s c (G.BeginBlock (place_of t)) u.1 c.marks (G.begin c.tokens d.tokens u.1.tokens c.marks t u.0 (opened W.Begin a) k.take) (k.marked ∙ m) (omega (arith, l, k.shorter)))
-  behind_post b W.On a = on_post a
-  behind_post b W.System a =
+  behind_post W.On a = on_post a
+  behind_post W.System a =
       closed_post (G.System (place_of t)) d (λ u k. made s c (G.System (place_of t)) u.1 c.marks (G.system c.tokens d.tokens u.1.tokens c.marks t u.0 (opened W.System a) k.take) (k.marked ∙ m) (omega (arith, l, k.shorter)))
-  behind_post b W.End a = end_post a
-  behind_post b word a = simple_head_post s c _ (simple_post s c d t m l no b word a)
+  behind_post W.End a = end_post a
+  behind_post word a = simple_head_post s c _ (simple_post s c d t m l no word a)
 
 module _ (s : List ℕ) (c : Cursor) where
   null_post : Post (HeadRead s c) (LeavesHead s c) (null_from c)
@@ -124,8 +130,8 @@ module _ (s : List ℕ) (c : Cursor) where
 
   worded_post : (b : Beginning) (w : (Token × Word) × Cursor) → assigns s c ≡ b → WordBy c w → Post (HeadRead s c) (LeavesHead s c) (worded s b c.tokens w)
   worded_post Begins w h k = assigned_post w k (assigns_sound s c h)
-  worded_post Differs w h k = behind_post s c w.1 w.0.0 k.marked k.shorter (assigns_not s c Differs h (λ e. cc e)) Differs w.0.1 k.take
-  worded_post Unknown w h k = behind_post s c w.1 w.0.0 k.marked k.shorter (assigns_not s c Unknown h (λ e. cc e)) Unknown w.0.1 k.take
+  worded_post Differs w h k = behind_post s c w.1 w.0.0 k.marked k.shorter (assigns_not s c Differs h (λ e. cc e)) w.0.1 k.take
+  worded_post Unknown w h k = behind_post s c w.1 w.0.0 k.marked k.shorter (assigns_not s c Unknown h (λ e. cc e)) w.0.1 k.take
 
   pub head_post : Post (HeadRead s c) (LeavesHead s c) (head_from s c)
   unfolding head_from

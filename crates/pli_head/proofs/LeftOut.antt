@@ -14,7 +14,6 @@ use Rattle.pli_language.specs.Heads as G
 use Rattle.pli_language.specs.Heads.{SpellsParameters, LeavesOutOptions, is_left_out_head, is_left_out_stream, parameters_marks}
 use Rattle.pli_language.specs.Tree as T
 use Rattle.pli_phrase.specs.Cursor.{Cursor, LeavesOut, onto}
-use Rattle.pli_phrase.specs.declared.expression.Beginning.{Beginning}
 use Rattle.pli_attributes.proofs.Posts.{post_is, post_leaves}
 use Rattle.pli_attributes.proofs.AttributeLaws.{Begun, attribute_post, attribute_complete, attributes_post, attributes_left_out}
 use Rattle.pli_attributes.proofs.Items.{front_post, front_complete, declare_item_post, declare_item_complete, declare_items_post, declare_items_left_out}
@@ -26,22 +25,22 @@ use Rattle.pli_head.proofs.CompleteStatements.{head_named}
 
 -- ---- what is left out is answered
 
-left_word : (s : List ℕ) (b : Beginning) (at : List Token) (p : Place) (word : Word) (c : Cursor) → is_left_out_head word ≡ true → head_behind s b at p word c ≡ Err (LeavesOut (onto at c))
+left_word : (s : List ℕ) (at : List Token) (p : Place) (word : Word) (c : Cursor) → is_left_out_head word ≡ true → head_behind s at p word c ≡ Err (LeavesOut (onto at c))
 unfolding head_behind simple_behind
-left_word s b at p W.Open c e = refl
-left_word s b at p W.Close c e = refl
-left_word s b at p W.Read c e = refl
-left_word s b at p W.Write c e = refl
-left_word s b at p W.Rewrite c e = refl
-left_word s b at p W.Delete c e = refl
-left_word s b at p W.Locate c e = refl
-left_word s b at p W.Select c e = refl
-left_word s b at p W.Leave c e = refl
-left_word s b at p W.Exit c e = refl
-left_word s b at p W.Format c e = refl
-left_word s b at p W.Default c e = refl
-left_word s b at p W.Entry c e = refl
-left_word s b at p _ c e = absurd (cc e)
+left_word s at p W.Open c e = refl
+left_word s at p W.Close c e = refl
+left_word s at p W.Read c e = refl
+left_word s at p W.Write c e = refl
+left_word s at p W.Rewrite c e = refl
+left_word s at p W.Delete c e = refl
+left_word s at p W.Locate c e = refl
+left_word s at p W.Select c e = refl
+left_word s at p W.Leave c e = refl
+left_word s at p W.Exit c e = refl
+left_word s at p W.Format c e = refl
+left_word s at p W.Default c e = refl
+left_word s at p W.Entry c e = refl
+left_word s at p _ c e = absurd (cc e)
 
 procedure_left_out : {s : List ℕ} {ts mid at : List Token} {ns : List T.Name} {m' : Marks} (p : Place) (m : Marks) → SpellsParameters s ts ns mid → LeavesOutOptions s mid (parameters_marks 0 ns m) at m' → procedure_from s p (record { tokens = ts; marks = m }) ≡ Err (LeavesOut (record { tokens = at; marks = m' }))
 unfolding procedure_from
@@ -58,7 +57,7 @@ moved_left_out s d p m k e = rw (transfer_left_out s d m k e) refl
 
 pub head_left_out : {s : List ℕ} {ts at : List Token} {m m' : Marks} → G.LeavesOut s ts m at m' → head_from s (record { tokens = ts; marks = m }) ≡ Err (LeavesOut (record { tokens = at; marks = m' }))
 unfolding head_behind simple_behind
-head_left_out {s} (G.head ts rest m t word o e) = head_named m o ∙ left_word s _ ts (place_of t) word (record { tokens = rest; marks = m }) e
+head_left_out {s} (G.head ts rest m t word o e) = head_named m o ∙ left_word s ts (place_of t) word (record { tokens = rest; marks = m }) e
 head_left_out {s} (G.stream Getting ts after rest m t u word o k e) = head_named m o ∙ rw (moved_left_out s Getting (place_of t) m k e) refl
 head_left_out {s} (G.stream Putting ts after rest m t u word o k e) = head_named m o ∙ rw (moved_left_out s Putting (place_of t) m k e) refl
 head_left_out (G.declare ts after at m m' t o h) = head_named m o ∙ declaring_left_out (place_of t) h

@@ -5,3 +5,7 @@ pub mod CompleteStatements
 pub mod CompleteHeads
 pub mod LeftOut
 pub mod Laws
+pub mod HeadPrefixes
+pub mod Continuing
+pub mod Completing
+pub mod ProcedureEnds

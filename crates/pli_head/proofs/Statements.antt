@@ -12,9 +12,7 @@ use Rattle.pli_language.specs.Heads as G
 use Rattle.pli_language.specs.Heads.{BeginsIf, Assigns, Opens, SpellsGoto, SpellsSimple, SpellsAllocations, stream_word, moving, marks_if, freeings_marks}
 use Rattle.pli_language.specs.Tree as T
 use Rattle.pli_phrase.specs.Cursor.{Cursor}
-use Rattle.pli_phrase.specs.declared.expression.Beginning.{Beginning}
-use Rattle.pli_phrase.specs.declared.expression.Beginning.TheVariants.{Begins, Differs, Unknown}
-use Rattle.pli_attributes.proofs.Posts.{Post, Never, never, post_ok, post_stuck, post_ended, post_left, post_bind, post_if, post_weaken}
+use Rattle.pli_attributes.proofs.Posts.{Post, Never, never, post_ok, post_stuck, post_left, post_bind, post_if, post_weaken}
 use Rattle.pli_attributes.proofs.Tokens.{taken_post, name_post}
 use Rattle.pli_attributes.proofs.Expressions.{expr_post}
 use Rattle.pli_stream.proofs.Laws.{Leaves, transfer_post}
@@ -22,7 +20,7 @@ use Rattle.pli_clause.proofs.Parts.{ReadsMarked}
 use Rattle.pli_clause.proofs.References.{reference_post, arguments_post, value_post}
 use Rattle.pli_clause.proofs.Conditions.{condition_post}
 use Rattle.pli_clause.proofs.Placings.{allocations_post, freeings_post}
-use Rattle.pli_head.specs.Reading.{assignment_from, call_from, return_from, label_from, go_from, signal_from, revert_from, allocate_from, free_from, moved_from, missed, other_from, simple_behind}
+use Rattle.pli_head.specs.Reading.{assignment_from, call_from, return_from, label_from, go_from, signal_from, revert_from, allocate_from, free_from, moved_from, other_from, simple_behind}
 
 -- a form that is left out stands in the head that begins here
 pub record LeavesHead (s : List ℕ) (c : Cursor) (d : Cursor) : Type 0 where
@@ -84,29 +82,24 @@ module _ (s : List ℕ) (c d : Cursor) (t : Token) (m : d.marks ≡ c.marks) (l 
   moved_post way a =
       post_bind _ _ (post_weaken _ (transfer_post s way d) (λ x g. g) (λ e h. leaves_stream way e a h)) (λ x g. post_ok (made s c (moving way x.0.skip x.0.pairs (place_of t)) x.1 (pairs_marks way x.0.pairs (skip_marks x.0.skip c.marks)) (G.move way c.tokens d.tokens g.mid x.1.tokens c.marks t x.0.skip x.0.pairs (opened (stream_word way) a) g.options g.edit g.moves) (g.marked ∙ ap (λ n. pairs_marks way x.0.pairs (skip_marks x.0.skip n)) m) (omega (arith, l, g.shorter))))
 
-  missed_post : (b : Beginning) → Post (SimpleBy s c) (LeavesHead s c) (Err (missed b))
-  missed_post Begins = post_stuck
-  missed_post Differs = post_stuck
-  missed_post Unknown = post_ended
-
-  other_post : (b : Beginning) (word : Word) → Takes c.tokens (K.Name word) t d.tokens → Post (SimpleBy s c) (LeavesHead s c) (other_from b c.tokens word d)
-  other_post b word a =
+  other_post : (word : Word) → Takes c.tokens (K.Name word) t d.tokens → Post (SimpleBy s c) (LeavesHead s c) (other_from c.tokens word d)
+  other_post word a =
       post_if _ _ _
       (λ e. post_left (record { leaves = subst (λ n. G.LeavesOut s c.tokens c.marks c.tokens n) (sym m) (G.head c.tokens d.tokens c.marks t word (opened word a) e) }))
-      (λ e. missed_post b)
+      (λ e. post_stuck)
 
-  pub simple_post : (b : Beginning) (word : Word) → Takes c.tokens (K.Name word) t d.tokens → Post (ReadsMarked (SpellsSimple s) c) (LeavesHead s c) (simple_behind s b c.tokens (place_of t) word d)
+  pub simple_post : (word : Word) → Takes c.tokens (K.Name word) t d.tokens → Post (ReadsMarked (SpellsSimple s) c) (LeavesHead s c) (simple_behind s c.tokens (place_of t) word d)
   unfolding simple_behind
-  simple_post b W.Call a = call_post a
-  simple_post b W.Return a = return_post a
-  simple_post b W.Goto a = label_post d (G.goto c.tokens d.tokens t (opened W.Goto a)) m l
-  simple_post b W.Go a = go_post a
-  simple_post b W.Stop a =
+  simple_post W.Call a = call_post a
+  simple_post W.Return a = return_post a
+  simple_post W.Goto a = label_post d (G.goto c.tokens d.tokens t (opened W.Goto a)) m l
+  simple_post W.Go a = go_post a
+  simple_post W.Stop a =
       post_ok (made s c (T.Stop (place_of t)) d c.marks (G.stop c.tokens d.tokens c.marks t (opened W.Stop a)) m (omega (arith, l)))
-  simple_post b W.Signal a = signal_post a
-  simple_post b W.Revert a = revert_post a
-  simple_post b W.Allocate a = allocate_post a
-  simple_post b W.Free a = free_post a
-  simple_post b W.Get a = moved_post Getting a
-  simple_post b W.Put a = moved_post Putting a
-  simple_post b word a = other_post b word a
+  simple_post W.Signal a = signal_post a
+  simple_post W.Revert a = revert_post a
+  simple_post W.Allocate a = allocate_post a
+  simple_post W.Free a = free_post a
+  simple_post W.Get a = moved_post Getting a
+  simple_post W.Put a = moved_post Putting a
+  simple_post word a = other_post word a

@@ -1,2 +1,3 @@
 pub mod Reading
 pub mod View
+pub mod Continuing

@@ -10,7 +10,7 @@ use Rattle.pli_language.specs.Spells.{place_of}
 use Rattle.pli_language.specs.Heads.{Head, ProcedureFront, Declaring, Simple, IfThen, Else, DoGroup, DoWhileGroup, DoCountGroup, BeginBlock, On, System, EndOf, is_left_out_head, moving}
 use Rattle.pli_language.specs.Formats.{Direction, Getting, Putting}
 use Rattle.pli_language.specs.Tree as T
-use Rattle.pli_phrase.specs.Cursor.{Cursor, Missed, Stuck, Ended, LeavesOut, Read, ◌>>=◌, onto}
+use Rattle.pli_phrase.specs.Cursor.{Cursor, Stuck, Ended, LeavesOut, Read, ◌>>=◌, onto}
 use Rattle.pli_phrase.specs.Tokens.{is_terminal, begins, taken, name_from}
 use Rattle.pli_phrase.specs.declared.expression.Beginning.{Beginning}
 use Rattle.pli_phrase.specs.declared.expression.Beginning.TheVariants.{Begins, Differs, Unknown}
@@ -80,28 +80,23 @@ free_from s p c = freeings_from s c >>= λ f. Ok (T.Free f.0 p, f.1)
 abbrev pub moved_from : List ℕ → Direction → Place → Cursor → Read T.Stmt
 moved_from s d p c = transfer_from s d c >>= λ x. Ok (moving d x.0.skip x.0.pairs p, x.1)
 
--- where no form goes on with a word: the tokens end inside what could still be an assignment, or they don't
-abbrev pub missed : Beginning → Missed
-missed Unknown = Ended
-missed _ = Stuck
-
 -- a word with which no head begins, or one that is left out; it is the first of the tokens `at`
-abbrev pub other_from : Beginning → List Token → Word → Cursor → Read T.Stmt
-other_from b at word c = if is_left_out_head word then Err (LeavesOut (onto at c)) else Err (missed b)
+abbrev pub other_from : List Token → Word → Cursor → Read T.Stmt
+other_from at word c = if is_left_out_head word then Err (LeavesOut (onto at c)) else Err Stuck
 
-unfoldable pub simple_behind : List ℕ → Beginning → List Token → Place → Word → Cursor → Read T.Stmt
-simple_behind s b at p W.Call c = call_from s p c
-simple_behind s b at p W.Return c = return_from s p c
-simple_behind s b at p W.Goto c = label_from s p c
-simple_behind s b at p W.Go c = go_from s p c
-simple_behind s b at p W.Stop c = Ok (T.Stop p, c)
-simple_behind s b at p W.Signal c = signal_from p c
-simple_behind s b at p W.Revert c = revert_from p c
-simple_behind s b at p W.Allocate c = allocate_from s p c
-simple_behind s b at p W.Free c = free_from s p c
-simple_behind s b at p W.Get c = moved_from s Getting p c
-simple_behind s b at p W.Put c = moved_from s Putting p c
-simple_behind s b at p word c = other_from b at word c
+unfoldable pub simple_behind : List ℕ → List Token → Place → Word → Cursor → Read T.Stmt
+simple_behind s at p W.Call c = call_from s p c
+simple_behind s at p W.Return c = return_from s p c
+simple_behind s at p W.Goto c = label_from s p c
+simple_behind s at p W.Go c = go_from s p c
+simple_behind s at p W.Stop c = Ok (T.Stop p, c)
+simple_behind s at p W.Signal c = signal_from p c
+simple_behind s at p W.Revert c = revert_from p c
+simple_behind s at p W.Allocate c = allocate_from s p c
+simple_behind s at p W.Free c = free_from s p c
+simple_behind s at p W.Get c = moved_from s Getting p c
+simple_behind s at p W.Put c = moved_from s Putting p c
+simple_behind s at p word c = other_from at word c
 
 -- ---- the other heads, behind their words
 
@@ -115,14 +110,6 @@ declaring_from s p c = declare_items_from s c >>= λ ds. closed (Declaring ds.0 
 abbrev pub if_from : List ℕ → Place → Cursor → Read Head
 if_from s p c = expr_from s c >>= λ e. taken (K.Name W.Then) e.1 >>= λ u. Ok (IfThen e.0 p, u.1)
 
-abbrev pub is_not_begun : Beginning → Bool
-is_not_begun Begins = false
-is_not_begun _ = true
-
--- WHILE, which is no variable that counts
-unfoldable pub while_begins : List ℕ → Cursor → Bool
-while_begins s c = if begins (K.Name W.While) c then is_not_begun (assignment_begins s c) else false
-
 abbrev pub do_while_from : List ℕ → Place → Cursor → Read Head
 do_while_from s p c =
     taken (K.Name W.While) c >>= λ t. in_parentheses_from s t.1 >>= λ e. closed (DoWhileGroup e.0 p) e.1
@@ -130,9 +117,15 @@ do_while_from s p c =
 abbrev pub do_count_from : List ℕ → Place → Cursor → Read Head
 do_count_from s p c = counting_from s c >>= λ x. closed (DoCountGroup x.0 p) x.1
 
+-- at WHILE: the variable that counts, or a condition; where the tokens end in it, it may be either
+abbrev pub do_worded : List ℕ → Place → Beginning → Cursor → Read Head
+do_worded s p Begins c = do_count_from s p c
+do_worded s p Differs c = do_while_from s p c
+do_worded s p Unknown c = Err Ended
+
 unfoldable pub do_from : List ℕ → Place → Cursor → Read Head
 do_from s p c =
-    if begins (K.Symbol S.Semicolon) c then closed (DoGroup p) c else if while_begins s c then do_while_from s p c else do_count_from s p c
+    if begins (K.Symbol S.Semicolon) c then closed (DoGroup p) c else if begins (K.Name W.While) c then do_worded s p (assignment_begins s c) c else do_count_from s p c
 
 abbrev pub on_from : Place → Cursor → Read Head
 on_from p c = condition_from c >>= λ x. Ok (On x.0 p, x.1)
@@ -144,17 +137,17 @@ end_from s p c =
 abbrev pub simple_from : Read T.Stmt → Read Head
 simple_from r = r >>= λ x. closed (Simple x.0) x.1
 
-unfoldable pub head_behind : List ℕ → Beginning → List Token → Place → Word → Cursor → Read Head
-head_behind s b at p W.Procedure c = procedure_from s p c
-head_behind s b at p W.Declare c = declaring_from s p c
-head_behind s b at p W.If c = if_from s p c
-head_behind s b at p W.Else c = Ok (Else p, c)
-head_behind s b at p W.Do c = do_from s p c
-head_behind s b at p W.Begin c = closed (BeginBlock p) c
-head_behind s b at p W.On c = on_from p c
-head_behind s b at p W.System c = closed (System p) c
-head_behind s b at p W.End c = end_from s p c
-head_behind s b at p word c = simple_from (simple_behind s b at p word c)
+unfoldable pub head_behind : List ℕ → List Token → Place → Word → Cursor → Read Head
+head_behind s at p W.Procedure c = procedure_from s p c
+head_behind s at p W.Declare c = declaring_from s p c
+head_behind s at p W.If c = if_from s p c
+head_behind s at p W.Else c = Ok (Else p, c)
+head_behind s at p W.Do c = do_from s p c
+head_behind s at p W.Begin c = closed (BeginBlock p) c
+head_behind s at p W.On c = on_from p c
+head_behind s at p W.System c = closed (System p) c
+head_behind s at p W.End c = end_from s p c
+head_behind s at p word c = simple_from (simple_behind s at p word c)
 
 -- ---- heads
 
@@ -164,7 +157,7 @@ null_from c = taken (K.Symbol S.Semicolon) c >>= λ u. Ok (Simple (T.Null (place
 -- a head that begins with this word, which is the first of the tokens `at`
 abbrev pub worded : List ℕ → Beginning → List Token → (Token × Word) × Cursor → Read Head
 worded s Begins at w = simple_from (assignment_from s (place_of w.0.0) (onto at w.1))
-worded s b at w = head_behind s b at (place_of w.0.0) w.0.1 w.1
+worded s b at w = head_behind s at (place_of w.0.0) w.0.1 w.1
 
 -- the head that begins at the first token
 unfoldable pub head_from : List ℕ → Cursor → Read Head

@@ -2,7 +2,7 @@
 
 ghost use Rattle.std.specs.Prelude.{◌≡◌, IfOk};
 ghost use Rattle.pli_phrase.specs.View.{cursor_of};
-ghost use Rattle.pli_head.specs.Reading.{assigns, begins_if, condition_then, while_begins};
+ghost use Rattle.pli_head.specs.Reading.{assigns, begins_if, condition_then};
 
 use pli_language::token::{Kind, Symbol, Word};
 use pli_phrase::cursor::{Cursor, Marks};
@@ -55,18 +55,4 @@ pub fn assigns(alloc: Global, source: &[u8], cursor: &Cursor) -> Result<Beginnin
         return Ok(Beginning::Differs);
     }
     begins_assignment(alloc, source, cursor)
-}
-
-/// Behind DO: the word WHILE, which is no variable that counts.
-#[tactic(auto, unfolding(crate::specs::Reading::while_begins))]
-pub fn while_begins(alloc: Global, source: &[u8], cursor: &Cursor) -> Result<bool, AllocError>
-    ensures { IfOk result (λ b. b ≡ while_begins source.now (cursor_of cursor.now)) }
-{
-    if !begins(Kind::Name(Word::While), cursor) {
-        return Ok(false);
-    }
-    match begins_assignment(alloc, source, cursor)? {
-        Beginning::Begins => Ok(false),
-        _ => Ok(true),
-    }
 }

@@ -6,14 +6,13 @@ ghost use Rattle.pli_phrase.specs.View.{cursor_of};
 ghost use Rattle.pli_head.specs.Reading.{closed, declaring_from, do_count_from, do_from, do_while_from, end_from, if_from, on_from, procedure_from};
 ghost use Rattle.pli_head.specs.View.{head_of};
 
-use crate::beginning::while_begins;
 use crate::heads::Head;
 use pli_attributes::declare_items;
 use pli_clause::{condition, condition_in_parentheses, counting, options, parameters};
 use pli_language::expr::Place;
 use pli_language::token::{Kind, Symbol, Word};
 use pli_phrase::cursor::Cursor;
-use pli_phrase::expression::expression;
+use pli_phrase::expression::{Beginning, begins_assignment, expression};
 use pli_phrase::stop::Stop;
 use pli_phrase::token::{begins, name, taken};
 use std::alloc::Global;
@@ -100,7 +99,7 @@ fn do_count<'a>(
     closed(Head::DoCountGroup { counting, place }, cursor)
 }
 
-/// Behind DO.
+/// Behind DO. The word WHILE may be the variable that counts, or stand before a condition; where the tokens end in it, either.
 #[tactic(auto, unfolding(crate::specs::Reading::do_from))]
 pub fn group<'a>(
     alloc: Global,
@@ -113,10 +112,13 @@ pub fn group<'a>(
     if begins(Kind::Symbol(Symbol::Semicolon), &cursor) {
         return closed(Head::DoGroup { place }, cursor);
     }
-    if while_begins(alloc, source, &cursor)? {
-        do_while(alloc, source, place, cursor)
-    } else {
-        do_count(alloc, source, place, cursor)
+    if !begins(Kind::Name(Word::While), &cursor) {
+        return do_count(alloc, source, place, cursor);
+    }
+    match begins_assignment(alloc, source, &cursor)? {
+        Beginning::Begins => do_count(alloc, source, place, cursor),
+        Beginning::Differs => do_while(alloc, source, place, cursor),
+        Beginning::Unknown => Err(Stop::Ended),
     }
 }
 

@@ -2,6 +2,7 @@
 #![tactic(auto)]
 
 mod beginning;
+pub mod continuation;
 mod group;
 mod heads;
 pub mod reading;

@@ -3,7 +3,7 @@
 ghost use Rattle.std.specs.Prelude.{◌≡◌};
 ghost use Rattle.pli_phrase.specs.Answers.{Gives};
 ghost use Rattle.pli_phrase.specs.View.{cursor_of};
-ghost use Rattle.pli_head.specs.Reading.{head_behind, head_from, null_from, worded};
+ghost use Rattle.pli_head.specs.Reading.{assignment_from, head_behind, head_from, null_from, simple_from, worded};
 ghost use Rattle.pli_head.specs.View.{head_of};
 
 use crate::beginning::assigns;
@@ -34,16 +34,15 @@ fn null<'a>(cursor: Cursor<'a>) -> Result<(Head, Cursor<'a>), Stop<'a>>
 
 /// A head of this word, behind the word, which is the first of `at` and begins no assignment.
 #[tactic(auto, unfolding(crate::specs::Reading::head_behind))]
-fn worded_head<'a>(
+pub fn worded_head<'a>(
     alloc: Global,
     source: &[u8],
-    beginning: Beginning,
     at: &'a [Token],
     place: Place,
     word: Word,
     cursor: Cursor<'a>,
 ) -> Result<(Head, Cursor<'a>), Stop<'a>>
-    ensures { Gives (λ x. (head_of x.0, cursor_of x.1)) result (head_behind source.now beginning at.now place word (cursor_of cursor.entry)) }
+    ensures { Gives (λ x. (head_of x.0, cursor_of x.1)) result (head_behind source.now at.now place word (cursor_of cursor.entry)) }
 {
     match word {
         Word::Procedure => procedure(alloc, source, place, cursor),
@@ -56,12 +55,24 @@ fn worded_head<'a>(
         Word::System => closed(Head::System { place }, cursor),
         Word::End => end(alloc, source, place, cursor),
         _ => {
-            let (statement, cursor) = worded_statement(
-                alloc, source, beginning, at, place, word, cursor,
-            )?;
+            let (statement, cursor) =
+                worded_statement(alloc, source, at, place, word, cursor)?;
             closed(Head::Simple(statement), cursor)
         }
     }
+}
+
+/// An assignment, up to its semicolon.
+pub fn assignment_head<'a>(
+    alloc: Global,
+    source: &[u8],
+    place: Place,
+    cursor: Cursor<'a>,
+) -> Result<(Head, Cursor<'a>), Stop<'a>>
+    ensures { Gives (λ x. (head_of x.0, cursor_of x.1)) result (simple_from (assignment_from source.now place (cursor_of cursor.entry))) }
+{
+    let (statement, cursor) = assignment(alloc, source, place, cursor)?;
+    closed(Head::Simple(statement), cursor)
 }
 
 /// A head that begins with a word, which is the first of `at`.
@@ -82,10 +93,9 @@ fn worded<'a>(
                 tokens: at,
                 marks: cursor.marks,
             };
-            let (statement, cursor) = assignment(alloc, source, place, start)?;
-            closed(Head::Simple(statement), cursor)
+            assignment_head(alloc, source, place, start)
         }
-        _ => worded_head(alloc, source, beginning, at, place, first.1, cursor),
+        _ => worded_head(alloc, source, at, place, first.1, cursor),
     }
 }
 

@@ -13,7 +13,7 @@ use pli_language::expr::Place;
 use pli_language::stmt::Stmt;
 use pli_language::token::{Kind, Symbol, Token, Word};
 use pli_phrase::cursor::Cursor;
-use pli_phrase::expression::{Beginning, arguments, expression, reference};
+use pli_phrase::expression::{arguments, expression, reference};
 use pli_phrase::stop::Stop;
 use pli_phrase::token::{name, taken};
 use pli_stream::{Direction, transfer};
@@ -213,12 +213,11 @@ fn is_left_out(word: Word) -> bool
 
 /// A word with which no head begins that is read. It is the first of `at`.
 fn other<'a>(
-    beginning: Beginning,
     at: &'a [Token],
     word: Word,
     cursor: Cursor<'a>,
 ) -> Result<(Stmt, Cursor<'a>), Stop<'a>>
-    ensures { Gives (λ x. (stmt_of x.0, cursor_of x.1)) result (other_from beginning at.now word (cursor_of cursor.entry)) }
+    ensures { Gives (λ x. (stmt_of x.0, cursor_of x.1)) result (other_from at.now word (cursor_of cursor.entry)) }
 {
     if is_left_out(word) {
         return Err(Stop::LeftOut(Cursor {
@@ -226,10 +225,7 @@ fn other<'a>(
             marks: cursor.marks,
         }));
     }
-    match beginning {
-        Beginning::Unknown => Err(Stop::Ended),
-        _ => Err(Stop::Stuck),
-    }
+    Err(Stop::Stuck)
 }
 
 /// A simple statement of this word, behind the word, which is the first of `at`.
@@ -237,13 +233,12 @@ fn other<'a>(
 pub fn worded_statement<'a>(
     alloc: Global,
     source: &[u8],
-    beginning: Beginning,
     at: &'a [Token],
     place: Place,
     word: Word,
     cursor: Cursor<'a>,
 ) -> Result<(Stmt, Cursor<'a>), Stop<'a>>
-    ensures { Gives (λ x. (stmt_of x.0, cursor_of x.1)) result (simple_behind source.now beginning at.now place word (cursor_of cursor.entry)) }
+    ensures { Gives (λ x. (stmt_of x.0, cursor_of x.1)) result (simple_behind source.now at.now place word (cursor_of cursor.entry)) }
 {
     match word {
         Word::Call => call(alloc, source, place, cursor),
@@ -257,6 +252,6 @@ pub fn worded_statement<'a>(
         Word::Free => free(alloc, source, place, cursor),
         Word::Get => get(alloc, source, place, cursor),
         Word::Put => put(alloc, source, place, cursor),
-        _ => other(beginning, at, word, cursor),
+        _ => other(at, word, cursor),
     }
 }

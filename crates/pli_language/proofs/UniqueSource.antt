@@ -1,16 +1,15 @@
--- A source is read one way: all its faults and its tree are the same in each reading, but for the place of a head that
--- breaks off at the end.
-use Rattle.std.proofs.Common.{◌≡◌, ◌≢◌, ◌⊎◌, inl, inr, ℕ, List, [], ◌∷◌, ◌++◌, Option, Some, refl, sym, ap, ◌∙◌, subst, append_assoc}
+-- A source is read one way: all its faults and its tree are the same in each reading.
+use Rattle.std.proofs.Common.{◌≡◌, ◌≢◌, ◌⊎◌, inl, inr, ℕ, List, [], ◌∷◌, ◌++◌, Option, Some, refl, sym, ap, ◌∙◌, subst}
 use Rattle.std.specs.Prelude.{Contains}
 use Rattle.pli_language.specs.declared.expr.Place.{Place}
 use Rattle.pli_language.specs.declared.fault.SourceFault.{SourceFault}
 use Rattle.pli_language.specs.declared.fault.SourceKind.TheVariants.{LeftOut}
 use Rattle.pli_language.specs.declared.token.Token.{Token}
-use Rattle.pli_language.specs.Heads.{Head, SpellsHead, LeavesOut}
+use Rattle.pli_language.specs.Heads.{Head, Else, SpellsHead, LeavesOut}
 use Rattle.pli_language.specs.Marks.{Marks, no_marks, fault_at}
-use Rattle.pli_language.specs.Nesting.{Frame, InList, ThenDue, ThenWhole, ElseDue, UnitDue, Nest, outermost, entered, settled, misplaced, nest_faults, items_of_list}
+use Rattle.pli_language.specs.Nesting.{Nest, outermost, entered, settled, misplaced, nest_faults, items_of_list}
 use Rattle.pli_language.specs.Parsing as G
-use Rattle.pli_language.specs.Parsing.{label_ahead, SpellsLabels, faults_of, syntax_at, end_of, BeginsHead, BeginsLeftOut, BreaksOff, Reads, Spells, RefusesTokens}
+use Rattle.pli_language.specs.Parsing.{label_ahead, SpellsLabels, faults_of, syntax_at, end_of, BeginsHead, BeginsLeftOut, MayGoOn, IsRefusedAt, IsMisplacedAt, Reads, Spells, RefusesTokens}
 use Rattle.pli_language.specs.Spells.{name_at, place_of}
 use Rattle.pli_language.specs.Tree.{Name, Tree}
 use Rattle.pli_language.proofs.Unique.{Same}
@@ -80,7 +79,7 @@ stage : {s : List ℕ} {n : Nest} {ts : List Token} {fs : List SourceFault} {tre
 stage (G.all_read n closed) = AtEnd
 stage (G.too_early n ts ls labels open_yet) = AtEnd
 stage (G.head n next ts mid rest ls h m fs tree labels of enters more) = AtHead
-stage (G.misplaced_head n ts mid rest ls h m t labels of enters_none) = AtHead
+stage (G.misplaced_head n ts mid rest ls h m t p labels of enters_none at) = AtHead
 stage (G.left_out n ts mid rest ls m t labels of) = AtLeftOut
 stage (G.no_head n ts mid ls t p labels no_h no_l at) = AtNeither
 
@@ -89,7 +88,7 @@ unfolding stage
 behind (G.all_read n closed) = record { labels = []; mid = []; spelled = G.no_label [] refl; stands = Stands.ended refl }
 behind (G.too_early n ts ls labels open_yet) = record { labels = ls; mid = []; spelled = labels; stands = Stands.ended refl }
 behind (G.head n next ts mid rest ls h m fs tree labels of enters more) = record { labels = ls; mid = mid; spelled = labels; stands = Stands.a_head h rest m of }
-behind (G.misplaced_head n ts mid rest ls h m t labels of enters_none) = record { labels = ls; mid = t ∷ mid; spelled = labels; stands = Stands.a_head h rest m of }
+behind (G.misplaced_head n ts mid rest ls h m t p labels of enters_none at) = record { labels = ls; mid = t ∷ mid; spelled = labels; stands = Stands.a_head h rest m of }
 behind (G.left_out n ts mid rest ls m t labels of) = record { labels = ls; mid = mid; spelled = labels; stands = Stands.a_left_out (t ∷ rest) m of }
 behind (G.no_head n ts mid ls t p labels no_h no_l at) = record { labels = ls; mid = t ∷ mid; spelled = labels; stands = Stands.neither t mid refl no_h no_l }
 
@@ -101,48 +100,39 @@ stages_same k d d' =
 
 -- ---- readings
 
--- one of the places where a head that isn't spelled may be refused
-abbrev pub IsBreak : List ℕ → Token → List Token → Place → Type 0
-IsBreak s t ts p = (p ≡ place_of t) ⊎ ((p ≡ end_of s) × BreaksOff ts)
+goes_along : {s : List ℕ} {n n' : Nest} {ls ls' : List Name} {ts ts' : List Token} → n ≡ n' → ls ≡ ls' → ts ≡ ts' → MayGoOn s n ls ts → MayGoOn s n' ls' ts'
+goes_along {s} {n} {n'} {ls} {ls'} {ts} {ts'} e f g a =
+    subst (λ u. MayGoOn s u ls' ts') e (subst (λ u. MayGoOn s n u ts') f (subst (λ u. MayGoOn s n ls u) g a))
 
--- the same refusals, or the same up to the last, which is of the syntax: at the first token of what is no head, or at the end
-pub data SameFaults (s : List ℕ) (fs fs' : List SourceFault) : Type 0 where
-  equal : fs ≡ fs' → SameFaults s fs fs'
-  apart : (first : List SourceFault) (t : Token) (rest : List Token) (p p' : Place) → ¬ BeginsHead s (t ∷ rest) → ¬ BeginsLeftOut s (t ∷ rest) → fs ≡ first ++ syntax_at p ∷ [] → fs' ≡ first ++ syntax_at p' ∷ [] → IsBreak s t (t ∷ rest) p → IsBreak s t (t ∷ rest) p' → SameFaults s fs fs'
+-- a head is refused at one place
+refused_once : {s : List ℕ} {n n' : Nest} {ls ls' : List Name} {t t' : Token} {mid mid' : List Token} {p p' : Place} → n ≡ n' → ls ≡ ls' → t ≡ t' → mid ≡ mid' → IsRefusedAt s n ls t mid p → IsRefusedAt s n' ls' t' mid' p' → p ≡ p'
+refused_once e f g h (inl a) (inl a') = cc (a.1, a'.1)
+refused_once {t = t} {t' = t'} {mid = mid} {mid' = mid'} e f g h (inl a) (inr a') =
+    let same : t ∷ mid ≡ t' ∷ mid' = cc (g, h) in
+    absurd (a'.0 (goes_along e f same a.0))
+refused_once {t = t} {t' = t'} {mid = mid} {mid' = mid'} e f g h (inr a) (inl a') =
+    let same : t' ∷ mid' ≡ t ∷ mid = cc (g, h) in
+    absurd (a.0 (goes_along (sym e) (sym f) same a'.0))
+refused_once e f g h (inr a) (inr a') = cc (a.1, a'.1, ap place_of g)
 
-pub record SameReading (s : List ℕ) (fs fs' : List SourceFault) (x x' : Option Tree) : Type 0 where
-  pub faults : SameFaults s fs fs'
+one_place : (s : List ℕ) {n n' : Nest} {ls ls' : List Name} {t t' : Token} {mid mid' : List Token} {p p' : Place} (h : Head) → n ≡ n' → ls ≡ ls' → t ≡ t' → mid ≡ mid' → IsMisplacedAt s n ls h t mid p → IsMisplacedAt s n' ls' h t' mid' p' → p ≡ p'
+one_place s (Else q) e f g k a b = refused_once e f g k a b
+one_place s _ e f g k a b = cc (a, b, ap place_of g)
+
+-- a head that may not stand is refused at one place
+misplaced_once : (s : List ℕ) {n n' : Nest} {ls ls' : List Name} {t t' : Token} {mid mid' : List Token} {p p' : Place} {h h' : Head} → h ≡ h' → n ≡ n' → ls ≡ ls' → t ≡ t' → mid ≡ mid' → IsMisplacedAt s n ls h t mid p → IsMisplacedAt s n' ls' h' t' mid' p' → p ≡ p'
+misplaced_once s {n' = n'} {ls' = ls'} {t' = t'} {mid' = mid'} {p' = p'} {h = h} i e f g k a b =
+    one_place s h e f g k a (subst (λ u. IsMisplacedAt s n' ls' u t' mid' p') (sym i) b)
+
+pub record SameReading (fs fs' : List SourceFault) (x x' : Option Tree) : Type 0 where
+  pub faults : fs ≡ fs'
   pub tree : x ≡ x'
 
-prepended : {s : List ℕ} {a a' fs fs' : List SourceFault} → a ≡ a' → SameFaults s fs fs' → SameFaults s (a ++ fs) (a' ++ fs')
-prepended e (SameFaults.equal f) = SameFaults.equal (cc (e, f))
-prepended {a = a} {a' = a'} e (SameFaults.apart first t rest p p' no_h no_l f f' at at') =
-    let g = ap (λ u. a ++ u) f ∙ sym (append_assoc a first (syntax_at p ∷ [])) in
-    let g' = ap (λ u. a' ++ u) f' ∙ (sym (append_assoc a' first (syntax_at p' ∷ [])) ∙ ap (λ u. (u ++ first) ++ syntax_at p' ∷ []) (sym e)) in
-    SameFaults.apart (a ++ first) t rest p p' no_h no_l g g' at at'
-
--- a place stays as it is, or is that of a label
-misplaced_one_way : (fs : List Frame) (ls : List Name) → ((p : Place) → misplaced fs ls p ≡ p) ⊎ ((p p' : Place) → misplaced fs ls p ≡ misplaced fs ls p')
-misplaced_one_way [] ls = inl (λ p. refl)
-misplaced_one_way (InList o labels items pending ∷ fs) ls = inl (λ p. refl)
-misplaced_one_way (ThenDue e q ∷ fs) [] = inl (λ p. refl)
-misplaced_one_way (ThenDue e q ∷ fs) (l ∷ ls) = inr (λ p p'. refl)
-misplaced_one_way (ThenWhole e u q ∷ fs) ls = inl (λ p. refl)
-misplaced_one_way (ElseDue e u q ∷ fs) [] = inl (λ p. refl)
-misplaced_one_way (ElseDue e u q ∷ fs) (l ∷ ls) = inr (λ p p'. refl)
-misplaced_one_way (UnitDue c q ∷ fs) [] = inl (λ p. refl)
-misplaced_one_way (UnitDue c q ∷ fs) (l ∷ ls) = inr (λ p p'. refl)
+prepended : {a a' fs fs' : List SourceFault} → a ≡ a' → fs ≡ fs' → a ++ fs ≡ a' ++ fs'
+prepended e f = cc (e, f)
 
 one_fault : Place → List SourceFault
 one_fault p = syntax_at p ∷ []
-
-places_same : {s : List ℕ} (fs : List Frame) (ls : List Name) (t : Token) (rest : List Token) (p p' : Place) → ¬ BeginsHead s (t ∷ rest) → ¬ BeginsLeftOut s (t ∷ rest) → IsBreak s t (t ∷ rest) p → IsBreak s t (t ∷ rest) p' → SameFaults s (one_fault (misplaced fs ls p)) (one_fault (misplaced fs ls p'))
-unfolding one_fault
-places_same fs ls t rest p p' no_h no_l at at' =
-    elim (misplaced_one_way fs ls) [
-      | inl stays ↦ SameFaults.apart [] t rest p p' no_h no_l (ap one_fault (stays p)) (ap one_fault (stays p')) at at'
-      | inr label ↦ SameFaults.equal (ap one_fault (label p p'))
-    ]
 
 misplaced_same : {n n' : Nest} {ls ls' : List Name} {p p' : Place} → n ≡ n' → ls ≡ ls' → p ≡ p' → one_fault (misplaced (settled n.frames) ls p) ≡ one_fault (misplaced (settled n'.frames) ls' p')
 misplaced_same {n} {n'} {ls} {ls'} {p} {p'} e f g =
@@ -158,17 +148,17 @@ nothing_open {n = n} {n' = n'} e closed k labels left =
       | inr some ↦ some (sym f.value)
     ]
 
-pub reads_same : {s : List ℕ} {n n' : Nest} {ts ts' : List Token} {fs fs' : List SourceFault} {tree tree' : Option Tree} → n ≡ n' → ts ≡ ts' → Reads s n ts fs tree → Reads s n' ts' fs' tree' → SameReading s fs fs' tree tree'
+pub reads_same : {s : List ℕ} {n n' : Nest} {ts ts' : List Token} {fs fs' : List SourceFault} {tree tree' : Option Tree} → n ≡ n' → ts ≡ ts' → Reads s n ts fs tree → Reads s n' ts' fs' tree' → SameReading fs fs' tree tree'
 unfolding stage one_fault
 reads_same e k (G.all_read n closed) (G.all_read n' closed') =
-    record { faults = SameFaults.equal refl; tree = ap (λ u. Some (record { procedures = items_of_list u.outer })) e }
+    record { faults = refl; tree = ap (λ u. Some (record { procedures = items_of_list u.outer })) e }
 reads_same e k (G.all_read n closed) (G.too_early n' ts' ls' labels' open_yet') =
     absurd (nothing_open e closed k labels' open_yet')
 reads_same e k (G.too_early n ts ls labels open_yet) (G.all_read n' closed') =
     absurd (nothing_open (sym e) closed' (sym k) labels open_yet)
 reads_same e k (G.too_early n ts ls labels open_yet) (G.too_early n' ts' ls' labels' open_yet') =
     let f = labels_same k labels labels' in
-    record { faults = SameFaults.equal (misplaced_same e f.value refl); tree = refl }
+    record { faults = misplaced_same e f.value refl; tree = refl }
 reads_same e k (G.head n next ts mid rest ls h m fs tree labels of enters more) (G.head n' next' ts' mid' rest' ls' h' m' fs' tree' labels' of' enters' more') =
     let f = labels_same k labels labels' in
     let g = head_same f.rest refl of of' in
@@ -179,50 +169,40 @@ reads_same e k (G.head n next ts mid rest ls h m fs tree labels of enters more) 
     let frames : settled n.frames ≡ settled n'.frames = ap (λ u. settled u.frames) e in
     let nested : nest_faults (settled n.frames) h ≡ nest_faults (settled n'.frames) h' = cc (ap nest_faults frames, g.value) in
     record { faults = prepended broken (prepended nested r.faults); tree = r.tree }
-reads_same e k (G.head n next ts mid rest ls h m fs tree labels of enters more) (G.misplaced_head n' ts' mid' rest' ls' h' m' t' labels' of' enters_none') =
+reads_same e k (G.head n next ts mid rest ls h m fs tree labels of enters more) (G.misplaced_head n' ts' mid' rest' ls' h' m' t' p' labels' of' enters_none' at') =
     let f = labels_same k labels labels' in
     let g = head_same f.rest refl of of' in
     let there : entered n ls h ≡ entered n' ls' h' = cc (ap entered e, f.value, g.value) in
     absurd (cc (there, enters, enters_none'))
-reads_same e k (G.misplaced_head n ts mid rest ls h m t labels of enters_none) (G.head n' next' ts' mid' rest' ls' h' m' fs' tree' labels' of' enters' more') =
+reads_same e k (G.misplaced_head n ts mid rest ls h m t p labels of enters_none at) (G.head n' next' ts' mid' rest' ls' h' m' fs' tree' labels' of' enters' more') =
     let f = labels_same k labels labels' in
     let g = head_same f.rest refl of of' in
     let there : entered n ls h ≡ entered n' ls' h' = cc (ap entered e, f.value, g.value) in
     absurd (cc (there, enters_none, enters'))
-reads_same e k (G.misplaced_head n ts mid rest ls h m t labels of enters_none) (G.misplaced_head n' ts' mid' rest' ls' h' m' t' labels' of' enters_none') =
+reads_same {s} e k (G.misplaced_head n ts mid rest ls h m t p labels of enters_none at) (G.misplaced_head n' ts' mid' rest' ls' h' m' t' p' labels' of' enters_none' at') =
     let f = labels_same k labels labels' in
-    let token : t ≡ t' = cc (f.rest) in
-    record { faults = SameFaults.equal (misplaced_same e f.value (ap place_of token)); tree = refl }
+    let g = head_same f.rest refl of of' in
+    let place : p ≡ p' = misplaced_once s g.value e f.value (cc (f.rest)) (cc (f.rest)) at at' in
+    record { faults = misplaced_same e f.value place; tree = refl }
 reads_same e k (G.left_out n ts mid rest ls m t labels of) (G.left_out n' ts' mid' rest' ls' m' t' labels' of') =
     let f = labels_same k labels labels' in
     let g = left_out_same f.rest refl of of' in
     let token : t ≡ t' = cc (g.rest) in
     let broken : faults_of mid (t ∷ rest) m ≡ faults_of mid' (t' ∷ rest') m' = cc (ap faults_of f.rest, g.rest, g.marks) in
-    record { faults = prepended broken (SameFaults.equal (ap (λ u. fault_at (place_of u) LeftOut ∷ []) token)); tree = refl }
-reads_same {s} e k (G.no_head n ts mid ls t p labels no_h no_l at) (G.no_head n' ts' mid' ls' t' p' labels' no_h' no_l' at') =
+    record { faults = prepended broken (ap (λ u. fault_at (place_of u) LeftOut ∷ []) token); tree = refl }
+reads_same e k (G.no_head n ts mid ls t p labels no_h no_l at) (G.no_head n' ts' mid' ls' t' p' labels' no_h' no_l' at') =
     let f = labels_same k labels labels' in
-    let token : t' ≡ t = cc (f.rest) in
-    let there : IsBreak s t (t' ∷ mid') p' = subst (λ u. IsBreak s u (t' ∷ mid') p') token at' in
-    let first = places_same (settled n.frames) ls t mid p p' no_h no_l at (subst (λ u. IsBreak s t u p') (sym f.rest) there) in
-    let then : one_fault (misplaced (settled n.frames) ls p') ≡ one_fault (misplaced (settled n'.frames) ls' p') = misplaced_same e f.value refl in
-    record { faults = subst (λ u. SameFaults s (one_fault (misplaced (settled n.frames) ls p)) u) then first; tree = refl }
+    let place : p ≡ p' = refused_once e f.value (cc (f.rest)) (cc (f.rest)) at at' in
+    record { faults = misplaced_same e f.value place; tree = refl }
 reads_same e k d d' = absurd (cc (stages_same k d d'))
 
 -- ---- trees
 
-no_first : (fs : List SourceFault) (f : SourceFault) → [] ≡ fs ++ f ∷ [] → ⊥
-no_first [] f e = cc e
-no_first (g ∷ fs) f e = cc e
-
-none_broken : {s : List ℕ} {fs : List SourceFault} → SameFaults s [] fs → fs ≡ []
-none_broken (SameFaults.equal e) = sym e
-none_broken (SameFaults.apart first t rest p p' no_h no_l f f' at at') = absurd (no_first first (syntax_at p) f)
-
--- a source that spells a tree is read with no other, and with no refusal
-pub reads_clean : {s : List ℕ} {ts : List Token} {tree : Tree} {fs : List SourceFault} {found : Option Tree} → Spells s ts tree → Reads s outermost ts fs found → (fs ≡ []) × (found ≡ Some tree)
-reads_clean a b =
+-- a source is read one way
+pub read_same : {s : List ℕ} {ts : List Token} {fs fs' : List SourceFault} {tree tree' : Option Tree} → Reads s outermost ts fs tree → Reads s outermost ts fs' tree' → (fs ≡ fs') × (tree ≡ tree')
+read_same a b =
     let r = reads_same refl refl a b in
-    (none_broken r.faults, sym r.tree)
+    (r.faults, r.tree)
 
 -- the tokens of a source spell at most one tree
 pub spelled_once : {s : List ℕ} {ts : List Token} {x x' : Tree} → Spells s ts x → Spells s ts x' → x ≡ x'
@@ -233,5 +213,5 @@ spelled_once {x = x} {x' = x'} a b =
 -- and no refusal
 pub never_both : {s : List ℕ} {ts : List Token} {x : Tree} {f : SourceFault} → Spells s ts x → RefusesTokens s ts f → ⊥
 never_both {f = f} a b =
-    let r = reads_clean a b.read in
-    none_among f (subst (λ u. Contains u f) r.0 b.least.among)
+    let r = reads_same refl refl a b.read in
+    none_among f (subst (λ u. Contains u f) (sym r.faults) b.least.among)

@@ -1,5 +1,5 @@
 -- Laws of the definitions, each of which a function of `src/laws.rt` carries.
-use Rattle.std.specs.Prelude.{◌≡◌, ℕ, List, [], Option, Some}
+use Rattle.std.specs.Prelude.{◌≡◌, ℕ, List, Option}
 use Rattle.pli_language.specs.declared.fault.SourceFault.{SourceFault}
 use Rattle.pli_language.specs.declared.token.Token.{Token}
 use Rattle.pli_language.specs.Tree.{Tree}
@@ -10,9 +10,9 @@ use Rattle.pli_language.specs.Parsing.{Reads, Spells, RefusesTokens}
 abbrev pub SpelledOnce : Type 0
 SpelledOnce = (source : List ℕ) (tokens : List Token) (tree tree' : Tree) → Spells source tokens tree → Spells source tokens tree' → tree ≡ tree'
 
--- a token list that spells a tree is read no other way: no reading of it has a refusal, or another tree, or none
+-- a token list is read one way: all its readings have the same refusals, and the same tree or none
 abbrev pub ReadOnce : Type 0
-ReadOnce = (source : List ℕ) (tokens : List Token) (tree : Tree) (faults : List SourceFault) (found : Option Tree) → Spells source tokens tree → Reads source outermost tokens faults found → (faults ≡ []) × (found ≡ Some tree)
+ReadOnce = (source : List ℕ) (tokens : List Token) (faults faults' : List SourceFault) (found found' : Option Tree) → Reads source outermost tokens faults found → Reads source outermost tokens faults' found' → (faults ≡ faults') × (found ≡ found')
 
 -- no token list both spells a tree and is refused
 abbrev pub NeverBoth : Type 0

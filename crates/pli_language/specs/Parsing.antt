@@ -1,7 +1,6 @@
 -- Which tokens spell which program, and the refusals of those that spell none: a source is read head by head, as long as
 -- heads are spelled and may stand where they stand.
-use Rattle.std.specs.List.{list_all}
-use Rattle.std.specs.Prelude.{◌≡◌, ◌≢◌, ◌⊎◌, Bool, true, false, not, IsTrue, ℕ, ◌-◌, List, [], ◌∷◌, ◌++◌, length, take, Option, Some, None}
+use Rattle.std.specs.Prelude.{◌≡◌, ◌≢◌, ◌⊎◌, ℕ, ◌-◌, List, [], ◌∷◌, ◌++◌, length, take, Option, Some, None}
 use Rattle.pli_language.specs.declared.expr.Place.{Place}
 use Rattle.pli_language.specs.declared.fault.SourceFault.{SourceFault}
 use Rattle.pli_language.specs.declared.fault.SourceKind.TheVariants.{Syntax, LeftOut}
@@ -10,7 +9,7 @@ use Rattle.pli_language.specs.declared.token.Symbol.TheVariants as S
 use Rattle.pli_language.specs.declared.token.Kind.{Kind}
 use Rattle.pli_language.specs.declared.token.Kind.TheVariants as K
 use Rattle.pli_language.specs.declared.token.Token.{Token}
-use Rattle.pli_language.specs.Heads.{Head, SpellsHead, LeavesOut}
+use Rattle.pli_language.specs.Heads.{Head, Else, SpellsHead, LeavesOut}
 use Rattle.pli_language.specs.Marks.{Marks, no_marks, fault_at, parentheses_marks}
 use Rattle.pli_language.specs.Nesting.{Nest, outermost, entered, settled, misplaced, nest_faults, items_of_list}
 use Rattle.pli_language.specs.Refusals.{IsLeast}
@@ -47,14 +46,6 @@ syntax_at p = fault_at p Syntax
 abbrev pub end_of : List ℕ → Place
 end_of s = record { line = line_after s; column = column_after s }
 
-abbrev pub is_semicolon : Kind → Bool
-is_semicolon (K.Symbol S.Semicolon) = true
-is_semicolon _ = false
-
--- no semicolon stands from here on
-abbrev pub BreaksOff : List Token → Type 0
-BreaksOff ts = IsTrue (list_all (λ t. not (is_semicolon t.kind)) ts)
-
 -- some tokens from here on spell a head
 abbrev pub BeginsHead : List ℕ → List Token → Type 0
 BeginsHead s ts = (h : Head) × (rest : List Token) × (m : Marks) × SpellsHead s ts no_marks h rest m
@@ -62,17 +53,32 @@ BeginsHead s ts = (h : Head) × (rest : List Token) × (m : Marks) × SpellsHead
 abbrev pub BeginsLeftOut : List ℕ → List Token → Type 0
 BeginsLeftOut s ts = (rest : List Token) × (m : Marks) × LeavesOut s ts no_marks rest m
 
+-- with some tokens behind these, which go on to the end of the source, a head would begin here that may stand where a nest is open, behind
+-- these labels
+abbrev pub MayGoOn : List ℕ → Nest → List Name → List Token → Type 0
+MayGoOn s n ls ts =
+    (more : List Token) × (h : Head) × (rest : List Token) × (m : Marks) × (SpellsHead s (ts ++ more) no_marks h rest m × entered n ls h ≢ None)
+
+-- where a head is refused that begins with a token: behind the last byte where the source ends inside it, else at that token
+abbrev pub IsRefusedAt : List ℕ → Nest → List Name → Token → List Token → Place → Type 0
+IsRefusedAt s n ls t mid p =
+    (MayGoOn s n ls (t ∷ mid) × (p ≡ end_of s)) ⊎ ((¬ MayGoOn s n ls (t ∷ mid)) × (p ≡ place_of t))
+
+-- where a head that is spelled may not stand: at its first token; but ELSE may go on, as a variable of that name
+abbrev pub IsMisplacedAt : List ℕ → Nest → List Name → Head → Token → List Token → Place → Type 0
+IsMisplacedAt s n ls (Else q) t mid p = IsRefusedAt s n ls t mid p
+IsMisplacedAt s n ls h t mid p = p ≡ place_of t
+
 -- What is read from a place on, where a nest is open: all that the heads break that are read, and the head behind them;
 -- and the tree, where all is read. A source ends too early, or a head may not stand where it stands, or no head is spelled;
--- but a form that is left out is told as such. Where no head is spelled, the place is the first token's; where no semicolon
--- follows, so that a head may break off at the end of the source, it may be that end.
+-- but a form that is left out is told as such.
 pub data Reads (s : List ℕ) : Nest → List Token → List SourceFault → Option Tree → Type 0 where
   all_read : (n : Nest) → n.frames ≡ [] → Reads s n [] [] (Some (record { procedures = items_of_list n.outer }))
   too_early : (n : Nest) (ts : List Token) (ls : List Name) → SpellsLabels s ts ls [] → (n.frames ≢ []) ⊎ (ls ≢ []) → Reads s n ts (syntax_at (misplaced (settled n.frames) ls (end_of s)) ∷ []) None
   head : (n n' : Nest) (ts mid rest : List Token) (ls : List Name) (h : Head) (m : Marks) (fs : List SourceFault) (tree : Option Tree) → SpellsLabels s ts ls mid → SpellsHead s mid no_marks h rest m → entered n ls h ≡ Some n' → Reads s n' rest fs tree → Reads s n ts (faults_of mid rest m ++ (nest_faults (settled n.frames) h ++ fs)) tree
-  misplaced_head : (n : Nest) (ts mid rest : List Token) (ls : List Name) (h : Head) (m : Marks) (t : Token) → SpellsLabels s ts ls (t ∷ mid) → SpellsHead s (t ∷ mid) no_marks h rest m → entered n ls h ≡ None → Reads s n ts (syntax_at (misplaced (settled n.frames) ls (place_of t)) ∷ []) None
+  misplaced_head : (n : Nest) (ts mid rest : List Token) (ls : List Name) (h : Head) (m : Marks) (t : Token) (p : Place) → SpellsLabels s ts ls (t ∷ mid) → SpellsHead s (t ∷ mid) no_marks h rest m → entered n ls h ≡ None → IsMisplacedAt s n ls h t mid p → Reads s n ts (syntax_at (misplaced (settled n.frames) ls p) ∷ []) None
   left_out : (n : Nest) (ts mid rest : List Token) (ls : List Name) (m : Marks) (t : Token) → SpellsLabels s ts ls mid → LeavesOut s mid no_marks (t ∷ rest) m → Reads s n ts (faults_of mid (t ∷ rest) m ++ fault_at (place_of t) LeftOut ∷ []) None
-  no_head : (n : Nest) (ts mid : List Token) (ls : List Name) (t : Token) (p : Place) → SpellsLabels s ts ls (t ∷ mid) → ¬ BeginsHead s (t ∷ mid) → ¬ BeginsLeftOut s (t ∷ mid) → (p ≡ place_of t) ⊎ ((p ≡ end_of s) × BreaksOff (t ∷ mid)) → Reads s n ts (syntax_at (misplaced (settled n.frames) ls p) ∷ []) None
+  no_head : (n : Nest) (ts mid : List Token) (ls : List Name) (t : Token) (p : Place) → SpellsLabels s ts ls (t ∷ mid) → ¬ BeginsHead s (t ∷ mid) → ¬ BeginsLeftOut s (t ∷ mid) → IsRefusedAt s n ls t mid p → Reads s n ts (syntax_at (misplaced (settled n.frames) ls p) ∷ []) None
 
 -- the tokens of a source spell a tree, and break no rule
 abbrev pub Spells : List ℕ → List Token → Tree → Type 0

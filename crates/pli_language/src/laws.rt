@@ -8,7 +8,7 @@ pub fn spelled_once()
     ensures { SpelledOnce }
 {}
 
-/// A token list that spells a tree is read no other way: no reading of it has a refusal, or another tree, or none.
+/// A token list is read one way: all its readings have the same refusals, and the same tree or none.
 pub fn read_once()
     ensures { ReadOnce }
 {}

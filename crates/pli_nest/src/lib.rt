@@ -11,7 +11,9 @@ mod items;
 mod limits;
 mod place;
 mod settle;
+mod standing;
 mod statement;
 
 pub use entering::{enter, misplaced, outermost, whole_tree};
 pub use frame::{Entry, Frame, Nest, Opener};
+pub use standing::{is_stray_else, refused_place};

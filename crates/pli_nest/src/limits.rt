@@ -39,7 +39,7 @@ fn is_unit(frame: &Frame) -> bool
 }
 
 /// A procedure or a begin block.
-fn is_block_list(frame: &Frame) -> bool
+pub fn is_block_list(frame: &Frame) -> bool
     ensures { result ≡ is_block_list (frame_of frame.now) }
 {
     match frame {

@@ -87,7 +87,8 @@ pub fn else_due(frames: Vec<Frame>) -> Result<Vec<Frame>, AllocError>
     }
 }
 
-fn is_else(head: &Head) -> bool
+/// The head is an ELSE.
+pub fn is_else(head: &Head) -> bool
     ensures { result ≡ S.is_else (head_of head.now) }
 {
     matches!(head, Head::Else { .. })
@@ -102,7 +103,7 @@ fn is_whole_if(frame: &Frame) -> bool
 
 /// The innermost frame is an IF whose unit is whole.
 #[tactic(auto, using(pli_phrase::proofs::Newest::newest_none, pli_phrase::proofs::Newest::newest_snoc, crate::proofs::Entries::then_whole_here))]
-fn is_then_whole(frames: &[Frame]) -> bool
+pub fn is_then_whole(frames: &[Frame]) -> bool
     ensures { result ≡ S.is_then_whole (frames_of frames.now) }
 {
     match frames.split_last() {

@@ -1,3 +1,4 @@
 pub mod LabelLaws
+pub mod Continuing
 pub mod Sound
 pub mod Found

@@ -1,6 +1,5 @@
 -- How a source is read, head by head.
-use Rattle.std.specs.List.{list_all}
-use Rattle.std.specs.Prelude.{ℕ, zero, suc, List, [], ◌∷◌, ◌++◌, length, Bool, not, if◌then◌else◌, Option, Some, None, Ok, Err}
+use Rattle.std.specs.Prelude.{ℕ, zero, suc, List, [], ◌∷◌, ◌++◌, length, if◌then◌else◌, Option, Some, None, Ok, Err}
 use Rattle.pli_language.specs.declared.expr.Place.{Place}
 use Rattle.pli_language.specs.declared.fault.SourceFault.{SourceFault}
 use Rattle.pli_language.specs.declared.fault.SourceKind.TheVariants.{LeftOut}
@@ -9,11 +8,13 @@ use Rattle.pli_language.specs.declared.token.Token.{Token}
 use Rattle.pli_language.specs.Heads.{Head}
 use Rattle.pli_language.specs.Marks.{no_marks, fault_at}
 use Rattle.pli_language.specs.Nesting.{Nest, settled, misplaced}
-use Rattle.pli_language.specs.Parsing.{label_of, is_semicolon, faults_of, syntax_at, end_of}
+use Rattle.pli_language.specs.Parsing.{label_of, faults_of, syntax_at, end_of}
 use Rattle.pli_language.specs.Spells.{name_at, place_of}
 use Rattle.pli_language.specs.Tree.{Name, Tree}
 use Rattle.pli_phrase.specs.Cursor.{Cursor, Stuck, Ended, LeavesOut, Read}
 use Rattle.pli_head.specs.Reading.{head_from}
+use Rattle.pli_head.specs.Continuing.{continuations}
+use Rattle.pli_nest.specs.Standing.{is_stray_else, refused_place}
 use Rattle.pli_nest.specs.Steps.{Entry, EnteredAs, MisplacedAt, entry, whole_tree}
 
 -- ---- labels
@@ -75,13 +76,10 @@ at_end s n (l ∷ ls) = refused_at n (l ∷ ls) (end_of s)
 
 -- ---- heads
 
--- no semicolon stands from here on
-abbrev pub breaks_off : List Token → Bool
-breaks_off ts = list_all (λ t. not (is_semicolon t.kind)) ts
-
--- where a head that isn't whole is refused, which begins at this place with these tokens
-abbrev pub broken_place : List ℕ → Place → List Token → Place
-broken_place s at ts = if breaks_off ts then end_of s else at
+-- where no head is spelled that may stand, which begins at this place with these tokens
+abbrev pub broken_at : List ℕ → Nest → List Name → Place → List Token → Parsed
+broken_at s n ls at ts =
+    stuck_at (refused_place (settled n.frames) ls at (end_of s) (continuations s (record { tokens = ts; marks = no_marks })))
 
 -- the place of the first of some tokens; that of the head where there is none
 abbrev pub left_out_place : Place → List Token → Place
@@ -97,9 +95,9 @@ abbrev pub left_out_in : Place → List Token → Cursor → Parsed
 left_out_in at ts c = record { faults = faults_of ts c.tokens c.marks ++ fault_at (left_out_place at c.tokens) LeftOut ∷ []; tree = None }
 
 abbrev pub head_read : List ℕ → Nest → List Name → Place → List Token → Read Head → Turn
-head_read s n ls at ts (Ok x) = placed (entry n ls x.0 at) ts x.1
-head_read s n ls at ts (Err Stuck) = Over (refused_at n ls at)
-head_read s n ls at ts (Err Ended) = Over (refused_at n ls (broken_place s at ts))
+head_read s n ls at ts (Ok x) = if is_stray_else n ls x.0 then Over (broken_at s n ls at ts) else placed (entry n ls x.0 at) ts x.1
+head_read s n ls at ts (Err Stuck) = Over (broken_at s n ls at ts)
+head_read s n ls at ts (Err Ended) = Over (broken_at s n ls at ts)
 head_read s n ls at ts (Err (LeavesOut c)) = Over (left_out_in at ts c)
 
 -- behind labels

@@ -1,12 +1,10 @@
 // The end of a source.
 
 ghost use Rattle.std.specs.Prelude.{◌≡◌, ◌==◌, ◌≤◌, not, count_by, take_while, reverse, length};
-ghost use Rattle.pli_language.specs.Parsing.{end_of, is_semicolon};
+ghost use Rattle.pli_language.specs.Parsing.{end_of};
 ghost use Rattle.pli_language.specs.Tokens.{most_bytes};
-ghost use Rattle.pli_parse.specs.Reading.{breaks_off};
 
 use pli_language::expr::Place;
-use pli_language::token::{Kind, Symbol, Token};
 
 /// The LF bytes.
 fn line_ends(source: &[u8]) -> usize
@@ -35,17 +33,4 @@ pub fn end_of(source: &[u8]) -> Place
         line: line_ends(source) as u32 + 1,
         column: last_line(source) as u32 + 1,
     }
-}
-
-fn is_semicolon(kind: Kind) -> bool
-    ensures { result ≡ is_semicolon kind }
-{
-    matches!(kind, Kind::Symbol(Symbol::Semicolon))
-}
-
-/// No semicolon stands here.
-pub fn breaks_off(tokens: &[Token]) -> bool
-    ensures { result ≡ breaks_off tokens.now }
-{
-    tokens.iter().all(|token| !is_semicolon(token.kind))
 }

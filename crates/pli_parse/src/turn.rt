@@ -14,17 +14,17 @@ ghost use Rattle.pli_parse.specs.Answers.{stepped};
 ghost use Rattle.pli_parse.specs.Reading as R;
 ghost use Rattle.pli_parse.specs.View.{step_of};
 
-use crate::end::{breaks_off, end_of};
+use crate::end::end_of;
 use crate::labels::labels;
 use crate::least::{sooner, soonest};
 use crate::parentheses::{before, parentheses};
-use pli_head::Head;
+use pli_head::continuation::continuations_at;
 use pli_head::reading::head;
 use pli_language::expr::{Name, Place};
 use pli_language::fault::{SourceFault, SourceKind};
 use pli_language::stmt::Tree;
 use pli_language::token::Token;
-use pli_nest::{Entry, Nest, enter, misplaced, whole_tree};
+use pli_nest::{Entry, Nest, enter, is_stray_else, misplaced, refused_place, whole_tree};
 use pli_phrase::cursor::{Cursor, Marks};
 use pli_phrase::stop::Stop;
 use pli_phrase::token::place;
@@ -205,16 +205,26 @@ fn left_out<'a>(
     ))))
 }
 
-/// Where a head that isn't whole is refused, which begins at this place with these tokens.
-fn broken_place(source: &[u8], at: Place, tokens: &[Token]) -> Place
+/// No head is spelled that may stand, at this place with these tokens.
+fn broken<'a>(
+    alloc: Global,
+    source: &[u8],
+    nest: Nest,
+    labels: Vec<Name>,
+    found: Option<SourceFault>,
+    at: Place,
+    tokens: &[Token],
+) -> Result<Turn<'a>, AllocError>
     requires { length source.now ≤ most_bytes }
-    ensures { result ≡ R.broken_place source.now at tokens.now }
+    ensures { IfOk result (λ x. step_of x ≡ stepped found (R.Over (R.broken_at source.now (nest_of nest) (map name_of labels.items) at tokens.now))) }
 {
-    if breaks_off(tokens) {
-        end_of(source)
-    } else {
-        at
-    }
+    let start = Cursor {
+        tokens,
+        marks: no_marks(alloc),
+    };
+    let continuations = continuations_at(alloc, source, &start)?;
+    let place = refused_place(alloc, nest, labels, at, end_of(source), continuations)?;
+    Ok(stuck(found, place))
 }
 
 /// The head that begins at this place with these tokens, behind its labels.
@@ -235,10 +245,16 @@ fn head_turn<'a>(
         marks: no_marks(alloc),
     };
     match head(alloc, source, start) {
-        Ok((head, behind)) => placed(enter(alloc, nest, labels, head, at)?, found, tokens, behind),
+        Ok((head, behind)) => {
+            if is_stray_else(&nest, &labels, &head) {
+                broken(alloc, source, nest, labels, found, at, tokens)
+            } else {
+                placed(enter(alloc, nest, labels, head, at)?, found, tokens, behind)
+            }
+        }
         Err(Stop::LeftOut(word)) => left_out(found, at, tokens, word),
-        Err(Stop::Stuck) => refused(alloc, nest, labels, found, at),
-        Err(Stop::Ended) => refused(alloc, nest, labels, found, broken_place(source, at, tokens)),
+        Err(Stop::Stuck) => broken(alloc, source, nest, labels, found, at, tokens),
+        Err(Stop::Ended) => broken(alloc, source, nest, labels, found, at, tokens),
         Err(Stop::Memory) => Err(AllocError),
     }
 }

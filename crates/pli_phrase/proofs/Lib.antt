@@ -12,3 +12,11 @@ pub mod Lists
 pub mod Stops
 pub mod Arguments
 pub mod Beginnings
+pub mod PrefixesAt
+pub mod Prefixes
+pub mod OpenRests
+pub mod PhrasePrefixes
+pub mod RepeatPrefixes
+pub mod RunPrefixes
+pub mod FirstPrefixes
+pub mod WhilePrefixes

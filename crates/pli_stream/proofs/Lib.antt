@@ -6,3 +6,5 @@ pub mod Pairs
 pub mod Options
 pub mod Laws
 pub mod Loops
+pub mod FormatPrefixes
+pub mod StreamPrefixes
