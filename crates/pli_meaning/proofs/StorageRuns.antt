@@ -32,6 +32,26 @@ unfolding computing
 controlled_extents-runs = refl
 
 -- T: PROC OPTIONS(MAIN);
+-- DCL N FIXED BIN(31) INIT(2), C(N) FIXED BIN(31) CTL, L(5) FIXED BIN(31); ALLOCATE C; PUT EDIT (DIM(C,1), DIM(L,1)) (F(2));
+-- END T;
+abbrev counted_elements : Y.Program
+counted_elements =
+    program ([] ∷ ((declared Y.AutomaticClass ((member 0 0) ∷ []) ((leaf (Y.FixedLeaf 31) [] ((initial 1 (T.InitialNumber (pos
+    2))) ∷ [])) ∷ []) None []) ∷ (declared Y.ControlledClass ((member 0 1) ∷ []) ((leaf (Y.FixedLeaf 31) ((bounds
+    (Y.ConstantExtent (pos 1)) (Y.EvaluatedExtent 0)) ∷ []) []) ∷ []) None ((evaluation (Y.NumberIn (whole (automatic 1 0 0)))
+    (Y.BoundsCheck (bounds (Y.ConstantExtent (pos 1)) (Y.EvaluatedExtent 0)))) ∷ [])) ∷ (declared Y.AutomaticClass ((member 0
+    1) ∷ []) ((leaf (Y.FixedLeaf 31) ((bounds (Y.ConstantExtent (pos 1)) (Y.ConstantExtent (pos 5))) ∷ []) []) ∷ []) None [])
+    ∷ []) ∷ []) ((procedure (Y.BlockOf (head Y.ProcedureBlock 1 0 1) (Y.StmtThen [] (Y.Allocate ((Y.AllocateControlled
+    (controlled 1 0 1)) ∷ []) 2) (Y.StmtThen [] (Y.Put None ((put_pair ((Y.PutValue (Y.NumberValue 31 (Y.ElementsOf (whole
+    (controlled 1 0 1)) 1))) ∷ (Y.PutValue (Y.NumberValue 31 (Y.ElementsOf (whole (automatic 1 0 2)) 1))) ∷ []) (T.FormatThen
+    place 1 (T.FixedFormat 2) T.NoFormat)) ∷ []) 2) (Y.EndOfList [])))) [] None) ∷ [])
+
+counted_elements-runs :
+    run_of counted_elements [] ≡ Some (record { acts = 7; output = codes " 2 5" ++ (10 ∷ []); raised = []; end = E.Finished })
+unfolding computing
+counted_elements-runs = refl
+
+-- T: PROC OPTIONS(MAIN);
 -- DCL N FIXED BIN(31) INIT(2147483647), A(0:2147483647) CHAR(0), C(N) CHAR(0) CTL; ON FIXEDOVERFLOW; ALLOCATE C;
 -- PUT EDIT (DIM(C,1), DIM(A,1)) (F(12));
 -- END T;
