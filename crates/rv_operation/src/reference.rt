@@ -295,12 +295,7 @@ fn are_few(bounds: Bounds) -> Result<bool, AllocError>
     }
 }
 
-fn elements_code(
-    code: &mut Code,
-    taken: Taken,
-    bounds: Bounds,
-    n: u8,
-) -> Result<(), AllocError>
+fn elements_code(code: &mut Code, taken: Taken, bounds: Bounds, n: u8) -> Result<(), AllocError>
     ensures { OnOk result (code.new ≡ code.old ++ form.elements_code (taken_of taken) (bounds_of bounds) n) }
 {
     bound_loaded(code, a0(), bounds.upper, buffer_upper(n))?;
