@@ -12,3 +12,5 @@ pub mod Items
 pub mod Loops
 pub mod Laws
 pub mod ListPrefixes
+pub mod AttributePrefixes
+pub mod DeclarePrefixes

@@ -17,3 +17,5 @@ pub mod Prefixes
 pub mod PhrasePrefixes
 pub mod RepeatPrefixes
 pub mod RunPrefixes
+pub mod FirstPrefixes
+pub mod WhilePrefixes
