@@ -1,4 +1,4 @@
--- What reading tells of the beginnings of attributes and of items of DECLARE, from what it tells of precisions and of lengths behind BIT.
+-- What reading tells of the beginnings of attributes and of items of DECLARE.
 use Rattle.std.specs.Prelude.{◌==◌, if◌then◌else◌}
 use Rattle.std.proofs.Common.{◌≡◌, ℕ, suc, List, [], ◌∷◌, Option, Some, None, Bool, true, false, Ok, Err, refl, sym, ap, subst}
 use Rattle.pli_language.specs.declared.token.Word.{Word}
@@ -11,14 +11,14 @@ use Rattle.pli_language.specs.Spells.{next_kind}
 use Rattle.pli_language.specs.Attributes.{plain_attribute, is_left_out_attribute}
 use Rattle.pli_language.specs.Tree as T
 use Rattle.pli_phrase.specs.Cursor.{Cursor, Stuck, Ended, LeavesOut, Read, ◌>>=◌, onto}
-use Rattle.pli_phrase.specs.Tokens.{begins, taken, starts_name, name_from, number_from, count_from}
-use Rattle.pli_phrase.proofs.Prefixes.{Prefixes, Steady, Next, Allows, Any, prefix_ok, prefix_as, prefix_bind, steady, steady_err, next_allows, next_not}
-use Rattle.pli_phrase.proofs.PhrasePrefixes.{allows_not, prefix_name, prefix_number, prefix_when}
+use Rattle.pli_phrase.specs.Tokens.{begins, taken, starts_name, name_from, number_from}
+use Rattle.pli_phrase.proofs.Prefixes.{longer, is_done, Stays, Open, Prefixes, Steady, firm_bind, Next, Allows, Any, prefix_ok, prefix_as, prefix_bind, steady, steady_err, next_allows, next_not}
+use Rattle.pli_phrase.proofs.PhrasePrefixes.{allows_not, firm_number_as, prefix_symbol, prefix_name, prefix_number, prefix_when}
 use Rattle.pli_phrase.proofs.FirstPrefixes.{First, prefix_test, Alike, alike_same, prefix_token}
 use Rattle.pli_phrase.proofs.WhilePrefixes.{with_front, prefix_while}
 use Rattle.pli_attributes.proofs.ExtentPrefixes.{NoParenthesis, stuck, steady_stuck, steady_any, prefix_dimensions, prefix_size, prefix_owner, stops_initials, prefix_initial_items}
 use Rattle.pli_attributes.specs.Lists.{enclosed_from}
-use Rattle.pli_attributes.specs.Reading.{dimensions_from, scale_from, precision_from, bit_from, size_from, owner_from, initial_items_from, worded, plain_or, attribute_of_kind, attribute_at, attribute_from, attributes_at, attributes_from, declared_name_from, declared_names_from, starts_number, level_from, front, names_from, front_from, item, declare_item_from, declare_items_from}
+use Rattle.pli_attributes.specs.Reading.{whole_or_stuck, dimensions_from, scale_from, precision_from, bit_from, size_from, owner_from, initial_items_from, worded, plain_or, attribute_of_kind, attribute_at, attribute_from, attributes_at, attributes_from, declared_name_from, declared_names_from, starts_number, level_from, front, names_from, front_from, item, declare_item_from, declare_items_from}
 use Rattle.pli_attributes.proofs.Posts.{post_is}
 use Rattle.pli_attributes.proofs.AttributeLaws.{attribute_post}
 use Rattle.pli_attributes.proofs.Items.{declared_name_post, declare_item_post}
@@ -49,7 +49,7 @@ alike_left false x d e = (e, refl)
 alike_scale : (at : List Token) (n : ℕ) (c : Cursor) → Alike (scale_from [] n c) (scale_from at n c)
 unfolding scale_from
 alike_scale at n c =
-    alike_if (begins (K.Symbol S.Comma) c) _ _ _ _ (alike_bind (taken (K.Symbol S.Comma) c) _ _ (λ comma. alike_bind (number_from comma.1) _ _ (λ q. alike_bind (taken (K.Symbol S.CloseParenthesis) q.1) _ _ (λ u. alike_left {X = Option ℕ} (q.0 == 0) (Ok (Some n, u.1)) (onto [] u.1) (onto at u.1))))) (alike_same (taken (K.Symbol S.CloseParenthesis) c >>= λ u. Ok (Some n, u.1)))
+    alike_if (begins (K.Symbol S.Comma) c) _ _ _ _ (alike_bind (taken (K.Symbol S.Comma) c) _ _ (λ comma. alike_bind (number_from comma.1) _ _ (λ q. alike_bind (whole_or_stuck (q.0 == 0) (taken (K.Symbol S.CloseParenthesis) q.1)) _ _ (λ u. alike_left {X = Option ℕ} (q.0 == 0) (Ok (Some n, u.1)) (onto [] u.1) (onto at u.1))))) (alike_same (taken (K.Symbol S.CloseParenthesis) c >>= λ u. Ok (Some n, u.1)))
 
 alike_precision : (at : List Token) (c : Cursor) → Alike (precision_from [] c) (precision_from at c)
 unfolding precision_from
@@ -59,7 +59,7 @@ alike_precision at c =
 alike_bits : (at : List Token) (c : Cursor) → Alike (bit_from [] c) (bit_from at c)
 unfolding bit_from
 alike_bits at c =
-    alike_if (begins (K.Symbol S.OpenParenthesis) c) _ _ _ _ (alike_bind (count_from c) _ _ (λ n. alike_left {X = T.Attribute} (n.0 == 1) (Ok (T.BitOne, n.1)) (onto [] n.1) (onto at n.1))) refl
+    alike_if (begins (K.Symbol S.OpenParenthesis) c) _ _ _ _ (alike_bind (taken (K.Symbol S.OpenParenthesis) c) _ _ (λ t. alike_bind (number_from t.1) _ _ (λ n. alike_bind (whole_or_stuck (n.0 == 1) (taken (K.Symbol S.CloseParenthesis) n.1)) _ _ (λ u. alike_left {X = T.Attribute} (n.0 == 1) (Ok (T.BitOne, u.1)) (onto [] u.1) (onto at u.1))))) refl
 
 alike_other : (b : Bool) (d e : Cursor) → Alike {X = T.Attribute} (if b then Err (LeavesOut d) else Err Stuck) (if b then Err (LeavesOut e) else Err Stuck)
 alike_other true d e = (e, refl)
@@ -103,7 +103,7 @@ items_attributes : (o : Option Kind) → stops_items o ≡ true → stops_attrib
 items_attributes (Some (K.Symbol S.Comma)) e = refl
 items_attributes _ e = e
 
-attributes_end : (w : List Token) → Allows stops_attributes w → NoParenthesis w × (starts_name (next_kind w) ≡ false)
+pub attributes_end : (w : List Token) → Allows stops_attributes w → NoParenthesis w × (starts_name (next_kind w) ≡ false)
 attributes_end w h = (allows_not stops_attributes (K.Symbol S.OpenParenthesis) w refl h, attributes_no_name (next_kind w) h)
 
 abbrev stops_names : Option Kind → Bool
@@ -147,18 +147,76 @@ prefix_front s stop =
 
 -- ---- attributes
 
--- What is asked of precisions and of lengths behind BIT doesn't hold of all their beginnings: `(5,3` and `(5` are read up to
--- their end, and no further tokens make them done, since another scale than 0 and another length than 1 are left out.
-module _ (s : List ℕ) (digits : Prefixes NoParenthesis NoParenthesis (precision_from [])) (bits : Prefixes NoParenthesis NoParenthesis (bit_from [])) where
+-- what a closing parenthesis leaves out is never done
+abbrev doomed : {X : Type 0} → Read Token → Read X
+doomed r = whole_or_stuck false r >>= λ u. Err (LeavesOut (onto [] u.1))
+
+doomed_closed : {X : Type 0} (r : Read Token) → Open (doomed {X = X} r) → ⊥
+doomed_closed (Ok u) o = o
+doomed_closed (Err Stuck) o = o
+doomed_closed (Err Ended) o = o
+doomed_closed (Err (LeavesOut d)) o = o
+
+doomed_not_done : {X : Type 0} (r : Read Token) → is_done (doomed {X = X} r) ≡ false
+doomed_not_done (Ok u) = refl
+doomed_not_done (Err Stuck) = refl
+doomed_not_done (Err Ended) = refl
+doomed_not_done (Err (LeavesOut d)) = refl
+
+doomed_stays : {X : Type 0} (more : List Token) (r r' : Read Token) → Stays more (doomed {X = X} r) (doomed {X = X} r')
+doomed_stays more (Ok u) r' = tt
+doomed_stays more (Err Stuck) r' = doomed_not_done r'
+doomed_stays more (Err Ended) r' = doomed_not_done r'
+doomed_stays more (Err (LeavesOut d)) r' = tt
+
+-- up to the closing parenthesis, which leaves out what isn't whole
+abbrev closing : {X : Type 0} → Bool → X → Cursor → Read X
+closing b x c =
+    whole_or_stuck b (taken (K.Symbol S.CloseParenthesis) c) >>= λ u. if b then Ok (x, u.1) else Err (LeavesOut (onto [] u.1))
+
+prefix_closing : {X : Type 0} (x : X) → Prefixes (Next (K.Symbol S.CloseParenthesis)) Any (closing true x)
+prefix_closing x = prefix_bind (taken (K.Symbol S.CloseParenthesis)) (λ u. Ok (x, u.1)) (prefix_symbol S.CloseParenthesis) (λ u. prefix_ok x) (λ w h. h)
+
+steady_closing : {X : Type 0} (b : Bool) (x : X) → Steady Any (closing b x)
+steady_closing true x = steady (prefix_closing x)
+steady_closing {X} false x =
+    record {
+      stays = λ c more. doomed_stays {X = X} more (taken (K.Symbol S.CloseParenthesis) c) (taken (K.Symbol S.CloseParenthesis) (longer c more));
+      closes = λ c o. absurd (doomed_closed {X = X} (taken (K.Symbol S.CloseParenthesis) c) o);
+    }
+
+prefix_scale : (n : ℕ) → Prefixes (Next (K.Symbol S.CloseParenthesis)) Any (scale_from [] n)
+unfolding scale_from
+prefix_scale n =
+    prefix_when (K.Symbol S.Comma) (λ c. taken (K.Symbol S.Comma) c >>= λ comma. number_from comma.1 >>= λ q. closing (q.0 == 0) (Some n) q.1) (closing true (Some n))
+    (steady (prefix_bind (taken (K.Symbol S.Comma)) (λ comma. number_from comma.1 >>= λ q. closing (q.0 == 0) (Some n) q.1) (prefix_symbol S.Comma) (λ comma. firm_bind number_from (K.Number 0) 0 (λ q. closing (q.0 == 0) (Some n) q.1) (firm_number_as 0) (λ q. steady_closing (q == 0) (Some n)) (λ c e. (prefix_closing (Some n)).opens c e)) (λ w h. tt)))
+    (prefix_closing (Some n))
+    (λ w h. next_not (K.Symbol S.Comma) (K.Symbol S.CloseParenthesis) w refl h)
+
+prefix_precision : Prefixes NoParenthesis NoParenthesis (precision_from [])
+unfolding precision_from
+prefix_precision =
+    prefix_when (K.Symbol S.OpenParenthesis) (λ c. taken (K.Symbol S.OpenParenthesis) c >>= λ t. number_from t.1 >>= λ n. scale_from [] n.0 n.1) (λ c. Ok (None, c))
+    (steady_any (prefix_bind (taken (K.Symbol S.OpenParenthesis)) (λ t. number_from t.1 >>= λ n. scale_from [] n.0 n.1) (prefix_symbol S.OpenParenthesis) (λ t. prefix_bind number_from (λ n. scale_from [] n.0 n.1) prefix_number (λ n. prefix_scale n) (λ w h. tt)) (λ w h. tt)))
+    (prefix_ok None) (λ w h. h)
+
+prefix_bit : Prefixes NoParenthesis NoParenthesis (bit_from [])
+unfolding bit_from
+prefix_bit =
+    prefix_when (K.Symbol S.OpenParenthesis) (λ c. taken (K.Symbol S.OpenParenthesis) c >>= λ t. number_from t.1 >>= λ n. closing (n.0 == 1) T.BitOne n.1) (λ c. Ok (T.BitOne, c))
+    (steady_any (prefix_bind (taken (K.Symbol S.OpenParenthesis)) (λ t. number_from t.1 >>= λ n. closing (n.0 == 1) T.BitOne n.1) (prefix_symbol S.OpenParenthesis) (λ t. firm_bind number_from (K.Number 1) 1 (λ n. closing (n.0 == 1) T.BitOne n.1) (firm_number_as 1) (λ n. steady_closing (n == 1) T.BitOne) (λ c e. (prefix_closing T.BitOne).opens c e)) (λ w h. tt)))
+    (prefix_ok T.BitOne) (λ w h. h)
+
+module _ (s : List ℕ) where
   steady_other : (b : Bool) → Steady NoParenthesis (λ c. if b then Err (LeavesOut (onto [] c)) else stuck {X = T.Attribute} c)
   steady_other true = steady_err (λ c. LeavesOut (onto [] c)) (λ c more. tt) (λ c o. o)
   steady_other false = steady_stuck
 
   steady_worded : (word : Word) → Steady NoParenthesis (worded s [] word)
-  steady_worded W.Fixed = steady (prefix_bind (precision_from []) (λ p. Ok (T.Fixed p.0, p.1)) digits (λ p. prefix_ok (T.Fixed p)) (λ w h. h))
-  steady_worded W.Binary = steady (prefix_bind (precision_from []) (λ p. Ok (T.Binary p.0, p.1)) digits (λ p. prefix_ok (T.Binary p)) (λ w h. h))
+  steady_worded W.Fixed = steady (prefix_bind (precision_from []) (λ p. Ok (T.Fixed p.0, p.1)) prefix_precision (λ p. prefix_ok (T.Fixed p)) (λ w h. h))
+  steady_worded W.Binary = steady (prefix_bind (precision_from []) (λ p. Ok (T.Binary p.0, p.1)) prefix_precision (λ p. prefix_ok (T.Binary p)) (λ w h. h))
   steady_worded W.Character = steady (prefix_bind (size_from s) (λ n. Ok (T.Character n.0, n.1)) (prefix_size s (λ w h. h)) (λ n. prefix_ok (T.Character n)) (λ w h. h))
-  steady_worded W.Bit = steady bits
+  steady_worded W.Bit = steady prefix_bit
   steady_worded W.Offset = steady (prefix_bind (owner_from s) (λ n. Ok (T.Offset n.0, n.1)) (prefix_owner s (λ w h. h)) (λ n. prefix_ok (T.Offset n)) (λ w h. h))
   steady_worded W.Area = steady (prefix_bind (size_from s) (λ n. Ok (T.Area n.0, n.1)) (prefix_size s (λ w h. h)) (λ n. prefix_ok (T.Area n)) (λ w h. h))
   steady_worded W.Based = steady (prefix_bind (owner_from s) (λ n. Ok (T.Based n.0, n.1)) (prefix_owner s (λ w h. h)) (λ n. prefix_ok (T.Based n)) (λ w h. h))

@@ -23,7 +23,7 @@ use Rattle.pli_phrase.proofs.Tokens.{terminal_kind, word_is, symbol_is, takes_ta
 use Rattle.pli_phrase.proofs.RepeatPrefixes.{done_longer}
 use Rattle.pli_phrase.proofs.OpenRests.{open_expr_rest, open_reference_rest}
 use Rattle.pli_phrase.proofs.PhrasePrefixes.{is_plain, prefix_expr, expr_more, prefix_reference, reference_more, begins_stays, unknown_opens}
-use Rattle.pli_phrase.proofs.Prefixes.{longer, Stays, Open, Closing, Prefixes, made}
+use Rattle.pli_phrase.proofs.Prefixes.{longer, is_done, Stays, Open, Closing, Prefixes, made}
 use Rattle.pli_head.specs.Reading.{then_behind, condition_then, if_at, begins_if, assigns, closed, assignment_from, if_from, simple_from, head_behind, head_from}
 use Rattle.pli_head.specs.Continuing.{is_ended, may_assign, is_not_begun, is_if, ends_assignment, ends_word}
 use Rattle.pli_head.proofs.HeadPrefixes.{prefix_if_then, Whole, word_closes}
@@ -83,6 +83,10 @@ plain_joined (t ∷ xs) ys p n = joined_by (is_terminal (K.Name W.Then) t.kind) 
 
 -- ---- IF
 
+then_done : (r : Read T.Expr) → then_behind r ≡ true → is_done r ≡ true
+then_done (Ok x) e = refl
+then_done (Err at) e = absurd (cc e)
+
 module _ (s : List ℕ) (t : Token) (mid more : List Token) (m : Marks) (none : NoThen more) where
   abbrev behind : Cursor
   behind = record { tokens = mid; marks = m }
@@ -107,8 +111,8 @@ module _ (s : List ℕ) (t : Token) (mid more : List Token) (m : Marks) (none : 
               let a : starts (K.Name W.Then) (y.1.tokens ++ more) ≡ true = sym (ap then_behind h) ∙ e in
               ap (starts (K.Name W.Then)) j ∙ (sym (ap (λ v. starts (K.Name W.Then) (v ++ more)) j) ∙ a)
   then_before (Err Stuck) i e =
-      let k : expr_from s (longer behind more) ≡ Err Stuck = subst (λ r. Stays more r (expr_from s (longer behind more))) i ((prefix_expr s).stays behind more) in
-      absurd (cc (ap then_behind k, e))
+      let k : is_done (expr_from s (longer behind more)) ≡ false = subst (λ r. Stays more r (expr_from s (longer behind more))) i ((prefix_expr s).stays behind more) in
+      absurd (cc (then_done (expr_from s (longer behind more)) e, k))
   then_before (Err Ended) i e = absurd (open_no_then (subst Open (sym i) tt) (expr_from s (longer behind more)) refl e)
   then_before (Err (LeavesOut d)) i e = absurd (expr_never s behind d i)
 

@@ -17,7 +17,7 @@ use Rattle.pli_phrase.specs.Tokens.{is_terminal, starts, begins, taken_at, taken
 use Rattle.pli_phrase.specs.declared.expression.Beginning.{Beginning}
 use Rattle.pli_phrase.specs.declared.expression.Beginning.TheVariants.{Begins, Differs, Unknown}
 use Rattle.pli_phrase.specs.Reading.{run, expr_from, reference_from, assignment_begins}
-use Rattle.pli_phrase.proofs.Prefixes.{longer, Stays, Open, Closing, Prefixes}
+use Rattle.pli_phrase.proofs.Prefixes.{longer, is_done, Stays, Open, Closing, Prefixes}
 use Rattle.pli_phrase.proofs.PhrasePrefixes.{prefix_expr, prefix_reference, begins_stays, unknown_opens}
 use Rattle.pli_attributes.proofs.Posts.{post_is, post_leaves}
 use Rattle.pli_attributes.proofs.Expressions.{expr_post}
@@ -216,7 +216,7 @@ if_then_read s p c x i = with_condition (expr_from s c) i
     with_condition (Ok e) k = with_then e e.1.tokens refl k
     with_condition (Err at) k = absurd (cc k)
 
-stuck_longer : {X : Type 0} (more : List Token) (r r' : Read X) → Stays more r r' → r ≡ Err Stuck → r' ≡ Err Stuck
+stuck_longer : {X : Type 0} (more : List Token) (r r' : Read X) → Stays more r r' → r ≡ Err Stuck → is_done r' ≡ false
 stuck_longer more r r' h e = subst (λ u. Stays more u r') e h
 
 pub ended_is : {X : Type 0} (r : Read X) → r ≡ Err Ended → is_ended r ≡ true
@@ -283,8 +283,8 @@ module _ (s : List ℕ) (t : Token) (w : Word) (m : Marks) (is : t.kind ≡ K.Na
   as_assigned x (NotWhole.is_else j no) i e Begins h = absurd (no h)
   as_assigned x (NotWhole.ends j) i e Begins h = assigned_ends x Begins h refl (sym (head_begun s t w m is mid h) ∙ j) i
   as_assigned x (NotWhole.stuck j) i e Begins h =
-      let k : assigning_there ≡ Err Stuck = stuck_longer more assigning_here assigning_there ((prefix_assigning s (place_of t)).stays here more) (sym (head_begun s t w m is mid h) ∙ j) in
-      absurd (cc (i, k))
+      let k : is_done assigning_there ≡ false = stuck_longer more assigning_here assigning_there ((prefix_assigning s (place_of t)).stays here more) (sym (head_begun s t w m is mid h) ∙ j) in
+      absurd (cc (ap is_done i, k))
 
   abbrev wording_here : Read Head
   wording_here = wording s t w m is (t ∷ mid) mid
@@ -308,8 +308,8 @@ module _ (s : List ℕ) (t : Token) (w : Word) (m : Marks) (is : t.kind ≡ K.Na
   as_worded x (NotWhole.is_else j k) i no n = GoesOn.else_again j n no
   as_worded x (NotWhole.ends j) i no n = worded_ends x (not_begun_may (assigns s here) n) (sym (head_worded s t w m is mid n) ∙ j) no
   as_worded x (NotWhole.stuck j) i no n =
-      let k : wording_there ≡ Err Stuck = stuck_longer more wording_here wording_there wording_longer (sym (head_worded s t w m is mid n) ∙ j) in
-      absurd (cc (i, k))
+      let k : is_done wording_there ≡ false = stuck_longer more wording_here wording_there wording_longer (sym (head_worded s t w m is mid n) ∙ j) in
+      absurd (cc (ap is_done i, k))
 
   -- what begins an assignment is an IF with more behind
   word_if : begins_if s there ≡ true → w ≡ W.If
@@ -350,7 +350,7 @@ module _ (s : List ℕ) (t : Token) (w : Word) (m : Marks) (is : t.kind ≡ K.Na
       let k = if_then_read s (place_of t) (at s t w m is mid) y (sym (if_behind (t ∷ mid) mid i) ∙ h) in
       let d : assigns s here ≡ Differs = assigns_if s here (if_here e k) in
       absurd (cc (b, d))
-  as_if x i e b j no (Err Stuck) h = absurd (cc (j, stuck_longer more wording_here wording_there wording_longer h))
+  as_if x i e b j no (Err Stuck) h = absurd (cc (ap is_done j, stuck_longer more wording_here wording_there wording_longer h))
   as_if x i e b j no (Err Ended) h =
       let a : (is_not_begun (assigns s here) || is_if w) ≡ true = ap (λ u. is_not_begun u || is_if w) b ∙ ap is_if i in
       worded_ends x a h no

@@ -22,7 +22,7 @@ use Rattle.pli_phrase.proofs.Prefixes.{longer, Stays, Open, Closing, Prefixes, S
 use Rattle.pli_phrase.proofs.PhrasePrefixes.{stops_expr, stops_reference, stops_arguments, prefix_symbol, prefix_when, prefix_name, prefix_expr, prefix_reference, prefix_arguments, begins_stays, unknown_opens}
 use Rattle.pli_phrase.proofs.Tokens.{terminal_kind, word_is}
 use Rattle.pli_attributes.specs.Reading.{declare_items_from}
-use Rattle.pli_attributes.proofs.DeclarePrefixes.{stops_items, prefix_declare_items}
+use Rattle.pli_attributes.proofs.AttributePrefixes.{stops_items, prefix_declare_items}
 use Rattle.pli_stream.specs.Reading.{transfer_from}
 use Rattle.pli_stream.proofs.StreamPrefixes.{semicolon_ends, prefix_transfer}
 use Rattle.pli_clause.specs.Reading.{condition_from, parameters_from, options_from, in_parentheses_from, range_from, while_from, counted, counting_from, allocations_from, freeings_from, value_from}
