@@ -148,26 +148,26 @@ prefix_front s stop =
 -- ---- attributes
 
 -- what a closing parenthesis leaves out is never done
-abbrev doomed : {X : Type 0} → Read Token → Read X
-doomed r = whole_or_stuck false r >>= λ u. Err (LeavesOut (onto [] u.1))
+abbrev doomed : (X : Type 0) → Read Token → Read X
+doomed X r = whole_or_stuck false r >>= λ u. Err (LeavesOut (onto [] u.1))
 
-doomed_closed : {X : Type 0} (r : Read Token) → Open (doomed {X = X} r) → ⊥
-doomed_closed (Ok u) o = o
-doomed_closed (Err Stuck) o = o
-doomed_closed (Err Ended) o = o
-doomed_closed (Err (LeavesOut d)) o = o
+doomed_closed : (X : Type 0) (r : Read Token) → Open (doomed X r) → ⊥
+doomed_closed X (Ok u) o = o
+doomed_closed X (Err Stuck) o = o
+doomed_closed X (Err Ended) o = o
+doomed_closed X (Err (LeavesOut d)) o = o
 
-doomed_not_done : {X : Type 0} (r : Read Token) → is_done (doomed {X = X} r) ≡ false
-doomed_not_done (Ok u) = refl
-doomed_not_done (Err Stuck) = refl
-doomed_not_done (Err Ended) = refl
-doomed_not_done (Err (LeavesOut d)) = refl
+doomed_not_done : (X : Type 0) (r : Read Token) → is_done (doomed X r) ≡ false
+doomed_not_done X (Ok u) = refl
+doomed_not_done X (Err Stuck) = refl
+doomed_not_done X (Err Ended) = refl
+doomed_not_done X (Err (LeavesOut d)) = refl
 
-doomed_stays : {X : Type 0} (more : List Token) (r r' : Read Token) → Stays more (doomed {X = X} r) (doomed {X = X} r')
-doomed_stays more (Ok u) r' = tt
-doomed_stays more (Err Stuck) r' = doomed_not_done r'
-doomed_stays more (Err Ended) r' = doomed_not_done r'
-doomed_stays more (Err (LeavesOut d)) r' = tt
+doomed_stays : (X : Type 0) (more : List Token) (r r' : Read Token) → Stays more (doomed X r) (doomed X r')
+doomed_stays X more (Ok u) r' = tt
+doomed_stays X more (Err Stuck) r' = doomed_not_done X r'
+doomed_stays X more (Err Ended) r' = doomed_not_done X r'
+doomed_stays X more (Err (LeavesOut d)) r' = tt
 
 -- up to the closing parenthesis, which leaves out what isn't whole
 abbrev closing : {X : Type 0} → Bool → X → Cursor → Read X
@@ -181,8 +181,8 @@ steady_closing : {X : Type 0} (b : Bool) (x : X) → Steady Any (closing b x)
 steady_closing true x = steady (prefix_closing x)
 steady_closing {X} false x =
     record {
-      stays = λ c more. doomed_stays {X = X} more (taken (K.Symbol S.CloseParenthesis) c) (taken (K.Symbol S.CloseParenthesis) (longer c more));
-      closes = λ c o. absurd (doomed_closed {X = X} (taken (K.Symbol S.CloseParenthesis) c) o);
+      stays = λ c more. doomed_stays X more (taken (K.Symbol S.CloseParenthesis) c) (taken (K.Symbol S.CloseParenthesis) (longer c more));
+      closes = λ c o. absurd (doomed_closed X (taken (K.Symbol S.CloseParenthesis) c) o);
     }
 
 prefix_scale : (n : ℕ) → Prefixes (Next (K.Symbol S.CloseParenthesis)) Any (scale_from [] n)
