@@ -194,7 +194,7 @@ module _ (s : List ℕ) (n : Nest) (ls : List T.Name) (t : Token) (mid : List To
     -- what it goes on as may stand
     goes_may : (w ≡ W.Else → assigns s here ≢ Begins → (k : Head) → is_else k ≡ true → is_stray_else n ls k ≡ true) → GoesOn s t w no_marks is mid more (h, record { tokens = rest; marks = m }) → may ≡ true
     goes_may stray (GoesOn.assigned e a) = assigned_may e a
-    goes_may stray (GoesOn.worded e no) = worded_may (ended_no_else e) e no
+    goes_may stray (GoesOn.of_word e no) = worded_may (ended_no_else e) e no
     goes_may stray (GoesOn.else_again i yet no) =
         let k : is_else h ≡ true = (of_its_word no).no_else ∙ ap is_else_word i in
         absurd (stray_stands k (stray i yet h k))
