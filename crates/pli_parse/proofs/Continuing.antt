@@ -36,7 +36,7 @@ use Rattle.pli_nest.specs.declared.standing.Front.{Front}
 use Rattle.pli_nest.specs.declared.standing.Front.TheVariants as R
 use Rattle.pli_nest.specs.Steps.{is_else}
 use Rattle.pli_nest.specs.Standing.{front_of, front_of_word, may_stand, word_may_stand, may_go_on, is_stray_else}
-use Rattle.pli_nest.proofs.Standing.{stood, head_stood, else_stood, unit_stands}
+use Rattle.pli_nest.proofs.Stood.{stood, head_stood, else_stood, unit_stands}
 
 -- ---- heads by their words
 
