@@ -184,9 +184,11 @@ assigned_begins s p c x e = with_reference (reference_from s c) e
     by_kind : (r : T.Reference) (t : Token) (d : Cursor) (b : Bool) → is_terminal (K.Symbol S.Equal) t.kind ≡ b → simple_from (equal_closed s p r (if b then Ok (t, d) else Err Stuck)) ≡ Ok x → begun_by (Some t.kind) ≡ Begins
     by_kind r t d true h k = ap (λ u. begun_by (Some u)) (terminal_kind (K.Symbol S.Equal) t.kind h)
     by_kind r t d false h k = absurd (cc k)
+
     with_equal : (r : T.Reference × Cursor) (ts : List Token) → simple_from (equal_closed s p r.0 (taken_at (K.Symbol S.Equal) ts r.1)) ≡ Ok x → begun_by (next_kind ts) ≡ Begins
     with_equal r [] k = absurd (cc k)
     with_equal r (t ∷ ts) k = by_kind r.0 t (onto ts r.1) (is_terminal (K.Symbol S.Equal) t.kind) refl k
+
     with_reference : (u : Read T.Reference) → simple_from (target_closed s p u) ≡ Ok x → begun u ≡ Begins
     with_reference (Ok r) k = with_equal r r.1.tokens k
     with_reference (Err at) k = absurd (cc k)
@@ -203,9 +205,11 @@ ended_source p r (Ok e) i = at_tokens e.1.tokens i
   where
     stmt_closed : Read Token → Read Head
     stmt_closed q = q >>= λ u. Ok (Simple (T.Assign r e.0 p), u.1)
+
     by_kind : (t : Token) (ts : List Token) (d : Cursor) (b : Bool) → stmt_closed (if b then Ok (t, d) else Err Stuck) ≡ Err Ended → t ∷ ts ≡ []
     by_kind t ts d true k = absurd (cc k)
     by_kind t ts d false k = absurd (cc k)
+
     at_tokens : (ts : List Token) → stmt_closed (taken_at (K.Symbol S.Semicolon) ts e.1) ≡ Err Ended → ts ≡ []
     at_tokens [] k = refl
     at_tokens (t ∷ ts) k = by_kind t ts (onto ts e.1) (is_terminal (K.Symbol S.Semicolon) t.kind) k
@@ -234,8 +238,8 @@ module _ (s : List ℕ) (t : Token) (w : Word) (m : Marks) (is : t.kind ≡ K.Na
       let k = (prefix_reference s).closes here o in
       let more = k.more ++ equal_one in
       let a : assigning s t w m is (t ∷ (mid ++ more)) ≡ Ok (Simple (T.Assign k.given (T.Number 1 (place_of (made (K.Number 1)))) (place_of t)), record { tokens = []; marks = k.marks }) =
-        ap (λ u. simple_from (target_closed s (place_of t) u)) (k.reads equal_one refl)
-        ∙ (ap simple_from (source_read s (place_of t) k.given k.marks) ∙ closed_whole (Simple (T.Assign k.given (T.Number 1 (place_of (made (K.Number 1)))) (place_of t))) k.marks) in
+      ap (λ u. simple_from (target_closed s (place_of t) u)) (k.reads equal_one refl)
+      ∙ (ap simple_from (source_read s (place_of t) k.given k.marks) ∙ closed_whole (Simple (T.Assign k.given (T.Number 1 (place_of (made (K.Number 1)))) (place_of t))) k.marks) in
       record { more = more; head = Simple (T.Assign k.given (T.Number 1 (place_of (made (K.Number 1)))) (place_of t)); rest = record { tokens = []; marks = k.marks }; reads = assigned_by more _ i (plain_joined k.more equal_one (reference_more s here o) refl) a; assigned = assigning_is s (place_of t) (longer here more) _ a }
 
   -- where they end behind `=`
@@ -246,15 +250,15 @@ module _ (s : List ℕ) (t : Token) (w : Word) (m : Marks) (is : t.kind ≡ K.Na
       let front : List Token → Cursor = λ ts. record { tokens = ts; marks = r.1.marks } in
       let took : taken (K.Symbol S.Equal) r.1 ≡ Ok (u, front us) = takes_taken (K.Symbol S.Equal) r.1.marks (symbol_is S.Equal) (record { is = b; of_kind = c }) in
       let left : simple_from (source_closed p r.0 (expr_from s (front us))) ≡ Err Ended =
-        sym (ap (λ v. simple_from (target_closed s p v)) a ∙ ap (λ v. simple_from (equal_closed s p r.0 v)) took) ∙ ends in
+      sym (ap (λ v. simple_from (target_closed s p v)) a ∙ ap (λ v. simple_from (equal_closed s p r.0 v)) took) ∙ ends in
       let o = ended_source p r.0 (expr_from s (front us)) left in
       let k = (prefix_expr s).closes (front us) o in
       let more = k.more ++ semicolon in
       let again : reference_from s (longer here more) ≡ Ok (r.0, longer r.1 more) = done_longer (reference_from s here) (reference_from s (longer here more)) more r u us ((prefix_reference s).stays here more) a b in
       let took_again : taken (K.Symbol S.Equal) (longer r.1 more) ≡ Ok (u, front (us ++ more)) = takes_taken (K.Symbol S.Equal) r.1.marks (symbol_is S.Equal) (record { is = ap (λ v. v ++ more) b; of_kind = c }) in
       let whole : assigning s t w m is (t ∷ (mid ++ more)) ≡ Ok (Simple (T.Assign r.0 k.given p), record { tokens = []; marks = k.marks }) =
-        ap (λ v. simple_from (target_closed s p v)) again
-        ∙ (ap (λ v. simple_from (equal_closed s p r.0 v)) took_again ∙ (ap (λ v. simple_from (source_closed p r.0 v)) (k.reads semicolon refl) ∙ closed_whole (Simple (T.Assign r.0 k.given p)) k.marks)) in
+      ap (λ v. simple_from (target_closed s p v)) again
+      ∙ (ap (λ v. simple_from (equal_closed s p r.0 v)) took_again ∙ (ap (λ v. simple_from (source_closed p r.0 v)) (k.reads semicolon refl) ∙ closed_whole (Simple (T.Assign r.0 k.given p)) k.marks)) in
       record { more = more; head = Simple (T.Assign r.0 k.given p); rest = record { tokens = []; marks = k.marks }; reads = assigned_by more _ i (plain_joined k.more semicolon (expr_more s (front us) o) refl) whole; assigned = assigning_is s p (longer here more) _ whole }
 
   -- a head that the tokens end in as an assignment
@@ -271,6 +275,7 @@ module _ (s : List ℕ) (t : Token) (w : Word) (m : Marks) (is : t.kind ≡ K.Na
       by_tokens : begins_if s here ≡ false → (r : T.Reference × Cursor) → reference_from s here ≡ Ok r → (ts : List Token) → r.1.tokens ≡ ts → begun_by (next_kind ts) ≡ Begins → Completed s here
       by_tokens i r a [] j k = absurd (cc k)
       by_tokens i r a (u ∷ us) j k = complete_source i ends r u us a j (begun_equal u.kind k)
+
       by_reference : begins_if s here ≡ false → (q : Read T.Reference) → reference_from s here ≡ q → assignment_begins s here ≡ Begins → Completed s here
       by_reference i (Ok r) a k = by_tokens i r a r.1.tokens refl (sym (ap begun a) ∙ k)
       by_reference i (Err Stuck) a k = absurd (cc (ap begun a, k))
@@ -355,9 +360,11 @@ module _ (s : List ℕ) (t : Token) (w : Word) (m : Marks) (is : t.kind ≡ K.Na
       by_kind : (e : T.Expr) (v : Token) (ts : List Token) (d : Cursor) (b : Bool) → then_closed p e (if b then Ok (v, d) else Err Stuck) ≡ Err Ended → v ∷ ts ≡ []
       by_kind e v ts d true k = absurd (cc k)
       by_kind e v ts d false k = absurd (cc k)
+
       at_tokens : (e : T.Expr × Cursor) (ts : List Token) → then_closed p e.0 (taken_at (K.Name W.Then) ts e.1) ≡ Err Ended → ts ≡ []
       at_tokens e [] k = refl
       at_tokens e (v ∷ ts) k = by_kind e.0 v ts (onto ts e.1) (is_terminal (K.Name W.Then) v.kind) k
+
       by_condition : (r : Read T.Expr) → condition_closed p r ≡ Err Ended → Open r
       by_condition (Ok e) k = at_tokens e e.1.tokens k
       by_condition (Err Ended) k = tt

@@ -101,6 +101,7 @@ differs_longer s c more e = by_if (begins_if s c) refl
     differs_by : (b : Bool) → begins_if s (longer c more) ≡ b → assignment_begins s c ≡ Differs → assigns s (longer c more) ≡ Differs
     differs_by true i d = assigns_if s (longer c more) i
     differs_by false i d = assigns_else s (longer c more) i ∙ (begins_stays s c more (λ u. cc (d, u)) ∙ d)
+
     by_if : (b : Bool) → begins_if s c ≡ b → assigns s (longer c more) ≡ Differs
     by_if true i = assigns_if s (longer c more) (if_longer s c more i)
     by_if false i = differs_by (begins_if s (longer c more)) refl (sym (assigns_else s c i) ∙ e)
@@ -157,9 +158,11 @@ assigned_is s p c y i = with_reference (reference_from s c) i
     with_source : (r : T.Reference) (u : Read T.Expr) → (u >>= λ e. Ok (T.Assign r e.0 p, e.1)) ≡ Ok y → (r' : T.Reference) × (e : T.Expr) × (y.0 ≡ T.Assign r' e p)
     with_source r (Ok e) i = (r, e.0, cc i)
     with_source r (Err at) i = absurd (cc i)
+
     with_equal : (r : T.Reference) (u : Read Token) → (u >>= λ t. expr_from s t.1 >>= λ e. Ok (T.Assign r e.0 p, e.1)) ≡ Ok y → (r' : T.Reference) × (e : T.Expr) × (y.0 ≡ T.Assign r' e p)
     with_equal r (Ok t) i = with_source r (expr_from s t.1) i
     with_equal r (Err at) i = absurd (cc i)
+
     with_reference : (u : Read T.Reference) → (u >>= λ r. taken (K.Symbol S.Equal) r.1 >>= λ t. expr_from s t.1 >>= λ e. Ok (T.Assign r.0 e.0 p, e.1)) ≡ Ok y → (r' : T.Reference) × (e : T.Expr) × (y.0 ≡ T.Assign r' e p)
     with_reference (Ok r) i = with_equal r.0 (taken (K.Symbol S.Equal) r.1) i
     with_reference (Err at) i = absurd (cc i)
@@ -180,6 +183,7 @@ assigning_is s p c x i = with_statement (assignment_from s p c) refl i
         let h : x.0 ≡ Simple y.0 = cc i in
         record { target = a.0; source = a.1; place = p; is = h ∙ ap Simple a.2 }
     with_semicolon y (Err at) e i = absurd (cc i)
+
     with_statement : (u : Read T.Stmt) → assignment_from s p c ≡ u → simple_from u ≡ Ok x → IsAssigned x.0
     with_statement (Ok y) e i = with_semicolon y (taken (K.Symbol S.Semicolon) y.1) e i
     with_statement (Err at) e i = absurd (cc i)
@@ -202,9 +206,11 @@ if_never s p c d i = with_condition (expr_from s c) refl i
     by_kind : (e : T.Expr) (t : Token) (k : Cursor) (b : Bool) → then_closed p e (if b then Ok (t, k) else Err Stuck) ≡ Err (LeavesOut d) → ⊥
     by_kind e t k true j = cc j
     by_kind e t k false j = cc j
+
     with_then : (e : T.Expr × Cursor) (ts : List Token) → then_closed p e.0 (taken_at (K.Name W.Then) ts e.1) ≡ Err (LeavesOut d) → ⊥
     with_then e [] k = cc k
     with_then e (t ∷ ts) k = by_kind e.0 t (onto ts e.1) (is_terminal (K.Name W.Then) t.kind) k
+
     with_condition : (u : Read T.Expr) → expr_from s c ≡ u → condition_closed p u ≡ Err (LeavesOut d) → ⊥
     with_condition (Ok e) j k = with_then e e.1.tokens k
     with_condition (Err Stuck) j k = cc k
@@ -224,9 +230,11 @@ if_then_read s p c x i = with_condition (expr_from s c) i
     by_kind : (e : T.Expr) (t : Token) (k : Cursor) (b : Bool) → is_terminal (K.Name W.Then) t.kind ≡ b → then_closed p e (if b then Ok (t, k) else Err Stuck) ≡ Ok x → is_terminal (K.Name W.Then) t.kind ≡ true
     by_kind e t k true h j = h
     by_kind e t k false h j = absurd (cc j)
+
     with_then : (e : T.Expr × Cursor) (ts : List Token) → then_closed p e.0 (taken_at (K.Name W.Then) ts e.1) ≡ Ok x → starts (K.Name W.Then) ts ≡ true
     with_then e [] k = absurd (cc k)
     with_then e (t ∷ ts) k = by_kind e.0 t (onto ts e.1) (is_terminal (K.Name W.Then) t.kind) refl k
+
     with_condition : (u : Read T.Expr) → condition_closed p u ≡ Ok x → then_behind u ≡ true
     with_condition (Ok e) k = with_then e e.1.tokens k
     with_condition (Err at) k = absurd (cc k)
@@ -251,6 +259,7 @@ open_assigning s p c o = with_reference (reference_from s c) o
     with_empty : (r : T.Reference × Cursor) (ts : List Token) → ts ≡ [] → simple_from (equal_closed s p r.0 (taken_at (K.Symbol S.Equal) ts r.1)) ≡ Err Ended
     with_empty r [] i = refl
     with_empty r (t ∷ ts) i = absurd (cc i)
+
     with_reference : (u : Read T.Reference) → Open u → simple_from (target_closed s p u) ≡ Err Ended
     with_reference (Ok r) o = with_empty r r.1.tokens o
     with_reference (Err Ended) o = refl

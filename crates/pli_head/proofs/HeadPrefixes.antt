@@ -174,9 +174,11 @@ counted_begins s p c x e = with_reference (reference_from s c) e
     by_kind : (r : T.Reference) (d : Cursor) (t : Token) (b : Bool) → is_terminal (K.Symbol S.Equal) t.kind ≡ b → count_closed p (behind_equal s r (if b then Ok (t, d) else Err Stuck)) ≡ Ok x → begun_by (Some t.kind) ≡ Begins
     by_kind r d t true h k = ap (λ u. begun_by (Some u)) (terminal_kind (K.Symbol S.Equal) t.kind h)
     by_kind r d t false h k = absurd (cc k)
+
     with_equal : (r : T.Reference × Cursor) (ts : List Token) → count_closed p (behind_equal s r.0 (taken_at (K.Symbol S.Equal) ts r.1)) ≡ Ok x → begun_by (next_kind ts) ≡ Begins
     with_equal r [] k = absurd (cc k)
     with_equal r (t ∷ ts) k = by_kind r.0 (onto ts r.1) t (is_terminal (K.Symbol S.Equal) t.kind) refl k
+
     with_reference : (u : Read T.Reference) → count_closed p (u >>= behind_reference s) ≡ Ok x → begun u ≡ Begins
     with_reference (Ok r) k = with_equal r r.1.tokens k
     with_reference (Err at) k = absurd (cc k)
@@ -188,6 +190,7 @@ open_counting s p c o = with_reference (reference_from s c) o
     with_empty : (r : T.Reference × Cursor) (ts : List Token) → ts ≡ [] → Open (count_closed p (behind_equal s r.0 (taken_at (K.Symbol S.Equal) ts r.1)))
     with_empty r [] i = tt
     with_empty r (t ∷ ts) i = absurd (cc i)
+
     with_reference : (u : Read T.Reference) → Open u → Open (count_closed p (u >>= behind_reference s))
     with_reference (Ok r) o = with_empty r r.1.tokens o
     with_reference (Err Ended) o = tt

@@ -173,6 +173,7 @@ ended_closed h c e = at_tokens c.tokens e
     by_kind : (t : Token) (ts : List Token) (d : Cursor) (b : Bool) → head_closed h (if b then Ok (t, d) else Err Stuck) ≡ Err Ended → t ∷ ts ≡ []
     by_kind t ts d true k = absurd (cc k)
     by_kind t ts d false k = absurd (cc k)
+
     at_tokens : (ts : List Token) → head_closed h (taken_at (K.Symbol S.Semicolon) ts c) ≡ Err Ended → ts ≡ []
     at_tokens [] k = refl
     at_tokens (t ∷ ts) k = by_kind t ts (onto ts c) (is_terminal (K.Symbol S.Semicolon) t.kind) k
@@ -210,6 +211,7 @@ module _ (s : List ℕ) (t : Token) (m : Marks) (is : t.kind ≡ K.Name W.Proced
       by_tokens o r a (u ∷ us) j k =
           let h = open_reference_rest s here more r o a in
           plain_no_equal h.front r.1.tokens (subst Plain h.is p) (ap next_kind j ∙ ap Some (begun_equal u.kind k))
+
       by_reference : Open (reference_from s here) → (q : Read T.Reference) → reference_from s (longer here more) ≡ q → assignment_begins s (longer here more) ≡ Begins → ⊥
       by_reference o (Ok r) a k = by_tokens o r a r.1.tokens refl (sym (ap begun a) ∙ k)
       by_reference o (Err Stuck) a k = cc (ap begun a, k)
@@ -225,7 +227,7 @@ module _ (s : List ℕ) (t : Token) (m : Marks) (is : t.kind ≡ K.Name W.Proced
       let more = k.more ++ semicolon in
       let h : Head = ProcedureFront p k.given [] in
       let read : procedure_from s p (longer inside more) ≡ Ok (h, record { tokens = []; marks = k.marks }) =
-        ap (parameters_closed s p) (k.reads semicolon refl) ∙ (ap (options_closed p k.given) (no_options s k.marks) ∙ closed_whole h k.marks) in
+      ap (parameters_closed s p) (k.reads semicolon refl) ∙ (ap (options_closed p k.given) (no_options s k.marks) ∙ closed_whole h k.marks) in
       record { more = more; head = h; rest = record { tokens = []; marks = k.marks }; reads = head_worded s t W.Procedure m is (mid ++ more) (no_assignment more (plain_semicolon k.more (parameters_more s inside o)) e) ∙ read; worded = no_assignment more (plain_semicolon k.more (parameters_more s inside o)) e }
 
   -- behind parameters no reference goes on
@@ -251,6 +253,7 @@ module _ (s : List ℕ) (t : Token) (m : Marks) (is : t.kind ≡ K.Name W.Proced
       by_tokens : (ns : List T.Name × Cursor) → parameters_from s inside ≡ Ok ns → Open (options_from s ns.1) → (ts : List Token) → ns.1.tokens ≡ ts → CompletedWord s here
       by_tokens ns a o [] j = complete_parameters (subst Open (sym a) j) e
       by_tokens ns a o (v ∷ vs) j = absurd (no_reference ns v vs a j o e)
+
       by_parameters : (r : Read (List T.Name)) → parameters_from s inside ≡ r → parameters_closed s (place_of t) r ≡ Err Ended → CompletedWord s here
       by_parameters (Ok ns) a i =
           let o = ended_first (options_from s ns.1) (λ options. closed (ProcedureFront (place_of t) ns.0 options.0) options.1) i (λ x. ended_closed (ProcedureFront (place_of t) ns.0 x.0) x.1) in

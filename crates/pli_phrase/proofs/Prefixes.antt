@@ -358,6 +358,7 @@ firm_prefix f k given a =
     alone_stays : (c : Cursor) (more : List Token) (r : Read _) → f c ≡ r → Stays more r (f (longer c more))
     alone_stays c more (Ok x) e = inr (a.firm c more x e)
     alone_stays c more (Err at) e = subst (λ r. Stays more r (f (longer c more))) e (a.missed c more at e)
+
     alone_closes : (c : Cursor) (r : Read _) → f c ≡ r → Open r → Closing (Next k) Any f c
     alone_closes c (Ok x) e h =
         record {
