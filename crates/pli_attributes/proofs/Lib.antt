@@ -12,5 +12,5 @@ pub mod Items
 pub mod Loops
 pub mod Laws
 pub mod ListPrefixes
+pub mod ExtentPrefixes
 pub mod AttributePrefixes
-pub mod DeclarePrefixes

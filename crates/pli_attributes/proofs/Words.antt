@@ -1,6 +1,6 @@
 -- What may stand behind an attribute's word: what is read is spelled so, and what is spelled is read.
 use Rattle.std.proofs.Common.{◌≡◌, ◌≢◌, ℕ, List, Option, Some, None, Bool, true, false, refl, sym, ap, ◌∙◌, subst, arith, Ok, Err, eqb-true}
-use Rattle.std.specs.Prelude.{◌==◌}
+use Rattle.std.specs.Prelude.{◌==◌, if◌then◌else◌}
 use Rattle.std.proofs.lemmas.Bool.{eq-eqb}
 use Rattle.pli_language.specs.declared.token.Symbol.TheVariants as S
 use Rattle.pli_language.specs.declared.token.Kind.TheVariants as K
@@ -10,9 +10,10 @@ use Rattle.pli_language.specs.Spells.{Takes, SpellsCount, next_kind, place_of, n
 use Rattle.pli_language.specs.Attributes as D
 use Rattle.pli_language.specs.Attributes.{SpellsExtent, SpellsPrecision, SpellsSize, SpellsOwner, SpellsBitLength, extent_marks, size_marks}
 use Rattle.pli_language.specs.Tree as T
-use Rattle.pli_phrase.specs.Cursor.{Cursor, LeavesOut, onto}
-use Rattle.pli_attributes.specs.Reading.{scale_from, precision_from, bit_from, length_from, some_length_from, size_from, some_name_from, owner_from}
-use Rattle.pli_attributes.proofs.Posts.{Post, Never, never, post_ok, post_left, post_bind, post_if}
+use Rattle.pli_phrase.specs.Cursor.{Cursor, Stuck, Ended, LeavesOut, Read, onto}
+use Rattle.pli_phrase.specs.Tokens.{taken}
+use Rattle.pli_attributes.specs.Reading.{whole_or_stuck, scale_from, precision_from, bit_from, length_from, some_length_from, size_from, some_name_from, owner_from}
+use Rattle.pli_attributes.proofs.Posts.{Post, Never, never, post_ok, post_stuck, post_left, post_bind, post_if}
 use Rattle.pli_attributes.proofs.Tokens.{TakenBy, NameBy, NumberBy, taken_post, name_post, number_post, count_post, not_symbol, not_begins, begins_symbol, symbol_read, name_read, number_read, count_read}
 use Rattle.pli_attributes.proofs.Lists.{Reads}
 use Rattle.pli_attributes.proofs.Enclosed.{EnclosedBy, enclosed, optional_post, optional_read, optional_absent}
@@ -59,11 +60,19 @@ other_eqb a b n = by_test (a == b) refl
     by_test true e = absurd (n (eqb-true a b e))
     by_test false e = e
 
+-- what is read whole is read
+whole_post : {X : Type 0} {P : X × Cursor → Type 0} {L : Cursor → Type 0} (b : Bool) (r : Read X) → Post P L r → Post P L (whole_or_stuck b r)
+whole_post true r h = h
+whole_post false (Ok x) h = h
+whole_post false (Err Stuck) h = h
+whole_post false (Err Ended) h = post_stuck
+whole_post false (Err (LeavesOut d)) h = h
+
 scale_post : (at : List Token) (c : Cursor) (t : Token × Cursor) (n : ℕ × Cursor) → TakenBy (K.Symbol S.OpenParenthesis) c t → NumberBy t.1 n → Post (Reads (λ ts p rest. SpellsPrecision ts p rest) unmarked c) (LeavesAt (Scaled c.tokens) at c) (scale_from at n.0 n.1)
 unfolding scale_from
 scale_post at c t n o i =
     post_if _ _ _
-    (λ b. post_bind _ _ (never _ _ (taken_post (K.Symbol S.Comma) n.1)) (λ comma k. post_bind _ _ (never _ _ (number_post comma.1)) (λ q j. post_bind _ _ (never _ _ (taken_post (K.Symbol S.CloseParenthesis) q.1)) (λ u z. post_if _ _ _
+    (λ b. post_bind _ _ (never _ _ (taken_post (K.Symbol S.Comma) n.1)) (λ comma k. post_bind _ _ (never _ _ (number_post comma.1)) (λ q j. post_bind _ _ (never _ _ (whole_post (q.0 == 0) (taken (K.Symbol S.CloseParenthesis) q.1) (taken_post (K.Symbol S.CloseParenthesis) q.1))) (λ u z. post_if _ _ _
     (λ e. post_ok (record { spelled = D.digits_and_scale c.tokens t.1.tokens n.1.tokens comma.1.tokens q.1.tokens u.1.tokens t.0 i.token comma.0 j.token u.0 n.0 o.take i.take k.take (subst (λ v. Takes comma.1.tokens (K.Number v) j.token q.1.tokens) (eqb-true q.0 0 e) j.take) z.take; marked = z.marked ∙ j.marked ∙ k.marked ∙ i.marked ∙ o.marked; shorter = omega (arith, o.shorter, i.shorter, k.shorter, j.shorter, z.shorter) }))
     (λ e. post_left (record { why = record { after = t.1.tokens; mid = n.1.tokens; behind = comma.1.tokens; inside = q.1.tokens; rest = u.1.tokens; u = t.0; v = i.token; w = comma.0; x = j.token; y = u.0; n = n.0; q = q.0; opened = o.take; digits = i.take; comma = k.take; scale = j.take; other = eqb_other q.0 0 e; closed = z.take }; is = ap (λ m. record { tokens = at; marks = m }) (z.marked ∙ j.marked ∙ k.marked ∙ i.marked ∙ o.marked) }))))))
     (λ b. post_bind _ _ (never _ _ (taken_post (K.Symbol S.CloseParenthesis) n.1)) (λ u z. post_ok (record { spelled = D.digits c.tokens u.1.tokens n.0 (record { after = t.1.tokens; mid = n.1.tokens; open_token = t.0; number_token = i.token; close_token = u.0; opened = o.take; counted = i.take; closed = z.take }); marked = z.marked ∙ i.marked ∙ o.marked; shorter = omega (arith, o.shorter, i.shorter, z.shorter) })))
@@ -125,23 +134,40 @@ pub record SpellsBit (ts : List Token) (a : T.Attribute) (rest : List Token) : T
   pub is : a ≡ T.BitOne
   pub spelled : SpellsBitLength ts rest
 
+-- a length in its parentheses, which is 1 or another one
+bit_closed : (at : List Token) (c : Cursor) (t : Token × Cursor) (n : ℕ × Cursor) (u : Token × Cursor) → TakenBy (K.Symbol S.OpenParenthesis) c t → NumberBy t.1 n → TakenBy (K.Symbol S.CloseParenthesis) n.1 u → Post (Reads (λ ts a rest. SpellsBit ts a rest) unmarked c) (LeavesAt (Bits c.tokens) at c) (if n.0 == 1 then Ok (T.BitOne, u.1) else Err (LeavesOut (onto at u.1)))
+bit_closed at c t n u o i z =
+    let count : SpellsCount c.tokens n.0 u.1.tokens = record { after = t.1.tokens; mid = n.1.tokens; open_token = t.0; number_token = i.token; close_token = u.0; opened = o.take; counted = i.take; closed = z.take } in
+    post_if _ _ _
+    (λ e. post_ok (record { spelled = record { is = refl; spelled = D.bit_length c.tokens u.1.tokens (subst (λ v. SpellsCount c.tokens v u.1.tokens) (eqb-true n.0 1 e) count) }; marked = z.marked ∙ i.marked ∙ o.marked; shorter = omega (arith, o.shorter, i.shorter, z.shorter) }))
+    (λ e. post_left (record { why = record { n = n.0; rest = u.1.tokens; spelled = count; other = eqb_other n.0 1 e }; is = ap (λ m. record { tokens = at; marks = m }) (z.marked ∙ i.marked ∙ o.marked) }))
+
 pub bit_post : (at : List Token) (c : Cursor) → Post (Reads (λ ts a rest. SpellsBit ts a rest) unmarked c) (LeavesAt (Bits c.tokens) at c) (bit_from at c)
 unfolding bit_from
 bit_post at c =
     post_if _ _ _
-    (λ b. post_bind _ _ (never _ _ (count_post c)) (λ n i. post_if _ _ _
-    (λ e. post_ok (record { spelled = record { is = refl; spelled = D.bit_length c.tokens n.1.tokens (subst (λ v. SpellsCount c.tokens v n.1.tokens) (eqb-true n.0 1 e) i.spelled) }; marked = i.marked; shorter = omega (arith, i.shorter) }))
-    (λ e. post_left (record { why = record { n = n.0; rest = n.1.tokens; spelled = i.spelled; other = eqb_other n.0 1 e }; is = ap (λ m. record { tokens = at; marks = m }) i.marked }))))
+    (λ b. post_bind _ _ (never _ _ (taken_post (K.Symbol S.OpenParenthesis) c)) (λ t o. post_bind _ _ (never _ _ (number_post t.1)) (λ n i. post_bind _ _ (never _ _ (whole_post (n.0 == 1) (taken (K.Symbol S.CloseParenthesis) n.1) (taken_post (K.Symbol S.CloseParenthesis) n.1))) (λ u z. bit_closed at c t n u o i z))))
     (λ b. post_ok (record { spelled = record { is = refl; spelled = D.no_bit_length c.tokens (not_symbol S.OpenParenthesis c.tokens b) }; marked = refl; shorter = omega arith }))
 
 pub bit_complete : {ts rest : List Token} (at : List Token) (m : Marks) → SpellsBitLength ts rest → bit_from at (record { tokens = ts; marks = m }) ≡ Ok (T.BitOne, record { tokens = rest; marks = m })
 unfolding bit_from
 bit_complete at m (D.no_bit_length ts n) = rw (not_begins (K.Symbol S.OpenParenthesis) ts n) refl
-bit_complete at m (D.bit_length ts rest h) = rw (begins_symbol S.OpenParenthesis h.opened, count_read m h) refl
+bit_complete at m (D.bit_length ts rest h) =
+    let a = begins_symbol S.OpenParenthesis h.opened in
+    let b = symbol_read S.OpenParenthesis m h.opened in
+    let d = number_read m h.counted in
+    let e = symbol_read S.CloseParenthesis m h.closed in
+    rw (a, b, d, e) refl
 
 pub bit_left_out : {ts : List Token} (at : List Token) (m : Marks) → Bits ts → bit_from at (record { tokens = ts; marks = m }) ≡ Err (LeavesOut (record { tokens = at; marks = m }))
 unfolding bit_from
-bit_left_out at m h = rw (begins_symbol S.OpenParenthesis h.spelled.opened, count_read m h.spelled, other_eqb h.n 1 h.other) refl
+bit_left_out at m h =
+    let a = begins_symbol S.OpenParenthesis h.spelled.opened in
+    let b = symbol_read S.OpenParenthesis m h.spelled.opened in
+    let d = number_read m h.spelled.counted in
+    let e = symbol_read S.CloseParenthesis m h.spelled.closed in
+    let i = other_eqb h.n 1 h.other in
+    rw (a, b, d, e, i) refl
 
 -- ---- a size
 

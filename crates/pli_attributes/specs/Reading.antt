@@ -61,10 +61,19 @@ dimensions_from s c = optional_from [] (bounds_from s) c
 
 -- ---- behind an attribute's word
 
+-- where what closes a form leaves it out, no tokens behind make it whole: the tokens don't end inside it
+abbrev pub unless_ended : {X : Type 0} → Read X → Read X
+unless_ended (Err Ended) = Err Stuck
+unless_ended r = r
+
+abbrev pub whole_or_stuck : {X : Type 0} → Bool → Read X → Read X
+whole_or_stuck true r = r
+whole_or_stuck false r = unless_ended r
+
 -- behind the digits of the attribute whose word is the first of the tokens `at`
 unfoldable pub scale_from : List Token → ℕ → Cursor → Read (Option ℕ)
 scale_from at n c =
-    if begins (K.Symbol S.Comma) c then (taken (K.Symbol S.Comma) c >>= λ comma. number_from comma.1 >>= λ q. taken (K.Symbol S.CloseParenthesis) q.1 >>= λ u. if q.0 == 0 then Ok (Some n, u.1) else Err (LeavesOut (onto at u.1))) else (taken (K.Symbol S.CloseParenthesis) c >>= λ u. Ok (Some n, u.1))
+    if begins (K.Symbol S.Comma) c then (taken (K.Symbol S.Comma) c >>= λ comma. number_from comma.1 >>= λ q. whole_or_stuck (q.0 == 0) (taken (K.Symbol S.CloseParenthesis) q.1) >>= λ u. if q.0 == 0 then Ok (Some n, u.1) else Err (LeavesOut (onto at u.1))) else (taken (K.Symbol S.CloseParenthesis) c >>= λ u. Ok (Some n, u.1))
 
 unfoldable pub precision_from : List Token → Cursor → Read (Option ℕ)
 precision_from at c =
@@ -72,7 +81,7 @@ precision_from at c =
 
 unfoldable pub bit_from : List Token → Cursor → Read T.Attribute
 bit_from at c =
-    if begins (K.Symbol S.OpenParenthesis) c then (count_from c >>= λ n. if n.0 == 1 then Ok (T.BitOne, n.1) else Err (LeavesOut (onto at n.1))) else Ok (T.BitOne, c)
+    if begins (K.Symbol S.OpenParenthesis) c then (taken (K.Symbol S.OpenParenthesis) c >>= λ t. number_from t.1 >>= λ n. whole_or_stuck (n.0 == 1) (taken (K.Symbol S.CloseParenthesis) n.1) >>= λ u. if n.0 == 1 then Ok (T.BitOne, u.1) else Err (LeavesOut (onto at u.1))) else Ok (T.BitOne, c)
 
 -- a length or a size, in its parentheses
 unfoldable pub length_from : List ℕ → Cursor → Read T.Size

@@ -1,10 +1,13 @@
 // What may stand in parentheses behind an attribute's word.
 
 ghost use Rattle.std.specs.Prelude.{◌≡◌};
+ghost use Rattle.pli_language.specs.declared.token.Kind.TheVariants as K;
+ghost use Rattle.pli_language.specs.declared.token.Symbol.TheVariants as S;
 ghost use Rattle.pli_language.specs.View.{attribute_of, name_of, option_of, size_of};
 ghost use Rattle.pli_phrase.specs.Answers.{Gives};
+ghost use Rattle.pli_phrase.specs.Tokens.{taken};
 ghost use Rattle.pli_phrase.specs.View.{cursor_of};
-ghost use Rattle.pli_attributes.specs.Reading.{bit_from, length_from, owner_from, precision_from, scale_from, size_from};
+ghost use Rattle.pli_attributes.specs.Reading.{bit_from, length_from, owner_from, precision_from, scale_from, size_from, whole_or_stuck};
 
 use crate::extent::extent;
 use pli_language::declaration::{Attribute, Size};
@@ -12,8 +15,23 @@ use pli_language::expr::Name;
 use pli_language::token::{Kind, Symbol, Token};
 use pli_phrase::cursor::Cursor;
 use pli_phrase::stop::Stop;
-use pli_phrase::token::{begins, count, name, number, place, taken};
+use pli_phrase::token::{begins, name, number, place, taken};
 use std::alloc::Global;
+
+/// The closing parenthesis. Where it leaves a form out, no tokens behind make a head, so that the tokens end inside none.
+fn closing<'a>(is_whole: bool, cursor: Cursor<'a>) -> Result<(Token, Cursor<'a>), Stop<'a>>
+    ensures { Gives (λ x. (x.0, cursor_of x.1)) result (whole_or_stuck is_whole (taken (K.Symbol S.CloseParenthesis) (cursor_of cursor.entry))) }
+{
+    let closed = taken(Kind::Symbol(Symbol::CloseParenthesis), cursor);
+    if is_whole {
+        return closed;
+    }
+    match closed {
+        Err(Stop::Ended) => Err(Stop::Stuck),
+        Ok(taken) => Ok(taken),
+        Err(stop) => Err(stop),
+    }
+}
 
 /// Behind the digits of a precision: a scale, which is 0, where one stands. The attribute's word is the first of `at`.
 #[tactic(auto, unfolding(crate::specs::Reading::scale_from))]
@@ -30,7 +48,7 @@ fn scale<'a>(
     }
     let (_, cursor) = taken(Kind::Symbol(Symbol::Comma), cursor)?;
     let (scale, cursor) = number(cursor)?;
-    let (_, cursor) = taken(Kind::Symbol(Symbol::CloseParenthesis), cursor)?;
+    let (_, cursor) = closing(scale == 0, cursor)?;
     if scale == 0 {
         Ok((Some(u64::from(digits)), cursor))
     } else {
@@ -65,7 +83,9 @@ pub fn bit<'a>(at: &'a [Token], cursor: Cursor<'a>) -> Result<(Attribute, Cursor
     if !begins(Kind::Symbol(Symbol::OpenParenthesis), &cursor) {
         return Ok((Attribute::Bit, cursor));
     }
-    let (length, cursor) = count(cursor)?;
+    let (_, cursor) = taken(Kind::Symbol(Symbol::OpenParenthesis), cursor)?;
+    let (length, cursor) = number(cursor)?;
+    let (_, cursor) = closing(length == 1, cursor)?;
     if length == 1 {
         Ok((Attribute::Bit, cursor))
     } else {

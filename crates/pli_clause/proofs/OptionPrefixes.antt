@@ -20,7 +20,7 @@ use Rattle.pli_attributes.specs.Reading.{attribute_of_kind, attribute_from, attr
 use Rattle.pli_attributes.proofs.Posts.{post_is}
 use Rattle.pli_attributes.proofs.AttributeLaws.{attribute_post}
 use Rattle.pli_attributes.proofs.ListPrefixes.{prefix_enclosed}
-use Rattle.pli_attributes.proofs.DeclarePrefixes.{stops_attributes, attributes_end, prefix_attribute, prefix_attributes_as}
+use Rattle.pli_attributes.proofs.AttributePrefixes.{stops_attributes, attributes_end, prefix_attribute, prefix_attributes_as}
 use Rattle.pli_clause.specs.Parts.{word_from}
 use Rattle.pli_clause.specs.Reading.{main_from, returning, returns_from, option_behind, option_from, options_at, options_from}
 use Rattle.pli_clause.proofs.OptionLaws.{option_post}

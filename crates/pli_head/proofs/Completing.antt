@@ -23,11 +23,11 @@ use Rattle.pli_phrase.proofs.Tokens.{terminal_kind, word_is, symbol_is, takes_ta
 use Rattle.pli_phrase.proofs.RepeatPrefixes.{done_longer}
 use Rattle.pli_phrase.proofs.OpenRests.{open_expr_rest, open_reference_rest}
 use Rattle.pli_phrase.proofs.PhrasePrefixes.{is_plain, prefix_expr, expr_more, prefix_reference, reference_more, begins_stays, unknown_opens}
-use Rattle.pli_phrase.proofs.Prefixes.{longer, Stays, Open, Closing, Prefixes, made}
+use Rattle.pli_phrase.proofs.Prefixes.{longer, is_done, Stays, Open, Closing, Prefixes, made}
 use Rattle.pli_head.specs.Reading.{then_behind, condition_then, if_at, begins_if, assigns, closed, assignment_from, if_from, simple_from, head_behind, head_from}
 use Rattle.pli_head.specs.Continuing.{is_ended, may_assign, is_not_begun, is_if, ends_assignment, ends_word}
 use Rattle.pli_head.proofs.HeadPrefixes.{prefix_if_then, Whole, word_closes}
-use Rattle.pli_head.proofs.Continuing.{if_true, chosen_first, chosen_second, both_first, both_second, expr_never, nothing_read, is_ended_so, assigns_if, assigns_else, not_if, differs_longer, IsAssigned, assigning_is, if_then_read, at, assigning, wording, head_begun, head_worded, if_behind, begins_longer}
+use Rattle.pli_head.proofs.Continuing.{source_closed, equal_closed, target_closed, then_closed, condition_closed, if_true, chosen_first, chosen_second, both_first, both_second, expr_never, nothing_read, is_ended_so, assigns_if, assigns_else, not_if, differs_longer, IsAssigned, assigning_is, if_then_read, at, assigning, wording, head_begun, head_worded, if_behind, begins_longer}
 
 -- ---- tokens without THEN and `=`
 
@@ -83,6 +83,10 @@ plain_joined (t ∷ xs) ys p n = joined_by (is_terminal (K.Name W.Then) t.kind) 
 
 -- ---- IF
 
+then_done : (r : Read T.Expr) → then_behind r ≡ true → is_done r ≡ true
+then_done (Ok x) e = refl
+then_done (Err at) e = absurd (cc e)
+
 module _ (s : List ℕ) (t : Token) (mid more : List Token) (m : Marks) (none : NoThen more) where
   abbrev behind : Cursor
   behind = record { tokens = mid; marks = m }
@@ -107,8 +111,8 @@ module _ (s : List ℕ) (t : Token) (mid more : List Token) (m : Marks) (none : 
               let a : starts (K.Name W.Then) (y.1.tokens ++ more) ≡ true = sym (ap then_behind h) ∙ e in
               ap (starts (K.Name W.Then)) j ∙ (sym (ap (λ v. starts (K.Name W.Then) (v ++ more)) j) ∙ a)
   then_before (Err Stuck) i e =
-      let k : expr_from s (longer behind more) ≡ Err Stuck = subst (λ r. Stays more r (expr_from s (longer behind more))) i ((prefix_expr s).stays behind more) in
-      absurd (cc (ap then_behind k, e))
+      let k : is_done (expr_from s (longer behind more)) ≡ false = subst (λ r. Stays more r (expr_from s (longer behind more))) i ((prefix_expr s).stays behind more) in
+      absurd (cc (then_done (expr_from s (longer behind more)) e, k))
   then_before (Err Ended) i e = absurd (open_no_then (subst Open (sym i) tt) (expr_from s (longer behind more)) refl e)
   then_before (Err (LeavesOut d)) i e = absurd (expr_never s behind d i)
 
@@ -164,9 +168,9 @@ one_read : (s : List ℕ) (m : Marks) → expr_from s (record { tokens = made (K
 unfolding expr_from run
 one_read s m = refl
 
-source_read : (s : List ℕ) (p : Place) (r : T.Reference) (m : Marks) → (taken (K.Symbol S.Equal) (record { tokens = equal_one; marks = m }) >>= λ t. expr_from s t.1 >>= λ e. Ok (T.Assign r e.0 p, e.1)) ≡ Ok (T.Assign r (T.Number 1 (place_of (made (K.Number 1)))) p, record { tokens = semicolon; marks = m })
+source_read : (s : List ℕ) (p : Place) (r : T.Reference) (m : Marks) → equal_closed s p r (taken (K.Symbol S.Equal) (record { tokens = equal_one; marks = m })) ≡ Ok (T.Assign r (T.Number 1 (place_of (made (K.Number 1)))) p, record { tokens = semicolon; marks = m })
 unfolding taken
-source_read s p r m = ap (λ u. u >>= λ e. Ok (T.Assign r e.0 p, e.1)) (one_read s m)
+source_read s p r m = ap (source_closed p r) (one_read s m)
 
 pub closed_whole : (h : Head) (m : Marks) → closed h (record { tokens = semicolon; marks = m }) ≡ Ok (h, record { tokens = []; marks = m })
 unfolding taken
@@ -177,13 +181,15 @@ assigned_begins : (s : List ℕ) (p : Place) (c : Cursor) (x : Head × Cursor) �
 unfolding assignment_from assignment_begins taken
 assigned_begins s p c x e = with_reference (reference_from s c) e
   where
-    by_kind : (r : T.Reference × Cursor) (t : Token) (ts : List Token) (b : Bool) → is_terminal (K.Symbol S.Equal) t.kind ≡ b → simple_from ((if b then Ok (t, onto ts r.1) else Err Stuck) >>= λ t. expr_from s t.1 >>= λ e. Ok (T.Assign r.0 e.0 p, e.1)) ≡ Ok x → begun_by (Some t.kind) ≡ Begins
-    by_kind r t ts true h k = ap (λ u. begun_by (Some u)) (terminal_kind (K.Symbol S.Equal) t.kind h)
-    by_kind r t ts false h k = absurd (cc k)
-    with_equal : (r : T.Reference × Cursor) (ts : List Token) → simple_from (taken_at (K.Symbol S.Equal) ts r.1 >>= λ t. expr_from s t.1 >>= λ e. Ok (T.Assign r.0 e.0 p, e.1)) ≡ Ok x → begun_by (next_kind ts) ≡ Begins
+    by_kind : (r : T.Reference) (t : Token) (d : Cursor) (b : Bool) → is_terminal (K.Symbol S.Equal) t.kind ≡ b → simple_from (equal_closed s p r (if b then Ok (t, d) else Err Stuck)) ≡ Ok x → begun_by (Some t.kind) ≡ Begins
+    by_kind r t d true h k = ap (λ u. begun_by (Some u)) (terminal_kind (K.Symbol S.Equal) t.kind h)
+    by_kind r t d false h k = absurd (cc k)
+
+    with_equal : (r : T.Reference × Cursor) (ts : List Token) → simple_from (equal_closed s p r.0 (taken_at (K.Symbol S.Equal) ts r.1)) ≡ Ok x → begun_by (next_kind ts) ≡ Begins
     with_equal r [] k = absurd (cc k)
-    with_equal r (t ∷ ts) k = by_kind r t ts (is_terminal (K.Symbol S.Equal) t.kind) refl k
-    with_reference : (u : Read T.Reference) → simple_from (u >>= λ r. taken_at (K.Symbol S.Equal) r.1.tokens r.1 >>= λ t. expr_from s t.1 >>= λ e. Ok (T.Assign r.0 e.0 p, e.1)) ≡ Ok x → begun u ≡ Begins
+    with_equal r (t ∷ ts) k = by_kind r.0 t (onto ts r.1) (is_terminal (K.Symbol S.Equal) t.kind) refl k
+
+    with_reference : (u : Read T.Reference) → simple_from (target_closed s p u) ≡ Ok x → begun u ≡ Begins
     with_reference (Ok r) k = with_equal r r.1.tokens k
     with_reference (Err at) k = absurd (cc k)
 
@@ -193,19 +199,23 @@ begun_equal (K.Symbol S.Equal) e = refl
 begun_equal _ e = absurd (cc e)
 
 -- what is left of an assignment that the tokens end in, behind `=`
-ended_source : (s : List ℕ) (p : Place) (r : T.Reference) (q : Read T.Expr) → simple_from (q >>= λ e. Ok (T.Assign r e.0 p, e.1)) ≡ Err Ended → Open q
+ended_source : (p : Place) (r : T.Reference) (q : Read T.Expr) → simple_from (source_closed p r q) ≡ Err Ended → Open q
 unfolding taken
-ended_source s p r (Ok e) i = at_tokens e.1.tokens i
+ended_source p r (Ok e) i = at_tokens e.1.tokens i
   where
-    by_kind : (t : Token) (ts : List Token) (b : Bool) → ((if b then Ok (t, onto ts e.1) else Err Stuck) >>= λ u. Ok (Simple (T.Assign r e.0 p), u.1)) ≡ Err Ended → t ∷ ts ≡ []
-    by_kind t ts true k = absurd (cc k)
-    by_kind t ts false k = absurd (cc k)
-    at_tokens : (ts : List Token) → (taken_at (K.Symbol S.Semicolon) ts e.1 >>= λ u. Ok (Simple (T.Assign r e.0 p), u.1)) ≡ Err Ended → ts ≡ []
+    stmt_closed : Read Token → Read Head
+    stmt_closed q = q >>= λ u. Ok (Simple (T.Assign r e.0 p), u.1)
+
+    by_kind : (t : Token) (ts : List Token) (d : Cursor) (b : Bool) → stmt_closed (if b then Ok (t, d) else Err Stuck) ≡ Err Ended → t ∷ ts ≡ []
+    by_kind t ts d true k = absurd (cc k)
+    by_kind t ts d false k = absurd (cc k)
+
+    at_tokens : (ts : List Token) → stmt_closed (taken_at (K.Symbol S.Semicolon) ts e.1) ≡ Err Ended → ts ≡ []
     at_tokens [] k = refl
-    at_tokens (t ∷ ts) k = by_kind t ts (is_terminal (K.Symbol S.Semicolon) t.kind) k
-ended_source s p r (Err Ended) i = tt
-ended_source s p r (Err Stuck) i = absurd (cc i)
-ended_source s p r (Err (LeavesOut d)) i = absurd (cc i)
+    at_tokens (t ∷ ts) k = by_kind t ts (onto ts e.1) (is_terminal (K.Symbol S.Semicolon) t.kind) k
+ended_source p r (Err Ended) i = tt
+ended_source p r (Err Stuck) i = absurd (cc i)
+ended_source p r (Err (LeavesOut d)) i = absurd (cc i)
 
 module _ (s : List ℕ) (t : Token) (w : Word) (m : Marks) (is : t.kind ≡ K.Name w) (mid : List Token) where
   abbrev here : Cursor
@@ -228,8 +238,8 @@ module _ (s : List ℕ) (t : Token) (w : Word) (m : Marks) (is : t.kind ≡ K.Na
       let k = (prefix_reference s).closes here o in
       let more = k.more ++ equal_one in
       let a : assigning s t w m is (t ∷ (mid ++ more)) ≡ Ok (Simple (T.Assign k.given (T.Number 1 (place_of (made (K.Number 1)))) (place_of t)), record { tokens = []; marks = k.marks }) =
-        ap (λ u. simple_from (u >>= λ r. taken (K.Symbol S.Equal) r.1 >>= λ v. expr_from s v.1 >>= λ e. Ok (T.Assign r.0 e.0 (place_of t), e.1))) (k.reads equal_one refl)
-        ∙ (ap simple_from (source_read s (place_of t) k.given k.marks) ∙ closed_whole (Simple (T.Assign k.given (T.Number 1 (place_of (made (K.Number 1)))) (place_of t))) k.marks) in
+      ap (λ u. simple_from (target_closed s (place_of t) u)) (k.reads equal_one refl)
+      ∙ (ap simple_from (source_read s (place_of t) k.given k.marks) ∙ closed_whole (Simple (T.Assign k.given (T.Number 1 (place_of (made (K.Number 1)))) (place_of t))) k.marks) in
       record { more = more; head = Simple (T.Assign k.given (T.Number 1 (place_of (made (K.Number 1)))) (place_of t)); rest = record { tokens = []; marks = k.marks }; reads = assigned_by more _ i (plain_joined k.more equal_one (reference_more s here o) refl) a; assigned = assigning_is s (place_of t) (longer here more) _ a }
 
   -- where they end behind `=`
@@ -237,23 +247,23 @@ module _ (s : List ℕ) (t : Token) (w : Word) (m : Marks) (is : t.kind ≡ K.Na
   unfolding assignment_from
   complete_source i ends r u us a b c =
       let p : Place = place_of t in
-      let source = λ v. expr_from s v.1 >>= λ e. Ok (T.Assign r.0 e.0 p, e.1) in
       let front : List Token → Cursor = λ ts. record { tokens = ts; marks = r.1.marks } in
       let took : taken (K.Symbol S.Equal) r.1 ≡ Ok (u, front us) = takes_taken (K.Symbol S.Equal) r.1.marks (symbol_is S.Equal) (record { is = b; of_kind = c }) in
-      let left : simple_from (expr_from s (front us) >>= λ e. Ok (T.Assign r.0 e.0 p, e.1)) ≡ Err Ended =
-        sym (ap (λ v. simple_from (v >>= λ q. taken (K.Symbol S.Equal) q.1 >>= λ v. expr_from s v.1 >>= λ e. Ok (T.Assign q.0 e.0 p, e.1))) a ∙ ap (λ v. simple_from (v >>= source)) took) ∙ ends in
-      let o = ended_source s p r.0 (expr_from s (front us)) left in
+      let left : simple_from (source_closed p r.0 (expr_from s (front us))) ≡ Err Ended =
+      sym (ap (λ v. simple_from (target_closed s p v)) a ∙ ap (λ v. simple_from (equal_closed s p r.0 v)) took) ∙ ends in
+      let o = ended_source p r.0 (expr_from s (front us)) left in
       let k = (prefix_expr s).closes (front us) o in
       let more = k.more ++ semicolon in
       let again : reference_from s (longer here more) ≡ Ok (r.0, longer r.1 more) = done_longer (reference_from s here) (reference_from s (longer here more)) more r u us ((prefix_reference s).stays here more) a b in
       let took_again : taken (K.Symbol S.Equal) (longer r.1 more) ≡ Ok (u, front (us ++ more)) = takes_taken (K.Symbol S.Equal) r.1.marks (symbol_is S.Equal) (record { is = ap (λ v. v ++ more) b; of_kind = c }) in
       let whole : assigning s t w m is (t ∷ (mid ++ more)) ≡ Ok (Simple (T.Assign r.0 k.given p), record { tokens = []; marks = k.marks }) =
-        ap (λ v. simple_from (v >>= λ q. taken (K.Symbol S.Equal) q.1 >>= λ v. expr_from s v.1 >>= λ e. Ok (T.Assign q.0 e.0 p, e.1))) again
-        ∙ (ap (λ v. simple_from (v >>= source)) took_again ∙ (ap (λ v. simple_from (v >>= λ e. Ok (T.Assign r.0 e.0 p, e.1))) (k.reads semicolon refl) ∙ closed_whole (Simple (T.Assign r.0 k.given p)) k.marks)) in
+      ap (λ v. simple_from (target_closed s p v)) again
+      ∙ (ap (λ v. simple_from (equal_closed s p r.0 v)) took_again ∙ (ap (λ v. simple_from (source_closed p r.0 v)) (k.reads semicolon refl) ∙ closed_whole (Simple (T.Assign r.0 k.given p)) k.marks)) in
       record { more = more; head = Simple (T.Assign r.0 k.given p); rest = record { tokens = []; marks = k.marks }; reads = assigned_by more _ i (plain_joined k.more semicolon (expr_more s (front us) o) refl) whole; assigned = assigning_is s p (longer here more) _ whole }
 
   -- a head that the tokens end in as an assignment
   complete_assigned : (b : Beginning) → assigns s here ≡ b → may_assign b ≡ true → assigning s t w m is (t ∷ mid) ≡ Err Ended → Completed s here
+  unfolding assignment_begins
   complete_assigned Differs e may ends = absurd (cc may)
   complete_assigned Unknown e may ends =
       let i = not_if s here Unknown e (λ d. cc d) in
@@ -265,8 +275,8 @@ module _ (s : List ℕ) (t : Token) (w : Word) (m : Marks) (is : t.kind ≡ K.Na
       by_tokens : begins_if s here ≡ false → (r : T.Reference × Cursor) → reference_from s here ≡ Ok r → (ts : List Token) → r.1.tokens ≡ ts → begun_by (next_kind ts) ≡ Begins → Completed s here
       by_tokens i r a [] j k = absurd (cc k)
       by_tokens i r a (u ∷ us) j k = complete_source i ends r u us a j (begun_equal u.kind k)
+
       by_reference : begins_if s here ≡ false → (q : Read T.Reference) → reference_from s here ≡ q → assignment_begins s here ≡ Begins → Completed s here
-      unfolding assignment_begins
       by_reference i (Ok r) a k = by_tokens i r a r.1.tokens refl (sym (ap begun a) ∙ k)
       by_reference i (Err Stuck) a k = absurd (cc (ap begun a, k))
       by_reference i (Err Ended) a k = absurd (cc (ap begun a, k))
@@ -324,10 +334,10 @@ module _ (s : List ℕ) (t : Token) (w : Word) (m : Marks) (is : t.kind ≡ K.Na
 module _ (s : List ℕ) (t : Token) (w : Word) (m : Marks) (is : t.kind ≡ K.Name w) where
   -- behind IF stands a parenthesis, where an assignment begins all the same
   opened_begun : (mid : List Token) → assignment_begins s (record { tokens = t ∷ mid; marks = m }) ≡ Begins → Open (expr_from s (record { tokens = mid; marks = m })) → starts (K.Symbol S.OpenParenthesis) mid ≡ true
+  unfolding assignment_begins reference_from
   opened_begun [] b o = absurd (cc (alone, b))
     where
       alone : assignment_begins s (record { tokens = t ∷ []; marks = m }) ≡ Unknown
-      unfolding assignment_begins reference_from
       alone =
           let named = run_step s (NameDue no_path) (NameRead no_path (name_at s t w)) (Alone ∷ []) (Alone ∷ []) m m t [] (ap (name_due s no_path (Alone ∷ []) m t) is) in
           ap (λ r. begun (r >>= λ x. as_reference x)) (named ∙ run_empty s (NameRead no_path (name_at s t w)) (Alone ∷ []) m)
@@ -347,13 +357,15 @@ module _ (s : List ℕ) (t : Token) (w : Word) (m : Marks) (is : t.kind ≡ K.Na
   unfolding taken
   ended_condition p c i = by_condition (expr_from s c) i
     where
-      by_kind : (e : T.Expr × Cursor) (v : Token) (ts : List Token) (b : Bool) → ((if b then Ok (v, onto ts e.1) else Err Stuck) >>= λ u. Ok (IfThen e.0 p, u.1)) ≡ Err Ended → v ∷ ts ≡ []
-      by_kind e v ts true k = absurd (cc k)
-      by_kind e v ts false k = absurd (cc k)
-      at_tokens : (e : T.Expr × Cursor) (ts : List Token) → (taken_at (K.Name W.Then) ts e.1 >>= λ u. Ok (IfThen e.0 p, u.1)) ≡ Err Ended → ts ≡ []
+      by_kind : (e : T.Expr) (v : Token) (ts : List Token) (d : Cursor) (b : Bool) → then_closed p e (if b then Ok (v, d) else Err Stuck) ≡ Err Ended → v ∷ ts ≡ []
+      by_kind e v ts d true k = absurd (cc k)
+      by_kind e v ts d false k = absurd (cc k)
+
+      at_tokens : (e : T.Expr × Cursor) (ts : List Token) → then_closed p e.0 (taken_at (K.Name W.Then) ts e.1) ≡ Err Ended → ts ≡ []
       at_tokens e [] k = refl
-      at_tokens e (v ∷ ts) k = by_kind e v ts (is_terminal (K.Name W.Then) v.kind) k
-      by_condition : (r : Read T.Expr) → (r >>= λ e. taken_at (K.Name W.Then) e.1.tokens e.1 >>= λ u. Ok (IfThen e.0 p, u.1)) ≡ Err Ended → Open r
+      at_tokens e (v ∷ ts) k = by_kind e.0 v ts (onto ts e.1) (is_terminal (K.Name W.Then) v.kind) k
+
+      by_condition : (r : Read T.Expr) → condition_closed p r ≡ Err Ended → Open r
       by_condition (Ok e) k = at_tokens e e.1.tokens k
       by_condition (Err Ended) k = tt
       by_condition (Err Stuck) k = absurd (cc k)

@@ -17,7 +17,7 @@ use Rattle.pli_phrase.specs.Tokens.{is_terminal, starts, begins, taken_at, taken
 use Rattle.pli_phrase.specs.declared.expression.Beginning.{Beginning}
 use Rattle.pli_phrase.specs.declared.expression.Beginning.TheVariants.{Begins, Differs, Unknown}
 use Rattle.pli_phrase.specs.Reading.{run, expr_from, reference_from, assignment_begins}
-use Rattle.pli_phrase.proofs.Prefixes.{longer, Stays, Open, Closing, Prefixes}
+use Rattle.pli_phrase.proofs.Prefixes.{longer, is_done, Stays, Open, Closing, Prefixes}
 use Rattle.pli_phrase.proofs.PhrasePrefixes.{prefix_expr, prefix_reference, begins_stays, unknown_opens}
 use Rattle.pli_attributes.proofs.Posts.{post_is, post_leaves}
 use Rattle.pli_attributes.proofs.Expressions.{expr_post}
@@ -101,6 +101,7 @@ differs_longer s c more e = by_if (begins_if s c) refl
     differs_by : (b : Bool) → begins_if s (longer c more) ≡ b → assignment_begins s c ≡ Differs → assigns s (longer c more) ≡ Differs
     differs_by true i d = assigns_if s (longer c more) i
     differs_by false i d = assigns_else s (longer c more) i ∙ (begins_stays s c more (λ u. cc (d, u)) ∙ d)
+
     by_if : (b : Bool) → begins_if s c ≡ b → assigns s (longer c more) ≡ Differs
     by_if true i = assigns_if s (longer c more) (if_longer s c more i)
     by_if false i = differs_by (begins_if s (longer c more)) refl (sym (assigns_else s c i) ∙ e)
@@ -116,13 +117,13 @@ not_if s c b e n = by_if (begins_if s c) refl
 -- ---- the head at a word
 
 module _ (s : List ℕ) (t : Token) (w : Word) (m : Marks) (is : t.kind ≡ K.Name w) where
-  abbrev at : List Token → Cursor
+  abbrev pub at : List Token → Cursor
   at ts = record { tokens = ts; marks = m }
 
-  abbrev assigning : List Token → Read Head
+  abbrev pub assigning : List Token → Read Head
   assigning ts = simple_from (assignment_from s (place_of t) (at ts))
 
-  abbrev wording : List Token → List Token → Read Head
+  abbrev pub wording : List Token → List Token → Read Head
   wording front ts = head_behind s front (place_of t) w (at ts)
 
   head_at : (ts : List Token) → head_from s (at (t ∷ ts)) ≡ worded s (assigns s (at (t ∷ ts))) (t ∷ ts) ((t, w), at ts)
@@ -139,6 +140,16 @@ module _ (s : List ℕ) (t : Token) (w : Word) (m : Marks) (is : t.kind ≡ K.Na
 
 -- ---- what reading came to, with more behind
 
+-- what stands behind the reference of an assignment, and the whole of it
+abbrev pub source_closed : Place → T.Reference → Read T.Expr → Read T.Stmt
+source_closed p r q = q >>= λ e. Ok (T.Assign r e.0 p, e.1)
+
+abbrev pub equal_closed : List ℕ → Place → T.Reference → Read Token → Read T.Stmt
+equal_closed s p r q = q >>= λ t. source_closed p r (expr_from s t.1)
+
+abbrev pub target_closed : List ℕ → Place → Read T.Reference → Read T.Stmt
+target_closed s p q = q >>= λ r. equal_closed s p r.0 (taken (K.Symbol S.Equal) r.1)
+
 -- an assignment that was read is one
 assigned_is : (s : List ℕ) (p : Place) (c : Cursor) (y : T.Stmt × Cursor) → assignment_from s p c ≡ Ok y → (r : T.Reference) × (e : T.Expr) × (y.0 ≡ T.Assign r e p)
 unfolding assignment_from
@@ -147,9 +158,11 @@ assigned_is s p c y i = with_reference (reference_from s c) i
     with_source : (r : T.Reference) (u : Read T.Expr) → (u >>= λ e. Ok (T.Assign r e.0 p, e.1)) ≡ Ok y → (r' : T.Reference) × (e : T.Expr) × (y.0 ≡ T.Assign r' e p)
     with_source r (Ok e) i = (r, e.0, cc i)
     with_source r (Err at) i = absurd (cc i)
+
     with_equal : (r : T.Reference) (u : Read Token) → (u >>= λ t. expr_from s t.1 >>= λ e. Ok (T.Assign r e.0 p, e.1)) ≡ Ok y → (r' : T.Reference) × (e : T.Expr) × (y.0 ≡ T.Assign r' e p)
     with_equal r (Ok t) i = with_source r (expr_from s t.1) i
     with_equal r (Err at) i = absurd (cc i)
+
     with_reference : (u : Read T.Reference) → (u >>= λ r. taken (K.Symbol S.Equal) r.1 >>= λ t. expr_from s t.1 >>= λ e. Ok (T.Assign r.0 e.0 p, e.1)) ≡ Ok y → (r' : T.Reference) × (e : T.Expr) × (y.0 ≡ T.Assign r' e p)
     with_reference (Ok r) i = with_equal r.0 (taken (K.Symbol S.Equal) r.1) i
     with_reference (Err at) i = absurd (cc i)
@@ -170,6 +183,7 @@ assigning_is s p c x i = with_statement (assignment_from s p c) refl i
         let h : x.0 ≡ Simple y.0 = cc i in
         record { target = a.0; source = a.1; place = p; is = h ∙ ap Simple a.2 }
     with_semicolon y (Err at) e i = absurd (cc i)
+
     with_statement : (u : Read T.Stmt) → assignment_from s p c ≡ u → simple_from u ≡ Ok x → IsAssigned x.0
     with_statement (Ok y) e i = with_semicolon y (taken (K.Symbol S.Semicolon) y.1) e i
     with_statement (Err at) e i = absurd (cc i)
@@ -178,19 +192,27 @@ assigning_is s p c x i = with_statement (assignment_from s p c) refl i
 pub expr_never : (s : List ℕ) (c d : Cursor) → expr_from s c ≡ Err (LeavesOut d) → ⊥
 expr_never s c d e = post_leaves (expr_post s c) e
 
+-- what stands behind the condition of an IF, and the whole of it
+abbrev pub then_closed : Place → T.Expr → Read Token → Read Head
+then_closed p e q = q >>= λ u. Ok (IfThen e p, u.1)
+
+abbrev pub condition_closed : Place → Read T.Expr → Read Head
+condition_closed p q = q >>= λ e. then_closed p e.0 (taken_at (K.Name W.Then) e.1.tokens e.1)
+
 if_never : (s : List ℕ) (p : Place) (c d : Cursor) → if_from s p c ≡ Err (LeavesOut d) → ⊥
+unfolding taken
 if_never s p c d i = with_condition (expr_from s c) refl i
   where
-    with_then : (e : T.Expr × Cursor) (ts : List Token) → e.1.tokens ≡ ts → (taken_at (K.Name W.Then) ts e.1 >>= λ u. Ok (IfThen e.0 p, u.1)) ≡ Err (LeavesOut d) → ⊥
-    with_then e [] j k = cc k
-    with_then e (t ∷ ts) j k = by_kind (is_terminal (K.Name W.Then) t.kind) k
-      where
-        by_kind : (b : Bool) → ((if b then Ok (t, onto ts e.1) else Err Stuck) >>= λ u. Ok (IfThen e.0 p, u.1)) ≡ Err (LeavesOut d) → ⊥
-        by_kind true k = cc k
-        by_kind false k = cc k
-    with_condition : (u : Read T.Expr) → expr_from s c ≡ u → (u >>= λ e. taken (K.Name W.Then) e.1 >>= λ u. Ok (IfThen e.0 p, u.1)) ≡ Err (LeavesOut d) → ⊥
-    unfolding taken
-    with_condition (Ok e) j k = with_then e e.1.tokens refl k
+    by_kind : (e : T.Expr) (t : Token) (k : Cursor) (b : Bool) → then_closed p e (if b then Ok (t, k) else Err Stuck) ≡ Err (LeavesOut d) → ⊥
+    by_kind e t k true j = cc j
+    by_kind e t k false j = cc j
+
+    with_then : (e : T.Expr × Cursor) (ts : List Token) → then_closed p e.0 (taken_at (K.Name W.Then) ts e.1) ≡ Err (LeavesOut d) → ⊥
+    with_then e [] k = cc k
+    with_then e (t ∷ ts) k = by_kind e.0 t (onto ts e.1) (is_terminal (K.Name W.Then) t.kind) k
+
+    with_condition : (u : Read T.Expr) → expr_from s c ≡ u → condition_closed p u ≡ Err (LeavesOut d) → ⊥
+    with_condition (Ok e) j k = with_then e e.1.tokens k
     with_condition (Err Stuck) j k = cc k
     with_condition (Err Ended) j k = cc k
     with_condition (Err (LeavesOut b)) j k = expr_never s c b j
@@ -202,21 +224,22 @@ nothing_read s m e = cc e
 
 -- an IF that was read has THEN behind its condition
 pub if_then_read : (s : List ℕ) (p : Place) (c : Cursor) (x : Head × Cursor) → if_from s p c ≡ Ok x → then_behind (expr_from s c) ≡ true
+unfolding taken
 if_then_read s p c x i = with_condition (expr_from s c) i
   where
-    with_then : (e : T.Expr × Cursor) (ts : List Token) → e.1.tokens ≡ ts → (taken_at (K.Name W.Then) ts e.1 >>= λ u. Ok (IfThen e.0 p, u.1)) ≡ Ok x → starts (K.Name W.Then) ts ≡ true
-    with_then e [] j k = absurd (cc k)
-    with_then e (t ∷ ts) j k = by_kind (is_terminal (K.Name W.Then) t.kind) refl k
-      where
-        by_kind : (b : Bool) → is_terminal (K.Name W.Then) t.kind ≡ b → ((if b then Ok (t, onto ts e.1) else Err Stuck) >>= λ u. Ok (IfThen e.0 p, u.1)) ≡ Ok x → is_terminal (K.Name W.Then) t.kind ≡ true
-        by_kind true h k = h
-        by_kind false h k = absurd (cc k)
-    with_condition : (u : Read T.Expr) → (u >>= λ e. taken (K.Name W.Then) e.1 >>= λ u. Ok (IfThen e.0 p, u.1)) ≡ Ok x → then_behind u ≡ true
-    unfolding taken
-    with_condition (Ok e) k = with_then e e.1.tokens refl k
+    by_kind : (e : T.Expr) (t : Token) (k : Cursor) (b : Bool) → is_terminal (K.Name W.Then) t.kind ≡ b → then_closed p e (if b then Ok (t, k) else Err Stuck) ≡ Ok x → is_terminal (K.Name W.Then) t.kind ≡ true
+    by_kind e t k true h j = h
+    by_kind e t k false h j = absurd (cc j)
+
+    with_then : (e : T.Expr × Cursor) (ts : List Token) → then_closed p e.0 (taken_at (K.Name W.Then) ts e.1) ≡ Ok x → starts (K.Name W.Then) ts ≡ true
+    with_then e [] k = absurd (cc k)
+    with_then e (t ∷ ts) k = by_kind e.0 t (onto ts e.1) (is_terminal (K.Name W.Then) t.kind) refl k
+
+    with_condition : (u : Read T.Expr) → condition_closed p u ≡ Ok x → then_behind u ≡ true
+    with_condition (Ok e) k = with_then e e.1.tokens k
     with_condition (Err at) k = absurd (cc k)
 
-stuck_longer : {X : Type 0} (more : List Token) (r r' : Read X) → Stays more r r' → r ≡ Err Stuck → r' ≡ Err Stuck
+stuck_longer : {X : Type 0} (more : List Token) (r r' : Read X) → Stays more r r' → r ≡ Err Stuck → is_done r' ≡ false
 stuck_longer more r r' h e = subst (λ u. Stays more u r') e h
 
 pub ended_is : {X : Type 0} (r : Read X) → r ≡ Err Ended → is_ended r ≡ true
@@ -233,8 +256,12 @@ open_assigning : (s : List ℕ) (p : Place) (c : Cursor) → Open (reference_fro
 unfolding assignment_from taken
 open_assigning s p c o = with_reference (reference_from s c) o
   where
-    with_reference : (u : Read T.Reference) → Open u → simple_from (u >>= λ r. taken (K.Symbol S.Equal) r.1 >>= λ t. expr_from s t.1 >>= λ e. Ok (T.Assign r.0 e.0 p, e.1)) ≡ Err Ended
-    with_reference (Ok r) o = ap (λ ts. simple_from (taken_at (K.Symbol S.Equal) ts r.1 >>= λ t. expr_from s t.1 >>= λ e. Ok (T.Assign r.0 e.0 p, e.1))) o
+    with_empty : (r : T.Reference × Cursor) (ts : List Token) → ts ≡ [] → simple_from (equal_closed s p r.0 (taken_at (K.Symbol S.Equal) ts r.1)) ≡ Err Ended
+    with_empty r [] i = refl
+    with_empty r (t ∷ ts) i = absurd (cc i)
+
+    with_reference : (u : Read T.Reference) → Open u → simple_from (target_closed s p u) ≡ Err Ended
+    with_reference (Ok r) o = with_empty r r.1.tokens o
     with_reference (Err Ended) o = refl
     with_reference (Err Stuck) o = absurd o
     with_reference (Err (LeavesOut d)) o = absurd o
@@ -262,7 +289,7 @@ module _ (s : List ℕ) (t : Token) (w : Word) (m : Marks) (is : t.kind ≡ K.Na
   -- what it goes on as
   pub data GoesOn (x : Head × Cursor) : Type 0 where
     assigned : ends_assignment s (assigns s here) (place_of t) here ≡ true → IsAssigned x.0 → GoesOn x
-    worded : ends_word s (assigns s here) (t ∷ mid) (place_of t) w (at s t w m is mid) ≡ true → assigns s there ≢ Begins → GoesOn x
+    of_word : ends_word s (assigns s here) (t ∷ mid) (place_of t) w (at s t w m is mid) ≡ true → assigns s there ≢ Begins → GoesOn x
     else_again : w ≡ W.Else → assigns s here ≢ Begins → assigns s there ≢ Begins → GoesOn x
 
   abbrev assigning_here : Read Head
@@ -272,19 +299,19 @@ module _ (s : List ℕ) (t : Token) (w : Word) (m : Marks) (is : t.kind ≡ K.Na
   assigning_there = assigning s t w m is (t ∷ (mid ++ more))
 
   assigned_ends : (x : Head × Cursor) (b : Beginning) → assigns s here ≡ b → may_assign b ≡ true → assigning_here ≡ Err Ended → assigning_there ≡ Ok x → GoesOn x
-  assigned_ends x b e may ends i =
+  assigned_ends x b e may over i =
       let a : may_assign (assigns s here) ≡ true = ap may_assign e ∙ may in
-      GoesOn.assigned (ap (λ u. u && is_ended assigning_here) a ∙ ended_is assigning_here ends) (assigning_is s (place_of t) there x i)
+      GoesOn.assigned (ap (λ u. u && is_ended assigning_here) a ∙ ended_is assigning_here over) (assigning_is s (place_of t) there x i)
 
   -- it is an assignment with more behind
   as_assigned : (x : Head × Cursor) → NotWhole s here w → assigning_there ≡ Ok x → assigns s there ≡ Begins → (b : Beginning) → assigns s here ≡ b → GoesOn x
   as_assigned x n i e Differs h = absurd (cc (differs_longer s here more h, e))
   as_assigned x n i e Unknown h = assigned_ends x Unknown h refl (unknown_assigning s (place_of t) here h) i
-  as_assigned x (NotWhole.is_else j no) i e Begins h = absurd (no h)
+  as_assigned x (NotWhole.is_else j none) i e Begins h = absurd (none h)
   as_assigned x (NotWhole.ends j) i e Begins h = assigned_ends x Begins h refl (sym (head_begun s t w m is mid h) ∙ j) i
   as_assigned x (NotWhole.stuck j) i e Begins h =
-      let k : assigning_there ≡ Err Stuck = stuck_longer more assigning_here assigning_there ((prefix_assigning s (place_of t)).stays here more) (sym (head_begun s t w m is mid h) ∙ j) in
-      absurd (cc (i, k))
+      let k : is_done assigning_there ≡ false = stuck_longer more assigning_here assigning_there ((prefix_assigning s (place_of t)).stays here more) (sym (head_begun s t w m is mid h) ∙ j) in
+      absurd (cc (ap is_done i, k))
 
   abbrev wording_here : Read Head
   wording_here = wording s t w m is (t ∷ mid) mid
@@ -296,7 +323,7 @@ module _ (s : List ℕ) (t : Token) (w : Word) (m : Marks) (is : t.kind ≡ K.Na
   wording_longer = word_stays s (t ∷ mid) (t ∷ (mid ++ more)) (place_of t) w (at s t w m is mid) more
 
   worded_ends : (x : Head × Cursor) → (is_not_begun (assigns s here) || is_if w) ≡ true → wording_here ≡ Err Ended → assigns s there ≢ Begins → GoesOn x
-  worded_ends x may ends no = GoesOn.worded (ap (λ u. u && is_ended wording_here) may ∙ ended_is wording_here ends) no
+  worded_ends x may over none = GoesOn.of_word (ap (λ u. u && is_ended wording_here) may ∙ ended_is wording_here over) none
 
   not_begun_may : (b : Beginning) → b ≢ Begins → (is_not_begun b || is_if w) ≡ true
   not_begun_may Begins n = absurd (n refl)
@@ -305,11 +332,11 @@ module _ (s : List ℕ) (t : Token) (w : Word) (m : Marks) (is : t.kind ≡ K.Na
 
   -- it is no assignment, with more behind or without
   as_worded : (x : Head × Cursor) → NotWhole s here w → wording_there ≡ Ok x → assigns s there ≢ Begins → assigns s here ≢ Begins → GoesOn x
-  as_worded x (NotWhole.is_else j k) i no n = GoesOn.else_again j n no
-  as_worded x (NotWhole.ends j) i no n = worded_ends x (not_begun_may (assigns s here) n) (sym (head_worded s t w m is mid n) ∙ j) no
-  as_worded x (NotWhole.stuck j) i no n =
-      let k : wording_there ≡ Err Stuck = stuck_longer more wording_here wording_there wording_longer (sym (head_worded s t w m is mid n) ∙ j) in
-      absurd (cc (i, k))
+  as_worded x (NotWhole.is_else j k) i none n = GoesOn.else_again j n none
+  as_worded x (NotWhole.ends j) i none n = worded_ends x (not_begun_may (assigns s here) n) (sym (head_worded s t w m is mid n) ∙ j) none
+  as_worded x (NotWhole.stuck j) i none n =
+      let k : is_done wording_there ≡ false = stuck_longer more wording_here wording_there wording_longer (sym (head_worded s t w m is mid n) ∙ j) in
+      absurd (cc (ap is_done i, k))
 
   -- what begins an assignment is an IF with more behind
   word_if : begins_if s there ≡ true → w ≡ W.If
@@ -346,15 +373,15 @@ module _ (s : List ℕ) (t : Token) (w : Word) (m : Marks) (is : t.kind ≡ K.Na
 
   -- what begins an assignment goes on as an IF
   as_if : (x : Head × Cursor) → w ≡ W.If → begins_if s there ≡ true → assigns s here ≡ Begins → wording_there ≡ Ok x → assigns s there ≢ Begins → (r : Read Head) → wording_here ≡ r → GoesOn x
-  as_if x i e b j no (Ok y) h =
+  as_if x i e b j none (Ok y) h =
       let k = if_then_read s (place_of t) (at s t w m is mid) y (sym (if_behind (t ∷ mid) mid i) ∙ h) in
       let d : assigns s here ≡ Differs = assigns_if s here (if_here e k) in
       absurd (cc (b, d))
-  as_if x i e b j no (Err Stuck) h = absurd (cc (j, stuck_longer more wording_here wording_there wording_longer h))
-  as_if x i e b j no (Err Ended) h =
+  as_if x i e b j none (Err Stuck) h = absurd (cc (ap is_done j, stuck_longer more wording_here wording_there wording_longer h))
+  as_if x i e b j none (Err Ended) h =
       let a : (is_not_begun (assigns s here) || is_if w) ≡ true = ap (λ u. is_not_begun u || is_if w) b ∙ ap is_if i in
-      worded_ends x a h no
-  as_if x i e b j no (Err (LeavesOut d)) h =
+      worded_ends x a h none
+  as_if x i e b j none (Err (LeavesOut d)) h =
       absurd (if_never s (place_of t) (at s t w m is mid) d (sym (if_behind (t ∷ mid) mid i) ∙ h))
 
   -- an assignment begins here, and with more behind doesn't
@@ -368,11 +395,11 @@ module _ (s : List ℕ) (t : Token) (w : Word) (m : Marks) (is : t.kind ≡ K.Na
           absurd (n (assigns_else s there i ∙ (begins_stays s here more (λ u. cc (a, u)) ∙ a)))
 
   worded_there : (x : Head × Cursor) → NotWhole s here w → wording_there ≡ Ok x → assigns s there ≢ Begins → (b : Beginning) → assigns s here ≡ b → GoesOn x
-  worded_there x n i no Begins h =
-      let e = begun_if h no in
-      as_if x (word_if e) e h i no wording_here refl
-  worded_there x n i no Differs h = as_worded x n i no (λ u. cc (h, u))
-  worded_there x n i no Unknown h = as_worded x n i no (λ u. cc (h, u))
+  worded_there x n i none Begins h =
+      let e = begun_if h none in
+      as_if x (word_if e) e h i none wording_here refl
+  worded_there x n i none Differs h = as_worded x n i none (λ u. cc (h, u))
+  worded_there x n i none Unknown h = as_worded x n i none (λ u. cc (h, u))
 
   -- a head with more behind goes on as an assignment, or as its word says
   pub goes_on : (x : Head × Cursor) → NotWhole s here w → head_from s there ≡ Ok x → GoesOn x

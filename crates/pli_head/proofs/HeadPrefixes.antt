@@ -1,5 +1,5 @@
 -- What reading tells of the beginnings of heads, behind their words.
-use Rattle.std.proofs.Common.{◌≡◌, ◌≢◌, ℕ, List, [], ◌∷◌, ◌++◌, Option, Some, None, Bool, true, false, Ok, Err, refl, sym, ap, ◌∙◌, subst}
+use Rattle.std.proofs.Common.{◌≡◌, ◌≢◌, inr, ℕ, List, [], ◌∷◌, ◌++◌, Option, Some, None, Bool, true, false, Ok, Err, refl, sym, ap, ◌∙◌, subst}
 use Rattle.std.specs.Prelude.{if◌then◌else◌}
 use Rattle.pli_language.specs.declared.expr.Place.{Place}
 use Rattle.pli_language.specs.declared.token.Word.{Word}
@@ -22,7 +22,7 @@ use Rattle.pli_phrase.proofs.Prefixes.{longer, Stays, Open, Closing, Prefixes, S
 use Rattle.pli_phrase.proofs.PhrasePrefixes.{stops_expr, stops_reference, stops_arguments, prefix_symbol, prefix_when, prefix_name, prefix_expr, prefix_reference, prefix_arguments, begins_stays, unknown_opens}
 use Rattle.pli_phrase.proofs.Tokens.{terminal_kind, word_is}
 use Rattle.pli_attributes.specs.Reading.{declare_items_from}
-use Rattle.pli_attributes.proofs.DeclarePrefixes.{stops_items, prefix_declare_items}
+use Rattle.pli_attributes.proofs.AttributePrefixes.{stops_items, prefix_declare_items}
 use Rattle.pli_stream.specs.Reading.{transfer_from}
 use Rattle.pli_stream.proofs.StreamPrefixes.{semicolon_ends, prefix_transfer}
 use Rattle.pli_clause.specs.Reading.{condition_from, parameters_from, options_from, in_parentheses_from, range_from, while_from, counted, counting_from, allocations_from, freeings_from, value_from}
@@ -155,30 +155,43 @@ prefix_do_count : (s : List ℕ) (p : Place) → Prefixes (Next (K.Name W.Other)
 prefix_do_count s p =
     prefix_bind (counting_from s) (λ x. closed (DoCountGroup x.0 p) x.1) (prefix_counting s) (λ x. prefix_closed (DoCountGroup x p)) counting_stops
 
+-- what stands behind the reference and `=` of a variable that counts
+abbrev behind_equal : List ℕ → T.Reference → Read Token → Read T.Counting
+behind_equal s r q =
+    q >>= λ t. expr_from s t.1 >>= λ v. range_from s v.1 >>= λ g. while_from s g.1 >>= λ w. Ok (counted r v.0 g.0 w.0, w.1)
+
+abbrev count_closed : Place → Read T.Counting → Read Head
+count_closed p q = q >>= λ y. closed (DoCountGroup y.0 p) y.1
+
+abbrev behind_reference : List ℕ → T.Reference × Cursor → Read T.Counting
+behind_reference s r = behind_equal s r.0 (taken_at (K.Symbol S.Equal) r.1.tokens r.1)
+
 -- a variable that counts is read where an assignment begins
 counted_begins : (s : List ℕ) (p : Place) (c : Cursor) (x : Head × Cursor) → do_count_from s p c ≡ Ok x → assignment_begins s c ≡ Begins
 unfolding counting_from assignment_begins taken
 counted_begins s p c x e = with_reference (reference_from s c) e
   where
-    with_equal : (r : T.Reference × Cursor) (ts : List Token) → r.1.tokens ≡ ts → ((taken_at (K.Symbol S.Equal) ts r.1 >>= λ t. expr_from s t.1 >>= λ v. range_from s v.1 >>= λ g. while_from s g.1 >>= λ w. Ok (counted r.0 v.0 g.0 w.0, w.1)) >>= λ y. closed (DoCountGroup y.0 p) y.1) ≡ Ok x → begun_by (next_kind ts) ≡ Begins
-    with_equal r [] i k = absurd (cc k)
-    with_equal r (t ∷ ts) i k = by_kind (is_terminal (K.Symbol S.Equal) t.kind) refl k
-      where
-        by_kind : (b : Bool) → is_terminal (K.Symbol S.Equal) t.kind ≡ b → (((if b then Ok (t, onto ts r.1) else Err Stuck) >>= λ t. expr_from s t.1 >>= λ v. range_from s v.1 >>= λ g. while_from s g.1 >>= λ w. Ok (counted r.0 v.0 g.0 w.0, w.1)) >>= λ y. closed (DoCountGroup y.0 p) y.1) ≡ Ok x → begun_by (Some t.kind) ≡ Begins
-        by_kind true h k = ap (λ u. begun_by (Some u)) (terminal_kind (K.Symbol S.Equal) t.kind h)
-        by_kind false h k = absurd (cc k)
-    with_reference : (u : Read T.Reference) → ((u >>= λ r. taken_at (K.Symbol S.Equal) r.1.tokens r.1 >>= λ t. expr_from s t.1 >>= λ v. range_from s v.1 >>= λ g. while_from s g.1 >>= λ w. Ok (counted r.0 v.0 g.0 w.0, w.1)) >>= λ y. closed (DoCountGroup y.0 p) y.1) ≡ Ok x → begun u ≡ Begins
-    with_reference (Ok r) k = with_equal r r.1.tokens refl k
+    by_kind : (r : T.Reference) (d : Cursor) (t : Token) (b : Bool) → is_terminal (K.Symbol S.Equal) t.kind ≡ b → count_closed p (behind_equal s r (if b then Ok (t, d) else Err Stuck)) ≡ Ok x → begun_by (Some t.kind) ≡ Begins
+    by_kind r d t true h k = ap (λ u. begun_by (Some u)) (terminal_kind (K.Symbol S.Equal) t.kind h)
+    by_kind r d t false h k = absurd (cc k)
+
+    with_equal : (r : T.Reference × Cursor) (ts : List Token) → count_closed p (behind_equal s r.0 (taken_at (K.Symbol S.Equal) ts r.1)) ≡ Ok x → begun_by (next_kind ts) ≡ Begins
+    with_equal r [] k = absurd (cc k)
+    with_equal r (t ∷ ts) k = by_kind r.0 (onto ts r.1) t (is_terminal (K.Symbol S.Equal) t.kind) refl k
+
+    with_reference : (u : Read T.Reference) → count_closed p (u >>= behind_reference s) ≡ Ok x → begun u ≡ Begins
+    with_reference (Ok r) k = with_equal r r.1.tokens k
     with_reference (Err at) k = absurd (cc k)
 
 open_counting : (s : List ℕ) (p : Place) (c : Cursor) → Open (reference_from s c) → Open (do_count_from s p c)
 unfolding counting_from taken
 open_counting s p c o = with_reference (reference_from s c) o
   where
-    with_empty : (r : T.Reference × Cursor) (ts : List Token) → ts ≡ [] → Open ((taken_at (K.Symbol S.Equal) ts r.1 >>= λ t. expr_from s t.1 >>= λ v. range_from s v.1 >>= λ g. while_from s g.1 >>= λ w. Ok (counted r.0 v.0 g.0 w.0, w.1)) >>= λ y. closed (DoCountGroup y.0 p) y.1)
+    with_empty : (r : T.Reference × Cursor) (ts : List Token) → ts ≡ [] → Open (count_closed p (behind_equal s r.0 (taken_at (K.Symbol S.Equal) ts r.1)))
     with_empty r [] i = tt
     with_empty r (t ∷ ts) i = absurd (cc i)
-    with_reference : (u : Read T.Reference) → Open u → Open ((u >>= λ r. taken_at (K.Symbol S.Equal) r.1.tokens r.1 >>= λ t. expr_from s t.1 >>= λ v. range_from s v.1 >>= λ g. while_from s g.1 >>= λ w. Ok (counted r.0 v.0 g.0 w.0, w.1)) >>= λ y. closed (DoCountGroup y.0 p) y.1)
+
+    with_reference : (u : Read T.Reference) → Open u → Open (count_closed p (u >>= behind_reference s))
     with_reference (Ok r) o = with_empty r r.1.tokens o
     with_reference (Err Ended) o = tt
     with_reference (Err Stuck) o = absurd o

@@ -149,6 +149,12 @@ options_no _ y n e i = cc e
 
 -- ---- the head of a procedure that the tokens end in
 
+abbrev options_closed : Place → List T.Name → Read (List T.ProcedureOption) → Read Head
+options_closed p ns q = q >>= λ options. closed (ProcedureFront p ns options.0) options.1
+
+abbrev parameters_closed : List ℕ → Place → Read (List T.Name) → Read Head
+parameters_closed s p q = q >>= λ ns. options_closed p ns.0 (options_from s ns.1)
+
 -- what comes first ends where the whole does
 ended_first : {X Y : Type 0} (r : Read X) (g : X × Cursor → Read Y) → (r >>= g) ≡ Err Ended → ((x : X × Cursor) → g x ≡ Err Ended → x.1.tokens ≡ []) → Open r
 ended_first (Ok x) g e h = h x e
@@ -156,28 +162,33 @@ ended_first (Err Ended) g e h = tt
 ended_first (Err Stuck) g e h = absurd (cc e)
 ended_first (Err (LeavesOut d)) g e h = absurd (cc e)
 
+-- up to its semicolon
+abbrev head_closed : Head → Read Token → Read Head
+head_closed h q = q >>= λ u. Ok (h, u.1)
+
 ended_closed : (h : Head) (c : Cursor) → closed h c ≡ Err Ended → c.tokens ≡ []
 unfolding taken
 ended_closed h c e = at_tokens c.tokens e
   where
-    by_kind : (t : Token) (ts : List Token) (b : Bool) → ((if b then Ok (t, onto ts c) else Err Stuck) >>= λ u. Ok (h, u.1)) ≡ Err Ended → t ∷ ts ≡ []
-    by_kind t ts true k = absurd (cc k)
-    by_kind t ts false k = absurd (cc k)
-    at_tokens : (ts : List Token) → (taken_at (K.Symbol S.Semicolon) ts c >>= λ u. Ok (h, u.1)) ≡ Err Ended → ts ≡ []
+    by_kind : (t : Token) (ts : List Token) (d : Cursor) (b : Bool) → head_closed h (if b then Ok (t, d) else Err Stuck) ≡ Err Ended → t ∷ ts ≡ []
+    by_kind t ts d true k = absurd (cc k)
+    by_kind t ts d false k = absurd (cc k)
+
+    at_tokens : (ts : List Token) → head_closed h (taken_at (K.Symbol S.Semicolon) ts c) ≡ Err Ended → ts ≡ []
     at_tokens [] k = refl
-    at_tokens (t ∷ ts) k = by_kind t ts (is_terminal (K.Symbol S.Semicolon) t.kind) k
+    at_tokens (t ∷ ts) k = by_kind t ts (onto ts c) (is_terminal (K.Symbol S.Semicolon) t.kind) k
 
 no_options : (s : List ℕ) (m : Marks) → options_from s (record { tokens = semicolon; marks = m }) ≡ Ok ([], record { tokens = semicolon; marks = m })
 unfolding options_from options_at
 no_options s m = refl
 
+plain_first : (b : Bool) (xs ys : List Token) → (Plain xs → Plain ys) → IsTrue (b && list_all is_plain xs) → IsTrue (b && list_all is_plain ys)
+plain_first true xs ys h p = h p
+plain_first false xs ys h p = absurd (cc p)
+
 plain_semicolon : (xs : List Token) → Plain xs → Plain (xs ++ semicolon)
 plain_semicolon [] p = refl
-plain_semicolon (t ∷ xs) p = by_first (is_plain t) p
-  where
-    by_first : (b : Bool) → IsTrue (b && list_all is_plain xs) → IsTrue (b && list_all is_plain (xs ++ semicolon))
-    by_first true p = plain_semicolon xs p
-    by_first false p = absurd (cc p)
+plain_semicolon (t ∷ xs) p = plain_first (is_plain t) xs (xs ++ semicolon) (plain_semicolon xs) p
 
 module _ (s : List ℕ) (t : Token) (m : Marks) (is : t.kind ≡ K.Name W.Procedure) (mid : List Token) where
   abbrev here : Cursor
@@ -188,6 +199,7 @@ module _ (s : List ℕ) (t : Token) (m : Marks) (is : t.kind ≡ K.Name W.Proced
 
   -- no assignment comes of it with plain tokens behind
   no_assignment : (more : List Token) → Plain more → assigns s here ≡ Unknown → assigns s (longer here more) ≢ Begins
+  unfolding assignment_begins
   no_assignment more p e b =
       let i = not_if s here Unknown e (λ d. cc d) in
       let o = unknown_opens s here (sym (assigns_else s here i) ∙ e) in
@@ -199,8 +211,8 @@ module _ (s : List ℕ) (t : Token) (m : Marks) (is : t.kind ≡ K.Name W.Proced
       by_tokens o r a (u ∷ us) j k =
           let h = open_reference_rest s here more r o a in
           plain_no_equal h.front r.1.tokens (subst Plain h.is p) (ap next_kind j ∙ ap Some (begun_equal u.kind k))
+
       by_reference : Open (reference_from s here) → (q : Read T.Reference) → reference_from s (longer here more) ≡ q → assignment_begins s (longer here more) ≡ Begins → ⊥
-      unfolding assignment_begins
       by_reference o (Ok r) a k = by_tokens o r a r.1.tokens refl (sym (ap begun a) ∙ k)
       by_reference o (Err Stuck) a k = cc (ap begun a, k)
       by_reference o (Err Ended) a k = cc (ap begun a, k)
@@ -215,8 +227,7 @@ module _ (s : List ℕ) (t : Token) (m : Marks) (is : t.kind ≡ K.Name W.Proced
       let more = k.more ++ semicolon in
       let h : Head = ProcedureFront p k.given [] in
       let read : procedure_from s p (longer inside more) ≡ Ok (h, record { tokens = []; marks = k.marks }) =
-        ap (λ r. r >>= λ ns. options_from s ns.1 >>= λ options. closed (ProcedureFront p ns.0 options.0) options.1) (k.reads semicolon refl)
-        ∙ (ap (λ r. r >>= λ options. closed (ProcedureFront p k.given options.0) options.1) (no_options s k.marks) ∙ closed_whole h k.marks) in
+      ap (parameters_closed s p) (k.reads semicolon refl) ∙ (ap (options_closed p k.given) (no_options s k.marks) ∙ closed_whole h k.marks) in
       record { more = more; head = h; rest = record { tokens = []; marks = k.marks }; reads = head_worded s t W.Procedure m is (mid ++ more) (no_assignment more (plain_semicolon k.more (parameters_more s inside o)) e) ∙ read; worded = no_assignment more (plain_semicolon k.more (parameters_more s inside o)) e }
 
   -- behind parameters no reference goes on
@@ -226,8 +237,8 @@ module _ (s : List ℕ) (t : Token) (m : Marks) (is : t.kind ≡ K.Name W.Proced
       let first = options_first s v vs ns.1.marks (subst (λ ts. Open (options_from s (record { tokens = ts; marks = ns.1.marks }))) j o) in
       let next : next_kind ns.1.tokens ≡ Some v.kind = ap next_kind j in
       let spelled = (post_is (parameters_post s inside) a).spelled in
-      let no_point = λ i. options_no v.kind S.Point (λ n. cc n) first (sym next ∙ i) in
-      let no_arrow = λ i. options_no v.kind S.Arrow (λ n. cc n) first (sym next ∙ i) in
+      let no_point : next_kind ns.1.tokens ≢ Some (K.Symbol S.Point) = λ i. options_no v.kind S.Point (λ n. cc n) first (sym next ∙ i) in
+      let no_arrow : next_kind ns.1.tokens ≢ Some (K.Symbol S.Arrow) = λ i. options_no v.kind S.Arrow (λ n. cc n) first (sym next ∙ i) in
       let r = parameters_referred s t W.Procedure is spelled no_point no_arrow in
       let read = reference_complete m r.spelled in
       let differs : assignment_begins s here ≡ Differs = ap begun read ∙ (ap begun_by next ∙ options_differ v.kind first) in
@@ -242,7 +253,8 @@ module _ (s : List ℕ) (t : Token) (m : Marks) (is : t.kind ≡ K.Name W.Proced
       by_tokens : (ns : List T.Name × Cursor) → parameters_from s inside ≡ Ok ns → Open (options_from s ns.1) → (ts : List Token) → ns.1.tokens ≡ ts → CompletedWord s here
       by_tokens ns a o [] j = complete_parameters (subst Open (sym a) j) e
       by_tokens ns a o (v ∷ vs) j = absurd (no_reference ns v vs a j o e)
-      by_parameters : (r : Read (List T.Name)) → parameters_from s inside ≡ r → (r >>= λ ns. options_from s ns.1 >>= λ options. closed (ProcedureFront (place_of t) ns.0 options.0) options.1) ≡ Err Ended → CompletedWord s here
+
+      by_parameters : (r : Read (List T.Name)) → parameters_from s inside ≡ r → parameters_closed s (place_of t) r ≡ Err Ended → CompletedWord s here
       by_parameters (Ok ns) a i =
           let o = ended_first (options_from s ns.1) (λ options. closed (ProcedureFront (place_of t) ns.0 options.0) options.1) i (λ x. ended_closed (ProcedureFront (place_of t) ns.0 x.0) x.1) in
           by_tokens ns a o ns.1.tokens refl

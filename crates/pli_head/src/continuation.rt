@@ -74,7 +74,12 @@ fn ends_assignment(
     if !may_assign(beginning) {
         return Ok(false);
     }
-    match assignment_head(alloc, source, place, cursor_at(cursor.tokens, &cursor.marks)?) {
+    match assignment_head(
+        alloc,
+        source,
+        place,
+        cursor_at(cursor.tokens, &cursor.marks)?,
+    ) {
         Ok(_) => Ok(false),
         Err(Stop::Ended) => Ok(true),
         Err(Stop::Memory) => Err(AllocError),

@@ -55,8 +55,7 @@ pub fn worded_head<'a>(
         Word::System => closed(Head::System { place }, cursor),
         Word::End => end(alloc, source, place, cursor),
         _ => {
-            let (statement, cursor) =
-                worded_statement(alloc, source, at, place, word, cursor)?;
+            let (statement, cursor) = worded_statement(alloc, source, at, place, word, cursor)?;
             closed(Head::Simple(statement), cursor)
         }
     }

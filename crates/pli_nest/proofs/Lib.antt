@@ -4,4 +4,4 @@ pub mod EndNames
 pub mod Entries
 pub mod Lists
 pub mod Places
-pub mod Standing
+pub mod Stood

@@ -106,7 +106,13 @@ fn ends_in(frame: &Frame, around: &[Frame]) -> bool
 }
 
 /// A head may stand behind these labels in the frame, which is the last of all.
-fn may_stand_in(front: Front, frame: &Frame, around: &[Frame], returns: bool, labels: &[Name]) -> bool
+fn may_stand_in(
+    front: Front,
+    frame: &Frame,
+    around: &[Frame],
+    returns: bool,
+    labels: &[Name],
+) -> bool
     ensures { returns ≡ N.may_return (frame_of frame.now ∷ frames_of around.now) → result ≡ S.may_stand_in front (frame_of frame.now) (frames_of around.now) (map name_of labels.now) }
 {
     match front {

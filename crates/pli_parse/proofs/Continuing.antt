@@ -36,7 +36,7 @@ use Rattle.pli_nest.specs.declared.standing.Front.{Front}
 use Rattle.pli_nest.specs.declared.standing.Front.TheVariants as R
 use Rattle.pli_nest.specs.Steps.{is_else}
 use Rattle.pli_nest.specs.Standing.{front_of, front_of_word, may_stand, word_may_stand, may_go_on, is_stray_else}
-use Rattle.pli_nest.proofs.Standing.{stood, head_stood, else_stood, unit_stands}
+use Rattle.pli_nest.proofs.Stood.{stood, head_stood, else_stood, unit_stands}
 
 -- ---- heads by their words
 
@@ -99,12 +99,12 @@ stood_some : {X : Type 0} (o : Option X) → o ≢ None → stood o ≡ true
 stood_some None n = absurd (n refl)
 stood_some (Some x) n = refl
 
-stray_head : {n : Nest} {ls : List T.Name} (h : Head) → is_else h ≡ true → is_stray_else n ls h ≡ true → entered n ls h ≢ None → ⊥
-stray_head {n} {ls} (Else p) e stray stands =
-    let a = else_stood n ls p ∙ ap not stray in
+stray_head : (n : Nest) (ls : List T.Name) (h : Head) → is_else h ≡ true → is_stray_else n ls h ≡ true → entered n ls h ≢ None → ⊥
+stray_head n ls (Else p) e is_stray stands =
+    let a = else_stood n ls p ∙ ap not is_stray in
     let b = stood_some (entered n ls (Else p)) stands in
     cc (sym b ∙ a)
-stray_head _ e stray stands = cc e
+stray_head n ls _ e is_stray stands = cc e
 
 some_stood : {X : Type 0} (o : Option X) → stood o ≡ true → o ≢ None
 some_stood None e i = cc e
@@ -174,29 +174,29 @@ module _ (s : List ℕ) (n : Nest) (ls : List T.Name) (t : Token) (mid : List To
     assigned_may : ends_assigned ≡ true → IsAssigned h → may ≡ true
     assigned_may e a =
         let front : front_of h ≡ R.Unit = ap front_of a.is in
-        let no : is_else h ≡ false = ap is_else a.is in
-        let stand : may_stand frames ls R.Unit ≡ true = sym (ap (may_stand frames ls) front) ∙ (sym (head_stood n ls h no) ∙ stood_some (entered n ls h) stands) in
+        let none : is_else h ≡ false = ap is_else a.is in
+        let stand : may_stand frames ls R.Unit ≡ true = sym (ap (may_stand frames ls) front) ∙ (sym (head_stood n ls h none) ∙ stood_some (entered n ls h) stands) in
         either_first (ends_assigned && may_stand frames ls R.Unit) _ (both_true ends_assigned (may_stand frames ls R.Unit) e stand)
 
     of_its_word : assigns s there ≢ Begins → OfWord w h
-    of_its_word no = head_of_word g refl is (λ a. no (assigns_complete s there a))
+    of_its_word none = head_of_word g refl is (λ a. none (assigns_complete s there a))
 
     worded_may : w ≢ W.Else → ends_worded ≡ true → assigns s there ≢ Begins → may ≡ true
-    worded_may other e no =
-        let k = of_its_word no in
+    worded_may other e none =
+        let k = of_its_word none in
         let stand : may_stand frames ls (front_of_word w) ≡ true = sym (ap (may_stand frames ls) k.front) ∙ (sym (head_stood n ls h (k.no_else ∙ else_none w other)) ∙ stood_some (entered n ls h) stands) in
         either_second (ends_assigned && may_stand frames ls R.Unit) _ (word_may e stand)
 
     -- a stray ELSE stands nowhere
     stray_stands : is_else h ≡ true → is_stray_else n ls h ≡ true → ⊥
-    stray_stands e stray = stray_head h e stray stands
+    stray_stands e is_stray = stray_head n ls h e is_stray stands
 
     -- what it goes on as may stand
     goes_may : (w ≡ W.Else → assigns s here ≢ Begins → (k : Head) → is_else k ≡ true → is_stray_else n ls k ≡ true) → GoesOn s t w no_marks is mid more (h, record { tokens = rest; marks = m }) → may ≡ true
     goes_may stray (GoesOn.assigned e a) = assigned_may e a
-    goes_may stray (GoesOn.worded e no) = worded_may (ended_no_else e) e no
-    goes_may stray (GoesOn.else_again i yet no) =
-        let k : is_else h ≡ true = (of_its_word no).no_else ∙ ap is_else_word i in
+    goes_may stray (GoesOn.of_word e none) = worded_may (ended_no_else e) e none
+    goes_may stray (GoesOn.else_again i yet none) =
+        let k : is_else h ≡ true = (of_its_word none).no_else ∙ ap is_else_word i in
         absurd (stray_stands k (stray i yet h k))
 
   -- ---- how it is completed
@@ -205,8 +205,8 @@ module _ (s : List ℕ) (n : Nest) (ls : List T.Name) (t : Token) (mid : List To
   assigned_stands stand k =
       let g = (head_sound s (longer here k.more) (k.head, k.rest) k.reads).spelled in
       let front : front_of k.head ≡ R.Unit = ap front_of k.assigned.is in
-      let no : is_else k.head ≡ false = ap is_else k.assigned.is in
-      let some : stood (entered n ls k.head) ≡ true = head_stood n ls k.head no ∙ (ap (may_stand frames ls) front ∙ stand) in
+      let none : is_else k.head ≡ false = ap is_else k.assigned.is in
+      let some : stood (entered n ls k.head) ≡ true = head_stood n ls k.head none ∙ (ap (may_stand frames ls) front ∙ stand) in
       (k.more, k.head, k.rest.tokens, k.rest.marks, (g, some_stood (entered n ls k.head) some))
 
   worded_stands : w ≢ W.Else → may_stand frames ls (front_of_word w) ≡ true → CompletedWord s here → MayGoOn s n ls (t ∷ mid)
@@ -221,15 +221,15 @@ module _ (s : List ℕ) (n : Nest) (ls : List T.Name) (t : Token) (mid : List To
 
   -- where the tokens end in what may be a reference, a statement may stand, or the head of a procedure is begun
   unknown_stands : w ≢ W.Else → word_here ≡ Err Ended → may_stand frames ls (front_of_word w) ≡ true → assigns s here ≡ Unknown → (b : Bool) → may_stand frames ls R.Unit ≡ b → (w ≡ W.Procedure) ⊎ (front_of_word w ≡ R.Procedure → ⊥) → MayGoOn s n ls (t ∷ mid)
+  unfolding head_behind
   unknown_stands other ends stand e true u which =
       let ends_it = unknown_assigning s (place_of t) here e in
       let a : ends_assigned ≡ true = ap (λ b. may_assign b && is_ended (C.assigning s t w no_marks is (t ∷ mid))) e ∙ C.ended_is (C.assigning s t w no_marks is (t ∷ mid)) ends_it in
       assigned_stands u (assigned_completed s t w no_marks is mid a)
-  unknown_stands other ends stand e false u (inr no) = absurd (cc (unit_stands frames ls (front_of_word w) stand no, u))
+  unknown_stands other ends stand e false u (inr none) = absurd (cc (unit_stands frames ls (front_of_word w) stand none, u))
   unknown_stands other ends stand e false u (inl i) = worded_stands other stand (of_procedure i ends e)
     where
       of_procedure : w ≡ W.Procedure → word_here ≡ Err Ended → assigns s here ≡ Unknown → CompletedWord s here
-      unfolding head_behind
       of_procedure i ends e = procedure_completed s t no_marks (is ∙ ap K.Name i) mid (sym (ap (λ v. head_behind s (t ∷ mid) (place_of t) v (record { tokens = mid; marks = no_marks })) i) ∙ ends) e
 
   word_stands : w ≢ W.Else → word_here ≡ Err Ended → (is_not_begun (assigns s here) || is_if w) ≡ true → may_stand frames ls (front_of_word w) ≡ true → (b : Beginning) → assigns s here ≡ b → MayGoOn s n ls (t ∷ mid)
@@ -285,26 +285,26 @@ module _ (s : List ℕ) (n : Nest) (ls : List T.Name) (t : Token) (mid : List To
   not_whole : Refused s n ls first → NotWhole s first w
   not_whole (Refused.stuck e) = NotWhole.stuck e
   not_whole (Refused.ends e) = NotWhole.ends e
-  not_whole (Refused.stray h rest e stray) =
-      let i = stray_is_else n ls h stray in
-      let no = stray_begins h rest e i in
-      let word = head_of_word (head_sound s first (h, rest) e).spelled refl is (λ a. no (assigns_complete s first a)) in
-      NotWhole.is_else (else_word w (sym word.no_else ∙ i)) no
+  not_whole (Refused.stray h rest e is_stray) =
+      let i = stray_is_else n ls h is_stray in
+      let none = stray_begins h rest e i in
+      let word = head_of_word (head_sound s first (h, rest) e).spelled refl is (λ a. none (assigns_complete s first a)) in
+      NotWhole.is_else (else_word w (sym word.no_else ∙ i)) none
 
   else_is_whole : w ≡ W.Else → assigns s first ≢ Begins → (at : Missed) → head_from s first ≡ Err at → ⊥
   unfolding head_behind
-  else_is_whole i no at e =
+  else_is_whole i none at e =
       let k = ap (λ v. head_behind s (t ∷ mid) (place_of t) v (record { tokens = mid; marks = no_marks })) i in
-      cc (sym (head_worded s t w no_marks is mid no ∙ k) ∙ e)
+      cc (sym (head_worded s t w no_marks is mid none ∙ k) ∙ e)
 
   strays : Refused s n ls first → w ≡ W.Else → assigns s first ≢ Begins → (k : Head) → is_else k ≡ true → is_stray_else n ls k ≡ true
-  strays (Refused.stuck e) i no k j = absurd (else_is_whole i no Stuck e)
-  strays (Refused.ends e) i no k j = absurd (else_is_whole i no Ended e)
-  strays (Refused.stray h rest e stray) i no k j = stray_same n ls h k stray j
+  strays (Refused.stuck e) i none k j = absurd (else_is_whole i none Stuck e)
+  strays (Refused.ends e) i none k j = absurd (else_is_whole i none Ended e)
+  strays (Refused.stray h rest e is_stray) i none k j = stray_same n ls h k is_stray j
 
   -- it goes on no other way
   named_ends : Refused s n ls first → may s n ls t mid w is ≡ false → ¬ MayGoOn s n ls (t ∷ mid)
-  named_ends r e (more, h, rest, m, g, stands) =
+  named_ends r e (more, h, rest, m, (g, stands)) =
       let x = goes_on s t w no_marks is mid more (h, record { tokens = rest; marks = m }) (not_whole r) (head_complete g) in
       cc (goes_may s n ls t mid w is more rest h m g stands (strays r) x, e)
 
@@ -313,6 +313,9 @@ module _ (s : List ℕ) (n : Nest) (ls : List T.Name) (t : Token) (mid : List To
   named_refused r false e = inr (named_ends r e, refl)
 
 -- ---- what begins with no name
+
+abbrev null_closed : Read Token → Read Head
+null_closed q = q >>= λ u. Ok (Simple (T.Null (place_of u.0)), u.1)
 
 module _ (s : List ℕ) (n : Nest) (ls : List T.Name) (t : Token) (mid : List Token) where
   -- the head that a token of some kind begins
@@ -327,22 +330,22 @@ module _ (s : List ℕ) (n : Nest) (ls : List T.Name) (t : Token) (mid : List To
 
   semicolon_whole : t.kind ≡ K.Symbol S.Semicolon → null_from (record { tokens = t ∷ mid; marks = no_marks }) ≡ Ok (Simple (T.Null (place_of t)), record { tokens = mid; marks = no_marks })
   unfolding taken
-  semicolon_whole e = ap (λ k. (if is_terminal (K.Symbol S.Semicolon) k then Ok (t, record { tokens = mid; marks = no_marks }) else Err Stuck) >>= λ u. Ok (Simple (T.Null (place_of u.0)), u.1)) e
+  semicolon_whole e = ap (λ k. null_closed (if is_terminal (K.Symbol S.Semicolon) k then Ok (t, record { tokens = mid; marks = no_marks }) else Err Stuck)) e
 
   no_refusal : (x : Head × Cursor) → is_else x.0 ≡ false → head_from s (record { tokens = t ∷ mid; marks = no_marks }) ≡ Ok x → Refused s n ls (record { tokens = t ∷ mid; marks = no_marks }) → ⊥
   no_refusal x i e (Refused.stuck j) = cc (e, j)
   no_refusal x i e (Refused.ends j) = cc (e, j)
-  no_refusal x i e (Refused.stray h rest j stray) =
+  no_refusal x i e (Refused.stray h rest j is_stray) =
       let k : x ≡ (h, rest) = cc (sym e ∙ j) in
-      cc (i, ap (λ y. is_else y.0) k, stray_is_else n ls h stray)
+      cc (i, ap (λ y. is_else y.0) k, stray_is_else n ls h is_stray)
 
   unnamed_ends : (k : Kind) → t.kind ≡ k → starts_name (Some k) ≡ false → Refused s n ls (record { tokens = t ∷ mid; marks = no_marks }) → ¬ MayGoOn s n ls (t ∷ mid)
   unnamed_ends (K.Name w) e i r a = cc i
   unnamed_ends (K.Symbol S.Semicolon) e i r a = no_refusal _ refl (head_is (K.Symbol S.Semicolon) mid e ∙ semicolon_whole e) r
-  unnamed_ends (K.Number v) e i r (more, h, rest, m, g, stands) = cc (sym (head_is (K.Number v) (mid ++ more) e) ∙ head_complete g)
-  unnamed_ends K.Text e i r (more, h, rest, m, g, stands) = cc (sym (head_is K.Text (mid ++ more) e) ∙ head_complete g)
-  unnamed_ends (K.Bit v) e i r (more, h, rest, m, g, stands) = cc (sym (head_is (K.Bit v) (mid ++ more) e) ∙ head_complete g)
-  unnamed_ends (K.Symbol y) e i r (more, h, rest, m, g, stands) = cc (sym (head_is (K.Symbol y) (mid ++ more) e) ∙ head_complete g)
+  unnamed_ends (K.Number v) e i r (more, h, rest, m, (g, stands)) = cc (sym (head_is (K.Number v) (mid ++ more) e) ∙ head_complete g)
+  unnamed_ends K.Text e i r (more, h, rest, m, (g, stands)) = cc (sym (head_is K.Text (mid ++ more) e) ∙ head_complete g)
+  unnamed_ends (K.Bit v) e i r (more, h, rest, m, (g, stands)) = cc (sym (head_is (K.Bit v) (mid ++ more) e) ∙ head_complete g)
+  unnamed_ends (K.Symbol y) e i r (more, h, rest, m, (g, stands)) = cc (sym (head_is (K.Symbol y) (mid ++ more) e) ∙ head_complete g)
 
   abbrev place_by : Kind → Place
   place_by k =

@@ -20,7 +20,7 @@ use Rattle.pli_head.proofs.CompleteHeads.{head_complete}
 use Rattle.pli_head.proofs.LeftOut.{head_left_out}
 use Rattle.pli_nest.specs.Steps.{is_none, entry, entry_as}
 use Rattle.pli_nest.specs.Standing.{is_stray_else}
-use Rattle.pli_nest.proofs.Standing.{stood, else_stood}
+use Rattle.pli_nest.proofs.Stood.{stood, else_stood}
 use Rattle.pli_parse.specs.Reading.{Parsed, Turn, GoesOn, Over, ended_with, at_end, broken_at, left_out_place, placed, left_out_in, head_read, head_turn, turn, labels_from, source_from, turned}
 use Rattle.pli_parse.proofs.LabelLaws.{labels_sound}
 use Rattle.pli_parse.proofs.Continuing.{Refused, refused_where}

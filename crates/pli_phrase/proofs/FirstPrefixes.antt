@@ -9,7 +9,7 @@ use Rattle.pli_language.specs.Spells.{next_kind}
 use Rattle.pli_phrase.specs.Cursor.{Cursor, Stuck, Ended, LeavesOut, Read}
 use Rattle.pli_phrase.specs.Tokens.{is_terminal}
 use Rattle.pli_phrase.specs.Reading.{OperandDue, expr_from}
-use Rattle.pli_phrase.proofs.Prefixes.{longer, Stays, Open, Closing, Prefixes, Steady, StartsNot, Next, Allows, made, open_stays, next_not}
+use Rattle.pli_phrase.proofs.Prefixes.{is_done, longer, Stays, Open, Closing, Prefixes, Steady, StartsNot, Next, Allows, made, open_stays, next_not}
 use Rattle.pli_phrase.proofs.RunPrefixes.{stops_expr, closes_run}
 use Rattle.pli_phrase.proofs.PhrasePrefixes.{prefix_expr}
 
@@ -171,14 +171,19 @@ alike_same (Err (LeavesOut d)) = (d, refl)
 alike_is : {X : Type 0} (a b a' : Read X) → Alike a b → a ≡ a' → Alike a' b
 alike_is a b a' l e = subst (λ u. Alike u b) e l
 
+alike_not_done : {X : Type 0} (a b : Read X) → Alike a b → is_done a ≡ false → is_done b ≡ false
+alike_not_done (Ok x) b l e = absurd (cc e)
+alike_not_done (Err Stuck) b l e = ap is_done l
+alike_not_done (Err Ended) b l e = ap is_done l
+alike_not_done (Err (LeavesOut d)) b l e = ap is_done l.1
+
 pub alike_stays : {X : Type 0} (more : List Token) (a a' b b' : Read X) → Stays more a a' → Alike a b → Alike a' b' → Stays more b b'
 alike_stays more (Ok x) a' b b' h l l' = subst (λ u. Stays more u b') (sym l) (ok_stays h)
   where
     ok_stays : ((x.1.tokens ≡ []) ⊎ (a' ≡ Ok (x.0, longer x.1 more))) → (x.1.tokens ≡ []) ⊎ (b' ≡ Ok (x.0, longer x.1 more))
     ok_stays (inl n) = inl n
     ok_stays (inr e) = inr (alike_is a' b' (Ok (x.0, longer x.1 more)) l' e)
-alike_stays more (Err Stuck) a' b b' h l l' =
-    subst (λ u. Stays more u b') (sym l) (alike_is a' b' (Err Stuck) l' h)
+alike_stays more (Err Stuck) a' b b' h l l' = subst (λ u. Stays more u b') (sym l) (alike_not_done a' b' l' h)
 alike_stays more (Err Ended) a' b b' h l l' = subst (λ u. Stays more u b') (sym l) tt
 alike_stays more (Err (LeavesOut d)) a' b b' h l l' = subst (λ u. Stays more u b') (sym l.1) tt
 

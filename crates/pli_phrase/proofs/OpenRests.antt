@@ -58,6 +58,34 @@ module _ (s : List ℕ) where
   open_run_rest state k m [] more y o i = run_rest state k m more y i
   open_run_rest state k m (t ∷ ts) more y o i = open_rest_by ts more t y (λ next frames marks p j. open_run_rest next frames marks ts more y p j) (step s state k m t t.kind) o i
 
+  whole_never : (x : List Frame × T.Expr) (m : Marks) → whole x m ≡ Err Stuck → ⊥
+  whole_never ([], e) m i = cc i
+  whole_never (Alone ∷ k, e) m i = cc i
+  whole_never (Before op p ∷ k, e) m i = cc i
+  whole_never (Between op left ∷ k, e) m i = cc i
+  whole_never (Group p ∷ k, e) m i = cc i
+  whole_never (Listing path name es ∷ k, e) m i = cc i
+
+  ended_never : (state : State) (k : List Frame) (m : Marks) → ended state k m ≡ Err Stuck → ⊥
+  ended_never OperandDue k m i = cc i
+  ended_never ArgumentDue k m i = cc i
+  ended_never (FirstDue path name) k m i = cc i
+  ended_never (NameDue path) k m i = cc i
+  ended_never (NameRead path name) k m i = whole_never (climbed None k (T.Refers (referred path name T.Absent))) m i
+  ended_never (ArgumentsRead path name a) k m i = whole_never (climbed None k (T.Refers (referred path name a))) m i
+  ended_never (OperandRead e) k m i = whole_never (climbed None k e) m i
+
+  stuck_by : (ts more : List Token) (t : Token) → ((next : State) (frames : List Frame) (marks : Marks) → run s next frames marks ts ≡ Err Stuck → run s next frames marks (ts ++ more) ≡ Err Stuck) → (u : Step) → follow (λ next frames marks. run s next frames marks ts) u t ts ≡ Err Stuck → follow (λ next frames marks. run s next frames marks (ts ++ more)) u t (ts ++ more) ≡ Err Stuck
+  stuck_by ts more t behind (On next frames marks) i = behind next frames marks i
+  stuck_by ts more t behind (Ends e marks) i = absurd (cc i)
+  stuck_by ts more t behind Fails i = refl
+
+  -- a run that is stuck stays so, whatever comes behind
+  pub stuck_run : (state : State) (k : List Frame) (m : Marks) (ts more : List Token) → run s state k m ts ≡ Err Stuck → run s state k m (ts ++ more) ≡ Err Stuck
+  unfolding run
+  stuck_run state k m [] more i = absurd (ended_never state k m i)
+  stuck_run state k m (t ∷ ts) more i = stuck_by ts more t (λ next frames marks j. stuck_run next frames marks ts more j) (step s state k m t t.kind) i
+
   pub open_expr_rest : (c : Cursor) (more : List Token) (y : T.Expr × Cursor) → Open (expr_from s c) → expr_from s (longer c more) ≡ Ok y → EndsWith more y.1.tokens
   unfolding expr_from
   open_expr_rest c more y o i = open_run_rest OperandDue [] c.marks c.tokens more y o i

@@ -17,7 +17,8 @@ use Rattle.pli_phrase.specs.Reading.{Alone, OperandDue, NameDue, no_path, run, e
 use Rattle.pli_phrase.proofs.Tokens.{symbol_is, starts_not}
 use Rattle.pli_phrase.proofs.Runs.{run_empty}
 use Rattle.pli_phrase.proofs.Expressions.{expr_sound, reference_stays}
-use Rattle.pli_phrase.proofs.Prefixes.{longer, Stays, Open, Closing, Prefixes, Steady, Firm, StartsNot, Next, Allows, Any, made, open_stays, prefix_ok, prefix_as, prefix_bind, prefix_taken, firm_prefix, next_not, next_allows, steady}
+use Rattle.pli_phrase.proofs.OpenRests.{stuck_run}
+use Rattle.pli_phrase.proofs.Prefixes.{not_done_bind, longer, Stays, Open, Closing, Prefixes, Steady, Firm, StartsNot, Next, Allows, Any, made, open_stays, prefix_ok, prefix_as, prefix_bind, prefix_taken, firm_prefix, next_not, next_allows, steady}
 use Rattle.pli_phrase.proofs.RepeatPrefixes.{goes_on, Repeats, prefix_repeats, bind_same}
 use Rattle.pli_phrase.proofs.RunPrefixes as R
 pub use Rattle.pli_phrase.proofs.RunPrefixes.{stops_reference, stops_expr, Rest, is_plain}
@@ -109,22 +110,22 @@ unfolding number_from
 number_ended [] m e = refl
 number_ended (t ∷ ts) m e = absurd (numbered_goes_on t t.kind (record { tokens = ts; marks = m }) e)
 
-number_takes : (w : List Token) (m : Marks) → number_from (record { tokens = made (K.Number 1) ∷ w; marks = m }) ≡ Ok (1, record { tokens = w; marks = m })
+number_takes : (n : ℕ) (w : List Token) (m : Marks) → number_from (record { tokens = made (K.Number n) ∷ w; marks = m }) ≡ Ok (n, record { tokens = w; marks = m })
 unfolding number_from
-number_takes w m = refl
+number_takes n w m = refl
 
-pub firm_number : Firm number_from (K.Number 1) 1
-firm_number =
+pub firm_number_as : (n : ℕ) → Firm number_from (K.Number n) n
+firm_number_as n =
     record {
       missed = λ c more at e. number_missed c.tokens more c.marks;
       firm = λ c more x e. number_firm c.tokens more c.marks x e;
       none = number_none;
       ended = λ c e. number_ended c.tokens c.marks e;
-      takes = number_takes;
+      takes = number_takes n;
     }
 
 pub prefix_number : Prefixes (Next (K.Number 1)) Any number_from
-prefix_number = firm_prefix number_from (K.Number 1) 1 firm_number
+prefix_number = firm_prefix number_from (K.Number 1) 1 (firm_number_as 1)
 
 -- ---- symbols
 
@@ -246,7 +247,7 @@ stays_reference more (Ok x) r' h given = stays_given (given x refl) h
     stays_given g (inl n) = subst (λ u. Stays more u (r' >>= λ x. as_reference x)) (sym (reference_given x x.1 g)) (inl n)
     stays_given g (inr y) =
         subst (λ u. Stays more u (r' >>= λ x. as_reference x)) (sym (reference_given x x.1 g)) (inr (ap (λ u. u >>= λ x. as_reference x) y ∙ reference_given x (longer x.1 more) g))
-stays_reference more (Err Stuck) r' h given = ap (λ u. u >>= λ x. as_reference x) h
+stays_reference more (Err Stuck) r' h given = not_done_bind r' (λ x. as_reference x) h
 stays_reference more (Err Ended) r' h given = tt
 stays_reference more (Err (LeavesOut d)) r' h given = tt
 
@@ -407,20 +408,33 @@ begun_longer : (ts more : List Token) → begun_by (next_kind ts) ≢ Unknown �
 begun_longer [] more n = absurd (n refl)
 begun_longer (t ∷ ts) more n = refl
 
-begun_stays : (more : List Token) (r r' : Read T.Reference) → Stays more r r' → ((at : Cursor) → r ≡ Err (LeavesOut at) → ⊥) → begun r ≢ Unknown → begun r' ≡ begun r
-begun_stays more (Ok x) r' h never n = begun_of h
+begun_stays : (more : List Token) (r r' : Read T.Reference) → Stays more r r' → ((at : Cursor) → r ≡ Err (LeavesOut at) → ⊥) → (r ≡ Err Stuck → r' ≡ Err Stuck) → begun r ≢ Unknown → begun r' ≡ begun r
+begun_stays more (Ok x) r' h never stuck n = begun_of h
   where
     begun_of : ((x.1.tokens ≡ []) ⊎ (r' ≡ Ok (x.0, longer x.1 more))) → begun r' ≡ begun_by (next_kind x.1.tokens)
     begun_of (inl e) = absurd (n (ap (λ ts. begun_by (next_kind ts)) e))
     begun_of (inr e) = ap begun e ∙ begun_longer x.1.tokens more n
-begun_stays more (Err Stuck) r' h never n = ap begun h
-begun_stays more (Err Ended) r' h never n = absurd (n refl)
-begun_stays more (Err (LeavesOut at)) r' h never n = absurd (never at refl)
+begun_stays more (Err Stuck) r' h never stuck n = ap begun (stuck refl)
+begun_stays more (Err Ended) r' h never stuck n = absurd (n refl)
+begun_stays more (Err (LeavesOut at)) r' h never stuck n = absurd (never at refl)
+
+-- a reference that is stuck stays so
+reference_stuck : (s : List ℕ) (c : Cursor) (more : List Token) → reference_from s c ≡ Err Stuck → reference_from s (longer c more) ≡ Err Stuck
+unfolding reference_from
+reference_stuck s c more e = by_run (run s (NameDue no_path) (Alone ∷ []) c.marks c.tokens) refl e
+  where
+    by_run : (r : Read T.Expr) → run s (NameDue no_path) (Alone ∷ []) c.marks c.tokens ≡ r → (r >>= λ x. as_reference x) ≡ Err Stuck → (run s (NameDue no_path) (Alone ∷ []) c.marks (c.tokens ++ more) >>= λ x. as_reference x) ≡ Err Stuck
+    by_run (Ok x) i k =
+        let g = R.given_run s true c.tokens (NameDue no_path) (Alone ∷ []) c.marks x (inl (refl, refl)) i in
+        absurd (cc (reference_given x x.1 g, k))
+    by_run (Err Stuck) i k = ap (λ r. r >>= λ x. as_reference x) (stuck_run s (NameDue no_path) (Alone ∷ []) c.marks c.tokens more i)
+    by_run (Err Ended) i k = absurd (cc k)
+    by_run (Err (LeavesOut d)) i k = absurd (cc k)
 
 pub begins_stays : (s : List ℕ) (c : Cursor) (more : List Token) → assignment_begins s c ≢ Unknown → assignment_begins s (longer c more) ≡ assignment_begins s c
 unfolding assignment_begins
 begins_stays s c more n =
-    begun_stays more (reference_from s c) (reference_from s (longer c more)) ((prefix_reference s).stays c more) (reference_stays s c) n
+    begun_stays more (reference_from s c) (reference_from s (longer c more)) ((prefix_reference s).stays c more) (reference_stays s c) (reference_stuck s c more) n
 
 unknown_kind : (k : Kind) → begun_by (Some k) ≡ Unknown → ⊥
 unknown_kind (K.Symbol S.Equal) e = cc e

@@ -1,4 +1,4 @@
--- What reading tells of more tokens than there are: a reader that is stuck stays so whatever comes behind, one that is done before the tokens
+-- What reading tells of more tokens than there are: a reader that is stuck isn't done whatever comes behind, one that is done before the tokens
 -- end is done likewise, and one that comes to the end of the tokens is done with some tokens behind.
 use Rattle.std.proofs.Common.{◌≡◌, ◌≢◌, ◌⊎◌, inl, inr, Option, Some, List, [], ◌∷◌, ◌++◌, Bool, true, false, Ok, Err, refl, sym, ap, ◌∙◌, subst, append_assoc}
 use Rattle.std.specs.Prelude.{⊤, if◌then◌else◌}
@@ -13,10 +13,14 @@ use Rattle.pli_phrase.specs.Tokens.{is_terminal, starts, begins, taken_at, taken
 abbrev pub longer : Cursor → List Token → Cursor
 longer c more = record { tokens = c.tokens ++ more; marks = c.marks }
 
--- what was read with further tokens behind, against what was read without: stuck stays stuck, and what was done before the tokens end is done
+abbrev pub is_done : {X : Type 0} → Read X → Bool
+is_done (Ok x) = true
+is_done (Err at) = false
+
+-- what was read with further tokens behind, against what was read without: what is stuck isn't done, and what was done before the tokens end is done
 abbrev pub Stays : {X : Type 0} → List Token → Read X → Read X → Type 0
 Stays more (Ok x) r = (x.1.tokens ≡ []) ⊎ (r ≡ Ok (x.0, longer x.1 more))
-Stays more (Err Stuck) r = r ≡ Err Stuck
+Stays more (Err Stuck) r = is_done r ≡ false
 Stays more (Err _) r = ⊤
 
 -- reading came to the end of the tokens, done or not
@@ -80,10 +84,14 @@ prefix_as {X} {P} {F} {P'} {F'} {f} narrow wide p =
       };
     }
 
+pub not_done_bind : {X Y : Type 0} (r : Read X) (g : X × Cursor → Read Y) → is_done r ≡ false → is_done (r >>= g) ≡ false
+not_done_bind (Ok x) g e = absurd (cc e)
+not_done_bind (Err at) g e = refl
+
 pub stays_bind : {X Y : Type 0} (more : List Token) (r r' : Read X) (g : X × Cursor → Read Y) → Stays more r r' → ((x : X × Cursor) → Stays more (g x) (g (x.0, longer x.1 more))) → ((x : X × Cursor) → x.1.tokens ≡ [] → Open (g x)) → Stays more (r >>= g) (r' >>= g)
 stays_bind more (Ok x) r' g (inl e) h o = open_stays more (g x) (r' >>= g) (o x e)
 stays_bind more (Ok x) r' g (inr e) h o = subst (λ u. Stays more (g x) (u >>= g)) (sym e) (h x)
-stays_bind more (Err Stuck) r' g e h o = ap (λ u. u >>= g) e
+stays_bind more (Err Stuck) r' g e h o = not_done_bind r' g e
 stays_bind more (Err Ended) r' g e h o = tt
 stays_bind more (Err (LeavesOut d)) r' g e h o = tt
 
@@ -107,8 +115,8 @@ module _ {X Y : Type 0} {P Ff Q F : List Token → Type 0} (f : Cursor → Read 
         leads = λ e w h. subst P (sym (append_assoc k.more j.more w)) (k.leads e (j.more ++ w) (into (j.more ++ w) (j.leads refl w h)));
       }
 
-  is_done : (x : X × Cursor) (t : Token) (ts more : List Token) → x.1.tokens ≡ t ∷ ts → f c ≡ Ok x → f (longer c more) ≡ Ok (x.0, longer x.1 more)
-  is_done x t ts more e i = done_as (subst (λ r. Stays more r (f (longer c more))) i (p.stays c more))
+  done_before : (x : X × Cursor) (t : Token) (ts more : List Token) → x.1.tokens ≡ t ∷ ts → f c ≡ Ok x → f (longer c more) ≡ Ok (x.0, longer x.1 more)
+  done_before x t ts more e i = done_as (subst (λ r. Stays more r (f (longer c more))) i (p.stays c more))
     where
       done_as : ((x.1.tokens ≡ []) ⊎ (f (longer c more) ≡ Ok (x.0, longer x.1 more))) → f (longer c more) ≡ Ok (x.0, longer x.1 more)
       done_as (inl n) = absurd (cc (n, e))
@@ -125,7 +133,7 @@ module _ {X Y : Type 0} {P Ff Q F : List Token → Type 0} (f : Cursor → Read 
             more = k.more;
             given = k.given;
             marks = k.marks;
-            reads = λ w h. ap (λ r. r >>= g) (is_done x t ts (k.more ++ w) i e) ∙ k.reads w h;
+            reads = λ w h. ap (λ r. r >>= g) (done_before x t ts (k.more ++ w) i e) ∙ k.reads w h;
             leads = λ n. absurd (cc (subst Open e (p.opens c n), i));
           }
   found (Err Ended) e o = joined (p.closes c (subst Open (sym e) tt))
@@ -302,8 +310,7 @@ module _ {X Y : Type 0} {F : List Token → Type 0} (f : Cursor → Read X) (k :
   firm_stays : (c : Cursor) (more : List Token) (r : Read X) → f c ≡ r → Stays more (r >>= g) (f (longer c more) >>= g)
   firm_stays c more (Ok x) e = subst (λ u. Stays more (g x) (u >>= g)) (sym (a.firm c more x e)) ((q x.0).stays x.1 more)
   firm_stays c more (Err Stuck) e =
-      let h : f (longer c more) ≡ Err Stuck = subst (λ r. Stays more r (f (longer c more))) e (a.missed c more Stuck e) in
-      ap (λ u. u >>= g) h
+      not_done_bind (f (longer c more)) g (subst (λ r. Stays more r (f (longer c more))) e (a.missed c more Stuck e))
   firm_stays c more (Err Ended) e = tt
   firm_stays c more (Err (LeavesOut d)) e = tt
 
@@ -351,6 +358,7 @@ firm_prefix f k given a =
     alone_stays : (c : Cursor) (more : List Token) (r : Read _) → f c ≡ r → Stays more r (f (longer c more))
     alone_stays c more (Ok x) e = inr (a.firm c more x e)
     alone_stays c more (Err at) e = subst (λ r. Stays more r (f (longer c more))) e (a.missed c more at e)
+
     alone_closes : (c : Cursor) (r : Read _) → f c ≡ r → Open r → Closing (Next k) Any f c
     alone_closes c (Ok x) e h =
         record {

@@ -8,7 +8,7 @@ use Rattle.pli_language.specs.declared.token.Token.{Token}
 use Rattle.pli_language.specs.Marks.{Marks}
 use Rattle.pli_phrase.specs.Cursor.{Cursor, Stuck, Ended, LeavesOut, Read, ◌>>=◌}
 use Rattle.pli_phrase.specs.Tokens.{is_terminal, taken}
-use Rattle.pli_phrase.proofs.Prefixes.{longer, Stays, Open, Closing, Prefixes, open_stays, Any, Next, made, Steady}
+use Rattle.pli_phrase.proofs.Prefixes.{not_done_bind, longer, Stays, Open, Closing, Prefixes, open_stays, Any, Next, made, Steady}
 
 -- tokens that make a reader done, all of which pass a test
 pub record Ending {X : Type 0} (T : Token → Bool) (P F : List Token → Type 0) (f : Cursor → Read X) (c : Cursor) : Type 0 where
@@ -218,8 +218,7 @@ module _ {X Y : Type 0} {T : Token → Bool} {P Ff Q F : List Token → Type 0} 
       as_done (inl i) = open_stays more (g x) (f (longer c more) >>= g) ((q x e).opens i)
       as_done (inr h) = subst (λ u. Stays more (g x) (u >>= g)) (sym h) ((q x e).stays more)
   stays_row more (Err Stuck) e =
-      let h : f (longer c more) ≡ Err Stuck = subst (λ r. Stays more r (f (longer c more))) e (a.stays more) in
-      ap (λ u. u >>= g) h
+      not_done_bind (f (longer c more)) g (subst (λ r. Stays more r (f (longer c more))) e (a.stays more))
   stays_row more (Err Ended) e = tt
   stays_row more (Err (LeavesOut d)) e = tt
 

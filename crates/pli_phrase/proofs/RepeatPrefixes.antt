@@ -7,7 +7,7 @@ use Rattle.pli_language.specs.declared.token.Token.{Token}
 use Rattle.pli_language.specs.Marks.{Marks}
 use Rattle.pli_phrase.specs.Cursor.{Cursor, Stuck, Ended, LeavesOut, Read, ◌>>=◌}
 use Rattle.pli_phrase.specs.Tokens.{is_terminal, starts, begins, taken}
-use Rattle.pli_phrase.proofs.Prefixes.{longer, Stays, Open, Closing, Prefixes, StartsNot, open_stays, stays_bind}
+use Rattle.pli_phrase.proofs.Prefixes.{not_done_bind, longer, Stays, Open, Closing, Prefixes, StartsNot, open_stays, stays_bind}
 
 -- ---- readers in a row, at a place
 
@@ -95,8 +95,7 @@ module _ {St X Y : Type 0} {P Fe F : List Token → Type 0} (one : St → Cursor
   stays_element : (n n' : ℕ) (st : St) (c : Cursor) (more : List Token) (a : Read X) → one st c ≡ a → length c.tokens < suc n → length (c.tokens ++ more) < suc n' → ((st : St) (d : Cursor) → length d.tokens < n → length (d.tokens ++ more) < n' → Stays more (list n st d) (list n' st (longer d more))) → Stays more (a >>= behind n st) (one st (longer c more) >>= behind n' st)
   stays_element n n' st c more (Ok x) e h h' on = stays_behind n n' st c more x e h h' on x.1.tokens refl
   stays_element n n' st c more (Err Stuck) e h h' on =
-      let stuck : one st (longer c more) ≡ Err Stuck = subst (λ u. Stays more u (one st (longer c more))) e ((p st).stays c more) in
-      ap (λ u. u >>= behind n' st) stuck
+      not_done_bind (one st (longer c more)) (behind n' st) (subst (λ u. Stays more u (one st (longer c more))) e ((p st).stays c more))
   stays_element n n' st c more (Err Ended) e h h' on = tt
   stays_element n n' st c more (Err (LeavesOut d)) e h h' on = tt
 

@@ -6,7 +6,7 @@ use Rattle.pli_language.specs.declared.token.Token.{Token}
 use Rattle.pli_language.specs.Marks.{Marks}
 use Rattle.pli_language.specs.Spells.{next_kind}
 use Rattle.pli_phrase.specs.Cursor.{Cursor, Stuck, Ended, LeavesOut, Read, ◌>>=◌}
-use Rattle.pli_phrase.proofs.Prefixes.{longer, Stays, Open, Closing, Prefixes, Steady, Any, open_stays, stays_bind}
+use Rattle.pli_phrase.proofs.Prefixes.{not_done_bind, longer, Stays, Open, Closing, Prefixes, Steady, Any, open_stays, stays_bind}
 use Rattle.pli_phrase.proofs.RepeatPrefixes.{open_then, open_first, done_longer}
 
 abbrev pub with_front : {X : Type 0} → X → List X × Cursor → Read (List X)
@@ -41,8 +41,7 @@ module _ {X : Type 0} {Fe F : List Token → Type 0} (test : Option Kind → Boo
   stays_element n n' c more (Ok x) e h h' on =
       stays_behind n n' c more x (omega (arith, h, shorter c x e)) h' on (subst (λ u. Stays more u (one (longer c more))) e (p.stays c more))
   stays_element n n' c more (Err Stuck) e h h' on =
-      let stuck : one (longer c more) ≡ Err Stuck = subst (λ u. Stays more u (one (longer c more))) e (p.stays c more) in
-      ap (λ u. u >>= behind n') stuck
+      not_done_bind (one (longer c more)) (behind n') (subst (λ u. Stays more u (one (longer c more))) e (p.stays c more))
   stays_element n n' c more (Err Ended) e h h' on = tt
   stays_element n n' c more (Err (LeavesOut d)) e h h' on = tt
 

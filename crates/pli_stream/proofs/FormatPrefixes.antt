@@ -23,16 +23,13 @@ use Rattle.pli_attributes.proofs.Tokens.{number_read}
 use Rattle.pli_stream.specs.Reading.{checked, repetition_from, number_or_one_from, width_from, is_text_width, worded, format_of_kind, format_from, State, Outer, Item, start, Turn, On, Closed, with_item, opened, further, closed, listed, repeated, item_from, behind_item, turn, follow, run, formats_from}
 use Rattle.pli_stream.proofs.Sound.{turn_post, any_at}
 
--- no number follows, and none in parentheses
+-- no parenthesis opens here
 abbrev pub NoOpen : List Token → Type 0
 NoOpen w = StartsNot (K.Symbol S.OpenParenthesis) w
 
--- what an item or a format list ends before
+-- nor does a number stand here: so an open parenthesis before it begins no count
 abbrev pub Fresh : List Token → Type 0
 Fresh w = NoOpen w × (starts_number (next_kind w) ≡ false)
-
-next_fresh : (k : Kind) (w : List Token) → is_terminal (K.Symbol S.OpenParenthesis) k ≡ false → starts_number (Some k) ≡ false → Next k w → Fresh w
-next_fresh k w a b n = (next_not (K.Symbol S.OpenParenthesis) k w a n, ap starts_number n ∙ b)
 
 -- ---- numbers
 
