@@ -1,7 +1,9 @@
 -- What levels keep beside each structure.
-use Rattle.std.proofs.Common.{◌≡◌, ◌<◌, ◌≤◌, ◌+◌, ℕ, Bool, true, false, List, [], ◌∷◌, ◌++◌, length, refl, sym, ap, ◌∙◌, arith, length-append, true≢false}
+use Rattle.std.proofs.Common.{◌≡◌, ◌<◌, ◌≤◌, ◌+◌, ℕ, Bool, true, false, List, [], ◌∷◌, ◌++◌, length, refl, sym, ap, ◌∙◌, arith, length-append, subst, true≢false}
 use Rattle.std.specs.Prelude.{if◌then◌else◌, ◌&&◌, nat_lt}
 use Rattle.std.specs.List.{sum_by}
+use Rattle.std.specs.declared.rc.Rc.{Rc}
+use Rattle.std.specs.declared.alloc.Global.{Global}
 use Rattle.std.proofs.lemmas.List.Sums.{sum_by-append, sum_by-cons}
 use Rattle.std.proofs.lemmas.Bool.Decides.{nat_tests}
 use Rattle.std.proofs.Math.Logic.{∥∥₁_elim}
@@ -70,6 +72,11 @@ smaller_stops (w ∷ vs) v level h = ap (λ us. if nat_lt (level_of w) level the
 pub one_less : (vs : List Variable) (v : Variable) (level : ℕ) → nat_lt (level_of v) level ≡ false → holders_at (vs ++ v ∷ []) level ≡ holders_at vs level
 one_less vs v level h = ap (λ us. if nat_lt 1 level then us else []) (smaller_stops vs v level h)
 
+pub one_less_at : (vs : List Variable) (v : Variable) (n level : ℕ) (target : List Variable) → n ≡ level_of v → level ≤ n → holders_at (vs ++ v ∷ []) level ≡ target → holders_at vs level ≡ target
+one_less_at vs v n level target e h g =
+    let over : nat_lt (level_of v) level ≡ false = grind (arith, nat_tests, e, h) in
+    sym (one_less vs v level over) ∙ g
+
 pub none_hold : (vs : List Variable) (level : ℕ) → level ≤ 1 → holders_at vs level ≡ []
 none_hold vs level h =
     let few : nat_lt 1 level ≡ false = grind (arith, nat_tests, h) in
@@ -96,9 +103,6 @@ pub first_is : (first : Variable) (l : LevelsHeld) (w : Variable) → first_or (
 first_is first L.Outermost w = refl
 first_is first (L.Inside' v count dimensions a above) w = first_last (levels_of first above) (variable_of v) w ∙ first_is first above (variable_of v)
 
-pub kept_above : (first : Variable) (v : VariableHeld) (count dimensions : ℕ) (a : _) (above : LevelsHeld) → ∥ IsKept first (L.Inside' v count dimensions a above) ∥₁ → ∥ IsKept first above ∥₁
-kept_above first v count dimensions a above k = ∥∥₁_elim k (hlevel (props, ⊎_set)) (λ i. ∣ i.1.1.1 ∣₁)
-
 pub count_kept : (first : Variable) (v : VariableHeld) (count dimensions : ℕ) (a : _) (above : LevelsHeld) → ∥ IsKept first (L.Inside' v count dimensions a above) ∥₁ → count ≡ length (levels_of first (L.Inside' v count dimensions a above))
 count_kept first v count dimensions a above k =
     let one : length (levels_of first above ++ variable_of v ∷ []) ≡ length (levels_of first above) + 1 = length-append (levels_of first above) (variable_of v ∷ []) in
@@ -110,11 +114,30 @@ dimensions_kept first v count dimensions a above k = ∥∥₁_elim k (hlevel (p
 pub dimensions_one : (first : Variable) → dimensions_in (first ∷ []) ≡ length (dimensions_of first)
 dimensions_one first = sum_by-cons (λ v. length (dimensions_of v)) first [] ∙ omega arith
 
-pub kept_inside : (first : Variable) (v : VariableHeld) (count dimensions : ℕ) (a : _) (above : LevelsHeld) → count ≡ length (levels_of first above) + 1 → dimensions ≡ dimensions_in (levels_of first above) + length (dimensions_of (variable_of v)) → is_below first above (level_of (variable_of v)) ≡ true → ∥ IsKept first above ∥₁ → ∥ IsKept first (L.Inside' v count dimensions a above) ∥₁
-kept_inside first v count dimensions a above c d b k =
+-- ---- one structure more or less
+
+pub inner_kept : (first : Variable) (l : LevelsHeld) (v : VariableHeld) (count dimensions : ℕ) (rc : Rc LevelsHeld Global) → l ≡ L.Inside v count dimensions rc → ∥ IsKept first l ∥₁ → ∥ IsKept first rc.value ∥₁
+inner_kept first l v count dimensions rc e k = ∥∥₁_elim (subst (λ (u : LevelsHeld). ∥ IsKept first u ∥₁) e k) (hlevel (props, ⊎_set)) (λ i. ∣ i.1.1.1 ∣₁)
+
+pub inner_held : (first : Variable) (l : LevelsHeld) (v : VariableHeld) (count dimensions : ℕ) (rc : Rc LevelsHeld Global) (n level : ℕ) (target : List Variable) → l ≡ L.Inside v count dimensions rc → n ≡ level_of (variable_of v) → level ≤ n → holders_at (levels_of first l) level ≡ target → holders_at (levels_of first rc.value) level ≡ target
+inner_held first l v count dimensions rc n level target e f h g =
+    one_less_at (levels_of first rc.value) (variable_of v) n level target f h (ap (λ (u : LevelsHeld). holders_at (levels_of first u) level) (sym e) ∙ g)
+
+pub all_held : (first : Variable) (l : LevelsHeld) (v : VariableHeld) (count dimensions : ℕ) (rc : Rc LevelsHeld Global) (n level : ℕ) (target : List Variable) → l ≡ L.Inside v count dimensions rc → ∥ IsKept first l ∥₁ → n ≡ level_of (variable_of v) → n < level → 1 < level → holders_at (levels_of first l) level ≡ target → levels_of first l ≡ target
+all_held first l v count dimensions rc n level target e k f h m g =
+    let inner : nat_lt (level_of (variable_of v)) level ≡ true = grind (arith, nat_tests, f, h) in
+    let below : is_below first l level ≡ true = ap (λ (u : LevelsHeld). is_below first u level) e ∙ inner in
+    all_hold first l level k below m ∙ g
+
+pub new_kept : (first : Variable) (l above : LevelsHeld) (v : VariableHeld) (count dimensions : ℕ) (rc : Rc LevelsHeld Global) → l ≡ L.Inside v count dimensions rc → rc.value ≡ above → count ≡ length (levels_of first above) + 1 → dimensions ≡ dimensions_in (levels_of first above) + length (dimensions_of (variable_of v)) → is_below first above (level_of (variable_of v)) ≡ true → ∥ IsKept first above ∥₁ → ∥ IsKept first l ∥₁
+new_kept first l above v count dimensions rc e r c d b k =
     let one : dimensions_in (variable_of v ∷ []) ≡ length (dimensions_of (variable_of v)) = dimensions_one (variable_of v) in
     let all : dimensions_in (levels_of first above ++ variable_of v ∷ []) ≡ dimensions_in (levels_of first above) + dimensions_in (variable_of v ∷ []) = sum_by-append (λ v. length (dimensions_of v)) (levels_of first above) (variable_of v ∷ []) in
     let here : dimensions ≡ dimensions_in (levels_of first above ++ variable_of v ∷ []) = d ∙ ap (λ n. dimensions_in (levels_of first above) + n) (sym one) ∙ sym all in
-    ∥∥₁_elim k (hlevel (props, ⊎_set)) (λ i. ∣ (c, (here, (b, i))) ∣₁)
+    let count' : count ≡ length (levels_of first rc.value) + 1 = c ∙ ap (λ (u : LevelsHeld). length (levels_of first u) + 1) (sym r) in
+    let here' : dimensions ≡ dimensions_in (levels_of first rc.value ++ variable_of v ∷ []) = here ∙ ap (λ (u : LevelsHeld). dimensions_in (levels_of first u ++ variable_of v ∷ [])) (sym r) in
+    let below : is_below first rc.value (level_of (variable_of v)) ≡ true = ap (λ (u : LevelsHeld). is_below first u (level_of (variable_of v))) r ∙ b in
+    let new : ∥ IsKept first (L.Inside v count dimensions rc) ∥₁ = ∥∥₁_elim (subst (λ (u : LevelsHeld). ∥ IsKept first u ∥₁) (sym r) k) (hlevel (props, ⊎_set)) (λ i. ∣ (count', (here', (below, i))) ∣₁) in
+    subst (λ (u : LevelsHeld). ∥ IsKept first u ∥₁) (sym e) new
 
-pub ruleset kept = (first_is, count_kept, dimensions_kept, dimensions_one, kept_inside, kept_above, all_hold, one_less, none_hold, no_levels)
+pub ruleset kept = (first_is, count_kept, dimensions_kept, dimensions_one, all_hold, none_hold, no_levels)

@@ -156,6 +156,10 @@ full_nothing qs =
     let all : length qs ≤ length qs = omega arith in
     full_end qs (length qs) all ∙ ap (λ u. same_names (letters_of u) []) (take_all (length qs) qs all)
 
+-- the last name
+pub part_first : (qs : List (Bor (List ℕ))) (left result : ℕ) (n : List ℕ) (target : Bool) → result ≤ length qs → ((ns : List (List ℕ)) → is_part (letters_of (take result qs)) ns ≡ is_part (letters_of (take left qs)) (ns ++ n ∷ [])) → is_part (letters_of (take left qs)) (n ∷ []) ≡ target → eqb result 0 ≡ target
+part_first qs left result n target within step h = part_end qs result within ∙ step [] ∙ h
+
 -- one name
 pub full_one : (qs : List (Bor (List ℕ))) (left : ℕ) (d : Bor (List ℕ)) (n : List ℕ) → left ≤ length qs → (eqb left 1 && same_bytes (get_or qs 0 d).now n) ≡ same_names (letters_of (take left qs)) (n ∷ [])
 full_one qs left d n within = go (eqb left 0) refl (eqb left 1) refl
@@ -185,4 +189,4 @@ full_one qs left d n within = go (eqb left 0) refl (eqb left 1) refl
         ∙ ap (λ t. same_bytes (get_or qs (left - 1) d).now n && t) none
         ∙ and_false (same_bytes (get_or qs (left - 1) d).now n))
 
-pub ruleset parts = (part_nothing, full_nothing, full_one, part_none, full_none, take_all, full_on, full_off, part_end, full_end, no_qualifiers, map-append)
+pub ruleset parts = (part_first, part_nothing, full_nothing, full_one, part_none, full_none, take_all, full_on, full_off, part_end, full_end, no_qualifiers, map-append)

@@ -29,7 +29,7 @@ count_drop (a ∷ all) zero h = refl
 count_drop (a ∷ all) (suc k) h = let less : k ≤ length all = omega (arith, h) in count_drop all k less
 
 -- the second list is the end of the first
-record Behind (all last : List Held) : Type 0 where
+record Behind (all : List Held) (last : List Held) : Type 0 where
   before : List Held
   is : all ≡ before ++ last
 
@@ -48,11 +48,11 @@ behind h (m ∷ ms) = if is_deeper h m then behind h ms else m ∷ ms
 
 behind_drop : (h : Held) (ms : List Held) → behind h ms ≡ drop (length (while_deeper h ms)) ms
 behind_drop h [] = refl
-behind_drop h (m ∷ ms) = go (is_deeper h m)
+behind_drop h (m ∷ ms) = go (behind_drop h ms) (is_deeper h m)
   where
-    go : (t : Bool) → (if t then behind h ms else m ∷ ms) ≡ drop (length (if t then m ∷ while_deeper h ms else [])) (m ∷ ms)
-    go true = behind_drop h ms
-    go false = refl
+    go : behind h ms ≡ drop (length (while_deeper h ms)) ms → (t : Bool) → (if t then behind h ms else m ∷ ms) ≡ drop (length (if t then m ∷ while_deeper h ms else [])) (m ∷ ms)
+    go more true = more
+    go more false = refl
 
 -- no deeper than the one, no deeper than what is deeper than that
 no_deeper : (h x m : Held) → length h.above ≤ length x.above → is_deeper h m ≡ false → is_deeper x m ≡ false
@@ -61,19 +61,16 @@ no_deeper h x m le e = grind (arith, nat_tests, le, e)
 -- leaves of a variable with its members, then those behind
 leaves_parted : (h x : Held) (ms : List Held) → length h.above ≤ length x.above → leaves_in (x ∷ ms) ≡ leaves_in (x ∷ while_deeper h ms) ++ leaves_in (behind h ms)
 leaves_parted h x [] le = sym (append-nil (x ∷ []))
-leaves_parted h x (m ∷ ms) le = go (is_deeper h m) refl
+leaves_parted h x (m ∷ ms) le = go (λ k. leaves_parted h m ms k) (is_deeper h m) refl
   where
-    deep : is_deeper h m ≡ true → length h.above ≤ length m.above
-    deep e = grind (arith, nat_tests, e)
-
-    go : (t : Bool) → is_deeper h m ≡ t → leaves_in (x ∷ m ∷ ms) ≡ leaves_in (x ∷ (if is_deeper h m then m ∷ while_deeper h ms else [])) ++ leaves_in (if is_deeper h m then behind h ms else m ∷ ms)
-    go true e =
-        let more : leaves_in (m ∷ ms) ≡ leaves_in (m ∷ while_deeper h ms) ++ leaves_in (behind h ms) = leaves_parted h m ms (deep e) in
-        leaves_before x (m ∷ ms) ∙ ap (λ u. leaf_first x (m ∷ ms) ++ u) more
+    go : (length h.above ≤ length m.above → leaves_in (m ∷ ms) ≡ leaves_in (m ∷ while_deeper h ms) ++ leaves_in (behind h ms)) → (t : Bool) → is_deeper h m ≡ t → leaves_in (x ∷ m ∷ ms) ≡ leaves_in (x ∷ (if is_deeper h m then m ∷ while_deeper h ms else [])) ++ leaves_in (if is_deeper h m then behind h ms else m ∷ ms)
+    go more true e =
+        let deep : length h.above ≤ length m.above = grind (arith, nat_tests, e) in
+        leaves_before x (m ∷ ms) ∙ ap (λ u. leaf_first x (m ∷ ms) ++ u) (more deep)
         ∙ sym (append_assoc (leaf_first x (m ∷ ms)) (leaves_in (m ∷ while_deeper h ms)) (leaves_in (behind h ms)))
         ∙ ap (λ u. u ++ leaves_in (behind h ms)) (sym (leaves_before x (m ∷ while_deeper h ms)))
         ∙ ap (λ t. leaves_in (x ∷ (if t then m ∷ while_deeper h ms else [])) ++ leaves_in (if t then behind h ms else m ∷ ms)) (sym e)
-    go false e =
+    go more false e =
         ap (λ t. if t then leaves_in (m ∷ ms) else x ∷ leaves_in (m ∷ ms)) (no_deeper h x m le e)
         ∙ ap (λ t. leaves_in (x ∷ (if t then m ∷ while_deeper h ms else [])) ++ leaves_in (if t then behind h ms else m ∷ ms)) (sym e)
 
@@ -88,42 +85,33 @@ leaves_with (h ∷ hs) = leaves_parted h h hs le ∙ ap (λ u. leaves_in (h ∷ 
 
 from_length : (place : Place) (all : List Held) → length (from_place place all) ≤ length all
 from_length place [] = omega arith
-from_length place (h ∷ hs) = go (is_at place h)
+from_length place (h ∷ hs) = go (from_length place hs) (is_at place h)
   where
-    rest : length (from_place place hs) ≤ length hs
-    rest = from_length place hs
-
-    go : (t : Bool) → length (if t then h ∷ hs else from_place place hs) ≤ length (h ∷ hs)
-    go true = omega arith
-    go false = omega (arith, rest)
+    go : length (from_place place hs) ≤ length hs → (t : Bool) → length (if t then h ∷ hs else from_place place hs) ≤ length (h ∷ hs)
+    go rest true = omega arith
+    go rest false = omega (arith, rest)
 
 from_drop : (place : Place) (all : List Held) → from_place place all ≡ drop (length all - length (from_place place all)) all
 from_drop place [] = refl
-from_drop place (h ∷ hs) = go (is_at place h)
+from_drop place (h ∷ hs) = go (from_length place hs) (from_drop place hs) (is_at place h)
   where
-    shorter : length (from_place place hs) ≤ length hs
-    shorter = from_length place hs
-
-    go : (t : Bool) → (if t then h ∷ hs else from_place place hs) ≡ drop (length (h ∷ hs) - length (if t then h ∷ hs else from_place place hs)) (h ∷ hs)
-    go true = let none : length (h ∷ hs) - length (h ∷ hs) ≡ 0 = omega arith in ap (λ n. drop n (h ∷ hs)) (sym none)
-    go false =
+    go : length (from_place place hs) ≤ length hs → from_place place hs ≡ drop (length hs - length (from_place place hs)) hs → (t : Bool) → (if t then h ∷ hs else from_place place hs) ≡ drop (length (h ∷ hs) - length (if t then h ∷ hs else from_place place hs)) (h ∷ hs)
+    go shorter more true = let none : length (h ∷ hs) - length (h ∷ hs) ≡ 0 = omega arith in ap (λ n. drop n (h ∷ hs)) (sym none)
+    go shorter more false =
         let one : suc (length hs) - length (from_place place hs) ≡ suc (length hs - length (from_place place hs)) = omega (arith, shorter) in
-        from_drop place hs ∙ ap (λ n. drop n (h ∷ hs)) (sym one)
+        more ∙ ap (λ n. drop n (h ∷ hs)) (sym one)
+
+while_length : (h : Held) (hs : List Held) → length (while_deeper h hs) ≤ length hs
+while_length h [] = omega arith
+while_length h (m ∷ ms) = go (while_length h ms) (is_deeper h m)
+  where
+    go : length (while_deeper h ms) ≤ length ms → (t : Bool) → length (if t then m ∷ while_deeper h ms else []) ≤ length (m ∷ ms)
+    go rest true = omega (arith, rest)
+    go rest false = omega arith
 
 with_length : (from : List Held) → length (with_members from) ≤ length from
 with_length [] = omega arith
-with_length (h ∷ hs) = let few : length (while_deeper h hs) ≤ length hs = go h hs in omega (arith, few)
-  where
-    go : (h : Held) (hs : List Held) → length (while_deeper h hs) ≤ length hs
-    go h [] = omega arith
-    go h (m ∷ ms) = one (is_deeper h m)
-      where
-        rest : length (while_deeper h ms) ≤ length ms
-        rest = go h ms
-
-        one : (t : Bool) → length (if t then m ∷ while_deeper h ms else []) ≤ length (m ∷ ms)
-        one true = omega (arith, rest)
-        one false = omega arith
+with_length (h ∷ hs) = let few : length (while_deeper h hs) ≤ length hs = while_length h hs in omega (arith, few)
 
 drop_again : {X : Type 0} (i k : ℕ) (xs : List X) → drop (i + k) xs ≡ drop k (drop i xs)
 drop_again zero k xs = ap (λ n. drop n xs) (zero_plus k)
@@ -164,12 +152,12 @@ part_counted place all =
     ap (λ n. n - count_at (counts_in all) i) (count_first all) ∙ ap (λ n. length (leaves_in all) - n) here in
     ap (λ n. part_by n (count_at (counts_in all) i - count_at (counts_in all) (i + size))) first ∙ ap (part_by (length (leaves_in all) - length (leaves_in from))) count
 
+drop_length : {X : Type 0} (xs ys : List X) → drop (length xs) (xs ++ ys) ≡ ys
+drop_length [] ys = refl
+drop_length (x ∷ xs) ys = drop_length xs ys
+
 drop_seam : {X : Type 0} (xs ys : List X) (n : ℕ) → n ≡ length xs → drop n (xs ++ ys) ≡ ys
-drop_seam xs ys n e = ap (λ k. drop k (xs ++ ys)) e ∙ go xs
-  where
-    go : (us : List _) → drop (length us) (us ++ ys) ≡ ys
-    go [] = refl
-    go (u ∷ us) = go us
+drop_seam xs ys n e = ap (λ k. drop k (xs ++ ys)) e ∙ drop_length xs ys
 
 -- the leaves of the part are those of the member with its own members
 part_taken : (place : Place) (all : List Held) → leaves_at (part_from all (from_place place all)) (leaves_in all) ≡ leaves_in (with_members (from_place place all))
