@@ -23,6 +23,8 @@ use Rattle.pli_declare.specs.declared.scope.Declaration.{Declaration as Declarat
 use Rattle.pli_declare.specs.declared.scope.Variable.{Variable as VariableHeld}
 use Rattle.pli_declare.specs.declared.above.Levels.{Levels as LevelsHeld}
 use Rattle.pli_declare.specs.declared.above.Levels as L
+use Rattle.std.specs.declared.rc.Rc.{Rc}
+use Rattle.std.specs.declared.alloc.Global.{Global}
 use Rattle.pli_declare.specs.Shown.{declaration_of, levels_of, variable_of, what_of}
 use Rattle.pli_declare.proofs.Chains.{drop_here, take_here}
 use Rattle.pli_declaring.specs.Rivals.{places_above, rival_at}
@@ -207,15 +209,19 @@ levels_some : (first : Variable) (l : LevelsHeld) → same_places (places_above 
 levels_some first L.Outermost = refl
 levels_some first (L.Inside' v count dimensions a above) = ap (λ u. same_places u []) (place_above (levels_of first above) (variable_of v)) ∙ no_places (places_above (levels_of first above)) (variable_of v).declared.name.place
 
-pub one_and_more : (f g : Variable) (v : VariableHeld) (count dimensions : ℕ) (a : _) (above : LevelsHeld) → same_places (places_above (f ∷ [])) (places_above (levels_of g (L.Inside' v count dimensions a above))) ≡ false
-one_and_more f g v count dimensions a above =
-    places_both [] (levels_of g above) f (variable_of v)
-    ∙ ap (λ t. same_place f.declared.name.place (variable_of v).declared.name.place && t) (some_levels g above) ∙ and_false (same_place f.declared.name.place (variable_of v).declared.name.place)
+pub one_and_more : (f g : Variable) (l r : LevelsHeld) (v : VariableHeld) (count dimensions : ℕ) (rc : Rc LevelsHeld Global) → l ≡ L.Outermost → r ≡ L.Inside v count dimensions rc → same_places (places_above (levels_of f l)) (places_above (levels_of g r)) ≡ false
+one_and_more f g l r v count dimensions rc e h =
+    ap (λ (u : LevelsHeld). same_places (places_above (levels_of f u)) (places_above (levels_of g r))) e
+    ∙ ap (λ (u : LevelsHeld). same_places (places_above (f ∷ [])) (places_above (levels_of g u))) h
+    ∙ places_both [] (levels_of g rc.value) f (variable_of v)
+    ∙ ap (λ t. same_place f.declared.name.place (variable_of v).declared.name.place && t) (some_levels g rc.value) ∙ and_false (same_place f.declared.name.place (variable_of v).declared.name.place)
 
-pub more_and_one : (f g : Variable) (v : VariableHeld) (count dimensions : ℕ) (a : _) (above : LevelsHeld) → same_places (places_above (levels_of f (L.Inside' v count dimensions a above))) (places_above (g ∷ [])) ≡ false
-more_and_one f g v count dimensions a above =
-    places_both (levels_of f above) [] (variable_of v) g
-    ∙ ap (λ t. same_place (variable_of v).declared.name.place g.declared.name.place && t) (levels_some f above) ∙ and_false (same_place (variable_of v).declared.name.place g.declared.name.place)
+pub more_and_one : (f g : Variable) (l r : LevelsHeld) (v : VariableHeld) (count dimensions : ℕ) (rc : Rc LevelsHeld Global) → l ≡ L.Inside v count dimensions rc → r ≡ L.Outermost → same_places (places_above (levels_of f l)) (places_above (levels_of g r)) ≡ false
+more_and_one f g l r v count dimensions rc e h =
+    ap (λ (u : LevelsHeld). same_places (places_above (levels_of f u)) (places_above (levels_of g r))) e
+    ∙ ap (λ (u : LevelsHeld). same_places (places_above (levels_of f (L.Inside v count dimensions rc))) (places_above (levels_of g u))) h
+    ∙ places_both (levels_of f rc.value) [] (variable_of v) g
+    ∙ ap (λ t. same_place (variable_of v).declared.name.place g.declared.name.place && t) (levels_some f rc.value) ∙ and_false (same_place (variable_of v).declared.name.place g.declared.name.place)
 
 and_true : (t : Bool) → (t && true) ≡ t
 and_true true = refl

@@ -53,8 +53,10 @@ fn same_inside(first: Variable, a: &Levels, second: Variable, b: &Levels) -> boo
         left = above;
         right = next;
     }
-    matches!(right, Levels::Outermost)
-        && same_place(first.declared.name.place, second.declared.name.place)
+    match right {
+        Levels::Outermost => same_place(first.declared.name.place, second.declared.name.place),
+        Levels::Inside { .. } => false,
+    }
 }
 
 /// The names of these structures stand at the same places.

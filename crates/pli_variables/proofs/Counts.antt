@@ -113,13 +113,16 @@ with_length : (from : List Held) → length (with_members from) ≤ length from
 with_length [] = omega arith
 with_length (h ∷ hs) = let few : length (while_deeper h hs) ≤ length hs = while_length h hs in omega (arith, few)
 
+drop_none : {X : Type 0} (n : ℕ) → drop {A = X} n [] ≡ []
+drop_none zero = refl
+drop_none (suc n) = refl
+
 drop_again : {X : Type 0} (i k : ℕ) (xs : List X) → drop (i + k) xs ≡ drop k (drop i xs)
 drop_again zero k xs = ap (λ n. drop n xs) (zero_plus k)
   where
     zero_plus : (k : ℕ) → 0 + k ≡ k
     zero_plus k = omega arith
-drop_again (suc i) zero [] = refl
-drop_again (suc i) (suc k) [] = refl
+drop_again (suc i) k [] = drop_none (suc i + k) ∙ sym (drop_none k)
 drop_again (suc i) k (x ∷ xs) = ap (λ n. drop n (x ∷ xs)) (next i k) ∙ drop_again i k xs
   where
     next : (i k : ℕ) → suc i + k ≡ suc (i + k)
@@ -180,7 +183,7 @@ pub leaves_are : {X : Type 0} (f : Held → X) (place : Place) (all : List Held)
 leaves_are f place all =
     let part = part_from all (from_place place all) in
     ap (λ p. leaves_at p (map f (leaves_in all))) (part_counted place all)
-    ∙ ap (take part.count) (sym (drop-map f part.first (leaves_in all))) ∙ sym (take-map f part.count (drop part.first (leaves_in all)))
+    ∙ ap (take part.count) (drop-map f part.first (leaves_in all)) ∙ take-map f part.count (drop part.first (leaves_in all))
     ∙ ap (map f) (part_taken place all)
 
 -- ---- a slice of leaves
