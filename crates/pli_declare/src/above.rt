@@ -146,7 +146,12 @@ impl<'a> Above<'a> {
             return Above::none(alloc);
         }
         let mut rest = &self.levels;
-        while let Levels::Inside { structure, above, .. } = &**rest {
+        while let Levels::Inside {
+            structure,
+            above,
+            ..
+        } = &**rest
+        {
             if level_of(*structure) < level {
                 return Ok(Above {
                     outermost: Some(first),

@@ -42,7 +42,12 @@ fn is_part(qualifiers: &[&[u8]], outermost: Option<Variable>, levels: &Levels) -
         return left == 0;
     };
     let mut rest = levels;
-    while let Levels::Inside { structure, above, .. } = rest {
+    while let Levels::Inside {
+        structure,
+        above,
+        ..
+    } = rest
+    {
         if left == 0 {
             return true;
         }
@@ -62,7 +67,12 @@ fn is_full(qualifiers: &[&[u8]], outermost: Option<Variable>, levels: &Levels) -
         return left == 0;
     };
     let mut rest = levels;
-    while let Levels::Inside { structure, above, .. } = rest {
+    while let Levels::Inside {
+        structure,
+        above,
+        ..
+    } = rest
+    {
         if left == 0 {
             return false;
         }

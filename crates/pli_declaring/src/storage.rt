@@ -108,7 +108,12 @@ fn elements_above(outermost: Option<Variable>, levels: &Levels) -> u64
     };
     let mut elements = 1;
     let mut rest = levels;
-    while let Levels::Inside { structure, above, .. } = rest {
+    while let Levels::Inside {
+        structure,
+        above,
+        ..
+    } = rest
+    {
         elements = times(elements, variable_spans(*structure));
         rest = above;
     }
@@ -189,6 +194,9 @@ pub fn own_data(held: &Held, after: &[Declaration]) -> u64
     if has_members(held, after) {
         return 0;
     }
-    let elements = times(elements_above(held.above.outermost, &held.above.levels), variable_spans(held.variable));
+    let elements = times(
+        elements_above(held.above.outermost, &held.above.levels),
+        variable_spans(held.variable),
+    );
     times(in_words(leaf_bytes(own_attributes(held))), elements)
 }

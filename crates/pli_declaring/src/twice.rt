@@ -43,8 +43,18 @@ fn same_inside(first: Variable, a: &Levels, second: Variable, b: &Levels) -> boo
 {
     let mut left = a;
     let mut right = b;
-    while let Levels::Inside { structure, above, .. } = left {
-        let Levels::Inside { structure: other, above: next, .. } = right else {
+    while let Levels::Inside {
+        structure,
+        above,
+        ..
+    } = left
+    {
+        let Levels::Inside {
+            structure: other,
+            above: next,
+            ..
+        } = right
+        else {
             return false;
         };
         if !same_place(structure.declared.name.place, other.declared.name.place) {

@@ -1,4 +1,4 @@
-use Rattle.std.proofs.Common.{◌≡◌, ◌∙◌, ◌∷◌, [], List, ℕ, Option, take, ap, sym}
+use Rattle.std.proofs.Common.{◌∙◌, ◌∷◌, [], List, ℕ, Option, take, ap, sym}
 use Rattle.pli_language.specs.Means.{is_part}
 use Rattle.pli_declare.specs.declared.scope.Variable.{Variable as VariableHeld}
 use Rattle.pli_declare.specs.declared.above.Levels.{Levels as LevelsHeld}

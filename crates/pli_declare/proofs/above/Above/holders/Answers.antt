@@ -1,4 +1,4 @@
-use Rattle.std.proofs.Common.{◌≡◌, ◌∙◌, ap, sym}
+use Rattle.std.proofs.Common.{◌∙◌, ap, sym}
 use Rattle.pli_language.specs.Declarations.{Variable, holders_at}
 use Rattle.pli_declare.specs.Levels.{levels_of, chain_of, variable_of}
 use Rattle.pli_declare.proofs.Kept.{all_held, inner_held, inner_kept}

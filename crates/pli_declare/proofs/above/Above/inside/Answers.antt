@@ -1,5 +1,5 @@
-use Rattle.std.proofs.Common.{◌≡◌, ◌+◌, ◌∙◌, Option, Some, length, ap, sym, subst, arith}
-use Rattle.pli_language.specs.Declarations.{Variable, level_of, dimensions_of}
+use Rattle.std.proofs.Common.{◌≡◌, ◌+◌, ◌∙◌, Option, length, ap, sym, subst, arith}
+use Rattle.pli_language.specs.Declarations.{Variable, level_of}
 use Rattle.pli_declare.specs.declared.scope.Variable.{Variable as VariableHeld}
 use Rattle.pli_declare.specs.Levels.{chain_of, dimensions_in, IsKeptIn, levels_of, may_hold, variable_of}
 use Rattle.pli_declare.proofs.Kept.{new_kept}
