@@ -1,5 +1,5 @@
 -- A head may stand just where its front may.
-use Rattle.std.proofs.Common.{◌≡◌, List, [], ◌∷◌, Bool, true, false, Option, Some, None, refl, ap, ◌∙◌}
+use Rattle.std.proofs.Common.{◌≡◌, List, [], ◌∷◌, length, Bool, true, false, Option, Some, None, refl, sym, ap, ◌∙◌}
 use Rattle.std.specs.Prelude.{if◌then◌else◌, not, ◌&&◌, ◌||◌}
 use Rattle.pli_language.specs.declared.expr.Place.{Place}
 use Rattle.pli_language.specs.Heads.{Head, ProcedureFront, Declaring, Simple, IfThen, Else, DoGroup, DoWhileGroup, DoCountGroup, BeginBlock, On, System, EndOf}
@@ -8,8 +8,11 @@ use Rattle.pli_language.specs.Nesting as N
 use Rattle.pli_language.specs.Nesting.{Nest, Opener, Frame, InList, ThenDue, ThenWhole, ElseDue, UnitDue, OfProcedure, OfGroup, OfWhile, OfCount, OfBegin, begun, is_on_unit, is_return, entered, settled, with_frames, due, opened, whole, may_return}
 use Rattle.pli_nest.specs.declared.standing.Front.{Front}
 use Rattle.pli_nest.specs.declared.standing.Front.TheVariants as R
+use Rattle.pli_phrase.specs.View.{newest}
+use Rattle.pli_nest.specs.declared.frame.Frame.{Frame as Held}
+use Rattle.pli_nest.specs.View.{frames_of}
 use Rattle.pli_nest.specs.Steps.{no_name, is_else, is_then_whole}
-use Rattle.pli_nest.specs.Standing.{front_of, may_stand, is_stray_else}
+use Rattle.pli_nest.specs.Standing.{takes_whole, front_of, may_stand, is_stray_else}
 
 abbrev pub stood : {X : Type 0} → Option X → Bool
 stood None = false
@@ -241,3 +244,17 @@ unit_stands (f ∷ fs) ls front e n = stands_by f fs ls front e n
     stands_by (ThenWhole x u p) fs ls R.Unit e n = absurd (cc e)
     stands_by (ThenWhole x u p) fs ls R.Nested e n = absurd (cc e)
     stands_by (ThenWhole x u p) fs ls R.Return e n = absurd (cc e)
+
+-- ---- where nothing is open
+
+-- no frame is shown where there is none
+frames_none : (fs : List Held) → length fs ≡ 0 → frames_of fs ≡ []
+unfolding newest
+frames_none [] e = refl
+frames_none (f ∷ fs) e = absurd (cc e)
+
+pub takes_whole_none : (fs : List Held) → length fs ≡ 0 → true ≡ takes_whole (frames_of fs)
+takes_whole_none fs e = sym (ap takes_whole (frames_none fs e))
+
+pub may_stand_none : (fs : List Held) (ls : List Name) (front : Front) → length fs ≡ 0 → may_stand [] ls front ≡ may_stand (frames_of fs) ls front
+may_stand_none fs ls front e = sym (ap (λ u. may_stand u ls front) (frames_none fs e))

@@ -1,6 +1,6 @@
 // Where a source may end inside a head.
 
-ghost use Rattle.std.specs.Prelude.{◌≡◌, ◌∷◌, IfOk, map};
+ghost use Rattle.std.specs.Prelude.{◌≡◌, [], ◌∷◌, IfOk, map};
 ghost use Rattle.pli_head.specs.View.{head_of};
 ghost use Rattle.pli_language.specs.Nesting as N;
 ghost use Rattle.pli_language.specs.View.{name_of};
@@ -69,7 +69,7 @@ fn begins_in(frame: &Frame, labels: &[Name], may: bool) -> bool
 }
 
 /// A whole procedure may stand there.
-#[tactic(auto, using(pli_phrase::proofs::Newest::newest_none, pli_phrase::proofs::Newest::newest_snoc))]
+#[tactic(auto, using(pli_phrase::proofs::Newest::newest_none, pli_phrase::proofs::Newest::newest_snoc, crate::proofs::Stood::takes_whole_none))]
 fn takes_whole(frames: &[Frame]) -> bool
     ensures { result ≡ S.takes_whole (frames_of frames.now) }
 {
@@ -132,14 +132,21 @@ fn is_procedure(front: Front) -> bool
     matches!(front, Front::Procedure)
 }
 
+/// A head may stand behind these labels outside of all.
+fn stands_outside(labels: &[Name], front: Front) -> bool
+    ensures { result ≡ S.may_stand [] (map name_of labels.now) front }
+{
+    is_procedure(front) && !no_name(labels)
+}
+
 /// A head may stand behind these labels, where no ELSE comes.
-#[tactic(auto, using(pli_phrase::proofs::Newest::newest_none, pli_phrase::proofs::Newest::newest_snoc))]
+#[tactic(auto, using(pli_phrase::proofs::Newest::newest_none, pli_phrase::proofs::Newest::newest_snoc, crate::proofs::Stood::may_stand_none))]
 fn may_stand(frames: &[Frame], labels: &[Name], front: Front) -> bool
     ensures { result ≡ S.may_stand (frames_of frames.now) (map name_of labels.now) front }
 {
     match frames.split_last() {
         Some((last, around)) => may_stand_in(front, last, around, may_return(frames), labels),
-        None => is_procedure(front) && !no_name(labels),
+        None => stands_outside(labels, front),
     }
 }
 
