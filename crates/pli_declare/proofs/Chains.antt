@@ -1,13 +1,12 @@
 -- Chains of variables, and the steps of the loops that walk declarations.
-use Rattle.std.proofs.Common.{◌≡◌, ℕ, suc, ◌+◌, ◌<◌, true, false, List, [], ◌∷◌, ◌++◌, map, length, take, drop, get_or, refl, sym, ap, ◌∙◌, append_assoc, append-nil, add-one, drop-cons}
-use Rattle.std.specs.Prelude.{if◌then◌else◌, nat_lt}
+use Rattle.std.proofs.Common.{◌≡◌, ℕ, suc, ◌+◌, ◌<◌, List, [], ◌∷◌, ◌++◌, map, length, take, drop, get_or, refl, sym, ap, ◌∙◌, append_assoc, add-one, drop-cons}
 use Rattle.std.specs.List.{flat_map}
 use Rattle.std.proofs.lemmas.List.{take_more, map_push}
 use Rattle.pli_language.specs.declared.declaration.DeclareItem.{DeclareItem as DeclareItemHeld}
 use Rattle.pli_language.specs.declared.declaration.DeclaredName.{DeclaredName as DeclaredNameHeld}
 use Rattle.pli_language.specs.View.{declared_name_of, declare_item_of}
 use Rattle.pli_language.specs.Tree.{DeclareItem}
-use Rattle.pli_language.specs.Declarations.{Variable, Held, Declaration, level_of, holders, smaller, variables_of, held, chain_after, variable_declared}
+use Rattle.pli_language.specs.Declarations.{Variable, Held, Declaration, holders, variables_of, held, chain_after, variable_declared}
 
 -- the element at a place, and those from it on
 pub drop_here : {X : Type 0} (xs : List X) (i : ℕ) (x : X) → i < length xs → x ≡ get_or xs i x → drop i xs ≡ x ∷ drop (i + 1) xs
@@ -29,17 +28,6 @@ put_variable o p target chain next v vs ws e h n q =
 pub chain_on : (target chain next : List Variable) (v : Variable) (vs ws : List Variable) → vs ≡ v ∷ ws → chain_after chain vs ≡ target → next ≡ holders chain v ++ v ∷ [] → chain_after next ws ≡ target
 unfolding chain_after
 chain_on target chain next v vs ws e h n = ap (λ c. chain_after c ws) n ∙ sym (ap (chain_after chain) e) ∙ h
-
--- those of smaller level, as far as the chain was walked
-pub smaller_on : (level : ℕ) (xs vs ws : List Variable) (a : Variable) (target : List Variable) → vs ≡ a ∷ ws → nat_lt (level_of a) level ≡ true → xs ++ smaller vs level ≡ target → (xs ++ a ∷ []) ++ smaller ws level ≡ target
-smaller_on level xs vs ws a target e t h =
-    let step : smaller vs level ≡ a ∷ smaller ws level = ap (λ u. smaller u level) e ∙ ap (λ b. if b then a ∷ smaller ws level else []) t in
-    append_assoc xs (a ∷ []) (smaller ws level) ∙ ap (λ u. xs ++ u) (sym step) ∙ h
-
-pub smaller_ends : (level : ℕ) (xs vs ws : List Variable) (a : Variable) (target : List Variable) → vs ≡ a ∷ ws → nat_lt (level_of a) level ≡ false → xs ++ smaller vs level ≡ target → xs ≡ target
-smaller_ends level xs vs ws a target e t h =
-    let step : smaller vs level ≡ [] = ap (λ u. smaller u level) e ∙ ap (λ b. if b then a ∷ smaller ws level else []) t in
-    sym (append-nil xs) ∙ ap (λ u. xs ++ u) (sym step) ∙ h
 
 -- ---- the items of a DECLARE
 

@@ -5,4 +5,5 @@ pub mod Weights
 pub mod Indexes
 pub mod Grown
 pub mod Parts
+pub mod Kept
 pub mod Choices

@@ -1,3 +1,4 @@
+pub mod Levels
 pub mod Shown
 pub mod Index
 pub mod ShownBlocks

@@ -1,18 +1,19 @@
 -- The pure declarations and blocks that a program's values show.
-use Rattle.std.specs.Prelude.{map}
-use Rattle.pli_declare.specs.declared.scope.Variable.{Variable as VariableHeld}
+use Rattle.std.specs.Prelude.{List}
+use Rattle.pli_declare.specs.declared.above.Above.{Above as AboveHeld}
 use Rattle.pli_declare.specs.declared.scope.Held.{Held as HeldHeld}
 use Rattle.pli_declare.specs.declared.scope.What.{What as WhatHeld}
 use Rattle.pli_declare.specs.declared.scope.What.TheVariants as W
 use Rattle.pli_declare.specs.declared.scope.Declaration.{Declaration as DeclarationHeld}
-use Rattle.pli_language.specs.View.{name_of, declared_name_of, declare_item_of, procedure_head_of}
+use Rattle.pli_language.specs.View.{name_of, procedure_head_of}
 use Rattle.pli_language.specs.Declarations.{Variable, Held, What, Variable', Label, ProcedureName, Declaration}
+pub use Rattle.pli_declare.specs.Levels.{variable_of, levels_of, chain_of}
 
-abbrev pub variable_of : VariableHeld → Variable
-variable_of v = record { declared = declared_name_of v.declared.now; item = declare_item_of v.item.now }
+abbrev pub above_of : AboveHeld → List Variable
+above_of a = chain_of a.outermost a.levels.value
 
 abbrev pub held_of : HeldHeld → Held
-held_of h = record { variable = variable_of h.variable; above = map variable_of h.above.items }
+held_of h = record { variable = variable_of h.variable; above = above_of h.above }
 
 abbrev pub what_of : WhatHeld → What
 what_of (W.Variable h) = Variable' (held_of h)

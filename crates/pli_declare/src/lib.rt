@@ -1,6 +1,7 @@
 // Which declaration a reference means.
 #![tactic(auto)]
 
+pub mod above;
 mod among;
 mod blocks;
 pub mod names;

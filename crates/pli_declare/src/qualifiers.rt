@@ -1,11 +1,12 @@
 // Qualifiers against the names of the structures that hold a variable.
 
-ghost use Rattle.std.specs.Prelude.{◌≡◌, ℕ, List, ◌≤◌, ◌∷◌, drop, length, map};
+ghost use Rattle.std.specs.Prelude.{◌≡◌, ℕ, List, ◌≤◌, ◌++◌, ◌∷◌, [], length, take};
 ghost use Rattle.pli_language.specs.Keywords.{same_bytes};
 ghost use Rattle.pli_language.specs.Means.{is_part, same_names, qualifiers_of};
 ghost use Rattle.pli_declare.specs.Among.{letters_of, names_above};
-ghost use Rattle.pli_declare.specs.Shown.{variable_of, what_of};
+ghost use Rattle.pli_declare.specs.Shown.{chain_of, what_of};
 
+use crate::above::Levels;
 use crate::scope::{Variable, What};
 
 fn same_bytes(a: &[u8], b: &[u8]) -> bool
@@ -14,47 +15,74 @@ fn same_bytes(a: &[u8], b: &[u8]) -> bool
     a == b
 }
 
-/// How many qualifiers are found once this name is passed, where so many were found before it.
-fn passed(qualifiers: &[&[u8]], next: usize, name: &[u8]) -> usize
-    requires { next ≤ length qualifiers.now }
+/// How many qualifiers are left to be found once this name is passed, where so many were left before it.
+#[tactic(auto, using(crate::proofs::Parts::parts))]
+fn passed(qualifiers: &[&[u8]], left: usize, name: &[u8]) -> usize
+    requires { left ≤ length qualifiers.now }
     ensures within { result ≤ length qualifiers.now }
-    ensures step { (ns : List (List ℕ)) → is_part (letters_of (drop result qualifiers.now)) ns ≡ is_part (letters_of (drop next qualifiers.now)) (name.now ∷ ns) }
+    ensures step { (ns : List (List ℕ)) → is_part (letters_of (take result qualifiers.now)) ns ≡ is_part (letters_of (take left qualifiers.now)) (ns ++ name.now ∷ []) }
 {
-    if next == qualifiers.len() {
-        return next;
+    if left == 0 {
+        return left;
     }
-    let q = qualifiers[next];
+    let q = qualifiers[left - 1];
     if same_bytes(q, name) {
-        return next + 1;
+        return left - 1;
     }
-    next
+    left
 }
 
 /// The qualifiers are the names above, with some left out.
-fn is_part(qualifiers: &[&[u8]], above: &[Variable]) -> bool
-    ensures { result ≡ is_part (letters_of qualifiers.now) (names_above (map variable_of above.now)) }
+#[tactic(auto, using(crate::proofs::Parts::parts))]
+fn is_part(qualifiers: &[&[u8]], outermost: Option<Variable>, levels: &Levels) -> bool
+    ensures { result ≡ is_part (letters_of qualifiers.now) (names_above (chain_of outermost.entry levels.now)) }
 {
-    let mut next = 0;
-    for a in above {
-        next = passed(qualifiers, next, &a.declared.name.letters);
+    let mut left = qualifiers.len();
+    let Some(first) = outermost else {
+        return left == 0;
+    };
+    let mut rest = levels;
+    while let Levels::Inside {
+        structure,
+        above,
+        ..
+    } = rest
+    {
+        if left == 0 {
+            return true;
+        }
+        left = passed(qualifiers, left, &structure.declared.name.letters);
+        rest = above;
     }
-    next == qualifiers.len()
+    passed(qualifiers, left, &first.declared.name.letters) == 0
 }
 
 /// The qualifiers are the names above.
-fn is_full(qualifiers: &[&[u8]], above: &[Variable]) -> bool
-    ensures { result ≡ same_names (letters_of qualifiers.now) (names_above (map variable_of above.now)) }
+#[tactic(auto, using(crate::proofs::Parts::parts))]
+fn is_full(qualifiers: &[&[u8]], outermost: Option<Variable>, levels: &Levels) -> bool
+    ensures { result ≡ same_names (letters_of qualifiers.now) (names_above (chain_of outermost.entry levels.now)) }
 {
-    if qualifiers.len() != above.len() {
-        return false;
-    }
-    for (i, a) in above.iter().enumerate() {
-        let q = qualifiers[i];
-        if !same_bytes(q, &a.declared.name.letters) {
+    let mut left = qualifiers.len();
+    let Some(first) = outermost else {
+        return left == 0;
+    };
+    let mut rest = levels;
+    while let Levels::Inside {
+        structure,
+        above,
+        ..
+    } = rest
+    {
+        if left == 0 {
             return false;
         }
+        if !same_bytes(qualifiers[left - 1], &structure.declared.name.letters) {
+            return false;
+        }
+        left -= 1;
+        rest = above;
     }
-    true
+    left == 1 && same_bytes(qualifiers[0], &first.declared.name.letters)
 }
 
 /// The qualifiers are those of what is declared, with some left out.
@@ -62,9 +90,9 @@ pub fn may_mean(qualifiers: &[&[u8]], what: &What) -> bool
     ensures { result ≡ is_part (letters_of qualifiers.now) (qualifiers_of (what_of what.now)) }
 {
     match what {
-        What::Variable(held) => is_part(qualifiers, &held.above),
-        What::Label => is_part(qualifiers, &[]),
-        What::Procedure(_) => is_part(qualifiers, &[]),
+        What::Variable(held) => is_part(qualifiers, held.above.outermost, &held.above.levels),
+        What::Label => is_part(qualifiers, None, &Levels::Outermost),
+        What::Procedure(_) => is_part(qualifiers, None, &Levels::Outermost),
     }
 }
 
@@ -73,8 +101,8 @@ pub fn means_fully(qualifiers: &[&[u8]], what: &What) -> bool
     ensures { result ≡ same_names (letters_of qualifiers.now) (qualifiers_of (what_of what.now)) }
 {
     match what {
-        What::Variable(held) => is_full(qualifiers, &held.above),
-        What::Label => is_full(qualifiers, &[]),
-        What::Procedure(_) => is_full(qualifiers, &[]),
+        What::Variable(held) => is_full(qualifiers, held.above.outermost, &held.above.levels),
+        What::Label => is_full(qualifiers, None, &Levels::Outermost),
+        What::Procedure(_) => is_full(qualifiers, None, &Levels::Outermost),
     }
 }

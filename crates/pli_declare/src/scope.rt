@@ -1,5 +1,6 @@
 // What is declared: variables, labels and procedures, with what holds them.
 
+use crate::above::Above;
 use crate::names::Names;
 use pli_language::declaration::{DeclareItem, DeclaredName};
 use pli_language::expr::Name;
@@ -12,11 +13,11 @@ pub struct Variable<'a> {
     pub item: &'a DeclareItem,
 }
 
-/// A variable with the structures that hold it, outermost first.
+/// A variable with the structures that hold it.
 #[derive(Drop)]
 pub struct Held<'a> {
     pub variable: Variable<'a>,
-    pub above: Vec<Variable<'a>>,
+    pub above: Above<'a>,
 }
 
 /// What a name is declared as.

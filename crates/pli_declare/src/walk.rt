@@ -1,10 +1,11 @@
 // What a block's list declares, in source order.
 
-ghost use Rattle.std.specs.Prelude.{◌≡◌, ◌++◌, map, take, IfOk, OnOk};
-ghost use Rattle.pli_language.specs.Declarations.{declared_in, declared_in_item, declared_in_stmt, labels_declared, procedure_declared, declared_by, variable_declared, held, holders, holders_at, level_of, chain_after, variables_of};
+ghost use Rattle.std.specs.Prelude.{◌≡◌, ◌++◌, map, OnOk};
+ghost use Rattle.pli_language.specs.Declarations.{declared_in, declared_in_item, declared_in_stmt, labels_declared, procedure_declared, declared_by, variable_declared, held, chain_after, variables_of};
 ghost use Rattle.pli_language.specs.View.{declare_item_of, item_of, items_of, name_of, procedure_head_of, stmt_of};
-ghost use Rattle.pli_declare.specs.Shown.{declaration_of, variable_of};
+ghost use Rattle.pli_declare.specs.Shown.{above_of, declaration_of};
 
+use crate::above::{Above, level_of};
 use crate::scope::{Declaration, Held, Variable, What};
 use pli_language::declaration::DeclareItem;
 use pli_language::expr::Name;
@@ -48,7 +49,7 @@ fn put_declared<'a>(
 ) -> Result<(), AllocError>
     ensures { OnOk result (map declaration_of out.new.items ≡ map declaration_of out.old.items ++ declared_by (map declare_item_of items.now)) }
 {
-    let mut chain = Vec::new(alloc);
+    let mut chain = Above::none(alloc)?;
     for item in items {
         put_names(alloc, out, &mut chain, item)?;
     }
@@ -59,62 +60,22 @@ fn put_declared<'a>(
 fn put_names<'a>(
     alloc: Global,
     out: &mut Vec<Declaration<'a>>,
-    chain: &mut Vec<Variable<'a>>,
+    chain: &mut Above<'a>,
     item: &'a DeclareItem,
 ) -> Result<(), AllocError>
-    ensures put { OnOk result (map declaration_of out.new.items ≡ map declaration_of out.old.items ++ map variable_declared (held (map variable_of chain.old.items) (variables_of (declare_item_of item.now)))) }
-    ensures chain { OnOk result (map variable_of chain.new.items ≡ chain_after (map variable_of chain.old.items) (variables_of (declare_item_of item.now))) }
+    ensures put { OnOk result (map declaration_of out.new.items ≡ map declaration_of out.old.items ++ map variable_declared (held (above_of chain.old) (variables_of (declare_item_of item.now)))) }
+    ensures chain { OnOk result (above_of chain.new ≡ chain_after (above_of chain.old) (variables_of (declare_item_of item.now))) }
 {
     for declared in &item.names {
         let variable = Variable { declared, item };
-        shorten(chain, variable);
+        let above = chain.holders(alloc, level_of(variable))?;
+        *chain = above.inside(alloc, variable)?;
         out.push(Declaration {
             name: &declared.name,
-            what: What::Variable(Held {
-                variable,
-                above: copied(alloc, chain)?,
-            }),
+            what: What::Variable(Held { variable, above }),
         })?;
-        chain.push(variable)?;
     }
     Ok(())
-}
-
-/// Takes what doesn't hold the variable off the chain.
-fn shorten<'a>(chain: &mut Vec<Variable<'a>>, variable: Variable<'a>)
-    ensures { map variable_of chain.new.items ≡ holders (map variable_of chain.old.items) (variable_of variable.entry) }
-{
-    let kept = holders(chain, level_of(variable));
-    chain.truncate(kept);
-}
-
-/// How many of the chain hold a variable of this level.
-fn holders(chain: &[Variable], level: u64) -> usize
-    ensures { map variable_of (take result chain.now) ≡ holders_at (map variable_of chain.now) level }
-{
-    if level <= 1 {
-        return 0;
-    }
-    for (i, a) in chain.iter().enumerate() {
-        if level_of(*a) >= level {
-            return i;
-        }
-    }
-    chain.len()
-}
-
-/// The level of a variable, which is 1 where none is written.
-fn level_of(variable: Variable) -> u64
-    ensures { result ≡ level_of (variable_of variable.entry) }
-{
-    variable.item.level.unwrap_or(1)
-}
-
-/// The same variables.
-fn copied<'a>(alloc: Global, chain: &[Variable<'a>]) -> Result<Vec<Variable<'a>>, AllocError>
-    ensures { IfOk result (λ v. v.items ≡ chain.now) }
-{
-    chain.to_vec(alloc)
 }
 
 #[cycle(walk)]

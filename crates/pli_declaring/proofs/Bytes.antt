@@ -5,7 +5,8 @@ use Rattle.std.proofs.lemmas.Bool.Decides.{nat_tests}
 use Rattle.std.proofs.lemmas.List.{drop_all}
 use Rattle.pli_declare.proofs.Chains.{drop_here}
 use Rattle.pli_language.specs.Tree.{Bound}
-use Rattle.pli_language.specs.Declaring.{bound_span, footprint_of, spans, up_to}
+use Rattle.pli_language.specs.Declarations.{Variable, dimensions_of}
+use Rattle.pli_language.specs.Declaring.{bound_span, elements_above, footprint_of, spans, up_to}
 use Rattle.pli_declaring.specs.Bytes.{capped}
 
 few_or_many : (a : ℕ) → (a ≤ 2097152) ⊎ (2097152 < a)
@@ -81,4 +82,21 @@ data_by r w e l a b leaf above own p q s t u v =
     ∙ ap (λ n. capped (capped (up_to 4 leaf) * n)) (t ∙ ap (λ n. capped (n * b)) u ∙ ap (λ n. capped (capped above * n)) v ∙ capped_both above own)
     ∙ capped_both (up_to 4 leaf) (above * own)
 
-pub ruleset steps = (drop_here, drop_all)
+-- the elements of one structure more inside
+pub elements_last : (vs : List Variable) (v : Variable) → elements_above (vs ++ v ∷ []) ≡ spans (dimensions_of v) * elements_above vs
+elements_last [] v = refl
+elements_last (w ∷ vs) v = ap (λ n. spans (dimensions_of w) * n) (elements_last vs v) ∙ turned (spans (dimensions_of w)) (spans (dimensions_of v)) (elements_above vs)
+  where
+    turned : (a b c : ℕ) → a * (b * c) ≡ b * (a * c)
+    turned a b c = omega arith
+
+-- the elements of the outermost structure
+pub elements_first : (r t s : ℕ) (v : Variable) (target : ℕ) → r ≡ capped (t * s) → s ≡ capped (spans (dimensions_of v)) → capped (t * elements_above (v ∷ [])) ≡ target → r ≡ target
+elements_first r t s v target p q h =
+    let again : capped (r * 1) ≡ target = product_on t r s (spans (dimensions_of v)) 1 (elements_above (v ∷ [])) target p q refl h in
+    stays_few r (t * s) p ∙ same r ∙ again
+  where
+    same : (r : ℕ) → capped r ≡ capped (r * 1)
+    same r = omega arith
+
+pub ruleset steps = (drop_here, drop_all, elements_last, product_on, stays_few, elements_first)

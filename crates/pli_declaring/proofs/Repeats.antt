@@ -1,11 +1,11 @@
 -- Names that stand twice, place by place.
-use Rattle.std.proofs.Common.{◌≡◌, ◌≢◌, ◌<◌, ◌≤◌, ℕ, zero, suc, ◌+◌, ◌-◌, Bool, true, false, List, [], ◌∷◌, ◌++◌, length, take, drop, get_or, map, Option, Some, refl, sym, ap, ◌∙◌, arith, nat_eq, eqb, add-zero, inl, inr, ◌⊎◌}
+use Rattle.std.proofs.Common.{◌≡◌, ◌<◌, ◌≤◌, ℕ, zero, suc, ◌+◌, ◌-◌, Bool, true, false, List, [], ◌∷◌, ◌++◌, length, take, drop, get_or, map, Option, Some, refl, sym, ap, ◌∙◌, arith, nat_eq, eqb, add-zero, inl, inr, ◌⊎◌}
 use Rattle.std.specs.Prelude.{if◌then◌else◌, ◌&&◌, ◌||◌, nat_lt, reverse, slice_get}
 use Rattle.std.specs.List.{list_any}
 use Rattle.std.specs.Option.{option_map_or}
 use Rattle.std.specs.Cmp.Lexicographic.{pointwise}
 use Rattle.std.proofs.lemmas.Bool.Decides.{nat_tests}
-use Rattle.std.proofs.lemmas.List.{reverse-append, drop_all, length-map}
+use Rattle.std.proofs.lemmas.List.{reverse-append, map-append}
 use Rattle.std.proofs.lemmas.List.Folds.{list_any-append}
 use Rattle.pli_language.specs.declared.expr.Name.{Name as NameHeld}
 use Rattle.pli_language.specs.declared.expr.Place.{Place}
@@ -14,14 +14,18 @@ use Rattle.pli_language.specs.declared.fault.SourceKind.TheVariants.{DeclaredTwi
 use Rattle.pli_language.specs.Keywords.{same_bytes}
 use Rattle.pli_language.specs.Tree.{Name}
 use Rattle.pli_language.specs.View.{name_of}
-use Rattle.pli_language.specs.Declarations.{What, Declaration}
+use Rattle.pli_language.specs.Declarations.{Variable, What, Declaration}
 use Rattle.pli_language.specs.Means.{places}
 use Rattle.pli_language.specs.Declaring.{are_rivals, names_twice, same_place, same_places, twice_faults, when}
 use Rattle.pli_language.specs.Refusals.{fault, soonest}
 use Rattle.pli_language.proofs.Least.{soonest-append}
 use Rattle.pli_declare.specs.declared.scope.Declaration.{Declaration as DeclarationHeld}
 use Rattle.pli_declare.specs.declared.scope.Variable.{Variable as VariableHeld}
-use Rattle.pli_declare.specs.Shown.{declaration_of, variable_of, what_of}
+use Rattle.pli_declare.specs.declared.above.Levels.{Levels as LevelsHeld}
+use Rattle.pli_declare.specs.declared.above.Levels as L
+use Rattle.std.specs.declared.rc.Rc.{Rc}
+use Rattle.std.specs.declared.alloc.Global.{Global}
+use Rattle.pli_declare.specs.Shown.{declaration_of, levels_of, variable_of, what_of}
 use Rattle.pli_declare.proofs.Chains.{drop_here, take_here}
 use Rattle.pli_declaring.specs.Rivals.{places_above, rival_at}
 
@@ -157,22 +161,79 @@ twice_on found next target ds i d broken h e inv b m =
     ap (λ u. twice_faults (reverse sofar) (map declaration_of u)) (drop_here ds i d h e) ∙ ap (λ t. here t ++ more) same in
     ap (λ u. soonest next (twice_faults u rest)) (reversed_more declaration_of ds i d h e) ∙ ap (λ o. soonest o more) m ∙ sym (soonest-append found (here broken) more) ∙ ap (soonest found) (sym step) ∙ inv
 
--- ---- places of variables
+-- ---- places of structures, from the last to the first
 
-places_unequal : (ps qs : List Place) → length ps ≢ length qs → same_places ps qs ≡ false
-places_unequal [] [] h = absurd (h refl)
-places_unequal [] (q ∷ qs) h = refl
-places_unequal (p ∷ ps) [] h = refl
-places_unequal (p ∷ ps) (q ∷ qs) h = go (same_place p q) (places_unequal ps qs (λ e. h (ap suc e)))
-  where
-    go : (t : Bool) → same_places ps qs ≡ false → (t && same_places ps qs) ≡ false
-    go true e = e
-    go false e = refl
+no_places : (ps : List Place) (p : Place) → same_places (ps ++ p ∷ []) [] ≡ false
+no_places [] p = refl
+no_places (q ∷ ps) p = refl
 
-names_length : (vs : List VariableHeld) → length (places_above (map variable_of vs)) ≡ length vs
-names_length vs = length-map (map variable_of vs) _ ∙ length-map vs variable_of
+more_places : (ps : List Place) (p : Place) → same_places [] (ps ++ p ∷ []) ≡ false
+more_places [] p = refl
+more_places (q ∷ ps) p = refl
 
-pub places_not_long : (xs ys : List VariableHeld) → length xs ≢ length ys → same_places (places_above (map variable_of xs)) (places_above (map variable_of ys)) ≡ false
-places_not_long xs ys h = places_unequal _ _ (λ e. h (sym (names_length xs) ∙ e ∙ names_length ys))
+and_false : (t : Bool) → (t && false) ≡ false
+and_false true = refl
+and_false false = refl
 
-pub ruleset places_on = (drop_here, drop_all)
+and_swap : (s t u : Bool) → (s && (t && u)) ≡ (t && (s && u))
+and_swap true true u = refl
+and_swap true false u = refl
+and_swap false true u = refl
+and_swap false false u = refl
+
+places_last : (ps qs : List Place) (p q : Place) → same_places (ps ++ p ∷ []) (qs ++ q ∷ []) ≡ (same_place p q && same_places ps qs)
+places_last [] [] p q = refl
+places_last (r ∷ ps) [] p q = ap (λ t. same_place r q && t) (no_places ps p) ∙ and_false (same_place r q) ∙ sym (and_false (same_place p q))
+places_last [] (s ∷ qs) p q = ap (λ t. same_place p s && t) (more_places qs q) ∙ and_false (same_place p s) ∙ sym (and_false (same_place p q))
+places_last (r ∷ ps) (s ∷ qs) p q = ap (λ t. same_place r s && t) (places_last ps qs p q) ∙ and_swap (same_place r s) (same_place p q) (same_places ps qs)
+
+place_above : (vs : List Variable) (v : Variable) → places_above (vs ++ v ∷ []) ≡ places_above vs ++ v.declared.name.place ∷ []
+place_above vs v = map-append (λ (v : Variable). v.declared.name.place) vs (v ∷ [])
+
+-- one structure more on each side, or on one
+pub places_both : (vs ws : List Variable) (v w : Variable) → same_places (places_above (vs ++ v ∷ [])) (places_above (ws ++ w ∷ [])) ≡ (same_place v.declared.name.place w.declared.name.place && same_places (places_above vs) (places_above ws))
+places_both vs ws v w =
+    ap (λ u. same_places u (places_above (ws ++ w ∷ []))) (place_above vs v)
+    ∙ ap (same_places (places_above vs ++ v.declared.name.place ∷ [])) (place_above ws w)
+    ∙ places_last (places_above vs) (places_above ws) v.declared.name.place w.declared.name.place
+
+pub places_other : (ws : List Variable) (w : Variable) → same_places [] (places_above (ws ++ w ∷ [])) ≡ false
+places_other ws w = ap (same_places []) (place_above ws w) ∙ more_places (places_above ws) w.declared.name.place
+
+-- an outermost structure alone, and one with others inside
+some_levels : (first : Variable) (l : LevelsHeld) → same_places [] (places_above (levels_of first l)) ≡ false
+some_levels first L.Outermost = refl
+some_levels first (L.Inside' v count dimensions a above) = places_other (levels_of first above) (variable_of v)
+
+levels_some : (first : Variable) (l : LevelsHeld) → same_places (places_above (levels_of first l)) [] ≡ false
+levels_some first L.Outermost = refl
+levels_some first (L.Inside' v count dimensions a above) = ap (λ u. same_places u []) (place_above (levels_of first above) (variable_of v)) ∙ no_places (places_above (levels_of first above)) (variable_of v).declared.name.place
+
+pub one_and_more : (f g : Variable) (l r : LevelsHeld) (v : VariableHeld) (count dimensions : ℕ) (rc : Rc LevelsHeld Global) → l ≡ L.Outermost → r ≡ L.Inside v count dimensions rc → same_places (places_above (levels_of f l)) (places_above (levels_of g r)) ≡ false
+one_and_more f g l r v count dimensions rc e h =
+    ap (λ (u : LevelsHeld). same_places (places_above (levels_of f u)) (places_above (levels_of g r))) e
+    ∙ ap (λ (u : LevelsHeld). same_places (places_above (f ∷ [])) (places_above (levels_of g u))) h
+    ∙ places_both [] (levels_of g rc.value) f (variable_of v)
+    ∙ ap (λ t. same_place f.declared.name.place (variable_of v).declared.name.place && t) (some_levels g rc.value) ∙ and_false (same_place f.declared.name.place (variable_of v).declared.name.place)
+
+pub more_and_one : (f g : Variable) (l r : LevelsHeld) (v : VariableHeld) (count dimensions : ℕ) (rc : Rc LevelsHeld Global) → l ≡ L.Inside v count dimensions rc → r ≡ L.Outermost → same_places (places_above (levels_of f l)) (places_above (levels_of g r)) ≡ false
+more_and_one f g l r v count dimensions rc e h =
+    ap (λ (u : LevelsHeld). same_places (places_above (levels_of f u)) (places_above (levels_of g r))) e
+    ∙ ap (λ (u : LevelsHeld). same_places (places_above (levels_of f (L.Inside v count dimensions rc))) (places_above (levels_of g u))) h
+    ∙ places_both (levels_of f rc.value) [] (variable_of v) g
+    ∙ ap (λ t. same_place (variable_of v).declared.name.place g.declared.name.place && t) (levels_some f rc.value) ∙ and_false (same_place (variable_of v).declared.name.place g.declared.name.place)
+
+and_true : (t : Bool) → (t && true) ≡ t
+and_true true = refl
+and_true false = refl
+
+pub one_and_one : (f g : Variable) → same_places (places_above (f ∷ [])) (places_above (g ∷ [])) ≡ same_place f.declared.name.place g.declared.name.place
+one_and_one f g = and_true (same_place f.declared.name.place g.declared.name.place)
+
+pub none_and_some : (first : VariableHeld) (l : LevelsHeld) → same_places [] (places_above (levels_of (variable_of first) l)) ≡ false
+none_and_some first l = some_levels (variable_of first) l
+
+pub some_and_none : (first : VariableHeld) (l : LevelsHeld) → same_places (places_above (levels_of (variable_of first) l)) [] ≡ false
+some_and_none first l = levels_some (variable_of first) l
+
+pub ruleset places_on = (places_both, one_and_more, more_and_one, one_and_one, none_and_some, some_and_none)

@@ -2,13 +2,14 @@
 
 ghost use Rattle.std.specs.Prelude.{◌≡◌, ◌+◌, ◌==◌, ◌&&◌, map, min, length};
 ghost use Rattle.std.specs.List.{list_any};
-ghost use Rattle.pli_language.specs.Declarations.{level_of, dimensions_of};
+ghost use Rattle.pli_language.specs.Declarations.{dimensions_of};
 ghost use Rattle.pli_language.specs.Declaring.{root_of, own_attributes, class_attributes, stands_alone, own_dimensions, inherited_dimensions, is_deeper, has_members, goes_on, is_parameter};
 ghost use Rattle.pli_language.specs.Keywords.{same_bytes};
 ghost use Rattle.pli_language.specs.View.{attribute_of, name_of, option_of};
 ghost use Rattle.pli_declaring.specs.Next.{next_in, variable_in};
 ghost use Rattle.pli_declare.specs.Shown.{declaration_of, held_of, variable_of, what_of};
 
+use pli_declare::above::level_of;
 use pli_declare::scope::{Declaration, Held, Variable, What};
 use pli_language::declaration::Attribute;
 use pli_language::expr::Name;
@@ -17,17 +18,7 @@ use pli_language::expr::Name;
 pub fn root_of<'a>(held: &Held<'a>) -> Variable<'a>
     ensures { variable_of result ≡ root_of (held_of held.now) }
 {
-    match held.above.first() {
-        Some(first) => *first,
-        None => held.variable,
-    }
-}
-
-/// The level of a variable, which is 1 where none is written.
-pub fn level_of(variable: Variable) -> u64
-    ensures { result ≡ level_of (variable_of variable.entry) }
-{
-    variable.item.level.unwrap_or(1)
+    held.above.first_or(held.variable)
 }
 
 /// The attributes of the variable's item.
@@ -48,7 +39,7 @@ pub fn class_attributes<'a>(held: &Held<'a>) -> &'a [Attribute]
 pub fn stands_alone(held: &Held) -> bool
     ensures { result ≡ stands_alone (held_of held.now) }
 {
-    held.above.len() == 0
+    held.above.count() == 0
 }
 
 /// How many dimensions a variable has.
@@ -58,16 +49,11 @@ pub fn dimensions_of(variable: Variable) -> usize
     variable.declared.dimensions.len() + variable.item.dimensions.len()
 }
 
-/// How many dimensions the structures have that hold the variable, as far as a number goes.
-#[tactic(auto, using(pli_declare::proofs::Chains::drop_here, std::proofs::lemmas::List::drop_all))]
+/// How many dimensions the structures have that hold the variable.
 pub fn inherited_dimensions(held: &Held) -> usize
-    ensures { result ≡ min (inherited_dimensions (held_of held.now)) 18446744073709551615 }
+    ensures { result ≡ inherited_dimensions (held_of held.now) }
 {
-    let mut total: usize = 0;
-    for variable in &held.above {
-        total = total.saturating_add(dimensions_of(*variable));
-    }
-    total
+    held.above.dimensions()
 }
 
 /// How many dimensions an element of the variable has, as far as a number goes.
@@ -81,7 +67,7 @@ pub fn all_dimensions(held: &Held) -> usize
 pub fn is_deeper(held: &Held, next: &Held) -> bool
     ensures { result ≡ is_deeper (held_of held.now) (held_of next.now) }
 {
-    held.above.len() < next.above.len()
+    held.above.count() < next.above.count()
 }
 
 /// The variable that is declared, if one is.

@@ -7,12 +7,13 @@ ghost use Rattle.pli_language.specs.Declarations.{level_of};
 ghost use Rattle.pli_language.specs.Declaring.{are_rivals, are_siblings, declares, is_own, names_twice, parameter_faults, same_place, same_places, twice_faults, when};
 ghost use Rattle.pli_language.specs.Refusals.{fault, soonest};
 ghost use Rattle.pli_language.specs.View.{name_of};
-ghost use Rattle.pli_declare.specs.Shown.{declaration_of, variable_of, what_of};
+ghost use Rattle.pli_declare.specs.Shown.{above_of, declaration_of, levels_of, variable_of, what_of};
 ghost use Rattle.pli_language.specs.declared.fault.SourceKind.TheVariants.{Undeclared};
 ghost use Rattle.pli_declaring.specs.Rivals.{places_above, rival_at, is_variable_of};
 
-use crate::held::{is_among, level_of, same_bytes, stands_alone, variable_in};
+use crate::held::{is_among, same_bytes, stands_alone, variable_in};
 use crate::least::noted;
+use pli_declare::above::{Above, Levels, level_of};
 use pli_declare::names::Names;
 use pli_declare::scope::{Declaration, Variable, What};
 use pli_language::expr::{Name, Place};
@@ -35,21 +36,49 @@ fn same_place(a: Place, b: Place) -> bool
     a.line == b.line && a.column == b.column
 }
 
-/// The names of these variables stand at the same places.
+/// The names of these structures stand at the same places, where these are the outermost ones.
 #[tactic(auto, using(crate::proofs::Repeats::places_on))]
-fn same_places(first: &[Variable], second: &[Variable]) -> bool
-    ensures { result ≡ same_places (places_above (map variable_of first.now)) (places_above (map variable_of second.now)) }
+fn same_inside(first: Variable, a: &Levels, second: Variable, b: &Levels) -> bool
+    ensures { result ≡ same_places (places_above (levels_of (variable_of first.entry) a.now)) (places_above (levels_of (variable_of second.entry) b.now)) }
 {
-    if first.len() != second.len() {
-        return false;
-    }
-    for (i, a) in first.iter().enumerate() {
-        let b = second[i];
-        if !same_place(a.declared.name.place, b.declared.name.place) {
+    let mut left = a;
+    let mut right = b;
+    while let Levels::Inside {
+        structure,
+        above,
+        ..
+    } = left
+    {
+        let Levels::Inside {
+            structure: other,
+            above: next,
+            ..
+        } = right
+        else {
+            return false;
+        };
+        if !same_place(structure.declared.name.place, other.declared.name.place) {
             return false;
         }
+        left = above;
+        right = next;
     }
-    true
+    match right {
+        Levels::Outermost => same_place(first.declared.name.place, second.declared.name.place),
+        Levels::Inside { .. } => false,
+    }
+}
+
+/// The names of these structures stand at the same places.
+#[tactic(auto, using(crate::proofs::Repeats::places_on))]
+fn same_places(a: &Above, b: &Above) -> bool
+    ensures { result ≡ same_places (places_above (above_of a.now)) (places_above (above_of b.now)) }
+{
+    match (a.outermost, b.outermost) {
+        (Some(first), Some(second)) => same_inside(first, &a.levels, second, &b.levels),
+        (None, None) => true,
+        _ => false,
+    }
 }
 
 /// The first stands before the second in the same structure, directly under the same one.

@@ -10,10 +10,9 @@ ghost use Rattle.pli_declaring.specs.Rules.{builtin_is_bad, dimensions_are_bad, 
 use crate::attribute::{
     Row, attributes_clash, builtin_clash, has, has_class, has_kind, is_builtin, is_number_name,
 };
-use crate::held::{
-    dimensions_of, has_members, is_parameter, level_of, own_attributes, stands_alone,
-};
+use crate::held::{dimensions_of, has_members, is_parameter, own_attributes, stands_alone};
 use crate::initial::initial_fits;
+use pli_declare::above::level_of;
 use pli_declare::scope::{Declaration, Held};
 use pli_language::declaration::Attribute;
 use pli_language::expr::Name;

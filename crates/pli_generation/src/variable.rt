@@ -78,7 +78,7 @@ fn member_held(held: &Held) -> Member
     ensures { member_of result ≡ G.member_held (held_of held.now) }
 {
     Member {
-        depth: held.above.len(),
+        depth: held.above.count(),
         dimensions: dimensions_of(held.variable),
     }
 }

@@ -53,11 +53,11 @@ shown r n members is_whole leaves = record { reference = r; leaves = leaves; dim
 abbrev leaves_from : ℕ → List Leaf → List Y.Leaf
 leaves_from n leaves = map (λ l. leaf_behind n (leaf_of l)) leaves
 
-pub element_shown : (s : ShapeHeld) (r : Y.Reference) (leaves : List Leaf) → leaves ≡ s.leaves.items → shown r 0 s.has_members false (leaves_from s.dimensions leaves) ≡ designated_by (shape_of s) r true
-element_shown s r leaves e = ap₂ (shown r 0 s.has_members) (sym (and_false s.is_alone)) (ap (leaves_from s.dimensions) e ∙ leaves_behind s.dimensions s.leaves.items)
+pub element_shown : (s : ShapeHeld) (r : Y.Reference) (leaves : List Leaf) → map leaf_of leaves ≡ (shape_of s).leaves → shown r 0 s.has_members false (leaves_from s.dimensions leaves) ≡ designated_by (shape_of s) r true
+element_shown s r leaves e = ap₂ (shown r 0 s.has_members) (sym (and_false s.is_alone)) (leaves_behind s.dimensions leaves ∙ ap (map (leaf_behind s.dimensions)) e)
 
-pub whole_shown : (s : ShapeHeld) (r : Y.Reference) (leaves : List Leaf) → leaves ≡ s.leaves.items → shown r s.dimensions s.has_members s.is_alone (leaves_from 0 leaves) ≡ designated_by (shape_of s) r false
-whole_shown s r leaves e = ap₂ (shown r s.dimensions s.has_members) (sym (and_true s.is_alone)) (ap (leaves_from 0) e ∙ leaves_behind 0 s.leaves.items)
+pub whole_shown : (s : ShapeHeld) (r : Y.Reference) (leaves : List Leaf) → map leaf_of leaves ≡ (shape_of s).leaves → shown r s.dimensions s.has_members s.is_alone (leaves_from 0 leaves) ≡ designated_by (shape_of s) r false
+whole_shown s r leaves e = ap₂ (shown r s.dimensions s.has_members) (sym (and_true s.is_alone)) (leaves_behind 0 leaves ∙ ap (map (leaf_behind 0)) e)
 
 -- lists that are put together
 pub ruleset lists = (append_assoc, append-nil)

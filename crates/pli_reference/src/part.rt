@@ -65,7 +65,7 @@ fn element<'t, 'a>(shape: &'t Shape<'a>, reference: Reference<'a>) -> Designated
 {
     Designated {
         reference,
-        leaves: &shape.leaves,
+        leaves: shape.leaves(),
         subscripted: shape.dimensions,
         dimensions: 0,
         has_members: shape.has_members,
@@ -79,7 +79,7 @@ fn unsubscripted<'t, 'a>(shape: &'t Shape<'a>, reference: Reference<'a>) -> Desi
 {
     Designated {
         reference,
-        leaves: &shape.leaves,
+        leaves: shape.leaves(),
         subscripted: 0,
         dimensions: shape.dimensions,
         has_members: shape.has_members,

@@ -7,3 +7,4 @@ pub mod Areas
 pub mod Shaped
 pub mod Procedures
 pub mod Keeping
+pub mod Counts

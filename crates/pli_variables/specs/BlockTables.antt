@@ -22,8 +22,8 @@ table_of t = record { declared = shapes_shown t.declared.items; variables = shap
 
 abbrev pub table_given : List Block → Home → BlockTable
 table_given blocks home = record {
-  declared = map (λ d. shape_given blocks home d.what) home.block.declarations;
-  variables = map (whole_given blocks home) home.groups;
+  declared = map (λ d. shape_given home d.what) home.block.declarations;
+  variables = map (whole_given home) home.groups;
   parameters = map (λ n. index_where (begins_named n) home.groups) (names_of home.block.head);
   procedures = procedure_row blocks home.block.declarations;
 }

@@ -6,3 +6,4 @@ pub mod ShownShapes
 pub mod BlockTables
 pub mod Procedures
 pub mod Kept
+pub mod Counts

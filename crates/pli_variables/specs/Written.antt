@@ -75,6 +75,3 @@ type_with written all area =
     else (if has 4 all then Y.BitLeaf else (if has 5 all then Y.PointerLeaf
     else (if has 6 all then Y.OffsetLeaf area else (if has 7 all then Y.AreaLeaf (M.size_of_area written all)
     else Y.FixedLeaf (precision_of (precisions_in all))))))
-
-abbrev pub groups_written : List (Vec WrittenExtentHeld Global) → List (List M.WrittenExtent)
-groups_written vs = map (λ v. all_shown v.items) vs

@@ -34,8 +34,8 @@ fn table_given<'a>(
 ) -> Result<BlockTable<'a>, AllocError>
     ensures { IfOk result (λ t. table_of t ≡ table_given (blocks_shown meant.now.scopes.now) (home_of home.now)) }
 {
-    let declared = shapes_given(alloc, meant, home)?;
-    let variables = wholes_given(alloc, meant, home)?;
+    let declared = shapes_given(alloc, home)?;
+    let variables = wholes_given(alloc, home)?;
     let parameters = indices_of(alloc, &home.groups, parameters_of(home.block))?;
     let procedures = procedure_row(alloc, &meant.scopes.blocks, &home.block.names.declarations)?;
     Ok(BlockTable {
@@ -53,9 +53,9 @@ fn table_of_block<'a>(
     block: &Block<'a>,
     number: usize,
 ) -> Result<BlockTable<'a>, AllocError>
-    ensures { IfOk result (λ t. table_of t ≡ table_given (blocks_shown meant.now.scopes.now) (home_in (block_of block.now) number)) }
+    ensures { IfOk result (λ t. table_of t ≡ table_given (blocks_shown meant.now.scopes.now) (home_in (blocks_shown meant.now.scopes.now) (block_of block.now) number)) }
 {
-    let home = Home::new(alloc, block, number)?;
+    let home = Home::new(alloc, meant, block, number)?;
     table_given(alloc, meant, &home)
 }
 

@@ -7,6 +7,7 @@ mod extent;
 mod home;
 mod kind;
 mod leaf;
+mod leaves;
 mod meant;
 mod members;
 mod parameter;

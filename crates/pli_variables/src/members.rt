@@ -5,6 +5,7 @@ ghost use Rattle.pli_typing.specs.Variables.{from_place, is_at, leaves_in, membe
 ghost use Rattle.pli_language.specs.View.{option_of};
 ghost use Rattle.pli_declare.specs.Shown.{declaration_of, held_of, what_of};
 ghost use Rattle.pli_variables.specs.Held.{groups_held, is_leaf, member_in, root_in};
+ghost use Rattle.pli_variables.specs.Counts.{counts_in};
 
 use pli_declare::scope::{Declaration, Held, What};
 use pli_declaring::attribute::{Row, has};
@@ -24,12 +25,12 @@ fn member_in<'a, 'b>(what: &'b What<'a>) -> Option<&'b Held<'a>>
 }
 
 /// The same variable.
-fn copied<'a>(alloc: Global, held: &Held<'a>) -> Result<Held<'a>, AllocError>
+fn copied<'a>(held: &Held<'a>) -> Result<Held<'a>, AllocError>
     ensures { IfOk result (λ h. held_of h ≡ held_of held.now) }
 {
     Ok(Held {
         variable: held.variable,
-        above: held.above.to_vec(alloc)?,
+        above: held.above.shared()?,
     })
 }
 
@@ -44,7 +45,7 @@ fn members_first<'a>(
     let mut members = Vec::new(alloc);
     for declaration in declarations {
         match member_in(&declaration.what) {
-            Some(held) => members.push(copied(alloc, held)?)?,
+            Some(held) => members.push(copied(held)?)?,
             None => return Ok(members),
         }
     }
@@ -60,7 +61,7 @@ fn with_first<'a>(
     ensures { IfOk result (λ v. map held_of v.items ≡ held_of held.now ∷ members_first (map declaration_of after.now)) }
 {
     let mut members = members_first(alloc, after)?;
-    members.insert(0, copied(alloc, held)?)?;
+    members.insert(0, copied(held)?)?;
     Ok(members)
 }
 
@@ -133,6 +134,22 @@ pub fn count_of_leaves(all: &[Held]) -> usize
         }
     }
     count
+}
+
+/// How many leaves stand from each of these on.
+#[tactic(auto, using(crate::proofs::Counts::counts))]
+pub fn counts_in(alloc: Global, all: &[Held]) -> Result<Vec<usize>, AllocError>
+    ensures { IfOk result (λ v. v.items ≡ counts_in (map held_of all.now)) }
+{
+    let mut counts = Vec::new(alloc);
+    let mut left = count_of_leaves(all);
+    for (i, held) in all.iter().enumerate() {
+        counts.push(left)?;
+        if is_leaf(held, &all[i + 1..]) {
+            left = left.saturating_sub(1);
+        }
+    }
+    Ok(counts)
 }
 
 /// The variable's name stands at this place.

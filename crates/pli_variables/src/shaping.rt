@@ -1,122 +1,108 @@
 // How the shapes of what a block declares are made.
 
 ghost use Rattle.std.specs.Prelude.{◌≡◌, ◌-◌, [], map, slice_get, unwrap_or, IfOk};
-ghost use Rattle.pli_typing.specs.TypedView.{part_of as part_typed, variable_of as variable_typed};
-ghost use Rattle.pli_typing.specs.Variables.{is_structure, part_of};
+ghost use Rattle.pli_typing.specs.TypedView.{leaf_of as leaf_typed, part_of as part_typed, variable_of as variable_typed};
 ghost use Rattle.pli_language.specs.View.{option_of};
 ghost use Rattle.pli_declare.specs.Shown.{held_of, what_of};
 ghost use Rattle.pli_variables.specs.Held.{groups_held};
-ghost use Rattle.pli_variables.specs.Rows.{blocks_shown};
-ghost use Rattle.pli_variables.specs.ShownShapes.{home_of, shape_among, shape_found, shape_given, shape_of, shape_with, shapes_shown, whole_given};
-ghost use Rattle.pli_variables.specs.Written.{all_shown, groups_written};
+ghost use Rattle.pli_variables.specs.Counts.{count_at, part_between};
+ghost use Rattle.pli_variables.specs.ShownShapes.{counts_shown, home_of, leaves_shown, shape_among, shape_found, shape_given, shape_of, shape_with, shapes_shown, whole_given};
 
-use crate::extent::WrittenExtent;
 use crate::home::Home;
-use crate::leaf::{count_of_dimensions, leaves_among};
-use crate::meant::Meant;
-use crate::members::{count_of_leaves, from_place, with_members};
+use crate::leaf::count_of_dimensions;
+use crate::leaves::Leaves;
+use crate::members::{from_place, with_members};
 use crate::shape::Shape;
 use crate::variable::{members_at, variable_among};
 use pli_declare::scope::{Held, What};
 use pli_declaring::held::stands_alone;
-use pli_typing::typed::{Part, Variable};
+use pli_typing::typed::{Leaf, Part, Variable};
 use std::alloc::{AllocError, Global};
+use std::rc::Rc;
 
-/// Which part a variable is of the one with these members.
-fn part_of(all: &[Held], held: &Held) -> Part
-    ensures { part_typed result ≡ part_of (map held_of all.now) (held_of held.now) }
+/// How many leaves stand from this member on.
+fn count_at(counts: &[usize], index: usize) -> usize
+    ensures { result ≡ count_at counts.now index }
 {
-    let from = from_place(held.variable.declared.name.place, all);
-    Part {
-        first: count_of_leaves(all).saturating_sub(count_of_leaves(from)),
-        count: count_of_leaves(with_members(from)),
+    match counts.get(index) {
+        Some(count) => *count,
+        None => 0,
     }
 }
 
-/// The variable, one of these, has members.
-fn is_structure(all: &[Held], held: &Held) -> bool
-    ensures { result ≡ is_structure (map held_of all.now) (held_of held.now) }
+/// The part that the members are that stand from one place to another.
+fn part_between(counts: &[usize], from: usize, to: usize) -> Part
+    ensures { part_typed result ≡ part_between counts.now from to }
 {
-    with_members(from_place(held.variable.declared.name.place, all)).len() > 1
+    let left = count_at(counts, from);
+    Part {
+        first: count_at(counts, 0).saturating_sub(left),
+        count: left.saturating_sub(count_at(counts, to)),
+    }
 }
 
-/// The shape of a variable that belongs to this one of level 1, which has these members with these open extents.
+/// The shape of a variable that belongs to this one of level 1, which has these members and leaves.
 fn shape_with<'a>(
-    alloc: Global,
-    meant: &Meant,
     variable: Variable,
     all: &[Held<'a>],
-    written: &[WrittenExtent],
+    counts: &[usize],
+    group: Rc<Vec<Leaf<'a>>>,
     held: &Held,
 ) -> Result<Shape<'a>, AllocError>
-    ensures { IfOk result (λ s. shape_of s ≡ shape_with (blocks_shown meant.now.scopes.now) (variable_typed variable) (map held_of all.now) (all_shown written.now) (held_of held.now)) }
+    ensures { IfOk result (λ s. shape_of s ≡ shape_with (variable_typed variable) (map held_of all.now) counts.now (map leaf_typed group.entry.value.items) (held_of held.now)) }
 {
-    let members = with_members(from_place(held.variable.declared.name.place, all));
-    let leaves = leaves_among(alloc, meant, variable.block, written, members)?;
-    let dimensions = count_of_dimensions(held)?;
+    let from = from_place(held.variable.declared.name.place, all);
+    let index = all.len().saturating_sub(from.len());
+    let size = with_members(from).len();
     Ok(Shape {
         variable,
-        part: part_of(all, held),
-        leaves,
-        dimensions,
-        has_members: is_structure(all, held),
+        part: part_between(counts, index, index + size),
+        group,
+        dimensions: count_of_dimensions(held)?,
+        has_members: size > 1,
         is_alone: stands_alone(held),
     })
-}
-
-/// The open extents of one of these variables, or nothing.
-fn written_at<'a, 'b>(
-    written: &'b [Vec<WrittenExtent<'a>>],
-    index: usize,
-) -> &'b [WrittenExtent<'a>]
-    ensures { all_shown result.now ≡ unwrap_or (slice_get (groups_written written.now) index) [] }
-{
-    if index < written.len() {
-        return &written[index];
-    }
-    &[]
 }
 
 /// The shape of a variable that belongs to this one of level 1, which is one of these.
 fn shape_found<'a>(
     alloc: Global,
-    meant: &Meant,
     variable: Variable,
     groups: &[Vec<Held<'a>>],
-    written: &[Vec<WrittenExtent>],
+    leaves: &[Leaves<'a>],
     held: &Held,
 ) -> Result<Shape<'a>, AllocError>
-    ensures { IfOk result (λ s. shape_of s ≡ shape_found (blocks_shown meant.now.scopes.now) (variable_typed variable) (groups_held groups.now) (groups_written written.now) (held_of held.now)) }
+    ensures { IfOk result (λ s. shape_of s ≡ shape_found (variable_typed variable) (groups_held groups.now) (counts_shown leaves.now) (leaves_shown leaves.now) (held_of held.now)) }
 {
     let all = members_at(groups, variable.index);
-    let extents = written_at(written, variable.index);
-    shape_with(alloc, meant, variable, all, extents, held)
+    match leaves.get(variable.index) {
+        Some(found) => shape_with(variable, all, &found.counts, found.all.clone()?, held),
+        None => shape_with(variable, all, &[], Rc::new(alloc, Vec::new(alloc))?, held),
+    }
 }
 
 /// The shape of a variable of this block.
 fn shape_among<'a>(
     alloc: Global,
-    meant: &Meant,
     home: &Home<'_, 'a>,
     held: &Held,
 ) -> Result<Shape<'a>, AllocError>
-    ensures { IfOk result (λ s. shape_of s ≡ shape_among (blocks_shown meant.now.scopes.now) (home_of home.now) (held_of held.now)) }
+    ensures { IfOk result (λ s. shape_of s ≡ shape_among (home_of home.now) (held_of held.now)) }
 {
     let variable = variable_among(home.block, home.number, &home.groups, held);
-    shape_found(alloc, meant, variable, &home.groups, &home.written, held)
+    shape_found(alloc, variable, &home.groups, &home.leaves, held)
 }
 
 /// The shape of what is declared, if it is a variable.
 fn shape_given<'a>(
     alloc: Global,
-    meant: &Meant,
     home: &Home<'_, 'a>,
     what: &What,
 ) -> Result<Option<Shape<'a>>, AllocError>
-    ensures { IfOk result (λ s. option_of shape_of s ≡ shape_given (blocks_shown meant.now.scopes.now) (home_of home.now) (what_of what.now)) }
+    ensures { IfOk result (λ s. option_of shape_of s ≡ shape_given (home_of home.now) (what_of what.now)) }
 {
     match what {
-        What::Variable(held) => Ok(Some(shape_among(alloc, meant, home, held)?)),
+        What::Variable(held) => Ok(Some(shape_among(alloc, home, held)?)),
         What::Label => Ok(None),
         What::Procedure(_) => Ok(None),
     }
@@ -125,14 +111,13 @@ fn shape_given<'a>(
 /// The shape of a variable of level 1, which is the first of these.
 fn whole_given<'a>(
     alloc: Global,
-    meant: &Meant,
     home: &Home<'_, 'a>,
     members: &[Held],
 ) -> Result<Option<Shape<'a>>, AllocError>
-    ensures { IfOk result (λ s. option_of shape_of s ≡ whole_given (blocks_shown meant.now.scopes.now) (home_of home.now) (map held_of members.now)) }
+    ensures { IfOk result (λ s. option_of shape_of s ≡ whole_given (home_of home.now) (map held_of members.now)) }
 {
     match members.first() {
-        Some(held) => Ok(Some(shape_among(alloc, meant, home, held)?)),
+        Some(held) => Ok(Some(shape_among(alloc, home, held)?)),
         None => Ok(None),
     }
 }
@@ -141,14 +126,13 @@ fn whole_given<'a>(
 #[tactic(auto, using(crate::proofs::Grouping::groups))]
 pub fn shapes_given<'a>(
     alloc: Global,
-    meant: &Meant,
     home: &Home<'_, 'a>,
 ) -> Result<Vec<Option<Shape<'a>>>, AllocError>
-    ensures { IfOk result (λ v. shapes_shown v.items ≡ map (λ d. shape_given (blocks_shown meant.now.scopes.now) (home_of home.now) d.what) (home_of home.now).block.declarations) }
+    ensures { IfOk result (λ v. shapes_shown v.items ≡ map (λ d. shape_given (home_of home.now) d.what) (home_of home.now).block.declarations) }
 {
     let mut out = Vec::new(alloc);
     for declaration in &home.block.names.declarations {
-        out.push(shape_given(alloc, meant, home, &declaration.what)?)?;
+        out.push(shape_given(alloc, home, &declaration.what)?)?;
     }
     Ok(out)
 }
@@ -157,14 +141,13 @@ pub fn shapes_given<'a>(
 #[tactic(auto, using(crate::proofs::Grouping::groups))]
 pub fn wholes_given<'a>(
     alloc: Global,
-    meant: &Meant,
     home: &Home<'_, 'a>,
 ) -> Result<Vec<Option<Shape<'a>>>, AllocError>
-    ensures { IfOk result (λ v. shapes_shown v.items ≡ map (whole_given (blocks_shown meant.now.scopes.now) (home_of home.now)) (home_of home.now).groups) }
+    ensures { IfOk result (λ v. shapes_shown v.items ≡ map (whole_given (home_of home.now)) (home_of home.now).groups) }
 {
     let mut out = Vec::new(alloc);
     for members in &home.groups {
-        out.push(whole_given(alloc, meant, home, members)?)?;
+        out.push(whole_given(alloc, home, members)?)?;
     }
     Ok(out)
 }

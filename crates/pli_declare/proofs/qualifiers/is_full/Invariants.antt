@@ -1,8 +1,11 @@
-use Rattle.std.proofs.Common.{◌≡◌, map, drop}
+use Rattle.std.proofs.Common.{◌≡◌, ◌≤◌, length, take}
 use Rattle.pli_language.specs.Means.{same_names}
 use Rattle.pli_declare.specs.Among.{letters_of, names_above}
-use Rattle.pli_declare.specs.Shown.{variable_of}
+use Rattle.pli_declare.specs.Levels.{levels_of, variable_of}
 use Rattle.pli_declare.proofs.qualifiers.is_full.Given as goal
 
-abbrev pub invariant-loop-i : goal.invariant-loop-i
-invariant-loop-i l = same_names (letters_of (drop l.i l.qualifiers)) (names_above (map variable_of (drop l.i l.above))) ≡ same_names (letters_of l.qualifiers) (names_above (map variable_of l.above))
+abbrev pub invariant-loop-rest : goal.invariant-loop-rest
+invariant-loop-rest l = record {
+  within : l.left ≤ length l.qualifiers;
+  same : same_names (letters_of (take l.left l.qualifiers)) (names_above (levels_of (variable_of l.first) l.rest)) ≡ same_names (letters_of l.qualifiers) (names_above (levels_of (variable_of l.first) l.levels));
+}

@@ -1,11 +1,11 @@
-use Rattle.std.proofs.Common.{◌≡◌, ◌≤◌, length, map, drop}
+use Rattle.std.proofs.Common.{◌≡◌, ◌≤◌, length, take}
 use Rattle.pli_language.specs.Means.{is_part}
 use Rattle.pli_declare.specs.Among.{letters_of, names_above}
-use Rattle.pli_declare.specs.Shown.{variable_of}
+use Rattle.pli_declare.specs.Levels.{levels_of, variable_of}
 use Rattle.pli_declare.proofs.qualifiers.is_part.Given as goal
 
-abbrev pub invariant-loop-a : goal.invariant-loop-a
-invariant-loop-a l = record {
-  within : l.next ≤ length l.qualifiers;
-  left : is_part (letters_of (drop l.next l.qualifiers)) (names_above (map variable_of (drop l.a-index l.above))) ≡ is_part (letters_of l.qualifiers) (names_above (map variable_of l.above));
+abbrev pub invariant-loop-rest : goal.invariant-loop-rest
+invariant-loop-rest l = record {
+  within : l.left ≤ length l.qualifiers;
+  part : is_part (letters_of (take l.left l.qualifiers)) (names_above (levels_of (variable_of l.first) l.rest)) ≡ is_part (letters_of l.qualifiers) (names_above (levels_of (variable_of l.first) l.levels));
 }

@@ -1,11 +1,11 @@
-use Rattle.std.proofs.Common.{◌≡◌, ◌*◌, map, drop}
+use Rattle.std.proofs.Common.{◌≡◌, ◌*◌}
 use Rattle.pli_language.specs.Declaring.{elements_above}
-use Rattle.pli_declare.specs.Shown.{variable_of}
+use Rattle.pli_declare.specs.Shown.{levels_of, variable_of}
 use Rattle.pli_declaring.specs.Bytes.{capped}
 use Rattle.pli_declaring.proofs.storage.elements_above.Given as goal
 
-abbrev pub invariant-loop-variable : goal.invariant-loop-variable
-invariant-loop-variable l = record {
+abbrev pub invariant-loop-rest : goal.invariant-loop-rest
+invariant-loop-rest l = record {
   few : l.elements ≡ capped l.elements;
-  product : capped (l.elements * elements_above (map variable_of (drop l.variable-index l.above))) ≡ capped (elements_above (map variable_of l.above));
+  product : capped (l.elements * elements_above (levels_of (variable_of l.first) l.rest)) ≡ capped (elements_above (levels_of (variable_of l.first) l.levels));
 }

@@ -3,4 +3,4 @@ use Rattle.pli_reference.proofs.Parts.{element_shown}
 use Rattle.pli_reference.proofs.part.element.Goals as goal
 
 pub returns : goal.returns
-returns c = element_shown c.args.shape.now (reference_of c.args.reference) c.deref.result.now c.deref.ensures.value
+returns c = element_shown c.args.shape.now (reference_of c.args.reference) c.leaves.result.now c.leaves.ensures

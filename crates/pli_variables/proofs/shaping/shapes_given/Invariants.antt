@@ -1,8 +1,7 @@
 use Rattle.std.proofs.Common.{◌≡◌, ◌++◌, drop, map}
 use Rattle.pli_declare.specs.Shown.{declaration_of}
-use Rattle.pli_variables.specs.Rows.{blocks_shown}
 use Rattle.pli_variables.specs.ShownShapes.{home_of, shape_given, shapes_shown}
 use Rattle.pli_variables.proofs.shaping.shapes_given.Given as goal
 
 abbrev pub invariant-loop-declaration : goal.invariant-loop-declaration
-invariant-loop-declaration l = shapes_shown l.out.items ++ map (λ d. shape_given (blocks_shown l.meant.scopes.now) (home_of l.home) d.what) (map declaration_of (drop l.declaration-index l.home.block.now.names.declarations.items)) ≡ map (λ d. shape_given (blocks_shown l.meant.scopes.now) (home_of l.home) d.what) (home_of l.home).block.declarations
+invariant-loop-declaration l = shapes_shown l.out.items ++ map (λ d. shape_given (home_of l.home) d.what) (map declaration_of (drop l.declaration-index l.home.block.now.names.declarations.items)) ≡ map (λ d. shape_given (home_of l.home) d.what) (home_of l.home).block.declarations
