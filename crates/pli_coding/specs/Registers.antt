@@ -50,6 +50,9 @@ a3 = record { index = 13; in_range = lit< tt }
 abbrev pub a4 : Register
 a4 = record { index = 14; in_range = lit< tt }
 
+abbrev pub a5 : Register
+a5 = record { index = 15; in_range = lit< tt }
+
 -- the number of a service
 abbrev pub a7 : Register
 a7 = record { index = 17; in_range = lit< tt }

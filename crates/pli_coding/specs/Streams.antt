@@ -16,10 +16,11 @@ use Rattle.pli_language.specs.Tree as T
 use Rattle.pli_typing.specs.TypedTree as Y
 use Rattle.pli_meaning.specs.Codes.{endfile_code}
 use Rattle.pli_meaning.specs.Numbers.{operator_precision}
-use Rattle.pli_coding.specs.Registers.{zero_register, frame_register, a0, a1, a2, a3, a4, u0, u1, u2, u3}
+use Rattle.rv_meaning.specs.declared.instr.Register.{Register}
+use Rattle.pli_coding.specs.Registers.{zero_register, frame_register, a0, a1, a2, a3, a4, a5, u0, u1, u2, u3}
 use Rattle.pli_coding.specs.Assembly.{Item, Plain, BaseIn, OffsetOf, DataPlace, JumpAhead, JumpBack, Code, size_of}
 use Rattle.pli_coding.specs.Instructions.{immediate, registers, add, subtract, move, small, constant, number, load_word, store_word, skip_where, choice, repeated_while_zero, service, tested_service, status_tested}
-use Rattle.pli_coding.specs.Frames.{buffer, buffer_kind, buffer_size, words_place}
+use Rattle.pli_coding.specs.Frames.{buffer, buffer_kind, buffer_size, word_in}
 use Rattle.pli_coding.specs.StaticForms.{formats_datum, shape_datum}
 use Rattle.pli_coding.specs.Environments.{Environment, declaration_of, Taken, with_words, with_number, save, fetch}
 use Rattle.pli_coding.specs.Arithmetic.{raised, overflow_raised, fitted_code}
@@ -88,7 +89,7 @@ value_put e t formats (Y.TextValue x) = text_code e t x ++ text_put formats
 value_put e t formats (Y.BitValue x) = bit_code e t x ++ (save a0 t ++ number_put t formats (as_text 0))
 value_put e t formats _ = []
 
--- ---- elements of aggregates: a record, behind it the number of the next element and that of all
+-- ---- elements of aggregates: a record, behind it the number of the next element and that of all, each in two words, the lower one first
 
 abbrev pub is_type : TableKind → Y.LeafType → Bool
 is_type K.Fixed (Y.FixedLeaf p) = true
@@ -116,15 +117,15 @@ pub record Elements : Type 0 where
 abbrev pub elements_of : Taken → Y.Reference → Elements
 elements_of t r = record { taken = t; behind = behind_record r t }
 
-abbrev pub next_place : Elements → ℤ
-next_place l = words_place l.behind.words 1
+abbrev pub next_place : Elements → (word : ℕ) → ℤ
+next_place l word = word_in l.behind.words 2 word
 
-abbrev pub count_place : Elements → ℤ
-count_place l = words_place (l.behind.words + 1) 1
+abbrev pub count_place : Elements → (word : ℕ) → ℤ
+count_place l word = word_in (l.behind.words + 2) 2 word
 
 -- behind the two numbers
 abbrev pub free_in : Elements → Taken
-free_in l = with_words 2 l.behind
+free_in l = with_words 4 l.behind
 
 abbrev pub element_asked : Environment → Elements → Y.Reference → (number : Code) → Code
 element_asked e l r number =
@@ -133,30 +134,44 @@ element_asked e l r number =
 -- how many there are
 abbrev pub elements_counted : Environment → Elements → Y.Reference → Code
 elements_counted e l r =
-    element_asked e l r (constant a2 (negsuc 0))
-    ++ (store_word frame_register a0 (count_place l) ++ store_word frame_register zero_register (next_place l))
+    element_asked e l r (constant a2 (negsuc 0) ++ constant a5 (negsuc 0))
+    ++ (store_word frame_register a0 (count_place l 0)
+    ++ (store_word frame_register a1 (count_place l 1)
+    ++ (store_word frame_register zero_register (next_place l 0) ++ store_word frame_register zero_register (next_place l 1))))
 
 -- the offset of the next one in a0, and what it is in the buffer
 abbrev pub element_described : Environment → Elements → Y.Reference → Code
-element_described e l r = element_asked e l r (load_word a2 frame_register (next_place l))
+element_described e l r =
+    element_asked e l r (load_word a2 frame_register (next_place l 0) ++ load_word a5 frame_register (next_place l 1))
 
 -- it must live (101) and be there in full (107)
 abbrev pub element_found : Environment → Elements → Y.Reference → Code
 element_found e l r = element_described e l r ++ status_tested
 
-abbrev pub next_loaded : Elements → Code
-next_loaded l = load_word u1 frame_register (next_place l) ++ load_word u2 frame_register (count_place l)
+-- where a word of the two numbers differs, bits of a register
+abbrev pub next_differs : Elements → Register → (word : ℕ) → Code
+next_differs l r word =
+    load_word r frame_register (next_place l word)
+    ++ (load_word u3 frame_register (count_place l word) ++ registers Op.Xor r r u3 ∷ [])
 
+-- not 0 in u1 while an element is left
+abbrev pub next_loaded : Elements → Code
+next_loaded l = next_differs l u1 0 ++ (next_differs l u2 1 ++ registers Op.Or u1 u1 u2 ∷ [])
+
+-- a lower word that has become 0 carries
 abbrev pub next_counted : Elements → Code
 next_counted l =
-    load_word u1 frame_register (next_place l)
-    ++ (immediate Imm.Add u1 u1 (pos 1) ∷ store_word frame_register u1 (next_place l))
+    load_word u1 frame_register (next_place l 0)
+    ++ (immediate Imm.Add u1 u1 (pos 1)
+    ∷ (store_word frame_register u1 (next_place l 0)
+    ++ (immediate Imm.SetLessUnsigned u1 u1 (pos 1)
+    ∷ (load_word u2 frame_register (next_place l 1) ++ (add u2 u2 u1 ∷ store_word frame_register u2 (next_place l 1))))))
 
 -- what is done for each element, given the words behind it; both sizes are those of the code itself
 abbrev pub for_elements : Elements → (each : Code) → Code
 for_elements l each =
     next_loaded l
-    ++ (skip_where Test.LessUnsigned u1 u2 (JumpAhead (size_of each + (size_of (next_counted l) + 2)) ∷ [])
+    ++ (skip_where Test.NotEqual u1 zero_register (JumpAhead (size_of each + (size_of (next_counted l) + 2)) ∷ [])
     ++ (each
     ++ (next_counted l
     ++ JumpBack (size_of (next_loaded l) + (3 + (size_of each + size_of (next_counted l)))) ∷ [])))
@@ -376,7 +391,7 @@ value_words _ = 0
 
 -- a record, the two numbers, and up to three that wait
 abbrev pub elements_words : Y.Reference → ℕ
-elements_words r = max (aggregate_words r) (words_behind_record r + 5)
+elements_words r = max (aggregate_words r) (words_behind_record r + 7)
 
 abbrev pub put_item_words : Y.PutItem → ℕ
 put_item_words (Y.PutValue v) = value_words v

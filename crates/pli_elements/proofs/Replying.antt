@@ -1,6 +1,6 @@
 -- The service's answers, from the places on where the elements are known.
-use Rattle.std.proofs.Common.{◌≡◌, ℕ, ◌-◌, ◌^◌, ◌<◌, ◌≤◌, ℤ, true, false, List, length, map, Option, Some, None, Result, Ok, Err, refl, sym, ap, ◌∙◌, arith}
-use Rattle.std.specs.Prelude.{◌==◌, is_some, nat_lt, option_map, slice_get, unwrap_or, if◌then◌else◌}
+use Rattle.std.proofs.Common.{◌≡◌, ℕ, ◌^◌, ◌/◌, ◌%◌, ℤ, true, false, List, length, map, Option, Some, None, Result, Ok, Err, refl, sym, ap, ◌∙◌, arith}
+use Rattle.std.specs.Prelude.{◌==◌, is_some, option_map, slice_get, unwrap_or, if◌then◌else◌}
 use Rattle.std.proofs.lemmas.Bool.Decides.{nat_tests}
 use Rattle.std.proofs.lemmas.List.{length-map}
 use Rattle.std.proofs.lemmas.Option.{slice_get-map}
@@ -14,7 +14,7 @@ use Rattle.pli_serving.specs.Answers.{Answer, Done, Bad}
 use Rattle.pli_serving.specs.ElementService.{buffer_bytes, counted_elements, element_answered, element_found, no_number}
 use Rattle.pli_serving.specs.Bytes.{is_data, with_bytes}
 use Rattle.pli_serving.specs.Finding.{Call, named}
-use Rattle.pli_serving.specs.Outcomes.{answering, bad_unless, or_bad}
+use Rattle.pli_serving.specs.Outcomes.{bad_unless, or_bad}
 use Rattle.pli_answering.specs.Answering.{Answers, Replies}
 use Rattle.pli_answering.specs.declared.reply.Reply.{Reply}
 use Rattle.rv_meaning.specs.Memory.{bytes_of_words}
@@ -47,19 +47,10 @@ as_many elements parts i h =
     some : {X : Type 0} {x y : X} → Some x ≡ Some y → x ≡ y
     some e = cc
 
-pub counted_so : (c : Call) (elements : List Element) (parts : List Part) (i : Item) (total : ℕ) → IsItem (Some elements) parts i → total ≡ capped (length (own_elements parts i)) → total < 2 ^ 32 - 1 → counted_elements c elements ≡ Done c.services c.memory total 0
-counted_so c elements parts i total h e low =
-    let many = as_many elements parts i h in
-    let same : length elements ≡ total = omega (arith, many, e, low) in
-    let less : nat_lt (length elements) no_number ≡ true = grind (arith, nat_tests, same, low) in
-    ap (λ b. bad_unless b (answering c (length elements) 0)) less ∙ ap (λ n. Done c.services c.memory n 0) same
-
-pub too_many : (c : Call) (elements : List Element) (parts : List Part) (i : Item) (total : ℕ) → IsItem (Some elements) parts i → total ≡ capped (length (own_elements parts i)) → 2 ^ 32 - 1 ≤ total → counted_elements c elements ≡ Bad
-too_many c elements parts i total h e low =
-    let many = as_many elements parts i h in
-    let more : 2 ^ 32 - 1 ≤ length elements = omega (arith, many, e, low) in
-    let no : nat_lt (length elements) no_number ≡ false = grind (arith, nat_tests, more) in
-    ap (λ b. bad_unless b (answering c (length elements) 0)) no
+pub counted_so : (c : Call) (elements : List Element) (parts : List Part) (i : Item) (total : ℕ) → IsItem (Some elements) parts i → total ≡ capped (length (own_elements parts i)) → counted_elements c elements ≡ Done c.services c.memory (total % 2 ^ 32) (total / 2 ^ 32)
+counted_so c elements parts i total h e =
+    let same : capped (length elements) ≡ total = ap capped (as_many elements parts i h) ∙ sym e in
+    ap (λ n. Done c.services c.memory (n % 2 ^ 32) (n / 2 ^ 32)) same
 
 -- ---- the element of a number
 

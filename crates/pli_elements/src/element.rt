@@ -34,7 +34,10 @@ use pli_values::word::put_words;
 use std::alloc::{AllocError, Global};
 
 /// The number that asks for the count.
-const NO_NUMBER: u32 = u32::MAX;
+const NO_NUMBER: u64 = u64::MAX;
+
+/// How many numbers a word has.
+const WORD: u64 = 1 << 32;
 
 /// The bytes of the buffer.
 const BUFFER_BYTES: usize = 8;
@@ -54,16 +57,12 @@ fn kind_words(kind: ElementKind) -> [u32; 2]
     }
 }
 
-/// How many elements there are; bad where no number is left for more.
+/// How many elements there are, in two words; all ones where there are more.
 fn counted(alloc: Global, item: &Item) -> Result<Reply, Refusal>
     ensures { (c : Call) → (parts : List Part) → (elements : List Element) → IsItem (Some elements) parts item.now → Replies (service.counted_elements c elements) c.services c.memory result c.services c.memory }
 {
     let total = element_total(alloc, &item.order, item.leaves.as_slice())?;
-    if total < u64::from(NO_NUMBER) {
-        Ok(Reply::Done(total as u32, 0))
-    } else {
-        Err(Refusal::Bad)
-    }
+    Ok(Reply::Done((total % WORD) as u32, (total / WORD) as u32))
 }
 
 /// The kind in force of a leaf of an aggregate. Refused where that isn't there.
@@ -149,7 +148,7 @@ fn numbered<K: AreaKeeper>(
     aggregate: Aggregate,
     register: u32,
     item: &Item,
-    number: u32,
+    number: u64,
     buffer: u32,
 ) -> Result<Reply, Refusal>
     requires { IsLaid K.keeper held.now.layout memory.old }
@@ -184,7 +183,7 @@ fn of_item<K: AreaKeeper>(
     aggregate: Aggregate,
     register: u32,
     item: &Item,
-    number: u32,
+    number: u64,
     buffer: u32,
 ) -> Result<Reply, Refusal>
     requires { IsLaid K.keeper held.now.layout memory.old }
@@ -208,7 +207,7 @@ fn of_shape<K: AreaKeeper>(
     aggregate: Aggregate,
     register: u32,
     shape: &ItemShape,
-    number: u32,
+    number: u64,
     buffer: u32,
 ) -> Result<Reply, Refusal>
     requires { IsLaid K.keeper held.now.layout memory.old }
@@ -234,7 +233,7 @@ fn of_aggregate<K: AreaKeeper>(
     aggregate: Aggregate,
     register: u32,
     shape: u32,
-    number: u32,
+    number: u64,
     buffer: u32,
 ) -> Result<Reply, Refusal>
     requires { IsLaid K.keeper held.now.layout memory.old }
@@ -259,7 +258,7 @@ pub fn element<K: AreaKeeper>(
     memory: &mut [u8],
     aggregate: u32,
     shape: u32,
-    number: u32,
+    number: u64,
     buffer: u32,
 ) -> Result<Reply, Refusal>
     requires { IsLaid K.keeper held.now.layout memory.old }

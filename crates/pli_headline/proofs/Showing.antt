@@ -214,7 +214,7 @@ element_answered_shows c x a e m N.NoArea = no_call
 
 element_shows : (c : Call) (aggregate shape number buffer : ℕ) → Shows c.services (L.element_served c aggregate shape number buffer)
 element_shows c aggregate shape number buffer =
-    bad_shows (P.aggregate_at c aggregate) (λ a. bad_shows (O.then_found (L.item_shape_at c shape) (L.elements_by c a)) (λ elements. if_shows (number == L.no_number) (unless_shows _ (quiet refl)) (bad_shows (slice_get elements number) (λ e. unless_shows _ (element_answered_shows c aggregate a e _ _)))))
+    bad_shows (P.aggregate_at c aggregate) (λ a. bad_shows (O.then_found (L.item_shape_at c shape) (L.elements_by c a)) (λ elements. if_shows (number == L.no_number) (quiet refl) (bad_shows (slice_get elements number) (λ e. unless_shows _ (element_answered_shows c aggregate a e _ _)))))
 
 -- ---- 10 to 13: areas and the heap
 

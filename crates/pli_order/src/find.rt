@@ -29,7 +29,7 @@ pub fn element_total(
 }
 
 /// A walk before all parts.
-fn begun(alloc: Global, given: &[i32], left: usize, number: u32) -> Result<Walk, AllocError>
+fn begun(alloc: Global, given: &[i32], left: usize, number: u64) -> Result<Walk, AllocError>
     ensures place { IfOk result (λ walk. walk.place ≡ 0) }
     ensures left { IfOk result (λ walk. walk.left ≡ left) }
     ensures number { IfOk result (λ walk. walk.number ≡ number) }
@@ -39,7 +39,7 @@ fn begun(alloc: Global, given: &[i32], left: usize, number: u32) -> Result<Walk,
     Ok(Walk {
         place: 0,
         left,
-        number: u64::from(number),
+        number,
         subscripts,
     })
 }
@@ -51,7 +51,7 @@ pub fn element_at(
     order: &Order,
     leaves: &[LeafInForce],
     given: &[i32],
-    number: u32,
+    number: u64,
 ) -> Result<Option<Element>, AllocError>
     ensures { (parts : List Part) → IsOrder parts (length given.now) order.now →
         IfOk result (λ o. option_map element_shown o ≡ slice_get (elements_inside (nest_in parts) 0 (map leaf_in_force leaves.now) given.now) number) }

@@ -3,6 +3,7 @@
 ghost use Rattle.std.specs.Prelude.{◌≡◌, ℕ, List, slice_index};
 ghost use Rattle.area_keeper.specs.Keeper.{Keeper};
 ghost use Rattle.pli_serving.specs.Blocks as services;
+ghost use Rattle.pli_serving.specs.ElementService.{of_two_words};
 ghost use Rattle.pli_serving.specs.Serving.{blocks_served, found_served};
 ghost use Rattle.pli_runtime.specs.Running.{IsCarriedOut, IsStanding};
 
@@ -13,6 +14,13 @@ use pli_elements::element::element;
 use pli_making::making::make;
 use pli_making::wanted::Making;
 use pli_services::blocks::Standing;
+
+/// A number of two words.
+fn of_two_words(low: u32, high: u32) -> u64
+    ensures { result ≡ of_two_words low high }
+{
+    u64::from(low) + (1 << 32) * u64::from(high)
+}
 
 /// What is to be made, by the registers of the call.
 fn making_of(registers: &[u32; 32]) -> Making
@@ -57,7 +65,10 @@ impl Runtime {
             0 => self
                 .held
                 .resolve::<K>(self.alloc, memory, first, second, third, fourth),
-            1 => element::<K>(self.alloc, &self.held, memory, first, second, third, fourth),
+            1 => {
+                let number = of_two_words(third, registers[15]);
+                element::<K>(self.alloc, &self.held, memory, first, second, number, fourth)
+            }
             _ => Err(Refusal::Bad),
         }
     }

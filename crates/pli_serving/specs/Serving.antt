@@ -1,7 +1,7 @@
 -- The call of a service: its number in a7, what it is given in a0 to a6, and what it comes to. The numbers are those of image
 -- version 1; another number is no call.
 use Rattle.std.specs.Prelude.{ℕ, ◌==◌, if◌then◌else◌}
-use Rattle.pli_serving.specs.Answers.{Answer, Bad, a0, a1, a2, a3, a4, a7}
+use Rattle.pli_serving.specs.Answers.{Answer, Bad, a0, a1, a2, a3, a4, a5, a7}
 use Rattle.pli_serving.specs.Finding.{Call}
 use Rattle.pli_serving.specs.ActsAndEnds.{act_served, end_served, retry_served, oncode_served}
 use Rattle.pli_serving.specs.SignatureService.{signature_served}
@@ -13,7 +13,7 @@ use Rattle.pli_serving.specs.ControlledServices as Controlled
 use Rattle.pli_serving.specs.TextServices as Texts
 use Rattle.pli_serving.specs.OnUnits.{on_served, revert_served, raise_served}
 use Rattle.pli_serving.specs.Edits.{edit_begin_served, control_served, fixed_served, text_served, edit_end_served, skip_served}
-use Rattle.pli_serving.specs.ElementService.{element_served}
+use Rattle.pli_serving.specs.ElementService.{element_served, of_two_words}
 use Rattle.pli_serving.specs.AggregateServices.{aggregate_served, scalar_served}
 
 -- 40 and 41: aggregates
@@ -76,7 +76,7 @@ areas_served n c x =
 abbrev pub found_served : Call → (ℕ → ℕ) → (mode : ℕ) → Answer
 found_served c x mode =
     if mode == 0 then resolve_served c (a0 x) (a1 x) (a2 x) (a3 x)
-    else (if mode == 1 then element_served c (a0 x) (a1 x) (a2 x) (a3 x) else Bad)
+    else (if mode == 1 then element_served c (a0 x) (a1 x) (of_two_words (a2 x) (a5 x)) (a3 x) else Bad)
 
 -- 4 to 9: blocks and names
 abbrev pub blocks_served : ℕ → Call → (ℕ → ℕ) → Answer

@@ -1,4 +1,4 @@
-// The registers of the code, by what they hold: `a0` to `a4` the arguments and results of services, `u0` to `u5` scratch.
+// The registers of the code, by what they hold: `a0` to `a5` the arguments and results of services, `u0` to `u5` scratch.
 
 ghost use Rattle.std.specs.Prelude.{◌≡◌, ◌<◌};
 ghost use Rattle.pli_coding.specs.Registers as register;
@@ -61,6 +61,12 @@ pub fn a4() -> Register
     ensures { result ≡ register.a4 }
 {
     Register { index: 14 }
+}
+
+pub fn a5() -> Register
+    ensures { result ≡ register.a5 }
+{
+    Register { index: 15 }
 }
 
 /// The number of a service.

@@ -2,7 +2,7 @@
 use Rattle.std.proofs.Common.{◌≡◌, ℕ, zero, suc, ◌+◌, ◌-◌, ◌<◌, ◌≤◌, [], ◌∷◌, ◌++◌, length, refl, sym, ap, ◌∙◌, subst, arith, append_assoc, length-append}
 use Rattle.std.specs.Prelude.{slice_index_or}
 use Rattle.rv_meaning.specs.declared.instr.BranchTest.TheVariants as Test
-use Rattle.pli_coding.specs.Registers.{u1, u2}
+use Rattle.pli_coding.specs.Registers.{zero_register, u1}
 use Rattle.pli_coding.specs.Assembly.{Item, JumpAhead, JumpBack, Code, item_size, size_of}
 use Rattle.pli_coding.specs.Streams.{Elements, awaited_before, field_awaited, for_elements, next_counted, next_loaded}
 use Rattle.rv_assembly.specs.declared.place.Place.{Place}
@@ -28,8 +28,8 @@ place_stays n code more p h =
 begun_is : (before : Code) (l : Elements) → before ++ turn_begun l ≡ (before ++ turn_tested l) ++ jump_kept ∷ []
 unfolding turn_begun turn_tested
 begun_is before l =
-    ap (λ u. before ++ u) (sym (append_assoc (next_loaded l) (branch Test.LessUnsigned u1 u2 2 ∷ []) (jump_kept ∷ [])))
-    ∙ sym (append_assoc before (next_loaded l ++ branch Test.LessUnsigned u1 u2 2 ∷ []) (jump_kept ∷ []))
+    ap (λ u. before ++ u) (sym (append_assoc (next_loaded l) (branch Test.NotEqual u1 zero_register 2 ∷ []) (jump_kept ∷ [])))
+    ∙ sym (append_assoc before (next_loaded l ++ branch Test.NotEqual u1 zero_register 2 ∷ []) (jump_kept ∷ []))
 
 with_each : (before each : Code) (l : Elements) → (before ++ turn_begun l) ++ each ≡ (before ++ turn_tested l) ++ (jump_kept ∷ each)
 with_each before each l =
@@ -47,7 +47,7 @@ before_counted before each l =
     let a : size_of (((before ++ turn_begun l) ++ each) ++ next_counted l) ≡ size_of ((before ++ turn_begun l) ++ each) + size_of (next_counted l) = size_append ((before ++ turn_begun l) ++ each) (next_counted l) in
     let b : size_of ((before ++ turn_begun l) ++ each) ≡ size_of (before ++ turn_begun l) + size_of each = size_append (before ++ turn_begun l) each in
     let d : size_of (before ++ turn_begun l) ≡ size_of before + size_of (turn_begun l) = size_append before (turn_begun l) in
-    let f : size_of (turn_begun l) ≡ size_of (next_loaded l) + 3 = size_append (next_loaded l) (branch Test.LessUnsigned u1 u2 2 ∷ jump_kept ∷ []) in
+    let f : size_of (turn_begun l) ≡ size_of (next_loaded l) + 3 = size_append (next_loaded l) (branch Test.NotEqual u1 zero_register 2 ∷ jump_kept ∷ []) in
     omega arith
 
 behind_each : (each : Code) (l : Elements) (n : ℕ) → size_of (each ++ (next_counted l ++ JumpBack n ∷ [])) ≡ size_of each + (size_of (next_counted l) + 2)
@@ -62,11 +62,11 @@ written before each l n =
     ∙ ap (λ u. u ++ (next_counted l ++ JumpBack n ∷ [])) (with_each before each l)
     ∙ append_assoc (before ++ turn_tested l) (jump_kept ∷ each) (next_counted l ++ JumpBack n ∷ [])
 
-gathered : (before inner : Code) (l : Elements) (x : Item) → (before ++ turn_tested l) ++ (x ∷ inner) ≡ before ++ (next_loaded l ++ (branch Test.LessUnsigned u1 u2 2 ∷ x ∷ inner))
+gathered : (before inner : Code) (l : Elements) (x : Item) → (before ++ turn_tested l) ++ (x ∷ inner) ≡ before ++ (next_loaded l ++ (branch Test.NotEqual u1 zero_register 2 ∷ x ∷ inner))
 unfolding turn_tested
 gathered before inner l x =
-    append_assoc before (next_loaded l ++ branch Test.LessUnsigned u1 u2 2 ∷ []) (x ∷ inner)
-    ∙ ap (λ u. before ++ u) (append_assoc (next_loaded l) (branch Test.LessUnsigned u1 u2 2 ∷ []) (x ∷ inner))
+    append_assoc before (next_loaded l ++ branch Test.NotEqual u1 zero_register 2 ∷ []) (x ∷ inner)
+    ∙ ap (λ u. before ++ u) (append_assoc (next_loaded l) (branch Test.NotEqual u1 zero_register 2 ∷ []) (x ∷ inner))
 
 pub turned : (before each : Code) (l : Elements) → turn_ended (size_of before) (jump_place (before ++ turn_tested l)) l ((before ++ turn_begun l) ++ each) ≡ before ++ for_elements l each
 unfolding turn_ended
@@ -77,8 +77,8 @@ turned before each l =
     ap (λ u. jumped_over u p) (written before each l n)
     ∙ jumped_is (before ++ turn_tested l) inner
     ∙ gathered before inner l (JumpAhead (size_of inner))
-    ∙ ap (λ k. before ++ (next_loaded l ++ (branch Test.LessUnsigned u1 u2 2 ∷ JumpAhead k ∷ inner))) (behind_each each l n)
-    ∙ ap (λ k. before ++ (next_loaded l ++ (branch Test.LessUnsigned u1 u2 2 ∷ JumpAhead (size_of each + (size_of (next_counted l) + 2)) ∷ (each ++ (next_counted l ++ JumpBack k ∷ []))))) (before_counted before each l)
+    ∙ ap (λ k. before ++ (next_loaded l ++ (branch Test.NotEqual u1 zero_register 2 ∷ JumpAhead k ∷ inner))) (behind_each each l n)
+    ∙ ap (λ k. before ++ (next_loaded l ++ (branch Test.NotEqual u1 zero_register 2 ∷ JumpAhead (size_of each + (size_of (next_counted l) + 2)) ∷ (each ++ (next_counted l ++ JumpBack k ∷ []))))) (before_counted before each l)
 
 -- ---- with what is done in two pieces
 

@@ -29,4 +29,7 @@ abbrev pub asked_last : Environment → Code
 asked_last e = own_place e a3 (pos buffer) ++ (small a4 1 ∷ service 8)
 
 abbrev pub counted_first : S.Elements → Code
-counted_first l = store_word frame_register a0 (S.count_place l) ++ store_word frame_register zero_register (S.next_place l)
+counted_first l =
+    store_word frame_register a0 (S.count_place l 0)
+    ++ (store_word frame_register a1 (S.count_place l 1)
+    ++ (store_word frame_register zero_register (S.next_place l 0) ++ store_word frame_register zero_register (S.next_place l 1)))

@@ -9,7 +9,7 @@ use crate::elements::{Elements, next_counted, next_loaded};
 use rv_assembly::code::{Code, branch_over};
 use rv_assembly::item::Item;
 use rv_assembly::place::Place;
-use rv_assembly::registers::{u1, u2};
+use rv_assembly::registers::{u1, zero};
 use rv_meaning::instr::BranchTest;
 use std::alloc::AllocError;
 
@@ -20,7 +20,7 @@ pub fn turn_begun(code: &mut Code, elements: Elements) -> Result<Place, AllocErr
     ensures place { IfOk result (λ p. p ≡ jump_place (code.old ++ turn_tested (elements_shown elements))) }
 {
     next_loaded(code, elements)?;
-    code.push(branch_over(BranchTest::LessUnsigned, u1(), u2(), 2))?;
+    code.push(branch_over(BranchTest::NotEqual, u1(), zero(), 2))?;
     code.keep_jump()
 }
 

@@ -5,7 +5,7 @@ use Rattle.pli_language.specs.declared.condition.Condition.TheVariants as C
 use Rattle.pli_language.specs.Tree.{Formats}
 use Rattle.pli_typing.specs.TypedTree as Y
 use Rattle.pli_meaning.specs.Codes.{endfile_code}
-use Rattle.pli_coding.specs.Registers.{a0, u1, u2}
+use Rattle.pli_coding.specs.Registers.{zero_register, a0, u1}
 use Rattle.pli_coding.specs.Assembly.{JumpAhead, JumpBack, Code, size_of}
 use Rattle.pli_coding.specs.Instructions.{small}
 use Rattle.pli_coding.specs.Environments.{Environment, Taken}
@@ -54,7 +54,7 @@ awaited_kept before more =
 -- ---- in a turn
 
 abbrev turn_first : Elements → (each : Code) → Code
-turn_first l each = next_loaded l ++ (branch Test.LessUnsigned u1 u2 2 ∷ JumpAhead (size_of each + (size_of (next_counted l) + 2)) ∷ [])
+turn_first l each = next_loaded l ++ (branch Test.NotEqual u1 zero_register 2 ∷ JumpAhead (size_of each + (size_of (next_counted l) + 2)) ∷ [])
 
 abbrev turn_last : Elements → (each : Code) → Code
 turn_last l each = next_counted l ++ JumpBack (size_of (next_loaded l) + (3 + (size_of each + size_of (next_counted l)))) ∷ []
@@ -63,7 +63,7 @@ opened : (before a b loaded front each last more : Code) → before ++ ((a ++ (b
 opened before a b loaded front each last more = simp append_assoc refl
 
 turn_opened : (before a b each more : Code) (l : Elements) → before ++ ((a ++ (b ++ for_elements l each)) ++ more) ≡ (before ++ (a ++ (b ++ turn_first l each))) ++ (each ++ (turn_last l each ++ more))
-turn_opened before a b each more l = opened before a b (next_loaded l) (branch Test.LessUnsigned u1 u2 2 ∷ JumpAhead (size_of each + (size_of (next_counted l) + 2)) ∷ []) each (turn_last l each) more
+turn_opened before a b each more l = opened before a b (next_loaded l) (branch Test.NotEqual u1 zero_register 2 ∷ JumpAhead (size_of each + (size_of (next_counted l) + 2)) ∷ []) each (turn_last l each) more
 
 turn_exit : (before a b inner : Code) (l : Elements) → exit_behind (before ++ (a ++ (b ++ turn_begun l))) ≡ exit_behind (before ++ (a ++ (b ++ turn_first l (field_awaited 0 ++ inner))))
 unfolding turn_begun
@@ -101,7 +101,7 @@ turn_far before a b inner l behind end h =
     let s1 : size_of (before ++ (a ++ (b ++ turn_begun l))) ≡ size_of before + size_of (a ++ (b ++ turn_begun l)) = size_append before (a ++ (b ++ turn_begun l)) in
     let s2 : size_of (a ++ (b ++ turn_begun l)) ≡ size_of a + size_of (b ++ turn_begun l) = size_append a (b ++ turn_begun l) in
     let s3 : size_of (b ++ turn_begun l) ≡ size_of b + size_of (turn_begun l) = size_append b (turn_begun l) in
-    let s4 : size_of (turn_begun l) ≡ size_of (next_loaded l) + 3 = size_append (next_loaded l) (branch Test.LessUnsigned u1 u2 2 ∷ jump_kept ∷ []) in
+    let s4 : size_of (turn_begun l) ≡ size_of (next_loaded l) + 3 = size_append (next_loaded l) (branch Test.NotEqual u1 zero_register 2 ∷ jump_kept ∷ []) in
     let k1 : size_of (a ++ (b ++ for_elements l (field_awaited 0 ++ inner))) ≡ size_of a + size_of (b ++ for_elements l (field_awaited 0 ++ inner)) = size_append a (b ++ for_elements l (field_awaited 0 ++ inner)) in
     let k2 : size_of (b ++ for_elements l (field_awaited 0 ++ inner)) ≡ size_of b + size_of (for_elements l (field_awaited 0 ++ inner)) = size_append b (for_elements l (field_awaited 0 ++ inner)) in
     let k3 : size_of (for_elements l (field_awaited 0 ++ inner)) ≡ size_of (next_loaded l) + (1 + (2 + size_of ((field_awaited 0 ++ inner) ++ turn_last l (field_awaited 0 ++ inner)))) = size_append (next_loaded l) _ in
