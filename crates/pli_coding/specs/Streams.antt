@@ -105,6 +105,10 @@ leaves_in e (Y.Referring v locator part subscripts) = take part.count (drop part
 abbrev pub has_kind : Environment → Y.Reference → TableKind → Bool
 has_kind e r kind = list_any (λ l. is_type kind l.type) (leaves_in e r)
 
+-- or leaves of either kind of text
+abbrev pub has_texts : Environment → Y.Reference → Bool
+has_texts e r = has_kind e r K.Character || has_kind e r K.Varying
+
 abbrev pub shape_in : Environment → Y.Reference → Code
 shape_in e (Y.Referring v locator part subscripts) =
     OffsetOf a1 (DataPlace (shape_datum (declaration_of e v).members part (given_in subscripts))) ∷ []
@@ -198,7 +202,7 @@ by_kinds_of e r fixed bit text =
     by_kind
     (kind_if (has_kind e r K.Fixed) (kind_number K.Fixed) fixed
     ++ (kind_if (has_kind e r K.Bit) (kind_number K.Bit) bit
-    ++ kind_if (has_kind e r K.Character || has_kind e r K.Varying) (kind_number K.Character) text))
+    ++ kind_if (has_texts e r) (kind_number K.Character) text))
 
 -- ---- an element, from its offset in a0
 
@@ -314,7 +318,7 @@ awaited_before code behind = field_awaited (size_of code + behind) ++ code
 
 -- ---- GET of an aggregate
 
--- a number of the precision that waits at t
+-- a number in a0, of the precision that waits at t
 abbrev pub number_narrowed : Taken → Code
 number_narrowed t =
     fetch u2 t
@@ -324,34 +328,53 @@ number_narrowed t =
     ∷ registers Op.ShiftRightArithmetic u1 u1 u2
     ∷ skip_where Test.Equal u1 a0 (move a0 u1 ∷ overflow_raised (with_number t)))
 
--- what is next waits at t; the precision, and then the number, behind it
-abbrev pub fixed_element_got : Environment → Elements → (t : Taken) → T.Formats → Y.Reference → Code
-fixed_element_got e l t formats r =
-    load_word u2 frame_register buffer_size
-    ++ (save u2 (with_number t)
-    ++ (fetch a0 t
-    ++ (number_got formats
-    ++ (number_narrowed (with_number t)
-    ++ (save a0 (with_number t) ++ (element_found e l r ++ fixed_stored (with_number t)))))))
+-- a number of the precision that the buffer has, from a0
+abbrev pub number_fitted : (t : Taken) → (number : Code) → Code
+number_fitted t number =
+    load_word u2 frame_register buffer_size ++ (save u2 t ++ (number ++ (number_narrowed t ++ save a0 t)))
 
-abbrev pub bit_element_got : Environment → Elements → (t : Taken) → Y.Reference → Code
-bit_element_got e l t r =
-    bit_got
-    ++ (save a0 t
-    ++ (element_found e l r ++ (element_addressed ++ (fetch a0 t ++ Plain (I.Store Store.Byte u3 a0 (pos 0)) ∷ []))))
+-- the top text as a number, with mode 1 as a bit
+abbrev pub text_converted : (mode : ℕ) → Code
+text_converted mode = small a0 mode ∷ tested_service 26
 
-abbrev pub text_element_got : Environment → Elements → (t : Taken) → T.Formats → Y.Reference → Code
-text_element_got e l t formats r =
-    fetch a0 t ++ (text_got formats ++ (element_found e l r ++ (text_described ++ service 27)))
+-- where all elements are numbers, what is next waits at t, and the number behind it
+abbrev pub fixed_field_taken : Environment → Elements → (t : Taken) → T.Formats → Y.Reference → Code
+fixed_field_taken e l t formats r =
+    save a0 t ++ (element_described e l r ++ number_fitted (with_number t) (fetch a0 t ++ number_got formats))
+
+abbrev pub bit_field_taken : (t : Taken) → Code
+bit_field_taken t = bit_got ++ save a0 (with_number t)
+
+-- where they are of several kinds, the field is a text first
+abbrev pub mixed_field_taken : Environment → Elements → (t : Taken) → T.Formats → Y.Reference → Code
+mixed_field_taken e l t formats r =
+    text_got formats
+    ++ (element_described e l r
+    ++ by_kinds_of e r
+    (number_fitted (with_number t) (text_converted 0))
+    (text_converted 1 ++ save a0 (with_number t))
+    [])
+
+-- a field, converted before its target is reached: a text on the stack, or a number or bit that waits
+abbrev pub element_field_taken : Environment → Elements → (t : Taken) → T.Formats → Y.Reference → Code
+element_field_taken e l t formats r =
+    by_kinds (has_kind e r K.Fixed) (has_kind e r K.Bit) (has_texts e r)
+  where
+    by_kinds : (fixed bit text : Bool) → Code
+    by_kinds true false false = fixed_field_taken e l t formats r
+    by_kinds false true false = bit_field_taken t
+    by_kinds false false text = text_got formats
+    by_kinds fixed bit text = mixed_field_taken e l t formats r
+
+abbrev pub bit_stored : Taken → Code
+bit_stored t = element_addressed ++ (fetch a0 t ++ Plain (I.Store Store.Byte u3 a0 (pos 0)) ∷ [])
+
+abbrev pub element_stored : Environment → (t : Taken) → Y.Reference → Code
+element_stored e t r = by_kinds_of e r (fixed_stored (with_number t)) (bit_stored (with_number t)) (text_described ++ service 27)
 
 abbrev pub element_got : Environment → Elements → T.Formats → Y.Reference → Code
 element_got e l formats r =
-    save a0 (free_in l)
-    ++ (element_described e l r
-    ++ by_kinds_of e r
-    (fixed_element_got e l (free_in l) formats r)
-    (bit_element_got e l (free_in l) r)
-    (text_element_got e l (free_in l) formats r))
+    element_field_taken e l (free_in l) formats r ++ (element_found e l r ++ element_stored e (free_in l) r)
 
 abbrev pub elements_got : Environment → Elements → T.Formats → Y.Reference → (behind : ℕ) → Code
 elements_got e l formats r behind =
