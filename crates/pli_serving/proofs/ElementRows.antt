@@ -70,7 +70,7 @@ no_seventh_element : served (structure_with 0 whole_shape) 6 ≡ BadService
 no_seventh_element = refl
 
 -- all ones in the lower word alone, and in the higher one
-no_element_of_a_high_number : map (served (structure_with 0 whole_shape)) (2 ^ 32 - 1 ∷ 2 ^ 64 - 2 ^ 32 ∷ []) ≡ (BadService ∷ BadService ∷ [])
+no_element_of_a_high_number : map (served (structure_with 0 whole_shape)) ((2 ^ 32 - 1) ∷ (2 ^ 64 - 2 ^ 32) ∷ []) ≡ (BadService ∷ BadService ∷ [])
 no_element_of_a_high_number = refl
 
 row_count : served (structure_with 1 row_shape) count_asked ≡ Bytes (buffer 0 0) 0 3 0
