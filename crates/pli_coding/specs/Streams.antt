@@ -358,13 +358,11 @@ mixed_field_taken e l t formats r =
 -- a field, converted before its target is reached: a text on the stack, or a number or bit that waits
 abbrev pub element_field_taken : Environment → Elements → (t : Taken) → T.Formats → Y.Reference → Code
 element_field_taken e l t formats r =
-    by_kinds (has_kind e r K.Fixed) (has_kind e r K.Bit) (has_texts e r)
-  where
-    by_kinds : (fixed bit text : Bool) → Code
-    by_kinds true false false = fixed_field_taken e l t formats r
-    by_kinds false true false = bit_field_taken t
-    by_kinds false false text = text_got formats
-    by_kinds fixed bit text = mixed_field_taken e l t formats r
+    if has_kind e r K.Fixed then
+    (if has_kind e r K.Bit || has_texts e r then mixed_field_taken e l t formats r else fixed_field_taken e l t formats r)
+    else (if has_kind e r K.Bit then
+    (if has_texts e r then mixed_field_taken e l t formats r else bit_field_taken t)
+    else text_got formats)
 
 abbrev pub bit_stored : Taken → Code
 bit_stored t = element_addressed ++ (fetch a0 t ++ Plain (I.Store Store.Byte u3 a0 (pos 0)) ∷ [])

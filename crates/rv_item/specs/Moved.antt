@@ -3,7 +3,6 @@ use Rattle.std.specs.Prelude.{ℕ, Bool, true, false, ◌&&◌, ◌||◌, pos, [
 use Rattle.rv_meaning.specs.declared.image.TableKind.TheVariants as K
 use Rattle.rv_meaning.specs.declared.instr.Instr.TheVariants as I
 use Rattle.rv_meaning.specs.declared.instr.LoadKind.TheVariants as Load
-use Rattle.rv_meaning.specs.declared.instr.StoreKind.TheVariants as Store
 use Rattle.rv_meaning.specs.declared.instr.RegisterOp.TheVariants as Op
 use Rattle.rv_meaning.specs.declared.instr.BranchTest.TheVariants as Test
 use Rattle.rv_meaning.specs.Tables.{kind_number}
@@ -12,22 +11,17 @@ use Rattle.pli_typing.specs.TypedTree as Y
 use Rattle.pli_meaning.specs.Numbers.{operator_precision}
 use Rattle.pli_coding.specs.Registers.{frame_register, a0, u0, u1, u2, u3}
 use Rattle.pli_coding.specs.Assembly.{Plain, Code}
-use Rattle.pli_coding.specs.Instructions.{choice, load_word, move, registers, skip_where, small, subtract}
-use Rattle.pli_coding.specs.Frames.{buffer_kind}
-use Rattle.pli_coding.specs.Environments.{Environment, Taken, fetch}
+use Rattle.pli_coding.specs.Instructions.{choice, load_word, move, registers, service, skip_where, small, subtract}
+use Rattle.pli_coding.specs.Frames.{buffer_kind, buffer_size}
+use Rattle.pli_coding.specs.Environments.{Environment, Taken, save, with_number}
 use Rattle.pli_coding.specs.Arithmetic.{overflow_raised}
-use Rattle.pli_coding.specs.Streams.{Elements, bit_element_got, bit_element_put, by_kinds_of, element_addressed, fixed_element_got, fixed_element_put, free_in, text_element_got, text_element_put}
+use Rattle.pli_coding.specs.Streams.{Elements, bit_element_put, bit_field_taken, bit_stored, by_kinds_of, element_addressed, fixed_element_put, fixed_field_taken, fixed_stored, mixed_field_taken, number_fitted, number_narrowed, text_converted, text_described, text_element_put, text_got}
 use Rattle.rv_item.specs.declared.kinds.Kinds.{Kinds}
 use Rattle.rv_item.specs.declared.moved.Motion.{Motion}
 use Rattle.rv_item.specs.declared.moved.Motion.TheVariants as M
 
--- ---- bits
-
 abbrev pub bit_loaded : Code
 bit_loaded = element_addressed ++ (Plain (I.Load Load.ByteUnsigned a0 u3 (pos 0)) ∷ [])
-
-abbrev pub bit_stored : Taken → Code
-bit_stored t = element_addressed ++ (fetch a0 t ++ Plain (I.Store Store.Byte u3 a0 (pos 0)) ∷ [])
 
 -- ---- numbers of the precision in u2
 
@@ -42,36 +36,55 @@ number_shifted =
 abbrev pub narrow_checked : Taken → Code
 narrow_checked t = skip_where Test.Equal u1 a0 (move a0 u1 ∷ overflow_raised t)
 
+-- before a number that is fitted, and behind it
+abbrev pub precision_saved : Taken → Code
+precision_saved t = load_word u2 frame_register buffer_size ++ save u2 t
+
+abbrev pub number_saved : Taken → Code
+number_saved t = number_narrowed t ++ save a0 t
+
 -- ---- by the kind
 
-unfoldable pub fixed_moved : Motion → Environment → Elements → Formats → Y.Reference → Code
-fixed_moved M.Getting e l formats r = fixed_element_got e l (free_in l) formats r
-fixed_moved M.Putting e l formats r = fixed_element_put (free_in l) formats
+unfoldable pub fixed_moved : Motion → Taken → Formats → Code
+fixed_moved M.Putting t formats = fixed_element_put t formats
+fixed_moved M.Converting t formats = number_fitted (with_number t) (text_converted 0)
+fixed_moved M.Storing t formats = fixed_stored (with_number t)
 
-unfoldable pub bit_moved : Motion → Environment → Elements → Formats → Y.Reference → Code
-bit_moved M.Getting e l formats r = bit_element_got e l (free_in l) r
-bit_moved M.Putting e l formats r = bit_element_put (free_in l) formats
+unfoldable pub bit_moved : Motion → Taken → Formats → Code
+bit_moved M.Putting t formats = bit_element_put t formats
+bit_moved M.Converting t formats = text_converted 1 ++ save a0 (with_number t)
+bit_moved M.Storing t formats = bit_stored (with_number t)
 
-unfoldable pub text_moved : Motion → Environment → Elements → Formats → Y.Reference → Code
-text_moved M.Getting e l formats r = text_element_got e l (free_in l) formats r
-text_moved M.Putting e l formats r = text_element_put formats
+unfoldable pub text_moved : Motion → Formats → Code
+text_moved M.Putting formats = text_element_put formats
+text_moved M.Converting formats = []
+text_moved M.Storing formats = text_described ++ service 27
 
 abbrev pub kind_tested : (kind : ℕ) → Code
 kind_tested kind = load_word u0 frame_register buffer_kind ++ small u1 kind ∷ []
 
 -- bits and texts, of those that there are
-unfoldable pub bits_and_texts : Kinds → Motion → Environment → Elements → Formats → Y.Reference → Code
-bits_and_texts k m e l formats r =
-    if k.bit && k.text then kind_tested (kind_number K.Bit) ++ choice Test.Equal u0 u1 (bit_moved m e l formats r) (text_moved m e l formats r)
-    else (if k.bit then bit_moved m e l formats r else (if k.text then text_moved m e l formats r else []))
+unfoldable pub bits_and_texts : Kinds → Motion → Taken → Formats → Code
+bits_and_texts k m t formats =
+    if k.bit && k.text then kind_tested (kind_number K.Bit) ++ choice Test.Equal u0 u1 (bit_moved m t formats) (text_moved m formats)
+    else (if k.bit then bit_moved m t formats else (if k.text then text_moved m formats else []))
 
-abbrev pub kinds_moved : Kinds → Motion → Environment → Elements → Formats → Y.Reference → Code
-kinds_moved k m e l formats r =
+abbrev pub kinds_moved : Kinds → Motion → Taken → Formats → Code
+kinds_moved k m t formats =
     if k.fixed then
-    (if k.bit || k.text then kind_tested (kind_number K.Fixed) ++ choice Test.Equal u0 u1 (fixed_moved m e l formats r) (bits_and_texts k m e l formats r)
-    else fixed_moved m e l formats r)
-    else bits_and_texts k m e l formats r
+    (if k.bit || k.text then kind_tested (kind_number K.Fixed) ++ choice Test.Equal u0 u1 (fixed_moved m t formats) (bits_and_texts k m t formats)
+    else fixed_moved m t formats)
+    else bits_and_texts k m t formats
 
-unfoldable pub element_moved : Motion → Environment → Elements → Formats → Y.Reference → Code
-element_moved m e l formats r =
-    by_kinds_of e r (fixed_moved m e l formats r) (bit_moved m e l formats r) (text_moved m e l formats r)
+unfoldable pub element_moved : Motion → Environment → Taken → Formats → Y.Reference → Code
+element_moved m e t formats r = by_kinds_of e r (fixed_moved m t formats) (bit_moved m t formats) (text_moved m formats)
+
+-- ---- fields, by the kinds that there are
+
+abbrev pub kinds_taken : Kinds → Environment → Elements → Taken → Formats → Y.Reference → Code
+kinds_taken k e l t formats r =
+    if k.fixed then
+    (if k.bit || k.text then mixed_field_taken e l t formats r else fixed_field_taken e l t formats r)
+    else (if k.bit then
+    (if k.text then mixed_field_taken e l t formats r else bit_field_taken t)
+    else text_got formats)

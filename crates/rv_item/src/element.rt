@@ -11,7 +11,7 @@ ghost use Rattle.pli_coding.specs.Instructions.{choice, load_word};
 ghost use Rattle.pli_coding.specs.Registers.{a0, frame_register, u1, u2, u3};
 ghost use Rattle.pli_coding.specs.Streams as form;
 ghost use Rattle.rv_address.specs.Around.{taken_of};
-ghost use Rattle.rv_item.specs.Moved.{bit_loaded, bit_stored};
+ghost use Rattle.rv_item.specs.Moved.{bit_loaded};
 
 use crate::branch::choose;
 use pli_frames::fixed::{buffer, buffer_size};
@@ -102,7 +102,7 @@ pub fn bit_loaded(code: &mut Code) -> Result<(), AllocError>
 
 /// The bit that waits.
 pub fn bit_stored(code: &mut Code, taken: Taken) -> Result<(), AllocError>
-    ensures { OnOk result (code.new ≡ code.old ++ bit_stored (taken_of taken)) }
+    ensures { OnOk result (code.new ≡ code.old ++ form.bit_stored (taken_of taken)) }
 {
     element_addressed(code)?;
     fetch(code, a0(), taken)?;

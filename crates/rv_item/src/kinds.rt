@@ -1,6 +1,6 @@
 // Which kinds of leaves an aggregate has.
 
-ghost use Rattle.std.specs.Prelude.{◌≡◌, ◌||◌, take, drop, map, IfOk};
+ghost use Rattle.std.specs.Prelude.{◌≡◌, take, drop, map, IfOk};
 ghost use Rattle.std.specs.List.{list_any};
 ghost use Rattle.rv_meaning.specs.declared.image.TableKind.TheVariants as K;
 ghost use Rattle.pli_typing.specs.TypedView.{leaf_of, leaf_type_of, reference_of};
@@ -78,7 +78,7 @@ fn leaves_in<'t, 'a>(
 pub fn kinds_in(environment: &Environment, reference: &Reference) -> Result<Kinds, AllocError>
     ensures fixed { IfOk result (λ k. k.fixed ≡ form.has_kind (environment_of environment.now) (reference_of reference.now) K.Fixed) }
     ensures bit { IfOk result (λ k. k.bit ≡ form.has_kind (environment_of environment.now) (reference_of reference.now) K.Bit) }
-    ensures text { IfOk result (λ k. k.text ≡ (form.has_kind (environment_of environment.now) (reference_of reference.now) K.Character || form.has_kind (environment_of environment.now) (reference_of reference.now) K.Varying)) }
+    ensures text { IfOk result (λ k. k.text ≡ form.has_texts (environment_of environment.now) (reference_of reference.now)) }
 {
     let leaves = leaves_in(environment, reference)?;
     let character = has_kind(leaves, TableKind::Character);

@@ -18,17 +18,17 @@ use crate::exit::led;
 use crate::pair::{edit_begun, edit_ended, skip_option};
 use pli_typing::typed::{GetItem, GetPair, LeafType, Reference};
 use rv_address::environment::Environment;
-use rv_address::taken::{Taken, save};
+use rv_address::taken::Taken;
 use rv_assembly::code::Code;
 use rv_assembly::item::Item;
 use rv_assembly::place::Place;
-use rv_assembly::registers::a0;
 use rv_assignment::record::record_code;
 use rv_assignment::scalar::{top_stored, word_stored};
-use rv_item::elements::{Elements, element_described, elements_counted, elements_of, free_in};
+use rv_item::elements::{Elements, element_found, elements_counted, elements_of, free_in};
 use rv_item::field::{bit_got, field_awaited, number_got, text_got};
 use rv_item::fields::Fields;
 use rv_item::moved::{Motion, element_moved};
+use rv_item::taking::element_field_taken;
 use rv_item::turns::{turn_begun, turn_ended};
 use rv_operation::arithmetic::fitted_code;
 use rv_operation::reference::type_in;
@@ -145,17 +145,10 @@ fn element_got(
 ) -> Result<(), AllocError>
     ensures { OnOk result (code.new ≡ code.old ++ form.element_got (environment_of environment.now) (elements_shown elements) (formats_in fields.now) (reference_of reference.now)) }
 {
-    save(code, a0(), free_in(elements)?)?;
-    element_described(alloc, code, environment, elements, reference)?;
-    element_moved(
-        alloc,
-        code,
-        environment,
-        elements,
-        fields,
-        reference,
-        Motion::Getting,
-    )
+    let free = free_in(elements)?;
+    element_field_taken(alloc, code, environment, elements, free, fields, reference)?;
+    element_found(alloc, code, environment, elements, reference)?;
+    element_moved(code, environment, free, fields, reference, Motion::Storing)
 }
 
 #[tactic(auto, using(rv_item::proofs::Looping::is_turn_of, rv_item::proofs::Looping::turned_of))]

@@ -17,7 +17,7 @@ use rv_assembly::code::Code;
 use rv_assembly::registers::a0;
 use rv_assignment::record::record_code;
 use rv_expr::expression::{bit_code, number_code, text_code};
-use rv_item::elements::{Elements, element_found, elements_counted, elements_of};
+use rv_item::elements::{Elements, element_found, elements_counted, elements_of, free_in};
 use rv_item::field::{number_put, text_put};
 use rv_item::fields::Fields;
 use rv_item::moved::{Motion, element_moved};
@@ -109,10 +109,9 @@ fn element_put(
 {
     element_found(alloc, code, environment, elements, reference)?;
     element_moved(
-        alloc,
         code,
         environment,
-        elements,
+        free_in(elements)?,
         fields,
         reference,
         Motion::Putting,
