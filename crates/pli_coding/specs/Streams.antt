@@ -236,23 +236,33 @@ text_described =
 
 -- ---- PUT of an aggregate
 
--- the precision waits behind the number
+-- where all elements are numbers: the precision waits behind the number
 abbrev pub fixed_element_put : Taken → T.Formats → Code
 fixed_element_put t formats =
     fixed_loaded
     ++ (save a0 t ++ (save u2 (with_number t) ++ number_put t formats (fetch a1 (with_number t) ++ service 21)))
 
-abbrev pub bit_element_put : Taken → T.Formats → Code
-bit_element_put t formats =
-    element_addressed ++ (Plain (I.Load Load.ByteUnsigned a0 u3 (pos 0)) ∷ (save a0 t ++ number_put t formats (as_text 0)))
+-- an element as the top text
+abbrev pub fixed_element_pushed : Code
+fixed_element_pushed = fixed_loaded ++ (move a1 u2 ∷ service 21)
 
-abbrev pub text_element_put : T.Formats → Code
-text_element_put formats = text_described ++ (service 20 ++ text_put formats)
+abbrev pub bit_element_pushed : Code
+bit_element_pushed = element_addressed ++ (Plain (I.Load Load.ByteUnsigned a0 u3 (pos 0)) ∷ as_text 0)
+
+abbrev pub text_element_pushed : Code
+text_element_pushed = text_described ++ service 20
+
+-- where they are others too, each is a text first
+abbrev pub mixed_element_put : Environment → T.Formats → Y.Reference → Code
+mixed_element_put e formats r =
+    by_kinds_of e r fixed_element_pushed bit_element_pushed text_element_pushed ++ text_put formats
+
+abbrev pub element_written : Environment → Taken → T.Formats → Y.Reference → Code
+element_written e t formats r =
+    if has_kind e r K.Bit || has_texts e r then mixed_element_put e formats r else fixed_element_put t formats
 
 abbrev pub element_put : Environment → Elements → T.Formats → Y.Reference → Code
-element_put e l formats r =
-    element_found e l r
-    ++ by_kinds_of e r (fixed_element_put (free_in l) formats) (bit_element_put (free_in l) formats) (text_element_put formats)
+element_put e l formats r = element_found e l r ++ element_written e (free_in l) formats r
 
 abbrev pub elements_put : Environment → Elements → T.Formats → Y.Reference → Code
 elements_put e l formats r = record_code e l.taken r ++ (elements_counted e l r ++ for_elements l (element_put e l formats r))

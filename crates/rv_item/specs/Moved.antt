@@ -15,7 +15,7 @@ use Rattle.pli_coding.specs.Instructions.{choice, load_word, move, registers, se
 use Rattle.pli_coding.specs.Frames.{buffer_kind, buffer_size}
 use Rattle.pli_coding.specs.Environments.{Environment, Taken, save, with_number}
 use Rattle.pli_coding.specs.Arithmetic.{overflow_raised}
-use Rattle.pli_coding.specs.Streams.{Elements, bit_element_put, bit_field_taken, bit_stored, by_kinds_of, element_addressed, fixed_element_put, fixed_field_taken, fixed_stored, mixed_field_taken, number_fitted, number_narrowed, text_converted, text_described, text_element_put, text_got}
+use Rattle.pli_coding.specs.Streams.{Elements, bit_element_pushed, bit_field_taken, bit_stored, by_kinds_of, element_addressed, fixed_element_pushed, fixed_element_put, fixed_field_taken, fixed_stored, mixed_element_put, mixed_field_taken, number_fitted, number_narrowed, text_converted, text_described, text_element_pushed, text_got}
 use Rattle.rv_item.specs.declared.kinds.Kinds.{Kinds}
 use Rattle.rv_item.specs.declared.moved.Motion.{Motion}
 use Rattle.rv_item.specs.declared.moved.Motion.TheVariants as M
@@ -45,39 +45,39 @@ number_saved t = number_narrowed t ++ save a0 t
 
 -- ---- by the kind
 
-unfoldable pub fixed_moved : Motion → Taken → Formats → Code
-fixed_moved M.Putting t formats = fixed_element_put t formats
-fixed_moved M.Converting t formats = number_fitted (with_number t) (text_converted 0)
-fixed_moved M.Storing t formats = fixed_stored (with_number t)
+unfoldable pub fixed_moved : Motion → Taken → Code
+fixed_moved M.Pushing t = fixed_element_pushed
+fixed_moved M.Converting t = number_fitted (with_number t) (text_converted 0)
+fixed_moved M.Storing t = fixed_stored (with_number t)
 
-unfoldable pub bit_moved : Motion → Taken → Formats → Code
-bit_moved M.Putting t formats = bit_element_put t formats
-bit_moved M.Converting t formats = text_converted 1 ++ save a0 (with_number t)
-bit_moved M.Storing t formats = bit_stored (with_number t)
+unfoldable pub bit_moved : Motion → Taken → Code
+bit_moved M.Pushing t = bit_element_pushed
+bit_moved M.Converting t = text_converted 1 ++ save a0 (with_number t)
+bit_moved M.Storing t = bit_stored (with_number t)
 
-unfoldable pub text_moved : Motion → Formats → Code
-text_moved M.Putting formats = text_element_put formats
-text_moved M.Converting formats = []
-text_moved M.Storing formats = text_described ++ service 27
+unfoldable pub text_moved : Motion → Code
+text_moved M.Pushing = text_element_pushed
+text_moved M.Converting = []
+text_moved M.Storing = text_described ++ service 27
 
 abbrev pub kind_tested : (kind : ℕ) → Code
 kind_tested kind = load_word u0 frame_register buffer_kind ++ small u1 kind ∷ []
 
 -- bits and texts, of those that there are
-unfoldable pub bits_and_texts : Kinds → Motion → Taken → Formats → Code
-bits_and_texts k m t formats =
-    if k.bit && k.text then kind_tested (kind_number K.Bit) ++ choice Test.Equal u0 u1 (bit_moved m t formats) (text_moved m formats)
-    else (if k.bit then bit_moved m t formats else (if k.text then text_moved m formats else []))
+unfoldable pub bits_and_texts : Kinds → Motion → Taken → Code
+bits_and_texts k m t =
+    if k.bit && k.text then kind_tested (kind_number K.Bit) ++ choice Test.Equal u0 u1 (bit_moved m t) (text_moved m)
+    else (if k.bit then bit_moved m t else (if k.text then text_moved m else []))
 
-abbrev pub kinds_moved : Kinds → Motion → Taken → Formats → Code
-kinds_moved k m t formats =
+abbrev pub kinds_moved : Kinds → Motion → Taken → Code
+kinds_moved k m t =
     if k.fixed then
-    (if k.bit || k.text then kind_tested (kind_number K.Fixed) ++ choice Test.Equal u0 u1 (fixed_moved m t formats) (bits_and_texts k m t formats)
-    else fixed_moved m t formats)
-    else bits_and_texts k m t formats
+    (if k.bit || k.text then kind_tested (kind_number K.Fixed) ++ choice Test.Equal u0 u1 (fixed_moved m t) (bits_and_texts k m t)
+    else fixed_moved m t)
+    else bits_and_texts k m t
 
-unfoldable pub element_moved : Motion → Environment → Taken → Formats → Y.Reference → Code
-element_moved m e t formats r = by_kinds_of e r (fixed_moved m t formats) (bit_moved m t formats) (text_moved m formats)
+unfoldable pub element_moved : Motion → Environment → Taken → Y.Reference → Code
+element_moved m e t r = by_kinds_of e r (fixed_moved m t) (bit_moved m t) (text_moved m)
 
 -- ---- fields, by the kinds that there are
 
@@ -88,3 +88,8 @@ kinds_taken k e l t formats r =
     else (if k.bit then
     (if k.text then mixed_field_taken e l t formats r else bit_field_taken t)
     else text_got formats)
+
+-- ---- elements of PUT, by the kinds that there are
+
+abbrev pub kinds_written : Kinds → Environment → Taken → Formats → Y.Reference → Code
+kinds_written k e t formats r = if k.bit || k.text then mixed_element_put e formats r else fixed_element_put t formats

@@ -9,6 +9,7 @@ pub mod fields;
 mod fitting;
 pub mod kinds;
 pub mod moved;
+pub mod putting;
 pub mod taking;
 pub mod text;
 pub mod turns;

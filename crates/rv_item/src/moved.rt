@@ -8,59 +8,52 @@ ghost use Rattle.pli_coding.specs.Instructions.{choice, service};
 ghost use Rattle.pli_coding.specs.Registers.{a0, u0, u1};
 ghost use Rattle.pli_coding.specs.Streams as form;
 ghost use Rattle.rv_address.specs.Around.{environment_of, taken_of};
-ghost use Rattle.rv_item.specs.Lists.{formats_in};
 ghost use Rattle.rv_item.specs.Moved.{bit_moved, bits_and_texts, element_moved, fixed_moved, kind_tested, kinds_moved, text_moved};
 
 use crate::branch::choose;
 use crate::element::{bit_loaded, bit_stored, fixed_loaded, fixed_stored, kind_in, text_described};
-use crate::field::{number_put, text_put};
-use crate::fields::Fields;
 use crate::fitting::{text_converted, text_fitted};
 use crate::kinds::{Kinds, kinds_in};
-use crate::text::NumberText;
+use crate::text::number_or_bit;
 use pli_typing::typed::Reference;
 use rv_address::environment::Environment;
 use rv_address::taken::{Taken, save};
 use rv_assembly::code::Code;
-use rv_assembly::registers::{a0, u0, u1, u2};
+use rv_assembly::registers::{a0, a1, u0, u1, u2};
 use rv_meaning::instr::BranchTest;
 use std::alloc::AllocError;
 
-/// What is done by the kind: an element goes to the output, the top text becomes its value, or this is stored.
+/// What is done by the kind: an element becomes the top text, the top text becomes its value, or this is stored.
 #[derive(Clone, Copy, PartialEq, Eq, Debug)]
 pub enum Motion {
-    Putting,
+    Pushing,
     Converting,
     Storing,
 }
 
 // ---- PUT
 
-/// The precision waits behind the number.
-fn fixed_element_put(code: &mut Code, taken: Taken, fields: &Fields) -> Result<(), AllocError>
-    ensures { OnOk result (code.new ≡ code.old ++ form.fixed_element_put (taken_of taken) (formats_in fields.now)) }
+/// An element as the top text.
+fn fixed_element_pushed(code: &mut Code) -> Result<(), AllocError>
+    ensures { OnOk result (code.new ≡ code.old ++ form.fixed_element_pushed) }
 {
-    let behind = taken.with_number()?;
     fixed_loaded(code)?;
-    save(code, a0(), taken)?;
-    save(code, u2(), behind)?;
-    number_put(code, taken, fields, NumberText::Waiting(behind))
+    code.copy(a1(), u2())?;
+    code.service(21)
 }
 
-fn bit_element_put(code: &mut Code, taken: Taken, fields: &Fields) -> Result<(), AllocError>
-    ensures { OnOk result (code.new ≡ code.old ++ form.bit_element_put (taken_of taken) (formats_in fields.now)) }
+fn bit_element_pushed(code: &mut Code) -> Result<(), AllocError>
+    ensures { OnOk result (code.new ≡ code.old ++ form.bit_element_pushed) }
 {
     bit_loaded(code)?;
-    save(code, a0(), taken)?;
-    number_put(code, taken, fields, NumberText::Known(0))
+    number_or_bit(code, 0)
 }
 
-fn text_element_put(code: &mut Code, fields: &Fields) -> Result<(), AllocError>
-    ensures { OnOk result (code.new ≡ code.old ++ form.text_element_put (formats_in fields.now)) }
+fn text_element_pushed(code: &mut Code) -> Result<(), AllocError>
+    ensures { OnOk result (code.new ≡ code.old ++ form.text_element_pushed) }
 {
     text_described(code)?;
-    code.service(20)?;
-    text_put(code, fields)
+    code.service(20)
 }
 
 // ---- GET
@@ -86,14 +79,13 @@ fn text_stored(code: &mut Code) -> Result<(), AllocError>
 fn fixed_moved(
     code: &mut Code,
     taken: Taken,
-    fields: &Fields,
     motion: Motion,
 ) -> Result<(), AllocError>
-    ensures { OnOk result (code.new ≡ code.old ++ fixed_moved motion (taken_of taken) (formats_in fields.now)) }
+    ensures { OnOk result (code.new ≡ code.old ++ fixed_moved motion (taken_of taken)) }
 {
     let behind = taken.with_number()?;
     match motion {
-        Motion::Putting => fixed_element_put(code, taken, fields),
+        Motion::Pushing => fixed_element_pushed(code),
         Motion::Converting => text_fitted(code, behind),
         Motion::Storing => fixed_stored(code, behind),
     }
@@ -103,25 +95,24 @@ fn fixed_moved(
 fn bit_moved(
     code: &mut Code,
     taken: Taken,
-    fields: &Fields,
     motion: Motion,
 ) -> Result<(), AllocError>
-    ensures { OnOk result (code.new ≡ code.old ++ bit_moved motion (taken_of taken) (formats_in fields.now)) }
+    ensures { OnOk result (code.new ≡ code.old ++ bit_moved motion (taken_of taken)) }
 {
     let behind = taken.with_number()?;
     match motion {
-        Motion::Putting => bit_element_put(code, taken, fields),
+        Motion::Pushing => bit_element_pushed(code),
         Motion::Converting => bit_converted(code, behind),
         Motion::Storing => bit_stored(code, behind),
     }
 }
 
 #[tactic(auto, unfolding(crate::specs::Moved::text_moved))]
-fn text_moved(code: &mut Code, fields: &Fields, motion: Motion) -> Result<(), AllocError>
-    ensures { OnOk result (code.new ≡ code.old ++ text_moved motion (formats_in fields.now)) }
+fn text_moved(code: &mut Code, motion: Motion) -> Result<(), AllocError>
+    ensures { OnOk result (code.new ≡ code.old ++ text_moved motion) }
 {
     match motion {
-        Motion::Putting => text_element_put(code, fields),
+        Motion::Pushing => text_element_pushed(code),
         Motion::Converting => Ok(()),
         Motion::Storing => text_stored(code),
     }
@@ -141,15 +132,14 @@ fn kind_tested(code: &mut Code, kind: u32) -> Result<(), AllocError>
 fn bit_or_text(
     code: &mut Code,
     taken: Taken,
-    fields: &Fields,
     motion: Motion,
 ) -> Result<(), AllocError>
-    ensures { OnOk result (code.new ≡ code.old ++ choice Test.Equal u0 u1 (bit_moved motion (taken_of taken) (formats_in fields.now)) (text_moved motion (formats_in fields.now))) }
+    ensures { OnOk result (code.new ≡ code.old ++ choice Test.Equal u0 u1 (bit_moved motion (taken_of taken)) (text_moved motion)) }
 {
     let branch = code.keep_branch()?;
-    text_moved(code, fields, motion)?;
+    text_moved(code, motion)?;
     let jump = code.keep_jump()?;
-    bit_moved(code, taken, fields, motion)?;
+    bit_moved(code, taken, motion)?;
     choose(code, branch, jump, BranchTest::Equal, u0(), u1())
 }
 
@@ -157,21 +147,20 @@ fn bit_or_text(
 fn bits_and_texts(
     code: &mut Code,
     taken: Taken,
-    fields: &Fields,
     motion: Motion,
     kinds: Kinds,
 ) -> Result<(), AllocError>
-    ensures { OnOk result (code.new ≡ code.old ++ bits_and_texts kinds motion (taken_of taken) (formats_in fields.now)) }
+    ensures { OnOk result (code.new ≡ code.old ++ bits_and_texts kinds motion (taken_of taken)) }
 {
     if kinds.bit && kinds.text {
         kind_tested(code, 4)?;
-        return bit_or_text(code, taken, fields, motion);
+        return bit_or_text(code, taken, motion);
     }
     if kinds.bit {
-        return bit_moved(code, taken, fields, motion);
+        return bit_moved(code, taken, motion);
     }
     if kinds.text {
-        return text_moved(code, fields, motion);
+        return text_moved(code, motion);
     }
     Ok(())
 }
@@ -180,36 +169,34 @@ fn bits_and_texts(
 fn fixed_or_others(
     code: &mut Code,
     taken: Taken,
-    fields: &Fields,
     motion: Motion,
     kinds: Kinds,
 ) -> Result<(), AllocError>
-    ensures { OnOk result (code.new ≡ code.old ++ choice Test.Equal u0 u1 (fixed_moved motion (taken_of taken) (formats_in fields.now)) (bits_and_texts kinds motion (taken_of taken) (formats_in fields.now))) }
+    ensures { OnOk result (code.new ≡ code.old ++ choice Test.Equal u0 u1 (fixed_moved motion (taken_of taken)) (bits_and_texts kinds motion (taken_of taken))) }
 {
     let branch = code.keep_branch()?;
-    bits_and_texts(code, taken, fields, motion, kinds)?;
+    bits_and_texts(code, taken, motion, kinds)?;
     let jump = code.keep_jump()?;
-    fixed_moved(code, taken, fields, motion)?;
+    fixed_moved(code, taken, motion)?;
     choose(code, branch, jump, BranchTest::Equal, u0(), u1())
 }
 
 fn kinds_moved(
     code: &mut Code,
     taken: Taken,
-    fields: &Fields,
     motion: Motion,
     kinds: Kinds,
 ) -> Result<(), AllocError>
-    ensures { OnOk result (code.new ≡ code.old ++ kinds_moved kinds motion (taken_of taken) (formats_in fields.now)) }
+    ensures { OnOk result (code.new ≡ code.old ++ kinds_moved kinds motion (taken_of taken)) }
 {
     if !kinds.fixed {
-        return bits_and_texts(code, taken, fields, motion, kinds);
+        return bits_and_texts(code, taken, motion, kinds);
     }
     if kinds.bit || kinds.text {
         kind_tested(code, 1)?;
-        return fixed_or_others(code, taken, fields, motion, kinds);
+        return fixed_or_others(code, taken, motion, kinds);
     }
-    fixed_moved(code, taken, fields, motion)
+    fixed_moved(code, taken, motion)
 }
 
 /// By the kind in the buffer.
@@ -218,12 +205,11 @@ pub fn element_moved(
     code: &mut Code,
     environment: &Environment,
     taken: Taken,
-    fields: &Fields,
     reference: &Reference,
     motion: Motion,
 ) -> Result<(), AllocError>
-    ensures { OnOk result (code.new ≡ code.old ++ element_moved motion (environment_of environment.now) (taken_of taken) (formats_in fields.now) (reference_of reference.now)) }
+    ensures { OnOk result (code.new ≡ code.old ++ element_moved motion (environment_of environment.now) (taken_of taken) (reference_of reference.now)) }
 {
     let kinds = kinds_in(environment, reference)?;
-    kinds_moved(code, taken, fields, motion, kinds)
+    kinds_moved(code, taken, motion, kinds)
 }

@@ -60,14 +60,7 @@ fn mixed_field_taken(
 {
     text_got(code, fields)?;
     element_described(alloc, code, environment, elements, reference)?;
-    element_moved(
-        code,
-        environment,
-        taken,
-        fields,
-        reference,
-        Motion::Converting,
-    )
+    element_moved(code, environment, taken, reference, Motion::Converting)
 }
 
 fn kinds_taken(

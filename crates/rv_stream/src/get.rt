@@ -148,7 +148,7 @@ fn element_got(
     let free = free_in(elements)?;
     element_field_taken(alloc, code, environment, elements, free, fields, reference)?;
     element_found(alloc, code, environment, elements, reference)?;
-    element_moved(code, environment, free, fields, reference, Motion::Storing)
+    element_moved(code, environment, free, reference, Motion::Storing)
 }
 
 #[tactic(auto, using(rv_item::proofs::Looping::is_turn_of, rv_item::proofs::Looping::turned_of))]

@@ -20,7 +20,7 @@ use rv_expr::expression::{bit_code, number_code, text_code};
 use rv_item::elements::{Elements, element_found, elements_counted, elements_of, free_in};
 use rv_item::field::{number_put, text_put};
 use rv_item::fields::Fields;
-use rv_item::moved::{Motion, element_moved};
+use rv_item::putting::element_written;
 use rv_item::text::NumberText;
 use rv_item::turns::{turn_begun, turn_ended};
 use std::alloc::{AllocError, Global};
@@ -96,7 +96,6 @@ fn value_put(
 
 // ---- an aggregate
 
-#[tactic(auto, unfolding(rv_item::specs::Moved::fixed_moved, rv_item::specs::Moved::bit_moved, rv_item::specs::Moved::text_moved, rv_item::specs::Moved::element_moved))]
 fn element_put(
     alloc: Global,
     code: &mut Code,
@@ -108,14 +107,7 @@ fn element_put(
     ensures { OnOk result (code.new ≡ code.old ++ form.element_put (environment_of environment.now) (elements_shown elements) (formats_in fields.now) (reference_of reference.now)) }
 {
     element_found(alloc, code, environment, elements, reference)?;
-    element_moved(
-        code,
-        environment,
-        free_in(elements)?,
-        fields,
-        reference,
-        Motion::Putting,
-    )
+    element_written(code, environment, free_in(elements)?, fields, reference)
 }
 
 #[tactic(auto, using(rv_item::proofs::Looping::is_turn, rv_item::proofs::Looping::turned))]
