@@ -16,10 +16,9 @@ use Rattle.pli_language.specs.Tree as T
 use Rattle.pli_typing.specs.TypedTree as Y
 use Rattle.pli_meaning.specs.Codes.{endfile_code}
 use Rattle.pli_meaning.specs.Numbers.{operator_precision}
-use Rattle.rv_meaning.specs.declared.instr.Register.{Register}
 use Rattle.pli_coding.specs.Registers.{zero_register, frame_register, a0, a1, a2, a3, a4, a5, u0, u1, u2, u3}
 use Rattle.pli_coding.specs.Assembly.{Item, Plain, BaseIn, OffsetOf, DataPlace, JumpAhead, JumpBack, Code, size_of}
-use Rattle.pli_coding.specs.Instructions.{immediate, registers, add, subtract, move, small, constant, number, load_word, store_word, skip_where, choice, repeated_while_zero, service, tested_service, status_tested}
+use Rattle.pli_coding.specs.Instructions.{immediate, registers, add, subtract, move, small, number, load_word, store_word, skip_where, choice, repeated_while_zero, service, tested_service, status_tested}
 use Rattle.pli_coding.specs.Frames.{buffer, buffer_kind, buffer_size, word_in}
 use Rattle.pli_coding.specs.StaticForms.{formats_datum, shape_datum}
 use Rattle.pli_coding.specs.Environments.{Environment, declaration_of, Taken, with_words, with_number, save, fetch}
@@ -89,7 +88,7 @@ value_put e t formats (Y.TextValue x) = text_code e t x ++ text_put formats
 value_put e t formats (Y.BitValue x) = bit_code e t x ++ (save a0 t ++ number_put t formats (as_text 0))
 value_put e t formats _ = []
 
--- ---- elements of aggregates: a record, behind it the number of the next element and that of all, each in two words, the lower one first
+-- ---- elements of aggregates: a record, and behind it the number of the next element in two words, the lower one first
 
 abbrev pub is_type : TableKind → Y.LeafType → Bool
 is_type K.Fixed (Y.FixedLeaf p) = true
@@ -124,43 +123,26 @@ elements_of t r = record { taken = t; behind = behind_record r t }
 abbrev pub next_place : Elements → (word : ℕ) → ℤ
 next_place l word = word_in l.behind.words 2 word
 
-abbrev pub count_place : Elements → (word : ℕ) → ℤ
-count_place l word = word_in (l.behind.words + 2) 2 word
-
--- behind the two numbers
+-- behind the number
 abbrev pub free_in : Elements → Taken
-free_in l = with_words 4 l.behind
+free_in l = with_words 2 l.behind
 
-abbrev pub element_asked : Environment → Elements → Y.Reference → (number : Code) → Code
-element_asked e l r number =
-    record_given e l.taken ++ (shape_in e r ++ (number ++ (own_place e a3 (pos buffer) ++ (small a4 1 ∷ service 8))))
+-- the first is the next
+abbrev pub elements_begun : Elements → Code
+elements_begun l =
+    store_word frame_register zero_register (next_place l 0) ++ store_word frame_register zero_register (next_place l 1)
 
--- how many there are
-abbrev pub elements_counted : Environment → Elements → Y.Reference → Code
-elements_counted e l r =
-    element_asked e l r (constant a2 (negsuc 0) ++ constant a5 (negsuc 0))
-    ++ (store_word frame_register a0 (count_place l 0)
-    ++ (store_word frame_register a1 (count_place l 1)
-    ++ (store_word frame_register zero_register (next_place l 0) ++ store_word frame_register zero_register (next_place l 1))))
-
--- the offset of the next one in a0, and what it is in the buffer
-abbrev pub element_described : Environment → Elements → Y.Reference → Code
-element_described e l r =
-    element_asked e l r (load_word a2 frame_register (next_place l 0) ++ load_word a5 frame_register (next_place l 1))
+-- the offset of the next one in a0, all ones where there is none, and what it is in the buffer
+abbrev pub element_asked : Environment → Elements → Y.Reference → Code
+element_asked e l r =
+    record_given e l.taken
+    ++ (shape_in e r
+    ++ (load_word a2 frame_register (next_place l 0)
+    ++ (load_word a5 frame_register (next_place l 1) ++ (own_place e a3 (pos buffer) ++ (small a4 1 ∷ service 8)))))
 
 -- it must live (101) and be there in full (107)
 abbrev pub element_found : Environment → Elements → Y.Reference → Code
-element_found e l r = element_described e l r ++ status_tested
-
--- where a word of the two numbers differs, bits of a register
-abbrev pub next_differs : Elements → Register → (word : ℕ) → Code
-next_differs l r word =
-    load_word r frame_register (next_place l word)
-    ++ (load_word u3 frame_register (count_place l word) ++ registers Op.Xor r r u3 ∷ [])
-
--- not 0 in u1 while an element is left
-abbrev pub next_loaded : Elements → Code
-next_loaded l = next_differs l u1 0 ++ (next_differs l u2 1 ++ registers Op.Or u1 u1 u2 ∷ [])
+element_found e l r = element_asked e l r ++ status_tested
 
 -- a lower word that has become 0 carries
 abbrev pub next_counted : Elements → Code
@@ -171,14 +153,22 @@ next_counted l =
     ++ (immediate Imm.SetLessUnsigned u1 u1 (pos 1)
     ∷ (load_word u2 frame_register (next_place l 1) ++ (add u2 u2 u1 ∷ store_word frame_register u2 (next_place l 1))))))
 
--- what is done for each element, given the words behind it; both sizes are those of the code itself
-abbrev pub for_elements : Elements → (each : Code) → Code
-for_elements l each =
-    next_loaded l
-    ++ (skip_where Test.NotEqual u1 zero_register (JumpAhead (size_of each + (size_of (next_counted l) + 2)) ∷ [])
+-- the offset of the next one in a0, and in u1 what is told where there is none
+abbrev pub next_asked : Environment → Elements → Y.Reference → Code
+next_asked e l r = element_asked e l r ++ immediate Imm.Add u1 zero_register (negsuc 0) ∷ []
+
+-- what is done for each, given the words behind it, while what is asked first leaves a0 and u1 different; both sizes are those of the
+-- code itself
+abbrev pub turns : Elements → (asked each : Code) → Code
+turns l asked each =
+    asked
+    ++ (skip_where Test.NotEqual a0 u1 (JumpAhead (size_of each + (size_of (next_counted l) + 2)) ∷ [])
     ++ (each
     ++ (next_counted l
-    ++ JumpBack (size_of (next_loaded l) + (3 + (size_of each + size_of (next_counted l)))) ∷ [])))
+    ++ JumpBack (size_of asked + (3 + (size_of each + size_of (next_counted l)))) ∷ [])))
+
+abbrev pub for_elements : Environment → Elements → Y.Reference → (each : Code) → Code
+for_elements e l r each = elements_begun l ++ turns l (next_asked e l r) each
 
 -- ---- by the kind in the buffer
 
@@ -262,10 +252,11 @@ element_written e t formats r =
     if has_kind e r K.Bit || has_texts e r then mixed_element_put e formats r else fixed_element_put t formats
 
 abbrev pub element_put : Environment → Elements → T.Formats → Y.Reference → Code
-element_put e l formats r = element_found e l r ++ element_written e (free_in l) formats r
+element_put e l formats r = status_tested ++ element_written e (free_in l) formats r
 
 abbrev pub elements_put : Environment → Elements → T.Formats → Y.Reference → Code
-elements_put e l formats r = record_code e l.taken r ++ (elements_counted e l r ++ for_elements l (element_put e l formats r))
+elements_put e l formats r =
+    record_code e l.taken r ++ for_elements e l r (element_put e l formats r)
 
 abbrev pub item_put : Environment → Taken → T.Formats → Y.PutItem → Code
 item_put e t formats (Y.PutValue v) = value_put e t formats v
@@ -328,67 +319,48 @@ awaited_before code behind = field_awaited (size_of code + behind) ++ code
 
 -- ---- GET of an aggregate
 
--- a number in a0, of the precision that waits at t
-abbrev pub number_narrowed : Taken → Code
-number_narrowed t =
-    fetch u2 t
+-- a number in a0 is made one of the precision that the buffer tells, and waits
+abbrev pub number_fitted : Taken → Code
+number_fitted t =
+    load_word u2 frame_register buffer_size
     ++ (small u1 operator_precision
     ∷ subtract u2 u1 u2
     ∷ registers Op.ShiftLeft u1 a0 u2
     ∷ registers Op.ShiftRightArithmetic u1 u1 u2
-    ∷ skip_where Test.Equal u1 a0 (move a0 u1 ∷ overflow_raised (with_number t)))
-
--- a number of the precision that the buffer has, from a0
-abbrev pub number_fitted : (t : Taken) → (number : Code) → Code
-number_fitted t number =
-    load_word u2 frame_register buffer_size ++ (save u2 t ++ (number ++ (number_narrowed t ++ save a0 t)))
+    ∷ (skip_where Test.Equal u1 a0 (move a0 u1 ∷ overflow_raised t) ++ save a0 t))
 
 -- the top text as a number, with mode 1 as a bit
 abbrev pub text_converted : (mode : ℕ) → Code
 text_converted mode = small a0 mode ∷ tested_service 26
 
--- where all elements are numbers, what is next waits at t, and the number behind it
-abbrev pub fixed_field_taken : Environment → Elements → (t : Taken) → T.Formats → Y.Reference → Code
-fixed_field_taken e l t formats r =
-    save a0 t ++ (element_described e l r ++ number_fitted (with_number t) (fetch a0 t ++ number_got formats))
-
-abbrev pub bit_field_taken : (t : Taken) → Code
-bit_field_taken t = bit_got ++ save a0 (with_number t)
-
 -- where they are of several kinds, the field is a text first
-abbrev pub mixed_field_taken : Environment → Elements → (t : Taken) → T.Formats → Y.Reference → Code
-mixed_field_taken e l t formats r =
-    text_got formats
-    ++ (element_described e l r
-    ++ by_kinds_of e r
-    (number_fitted (with_number t) (text_converted 0))
-    (text_converted 1 ++ save a0 (with_number t))
-    [])
+abbrev pub mixed_field_taken : Environment → Taken → T.Formats → Y.Reference → Code
+mixed_field_taken e t formats r =
+    text_got formats ++ by_kinds_of e r (text_converted 0 ++ number_fitted t) (text_converted 1 ++ save a0 t) []
 
 -- a field, converted before its target is reached: a text on the stack, or a number or bit that waits
-abbrev pub element_field_taken : Environment → Elements → (t : Taken) → T.Formats → Y.Reference → Code
-element_field_taken e l t formats r =
+abbrev pub element_field_taken : Environment → Taken → T.Formats → Y.Reference → Code
+element_field_taken e t formats r =
     if has_kind e r K.Fixed then
-    (if has_kind e r K.Bit || has_texts e r then mixed_field_taken e l t formats r else fixed_field_taken e l t formats r)
+    (if has_kind e r K.Bit || has_texts e r then mixed_field_taken e t formats r else number_got formats ++ number_fitted t)
     else (if has_kind e r K.Bit then
-    (if has_texts e r then mixed_field_taken e l t formats r else bit_field_taken t)
+    (if has_texts e r then mixed_field_taken e t formats r else bit_got ++ save a0 t)
     else text_got formats)
 
 abbrev pub bit_stored : Taken → Code
 bit_stored t = element_addressed ++ (fetch a0 t ++ Plain (I.Store Store.Byte u3 a0 (pos 0)) ∷ [])
 
-abbrev pub element_stored : Environment → (t : Taken) → Y.Reference → Code
-element_stored e t r = by_kinds_of e r (fixed_stored (with_number t)) (bit_stored (with_number t)) (text_described ++ service 27)
+abbrev pub element_stored : Environment → Taken → Y.Reference → Code
+element_stored e t r = by_kinds_of e r (fixed_stored t) (bit_stored t) (text_described ++ service 27)
 
 abbrev pub element_got : Environment → Elements → T.Formats → Y.Reference → Code
 element_got e l formats r =
-    element_field_taken e l (free_in l) formats r ++ (element_found e l r ++ element_stored e (free_in l) r)
+    element_field_taken e (free_in l) formats r ++ (element_found e l r ++ element_stored e (free_in l) r)
 
 abbrev pub elements_got : Environment → Elements → T.Formats → Y.Reference → (behind : ℕ) → Code
 elements_got e l formats r behind =
     record_code e l.taken r
-    ++ (elements_counted e l r
-    ++ for_elements l (awaited_before (element_got e l formats r) (size_of (next_counted l) + (2 + behind))))
+    ++ for_elements e l r (awaited_before (element_got e l formats r) (size_of (next_counted l) + (2 + behind)))
 
 abbrev pub item_got : Environment → Taken → T.Formats → Y.GetItem → (behind : ℕ) → Code
 item_got e t formats (Y.GetScalar r) behind = awaited_before (field_stored e t formats r (type_in e r)) behind
@@ -420,9 +392,9 @@ value_words (Y.TextValue x) = text_words x
 value_words (Y.BitValue x) = max 1 (bit_words x)
 value_words _ = 0
 
--- a record, the two numbers, and up to three that wait
+-- a record, the number, and up to two that wait
 abbrev pub elements_words : Y.Reference → ℕ
-elements_words r = max (aggregate_words r) (words_behind_record r + 7)
+elements_words r = max (aggregate_words r) (words_behind_record r + 4)
 
 abbrev pub put_item_words : Y.PutItem → ℕ
 put_item_words (Y.PutValue v) = value_words v

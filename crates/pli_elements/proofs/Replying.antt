@@ -11,7 +11,7 @@ use Rattle.pli_meaning.specs.StreamOrder.{Element, elements_inside}
 use Rattle.pli_meaning.specs.Unreachable.{unreachable_leaf}
 use Rattle.pli_serving.specs.Aggregates.{Aggregate}
 use Rattle.pli_serving.specs.Answers.{Answer, Done, Bad}
-use Rattle.pli_serving.specs.ElementService.{buffer_bytes, counted_elements, element_answered, element_found, no_number}
+use Rattle.pli_serving.specs.ElementService.{buffer_bytes, element_answered, element_found}
 use Rattle.pli_serving.specs.Bytes.{is_data, with_bytes}
 use Rattle.pli_serving.specs.Finding.{Call, named}
 use Rattle.pli_serving.specs.Outcomes.{bad_unless, or_bad}
@@ -31,26 +31,10 @@ use Rattle.pli_signatures.specs.declared.element.ElementKind.{ElementKind}
 use Rattle.pli_aggregates.specs.Records.{record_shown}
 use Rattle.pli_aggregates.specs.declared.record.Aggregate.{Aggregate as AggregateHeld}
 use Rattle.pli_elements.specs.Items.{IsItem, behind_leaf}
-use Rattle.pli_elements.specs.Served.{in_item}
 use Rattle.pli_elements.specs.declared.item.Item.{Item}
 
 abbrev pub own_elements : List Part → Item → List Element
 own_elements parts i = elements_inside (nest_in parts) 0 (map leaf_in_force i.leaves.items) i.given.items
-
--- ---- the count
-
-as_many : (elements : List Element) (parts : List Part) (i : Item) → IsItem (Some elements) parts i → length elements ≡ length (own_elements parts i)
-as_many elements parts i h =
-    let same : elements ≡ map (behind_leaf i.first) (own_elements parts i) = some h.are in
-    ap length same ∙ length-map (own_elements parts i) (behind_leaf i.first)
-  where
-    some : {X : Type 0} {x y : X} → Some x ≡ Some y → x ≡ y
-    some e = cc
-
-pub counted_so : (c : Call) (elements : List Element) (parts : List Part) (i : Item) (total : ℕ) → IsItem (Some elements) parts i → total ≡ capped (length (own_elements parts i)) → counted_elements c elements ≡ Done c.services c.memory (total % 2 ^ 32) (total / 2 ^ 32)
-counted_so c elements parts i total h e =
-    let same : capped (length elements) ≡ total = ap capped (as_many elements parts i h) ∙ sym e in
-    ap (λ n. Done c.services c.memory (n % 2 ^ 32) (n / 2 ^ 32)) same
 
 -- ---- the element of a number
 
@@ -84,18 +68,6 @@ whole_so f old new a (Some s) r e h = h s refl
 pub open_so : (a : AggregateHeld) (o : Option Shape) (f : Aggregate → Answer) → is_some o ≡ false → or_bad (option_map (record_shown a) o) f ≡ Bad
 open_so a None f e = refl
 open_so a (Some s) f e = absurd (cc)
-
--- ---- the count, or the one of a number
-
-pub in_count : (c : Call) (x : ℕ) (a : Aggregate) (number buffer : ℕ) (elements : List Element) → number ≡ no_number → in_item c x a number buffer elements ≡ counted_elements c elements
-in_count c x a number buffer elements e =
-    let yes : (number == no_number) ≡ true = grind (arith, nat_tests, e) in
-    ap (λ b. if b then counted_elements c elements else or_bad (slice_get elements number) (element_found c x a buffer)) yes
-
-pub in_number : (c : Call) (x : ℕ) (a : Aggregate) (number buffer : ℕ) (elements : List Element) → (number ≡ no_number → ⊥) → in_item c x a number buffer elements ≡ or_bad (slice_get elements number) (element_found c x a buffer)
-in_number c x a number buffer elements n =
-    let no : (number == no_number) ≡ false = grind (arith, nat_tests, n) in
-    ap (λ b. if b then counted_elements c elements else or_bad (slice_get elements number) (element_found c x a buffer)) no
 
 -- ---- the kind of a leaf
 

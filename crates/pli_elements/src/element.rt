@@ -1,7 +1,7 @@
 // Service 8 with mode 1.
 
-ghost use Rattle.std.specs.Prelude.{◌≡◌, ◌+◌, Some, List, IfOk, MatchOption, slice_get, true, ⊤};
-ghost use Rattle.pli_answering.specs.Answering.{Answers, Replies};
+ghost use Rattle.std.specs.Prelude.{◌≡◌, ◌+◌, Some, List, IfOk, MatchOption, true, ⊤};
+ghost use Rattle.pli_answering.specs.Answering.{Answers};
 ghost use Rattle.pli_meaning.specs.Contents.{Shape};
 ghost use Rattle.pli_meaning.specs.Evaluating as evaluating;
 ghost use Rattle.pli_meaning.specs.StreamOrder.{Element};
@@ -25,7 +25,7 @@ use crate::standing::outcome_in;
 use area_heap::keeper::AreaKeeper;
 use pli_aggregates::record::{Aggregate, aggregate_at};
 use pli_answering::reply::{Refusal, Reply};
-use pli_order::find::{element_at, element_total};
+use pli_order::find::element_at;
 use pli_shapes::shape::{ItemShape, item_shape};
 use pli_signatures::element::ElementKind;
 use pli_storage::held::Held;
@@ -33,11 +33,8 @@ use pli_values::source::Source;
 use pli_values::word::put_words;
 use std::alloc::{AllocError, Global};
 
-/// The number that asks for the count.
-const NO_NUMBER: u64 = u64::MAX;
-
-/// How many numbers a word has.
-const WORD: u64 = 1 << 32;
+/// What is told in the place of an element that isn't there.
+const NO_ELEMENT: u32 = u32::MAX;
 
 /// The bytes of the buffer.
 const BUFFER_BYTES: usize = 8;
@@ -55,14 +52,6 @@ fn kind_words(kind: ElementKind) -> [u32; 2]
         ElementKind::Offset => [6, 0],
         ElementKind::Area { capacity } => [7, capacity],
     }
-}
-
-/// How many elements there are, in two words; all ones where there are more.
-fn counted(alloc: Global, item: &Item) -> Result<Reply, Refusal>
-    ensures { (c : Call) → (parts : List Part) → (elements : List Element) → IsItem (Some elements) parts item.now → Replies (service.counted_elements c elements) c.services c.memory result c.services c.memory }
-{
-    let total = element_total(alloc, &item.order, item.leaves.as_slice())?;
-    Ok(Reply::Done((total % WORD) as u32, (total / WORD) as u32))
 }
 
 /// The kind in force of a leaf of an aggregate. Refused where that isn't there.
@@ -140,7 +129,7 @@ fn leaf_behind(first: u32, leaf: usize) -> Option<u32>
     first.checked_add(leaf as u32)
 }
 
-/// The element of a number, if there is one.
+/// The element of a number, if there is one; else that there is none.
 fn numbered<K: AreaKeeper>(
     alloc: Global,
     held: &Held,
@@ -153,12 +142,12 @@ fn numbered<K: AreaKeeper>(
 ) -> Result<Reply, Refusal>
     requires { IsLaid K.keeper held.now.layout memory.old }
     ensures { (c : Call) → (s : Shape) → (parts : List Part) → (elements : List Element) → shape_at held.now.signatures aggregate.signature ≡ Some s → IsItem (Some elements) parts item.now →
-        Answers (λ c. or_bad (slice_get elements number) (service.element_found c register (record_shown aggregate s) buffer)) (with_held K.keeper held.now memory.old c) result (with_held K.keeper held.now memory.new c) }
+        Answers (λ c. in_item c register (record_shown aggregate s) number buffer elements) (with_held K.keeper held.now memory.old c) result (with_held K.keeper held.now memory.new c) }
 {
     let leaves = item.leaves.as_slice();
     let given = item.given.as_slice();
     let Some(element) = element_at(alloc, &item.order, leaves, given, number)? else {
-        return Err(Refusal::Bad);
+        return Ok(Reply::Done(NO_ELEMENT, 0));
     };
     let Some(leaf) = leaf_behind(item.first, element.leaf) else {
         return Err(Refusal::Memory);
@@ -173,30 +162,6 @@ fn numbered<K: AreaKeeper>(
         leaf,
         element.subscripts.as_slice(),
     )
-}
-
-/// The count of elements, or the one of a number.
-fn of_item<K: AreaKeeper>(
-    alloc: Global,
-    held: &Held,
-    memory: &mut [u8],
-    aggregate: Aggregate,
-    register: u32,
-    item: &Item,
-    number: u64,
-    buffer: u32,
-) -> Result<Reply, Refusal>
-    requires { IsLaid K.keeper held.now.layout memory.old }
-    ensures { (c : Call) → (s : Shape) → (parts : List Part) → (elements : List Element) → shape_at held.now.signatures aggregate.signature ≡ Some s → IsItem (Some elements) parts item.now →
-        Answers (λ c. in_item c register (record_shown aggregate s) number buffer elements) (with_held K.keeper held.now memory.old c) result (with_held K.keeper held.now memory.new c) }
-{
-    if number == NO_NUMBER {
-        counted(alloc, item)
-    } else {
-        numbered::<K>(
-            alloc, held, memory, aggregate, register, item, number, buffer,
-        )
-    }
 }
 
 /// The same of the elements that a shape has in an aggregate, if it has them there.
@@ -216,7 +181,7 @@ fn of_shape<K: AreaKeeper>(
 {
     match item_of(alloc, held, aggregate, shape) {
         Ok(found) => match found {
-            Some(item) => of_item::<K>(
+            Some(item) => numbered::<K>(
                 alloc, held, memory, aggregate, register, &item, number, buffer,
             ),
             None => Err(Refusal::Bad),
@@ -250,8 +215,8 @@ fn of_aggregate<K: AreaKeeper>(
     }
 }
 
-/// 8, with mode 1: how many elements the shape at an address has in the aggregate whose record stands at another, or where the one of
-/// a number stands, with its kind in a buffer.
+/// 8, with mode 1: where the element of a number stands among those that the shape at an address has in the aggregate whose record
+/// stands at another, with its kind in a buffer.
 pub fn element<K: AreaKeeper>(
     alloc: Global,
     held: &Held,

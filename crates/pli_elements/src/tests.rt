@@ -1,4 +1,4 @@
-// The second element of an array, and how many there are; without memory nothing is done.
+// The second element of an array of three, and that there is no fourth; without memory nothing is done.
 
 ghost use Rattle.std.specs.Prelude.{◌≡◌, MatchOption, length, ⊤};
 
@@ -72,18 +72,15 @@ fn an_element_is_found(rt: HostRuntime) {
 }
 
 #[test]
-fn elements_are_counted(rt: HostRuntime) {
+fn no_element_is_behind_the_last(rt: HostRuntime) {
     let Some(held) = held(rt.alloc()) else {
         return;
     };
     let mut memory = [0; 256];
     fill(&mut memory);
-    match element::<Chain>(rt.alloc(), &held, &mut memory, 32, 80, u32::MAX, 0) {
-        Ok(reply) => assert!(rt; reply == Reply::Done(3, 0)),
+    match element::<Chain>(rt.alloc(), &held, &mut memory, 32, 80, 3, 96) {
+        Ok(reply) => assert!(rt; reply == Reply::Done(u32::MAX, 0)),
         Err(refusal) => assert!(rt; refusal == Refusal::Memory),
     }
-    match element::<Chain>(rt.alloc(), &held, &mut memory, 32, 80, 3, 96) {
-        Ok(_) => assert!(rt; false),
-        Err(_) => assert!(rt; word_at(&memory, 96) == 0),
-    }
+    assert!(rt; word_at(&memory, 96) == 0);
 }

@@ -118,7 +118,7 @@ fn words_behind_record(aggregate: &Reference) -> Result<u32, AllocError>
 fn streamed_words(aggregate: &Reference) -> Result<u32, AllocError>
     ensures { IfOk result (λ n. n ≡ streams.elements_words (reference_of aggregate.now)) }
 {
-    let counted = more(words_behind_record(aggregate)?, 7)?;
+    let counted = more(words_behind_record(aggregate)?, 4)?;
     Ok(aggregate_words(aggregate)?.max(counted))
 }
 

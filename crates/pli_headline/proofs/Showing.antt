@@ -212,9 +212,13 @@ element_answered_shows c x a e m (N.FoundAt f) = if_shows _ (quiet refl) (quiet 
 element_answered_shows c x a e m N.NotLiving = quiet refl
 element_answered_shows c x a e m N.NoArea = no_call
 
+element_if_shows : (c : Call) (x : ℕ) (a : P.Aggregate) (buffer : ℕ) (o : Option Element) → Shows c.services (L.element_if c x a buffer o)
+element_if_shows c x a buffer None = quiet refl
+element_if_shows c x a buffer (Some e) = unless_shows _ (element_answered_shows c x a e _ _)
+
 element_shows : (c : Call) (aggregate shape number buffer : ℕ) → Shows c.services (L.element_served c aggregate shape number buffer)
 element_shows c aggregate shape number buffer =
-    bad_shows (P.aggregate_at c aggregate) (λ a. bad_shows (O.then_found (L.item_shape_at c shape) (L.elements_by c a)) (λ elements. if_shows (number == L.no_number) (quiet refl) (bad_shows (slice_get elements number) (λ e. unless_shows _ (element_answered_shows c aggregate a e _ _)))))
+    bad_shows (P.aggregate_at c aggregate) (λ a. bad_shows (O.then_found (L.item_shape_at c shape) (L.elements_by c a)) (λ elements. element_if_shows c aggregate a buffer (slice_get elements number)))
 
 -- ---- 10 to 13: areas and the heap
 

@@ -44,15 +44,13 @@ member_in_order = refl
 abbrev served : Call → (number : ℕ) → Shown
 served c number = bytes_of 8 112 (element_served c 32 52 number 112)
 
-abbrev count_asked : ℕ
-count_asked = 2 ^ 64 - 1
-
 -- the buffer with a kind and a size
 abbrev buffer : (kind size : ℕ) → List ℕ
 buffer kind size = kind ∷ 0 ∷ 0 ∷ 0 ∷ size ∷ 0 ∷ 0 ∷ 0 ∷ []
 
-whole_count : served (structure_with 0 whole_shape) count_asked ≡ Bytes (buffer 0 0) 0 6 0
-whole_count = refl
+-- the buffer stays as it is
+abbrev no_more : Shown
+no_more = Bytes (buffer 0 0) 0 ones 0
 
 first_element : served (structure_with 0 whole_shape) 0 ≡ Bytes (buffer 1 31) 0 128 0
 first_element = refl
@@ -66,15 +64,15 @@ fourth_element = refl
 last_element : served (structure_with 0 whole_shape) 5 ≡ Bytes (buffer 2 3) 0 148 0
 last_element = refl
 
-no_seventh_element : served (structure_with 0 whole_shape) 6 ≡ BadService
+no_seventh_element : served (structure_with 0 whole_shape) 6 ≡ no_more
 no_seventh_element = refl
 
--- all ones in the lower word alone, and in the higher one
-no_element_of_a_high_number : map (served (structure_with 0 whole_shape)) ((2 ^ 32 - 1) ∷ (2 ^ 64 - 2 ^ 32) ∷ []) ≡ (BadService ∷ BadService ∷ [])
+-- all ones in the lower word alone, in the higher one, and in both
+no_element_of_a_high_number : map (served (structure_with 0 whole_shape)) ((2 ^ 32 - 1) ∷ (2 ^ 64 - 2 ^ 32) ∷ (2 ^ 64 - 1) ∷ []) ≡ (no_more ∷ no_more ∷ no_more ∷ [])
 no_element_of_a_high_number = refl
 
-row_count : served (structure_with 1 row_shape) count_asked ≡ Bytes (buffer 0 0) 0 3 0
-row_count = refl
+behind_the_row : served (structure_with 1 row_shape) 3 ≡ no_more
+behind_the_row = refl
 
 row_element : served (structure_with 1 row_shape) 1 ≡ Bytes (buffer 2 3) 0 144 0
 row_element = refl
@@ -87,7 +85,7 @@ element_outside : served (structure_with 2 row_shape) 0 ≡ BadService
 element_outside = refl
 
 -- a second subscript, which the first leaf doesn't have
-too_many_subscripts : served (structure_with 0 (2 ∷ 0 ∷ 2 ∷ 0 ∷ 0 ∷ 0 ∷ 0 ∷ 1 ∷ 0 ∷ 1 ∷ [])) count_asked ≡ BadService
+too_many_subscripts : served (structure_with 0 (2 ∷ 0 ∷ 2 ∷ 0 ∷ 0 ∷ 0 ∷ 0 ∷ 1 ∷ 0 ∷ 1 ∷ [])) 0 ≡ BadService
 too_many_subscripts = refl
 
 -- ---- other names and signatures
@@ -101,8 +99,8 @@ null_name = refl
 dead_name : served (named_by (1 ∷ 0 ∷ 9 ∷ 0 ∷ []) 0) 0 ≡ Bytes (buffer 1 31) 0 32 101
 dead_name = refl
 
-count_of_dead_name : served (named_by (1 ∷ 0 ∷ 9 ∷ 0 ∷ []) 0) count_asked ≡ Bytes (buffer 0 0) 0 6 0
-count_of_dead_name = refl
+behind_a_dead_name : served (named_by (1 ∷ 0 ∷ 9 ∷ 0 ∷ []) 0) 6 ≡ no_more
+behind_a_dead_name = refl
 
 other_signature : served (named_by variable_name 2) 1 ≡ Bytes (buffer 2 2) 0 32 101
 other_signature = refl
@@ -110,16 +108,16 @@ other_signature = refl
 own_signature : served (named_by variable_name ones) 1 ≡ Bytes (buffer 2 3) 0 136 0
 own_signature = refl
 
-own_signature_of_dead : served (named_by (1 ∷ 0 ∷ 9 ∷ 0 ∷ []) ones) count_asked ≡ BadService
+own_signature_of_dead : served (named_by (1 ∷ 0 ∷ 9 ∷ 0 ∷ []) ones) 0 ≡ BadService
 own_signature_of_dead = refl
 
-own_signature_of_based : served (named_by based_name ones) count_asked ≡ BadService
+own_signature_of_based : served (named_by based_name ones) 0 ≡ BadService
 own_signature_of_based = refl
 
-unknown_signature : served (named_by variable_name 13) count_asked ≡ BadService
+unknown_signature : served (named_by variable_name 13) 0 ≡ BadService
 unknown_signature = refl
 
-open_signature : served (named_by variable_name 9) count_asked ≡ BadService
+open_signature : served (named_by variable_name 9) 0 ≡ BadService
 open_signature = refl
 
 other_kind_of_name : served (named_by (3 ∷ 0 ∷ 1 ∷ 0 ∷ []) 0) 0 ≡ BadService
@@ -153,20 +151,20 @@ name_in_code : bytes_of 0 0 (element_served (structure_with 0 whole_shape) 36 52
 name_in_code = refl
 
 -- a second leaf, and another behind it
-leaf_that_is_not_there : served (structure_with 0 (0 ∷ 1 ∷ 2 ∷ 1 ∷ 0 ∷ 0 ∷ 1 ∷ 1 ∷ 0 ∷ 2 ∷ [])) count_asked ≡ BadService
+leaf_that_is_not_there : served (structure_with 0 (0 ∷ 1 ∷ 2 ∷ 1 ∷ 0 ∷ 0 ∷ 1 ∷ 1 ∷ 0 ∷ 2 ∷ [])) 0 ≡ BadService
 leaf_that_is_not_there = refl
 
 -- members that go on past the end of memory
 members_past_end :
     bytes_of 0 0 (element_served
-    (call (variable_of 0 []) (memory variable_name 0 0 0 [] (replicate 368 0 ++ bytes_of_words (0 ∷ 0 ∷ 1 ∷ 0 ∷ [])))) 32 496 count_asked 112)
+    (call (variable_of 0 []) (memory variable_name 0 0 0 [] (replicate 368 0 ++ bytes_of_words (0 ∷ 0 ∷ 1 ∷ 0 ∷ [])))) 32 496 0 112)
     ≡ BadService
 members_past_end = refl
 
 shape_to_end :
     bytes_of 0 0 (element_served
-    (call (variable_of 0 []) (memory variable_name 0 0 0 [] (replicate 368 0 ++ bytes_of_words (0 ∷ 1 ∷ 0 ∷ 0 ∷ [])))) 32 496 count_asked 112)
-    ≡ Bytes [] 0 2 0
+    (call (variable_of 0 []) (memory variable_name 0 0 0 [] (replicate 368 0 ++ bytes_of_words (0 ∷ 1 ∷ 0 ∷ 0 ∷ [])))) 32 496 2 112)
+    ≡ Bytes [] 0 ones 0
 shape_to_end = refl
 
 -- ---- a REFER extent: with 4 allocated, so many in force
@@ -186,8 +184,8 @@ refer_other_leaf = refl
 abbrev array_refers_to : (extent : ℕ) → Call
 array_refers_to extent = call_by (one_kept 12) (heap []) (memory based_name 12 0 extent refer_array_shape refer_data)
 
-refer_array_count : served (array_refers_to 3) count_asked ≡ Bytes (buffer 0 0) 0 4 0
-refer_array_count = refl
+behind_the_refer_array : served (array_refers_to 3) 4 ≡ no_more
+behind_the_refer_array = refl
 
 refer_array_element : served (array_refers_to 5) 4 ≡ Bytes (buffer 1 31) 0 288 0
 refer_array_element = refl

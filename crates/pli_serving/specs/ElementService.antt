@@ -1,9 +1,9 @@
 -- Service 8 with mode 1: the elements of an aggregate, one by one in the order of streams. A shape in memory says how the aggregate
 -- is made: the number of the subscripts given, then for each structure, array or leaf in it, those inside behind it, the
 -- dimensions that it declares itself (the first one: all that the subscripts leave), how many stand in it, and its first leaf.
-use Rattle.std.specs.Prelude.{ℕ, zero, suc, ◌+◌, ◌-◌, ◌*◌, ◌/◌, ◌%◌, ◌^◌, ◌==◌, Bool, true, false, nat_le, List, [], ◌∷◌, ◌++◌, length, Option, Some, None, slice_get, if◌then◌else◌}
+use Rattle.std.specs.Prelude.{ℕ, zero, suc, ◌+◌, ◌-◌, ◌*◌, ◌^◌, Bool, true, false, nat_le, List, [], ◌∷◌, ◌++◌, length, Option, Some, None, slice_get, if◌then◌else◌}
 use Rattle.pli_typing.specs.TypedTree as Y
-use Rattle.pli_typing.specs.Signatures.{LeafKind, capped}
+use Rattle.pli_typing.specs.Signatures.{LeafKind}
 use Rattle.rv_meaning.specs.Memory.{bytes_of_words}
 use Rattle.pli_meaning.specs.Codes.{no_generation_code, extent_code}
 use Rattle.pli_meaning.specs.Contents.{leaves_with}
@@ -100,25 +100,22 @@ element_found c x a buffer e =
     (with_bytes (buffer_bytes (leaf_at a.shape a.extent e.0).kind) buffer c.memory)
     (named c a.name a.signature))
 
--- ---- the service: how many elements there are, for all ones, or where the one of a number stands. A number and a count are two
--- words, the lower one first.
+-- ---- the service: where the element of a number stands. The number is two words, the lower one first.
 
 abbrev pub of_two_words : (low high : ℕ) → ℕ
 of_two_words low high = low + 2 ^ 32 * high
 
--- all ones ask for the count
-abbrev pub no_number : ℕ
-no_number = 2 ^ 64 - 1
+-- all ones where there is none of the number
+abbrev pub no_element : ℕ
+no_element = 2 ^ 32 - 1
 
--- all ones where there are more
-abbrev pub counted_elements : Call → List Element → Answer
-counted_elements c elements = answering c (capped (length elements) % 2 ^ 32) (capped (length elements) / 2 ^ 32)
+abbrev pub element_if : Call → (x : ℕ) → Aggregate → (buffer : ℕ) → Option Element → Answer
+element_if c x a buffer None = answering c no_element 0
+element_if c x a buffer (Some e) = element_found c x a buffer e
 
 abbrev pub element_served : Call → (aggregate shape number buffer : ℕ) → Answer
 element_served c aggregate shape number buffer =
     or_bad (aggregate_at c aggregate)
     (λ a.
     or_bad (then_found (item_shape_at c shape) (elements_by c a))
-    (λ elements.
-    if number == no_number then counted_elements c elements
-    else or_bad (slice_get elements number) (element_found c aggregate a buffer)))
+    (λ elements. element_if c aggregate a buffer (slice_get elements number)))

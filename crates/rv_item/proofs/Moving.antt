@@ -6,7 +6,7 @@ use Rattle.pli_language.specs.Tree.{Formats}
 use Rattle.pli_typing.specs.TypedTree as Y
 use Rattle.pli_coding.specs.Assembly.{Code}
 use Rattle.pli_coding.specs.Environments.{Environment, Taken}
-use Rattle.pli_coding.specs.Streams.{Elements, by_kind, element_field_taken, element_written, has_kind, has_texts, kind_if}
+use Rattle.pli_coding.specs.Streams.{by_kind, element_field_taken, element_written, has_kind, has_texts, kind_if}
 use Rattle.rv_item.specs.declared.kinds.Kinds.{Kinds}
 use Rattle.rv_item.specs.declared.moved.Motion.{Motion}
 use Rattle.rv_item.specs.Moved.{bit_moved, bits_and_texts, element_moved, fixed_moved, kinds_moved, kinds_taken, kinds_written, text_moved}
@@ -35,13 +35,13 @@ kinds_are k m e t r f b x =
     ∙ ap (λ y. by_kind (kind_if (has_kind e r K.Fixed) (kind_number K.Fixed) (fixed_moved m t) ++ (kind_if y (kind_number K.Bit) (bit_moved m t) ++ kind_if k.text (kind_number K.Character) (text_moved m)))) b
     ∙ ap (λ y. by_kind (kind_if (has_kind e r K.Fixed) (kind_number K.Fixed) (fixed_moved m t) ++ (kind_if (has_kind e r K.Bit) (kind_number K.Bit) (bit_moved m t) ++ kind_if y (kind_number K.Character) (text_moved m)))) x
 
-pub kinds_taken_are : (k : Kinds) (e : Environment) (l : Elements) (t : Taken) (formats : Formats) (r : Y.Reference)
+pub kinds_taken_are : (k : Kinds) (e : Environment) (t : Taken) (formats : Formats) (r : Y.Reference)
     → k.fixed ≡ has_kind e r K.Fixed → k.bit ≡ has_kind e r K.Bit → k.text ≡ has_texts e r
-    → kinds_taken k e l t formats r ≡ element_field_taken e l t formats r
-kinds_taken_are k e l t formats r f b x =
-    ap (λ y. kinds_taken (record { fixed = y; bit = k.bit; text = k.text }) e l t formats r) f
-    ∙ ap (λ y. kinds_taken (record { fixed = has_kind e r K.Fixed; bit = y; text = k.text }) e l t formats r) b
-    ∙ ap (λ y. kinds_taken (record { fixed = has_kind e r K.Fixed; bit = has_kind e r K.Bit; text = y }) e l t formats r) x
+    → kinds_taken k e t formats r ≡ element_field_taken e t formats r
+kinds_taken_are k e t formats r f b x =
+    ap (λ y. kinds_taken (record { fixed = y; bit = k.bit; text = k.text }) e t formats r) f
+    ∙ ap (λ y. kinds_taken (record { fixed = has_kind e r K.Fixed; bit = y; text = k.text }) e t formats r) b
+    ∙ ap (λ y. kinds_taken (record { fixed = has_kind e r K.Fixed; bit = has_kind e r K.Bit; text = y }) e t formats r) x
 
 pub kinds_written_are : (k : Kinds) (e : Environment) (t : Taken) (formats : Formats) (r : Y.Reference)
     → k.bit ≡ has_kind e r K.Bit → k.text ≡ has_texts e r

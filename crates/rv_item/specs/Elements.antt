@@ -1,9 +1,9 @@
 -- Elements of an aggregate, as the emitters hold them, and what it names.
 use Rattle.std.specs.Prelude.{ℕ, pos, [], ◌∷◌, ◌++◌}
 use Rattle.pli_typing.specs.TypedTree as Y
-use Rattle.pli_coding.specs.Registers.{zero_register, frame_register, a0, a1, a3, a4}
+use Rattle.pli_coding.specs.Registers.{a1, a3, a4}
 use Rattle.pli_coding.specs.Assembly.{OffsetOf, DataPlace, Code}
-use Rattle.pli_coding.specs.Instructions.{service, small, store_word}
+use Rattle.pli_coding.specs.Instructions.{service, small}
 use Rattle.pli_coding.specs.Frames.{buffer}
 use Rattle.pli_coding.specs.StaticForms.{shape_datum}
 use Rattle.pli_coding.specs.Environments.{Environment, declaration_of}
@@ -24,12 +24,6 @@ part_in (Y.Referring v locator part subscripts) = part
 abbrev pub shape_named : Environment → Y.Variable → Y.Part → (given : ℕ) → Code
 shape_named e v part given = OffsetOf a1 (DataPlace (shape_datum (declaration_of e v).members part given)) ∷ []
 
--- the service that tells elements, behind their record, shape and number
+-- the service that tells elements, behind their record, their shape and the number
 abbrev pub asked_last : Environment → Code
 asked_last e = own_place e a3 (pos buffer) ++ (small a4 1 ∷ service 8)
-
-abbrev pub counted_first : S.Elements → Code
-counted_first l =
-    store_word frame_register a0 (S.count_place l 0)
-    ++ (store_word frame_register a1 (S.count_place l 1)
-    ++ (store_word frame_register zero_register (S.next_place l 0) ++ store_word frame_register zero_register (S.next_place l 1)))

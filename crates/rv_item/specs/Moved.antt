@@ -12,10 +12,10 @@ use Rattle.pli_meaning.specs.Numbers.{operator_precision}
 use Rattle.pli_coding.specs.Registers.{frame_register, a0, u0, u1, u2, u3}
 use Rattle.pli_coding.specs.Assembly.{Plain, Code}
 use Rattle.pli_coding.specs.Instructions.{choice, load_word, move, registers, service, skip_where, small, subtract}
-use Rattle.pli_coding.specs.Frames.{buffer_kind, buffer_size}
-use Rattle.pli_coding.specs.Environments.{Environment, Taken, save, with_number}
+use Rattle.pli_coding.specs.Frames.{buffer_kind}
+use Rattle.pli_coding.specs.Environments.{Environment, Taken, save}
 use Rattle.pli_coding.specs.Arithmetic.{overflow_raised}
-use Rattle.pli_coding.specs.Streams.{Elements, bit_element_pushed, bit_field_taken, bit_stored, by_kinds_of, element_addressed, fixed_element_pushed, fixed_element_put, fixed_field_taken, fixed_stored, mixed_element_put, mixed_field_taken, number_fitted, number_narrowed, text_converted, text_described, text_element_pushed, text_got}
+use Rattle.pli_coding.specs.Streams.{bit_element_pushed, bit_got, bit_stored, by_kinds_of, element_addressed, fixed_element_pushed, fixed_element_put, fixed_stored, mixed_element_put, mixed_field_taken, number_fitted, number_got, text_converted, text_described, text_element_pushed, text_got}
 use Rattle.rv_item.specs.declared.kinds.Kinds.{Kinds}
 use Rattle.rv_item.specs.declared.moved.Motion.{Motion}
 use Rattle.rv_item.specs.declared.moved.Motion.TheVariants as M
@@ -36,24 +36,17 @@ number_shifted =
 abbrev pub narrow_checked : Taken → Code
 narrow_checked t = skip_where Test.Equal u1 a0 (move a0 u1 ∷ overflow_raised t)
 
--- before a number that is fitted, and behind it
-abbrev pub precision_saved : Taken → Code
-precision_saved t = load_word u2 frame_register buffer_size ++ save u2 t
-
-abbrev pub number_saved : Taken → Code
-number_saved t = number_narrowed t ++ save a0 t
-
 -- ---- by the kind
 
 unfoldable pub fixed_moved : Motion → Taken → Code
 fixed_moved M.Pushing t = fixed_element_pushed
-fixed_moved M.Converting t = number_fitted (with_number t) (text_converted 0)
-fixed_moved M.Storing t = fixed_stored (with_number t)
+fixed_moved M.Converting t = text_converted 0 ++ number_fitted t
+fixed_moved M.Storing t = fixed_stored t
 
 unfoldable pub bit_moved : Motion → Taken → Code
 bit_moved M.Pushing t = bit_element_pushed
-bit_moved M.Converting t = text_converted 1 ++ save a0 (with_number t)
-bit_moved M.Storing t = bit_stored (with_number t)
+bit_moved M.Converting t = text_converted 1 ++ save a0 t
+bit_moved M.Storing t = bit_stored t
 
 unfoldable pub text_moved : Motion → Code
 text_moved M.Pushing = text_element_pushed
@@ -81,12 +74,12 @@ element_moved m e t r = by_kinds_of e r (fixed_moved m t) (bit_moved m t) (text_
 
 -- ---- fields, by the kinds that there are
 
-abbrev pub kinds_taken : Kinds → Environment → Elements → Taken → Formats → Y.Reference → Code
-kinds_taken k e l t formats r =
+abbrev pub kinds_taken : Kinds → Environment → Taken → Formats → Y.Reference → Code
+kinds_taken k e t formats r =
     if k.fixed then
-    (if k.bit || k.text then mixed_field_taken e l t formats r else fixed_field_taken e l t formats r)
+    (if k.bit || k.text then mixed_field_taken e t formats r else number_got formats ++ number_fitted t)
     else (if k.bit then
-    (if k.text then mixed_field_taken e l t formats r else bit_field_taken t)
+    (if k.text then mixed_field_taken e t formats r else bit_got ++ save a0 t)
     else text_got formats)
 
 -- ---- elements of PUT, by the kinds that there are

@@ -1,14 +1,14 @@
 // Elements of an aggregate by their numbers: its record stands behind the temporaries in use, and behind it the number of the
-// next element and that of all, each in two words.
+// next element in two words.
 
-ghost use Rattle.std.specs.Prelude.{◌≡◌, ◌+◌, ℤ, negsuc, ◌++◌, OnOk, IfOk};
+ghost use Rattle.std.specs.Prelude.{◌≡◌, ◌++◌, OnOk, IfOk};
 ghost use Rattle.pli_typing.specs.TypedView.{part_of, reference_of, variable_of};
-ghost use Rattle.pli_coding.specs.Instructions.{constant, load_word, store_word};
+ghost use Rattle.pli_coding.specs.Instructions.{load_word, store_word};
 ghost use Rattle.pli_coding.specs.Registers.{a2, a5, frame_register};
 ghost use Rattle.pli_coding.specs.Storing.{subscript_count};
 ghost use Rattle.pli_coding.specs.Streams as form;
 ghost use Rattle.rv_address.specs.Around.{environment_of, taken_of};
-ghost use Rattle.rv_item.specs.Elements.{asked_last, counted_first, elements_shown, part_in, shape_named, variable_in};
+ghost use Rattle.rv_item.specs.Elements.{asked_last, elements_shown, part_in, shape_named, variable_in};
 
 use pli_frames::fixed::{buffer, word_in};
 use pli_typing::typed::{Part, Reference, Variable};
@@ -18,10 +18,10 @@ use rv_address::number::signed;
 use rv_address::taken::Taken;
 use rv_assembly::code::Code;
 use rv_assembly::item::{Item, Symbol};
-use rv_assembly::registers::{a0, a1, a2, a3, a4, a5, frame, u1, u2, u3, zero};
+use rv_assembly::registers::{a1, a2, a3, a4, a5, frame, u1, u2, zero};
 use rv_assignment::record::{behind_record, record_given};
 use rv_data::shape::shape_datum;
-use rv_meaning::instr::{ImmediateOp, Register, RegisterOp};
+use rv_meaning::instr::{ImmediateOp, Register};
 use rv_operation::reference::given_in;
 use std::alloc::{AllocError, Global};
 
@@ -46,13 +46,6 @@ fn next_place(elements: Elements, word: u32) -> Result<i32, AllocError>
     word_in(elements.behind.words, 2, word)
 }
 
-fn count_place(elements: Elements, word: u32) -> Result<i32, AllocError>
-    ensures { IfOk result (λ d. d ≡ form.count_place (elements_shown elements) word) }
-{
-    let place = elements.behind.words.checked_add(2).ok_or(AllocError)?;
-    word_in(place, 2, word)
-}
-
 // Each word in a function of its own: two numbers with signs beside each other aren't seen through.
 
 /// A word of the number of the next element in a register.
@@ -67,17 +60,6 @@ fn next_in(
     code.load_word(register, frame(), next_place(elements, word)?)
 }
 
-fn count_in(
-    code: &mut Code,
-    register: Register,
-    elements: Elements,
-    word: u32,
-) -> Result<(), AllocError>
-    ensures { OnOk result (code.new ≡ code.old ++ load_word register frame_register (form.count_place (elements_shown elements) word)) }
-{
-    code.load_word(register, frame(), count_place(elements, word)?)
-}
-
 fn next_kept(
     code: &mut Code,
     register: Register,
@@ -89,22 +71,11 @@ fn next_kept(
     code.store_word(frame(), register, next_place(elements, word)?)
 }
 
-fn count_kept(
-    code: &mut Code,
-    register: Register,
-    elements: Elements,
-    word: u32,
-) -> Result<(), AllocError>
-    ensures { OnOk result (code.new ≡ code.old ++ store_word frame_register register (form.count_place (elements_shown elements) word)) }
-{
-    code.store_word(frame(), register, count_place(elements, word)?)
-}
-
-/// Behind the two numbers.
+/// Behind the number.
 pub fn free_in(elements: Elements) -> Result<Taken, AllocError>
     ensures { IfOk result (λ t. taken_of t ≡ form.free_in (elements_shown elements)) }
 {
-    elements.behind.with_words(4)
+    elements.behind.with_words(2)
 }
 
 // ---- what an aggregate names
@@ -180,51 +151,12 @@ fn asked_last(code: &mut Code, environment: &Environment) -> Result<(), AllocErr
     code.service(8)
 }
 
-/// All ones ask for the count.
-fn ones_given(code: &mut Code) -> Result<(), AllocError>
-    ensures { OnOk result (code.new ≡ code.old ++ (constant a2 (negsuc 0) ++ constant a5 (negsuc 0))) }
+/// The first is the next.
+pub fn elements_begun(code: &mut Code, elements: Elements) -> Result<(), AllocError>
+    ensures { OnOk result (code.new ≡ code.old ++ form.elements_begun (elements_shown elements)) }
 {
-    code.constant(a2(), -1)?;
-    code.constant(a5(), -1)
-}
-
-/// How many there are, in a0 and a1.
-fn count_asked(
-    alloc: Global,
-    code: &mut Code,
-    environment: &Environment,
-    elements: Elements,
-    reference: &Reference,
-) -> Result<(), AllocError>
-    ensures { OnOk result (code.new ≡ code.old ++ form.element_asked (environment_of environment.now) (elements_shown elements) (reference_of reference.now) (constant a2 (negsuc 0) ++ constant a5 (negsuc 0))) }
-{
-    record_given(code, environment, elements.taken)?;
-    shape_in(alloc, code, environment, reference)?;
-    ones_given(code)?;
-    asked_last(code, environment)
-}
-
-fn counted_first(code: &mut Code, elements: Elements) -> Result<(), AllocError>
-    ensures { OnOk result (code.new ≡ code.old ++ counted_first (elements_shown elements)) }
-{
-    count_kept(code, a0(), elements, 0)?;
-    count_kept(code, a1(), elements, 1)?;
     next_kept(code, zero(), elements, 0)?;
     next_kept(code, zero(), elements, 1)
-}
-
-/// How many there are; the next is the first one.
-pub fn elements_counted(
-    alloc: Global,
-    code: &mut Code,
-    environment: &Environment,
-    elements: Elements,
-    reference: &Reference,
-) -> Result<(), AllocError>
-    ensures { OnOk result (code.new ≡ code.old ++ form.elements_counted (environment_of environment.now) (elements_shown elements) (reference_of reference.now)) }
-{
-    count_asked(alloc, code, environment, elements, reference)?;
-    counted_first(code, elements)
 }
 
 /// The number of the next one.
@@ -235,15 +167,15 @@ fn next_given(code: &mut Code, elements: Elements) -> Result<(), AllocError>
     next_in(code, a5(), elements, 1)
 }
 
-/// The offset of the next one in a0, and what it is in the buffer.
-pub fn element_described(
+/// The offset of the next one in a0, all ones where there is none, and what it is in the buffer.
+fn element_asked(
     alloc: Global,
     code: &mut Code,
     environment: &Environment,
     elements: Elements,
     reference: &Reference,
 ) -> Result<(), AllocError>
-    ensures { OnOk result (code.new ≡ code.old ++ form.element_described (environment_of environment.now) (elements_shown elements) (reference_of reference.now)) }
+    ensures { OnOk result (code.new ≡ code.old ++ form.element_asked (environment_of environment.now) (elements_shown elements) (reference_of reference.now)) }
 {
     record_given(code, environment, elements.taken)?;
     shape_in(alloc, code, environment, reference)?;
@@ -261,31 +193,22 @@ pub fn element_found(
 ) -> Result<(), AllocError>
     ensures { OnOk result (code.new ≡ code.old ++ form.element_found (environment_of environment.now) (elements_shown elements) (reference_of reference.now)) }
 {
-    element_described(alloc, code, environment, elements, reference)?;
+    element_asked(alloc, code, environment, elements, reference)?;
     code.status_tested()
 }
 
-/// Where a word of the two numbers differs, bits of a register.
-fn next_differs(
+/// The same, and in u1 what is told where there is none.
+pub fn next_asked(
+    alloc: Global,
     code: &mut Code,
+    environment: &Environment,
     elements: Elements,
-    register: Register,
-    word: u32,
+    reference: &Reference,
 ) -> Result<(), AllocError>
-    ensures { OnOk result (code.new ≡ code.old ++ form.next_differs (elements_shown elements) register word) }
+    ensures { OnOk result (code.new ≡ code.old ++ form.next_asked (environment_of environment.now) (elements_shown elements) (reference_of reference.now)) }
 {
-    next_in(code, register, elements, word)?;
-    count_in(code, u3(), elements, word)?;
-    code.registers(RegisterOp::Xor, register, register, u3())
-}
-
-/// Whether an element is left, in u1.
-pub fn next_loaded(code: &mut Code, elements: Elements) -> Result<(), AllocError>
-    ensures { OnOk result (code.new ≡ code.old ++ form.next_loaded (elements_shown elements)) }
-{
-    next_differs(code, elements, u1(), 0)?;
-    next_differs(code, elements, u2(), 1)?;
-    code.registers(RegisterOp::Or, u1(), u1(), u2())
+    element_asked(alloc, code, environment, elements, reference)?;
+    code.immediate(ImmediateOp::Add, u1(), zero(), -1)
 }
 
 /// The next number; a lower word that has become 0 carries.

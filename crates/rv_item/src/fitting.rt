@@ -1,18 +1,13 @@
-// Numbers from fields, of the precision that the buffer has of an element.
+// Numbers from fields, of the precision that the buffer tells.
 
 ghost use Rattle.std.specs.Prelude.{◌≡◌, ◌<◌, ◌++◌, OnOk};
 ghost use Rattle.pli_coding.specs.Arithmetic as arithmetic;
-ghost use Rattle.pli_coding.specs.Environments.{fetch, with_number};
-ghost use Rattle.pli_coding.specs.Registers.{a0};
 ghost use Rattle.pli_coding.specs.Streams as form;
 ghost use Rattle.rv_address.specs.Around.{taken_of};
-ghost use Rattle.rv_item.specs.Lists.{formats_in};
-ghost use Rattle.rv_item.specs.Moved.{narrow_checked, number_saved, number_shifted, precision_saved};
+ghost use Rattle.rv_item.specs.Moved.{narrow_checked, number_shifted};
 
 use crate::branch::skip_where;
 use crate::element::size_in;
-use crate::field::number_got;
-use crate::fields::Fields;
 use pli_language::condition::Condition;
 use rv_address::taken::{Taken, fetch, save};
 use rv_assembly::code::Code;
@@ -20,8 +15,6 @@ use rv_assembly::registers::{a0, u1, u2};
 use rv_meaning::instr::{BranchTest, RegisterOp};
 use rv_operation::arithmetic::raised;
 use std::alloc::AllocError;
-
-// ---- a number of the precision that waits
 
 fn overflow_raised(code: &mut Code, taken: Taken) -> Result<(), AllocError>
     ensures { OnOk result (code.new ≡ code.old ++ arithmetic.overflow_raised (taken_of taken)) }
@@ -52,41 +45,14 @@ fn number_shifted(code: &mut Code) -> Result<(), AllocError>
     code.registers(RegisterOp::ShiftRightArithmetic, u1(), u1(), u2())
 }
 
-fn number_narrowed(code: &mut Code, taken: Taken) -> Result<(), AllocError>
-    ensures { OnOk result (code.new ≡ code.old ++ form.number_narrowed (taken_of taken)) }
-{
-    fetch(code, u2(), taken)?;
-    number_shifted(code)?;
-    narrow_checked(code, taken.with_number()?)
-}
-
-// ---- before a number, and behind it
-
-fn precision_saved(code: &mut Code, taken: Taken) -> Result<(), AllocError>
-    ensures { OnOk result (code.new ≡ code.old ++ precision_saved (taken_of taken)) }
+/// A number in a0 is made one of the precision that the buffer tells, and waits.
+pub(crate) fn number_fitted(code: &mut Code, taken: Taken) -> Result<(), AllocError>
+    ensures { OnOk result (code.new ≡ code.old ++ form.number_fitted (taken_of taken)) }
 {
     size_in(code, u2())?;
-    save(code, u2(), taken)
-}
-
-fn number_saved(code: &mut Code, taken: Taken) -> Result<(), AllocError>
-    ensures { OnOk result (code.new ≡ code.old ++ number_saved (taken_of taken)) }
-{
-    number_narrowed(code, taken)?;
+    number_shifted(code)?;
+    narrow_checked(code, taken)?;
     save(code, a0(), taken)
-}
-
-// ---- a field as a number, which waits
-
-/// The next field; what is next waits, and behind it the number will.
-pub(crate) fn field_fitted(code: &mut Code, taken: Taken, fields: &Fields) -> Result<(), AllocError>
-    ensures { OnOk result (code.new ≡ code.old ++ form.number_fitted (with_number (taken_of taken)) (fetch a0 (taken_of taken) ++ form.number_got (formats_in fields.now))) }
-{
-    let behind = taken.with_number()?;
-    precision_saved(code, behind)?;
-    fetch(code, a0(), taken)?;
-    number_got(code, fields)?;
-    number_saved(code, behind)
 }
 
 /// The top text as a number, with mode 1 as a bit.
@@ -98,11 +64,10 @@ pub(crate) fn text_converted(code: &mut Code, mode: u32) -> Result<(), AllocErro
     code.tested_service(26)
 }
 
-/// The top text.
+/// The top text as a number, which waits.
 pub(crate) fn text_fitted(code: &mut Code, taken: Taken) -> Result<(), AllocError>
-    ensures { OnOk result (code.new ≡ code.old ++ form.number_fitted (taken_of taken) (form.text_converted 0)) }
+    ensures { OnOk result (code.new ≡ code.old ++ (form.text_converted 0 ++ form.number_fitted (taken_of taken))) }
 {
-    precision_saved(code, taken)?;
     text_converted(code, 0)?;
-    number_saved(code, taken)
+    number_fitted(code, taken)
 }

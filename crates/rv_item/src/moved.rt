@@ -3,7 +3,7 @@
 ghost use Rattle.std.specs.Prelude.{◌≡◌, ◌<◌, ◌++◌, OnOk};
 ghost use Rattle.rv_meaning.specs.declared.instr.BranchTest.TheVariants as Test;
 ghost use Rattle.pli_typing.specs.TypedView.{reference_of};
-ghost use Rattle.pli_coding.specs.Environments.{save, with_number};
+ghost use Rattle.pli_coding.specs.Environments.{save};
 ghost use Rattle.pli_coding.specs.Instructions.{choice, service};
 ghost use Rattle.pli_coding.specs.Registers.{a0, u0, u1};
 ghost use Rattle.pli_coding.specs.Streams as form;
@@ -83,11 +83,10 @@ fn fixed_moved(
 ) -> Result<(), AllocError>
     ensures { OnOk result (code.new ≡ code.old ++ fixed_moved motion (taken_of taken)) }
 {
-    let behind = taken.with_number()?;
     match motion {
         Motion::Pushing => fixed_element_pushed(code),
-        Motion::Converting => text_fitted(code, behind),
-        Motion::Storing => fixed_stored(code, behind),
+        Motion::Converting => text_fitted(code, taken),
+        Motion::Storing => fixed_stored(code, taken),
     }
 }
 
@@ -99,11 +98,10 @@ fn bit_moved(
 ) -> Result<(), AllocError>
     ensures { OnOk result (code.new ≡ code.old ++ bit_moved motion (taken_of taken)) }
 {
-    let behind = taken.with_number()?;
     match motion {
         Motion::Pushing => bit_element_pushed(code),
-        Motion::Converting => bit_converted(code, behind),
-        Motion::Storing => bit_stored(code, behind),
+        Motion::Converting => bit_converted(code, taken),
+        Motion::Storing => bit_stored(code, taken),
     }
 }
 

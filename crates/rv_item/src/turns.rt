@@ -1,26 +1,37 @@
 // Turns over the elements of an aggregate: what is done for each stands between the start and the end of a turn.
 
 ghost use Rattle.std.specs.Prelude.{◌≡◌, ◌++◌, OnOk, IfOk};
+ghost use Rattle.pli_typing.specs.TypedView.{reference_of};
+ghost use Rattle.pli_coding.specs.Streams as form;
+ghost use Rattle.rv_address.specs.Around.{environment_of};
 ghost use Rattle.rv_assembly.specs.Places.{IsPlace, jump_place};
 ghost use Rattle.rv_item.specs.Elements.{elements_shown};
 ghost use Rattle.rv_item.specs.Turns.{turn_begun, turn_ended, turn_tested};
 
-use crate::elements::{Elements, next_counted, next_loaded};
+use crate::elements::{Elements, next_asked, next_counted};
+use pli_typing::typed::Reference;
+use rv_address::environment::Environment;
 use rv_assembly::code::{Code, branch_over};
 use rv_assembly::item::Item;
 use rv_assembly::place::Place;
-use rv_assembly::registers::{u1, zero};
+use rv_assembly::registers::{a0, u1};
 use rv_meaning::instr::BranchTest;
-use std::alloc::AllocError;
+use std::alloc::{AllocError, Global};
 
-/// A turn begins where an element is left, and else goes over all that is written up to its end.
+/// A turn begins with a look at the next element, and where there is none goes over all that is written up to its end.
 #[tactic(auto, using(std::proofs::Common::append_assoc), unfolding(crate::specs::Turns::turn_begun, crate::specs::Turns::turn_tested))]
-pub fn turn_begun(code: &mut Code, elements: Elements) -> Result<Place, AllocError>
-    ensures begun { OnOk result (code.new ≡ code.old ++ turn_begun (elements_shown elements)) }
-    ensures place { IfOk result (λ p. p ≡ jump_place (code.old ++ turn_tested (elements_shown elements))) }
+pub fn turn_begun(
+    alloc: Global,
+    code: &mut Code,
+    environment: &Environment,
+    elements: Elements,
+    reference: &Reference,
+) -> Result<Place, AllocError>
+    ensures begun { OnOk result (code.new ≡ code.old ++ turn_begun (form.next_asked (environment_of environment.now) (elements_shown elements) (reference_of reference.now))) }
+    ensures place { IfOk result (λ p. p ≡ jump_place (code.old ++ turn_tested (form.next_asked (environment_of environment.now) (elements_shown elements) (reference_of reference.now)))) }
 {
-    next_loaded(code, elements)?;
-    code.push(branch_over(BranchTest::NotEqual, u1(), zero(), 2))?;
+    next_asked(alloc, code, environment, elements, reference)?;
+    code.push(branch_over(BranchTest::NotEqual, a0(), u1(), 2))?;
     code.keep_jump()
 }
 

@@ -5,14 +5,14 @@ use Rattle.pli_language.specs.declared.condition.Condition.TheVariants as C
 use Rattle.pli_language.specs.Tree.{Formats}
 use Rattle.pli_typing.specs.TypedTree as Y
 use Rattle.pli_meaning.specs.Codes.{endfile_code}
-use Rattle.pli_coding.specs.Registers.{zero_register, a0, u1}
+use Rattle.pli_coding.specs.Registers.{a0, u1}
 use Rattle.pli_coding.specs.Assembly.{JumpAhead, JumpBack, Code, size_of}
 use Rattle.pli_coding.specs.Instructions.{small}
 use Rattle.pli_coding.specs.Environments.{Environment, Taken}
 use Rattle.pli_coding.specs.Arithmetic.{raised}
 use Rattle.pli_coding.specs.Expressions.{type_in}
 use Rattle.pli_coding.specs.Storing.{record_code}
-use Rattle.pli_coding.specs.Streams.{Elements, controls_carried_out, element_got, elements_counted, elements_got, elements_of, field_awaited, field_stored, for_elements, item_got, next_counted, next_loaded}
+use Rattle.pli_coding.specs.Streams.{Elements, controls_carried_out, element_got, elements_begun, elements_got, elements_of, field_awaited, field_stored, item_got, next_asked, next_counted, turns}
 use Rattle.rv_assembly.specs.declared.place.Place.{Place}
 use Rattle.rv_assembly.specs.Places.{IsPlace, branch, jump_kept, jump_place, patched}
 use Rattle.rv_assembly.proofs.Growing.{size_append}
@@ -53,37 +53,37 @@ awaited_kept before more =
 
 -- ---- in a turn
 
-abbrev turn_first : Elements → (each : Code) → Code
-turn_first l each = next_loaded l ++ (branch Test.NotEqual u1 zero_register 2 ∷ JumpAhead (size_of each + (size_of (next_counted l) + 2)) ∷ [])
+abbrev turn_first : Elements → (asked each : Code) → Code
+turn_first l asked each = asked ++ (branch Test.NotEqual a0 u1 2 ∷ JumpAhead (size_of each + (size_of (next_counted l) + 2)) ∷ [])
 
-abbrev turn_last : Elements → (each : Code) → Code
-turn_last l each = next_counted l ++ JumpBack (size_of (next_loaded l) + (3 + (size_of each + size_of (next_counted l)))) ∷ []
+abbrev turn_last : Elements → (asked each : Code) → Code
+turn_last l asked each = next_counted l ++ JumpBack (size_of (asked) + (3 + (size_of each + size_of (next_counted l)))) ∷ []
 
 opened : (before a b loaded front each last more : Code) → before ++ ((a ++ (b ++ (loaded ++ (front ++ (each ++ last))))) ++ more) ≡ (before ++ (a ++ (b ++ (loaded ++ front)))) ++ (each ++ (last ++ more))
 opened before a b loaded front each last more = simp append_assoc refl
 
-turn_opened : (before a b each more : Code) (l : Elements) → before ++ ((a ++ (b ++ for_elements l each)) ++ more) ≡ (before ++ (a ++ (b ++ turn_first l each))) ++ (each ++ (turn_last l each ++ more))
-turn_opened before a b each more l = opened before a b (next_loaded l) (branch Test.NotEqual u1 zero_register 2 ∷ JumpAhead (size_of each + (size_of (next_counted l) + 2)) ∷ []) each (turn_last l each) more
+turn_opened : (before a b asked each more : Code) (l : Elements) → before ++ ((a ++ (b ++ turns l asked each)) ++ more) ≡ (before ++ (a ++ (b ++ turn_first l asked each))) ++ (each ++ (turn_last l asked each ++ more))
+turn_opened before a b asked each more l = opened before a b asked (branch Test.NotEqual a0 u1 2 ∷ JumpAhead (size_of each + (size_of (next_counted l) + 2)) ∷ []) each (turn_last l asked each) more
 
-turn_exit : (before a b inner : Code) (l : Elements) → exit_behind (before ++ (a ++ (b ++ turn_begun l))) ≡ exit_behind (before ++ (a ++ (b ++ turn_first l (field_awaited 0 ++ inner))))
+turn_exit : (before a b asked inner : Code) (l : Elements) → exit_behind (before ++ (a ++ (b ++ turn_begun asked))) ≡ exit_behind (before ++ (a ++ (b ++ turn_first l asked (field_awaited 0 ++ inner))))
 unfolding turn_begun
-turn_exit before a b inner l =
-    same_exit _ _ (alike_behind before _ _ (alike_behind a _ _ (alike_behind b _ _ (alike_behind (next_loaded l) _ _ (record { lengths = refl; sizes = refl })))))
+turn_exit before a b asked inner l =
+    same_exit _ _ (alike_behind before _ _ (alike_behind a _ _ (alike_behind b _ _ (alike_behind asked _ _ (record { lengths = refl; sizes = refl })))))
 
-turn_led : (before a b inner more : Code) (l : Elements) (n : ℕ)
-    → patched (before ++ ((a ++ (b ++ for_elements l (field_awaited 0 ++ inner))) ++ more)) (exit_behind (before ++ (a ++ (b ++ turn_begun l)))) (JumpAhead n)
-    ≡ before ++ ((a ++ (b ++ for_elements l (field_awaited n ++ inner))) ++ more)
-turn_led before a b inner more l n =
-    ap (λ u. patched u (exit_behind (before ++ (a ++ (b ++ turn_begun l)))) (JumpAhead n)) (turn_opened before a b (field_awaited 0 ++ inner) more l)
-    ∙ ap (λ p. patched ((before ++ (a ++ (b ++ turn_first l (field_awaited 0 ++ inner)))) ++ ((field_awaited 0 ++ inner) ++ (turn_last l (field_awaited 0 ++ inner) ++ more))) p (JumpAhead n)) (turn_exit before a b inner l)
-    ∙ awaited_led (before ++ (a ++ (b ++ turn_first l (field_awaited 0 ++ inner)))) (inner ++ (turn_last l (field_awaited 0 ++ inner) ++ more)) n
-    ∙ sym (turn_opened before a b (field_awaited n ++ inner) more l)
+turn_led : (before a b asked inner more : Code) (l : Elements) (n : ℕ)
+    → patched (before ++ ((a ++ (b ++ turns l asked (field_awaited 0 ++ inner))) ++ more)) (exit_behind (before ++ (a ++ (b ++ turn_begun asked)))) (JumpAhead n)
+    ≡ before ++ ((a ++ (b ++ turns l asked (field_awaited n ++ inner))) ++ more)
+turn_led before a b asked inner more l n =
+    ap (λ u. patched u (exit_behind (before ++ (a ++ (b ++ turn_begun asked)))) (JumpAhead n)) (turn_opened before a b asked (field_awaited 0 ++ inner) more l)
+    ∙ ap (λ p. patched ((before ++ (a ++ (b ++ turn_first l asked (field_awaited 0 ++ inner)))) ++ ((field_awaited 0 ++ inner) ++ (turn_last l asked (field_awaited 0 ++ inner) ++ more))) p (JumpAhead n)) (turn_exit before a b asked inner l)
+    ∙ awaited_led (before ++ (a ++ (b ++ turn_first l asked (field_awaited 0 ++ inner)))) (inner ++ (turn_last l asked (field_awaited 0 ++ inner) ++ more)) n
+    ∙ sym (turn_opened before a b asked (field_awaited n ++ inner) more l)
 
-turn_kept : (before a b inner more : Code) (l : Elements) → IsPlace 2 (before ++ ((a ++ (b ++ for_elements l (field_awaited 0 ++ inner))) ++ more)) (exit_behind (before ++ (a ++ (b ++ turn_begun l))))
-turn_kept before a b inner more l =
-    subst (λ u. IsPlace 2 u (exit_behind (before ++ (a ++ (b ++ turn_begun l))))) (sym (turn_opened before a b (field_awaited 0 ++ inner) more l))
-    (subst (λ p. IsPlace 2 ((before ++ (a ++ (b ++ turn_first l (field_awaited 0 ++ inner)))) ++ ((field_awaited 0 ++ inner) ++ (turn_last l (field_awaited 0 ++ inner) ++ more))) p) (sym (turn_exit before a b inner l))
-    (awaited_kept (before ++ (a ++ (b ++ turn_first l (field_awaited 0 ++ inner)))) (inner ++ (turn_last l (field_awaited 0 ++ inner) ++ more))))
+turn_kept : (before a b asked inner more : Code) (l : Elements) → IsPlace 2 (before ++ ((a ++ (b ++ turns l asked (field_awaited 0 ++ inner))) ++ more)) (exit_behind (before ++ (a ++ (b ++ turn_begun asked))))
+turn_kept before a b asked inner more l =
+    subst (λ u. IsPlace 2 u (exit_behind (before ++ (a ++ (b ++ turn_begun asked))))) (sym (turn_opened before a b asked (field_awaited 0 ++ inner) more l))
+    (subst (λ p. IsPlace 2 ((before ++ (a ++ (b ++ turn_first l asked (field_awaited 0 ++ inner)))) ++ ((field_awaited 0 ++ inner) ++ (turn_last l asked (field_awaited 0 ++ inner) ++ more))) p) (sym (turn_exit before a b asked inner l))
+    (awaited_kept (before ++ (a ++ (b ++ turn_first l asked (field_awaited 0 ++ inner)))) (inner ++ (turn_last l asked (field_awaited 0 ++ inner) ++ more))))
 
 -- ---- of an item
 
@@ -93,21 +93,21 @@ scalar_far before inner behind end h =
     let w : (exit_behind before).words ≡ size_of before + 13 = exit_words before in
     omega arith
 
-turn_far : (before a b inner : Code) (l : Elements) (behind end : ℕ) → end ≡ size_of before + (size_of (a ++ (b ++ for_elements l (field_awaited 0 ++ inner))) + behind)
-    → end - (exit_behind (before ++ (a ++ (b ++ turn_begun l)))).words ≡ size_of inner + (size_of (next_counted l) + (2 + behind))
+turn_far : (before a b asked inner : Code) (l : Elements) (behind end : ℕ) → end ≡ size_of before + (size_of (a ++ (b ++ turns l asked (field_awaited 0 ++ inner))) + behind)
+    → end - (exit_behind (before ++ (a ++ (b ++ turn_begun asked)))).words ≡ size_of inner + (size_of (next_counted l) + (2 + behind))
 unfolding turn_begun
-turn_far before a b inner l behind end h =
-    let w : (exit_behind (before ++ (a ++ (b ++ turn_begun l)))).words ≡ size_of (before ++ (a ++ (b ++ turn_begun l))) + 13 = exit_words (before ++ (a ++ (b ++ turn_begun l))) in
-    let s1 : size_of (before ++ (a ++ (b ++ turn_begun l))) ≡ size_of before + size_of (a ++ (b ++ turn_begun l)) = size_append before (a ++ (b ++ turn_begun l)) in
-    let s2 : size_of (a ++ (b ++ turn_begun l)) ≡ size_of a + size_of (b ++ turn_begun l) = size_append a (b ++ turn_begun l) in
-    let s3 : size_of (b ++ turn_begun l) ≡ size_of b + size_of (turn_begun l) = size_append b (turn_begun l) in
-    let s4 : size_of (turn_begun l) ≡ size_of (next_loaded l) + 3 = size_append (next_loaded l) (branch Test.NotEqual u1 zero_register 2 ∷ jump_kept ∷ []) in
-    let k1 : size_of (a ++ (b ++ for_elements l (field_awaited 0 ++ inner))) ≡ size_of a + size_of (b ++ for_elements l (field_awaited 0 ++ inner)) = size_append a (b ++ for_elements l (field_awaited 0 ++ inner)) in
-    let k2 : size_of (b ++ for_elements l (field_awaited 0 ++ inner)) ≡ size_of b + size_of (for_elements l (field_awaited 0 ++ inner)) = size_append b (for_elements l (field_awaited 0 ++ inner)) in
-    let k3 : size_of (for_elements l (field_awaited 0 ++ inner)) ≡ size_of (next_loaded l) + (1 + (2 + size_of ((field_awaited 0 ++ inner) ++ turn_last l (field_awaited 0 ++ inner)))) = size_append (next_loaded l) _ in
-    let k4 : size_of ((field_awaited 0 ++ inner) ++ turn_last l (field_awaited 0 ++ inner)) ≡ size_of (field_awaited 0 ++ inner) + size_of (turn_last l (field_awaited 0 ++ inner)) = size_append (field_awaited 0 ++ inner) (turn_last l (field_awaited 0 ++ inner)) in
+turn_far before a b asked inner l behind end h =
+    let w : (exit_behind (before ++ (a ++ (b ++ turn_begun asked)))).words ≡ size_of (before ++ (a ++ (b ++ turn_begun asked))) + 13 = exit_words (before ++ (a ++ (b ++ turn_begun asked))) in
+    let s1 : size_of (before ++ (a ++ (b ++ turn_begun asked))) ≡ size_of before + size_of (a ++ (b ++ turn_begun asked)) = size_append before (a ++ (b ++ turn_begun asked)) in
+    let s2 : size_of (a ++ (b ++ turn_begun asked)) ≡ size_of a + size_of (b ++ turn_begun asked) = size_append a (b ++ turn_begun asked) in
+    let s3 : size_of (b ++ turn_begun asked) ≡ size_of b + size_of (turn_begun asked) = size_append b (turn_begun asked) in
+    let s4 : size_of (turn_begun asked) ≡ size_of (asked) + 3 = size_append asked (branch Test.NotEqual a0 u1 2 ∷ jump_kept ∷ []) in
+    let k1 : size_of (a ++ (b ++ turns l asked (field_awaited 0 ++ inner))) ≡ size_of a + size_of (b ++ turns l asked (field_awaited 0 ++ inner)) = size_append a (b ++ turns l asked (field_awaited 0 ++ inner)) in
+    let k2 : size_of (b ++ turns l asked (field_awaited 0 ++ inner)) ≡ size_of b + size_of (turns l asked (field_awaited 0 ++ inner)) = size_append b (turns l asked (field_awaited 0 ++ inner)) in
+    let k3 : size_of (turns l asked (field_awaited 0 ++ inner)) ≡ size_of (asked) + (1 + (2 + size_of ((field_awaited 0 ++ inner) ++ turn_last l asked (field_awaited 0 ++ inner)))) = size_append asked _ in
+    let k4 : size_of ((field_awaited 0 ++ inner) ++ turn_last l asked (field_awaited 0 ++ inner)) ≡ size_of (field_awaited 0 ++ inner) + size_of (turn_last l asked (field_awaited 0 ++ inner)) = size_append (field_awaited 0 ++ inner) (turn_last l asked (field_awaited 0 ++ inner)) in
     let k6 : size_of (field_awaited 0 ++ inner) ≡ 13 + size_of inner = size_append (field_awaited 0) inner in
-    let k5 : size_of (turn_last l (field_awaited 0 ++ inner)) ≡ size_of (next_counted l) + 2 = size_append (next_counted l) _ in
+    let k5 : size_of (turn_last l asked (field_awaited 0 ++ inner)) ≡ size_of (next_counted l) + 2 = size_append (next_counted l) _ in
     omega arith
 
 pub item_led : (e : Environment) (t : Taken) (formats : Formats) (i : Y.GetItem) (before more : Code) (behind end : ℕ) → end ≡ size_of before + (size_of (item_kept e t formats i) + behind)
@@ -120,13 +120,14 @@ item_led e t formats (Y.GetScalar r) before more behind end h =
 item_led e t formats (Y.GetAggregate r) before more behind end h =
     let l : Elements = elements_of t r in
     let a : Code = record_code e l.taken r in
-    let b : Code = elements_counted e l r in
+    let b : Code = elements_begun l in
+    let asked : Code = next_asked e l r in
     let inner : Code = element_got e l formats r in
-    ap (λ n. patched (before ++ ((a ++ (b ++ for_elements l (field_awaited 0 ++ inner))) ++ more)) (exit_behind (before ++ (a ++ (b ++ turn_begun l)))) (JumpAhead n)) (turn_far before a b inner l behind end h)
-    ∙ turn_led before a b inner more l (size_of inner + (size_of (next_counted l) + (2 + behind)))
+    ap (λ n. patched (before ++ ((a ++ (b ++ turns l asked (field_awaited 0 ++ inner))) ++ more)) (exit_behind (before ++ (a ++ (b ++ turn_begun asked)))) (JumpAhead n)) (turn_far before a b asked inner l behind end h)
+    ∙ turn_led before a b asked inner more l (size_of inner + (size_of (next_counted l) + (2 + behind)))
 
 pub item_is_kept : (e : Environment) (t : Taken) (formats : Formats) (i : Y.GetItem) (before more : Code) → IsPlace 2 (before ++ (item_kept e t formats i ++ more)) (item_exit e t before i)
 unfolding scalar_kept elements_kept elements_exit
 item_is_kept e t formats (Y.GetScalar r) before more = awaited_kept before (field_stored e t formats r (type_in e r) ++ more)
 item_is_kept e t formats (Y.GetAggregate r) before more =
-    turn_kept before (record_code e (elements_of t r).taken r) (elements_counted e (elements_of t r) r) (element_got e (elements_of t r) formats r) more (elements_of t r)
+    turn_kept before (record_code e (elements_of t r).taken r) (elements_begun (elements_of t r)) (next_asked e (elements_of t r) r) (element_got e (elements_of t r) formats r) more (elements_of t r)

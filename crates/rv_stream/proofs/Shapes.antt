@@ -11,7 +11,7 @@ use Rattle.pli_coding.specs.Instructions.{small}
 use Rattle.pli_coding.specs.Environments.{Environment, Taken}
 use Rattle.pli_coding.specs.Arithmetic.{raised}
 use Rattle.pli_coding.specs.Storing.{record_code}
-use Rattle.pli_coding.specs.Streams.{Elements, controls_carried_out, element_got, elements_counted, elements_got, elements_of, field_awaited, for_elements, item_got, items_got, next_loaded}
+use Rattle.pli_coding.specs.Streams.{Elements, controls_carried_out, element_got, elements_begun, elements_got, elements_of, field_awaited, item_got, items_got, next_asked, turns}
 use Rattle.rv_assembly.specs.declared.place.Place.{Place}
 use Rattle.rv_assembly.specs.Places.{branch, jump_place}
 use Rattle.rv_assembly.proofs.Growing.{size_append}
@@ -63,7 +63,7 @@ unfolding elements_exit
 same_item e t (Y.GetScalar r) a b h = same_exit a b h
 same_item e t (Y.GetAggregate r) a b h =
     let l = elements_of t r in
-    let begun : Code = record_code e l.taken r ++ (elements_counted e l r ++ turn_begun l) in
+    let begun : Code = record_code e l.taken r ++ (elements_begun l ++ turn_begun (next_asked e l r)) in
     same_exit (a ++ begun) (b ++ begun) (alike_before a b begun h)
 
 pub same_items : (e : Environment) (t : Taken) (formats : Formats) (is : List Y.GetItem) (a b : Code) → Alike a b → items_exits e t formats a is ≡ items_exits e t formats b is
@@ -77,13 +77,13 @@ same_items e t formats (i ∷ is) a b h =
 awaited_alike : (inner : Code) (n : ℕ) → Alike (field_awaited n ++ inner) (field_awaited 0 ++ inner)
 awaited_alike inner n = record { lengths = refl; sizes = refl }
 
-turn_alike : (l : Elements) (each : Code) (n : ℕ) → Alike (for_elements l (field_awaited n ++ each)) (for_elements l (field_awaited 0 ++ each))
-turn_alike l each n = alike_behind (next_loaded l) _ _ (record { lengths = refl; sizes = refl })
+turn_alike : (l : Elements) (asked each : Code) (n : ℕ) → Alike (turns l asked (field_awaited n ++ each)) (turns l asked (field_awaited 0 ++ each))
+turn_alike l asked each n = alike_behind asked _ _ (record { lengths = refl; sizes = refl })
 
 pub elements_alike : (e : Environment) (l : Elements) (formats : Formats) (r : Y.Reference) (behind : ℕ) → Alike (elements_got e l formats r behind) (elements_kept e l formats r)
 unfolding elements_kept
 elements_alike e l formats r behind =
-    alike_behind (record_code e l.taken r) _ _ (alike_behind (elements_counted e l r) _ _ (turn_alike l (element_got e l formats r) _))
+    alike_behind (record_code e l.taken r) _ _ (alike_behind (elements_begun l) _ _ (turn_alike l (next_asked e l r) (element_got e l formats r) _))
 
 pub item_alike : (e : Environment) (t : Taken) (formats : Formats) (i : Y.GetItem) (behind : ℕ) → Alike (item_got e t formats i behind) (item_kept e t formats i)
 unfolding scalar_kept

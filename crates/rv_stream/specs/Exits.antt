@@ -6,7 +6,7 @@ use Rattle.pli_coding.specs.Assembly.{JumpAhead, Code}
 use Rattle.pli_coding.specs.Environments.{Environment, Taken}
 use Rattle.pli_coding.specs.Expressions.{type_in}
 use Rattle.pli_coding.specs.Storing.{record_code}
-use Rattle.pli_coding.specs.Streams.{Elements, edit_begun, edit_ended, element_got, elements_counted, elements_of, field_awaited, field_stored, for_elements}
+use Rattle.pli_coding.specs.Streams.{Elements, edit_begun, edit_ended, element_got, elements_begun, elements_of, field_awaited, field_stored, for_elements, next_asked}
 use Rattle.rv_assembly.specs.declared.place.Place.{Place}
 use Rattle.rv_assembly.specs.Places.{IsPlace, patched}
 use Rattle.rv_item.specs.Ends.{exit_behind}
@@ -19,10 +19,10 @@ scalar_kept e t formats r = field_awaited 0 ++ field_stored e t formats r (type_
 
 unfoldable pub elements_kept : Environment → Elements → Formats → Y.Reference → Code
 elements_kept e l formats r =
-    record_code e l.taken r ++ (elements_counted e l r ++ for_elements l (field_awaited 0 ++ element_got e l formats r))
+    record_code e l.taken r ++ for_elements e l r (field_awaited 0 ++ element_got e l formats r)
 
 unfoldable pub elements_exit : Environment → Elements → Y.Reference → (before : Code) → Place
-elements_exit e l r before = exit_behind (before ++ (record_code e l.taken r ++ (elements_counted e l r ++ turn_begun l)))
+elements_exit e l r before = exit_behind (before ++ (record_code e l.taken r ++ (elements_begun l ++ turn_begun (next_asked e l r))))
 
 abbrev pub item_kept : Environment → Taken → Formats → Y.GetItem → Code
 item_kept e t formats (Y.GetScalar r) = scalar_kept e t formats r

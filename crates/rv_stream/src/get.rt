@@ -24,7 +24,7 @@ use rv_assembly::item::Item;
 use rv_assembly::place::Place;
 use rv_assignment::record::record_code;
 use rv_assignment::scalar::{top_stored, word_stored};
-use rv_item::elements::{Elements, element_found, elements_counted, elements_of, free_in};
+use rv_item::elements::{Elements, element_found, elements_begun, elements_of, free_in};
 use rv_item::field::{bit_got, field_awaited, number_got, text_got};
 use rv_item::fields::Fields;
 use rv_item::moved::{Motion, element_moved};
@@ -146,7 +146,7 @@ fn element_got(
     ensures { OnOk result (code.new ≡ code.old ++ form.element_got (environment_of environment.now) (elements_shown elements) (formats_in fields.now) (reference_of reference.now)) }
 {
     let free = free_in(elements)?;
-    element_field_taken(alloc, code, environment, elements, free, fields, reference)?;
+    element_field_taken(code, environment, free, fields, reference)?;
     element_found(alloc, code, environment, elements, reference)?;
     element_moved(code, environment, free, reference, Motion::Storing)
 }
@@ -161,11 +161,11 @@ fn each_got(
     fields: &Fields,
     reference: &Reference,
 ) -> Result<(), AllocError>
-    ensures code { OnOk result (code.new ≡ code.old ++ form.for_elements (elements_shown elements) (form.field_awaited 0 ++ form.element_got (environment_of environment.now) (elements_shown elements) (formats_in fields.now) (reference_of reference.now))) }
-    ensures exits { OnOk result (exits.new.items ≡ exits.old.items ++ exit_behind (code.old ++ turn_begun (elements_shown elements)) ∷ []) }
+    ensures code { OnOk result (code.new ≡ code.old ++ form.turns (elements_shown elements) (form.next_asked (environment_of environment.now) (elements_shown elements) (reference_of reference.now)) (form.field_awaited 0 ++ form.element_got (environment_of environment.now) (elements_shown elements) (formats_in fields.now) (reference_of reference.now))) }
+    ensures exits { OnOk result (exits.new.items ≡ exits.old.items ++ exit_behind (code.old ++ turn_begun (form.next_asked (environment_of environment.now) (elements_shown elements) (reference_of reference.now))) ∷ []) }
 {
     let start = code.size();
-    let place = turn_begun(code, elements)?;
+    let place = turn_begun(alloc, code, environment, elements, reference)?;
     field_awaited(code, exits)?;
     element_got(alloc, code, environment, elements, fields, reference)?;
     turn_ended(code, elements, start, place)
@@ -185,7 +185,7 @@ fn elements_got(
     ensures exits { OnOk result (exits.new.items ≡ exits.old.items ++ elements_exit (environment_of environment.now) (elements_shown elements) (reference_of reference.now) code.old ∷ []) }
 {
     record_code(alloc, code, environment, elements.taken, reference)?;
-    elements_counted(alloc, code, environment, elements, reference)?;
+    elements_begun(code, elements)?;
     each_got(alloc, code, exits, environment, elements, fields, reference)
 }
 

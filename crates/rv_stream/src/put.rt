@@ -17,7 +17,7 @@ use rv_assembly::code::Code;
 use rv_assembly::registers::a0;
 use rv_assignment::record::record_code;
 use rv_expr::expression::{bit_code, number_code, text_code};
-use rv_item::elements::{Elements, element_found, elements_counted, elements_of, free_in};
+use rv_item::elements::{Elements, elements_begun, elements_of, free_in};
 use rv_item::field::{number_put, text_put};
 use rv_item::fields::Fields;
 use rv_item::putting::element_written;
@@ -97,7 +97,6 @@ fn value_put(
 // ---- an aggregate
 
 fn element_put(
-    alloc: Global,
     code: &mut Code,
     environment: &Environment,
     elements: Elements,
@@ -106,7 +105,7 @@ fn element_put(
 ) -> Result<(), AllocError>
     ensures { OnOk result (code.new ≡ code.old ++ form.element_put (environment_of environment.now) (elements_shown elements) (formats_in fields.now) (reference_of reference.now)) }
 {
-    element_found(alloc, code, environment, elements, reference)?;
+    code.status_tested()?;
     element_written(code, environment, free_in(elements)?, fields, reference)
 }
 
@@ -119,11 +118,11 @@ fn each_put(
     fields: &Fields,
     reference: &Reference,
 ) -> Result<(), AllocError>
-    ensures { OnOk result (code.new ≡ code.old ++ form.for_elements (elements_shown elements) (form.element_put (environment_of environment.now) (elements_shown elements) (formats_in fields.now) (reference_of reference.now))) }
+    ensures { OnOk result (code.new ≡ code.old ++ form.turns (elements_shown elements) (form.next_asked (environment_of environment.now) (elements_shown elements) (reference_of reference.now)) (form.element_put (environment_of environment.now) (elements_shown elements) (formats_in fields.now) (reference_of reference.now))) }
 {
     let start = code.size();
-    let place = turn_begun(code, elements)?;
-    element_put(alloc, code, environment, elements, fields, reference)?;
+    let place = turn_begun(alloc, code, environment, elements, reference)?;
+    element_put(code, environment, elements, fields, reference)?;
     turn_ended(code, elements, start, place)
 }
 
@@ -138,7 +137,7 @@ fn elements_put(
     ensures { OnOk result (code.new ≡ code.old ++ form.elements_put (environment_of environment.now) (elements_shown elements) (formats_in fields.now) (reference_of reference.now)) }
 {
     record_code(alloc, code, environment, elements.taken, reference)?;
-    elements_counted(alloc, code, environment, elements, reference)?;
+    elements_begun(code, elements)?;
     each_put(alloc, code, environment, elements, fields, reference)
 }
 

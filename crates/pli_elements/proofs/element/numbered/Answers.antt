@@ -1,8 +1,7 @@
-use Rattle.std.proofs.Common.{◌≡◌, ◌∙◌, List, Option, None, Some, ap, length, map, option_map, refl, subst, sym, ℤ}
+use Rattle.std.proofs.Common.{◌≡◌, ◌∙◌, List, Option, None, Some, ap, length, map, option_map, subst, sym, ℤ}
 use Rattle.std.specs.Prelude.{slice_get}
 use Rattle.pli_meaning.specs.StreamOrder.{Element, elements_inside}
-use Rattle.pli_serving.specs.ElementService.{element_found}
-use Rattle.pli_serving.specs.Outcomes.{or_bad}
+use Rattle.pli_serving.specs.ElementService.{element_found, element_if}
 use Rattle.pli_shapes.specs.Nests.{nest_in}
 use Rattle.pli_signatures.specs.View.{leaf_in_force}
 use Rattle.pli_signatures.specs.declared.element.LeafInForce.{LeafInForce}
@@ -23,7 +22,7 @@ returns-in_default g c = λ c' s parts elements e h.
     ∙ c.in_ok-element.ensures parts order
     ∙ ap (λ (ls : List LeafInForce). slice_get (elements_inside (nest_in parts) 0 (map leaf_in_force ls) c.as_slice-given.result.now) c.args.number) c.as_slice-leaves.ensures.value
     ∙ ap (λ (is : List ℤ). slice_get (elements_inside (nest_in parts) 0 (map leaf_in_force i.leaves.items) is) c.args.number) c.as_slice-given.ensures in
-    (ap (λ (o : Option Element). or_bad o (element_found C c.args.register (record_shown c.args.aggregate s) c.args.buffer)) (got_so elements parts i c.args.number None h none), refl, refl)
+    ap (element_if C c.args.register (record_shown c.args.aggregate s) c.args.buffer) (got_so elements parts i c.args.number None h none)
 
 pub returns : goal.returns
 returns g c = λ c' s parts elements e h.
@@ -42,7 +41,7 @@ returns g c = λ c' s parts elements e h.
     got_so elements parts i c.args.number (Some (element_shown x)) h found
     ∙ ap {B = Option Element} (λ n. Some (n, x.subscripts.items)) (sym c.in-Some-leaf_behind.ensures)
     ∙ ap {B = Option Element} (λ (js : List ℤ). Some (c.in-Some-leaf_behind.leaf, js)) (sym c.as_slice.ensures) in
-    answers_as (λ t. or_bad (slice_get elements c.args.number) (element_found t c.args.register (record_shown c.args.aggregate s) c.args.buffer))
+    answers_as (λ t. element_if t c.args.register (record_shown c.args.aggregate s) c.args.buffer (slice_get elements c.args.number))
     (λ t. element_found t c.args.register (record_shown c.args.aggregate s) c.args.buffer (c.in-Some-leaf_behind.leaf, is)) old new c.described.result
-    (ap (λ (o : Option Element). or_bad o (element_found old c.args.register (record_shown c.args.aggregate s) c.args.buffer)) at)
+    (ap (element_if old c.args.register (record_shown c.args.aggregate s) c.args.buffer) at)
     (c.described.ensures c' s e)
