@@ -250,3 +250,36 @@ only_activation (a ∷ as') [] h e = absurd h
 only_activation (a ∷ []) (x ∷ []) h e = (x, refl)
 only_activation (a ∷ []) (x ∷ y ∷ xs) h e = absurd h.1.1
 only_activation (a ∷ a' ∷ as') (x ∷ xs) h e = absurd (omega (arith, e))
+
+-- ---- a block inside another has it as its parent
+
+abbrev pub newest_level : List Activation → ℕ
+newest_level [] = 0
+newest_level (a ∷ as') = a.level
+
+first_is : (as' : List Activation) → first_level (levels_of as') ≡ newest_level as'
+first_is [] = refl
+first_is (a ∷ as') = refl
+
+pub direct_parent : (a : Activation) (as' : List Activation) (x : S.Activation) (xs : List S.Activation) → Nested (a ∷ as') (x ∷ xs) → 0 < length as' → a.level ≡ suc (newest_level as') → a.parent ≡ newest_height as'
+direct_parent a [] x xs nested some next = absurd (omega (arith, some))
+direct_parent a (b ∷ as') x [] nested some next = absurd nested.1.1
+direct_parent a (b ∷ as') x (y ∷ ys) nested some next = nested.0.direct next ∙ sym nested.1.1.0.height
+
+pub newest_of_levels : (as' : List Activation) (outer : ℕ) (levels : List ℕ) → levels_of as' ≡ outer ∷ levels → newest_level as' ≡ outer
+newest_of_levels [] outer levels e = absurd (cc e)
+newest_of_levels (a ∷ as') outer levels e = ap first_level e
+
+-- an ancestor of another level is that of the block around
+pub ancestor_around : (a : Activation) (as' : List Activation) (level : ℕ) → (a.level == level) ≡ false → a.parent ≡ newest_height as' → ancestor (a ∷ as') (newest_height (a ∷ as')) level ≡ ancestor as' (newest_height as') level
+ancestor_around a as' level other parent =
+    ap (λ q. cond q (cond (a.level == level) (Some a) (ancestor as' a.parent level)) (ancestor as' a.height level)) (eq-eqb a.height a.height refl)
+    ∙ ap (λ q. cond q (Some a) (ancestor as' a.parent level)) other
+    ∙ ap (λ h. ancestor as' h level) parent
+
+-- a block of level 0 is the only one
+pub lowest_alone : (as' : List Activation) (xs : List S.Activation) → Nested as' xs → newest_level as' ≡ 0 → 0 < length as' → newest_height as' ≡ 1
+lowest_alone [] xs h e some = absurd (omega (arith, some))
+lowest_alone (a ∷ as') [] h e some = absurd h
+lowest_alone (a ∷ []) (x ∷ xs) h e some = h.0.height
+lowest_alone (a ∷ b ∷ as') (x ∷ xs) h e some = let o = (h.0.inside (omega arith)).0 in absurd (omega (arith, o, e))

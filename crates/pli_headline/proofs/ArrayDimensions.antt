@@ -30,7 +30,7 @@ use Rattle.pli_coding.specs.Expressions.{BoundAsked, LowerAsked, UpperAsked, Ele
 use Rattle.pli_coding.specs.Locating as L
 use Rattle.pli_coding.specs.Temporaries.{number_words}
 use Rattle.pli_coding.specs.Linking.{Links}
-use Rattle.pli_headline.specs.ProvedSoFar.{constant_bounds, IsBounds, AreBounds}
+use Rattle.pli_headline.specs.ProvedSoFar.{Names, constant_bounds, IsBounds, AreBounds}
 use Rattle.pli_headline.proofs.Engine.{address}
 use Rattle.pli_headline.proofs.Linking.{size_append}
 use Rattle.pli_headline.proofs.Items.{Linked, straight}
@@ -89,7 +89,7 @@ few_is t ElementsAsked b wide =
 abbrev bounds_by : Option Y.DeclaredVariable → (place : ℕ) → Y.Bounds
 bounds_by o n = unwrap_or (slice_get (unwrap_or (slice_get (declared_in o).leaves 0) L.no_leaf).bounds n) no_bounds
 
-abbrev found_otherwise : Environment → Taken → (block index place : ℕ) → Code
+abbrev found_otherwise : Environment → Taken → (block : Names) (index place : ℕ) → Code
 found_otherwise e t block index n =
     let v = own block index in
     L.class_found e t v v.class ++ L.leaf_found e (L.located e t v) 0 (not (are_constant (bounds_at e v whole_part (suc n)))) (L.is_referred e v whole_part)
@@ -109,7 +109,7 @@ asked_alike LowerAsked e t r dimension = refl
 asked_alike UpperAsked e t r dimension = refl
 asked_alike ElementsAsked e t r dimension = refl
 
-pub answer_is : (asked : BoundAsked) (e : Environment) (t : Taken) (block j : ℕ) (type : Y.LeafType) (bs : List Bounds) (n : ℕ) (b : Bounds) → IsNumeric type → IsDeclaredArray e block j type bs → slice_get bs n ≡ Some b → number_code e t (asked_number asked (whole (own block j)) (suc n)) ≡ answer_code t asked b
+pub answer_is : (asked : BoundAsked) (e : Environment) (t : Taken) (block : Names) (j : ℕ) (type : Y.LeafType) (bs : List Bounds) (n : ℕ) (b : Bounds) → IsNumeric type → IsDeclaredArray e block j type bs → slice_get bs n ≡ Some b → number_code e t (asked_number asked (whole (own block j)) (suc n)) ≡ answer_code t asked b
 answer_is asked e t block j type bs n b is declared among =
     let other = found_otherwise e t block j n in
     asked_alike asked e t (whole (own block j)) (suc n)
@@ -121,14 +121,14 @@ answer_is asked e t block j type bs n b is declared among =
 -- ---- the meaning
 
 -- all of an array is designated
-array_designated : {s : State} {block j : ℕ} {type : Y.LeafType} {bs : List Bounds} {n : ℕ → ℤ} (around : Around) (k : ℕ) (h : HoldsArray s block j type bs n) → V.designated around (whole (own block j)) k s ≡ give (designated_element type bs (suc j) h.values []) k s
+array_designated : {s : State} {block : Names} {j serial : ℕ} {type : Y.LeafType} {bs : List Bounds} {n : ℕ → ℤ} (around : Around) (k : ℕ) (h : HoldsArray s block j serial type bs n) → V.designated around (whole (own block j)) k s ≡ give (designated_element type bs serial h.values []) k s
 unfolding V.designated V.located V.numbers V.variable_designated V.part_designated looked ◌>>=◌ ◌>>◌ R.or_error R.demanded choose give
-array_designated {s = s} {j = j} {type = type} {bs = bs} around k h =
-    let lives : named s (VariableName (suc j)) (array_shape type bs) ≡ Some (array_generation type bs h.values) = ap (if_same_shape (array_shape type bs)) h.lives ∙ ap (λ t. cond t (Some (array_generation type bs h.values)) None) (same_array type bs h.numeric) in
+array_designated {s = s} {j = j} {serial = serial} {type = type} {bs = bs} around k h =
+    let lives : named s (VariableName serial) (array_shape type bs) ≡ Some (array_generation type bs h.values) = ap (if_same_shape (array_shape type bs)) h.lives ∙ ap (λ t. cond t (Some (array_generation type bs h.values)) None) (same_array type bs h.numeric) in
     ap (λ o. flow_on k (R.or_error around 101 o k s) (λ b. V.part_designated around b.name b.shape whole_part [])) h.stands
-    ∙ ap (λ o. flow_on k (R.or_error around 101 o k s) (λ g. ◌>>=◌ (R.or_error around 107 (V.extent_in_force g whole_part)) (λ e. ◌>>◌ (R.demanded around 102 (is_within (take 0 (V.leaf_at (array_shape type bs) e 0).bounds) [])) (give (record { name = VariableName (suc j); generation = g; extent = e; part = whole_part; subscripts = [] }))))) lives
+    ∙ ap (λ o. flow_on k (R.or_error around 101 o k s) (λ g. ◌>>=◌ (R.or_error around 107 (V.extent_in_force g whole_part)) (λ e. ◌>>◌ (R.demanded around 102 (is_within (take 0 (V.leaf_at (array_shape type bs) e 0).bounds) [])) (give (record { name = VariableName serial; generation = g; extent = e; part = whole_part; subscripts = [] }))))) lives
 
-pub answer_meant : {s : State} {block j : ℕ} {type : Y.LeafType} {bs : List Bounds} {m : ℕ → ℤ} (asked : BoundAsked) (around : Around) (k n : ℕ) (b : Bounds) (h : HoldsArray s block j type bs m) → slice_get bs n ≡ Some b → IsWide (V.elements_between b) → V.number around (asked_number asked (whole (own block j)) (suc n)) k s ≡ give (answer_of asked b) k s
+pub answer_meant : {s : State} {block : Names} {j serial : ℕ} {type : Y.LeafType} {bs : List Bounds} {m : ℕ → ℤ} (asked : BoundAsked) (around : Around) (k n : ℕ) (b : Bounds) (h : HoldsArray s block j serial type bs m) → slice_get bs n ≡ Some b → IsWide (V.elements_between b) → V.number around (asked_number asked (whole (own block j)) (suc n)) k s ≡ give (answer_of asked b) k s
 unfolding V.number ◌>>=◌ give given R.value_of
 answer_meant {s = s} LowerAsked around k n b h among wide =
     ap (λ q. flow_on k q (λ d. given (V.bounds_in d (suc n)) (λ c. give c.lower) stuck)) (array_designated around k h)
@@ -231,7 +231,7 @@ answers LowerAsked words b is few = constant_answers words b.lower is.0
 answers UpperAsked words b is few = constant_answers words b.upper is.1.0
 answers ElementsAsked words b is few = elements_answer words b is few
 
-pub dimension_does : {links : Links} {code : List Instr} {g : Ground} {v : Services} {s : State} {k : ℕ} {e : Environment} {block j : ℕ} {type : Y.LeafType} {bs : List Bounds} {m : ℕ → ℤ} (asked : BoundAsked) (around : Around) (n : ℕ) (b : Bounds) (scope : ArrayScope g e s block j type bs m) → slice_get bs n ≡ Some b → Evaluates number_kind links code g v s k (number_words (asked_number asked (whole (own block j)) (suc n))) (λ taken. number_code e taken (asked_number asked (whole (own block j)) (suc n))) (V.number around (asked_number asked (whole (own block j)) (suc n)))
+pub dimension_does : {links : Links} {code : List Instr} {g : Ground} {v : Services} {s : State} {k : ℕ} {e : Environment} {block : Names} {j : ℕ} {type : Y.LeafType} {bs : List Bounds} {m : ℕ → ℤ} (asked : BoundAsked) (around : Around) (n : ℕ) (b : Bounds) (scope : ArrayScope g e s block j type bs m) → slice_get bs n ≡ Some b → Evaluates number_kind links code g v s k (number_words (asked_number asked (whole (own block j)) (suc n))) (λ taken. number_code e taken (asked_number asked (whole (own block j)) (suc n))) (V.number around (asked_number asked (whole (own block j)) (suc n)))
 unfolding give
 dimension_does {links} {code} {g} {v} {s} {k} {e} {block} {j} {type} {bs} asked around n b scope among =
     let x = asked_number asked (whole (own block j)) (suc n) in

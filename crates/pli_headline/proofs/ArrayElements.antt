@@ -33,7 +33,7 @@ use Rattle.pli_coding.specs.Expressions.{given_in, reference_code, subscripts_co
 use Rattle.pli_coding.specs.Locating as L
 use Rattle.pli_coding.specs.Storing.{word_stored}
 use Rattle.pli_coding.specs.Linking.{Links}
-use Rattle.pli_headline.specs.ProvedSoFar.{constant_bounds, AreBounds, array_variable}
+use Rattle.pli_headline.specs.ProvedSoFar.{Names, constant_bounds, AreBounds, array_variable}
 use Rattle.pli_headline.proofs.Engine.{Base, address}
 use Rattle.pli_headline.proofs.Linking.{size_append}
 use Rattle.pli_headline.proofs.Items.{Linked, At, straight}
@@ -46,7 +46,7 @@ use Rattle.pli_headline.proofs.Calls.{Serving}
 use Rattle.pli_headline.proofs.Raising.{Routines}
 use Rattle.pli_headline.proofs.Operators.{valued}
 use Rattle.pli_headline.proofs.Scalars.{IsNumeric, by_type, value_as, Fits, fits_wide, load_kind, store_kind}
-use Rattle.pli_headline.proofs.Variables.{whole_part, own, data_place, declared_in, type_by}
+use Rattle.pli_headline.proofs.Variables.{whole_part, own, level_of, data_place, declared_in, type_by}
 use Rattle.pli_headline.proofs.Evaluations.{Kind, Evaluates, with_words_most}
 use Rattle.pli_headline.proofs.ArrayPlaces.{place_inside}
 use Rattle.pli_headline.proofs.ArrayMeant.{HoldsArray, element, designated_element, element_meant, element_checked, element_seen, element_state, element_stored}
@@ -56,37 +56,37 @@ use Rattle.pli_headline.proofs.Reach.{Family, Aims, Comes, Closed, before_closed
 
 -- ---- the code
 
-abbrev pub IsDeclaredArray : Environment → (block index : ℕ) → Y.LeafType → List Bounds → Type 0
+abbrev pub IsDeclaredArray : Environment → (block : Names) (index : ℕ) → Y.LeafType → List Bounds → Type 0
 IsDeclaredArray e block index type bs =
-    (initial : List T.InitialItem) × (slice_get (variables_of_block e.program block) index ≡ Some (array_variable type bs initial))
+    (initial : List T.InitialItem) × (slice_get (variables_of_block e.program (block.at index).number) (block.at index).index ≡ Some (array_variable type bs initial))
 
 -- an element's address: the frame, and so many words behind it
 abbrev pub words_added : Register → Code
 words_added r = shift Shift.Left u4 u4 2 ∷ add u3 r u4 ∷ []
 
-abbrev pub element_found : Environment → Code
-element_found e = L.frame_found e 0 u3 ++ words_added (L.frame_in e 0 u3)
+abbrev pub element_found : Environment → (level : ℕ) → Code
+element_found e level = L.frame_found e level u3 ++ words_added (L.frame_in e level u3)
 
-abbrev pub element_code : Environment → Taken → List Bounds → Y.Number → Y.Numbers → Code
-element_code e t bs first rest =
+abbrev pub element_code : Environment → Taken → (level : ℕ) → List Bounds → Y.Number → Y.Numbers → Code
+element_code e t level bs first rest =
     subscripts_code e t (Y.NumberThen first rest)
-    ++ (L.subscripts_counted t 0 (suc (given_in rest)) (map constant_bounds bs) ++ element_found e)
+    ++ (L.subscripts_counted t 0 (suc (given_in rest)) (map constant_bounds bs) ++ element_found e level)
 
 -- by the variable's declaration
 abbrev leaf_in : Option Y.DeclaredVariable → Y.Leaf
 leaf_in o = unwrap_or (slice_get (declared_in o).leaves 0) L.no_leaf
 
-abbrev reached_by : Environment → Taken → (block index given : ℕ) → Option Y.DeclaredVariable → Code
+abbrev reached_by : Environment → Taken → (block : Names) (index given : ℕ) → Option Y.DeclaredVariable → Code
 reached_by e t block index given o =
     let v = own block index in
-    if has_constant_size (declared_in o) then L.subscripts_counted t 0 given (leaf_in o).bounds ++ (L.frame_found e 0 u3 ++ L.element_added (L.frame_in e 0 u3) (leaf_in o).type given)
+    if has_constant_size (declared_in o) then L.subscripts_counted t 0 given (leaf_in o).bounds ++ (L.frame_found e (level_of block index) u3 ++ L.element_added (L.frame_in e (level_of block index) u3) (leaf_in o).type given)
     else L.found_reached e t t v whole_part (L.leaf_number e v 0) given
 
-abbrev address_by : Environment → (block index : ℕ) → Option Y.DeclaredVariable → L.Address
+abbrev address_by : Environment → (block : Names) (index : ℕ) → Option Y.DeclaredVariable → L.Address
 address_by e block index o =
     record {
       register = u3;
-      displacement = pos (if has_constant_size (declared_in o) then automatic_place e.parts e.program block 0 index + 16 + L.leaf_place (declared_in o) 0 else 0);
+      displacement = pos (if has_constant_size (declared_in o) then automatic_place e.parts e.program (block.at index).number (block.at index).level (block.at index).index + 16 + L.leaf_place (declared_in o) 0 else 0);
     }
 
 bounds_constant : (bs : List Bounds) → list_all are_constant (map constant_bounds bs) ≡ true
@@ -105,34 +105,34 @@ stride_is : (type : Y.LeafType) → IsNumeric type → (r : Register) (n : ℕ) 
 stride_is type is r n =
     by_type (λ u. L.element_added r u (suc n) ≡ words_added r) (λ p. stride_by (nat_le p 15) r) refl type is
 
-pub element_reached : (e : Environment) (t : Taken) (block j : ℕ) (type : Y.LeafType) (bs : List Bounds) (first : Y.Number) (rest : Y.Numbers) → IsNumeric type → IsDeclaredArray e block j type bs → reference_code e t (element block j first rest) ≡ element_code e t bs first rest
+pub element_reached : (e : Environment) (t : Taken) (block : Names) (j : ℕ) (type : Y.LeafType) (bs : List Bounds) (first : Y.Number) (rest : Y.Numbers) → IsNumeric type → IsDeclaredArray e block j type bs → reference_code e t (element block j first rest) ≡ element_code e t (level_of block j) bs first rest
 element_reached e t block j type bs first rest is declared =
     let n = suc (given_in rest) in
     let front = subscripts_code e t (Y.NumberThen first rest) in
     let counted = L.subscripts_counted t 0 n (map constant_bounds bs) in
-    let found = L.frame_found e 0 u3 in
-    let r = L.frame_in e 0 u3 in
+    let found = L.frame_found e (level_of block j) u3 in
+    let r = L.frame_in e (level_of block j) u3 in
     let other = L.found_reached e t t (own block j) whole_part (L.leaf_number e (own block j) 0) n in
     ap (λ o. front ++ reached_by e t block j n o) declared.1
     ∙ ap (λ q. front ++ (if q then counted ++ (found ++ L.element_added r type n) else other)) (size_constant type is bs declared.0)
     ∙ ap (λ c. front ++ (counted ++ (found ++ c))) (stride_is type is r (given_in rest))
 
-abbrev pub element_loaded : Environment → (block index : ℕ) → Y.LeafType → Code
+abbrev pub element_loaded : Environment → (block : Names) (index : ℕ) → Y.LeafType → Code
 element_loaded e block index type = displaced (λ r z. I.Load (load_kind type) a0 r z) u3 (pos (data_place e block index))
 
-abbrev pub element_kept : Environment → (block index : ℕ) → Y.LeafType → Code
+abbrev pub element_kept : Environment → (block : Names) (index : ℕ) → Y.LeafType → Code
 element_kept e block index type = displaced (λ r z. I.Store (store_kind type) r a0 z) u3 (pos (data_place e block index))
 
-pub loaded_is : (e : Environment) (block j : ℕ) (type : Y.LeafType) (bs : List Bounds) (first : Y.Number) (rest : Y.Numbers) → IsNumeric type → IsDeclaredArray e block j type bs → L.loaded (type_in e (element block j first rest)) a0 (address_in e (element block j first rest)) ≡ element_loaded e block j type
+pub loaded_is : (e : Environment) (block : Names) (j : ℕ) (type : Y.LeafType) (bs : List Bounds) (first : Y.Number) (rest : Y.Numbers) → IsNumeric type → IsDeclaredArray e block j type bs → L.loaded (type_in e (element block j first rest)) a0 (address_in e (element block j first rest)) ≡ element_loaded e block j type
 loaded_is e block j type bs first rest is declared =
-    let place = automatic_place e.parts e.program block 0 j + 16 + 0 in
+    let place = automatic_place e.parts e.program (block.at j).number (block.at j).level (block.at j).index + 16 + 0 in
     ap (λ o. L.loaded (type_by o) a0 (address_by e block j o)) declared.1
     ∙ ap (λ q. L.loaded type a0 (record { register = u3; displacement = pos (if q then place else 0) })) (size_constant type is bs declared.0)
     ∙ by_type (λ u. L.loaded u a0 (record { register = u3; displacement = pos place }) ≡ element_loaded e block j u) (λ p. refl) refl type is
 
-pub kept_is : (e : Environment) (block j : ℕ) (type : Y.LeafType) (bs : List Bounds) (first : Y.Number) (rest : Y.Numbers) → IsNumeric type → IsDeclaredArray e block j type bs → L.stored (type_in e (element block j first rest)) a0 (address_in e (element block j first rest)) ≡ element_kept e block j type
+pub kept_is : (e : Environment) (block : Names) (j : ℕ) (type : Y.LeafType) (bs : List Bounds) (first : Y.Number) (rest : Y.Numbers) → IsNumeric type → IsDeclaredArray e block j type bs → L.stored (type_in e (element block j first rest)) a0 (address_in e (element block j first rest)) ≡ element_kept e block j type
 kept_is e block j type bs first rest is declared =
-    let place = automatic_place e.parts e.program block 0 j + 16 + 0 in
+    let place = automatic_place e.parts e.program (block.at j).number (block.at j).level (block.at j).index + 16 + 0 in
     ap (λ o. L.stored (type_by o) a0 (address_by e block j o)) declared.1
     ∙ ap (λ q. L.stored type a0 (record { register = u3; displacement = pos (if q then place else 0) })) (size_constant type is bs declared.0)
     ∙ by_type (λ u. L.stored u a0 (record { register = u3; displacement = pos place }) ≡ element_kept e block j u) (λ p. refl) refl type is
@@ -146,8 +146,8 @@ addressed x b = (28, x b) ∷ []
 address_sum : (at base p : ℕ) → at + 2 ^ 24 ≤ 2 ^ 32 → base + 4 * p < 2 ^ 24 → sum (at + base) (shifted_left p 2) ≡ at + (base + 4 * p)
 address_sum at base p valid few = omega (arith, valid, few)
 
-address_piece : (q : Bool) {links : Links} {code : List Instr} {i : ℕ} {g : Ground} {v : Services} {h t : ℕ → ℕ} (c : ℕ) (f : Family) (base p : ℕ) → Reaches q g base → base + 4 * p < memory_size → Linked links code i (cond q [] (load_word u3 frame_register (display 0)) ++ words_added (cond q frame_register u3)) → ((b : Base) → At b i (Known g v h t (counted_regs 1 p) b) (f b)) → Reach code c f v (c + size_of (cond q [] (load_word u3 frame_register (display 0)) ++ words_added (cond q frame_register u3))) v (λ b w. At b (i + size_of (cond q [] (load_word u3 frame_register (display 0)) ++ words_added (cond q frame_register u3))) (Known g v h t (addressed (λ b'. b'.at + (base + 4 * p))) b) w)
-address_piece true {g = g} {v = v} {h = h} {t = t} c f base p reaches few l at =
+address_piece : (q : Bool) (level : ℕ) {links : Links} {code : List Instr} {i : ℕ} {g : Ground} {v : Services} {h t : ℕ → ℕ} (c : ℕ) (f : Family) (base p : ℕ) → Reaches q level g base → base + 4 * p < memory_size → Linked links code i (cond q [] (load_word u3 frame_register (display level)) ++ words_added (cond q frame_register u3)) → ((b : Base) → At b i (Known g v h t (counted_regs 1 p) b) (f b)) → Reach code c f v (c + size_of (cond q [] (load_word u3 frame_register (display level)) ++ words_added (cond q frame_register u3))) v (λ b w. At b (i + size_of (cond q [] (load_word u3 frame_register (display level)) ++ words_added (cond q frame_register u3))) (Known g v h t (addressed (λ b'. b'.at + (base + 4 * p))) b) w)
+address_piece true level {g = g} {v = v} {h = h} {t = t} c f base p reaches few l at =
     straight c f v v (λ b. Known g v h t (addressed (λ b'. b'.at + (base + 4 * p))) b) l (omega arith) (λ b. (at b).pc)
     (λ b.
     let o = (at b).holds in
@@ -161,11 +161,11 @@ address_piece true {g = g} {v = v} {h = h} {t = t} c f base p reaches few l at =
         tt,
       );
     })
-address_piece false {i = i} {g = g} {v = v} {h = h} {t = t} c f base p reaches few l at =
-    let first = load_word u3 frame_register (display 0) in
+address_piece false level {i = i} {g = g} {v = v} {h = h} {t = t} c f base p reaches few l at =
+    let first = load_word u3 frame_register (display level) in
     let last = words_added u3 in
     let size = size_append first last in
-    let r1 = load_piece c f u3 (display 0) (g.frame + 144) (λ b. b.at + base) reaches.0 (λ b m k. reaches.1 t b m k)
+    let r1 = load_piece c f u3 (display level) (g.frame + (144 + 4 * level)) (λ b. b.at + base) reaches.0 (λ b m k. reaches.1 t b m k)
     (record { reserved_stay = λ y u. refl; known_stay = λ b y u k. k; set = λ y u. refl })
     (record { reserved_stay = λ y u. refl; known_stay = λ b y u k. k; set = λ y u. refl })
     (front_of first last l) at in
@@ -187,30 +187,31 @@ address_piece false {i = i} {g = g} {v = v} {h = h} {t = t} c f base p reaches f
 -- ---- an array around an expression
 
 -- where its elements stand, in the meaning and in memory
-pub record ArrayScope (g : Ground) (e : Environment) (s : State) (block j : ℕ) (type : Y.LeafType) (bs : List Bounds) (n : ℕ → ℤ) : Type 0 where
+pub record ArrayScope (g : Ground) (e : Environment) (s : State) (block : Names) (j : ℕ) (type : Y.LeafType) (bs : List Bounds) (n : ℕ → ℤ) : Type 0 where
   pub declared : IsDeclaredArray e block j type bs
   pub bounds : AreBounds bs
   pub few : element_count bs ≤ 2 ^ 20
-  pub holds : HoldsArray s block j type bs n
+  pub serial : ℕ
+  pub holds : HoldsArray s block j serial type bs n
   pub base : ℕ
   pub within : base + 4 * element_count bs ≤ memory_size
-  pub reach : Reaches (0 == e.level) g base
+  pub reach : Reaches (level_of block j == e.level) (level_of block j) g base
   pub places : (p : ℕ) → p < element_count bs → PlaceFrom (base + 4 * p) (pos (data_place e block j)) (base + 4 * p + data_place e block j)
   pub reads : (p : ℕ) → p < element_count bs → (t : ℕ → ℕ) (b : Base) (m : List ℕ) → g.memory t b m → extended (load_kind type) (load (load_width (load_kind type)) m (base + 4 * p + data_place e block j)) ≡ word (n p)
 
 -- an element of it is found: its address comes into u3, or the run ends
-pub element_piece : {links : Links} {code : List Instr} {i : ℕ} {g : Ground} {v : Services} {h t : ℕ → ℕ} {s : State} {aims : Aims V.Designated} {e : Environment} {block j : ℕ} {type : Y.LeafType} {bs : List Bounds} {n : ℕ → ℤ} (closed : Closed code aims) (routines : Routines links code) (temps : Temporaries g) (scope : ArrayScope g e s block j type bs n) (f : Family) (around : Around) (taken : Taken) (k words : ℕ) (first : Y.Number) (rest : Y.Numbers) → EvaluatesAll links code g v s k words (suc (given_in rest)) (λ u. subscripts_code e u (Y.NumberThen first rest)) (V.numbers around (Y.NumberThen first rest)) → suc (given_in rest) ≡ length bs → suc (given_in rest) ≤ words → taken.words + words ≤ g.words → Serving k s v around.line → Linked links code i (element_code e taken bs first rest) → ((b : Base) → At b i (Known g v h t nothing b) (f b)) → ((is : List ℤ) (f' : Family) (h' t' : ℕ → ℕ) → is_within bs is ≡ true → Stays taken h t h' t' → ((b : Base) → At b (i + size_of (element_code e taken bs first rest)) (Known g v h' t' (addressed (λ b'. b'.at + (scope.base + 4 * element_place bs is))) b) (f' b)) → aims.done (i + size_of (element_code e taken bs first rest)) f' v (designated_element type bs (suc j) scope.holds.values is) s) → Comes code i f v aims (V.designated around (element block j first rest) k s)
+pub element_piece : {links : Links} {code : List Instr} {i : ℕ} {g : Ground} {v : Services} {h t : ℕ → ℕ} {s : State} {aims : Aims V.Designated} {e : Environment} {block : Names} {j : ℕ} {type : Y.LeafType} {bs : List Bounds} {n : ℕ → ℤ} (closed : Closed code aims) (routines : Routines links code) (temps : Temporaries g) (scope : ArrayScope g e s block j type bs n) (f : Family) (around : Around) (taken : Taken) (k words : ℕ) (first : Y.Number) (rest : Y.Numbers) → EvaluatesAll links code g v s k words (suc (given_in rest)) (λ u. subscripts_code e u (Y.NumberThen first rest)) (V.numbers around (Y.NumberThen first rest)) → suc (given_in rest) ≡ length bs → suc (given_in rest) ≤ words → taken.words + words ≤ g.words → Serving k s v around.line → Linked links code i (element_code e taken (level_of block j) bs first rest) → ((b : Base) → At b i (Known g v h t nothing b) (f b)) → ((is : List ℤ) (f' : Family) (h' t' : ℕ → ℕ) → is_within bs is ≡ true → Stays taken h t h' t' → ((b : Base) → At b (i + size_of (element_code e taken (level_of block j) bs first rest)) (Known g v h' t' (addressed (λ b'. b'.at + (scope.base + 4 * element_place bs is))) b) (f' b)) → aims.done (i + size_of (element_code e taken (level_of block j) bs first rest)) f' v (designated_element type bs scope.serial scope.holds.values is) s) → Comes code i f v aims (V.designated around (element block j first rest) k s)
 unfolding give
 element_piece {code = code} {i = i} {g = g} {v = v} {s = s} {aims = aims} {e = e} {block = block} {j = j} {type = type} {bs = bs} closed routines temps scope f around taken k words first rest all same least room serving l at goal =
     let count = given_in rest in
     let p1 = subscripts_code e taken (Y.NumberThen first rest) in
     let p2 = L.subscripts_counted taken 0 (suc count) (map constant_bounds bs) in
-    let p3 = element_found e in
+    let p3 = element_found e (level_of block j) in
     let l2 = back_of p1 (p2 ++ p3) l in
     let e1 = size_append p1 (p2 ++ p3) in
     let e2 = size_append p2 p3 in
     let there : i + size_of p1 + size_of p2 + size_of p3 ≡ i + size_of (p1 ++ (p2 ++ p3)) = omega (arith, e1, e2) in
-    let designated : List ℤ → V.Designated = λ is. designated_element type bs (suc j) scope.holds.values is in
+    let designated : List ℤ → V.Designated = λ is. designated_element type bs scope.serial scope.holds.values is in
     let checks : List ℤ → Meaning V.Designated = λ is. V.variable_designated around (own block j) None whole_part is in
     subst (Comes code i f v aims) (sym (element_meant around block j first rest k s))
     (comes_on k (V.numbers around (Y.NumberThen first rest) k s) checks
@@ -222,7 +223,7 @@ element_piece {code = code} {i = i} {g = g} {v = v} {s = s} {aims = aims} {e = e
     (λ inside f2 at2.
     let below = place_inside bs is inside in
     let within = scope.within in
-    onward closed (address_piece (0 == e.level) (i + size_of p1 + size_of p2) f2 scope.base (element_place bs is) scope.reach (omega (arith, within, below)) (back_of p2 p3 l2) at2)
+    onward closed (address_piece (level_of block j == e.level) (level_of block j) (i + size_of p1 + size_of p2) f2 scope.base (element_place bs is) scope.reach (omega (arith, within, below)) (back_of p2 p3 l2) at2)
     (λ f3 at3.
     record {
       to =
@@ -237,19 +238,19 @@ pub record ReadAs {X : Type 0} (kind : Kind X) (type : Y.LeafType) (read : Basic
   pub fits : (z : ℤ) → Fits type z → kind.Fits (read (value_as type z))
   pub same : (z : ℤ) → Fits type z → word z ≡ kind.word_of (read (value_as type z))
 
-abbrev pub element_part : Environment → (block index : ℕ) → Y.Number → Y.Numbers → Taken → Code
+abbrev pub element_part : Environment → (block : Names) (index : ℕ) → Y.Number → Y.Numbers → Taken → Code
 element_part e block j first rest taken =
     let r = element block j first rest in
     reference_code e taken r ++ L.loaded (type_in e r) a0 (address_in e r)
 
-pub element_evaluates : {X : Type 0} {kind : Kind X} {read : BasicValue → X} {links : Links} {code : List Instr} {g : Ground} {v : Services} {s : State} {k : ℕ} {e : Environment} {block j : ℕ} {type : Y.LeafType} {bs : List Bounds} {n : ℕ → ℤ} (as' : ReadAs kind type read) (routines : Routines links code) (temps : Temporaries g) (scope : ArrayScope g e s block j type bs n) (around : Around) (words : ℕ) (first : Y.Number) (rest : Y.Numbers) → EvaluatesAll links code g v s k words (suc (given_in rest)) (λ u. subscripts_code e u (Y.NumberThen first rest)) (V.numbers around (Y.NumberThen first rest)) → suc (given_in rest) ≡ length bs → suc (given_in rest) ≤ words → Serving k s v around.line → Evaluates kind links code g v s k words (element_part e block j first rest) ((V.designated around (element block j first rest)) >>= (λ d. give (read (V.value_in d))))
+pub element_evaluates : {X : Type 0} {kind : Kind X} {read : BasicValue → X} {links : Links} {code : List Instr} {g : Ground} {v : Services} {s : State} {k : ℕ} {e : Environment} {block : Names} {j : ℕ} {type : Y.LeafType} {bs : List Bounds} {n : ℕ → ℤ} (as' : ReadAs kind type read) (routines : Routines links code) (temps : Temporaries g) (scope : ArrayScope g e s block j type bs n) (around : Around) (words : ℕ) (first : Y.Number) (rest : Y.Numbers) → EvaluatesAll links code g v s k words (suc (given_in rest)) (λ u. subscripts_code e u (Y.NumberThen first rest)) (V.numbers around (Y.NumberThen first rest)) → suc (given_in rest) ≡ length bs → suc (given_in rest) ≤ words → Serving k s v around.line → Evaluates kind links code g v s k words (element_part e block j first rest) ((V.designated around (element block j first rest)) >>= (λ d. give (read (V.value_in d))))
 unfolding ◌>>=◌ give
 element_evaluates {kind = kind} {read = read} {links = links} {code = code} {g = g} {v = v} {s = s} {k = k} {e = e} {block = block} {j = j} {type = type} {bs = bs} {n = n} as' routines temps scope around words first rest all same least serving =
     record {
       does = λ {i} {h} {t} {aims} closed f taken room l at goal.
           let r = element block j first rest in
           let place = data_place e block j in
-          let a = element_code e taken bs first rest in
+          let a = element_code e taken (level_of block j) bs first rest in
           let c = element_loaded e block j type in
           let holds = scope.holds in
           let eq : element_part e block j first rest taken ≡ a ++ c =
@@ -268,7 +269,7 @@ element_evaluates {kind = kind} {read = read} {links = links} {code = code} {g =
           let within = scope.within in
           let z = n p in
           let fits = holds.fits p below in
-          let seen : V.value_in (designated_element type bs (suc j) holds.values is) ≡ value_as type z = element_seen type bs (suc j) holds.values is holds.numeric ∙ holds.value is inside in
+          let seen : V.value_in (designated_element type bs scope.serial holds.values is) ≡ value_as type z = element_seen type bs scope.serial holds.values is holds.numeric ∙ holds.value is inside in
           let q = narrow_load_from (i + size_of a) f1 a0 u3 (load_kind type) (pos place) (scope.base + 4 * p) (scope.base + 4 * p + place) (λ b. word z) (scope.places p below) (omega (arith, within, below)) (λ y u. refl) (λ b w o. o.regs.0) (λ b m o. scope.reads p below t1 b m o)
           (record { reserved_stay = λ y u. refl; known_stay = λ b y u o. o; set = λ y u. refl })
           (record { reserved_stay = λ y u. refl; known_stay = λ b y u o. o; set = λ y u. refl })
@@ -285,26 +286,26 @@ element_evaluates {kind = kind} {read = read} {links = links} {code = code} {g =
 
 -- ---- an element is stored
 
-abbrev pub stored_code : Environment → (block index : ℕ) → Y.LeafType → List Bounds → Y.Number → Y.Numbers → Taken → Code
+abbrev pub stored_code : Environment → (block : Names) (index : ℕ) → Y.LeafType → List Bounds → Y.Number → Y.Numbers → Taken → Code
 stored_code e block j type bs first rest taken =
-    save a0 taken ++ (element_code e (with_number taken) bs first rest ++ (fetch a0 taken ++ element_kept e block j type))
+    save a0 taken ++ (element_code e (with_number taken) (level_of block j) bs first rest ++ (fetch a0 taken ++ element_kept e block j type))
 
-pub stored_is : (e : Environment) (taken : Taken) (block j : ℕ) (type : Y.LeafType) (bs : List Bounds) (first : Y.Number) (rest : Y.Numbers) → IsNumeric type → IsDeclaredArray e block j type bs → word_stored e taken (element block j first rest) ≡ stored_code e block j type bs first rest taken
+pub stored_is : (e : Environment) (taken : Taken) (block : Names) (j : ℕ) (type : Y.LeafType) (bs : List Bounds) (first : Y.Number) (rest : Y.Numbers) → IsNumeric type → IsDeclaredArray e block j type bs → word_stored e taken (element block j first rest) ≡ stored_code e block j type bs first rest taken
 stored_is e taken block j type bs first rest is declared =
     let r = element block j first rest in
     let written = L.stored (type_in e r) a0 (address_in e r) in
     ap (λ c. save a0 taken ++ (c ++ (fetch a0 taken ++ written))) (element_reached e (with_number taken) block j type bs first rest is declared)
-    ∙ ap (λ c. save a0 taken ++ (element_code e (with_number taken) bs first rest ++ (fetch a0 taken ++ c))) (kept_is e block j type bs first rest is declared)
+    ∙ ap (λ c. save a0 taken ++ (element_code e (with_number taken) (level_of block j) bs first rest ++ (fetch a0 taken ++ c))) (kept_is e block j type bs first rest is declared)
 
 -- a value in a0 is assigned to an element; what then stands in memory goes by the place of the element
-pub element_stored_piece : {links : Links} {code : List Instr} {i : ℕ} {g : Ground} (g' : ℕ → Ground) {v : Services} {h t : ℕ → ℕ} {s : State} {aims : Aims (Unit {0})} {e : Environment} {block j : ℕ} {type : Y.LeafType} {bs : List Bounds} {n : ℕ → ℤ} (closed : Closed code aims) (routines : Routines links code) (temps : Temporaries g) (scope : ArrayScope g e s block j type bs n) (f : Family) (around : Around) (taken : Taken) (z : ℤ) (k words : ℕ) (first : Y.Number) (rest : Y.Numbers) → EvaluatesAll links code g v s k words (suc (given_in rest)) (λ u. subscripts_code e u (Y.NumberThen first rest)) (V.numbers around (Y.NumberThen first rest)) → suc (given_in rest) ≡ length bs → suc (given_in rest) ≤ words → Fits type z → taken.words + suc words ≤ g.words → Serving k s v around.line → ((p : ℕ) (b : Base) (h' : ℕ → ℕ) → reserved_are b g h' ≡ reserved_are b (g' p) h') → ((p : ℕ) → p < element_count bs → (t' : ℕ → ℕ) (b : Base) (m : List ℕ) → length m ≡ memory_size → g.memory t' b m → (g' p).memory t' b (store (store_width (store_kind type)) m (scope.base + 4 * p + data_place e block j) (word z))) → Linked links code i (word_stored e taken (element block j first rest)) → ((b : Base) → At b i (Known g v h t (valued (word z)) b) (f b)) → ((is : List ℤ) (f' : Family) (h' t' : ℕ → ℕ) → is_within bs is ≡ true → Stays taken h t h' t' → ((b : Base) → At b (i + size_of (word_stored e taken (element block j first rest))) (Known (g' (element_place bs is)) v h' t' nothing b) (f' b)) → aims.done (i + size_of (word_stored e taken (element block j first rest))) f' v tt (element_state s type bs (suc j) scope.holds.values is z)) → Comes code i f v aims (M.assigned around (element block j first rest) (value_as type z) k s)
+pub element_stored_piece : {links : Links} {code : List Instr} {i : ℕ} {g : Ground} (g' : ℕ → Ground) {v : Services} {h t : ℕ → ℕ} {s : State} {aims : Aims (Unit {0})} {e : Environment} {block : Names} {j : ℕ} {type : Y.LeafType} {bs : List Bounds} {n : ℕ → ℤ} (closed : Closed code aims) (routines : Routines links code) (temps : Temporaries g) (scope : ArrayScope g e s block j type bs n) (f : Family) (around : Around) (taken : Taken) (z : ℤ) (k words : ℕ) (first : Y.Number) (rest : Y.Numbers) → EvaluatesAll links code g v s k words (suc (given_in rest)) (λ u. subscripts_code e u (Y.NumberThen first rest)) (V.numbers around (Y.NumberThen first rest)) → suc (given_in rest) ≡ length bs → suc (given_in rest) ≤ words → Fits type z → taken.words + suc words ≤ g.words → Serving k s v around.line → ((p : ℕ) (b : Base) (h' : ℕ → ℕ) → reserved_are b g h' ≡ reserved_are b (g' p) h') → ((p : ℕ) → p < element_count bs → (t' : ℕ → ℕ) (b : Base) (m : List ℕ) → length m ≡ memory_size → g.memory t' b m → (g' p).memory t' b (store (store_width (store_kind type)) m (scope.base + 4 * p + data_place e block j) (word z))) → Linked links code i (word_stored e taken (element block j first rest)) → ((b : Base) → At b i (Known g v h t (valued (word z)) b) (f b)) → ((is : List ℤ) (f' : Family) (h' t' : ℕ → ℕ) → is_within bs is ≡ true → Stays taken h t h' t' → ((b : Base) → At b (i + size_of (word_stored e taken (element block j first rest))) (Known (g' (element_place bs is)) v h' t' nothing b) (f' b)) → aims.done (i + size_of (word_stored e taken (element block j first rest))) f' v tt (element_state s type bs scope.serial scope.holds.values is z)) → Comes code i f v aims (M.assigned around (element block j first rest) (value_as type z) k s)
 unfolding M.assigned ◌>>=◌
 element_stored_piece {links = links} {code = code} {i = i} {g = g} g' {v = v} {h = h} {t = t} {s = s} {aims = aims} {e = e} {block = block} {j = j} {type = type} {bs = bs} closed routines temps scope f around taken z k words first rest all same least fits room serving alike writes l at goal =
     let r = element block j first rest in
     let wide = fits_wide type z fits in
     let place = data_place e block j in
     let put' = save a0 taken in
-    let a = element_code e (with_number taken) bs first rest in
+    let a = element_code e (with_number taken) (level_of block j) bs first rest in
     let back = fetch a0 taken in
     let last = element_kept e block j type in
     let eq = stored_is e taken block j type bs first rest scope.holds.numeric scope.declared in
@@ -338,10 +339,10 @@ element_stored_piece {links = links} {code = code} {i = i} {g = g} g' {v = v} {h
     (record { reserved_stay = λ y u. refl; known_stay = λ b y u o. o; set = λ y u. refl })
     (back_of back last l3) at3 in
     onward closed w (λ f4 at4.
-    subst (Comes code (i + size_of put' + size_of a + size_of back + size_of last) f4 v aims) (sym (element_stored type bs (suc j) scope.holds.values is z k s))
+    subst (Comes code (i + size_of put' + size_of a + size_of back + size_of last) f4 v aims) (sym (element_stored type bs scope.serial scope.holds.values is z k s))
     (record {
       to =
-          subst (λ u. aims.done u f4 v tt (element_state s type bs (suc j) scope.holds.values is z)) (sym there)
+          subst (λ u. aims.done u f4 v tt (element_state s type bs scope.serial scope.holds.values is z)) (sym there)
           (goal is f4 h2 t2 inside (stays_then (stays_saved taken h t (word z)) (stays_less stays))
           (λ b. record { pc = (at4 b).pc ∙ ap (address b) there; holds = record { body = (at4 b).holds.body; regs = tt } }));
     }))))))

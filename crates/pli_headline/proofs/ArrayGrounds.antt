@@ -8,7 +8,7 @@ use Rattle.rv_meaning.specs.Machine.{load_width, extended, store_width}
 use Rattle.pli_typing.specs.Signatures.{Bounds, element_count}
 use Rattle.pli_typing.specs.TypedTree as Y
 use Rattle.pli_coding.specs.Environments.{Environment}
-use Rattle.pli_headline.specs.ProvedSoFar.{AreBounds, Kind}
+use Rattle.pli_headline.specs.ProvedSoFar.{Names, AreBounds, Kind}
 use Rattle.pli_headline.proofs.Engine.{Base}
 use Rattle.pli_headline.proofs.Numbers.{above_sum, above_small}
 use Rattle.pli_headline.proofs.Scalars.{Values, load_kind, store_kind}
@@ -74,7 +74,7 @@ array_in f kind j type b bs below is size few =
       others = λ n p z i among apart. content_beside (i == j) kind n i p z apart;
     }
 
-pub main_array : (f : Frame) (first : List ℕ) (e : Environment) (block j : ℕ) (type : Y.LeafType) (bs : List Bounds) (held : Values → ℕ → Content) (at : ArrayIn f j type bs held) → IsDeclaredArray e block j type bs → AreBounds bs → data_place e block j ≡ number_place f.sizes j → ArrayOn e block f.at (f.at + 144 + room_of f.sizes f.count) (λ n. ground_of f first (held n)) j type bs
+pub main_array : (f : Frame) (first : List ℕ) (e : Environment) (block : Names) (j : ℕ) (type : Y.LeafType) (bs : List Bounds) (held : Values → ℕ → Content) (at : ArrayIn f j type bs held) → IsDeclaredArray e block j type bs → AreBounds bs → data_place e block j ≡ number_place f.sizes j → ArrayOn e block f.at (f.at + 144 + room_of f.sizes f.count) (λ n. ground_of f first (held n)) j type bs
 main_array f first e block j type bs held at declared bounds placed =
     let inside = f.inside in
     let above = f.above_statics in

@@ -12,9 +12,9 @@ use Rattle.pli_coding.specs.Frames.{display}
 use Rattle.pli_coding.specs.Environments.{Environment, Taken, with_number, save, fetch}
 use Rattle.pli_coding.specs.Expressions.{given_in, number_code, subscripts_code, type_in, address_in}
 use Rattle.pli_coding.specs.Locating as L
-use Rattle.pli_headline.specs.ProvedSoFar.{constant_bounds}
+use Rattle.pli_headline.specs.ProvedSoFar.{Names, constant_bounds}
 use Rattle.pli_headline.proofs.Scalars.{IsNumeric}
-use Rattle.pli_headline.proofs.Variables.{data_place}
+use Rattle.pli_headline.proofs.Variables.{data_place, level_of}
 use Rattle.pli_headline.proofs.ArrayMeant.{element}
 use Rattle.pli_headline.proofs.ArrayElements.{IsDeclaredArray, words_added, element_found, element_code, element_reached, element_loaded, loaded_is, element_part, element_kept, stored_is}
 use Rattle.pli_headline.proofs.SymbolsMarked.{Marks, behind, either, constant_none, load_none, plus_none, saved_none, fetched_none}
@@ -46,38 +46,38 @@ dimensions_none t d (suc n) (b ∷ bs) =
 
 -- ---- elements
 
-found_none : (e : Environment) → Marks (element_found e) []
-found_none e =
-    behind (L.frame_found e 0 u3) (words_added (L.frame_in e 0 u3)) [] (either (0 == e.level) [] (load_word u3 frame_register (display 0)) refl (load_none u3 frame_register (display 0))) refl
+found_none : (e : Environment) (level : ℕ) → Marks (element_found e level) []
+found_none e level =
+    behind (L.frame_found e level u3) (words_added (L.frame_in e level u3)) [] (either (level == e.level) [] (load_word u3 frame_register (display level)) refl (load_none u3 frame_register (display level))) refl
 
 -- one subscript before the others
 pub next_none : (e : Environment) (t : Taken) (first : Y.Number) (rest : Y.Numbers) → Marks (number_code e t first) [] → Marks (subscripts_code e (with_number t) rest) [] → Marks (subscripts_code e t (Y.NumberThen first rest)) []
 next_none e t first rest one others =
     behind (number_code e t first) (save a0 t ++ subscripts_code e (with_number t) rest) [] one (behind (save a0 t) (subscripts_code e (with_number t) rest) [] (saved_none a0 t) others)
 
-pub element_none : (e : Environment) (t : Taken) (bs : List Bounds) (first : Y.Number) (rest : Y.Numbers) → Marks (subscripts_code e t (Y.NumberThen first rest)) [] → Marks (element_code e t bs first rest) []
-element_none e t bs first rest none =
+pub element_none : (e : Environment) (t : Taken) (level : ℕ) (bs : List Bounds) (first : Y.Number) (rest : Y.Numbers) → Marks (subscripts_code e t (Y.NumberThen first rest)) [] → Marks (element_code e t level bs first rest) []
+element_none e t level bs first rest none =
     let counted = L.subscripts_counted t 0 (suc (given_in rest)) (map constant_bounds bs) in
-    behind (subscripts_code e t (Y.NumberThen first rest)) (counted ++ element_found e) [] none
-    (behind counted (element_found e) [] (dimensions_none t 0 (suc (given_in rest)) bs) (found_none e))
+    behind (subscripts_code e t (Y.NumberThen first rest)) (counted ++ element_found e level) [] none
+    (behind counted (element_found e level) [] (dimensions_none t 0 (suc (given_in rest)) bs) (found_none e level))
 
 -- an element that is read
-pub part_none : (e : Environment) (t : Taken) (block j : ℕ) (type : Y.LeafType) (bs : List Bounds) (first : Y.Number) (rest : Y.Numbers) → IsNumeric type → IsDeclaredArray e block j type bs → Marks (subscripts_code e t (Y.NumberThen first rest)) [] → Marks (element_part e block j first rest t) []
+pub part_none : (e : Environment) (t : Taken) (block : Names) (j : ℕ) (type : Y.LeafType) (bs : List Bounds) (first : Y.Number) (rest : Y.Numbers) → IsNumeric type → IsDeclaredArray e block j type bs → Marks (subscripts_code e t (Y.NumberThen first rest)) [] → Marks (element_part e block j first rest t) []
 part_none e t block j type bs first rest is declared none =
     let r = element block j first rest in
     let loaded = element_loaded e block j type in
-    let eq : element_part e block j first rest t ≡ element_code e t bs first rest ++ loaded =
+    let eq : element_part e block j first rest t ≡ element_code e t (level_of block j) bs first rest ++ loaded =
     ap (λ u. u ++ L.loaded (type_in e r) a0 (address_in e r)) (element_reached e t block j type bs first rest is declared)
-    ∙ ap (λ u. element_code e t bs first rest ++ u) (loaded_is e block j type bs first rest is declared) in
+    ∙ ap (λ u. element_code e t (level_of block j) bs first rest ++ u) (loaded_is e block j type bs first rest is declared) in
     subst (λ c. Marks c []) (sym eq)
-    (behind (element_code e t bs first rest) loaded [] (element_none e t bs first rest none) (either (is_immediate (pos (data_place e block j))) _ _ refl refl))
+    (behind (element_code e t (level_of block j) bs first rest) loaded [] (element_none e t (level_of block j) bs first rest none) (either (is_immediate (pos (data_place e block j))) _ _ refl refl))
 
 -- an element that is stored
-pub kept_element_none : (e : Environment) (t : Taken) (block j : ℕ) (type : Y.LeafType) (bs : List Bounds) (first : Y.Number) (rest : Y.Numbers) → IsNumeric type → IsDeclaredArray e block j type bs → Marks (subscripts_code e (with_number t) (Y.NumberThen first rest)) [] → Marks (word_stored e t (element block j first rest)) []
+pub kept_element_none : (e : Environment) (t : Taken) (block : Names) (j : ℕ) (type : Y.LeafType) (bs : List Bounds) (first : Y.Number) (rest : Y.Numbers) → IsNumeric type → IsDeclaredArray e block j type bs → Marks (subscripts_code e (with_number t) (Y.NumberThen first rest)) [] → Marks (word_stored e t (element block j first rest)) []
 kept_element_none e t block j type bs first rest is declared none =
-    let found = element_code e (with_number t) bs first rest in
+    let found = element_code e (with_number t) (level_of block j) bs first rest in
     let kept = element_kept e block j type in
     subst (λ c. Marks c []) (sym (stored_is e t block j type bs first rest is declared))
     (behind (save a0 t) (found ++ (fetch a0 t ++ kept)) [] (saved_none a0 t)
-    (behind found (fetch a0 t ++ kept) [] (element_none e (with_number t) bs first rest none)
+    (behind found (fetch a0 t ++ kept) [] (element_none e (with_number t) (level_of block j) bs first rest none)
     (behind (fetch a0 t) kept [] (fetched_none a0 t) (either (is_immediate (pos (data_place e block j))) _ _ refl refl))))

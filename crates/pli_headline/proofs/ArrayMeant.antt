@@ -15,7 +15,7 @@ use Rattle.pli_meaning.specs.Raising as R
 use Rattle.pli_meaning.specs.Raising.{Around}
 use Rattle.pli_meaning.specs.Evaluating as V
 use Rattle.pli_meaning.specs.Placing as P
-use Rattle.pli_headline.specs.ProvedSoFar.{constant_bounds, array_variable}
+use Rattle.pli_headline.specs.ProvedSoFar.{Names, constant_bounds, array_variable}
 use Rattle.pli_headline.proofs.Scalars.{IsNumeric, by_type, value_as, Fits}
 use Rattle.pli_headline.proofs.Variables.{whole_part, own}
 use Rattle.pli_headline.proofs.Changes.{changed_same, changed_other}
@@ -66,17 +66,17 @@ abbrev pub array_generation : Y.LeafType → List Bounds → (ℕ → List ℤ �
 array_generation type bs values = record { shape = array_shape type bs; extent = pos 0; values = values }
 
 -- an array of the block stands for a generation whose elements hold the values of numbers, by their places
-pub record HoldsArray (s : State) (block j : ℕ) (type : Y.LeafType) (bs : List Bounds) (n : ℕ → ℤ) : Type 0 where
+pub record HoldsArray (s : State) (block : Names) (j serial : ℕ) (type : Y.LeafType) (bs : List Bounds) (n : ℕ → ℤ) : Type 0 where
   pub values : ℕ → List ℤ → BasicValue
   pub numeric : IsNumeric type
-  pub stands : standing_for s (own block j) ≡ Some (array_binding type bs j (suc j))
-  pub lives : generation_of (living_of s.living (suc j)) ≡ Some (array_generation type bs values)
+  pub stands : standing_for s (own block j) ≡ Some (array_binding type bs (block.at j).index serial)
+  pub lives : generation_of (living_of s.living serial) ≡ Some (array_generation type bs values)
   pub value : (is : List ℤ) → is_within bs is ≡ true → values 0 is ≡ value_as type (n (element_place bs is))
   pub fits : (p : ℕ) → p < element_count bs → Fits type (n p)
 
 -- ---- references to elements
 
-abbrev pub element : (block index : ℕ) → Y.Number → Y.Numbers → Y.Reference
+abbrev pub element : (block : Names) (index : ℕ) → Y.Number → Y.Numbers → Y.Reference
 element block index first rest = Y.Referring (own block index) Y.NotLocated whole_part (Y.NumberThen first rest)
 
 abbrev pub designated_element : Y.LeafType → List Bounds → (serial : ℕ) → (ℕ → List ℤ → BasicValue) → List ℤ → V.Designated
@@ -84,7 +84,7 @@ designated_element type bs serial values is =
     record { name = VariableName serial; generation = array_generation type bs values; extent = pos 0; part = whole_part; subscripts = is }
 
 -- the subscripts, and then the checks
-pub element_meant : (around : Around) (block j : ℕ) (first : Y.Number) (rest : Y.Numbers) (k : ℕ) (s : State) → V.designated around (element block j first rest) k s ≡ flow_on k (V.numbers around (Y.NumberThen first rest) k s) (λ is. V.variable_designated around (own block j) None whole_part is)
+pub element_meant : (around : Around) (block : Names) (j : ℕ) (first : Y.Number) (rest : Y.Numbers) (k : ℕ) (s : State) → V.designated around (element block j first rest) k s ≡ flow_on k (V.numbers around (Y.NumberThen first rest) k s) (λ is. V.variable_designated around (own block j) None whole_part is)
 unfolding V.designated V.located ◌>>=◌ give
 element_meant around block j first rest k s = refl
 
@@ -94,13 +94,13 @@ all_taken [] (suc n) e = absurd (omega (arith, e))
 all_taken (x ∷ xs) zero e = absurd (omega (arith, e))
 all_taken (x ∷ xs) (suc n) e = ap (λ u. x ∷ u) (all_taken xs n (omega (arith, e)))
 
-pub element_checked : {s : State} {block j : ℕ} {type : Y.LeafType} {bs : List Bounds} {n : ℕ → ℤ} (around : Around) (is : List ℤ) (k : ℕ) (h : HoldsArray s block j type bs n) → length is ≡ length bs → V.variable_designated around (own block j) None whole_part is k s ≡ flow_on k (R.demanded around 102 (is_within bs is) k s) (λ u. give (designated_element type bs (suc j) h.values is))
+pub element_checked : {s : State} {block : Names} {j serial : ℕ} {type : Y.LeafType} {bs : List Bounds} {n : ℕ → ℤ} (around : Around) (is : List ℤ) (k : ℕ) (h : HoldsArray s block j serial type bs n) → length is ≡ length bs → V.variable_designated around (own block j) None whole_part is k s ≡ flow_on k (R.demanded around 102 (is_within bs is) k s) (λ u. give (designated_element type bs serial h.values is))
 unfolding V.variable_designated V.part_designated looked ◌>>=◌ ◌>>◌ R.or_error give
-element_checked {s = s} {block = block} {j = j} {type = type} {bs = bs} around is k h all =
-    let lives : named s (VariableName (suc j)) (array_shape type bs) ≡ Some (array_generation type bs h.values) = ap (if_same_shape (array_shape type bs)) h.lives ∙ ap (λ t. cond t (Some (array_generation type bs h.values)) None) (same_array type bs h.numeric) in
+element_checked {s = s} {block = block} {j = j} {serial = serial} {type = type} {bs = bs} around is k h all =
+    let lives : named s (VariableName serial) (array_shape type bs) ≡ Some (array_generation type bs h.values) = ap (if_same_shape (array_shape type bs)) h.lives ∙ ap (λ t. cond t (Some (array_generation type bs h.values)) None) (same_array type bs h.numeric) in
     ap (λ o. flow_on k (R.or_error around 101 o k s) (λ b. V.part_designated around b.name b.shape whole_part is)) h.stands
-    ∙ ap (λ o. flow_on k (R.or_error around 101 o k s) (λ g. ◌>>=◌ (R.or_error around 107 (V.extent_in_force g whole_part)) (λ e. ◌>>◌ (R.demanded around 102 (is_within (take (length is) (V.leaf_at (array_shape type bs) e 0).bounds) is)) (give (record { name = VariableName (suc j); generation = g; extent = e; part = whole_part; subscripts = is }))))) lives
-    ∙ ap (λ u. flow_on k (R.demanded around 102 (is_within u is) k s) (λ r. give (designated_element type bs (suc j) h.values is))) (all_taken bs (length is) all)
+    ∙ ap (λ o. flow_on k (R.or_error around 101 o k s) (λ g. ◌>>=◌ (R.or_error around 107 (V.extent_in_force g whole_part)) (λ e. ◌>>◌ (R.demanded around 102 (is_within (take (length is) (V.leaf_at (array_shape type bs) e 0).bounds) is)) (give (record { name = VariableName serial; generation = g; extent = e; part = whole_part; subscripts = is }))))) lives
+    ∙ ap (λ u. flow_on k (R.demanded around 102 (is_within u is) k s) (λ r. give (designated_element type bs serial h.values is))) (all_taken bs (length is) all)
 
 -- what an element holds is seen as it is
 pub element_seen : (type : Y.LeafType) (bs : List Bounds) (serial : ℕ) (values : ℕ → List ℤ → BasicValue) (is : List ℤ) → IsNumeric type → V.value_in (designated_element type bs serial values is) ≡ values 0 is
@@ -138,21 +138,21 @@ fits_by true type z y h i = h
 fits_by false type z y h i = i
 
 -- the array after one of its elements is assigned
-pub array_assigned : {s : State} {block j : ℕ} {type : Y.LeafType} {bs : List Bounds} {n : ℕ → ℤ} (is : List ℤ) (z : ℤ) → is_within bs is ≡ true → Fits type z → (h : HoldsArray s block j type bs n) → HoldsArray (element_state s type bs (suc j) h.values is z) block j type bs (with_element_at n (element_place bs is) z)
-array_assigned {s = s} {block = block} {j = j} {type = type} {bs = bs} {n = n} is z within fits h =
-    let change = P.with_element (designated_element type bs (suc j) h.values is) (value_as type z) in
+pub array_assigned : {s : State} {block : Names} {j serial : ℕ} {type : Y.LeafType} {bs : List Bounds} {n : ℕ → ℤ} (is : List ℤ) (z : ℤ) → is_within bs is ≡ true → Fits type z → (h : HoldsArray s block j serial type bs n) → HoldsArray (element_state s type bs serial h.values is z) block j serial type bs (with_element_at n (element_place bs is) z)
+array_assigned {s = s} {block = block} {j = j} {serial = serial} {type = type} {bs = bs} {n = n} is z within fits h =
+    let change = P.with_element (designated_element type bs serial h.values is) (value_as type z) in
     record {
       values = (change (array_generation type bs h.values)).values;
       numeric = h.numeric;
       stands = h.stands;
-      lives = changed_same s.living (suc j) change (array_generation type bs h.values) h.lives;
+      lives = changed_same s.living serial change (array_generation type bs h.values) h.lives;
       value = λ js inside.
-          new_value type h.numeric bs (suc j) h.values is js z
+          new_value type h.numeric bs serial h.values is js z
           ∙ value_by (same_subscripts js is) (element_place bs js == element_place bs is) type bs is js n z (h.values 0 js) refl refl within inside (h.value js inside);
       fits = λ p below. fits_by (p == element_place bs is) type z (n p) fits (h.fits p below);
     }
 
 -- other variables stay as they are
-pub array_beside : {s : State} {block i : ℕ} {other : Y.LeafType} {cs : List Bounds} {m : ℕ → ℤ} (j : ℕ) (change : Generation → Generation) → (suc j == suc i) ≡ false → HoldsArray s block i other cs m → HoldsArray (with_world s.world (with_generation (VariableName (suc j)) change s)) block i other cs m
-array_beside {s = s} {i = i} j change apart h =
-    record { values = h.values; numeric = h.numeric; stands = h.stands; lives = changed_other s.living (suc j) (suc i) change apart ∙ h.lives; value = h.value; fits = h.fits }
+pub array_beside : {s : State} {block : Names} {i other' : ℕ} {other : Y.LeafType} {cs : List Bounds} {m : ℕ → ℤ} (serial : ℕ) (change : Generation → Generation) → (serial == other') ≡ false → HoldsArray s block i other' other cs m → HoldsArray (with_world s.world (with_generation (VariableName serial) change s)) block i other' other cs m
+array_beside {s = s} {other' = other'} serial change apart h =
+    record { values = h.values; numeric = h.numeric; stands = h.stands; lives = changed_other s.living serial other' change apart ∙ h.lives; value = h.value; fits = h.fits }

@@ -27,7 +27,7 @@ use Rattle.pli_coding.specs.Locating as L
 use Rattle.pli_coding.specs.Storing.{word_stored}
 use Rattle.pli_coding.specs.Temporaries.{number_words, bit_words}
 use Rattle.pli_coding.specs.Linking.{Links}
-use Rattle.pli_headline.specs.ProvedSoFar.{Types, IsProvedNumber, IsProvedBit, alone}
+use Rattle.pli_headline.specs.ProvedSoFar.{Names, Types, IsProvedNumber, IsProvedBit, alone}
 use Rattle.pli_headline.proofs.Engine.{Base, address}
 use Rattle.pli_headline.proofs.Linking.{size_append}
 use Rattle.pli_headline.proofs.Items.{Linked, At}
@@ -39,7 +39,7 @@ use Rattle.pli_headline.proofs.Reaching.{write_based}
 use Rattle.pli_headline.proofs.Operators.{valued}
 use Rattle.pli_headline.proofs.Precisions.{fitted_piece}
 use Rattle.pli_headline.proofs.Scalars.{IsNumeric, Values, value_as, Fits, fits_wide, fits_numeric, bit_back, bit_fits, bit_word, store_kind}
-use Rattle.pli_headline.proofs.Variables.{HoldsScalar, whole, own, data_place, designated_scalar, designated_gives, base_found, scalar_stored, scalar_found, scalar_kept}
+use Rattle.pli_headline.proofs.Variables.{HoldsScalar, whole, own, level_of, data_place, designated_scalar, designated_gives, base_found, scalar_stored, scalar_found, scalar_kept}
 use Rattle.pli_headline.proofs.Expressions.{Scope, Setting, number_does, bit_does}
 use Rattle.pli_headline.proofs.Reach.{Family, Aims, Comes, Closed, before_closed, comes_on, onward}
 
@@ -50,7 +50,7 @@ abbrev pub assigned_state : State → Y.LeafType → (serial : ℕ) → (ℕ →
 assigned_state s type serial values z =
     with_world s.world (with_generation (VariableName serial) (P.with_element (designated_scalar type serial values) (value_as type z)) s)
 
-pub assigned_gives : (around : Around) (s : State) (j block : ℕ) (type : Y.LeafType) (old z : ℤ) (k : ℕ) (h : HoldsScalar s (own block j) type old) → M.assigned around (whole (own block j)) (value_as type z) k s ≡ Normal tt (assigned_state s type h.serial h.values z)
+pub assigned_gives : (around : Around) (s : State) (j : ℕ) (block : Names) (type : Y.LeafType) (old z : ℤ) (k : ℕ) (h : HoldsScalar s (own block j) type old) → M.assigned around (whole (own block j)) (value_as type z) k s ≡ Normal tt (assigned_state s type h.serial h.values z)
 unfolding M.assigned P.element_stored stored ◌>>=◌ give
 assigned_gives around s j block type old z k h =
     ap (λ q. flow_on k q (λ d. P.element_stored d (value_as type z))) (designated_gives around s (own block j) type old k h)
@@ -61,7 +61,7 @@ assigned_gives around s j block type old z k h =
 pub record Stores (links : Links) (code : List Instr) (g : Ground) (v : Services) (s : State) (k : ℕ) (words : ℕ) (type : Y.LeafType) (part : Taken → Code) (meaning : Meaning BasicValue) : Type 1 where
   pub does : {i : ℕ} {h t : ℕ → ℕ} {aims : Aims BasicValue} (closed : Closed code aims) (f : Family) (taken : Taken) → taken.words + words ≤ g.words → Linked links code i (part taken) → ((b : Base) → At b i (Known g v h t nothing b) (f b)) → ((z : ℤ) (f' : Family) (h' t' : ℕ → ℕ) → Fits type z → Stays taken h t h' t' → ((b : Base) → At b (i + size_of (part taken)) (Known g v h' t' (valued (word z)) b) (f' b)) → aims.done (i + size_of (part taken)) f' v (value_as type z) s) → Comes code i f v aims (meaning k s)
 
-pub number_stores : {links : Links} {code : List Instr} {g : Ground} {v : Services} {s : State} {k : ℕ} {e : Environment} {block : ℕ} {types : Types} {held : Values} {around : Around} (p : ℕ) (x : Y.Number) → p ≤ 31 → Setting links code g v s k e block types held around → IsProvedNumber block types x → Stores links code g v s k (max 1 (number_words x)) (Y.FixedLeaf p) (λ taken. stored_code e taken (Y.StoredNumber p x)) (V.stored_value around (Y.StoredNumber p x))
+pub number_stores : {links : Links} {code : List Instr} {g : Ground} {v : Services} {s : State} {k : ℕ} {e : Environment} {block : Names} {types : Types} {held : Values} {around : Around} (p : ℕ) (x : Y.Number) → p ≤ 31 → Setting links code g v s k e block types held around → IsProvedNumber block types x → Stores links code g v s k (max 1 (number_words x)) (Y.FixedLeaf p) (λ taken. stored_code e taken (Y.StoredNumber p x)) (V.stored_value around (Y.StoredNumber p x))
 unfolding V.stored_value ◌>>=◌ give
 number_stores {code = code} {v = v} {s = s} {k = k} {e = e} {around = around} p x few st is =
     record {
@@ -86,7 +86,7 @@ number_stores {code = code} {v = v} {s = s} {k = k} {e = e} {around = around} p 
           }))));
     }
 
-pub bit_stores : {links : Links} {code : List Instr} {g : Ground} {v : Services} {s : State} {k : ℕ} {e : Environment} {block : ℕ} {types : Types} {held : Values} {around : Around} (x : Y.Bit) → Setting links code g v s k e block types held around → IsProvedBit block types x → Stores links code g v s k (bit_words x) Y.BitLeaf (λ taken. stored_code e taken (Y.StoredBit x)) (V.stored_value around (Y.StoredBit x))
+pub bit_stores : {links : Links} {code : List Instr} {g : Ground} {v : Services} {s : State} {k : ℕ} {e : Environment} {block : Names} {types : Types} {held : Values} {around : Around} (x : Y.Bit) → Setting links code g v s k e block types held around → IsProvedBit block types x → Stores links code g v s k (bit_words x) Y.BitLeaf (λ taken. stored_code e taken (Y.StoredBit x)) (V.stored_value around (Y.StoredBit x))
 unfolding V.stored_value ◌>>=◌ give
 bit_stores {v = v} {s = s} {k = k} {e = e} {around = around} x st is =
     record {
@@ -103,15 +103,15 @@ bit_stores {v = v} {s = s} {k = k} {e = e} {around = around} x st is =
 
 -- ---- the store
 
-stored_is : {g : Ground} {s : State} {held : Values} (e : Environment) (taken : Taken) (block : ℕ) (types : Types) (j : ℕ) {type : Y.LeafType} → slice_get types j ≡ Some (alone type) → IsNumeric type → Scope g e block types s held → word_stored e taken (whole (own block j)) ≡ save a0 taken ++ (base_found e ++ (fetch a0 taken ++ scalar_stored type e (data_place e block j)))
+stored_is : {g : Ground} {s : State} {held : Values} (e : Environment) (taken : Taken) (block : Names) (types : Types) (j : ℕ) {type : Y.LeafType} → slice_get types j ≡ Some (alone type) → IsNumeric type → Scope g e block types s held → word_stored e taken (whole (own block j)) ≡ save a0 taken ++ (base_found e (level_of block j) ++ (fetch a0 taken ++ scalar_stored type e (level_of block j) (data_place e block j)))
 stored_is e taken block types j {type} below scalar scope =
     let d = scope.declared j below in
     let written = L.stored (type_in e (whole (own block j))) a0 (address_in e (whole (own block j))) in
     ap (λ c. save a0 taken ++ (c ++ (fetch a0 taken ++ written))) (scalar_found e (with_number taken) block j type scalar d)
-    ∙ ap (λ c. save a0 taken ++ (base_found e ++ (fetch a0 taken ++ c))) (scalar_kept e block j type scalar d)
+    ∙ ap (λ c. save a0 taken ++ (base_found e (level_of block j) ++ (fetch a0 taken ++ c))) (scalar_kept e block j type scalar d)
 
 -- a value in a0 is assigned to a variable, with whatever credits there are
-pub stored_piece : {links : Links} {code : List Instr} {i : ℕ} {g : Ground} (g' : Ground) {v : Services} {h t : ℕ → ℕ} {s : State} {aims : Aims (Unit {0})} (closed : Closed code aims) (temps : Temporaries g) (credits : ℕ) (e : Environment) (block : ℕ) (types : Types) (held : Values) (f : Family) (around : Around) (taken : Taken) (j : ℕ) {type : Y.LeafType} (z : ℤ) (k : ℕ) (below : slice_get types j ≡ Some (alone type)) → (fits : Fits type z) → (is_register_left taken ≡ false → taken.words < g.words) → (scope : Scope g e block types s held) → ((b : Base) (h' : ℕ → ℕ) → reserved_are b g h' ≡ reserved_are b g' h') → ((t' : ℕ → ℕ) (b : Base) (m : List ℕ) → length m ≡ memory_size → g.memory t' b m → g'.memory t' b (store (store_width (store_kind type)) m (scope.base + data_place e block j) (word z))) → Linked links code i (word_stored e taken (whole (own block j))) → ((b : Base) → At b i (Known g v h t (valued (word z)) b) (f b)) → ((f' : Family) (h' t' : ℕ → ℕ) → Stays taken h t h' t' → ((b : Base) → At b (i + size_of (word_stored e taken (whole (own block j)))) (Known g' v h' t' nothing b) (f' b)) → aims.done (credits + size_of (word_stored e taken (whole (own block j)))) f' v tt (assigned_state s type (scope.holds j below (fits_numeric type z fits)).serial (scope.holds j below (fits_numeric type z fits)).values z)) → Comes code credits f v aims (M.assigned around (whole (own block j)) (value_as type z) k s)
+pub stored_piece : {links : Links} {code : List Instr} {i : ℕ} {g : Ground} (g' : Ground) {v : Services} {h t : ℕ → ℕ} {s : State} {aims : Aims (Unit {0})} (closed : Closed code aims) (temps : Temporaries g) (credits : ℕ) (e : Environment) (block : Names) (types : Types) (held : Values) (f : Family) (around : Around) (taken : Taken) (j : ℕ) {type : Y.LeafType} (z : ℤ) (k : ℕ) (below : slice_get types j ≡ Some (alone type)) → (fits : Fits type z) → (is_register_left taken ≡ false → taken.words < g.words) → (scope : Scope g e block types s held) → ((b : Base) (h' : ℕ → ℕ) → reserved_are b g h' ≡ reserved_are b g' h') → ((t' : ℕ → ℕ) (b : Base) (m : List ℕ) → length m ≡ memory_size → g.memory t' b m → g'.memory t' b (store (store_width (store_kind type)) m (scope.base j + data_place e block j) (word z))) → Linked links code i (word_stored e taken (whole (own block j))) → ((b : Base) → At b i (Known g v h t (valued (word z)) b) (f b)) → ((f' : Family) (h' t' : ℕ → ℕ) → Stays taken h t h' t' → ((b : Base) → At b (i + size_of (word_stored e taken (whole (own block j)))) (Known g' v h' t' nothing b) (f' b)) → aims.done (credits + size_of (word_stored e taken (whole (own block j)))) f' v tt (assigned_state s type (scope.holds j below (fits_numeric type z fits)).serial (scope.holds j below (fits_numeric type z fits)).values z)) → Comes code credits f v aims (M.assigned around (whole (own block j)) (value_as type z) k s)
 stored_piece {links = links} {code = code} {i = i} {g = g} g' {v = v} {h = h} {t = t} {s = s} {aims = aims} closed temps credits e block types held f around taken j {type} z k below fits left scope same writes l at goal =
     let target = whole (own block j) in
     let holds = scope.holds j below (fits_numeric type z fits) in
@@ -119,8 +119,8 @@ stored_piece {links = links} {code = code} {i = i} {g = g} g' {v = v} {h = h} {t
     let place = data_place e block j in
     let put' = save a0 taken in
     let back = fetch a0 taken in
-    let last = scalar_stored type e place in
-    let written = base_found e ++ (back ++ last) in
+    let last = scalar_stored type e (level_of block j) place in
+    let written = base_found e (level_of block j) ++ (back ++ last) in
     let eq = stored_is e taken block types j below (fits_numeric type z fits) scope in
     let whole_size = ap size_of eq in
     let l1 = subst (Linked links code i) eq l in
@@ -133,7 +133,7 @@ stored_piece {links = links} {code = code} {i = i} {g = g} g' {v = v} {h = h} {t
     subst (Comes code credits f v aims) (sym (assigned_gives around s j block type (held.numbers j) z k holds))
     (onward closed (save_piece temps credits f a0 taken (word z) left (word_small z wide) (λ y u. refl) (λ b w' o. o.regs.0) (record { reserved_stay = λ y u. refl; known_stay = λ b y u q. q; set = λ y u. refl }) (front_of put' written l1) at)
     (λ f1 at1.
-    onward closed (write_based (0 == e.level) g' temps (credits + size_of put') f1 taken scope.base (store_kind type) (pos place) (scope.base + place) (word z) scope.reach scope.within (scope.places j below) left (word_small z wide) (waiting_saved taken h t (word z)) (λ b. same b h1) (λ b m len o. writes t1 b m len o) l2 at1)
+    onward closed (write_based (level_of block j == e.level) (level_of block j) g' temps (credits + size_of put') f1 taken (scope.base j) (store_kind type) (pos place) (scope.base j + place) (word z) (scope.reach j below) (scope.within j below) (scope.places j below) left (word_small z wide) (waiting_saved taken h t (word z)) (λ b. same b h1) (λ b m len o. writes t1 b m len o) l2 at1)
     (λ f2 at2.
     record {
       to =

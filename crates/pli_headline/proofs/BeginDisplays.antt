@@ -19,7 +19,7 @@ use Rattle.pli_coding.specs.Entries.{display_copied}
 use Rattle.pli_coding.specs.Environments.{Environment}
 use Rattle.pli_coding.specs.Linking.{Links}
 use Rattle.image_runs.specs.Runs.{Whole}
-use Rattle.pli_headline.specs.ProvedSoFar.{Types}
+use Rattle.pli_headline.specs.ProvedSoFar.{Names, Types}
 use Rattle.pli_headline.proofs.Engine.{Base, most_code, WordAt}
 use Rattle.pli_headline.proofs.Linking.{size_append}
 use Rattle.pli_headline.proofs.Items.{Linked, At, Items}
@@ -84,7 +84,7 @@ pub record Displayed (around : Base → List ℕ → Type 0) (outer count : ℕ)
   pub shown : (j : ℕ) → j < count → load 4 m (at + (144 + 4 * j)) ≡ b.at + levels j
 
 -- the frame's register is set, but the stack's isn't yet
-abbrev pub middle_ground : {e : Environment} {block : ℕ} {types : Types} (bl : Block e block types) → Inner bl → Values → (Base → List ℕ → Type 0) → Ground
+abbrev pub middle_ground : {e : Environment} {block : Names} {types : Types} (bl : Block e block types) → Inner bl → Values → (Base → List ℕ → Type 0) → Ground
 middle_ground bl inner n memory =
     record {
       frame = inner.at;
@@ -96,14 +96,14 @@ middle_ground bl inner n memory =
       inside = let r = inner.room in omega (arith, r);
     }
 
-abbrev pub begun_ground : {e : Environment} {block : ℕ} {types : Types} (bl : Block e block types) → Inner bl → (t0 : ℕ → ℕ) → Values → Ground
+abbrev pub begun_ground : {e : Environment} {block : Names} {types : Types} (bl : Block e block types) → Inner bl → (t0 : ℕ → ℕ) → Values → Ground
 begun_ground bl inner t0 n = middle_ground bl inner n (Begun ((bl.ground n).memory t0) bl.stack.frame inner.at)
 
-abbrev pub displayed_ground : {e : Environment} {block : ℕ} {types : Types} (bl : Block e block types) → Inner bl → (t0 : ℕ → ℕ) → (count : ℕ) → Values → Ground
+abbrev pub displayed_ground : {e : Environment} {block : Names} {types : Types} (bl : Block e block types) → Inner bl → (t0 : ℕ → ℕ) → (count : ℕ) → Values → Ground
 displayed_ground bl inner t0 count n =
     middle_ground bl inner n (Displayed ((bl.ground n).memory t0) bl.stack.frame count (inner_levels bl) inner.at)
 
-abbrev pub owned_ground : {e : Environment} {block : ℕ} {types : Types} (bl : Block e block types) → Inner bl → (t0 : ℕ → ℕ) → Values → Ground
+abbrev pub owned_ground : {e : Environment} {block : Names} {types : Types} (bl : Block e block types) → Inner bl → (t0 : ℕ → ℕ) → Values → Ground
 owned_ground {e} bl inner t0 n =
     middle_ground bl inner n (λ b m. Inside ((bl.ground n).memory t0) bl.stack.frame (suc e.level) (inner_levels bl) inner.at inner.words unknown b m)
 
@@ -120,7 +120,7 @@ outer_regs at b = (10, b.at + at) ∷ []
 abbrev pub both_regs : (at outer : ℕ) → Base → List (ℕ × ℕ)
 both_regs at outer b = (5, b.at + at) ∷ (10, b.at + outer) ∷ []
 
-pub begun_path : {e : Environment} {block : ℕ} {types : Types} (bl : Block e block types) (inner : Inner bl) (n : Values) (links : Links) (code : List Instr) (i : ℕ) (v : Services) (h t0 : ℕ → ℕ) (b : Base) (w : Whole) → length code ≤ most_code → Known (bl.ground n) v h t0 (both_regs inner.at (bl.ground n).frame) b w → Items links code b i begun_code w (Known (begun_ground bl inner t0 n) v h unknown (outer_regs (bl.ground n).frame) b)
+pub begun_path : {e : Environment} {block : Names} {types : Types} (bl : Block e block types) (inner : Inner bl) (n : Values) (links : Links) (code : List Instr) (i : ℕ) (v : Services) (h t0 : ℕ → ℕ) (b : Base) (w : Whole) → length code ≤ most_code → Known (bl.ground n) v h t0 (both_regs inner.at (bl.ground n).frame) b w → Items links code b i begun_code w (Known (begun_ground bl inner t0 n) v h unknown (outer_regs (bl.ground n).frame) b)
 begun_path bl inner n links code i v h t0 b w small' k =
     let g = bl.ground n in
     let x = w.machine.registers in
@@ -141,7 +141,7 @@ begun_path bl inner n links code i v h t0 b w small' k =
     let m1 = store 4 m (at + 4) (x 8) in
     let top = load 4 m1 (g.frame + 40) in
     let v' = b.valid.1 in
-    let keeps = bl.stack.keeps n t0 b in (
+    let keeps = λ (m' : List ℕ) (p x : ℕ). bl.stack.keeps n t0 b m' 4 p x in (
       frame_word b at (x 5) 4 (omega (arith, room)) whole refl (omega arith) e',
       omega (arith, low),
       (
@@ -192,7 +192,7 @@ outer_place at j whole high room few =
     }
 
 -- a word of the display of the frame around comes into a register
-word_loaded : {e : Environment} {block : ℕ} {types : Types} (bl : Block e block types) (inner : Inner bl) (n : Values) {links : Links} {code : List Instr} {i : ℕ} {v : Services} {h t0 : ℕ → ℕ} (c : ℕ) (f : Family) (j : ℕ) → j < e.level → e.level ≤ 100 → Linked links code i (load_word u1 a0 (display j)) → ((b : Base) → At b i (Known (displayed_ground bl inner t0 j n) v h unknown (outer_regs (bl.ground n).frame) b) (f b)) → Reach code c f v (c + size_of (load_word u1 a0 (display j))) v (λ b w. At b (i + size_of (load_word u1 a0 (display j))) (Known (displayed_ground bl inner t0 j n) v h unknown (with' 6 (λ b'. b'.at + bl.levels j) (outer_regs (bl.ground n).frame)) b) w)
+word_loaded : {e : Environment} {block : Names} {types : Types} (bl : Block e block types) (inner : Inner bl) (n : Values) {links : Links} {code : List Instr} {i : ℕ} {v : Services} {h t0 : ℕ → ℕ} (c : ℕ) (f : Family) (j : ℕ) → j < e.level → e.level ≤ 100 → Linked links code i (load_word u1 a0 (display j)) → ((b : Base) → At b i (Known (displayed_ground bl inner t0 j n) v h unknown (outer_regs (bl.ground n).frame) b) (f b)) → Reach code c f v (c + size_of (load_word u1 a0 (display j))) v (λ b w. At b (i + size_of (load_word u1 a0 (display j))) (Known (displayed_ground bl inner t0 j n) v h unknown (with' 6 (λ b'. b'.at + bl.levels j) (outer_regs (bl.ground n).frame)) b) w)
 word_loaded bl inner n {t0 = t0} c f j below few l at =
     let g = bl.ground n in
     let above = inner_above inner.at bl.stack.free inner.words inner.place in
@@ -217,7 +217,7 @@ shown_by false m at i j y e below fits room known =
     load-store_other 4 4 m (at + (144 + 4 * j)) (y j) (at + (144 + 4 * i)) (inl (omega (arith, under))) ∙ known under
 
 -- a register goes into the word of a level
-word_stored : {e : Environment} {block : ℕ} {types : Types} (bl : Block e block types) (inner : Inner bl) (n : Values) {links : Links} {code : List Instr} {i : ℕ} {v : Services} {h t0 : ℕ → ℕ} {rs : Base → List (ℕ × ℕ)} (c : ℕ) (f : Family) (r : Register) (j : ℕ) → j ≤ 100 → inner_levels bl j < memory_size → IsNear r.index → ((b : Base) (w : Whole) → Known (displayed_ground bl inner t0 j n) v h unknown rs b w → w.machine.registers r.index ≡ b.at + inner_levels bl j) → Free rs 31 → Linked links code i (store_word frame_register r (display j)) → ((b : Base) → At b i (Known (displayed_ground bl inner t0 j n) v h unknown rs b) (f b)) → Reach code c f v (c + size_of (store_word frame_register r (display j))) v (λ b w. At b (i + size_of (store_word frame_register r (display j))) (Known (displayed_ground bl inner t0 (suc j) n) v h unknown rs b) w)
+word_stored : {e : Environment} {block : Names} {types : Types} (bl : Block e block types) (inner : Inner bl) (n : Values) {links : Links} {code : List Instr} {i : ℕ} {v : Services} {h t0 : ℕ → ℕ} {rs : Base → List (ℕ × ℕ)} (c : ℕ) (f : Family) (r : Register) (j : ℕ) → j ≤ 100 → inner_levels bl j < memory_size → IsNear r.index → ((b : Base) (w : Whole) → Known (displayed_ground bl inner t0 j n) v h unknown rs b w → w.machine.registers r.index ≡ b.at + inner_levels bl j) → Free rs 31 → Linked links code i (store_word frame_register r (display j)) → ((b : Base) → At b i (Known (displayed_ground bl inner t0 j n) v h unknown rs b) (f b)) → Reach code c f v (c + size_of (store_word frame_register r (display j))) v (λ b w. At b (i + size_of (store_word frame_register r (display j))) (Known (displayed_ground bl inner t0 (suc j) n) v h unknown rs b) w)
 word_stored bl inner n {t0 = t0} c f r j few small' near value free l at =
     let above = inner_above inner.at bl.stack.free inner.words inner.place in
     let whole = inner_whole inner.at bl.stack.free inner.words inner.place bl.stack.aligned in
@@ -228,22 +228,22 @@ word_stored bl inner n {t0 = t0} c f r j few small' near value free l at =
     near value (λ b. refl)
     (λ b m len o. record {
       begun = record {
-        kept = bl.stack.keeps n t0 b m (inner.at + (144 + 4 * j)) (b.at + inner_levels bl j) (omega (arith, above)) o.begun.kept;
+        kept = bl.stack.keeps n t0 b m 4 (inner.at + (144 + 4 * j)) (b.at + inner_levels bl j) (omega (arith, above)) o.begun.kept;
         below = load-store_other 4 4 m (inner.at + (144 + 4 * j)) (b.at + inner_levels bl j) (inner.at + 4) (inl (omega arith)) ∙ o.begun.below;
       };
       shown = λ i h. shown_by (i == j) m inner.at i j (λ u. b.at + inner_levels bl u) refl h (let v' = b.valid.1 in omega (arith, v', small')) (omega (arith, len, room, few)) (λ under. o.shown i under);
     })
     free l at
 
-own_level : {e : Environment} {block : ℕ} {types : Types} (bl : Block e block types) (j : ℕ) → j ≡ e.level → inner_levels bl j ≡ bl.stack.frame
+own_level : {e : Environment} {block : Names} {types : Types} (bl : Block e block types) (j : ℕ) → j ≡ e.level → inner_levels bl j ≡ bl.stack.frame
 own_level {e} bl j same = ap (λ q. cond q bl.stack.frame (bl.levels j)) (eq-eqb j e.level same)
 
-outer_level : {e : Environment} {block : ℕ} {types : Types} (bl : Block e block types) (j : ℕ) → j < e.level → inner_levels bl j ≡ bl.levels j
+outer_level : {e : Environment} {block : Names} {types : Types} (bl : Block e block types) (j : ℕ) → j < e.level → inner_levels bl j ≡ bl.levels j
 outer_level {e} bl j below =
     let other : (j == e.level) ≡ false = grind (arith, nat_tests) in
     ap (λ q. cond q bl.stack.frame (bl.levels j)) other
 
-copied : {e : Environment} {block : ℕ} {types : Types} (bl : Block e block types) (inner : Inner bl) (n : Values) (left j : ℕ) {links : Links} {code : List Instr} {i : ℕ} {v : Services} {h t0 : ℕ → ℕ} (c : ℕ) (f : Family) → j + left ≡ e.level → e.level ≤ 100 → Linked links code i (display_copied j left) → ((b : Base) → At b i (Known (displayed_ground bl inner t0 j n) v h unknown (outer_regs (bl.ground n).frame) b) (f b)) → Reach code c f v (c + size_of (display_copied j left)) v (λ b w. At b (i + size_of (display_copied j left)) (Known (displayed_ground bl inner t0 (suc e.level) n) v h unknown (outer_regs (bl.ground n).frame) b) w)
+copied : {e : Environment} {block : Names} {types : Types} (bl : Block e block types) (inner : Inner bl) (n : Values) (left j : ℕ) {links : Links} {code : List Instr} {i : ℕ} {v : Services} {h t0 : ℕ → ℕ} (c : ℕ) (f : Family) → j + left ≡ e.level → e.level ≤ 100 → Linked links code i (display_copied j left) → ((b : Base) → At b i (Known (displayed_ground bl inner t0 j n) v h unknown (outer_regs (bl.ground n).frame) b) (f b)) → Reach code c f v (c + size_of (display_copied j left)) v (λ b w. At b (i + size_of (display_copied j left)) (Known (displayed_ground bl inner t0 (suc e.level) n) v h unknown (outer_regs (bl.ground n).frame) b) w)
 copied {e} bl inner n zero j {i = i} {v = v} {h = h} {t0 = t0} c f total few l at =
     let g = bl.ground n in
     let same : j ≡ e.level = omega (arith, total) in
@@ -278,7 +278,7 @@ copied {e} bl inner n (suc left) j {i = i} {v = v} {h = h} {t0 = t0} c f total f
     reach_moved (omega (arith, n1, n2)) (omega (arith, n1, n2)) (reach_then r1 (reach_then r2' r3))
 
 -- the whole display, from that of the frame around
-pub display_piece : {e : Environment} {block : ℕ} {types : Types} (bl : Block e block types) (inner : Inner bl) (n : Values) {links : Links} {code : List Instr} {i : ℕ} {v : Services} {h t0 : ℕ → ℕ} (c : ℕ) (f : Family) → e.level ≤ 100 → Linked links code i (display_copied 0 e.level) → ((b : Base) → At b i (Known (begun_ground bl inner t0 n) v h unknown (outer_regs (bl.ground n).frame) b) (f b)) → Reach code c f v (c + size_of (display_copied 0 e.level)) v (λ b w. At b (i + size_of (display_copied 0 e.level)) (Known (displayed_ground bl inner t0 (suc e.level) n) v h unknown (outer_regs (bl.ground n).frame) b) w)
+pub display_piece : {e : Environment} {block : Names} {types : Types} (bl : Block e block types) (inner : Inner bl) (n : Values) {links : Links} {code : List Instr} {i : ℕ} {v : Services} {h t0 : ℕ → ℕ} (c : ℕ) (f : Family) → e.level ≤ 100 → Linked links code i (display_copied 0 e.level) → ((b : Base) → At b i (Known (begun_ground bl inner t0 n) v h unknown (outer_regs (bl.ground n).frame) b) (f b)) → Reach code c f v (c + size_of (display_copied 0 e.level)) v (λ b w. At b (i + size_of (display_copied 0 e.level)) (Known (displayed_ground bl inner t0 (suc e.level) n) v h unknown (outer_regs (bl.ground n).frame) b) w)
 display_piece {e} bl inner n c f few l at =
     copied bl inner n e.level 0 c f (omega arith) few l
     (λ b. let o = (at b).holds in record {

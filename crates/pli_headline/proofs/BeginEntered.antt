@@ -24,7 +24,7 @@ use Rattle.pli_coding.specs.Entries.{entered_without_texts, block_left, frame_en
 use Rattle.pli_coding.specs.Environments.{Environment}
 use Rattle.pli_coding.specs.Linking.{Links}
 use Rattle.image_runs.specs.Runs.{Whole}
-use Rattle.pli_headline.specs.ProvedSoFar.{Types}
+use Rattle.pli_headline.specs.ProvedSoFar.{Names, Types}
 use Rattle.pli_headline.proofs.Engine.{Base, call_at}
 use Rattle.pli_headline.proofs.Linking.{size_append}
 use Rattle.pli_headline.proofs.Items.{Linked, At, straight}
@@ -72,7 +72,7 @@ abbrev enter_regs : (at : ℕ) → Base → List (ℕ × ℕ)
 enter_regs at b = (10, 1) ∷ (11, at) ∷ (13, 0) ∷ []
 
 -- up to the call
-asked_call : {e : Environment} {block : ℕ} {types : Types} (bl : Block e block types) (inner : Inner bl) (n : Values) {links : Links} {code : List Instr} {i : ℕ} {v : Services} {h t0 t : ℕ → ℕ} (c : ℕ) (f : Family) (line : ℕ) → line < 2 ^ 31 → Linked links code i (entered_without_texts 1 line) → ((b : Base) → At b i (Known (inner_ground bl inner t0 n) v h t nothing b) (f b)) → Reach code c f v (c + 3 + size_of (number a2 line) + 1) v (λ b w. At b (i + 3 + size_of (number a2 line) + 1) (Known (inner_ground bl inner t0 n) v h t (λ b'. (17, 4) ∷ (12, line) ∷ enter_regs inner.at b') b) w)
+asked_call : {e : Environment} {block : Names} {types : Types} (bl : Block e block types) (inner : Inner bl) (n : Values) {links : Links} {code : List Instr} {i : ℕ} {v : Services} {h t0 t : ℕ → ℕ} (c : ℕ) (f : Family) (line : ℕ) → line < 2 ^ 31 → Linked links code i (entered_without_texts 1 line) → ((b : Base) → At b i (Known (inner_ground bl inner t0 n) v h t nothing b) (f b)) → Reach code c f v (c + 3 + size_of (number a2 line) + 1) v (λ b w. At b (i + 3 + size_of (number a2 line) + 1) (Known (inner_ground bl inner t0 n) v h t (λ b'. (17, 4) ∷ (12, line) ∷ enter_regs inner.at b') b) w)
 asked_call bl inner n {links} {code} {i} {v} {h} {t0} {t} c f line fits l at =
     let ground = inner_ground bl inner t0 n in
     let m = number a2 line in
@@ -97,7 +97,7 @@ asked_call bl inner n {links} {code} {i} {v} {h} {t0} {t} c f line fits l at =
     }) in
     reach_then r1 (reach_then r2 r3)
 
-pub inner_entered : {e : Environment} {block : ℕ} {types : Types} (bl : Block e block types) (inner : Inner bl) (n : Values) {links : Links} {code : List Instr} {i : ℕ} {v : Services} {h t0 t : ℕ → ℕ} (c : ℕ) (f : Family) (line : ℕ) → line < 2 ^ 31 → v.waiting ≡ None → nat_lt (length v.activations) most_activations ≡ true → Linked links code i (entered_without_texts 1 line) → ((b : Base) → At b i (Known (inner_ground bl inner t0 n) v h t nothing b) (f b)) → Reach code c f v (c + size_of (entered_without_texts 1 line)) (entered_services v inner.at line) (λ b w. At b (i + size_of (entered_without_texts 1 line)) (Known (inner_ground bl inner t0 n) (entered_services v inner.at line) h t nothing b) w)
+pub inner_entered : {e : Environment} {block : Names} {types : Types} (bl : Block e block types) (inner : Inner bl) (n : Values) {links : Links} {code : List Instr} {i : ℕ} {v : Services} {h t0 t : ℕ → ℕ} (c : ℕ) (f : Family) (line : ℕ) → line < 2 ^ 31 → v.waiting ≡ None → nat_lt (length v.activations) most_activations ≡ true → Linked links code i (entered_without_texts 1 line) → ((b : Base) → At b i (Known (inner_ground bl inner t0 n) v h t nothing b) (f b)) → Reach code c f v (c + size_of (entered_without_texts 1 line)) (entered_services v inner.at line) (λ b w. At b (i + size_of (entered_without_texts 1 line)) (Known (inner_ground bl inner t0 n) (entered_services v inner.at line) h t nothing b) w)
 inner_entered bl inner n {links} {code} {i} {v} {h} {t0} {t} c f line fits none few l at =
     let ground = inner_ground bl inner t0 n in
     let v' = entered_services v inner.at line in
@@ -129,7 +129,7 @@ enter_limited code v m at line none many =
     ap (λ w. or_bad (K.entered_of 1 v.line w) next) none
     ∙ ap (λ q. cond q (Done (entered_services v at line) m 1 at) (run_ended (E.Limit L.Depth) v)) many
 
-pub inner_limited : {e : Environment} {block : ℕ} {types : Types} (bl : Block e block types) (inner : Inner bl) (n : Values) {X : Type 0} {links : Links} {code : List Instr} {i : ℕ} {s : State} {v : Services} {h t0 t : ℕ → ℕ} {aims : Aims X} (c : ℕ) (f : Family) (closed : Closed code aims) (k line old : ℕ) → line < 2 ^ 31 → c + 3 + size_of (number a2 line) + 1 < cost code → nat_lt (length v.activations) most_activations ≡ false → Linked links code i (entered_without_texts 1 line) → Serving k s v old → ((b : Base) → At b i (Known (inner_ground bl inner t0 n) v h t nothing b) (f b)) → Comes code c f v aims (finish {R = X} (E.Limit L.Depth) k s)
+pub inner_limited : {e : Environment} {block : Names} {types : Types} (bl : Block e block types) (inner : Inner bl) (n : Values) {X : Type 0} {links : Links} {code : List Instr} {i : ℕ} {s : State} {v : Services} {h t0 t : ℕ → ℕ} {aims : Aims X} (c : ℕ) (f : Family) (closed : Closed code aims) (k line old : ℕ) → line < 2 ^ 31 → c + 3 + size_of (number a2 line) + 1 < cost code → nat_lt (length v.activations) most_activations ≡ false → Linked links code i (entered_without_texts 1 line) → Serving k s v old → ((b : Base) → At b i (Known (inner_ground bl inner t0 n) v h t nothing b) (f b)) → Comes code c f v aims (finish {R = X} (E.Limit L.Depth) k s)
 inner_limited bl inner n {code = code} {i = i} {s = s} {v = v} c f closed k line old fits few many l serving at =
     let m = number a2 line in
     let last = small a7 4 ∷ Plain I.Ecall ∷ [] in
@@ -170,7 +170,7 @@ leave_answer code v m a rest y e = ap (λ u. K.left_by (call_at code v m) 0 y u)
 abbrev pub inner_ended : (words : ℕ) → Code
 inner_ended words = block_left 0 ++ frame_ended words
 
-pub inner_left : {e : Environment} {block : ℕ} {types : Types} (bl : Block e block types) (inner : Inner bl) (n : Values) {links : Links} {code : List Instr} {i : ℕ} {v : Services} {h t0 t : ℕ → ℕ} (c : ℕ) (f : Family) (a : S.Activation) (rest : List S.Activation) → v.activations ≡ a ∷ rest → Linked links code i (inner_ended inner.words) → ((b : Base) → At b i (Known (inner_ground bl inner t0 n) v h t nothing b) (f b)) → Reach code c f v (c + size_of (inner_ended inner.words)) (ended_services v a rest) (λ b w. At b (i + size_of (inner_ended inner.words)) (Known (bl.ground n) (ended_services v a rest) h t0 nothing b) w)
+pub inner_left : {e : Environment} {block : Names} {types : Types} (bl : Block e block types) (inner : Inner bl) (n : Values) {links : Links} {code : List Instr} {i : ℕ} {v : Services} {h t0 t : ℕ → ℕ} (c : ℕ) (f : Family) (a : S.Activation) (rest : List S.Activation) → v.activations ≡ a ∷ rest → Linked links code i (inner_ended inner.words) → ((b : Base) → At b i (Known (inner_ground bl inner t0 n) v h t nothing b) (f b)) → Reach code c f v (c + size_of (inner_ended inner.words)) (ended_services v a rest) (λ b w. At b (i + size_of (inner_ended inner.words)) (Known (bl.ground n) (ended_services v a rest) h t0 nothing b) w)
 inner_left bl inner n {links} {code} {i} {v} {h} {t0} {t} c f a rest e l at =
     let ground = inner_ground bl inner t0 n in
     let outer = bl.ground n in

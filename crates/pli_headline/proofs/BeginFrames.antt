@@ -16,7 +16,7 @@ use Rattle.pli_coding.specs.Entries.{display_copied, frame_begun}
 use Rattle.pli_coding.specs.Environments.{Environment}
 use Rattle.pli_coding.specs.Linking.{Links}
 use Rattle.image_runs.specs.Runs.{Whole}
-use Rattle.pli_headline.specs.ProvedSoFar.{Types}
+use Rattle.pli_headline.specs.ProvedSoFar.{Names, Types}
 use Rattle.pli_headline.proofs.Engine.{Base, most_code}
 use Rattle.pli_headline.proofs.Linking.{size_append}
 use Rattle.pli_headline.proofs.Items.{Linked, At, Items, straight}
@@ -36,7 +36,7 @@ use Rattle.pli_headline.proofs.Scalars.{Values}
 abbrev owned_code : Code
 owned_code = BaseIn u1 ∷ subtract u1 frame_register u1 ∷ store_word frame_register u1 own_offset
 
-owned_path : {e : Environment} {block : ℕ} {types : Types} (bl : Block e block types) (inner : Inner bl) (n : Values) (links : Links) (code : List Instr) (i : ℕ) (v : Services) (h t0 : ℕ → ℕ) (b : Base) (w : Whole) → length code ≤ most_code → Known (displayed_ground bl inner t0 (suc e.level) n) v h unknown (outer_regs (bl.ground n).frame) b w → Items links code b i owned_code w (Known (owned_ground bl inner t0 n) v h unknown nothing b)
+owned_path : {e : Environment} {block : Names} {types : Types} (bl : Block e block types) (inner : Inner bl) (n : Values) (links : Links) (code : List Instr) (i : ℕ) (v : Services) (h t0 : ℕ → ℕ) (b : Base) (w : Whole) → length code ≤ most_code → Known (displayed_ground bl inner t0 (suc e.level) n) v h unknown (outer_regs (bl.ground n).frame) b w → Items links code b i owned_code w (Known (owned_ground bl inner t0 n) v h unknown nothing b)
 owned_path {e} bl inner n links code i v h t0 b w small' k =
     let x = w.machine.registers in
     let m = w.machine.memory in
@@ -59,7 +59,7 @@ owned_path {e} bl inner n links code i v h t0 b w small' k =
             registers = k.body.registers;
             bytes = length-store 4 m (at + 36) own ∙ k.body.bytes;
             memory = record {
-              kept = bl.stack.keeps n t0 b m (at + 36) own (omega (arith, above)) o.begun.kept;
+              kept = bl.stack.keeps n t0 b m 4 (at + 36) own (omega (arith, above)) o.begun.kept;
               below = load-store_other 4 4 m (at + 36) own (at + 4) (inl (omega arith)) ∙ o.begun.below;
               own = load-store_same 4 m (at + 36) own (omega (arith, mine, room)) (let q = k.body.bytes in omega (arith, q, room)) ∙ mine;
               shown = λ j h. load-store_other 4 4 m (at + 36) own (at + (144 + 4 * j)) (inr (omega arith)) ∙ o.shown j h;
@@ -71,7 +71,7 @@ owned_path {e} bl inner n links code i v h t0 b w small' k =
       ),
     )
 
-raised_piece : {e : Environment} {block : ℕ} {types : Types} (bl : Block e block types) (inner : Inner bl) (n : Values) {links : Links} {code : List Instr} {i : ℕ} {v : Services} {h t0 : ℕ → ℕ} (c : ℕ) (f : Family) → Linked links code i (plus stack_register frame_register (pos (fixed_size (suc e.level) 0))) → ((b : Base) → At b i (Known (owned_ground bl inner t0 n) v h unknown nothing b) (f b)) → Reach code c f v (c + size_of (plus stack_register frame_register (pos (fixed_size (suc e.level) 0)))) v (λ b w. At b (i + size_of (plus stack_register frame_register (pos (fixed_size (suc e.level) 0)))) (Known (inner_ground bl inner t0 n) v h unknown nothing b) w)
+raised_piece : {e : Environment} {block : Names} {types : Types} (bl : Block e block types) (inner : Inner bl) (n : Values) {links : Links} {code : List Instr} {i : ℕ} {v : Services} {h t0 : ℕ → ℕ} (c : ℕ) (f : Family) → Linked links code i (plus stack_register frame_register (pos (fixed_size (suc e.level) 0))) → ((b : Base) → At b i (Known (owned_ground bl inner t0 n) v h unknown nothing b) (f b)) → Reach code c f v (c + size_of (plus stack_register frame_register (pos (fixed_size (suc e.level) 0)))) v (λ b w. At b (i + size_of (plus stack_register frame_register (pos (fixed_size (suc e.level) 0)))) (Known (inner_ground bl inner t0 n) v h unknown nothing b) w)
 raised_piece {e} bl inner n {v = v} {h = h} {t0 = t0} c f l at =
     let size = fixed_size (suc e.level) 0 in
     let room = inner.room in
@@ -99,7 +99,7 @@ raised_piece {e} bl inner n {v = v} {h = h} {t0 = t0} c f l at =
 abbrev pub inner_begun : (words level : ℕ) → Code
 inner_begun words level = move a0 frame_register ∷ frame_begun words level 0 false
 
-pub inner_frame : {e : Environment} {block : ℕ} {types : Types} (bl : Block e block types) (inner : Inner bl) (n : Values) {links : Links} {code : List Instr} {i : ℕ} {v : Services} {h t0 : ℕ → ℕ} (c : ℕ) (f : Family) → e.level < 100 → 0 < i → Linked links code i (inner_begun inner.words (suc e.level)) → ((b : Base) → At b i (Known (bl.ground n) v h t0 nothing b) (f b)) → Reach code c f v (c + size_of (inner_begun inner.words (suc e.level))) v (λ b w. At b (i + size_of (inner_begun inner.words (suc e.level))) (Known (inner_ground bl inner t0 n) v h unknown nothing b) w)
+pub inner_frame : {e : Environment} {block : Names} {types : Types} (bl : Block e block types) (inner : Inner bl) (n : Values) {links : Links} {code : List Instr} {i : ℕ} {v : Services} {h t0 : ℕ → ℕ} (c : ℕ) (f : Family) → e.level < 100 → 0 < i → Linked links code i (inner_begun inner.words (suc e.level)) → ((b : Base) → At b i (Known (bl.ground n) v h t0 nothing b) (f b)) → Reach code c f v (c + size_of (inner_begun inner.words (suc e.level))) v (λ b w. At b (i + size_of (inner_begun inner.words (suc e.level))) (Known (inner_ground bl inner t0 n) v h unknown nothing b) w)
 inner_frame {e} bl inner n {links} {code} {i} {v} {h} {t0} c f few later l at =
     let g = bl.ground n in
     let size = temporary_bytes inner.words in

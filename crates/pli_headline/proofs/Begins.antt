@@ -1,5 +1,5 @@
 -- BEGIN blocks that declare nothing, in the main procedure and in one another.
-use Rattle.std.proofs.Common.{◌≡◌, ℕ, zero, suc, ◌+◌, ◌*◌, ◌^◌, ◌<◌, ◌≤◌, List, [], ◌∷◌, ◌++◌, length, None, Option, Bool, true, false, refl, sym, ap, ◌∙◌, subst, arith}
+use Rattle.std.proofs.Common.{◌≡◌, ℕ, zero, suc, ◌+◌, ◌*◌, ◌^◌, ◌<◌, ◌≤◌, List, [], ◌∷◌, ◌++◌, inr, length, None, Option, Bool, true, false, refl, sym, ap, ◌∙◌, subst, arith}
 use Rattle.std.proofs.lemmas.Bool.{ltb-true}
 use Rattle.std.specs.Prelude.{max, nat_lt}
 use Rattle.rv_meaning.specs.declared.instr.Instr.{Instr}
@@ -23,10 +23,11 @@ use Rattle.pli_coding.specs.Instructions.{move, small, number}
 use Rattle.pli_coding.specs.Allocating.{act_code}
 use Rattle.pli_coding.specs.Entries.{frame_begun, entered_without_texts, variables_made, variables_words}
 use Rattle.pli_coding.specs.Environments.{Environment, in_frame, none_taken}
-use Rattle.pli_coding.specs.Frames.{fixed_size, frame_end, temporary_bytes}
+use Rattle.pli_coding.specs.Frames.{fixed_size, temporary_bytes}
 use Rattle.pli_coding.specs.Statements.{begin_environment, begin_code, block_words, stmts_words, stmt_code, stmts_code}
 use Rattle.pli_coding.specs.Linking.{Links}
-use Rattle.pli_headline.specs.ProvedSoFar.{Types, OuterBlock}
+use Rattle.pli_headline.specs.ProvedSoFar.{Names, Types, OuterBlock}
+use Rattle.pli_headline.proofs.Storages.{storage}
 use Rattle.pli_headline.proofs.Engine.{Base, address}
 use Rattle.pli_headline.proofs.Linking.{size_append}
 use Rattle.pli_headline.proofs.Items.{Linked, At}
@@ -37,11 +38,11 @@ use Rattle.pli_headline.proofs.Activations.{same_length, newest_is, entered_leng
 use Rattle.pli_headline.proofs.Calls.{Serving}
 use Rattle.pli_headline.proofs.Acts.{act_piece, acted}
 use Rattle.pli_headline.proofs.Entered.{atop}
-use Rattle.pli_headline.proofs.Statements.{owner_level, Enclosures, Block, AllHold, listed_of, counted_all, IsMarkedOnce, OutletOf, Outlets, OwnExit, HomeOf, Homes, Enough, Does}
+use Rattle.pli_headline.proofs.Statements.{owner_level, Enclosures, Block, IsFilled, AllHold, listed_of, counted_all, IsMarkedOnce, OutletOf, Outlets, OwnExit, HomeOf, Homes, Enough, Does}
 use Rattle.pli_headline.proofs.InnerFrames.{Inner, inner_levels, inner_ground, inner_own, inner_outers, inner_block}
 use Rattle.pli_headline.proofs.BeginFrames.{inner_begun, inner_frame}
 use Rattle.pli_headline.proofs.BeginEntered.{entered_activation, entered_services, ended_services, inner_ended, inner_entered, inner_left, inner_limited}
-use Rattle.pli_headline.proofs.BeginMeant.{Entering, inner_around, begin_part, inner_part, begin_meant, entered_state, entered_nested, entered_all, ended_input, left_all, begin_limited}
+use Rattle.pli_headline.proofs.BeginMeant.{Entering, inner_around, begin_part, inner_part, begin_meant, entered_state, entered_nested, entered_all, ended_input, left_all, begin_limited, Outside}
 use Rattle.pli_headline.proofs.Reach.{Family, Aims, Comes, Closed, before_closed, comes_on, onward}
 use Rattle.pli_headline.proofs.Scalars.{Values}
 
@@ -101,7 +102,7 @@ by_test false other same = other refl
 pub inner_room : (free words level : ℕ) → level < 100 → free + 4 * words + 700 ≤ 14 * 2 ^ 20 → free + temporary_bytes words + fixed_size (suc level) 0 + 4 ≤ 14 * 2 ^ 20
 inner_room free words level few room = omega (arith, few, room)
 
-abbrev pub inner_of : {e : Environment} {block : ℕ} {types : Types} (bl : Block e block types) (words : ℕ) → e.level < 100 → bl.stack.free + 4 * words + 700 ≤ 14 * 2 ^ 20 → Inner bl
+abbrev pub inner_of : {e : Environment} {block : Names} {types : Types} (bl : Block e block types) (words : ℕ) → e.level < 100 → bl.stack.free + 4 * words + 700 ≤ 14 * 2 ^ 20 → Inner bl
 inner_of {e} bl words few room =
     record { words = words; at = bl.stack.free + temporary_bytes words; place = refl; room = inner_room bl.stack.free words e.level few room }
 
@@ -113,8 +114,8 @@ abbrev ended_return : (ℕ → Family → Services → Option BasicValue → Sta
 ended_return returned i f v x s = returned i f v x (with_world s.world (newest_ended s))
 
 -- to a label of the block in which it stands
-own_outlet : {e : Environment} {block : ℕ} {types : Types} (bl : Block e block types) (inner : Inner bl) (number level : ℕ) (next : level ≡ suc e.level) {links : Links} {k turns i : ℕ} {h : ℕ → ℕ} (t : ℕ → ℕ) {acts acts' : ℕ} {jumped : ℕ → Family → Services → ℕ → Label → State → Type 0} {returned : ℕ → Family → Services → Option BasicValue → State → Type 0} → Enough bl links k turns i h t acts jumped returned → (label : Label) → is_among label bl.labels ≡ true → IsMarkedOnce links e.block label → acts ≤ acts' → OutletOf (atop inner.at S.BeginBlock bl.frames) (inner_own bl inner t number level next) block types links k acts' (ended_jump jumped) label
-own_outlet {e} {block} {types} bl inner number level next {k = k} {h = h} t ready label among once less =
+own_outlet : {e : Environment} {block : Names} {types : Types} (bl : Block e block types) (inner : Inner bl) (number level : ℕ) (next : level ≡ suc e.level) (filled : IsFilled bl) {links : Links} {k turns i : ℕ} {h : ℕ → ℕ} (t : ℕ → ℕ) {acts acts' : ℕ} {jumped : ℕ → Family → Services → ℕ → Label → State → Type 0} {returned : ℕ → Family → Services → Option BasicValue → State → Type 0} → Enough bl links k turns i h t acts jumped returned → (label : Label) → is_among label bl.labels ≡ true → IsMarkedOnce links e.block label → acts ≤ acts' → OutletOf (atop inner.at S.BeginBlock bl.frames) (inner_own bl inner t number level next filled) bl.serials block types links k acts' (ended_jump jumped) label
+own_outlet {e} {block} {types} bl inner number level next filled {k = k} {h = h} t ready label among once less =
     let o = ready.jumps label among once in
     record {
       at = o.at;
@@ -129,7 +130,7 @@ own_outlet {e} {block} {types} bl inner number level next {k = k} {h = h} t read
           (omega (arith, less, acted')) at';
     }
 
-outer_outlets : {e : Environment} {block : ℕ} {types : Types} (bl : Block e block types) (inner : Inner bl) (t : ℕ → ℕ) (number level : ℕ) (next : level ≡ suc e.level) (links : Links) (k acts acts' : ℕ) (jumped : ℕ → Family → Services → ℕ → Label → State → Type 0) → acts ≤ acts' → (os : List OuterBlock) (cs : Enclosures e bl.ground bl.levels bl.frames.list (e.level ∷ bl.depths) os) → Outlets e bl.ground bl.levels bl.frames (e.level ∷ bl.depths) os cs block types links k acts jumped → Outlets (in_frame number level e) (inner_ground bl inner t) (inner_levels bl) (atop inner.at S.BeginBlock bl.frames) (level ∷ e.level ∷ bl.depths) os (inner_outers bl inner t number level next os cs) block types links k acts' (ended_jump jumped)
+outer_outlets : {e : Environment} {block : Names} {types : Types} (bl : Block e block types) (inner : Inner bl) (t : ℕ → ℕ) (number level : ℕ) (next : level ≡ suc e.level) (links : Links) (k acts acts' : ℕ) (jumped : ℕ → Family → Services → ℕ → Label → State → Type 0) → acts ≤ acts' → (os : List OuterBlock) (cs : Enclosures e bl.ground bl.levels bl.frames.list (e.level ∷ bl.depths) os) → Outlets e bl.ground bl.levels bl.frames (e.level ∷ bl.depths) os cs bl.serials block types links k acts jumped → Outlets (in_frame number level e) (inner_ground bl inner t) (inner_levels bl) (atop inner.at S.BeginBlock bl.frames) (level ∷ e.level ∷ bl.depths) os (inner_outers bl inner t number level next os cs) bl.serials block types links k acts' (ended_jump jumped)
 outer_outlets bl inner t number level next links k acts acts' jumped less [] cs outs = tt
 outer_outlets bl inner t number level next links k acts acts' jumped less (o ∷ os) cs outs = (
   λ label among once.
@@ -145,8 +146,8 @@ outer_outlets bl inner t number level next links k acts acts' jumped less (o ∷
 )
 
 -- a return goes on at the end of the block in which it stands, or further out
-own_home : {e : Environment} {block : ℕ} {types : Types} (bl : Block e block types) (inner : Inner bl) (number level : ℕ) (next : level ≡ suc e.level) {links : Links} {k : ℕ} (t : ℕ → ℕ) {returned : ℕ → Family → Services → Option BasicValue → State → Type 0} → OwnExit e block types bl.ground bl.frames bl.depths links k returned → HomeOf (atop inner.at S.BeginBlock bl.frames) (inner_own bl inner t number level next) block types links k (ended_return returned)
-own_home {e} {block} {types} bl inner number level next t o =
+own_home : {e : Environment} {block : Names} {types : Types} (bl : Block e block types) (inner : Inner bl) (number level : ℕ) (next : level ≡ suc e.level) (filled : IsFilled bl) {links : Links} {k : ℕ} (t : ℕ → ℕ) {returned : ℕ → Family → Services → Option BasicValue → State → Type 0} → OwnExit e block types bl.ground bl.frames bl.serials bl.depths links k returned → HomeOf (atop inner.at S.BeginBlock bl.frames) (inner_own bl inner t number level next filled) bl.serials block types links k (ended_return returned)
+own_home {e} {block} {types} bl inner number level next filled t o =
     record {
       at = o.at;
       place = o.place;
@@ -159,7 +160,7 @@ own_home {e} {block} {types} bl inner number level next t o =
           at';
     }
 
-outer_homes : {e : Environment} {block : ℕ} {types : Types} (bl : Block e block types) (inner : Inner bl) (t : ℕ → ℕ) (number level : ℕ) (next : level ≡ suc e.level) (links : Links) (k : ℕ) (returned : ℕ → Family → Services → Option BasicValue → State → Type 0) (os : List OuterBlock) (cs : Enclosures e bl.ground bl.levels bl.frames.list (e.level ∷ bl.depths) os) → Homes e bl.ground bl.levels bl.frames (e.level ∷ bl.depths) os cs block types links k returned → Homes (in_frame number level e) (inner_ground bl inner t) (inner_levels bl) (atop inner.at S.BeginBlock bl.frames) (level ∷ e.level ∷ bl.depths) os (inner_outers bl inner t number level next os cs) block types links k (ended_return returned)
+outer_homes : {e : Environment} {block : Names} {types : Types} (bl : Block e block types) (inner : Inner bl) (t : ℕ → ℕ) (number level : ℕ) (next : level ≡ suc e.level) (links : Links) (k : ℕ) (returned : ℕ → Family → Services → Option BasicValue → State → Type 0) (os : List OuterBlock) (cs : Enclosures e bl.ground bl.levels bl.frames.list (e.level ∷ bl.depths) os) → Homes e bl.ground bl.levels bl.frames (e.level ∷ bl.depths) os cs bl.serials block types links k returned → Homes (in_frame number level e) (inner_ground bl inner t) (inner_levels bl) (atop inner.at S.BeginBlock bl.frames) (level ∷ e.level ∷ bl.depths) os (inner_outers bl inner t number level next os cs) bl.serials block types links k (ended_return returned)
 outer_homes bl inner t number level next links k returned [] cs homes = tt
 outer_homes bl inner t number level next links k returned (o ∷ os) cs homes = (
   λ deep owned once.
@@ -175,9 +176,9 @@ outer_homes bl inner t number level next links k returned (o ∷ os) cs homes = 
 )
 
 -- behind its act
-inner_piece : {e : Environment} {block : ℕ} {types : Types} (bl : Block e block types) {links : Links} {code : List Instr} (around : Around) (more : ℕ) (head : Y.BlockHead) (body : Y.Stmts) (inner : Inner bl) → owner_level e.owner ≤ e.level → e.level < 100 → (next : head.level ≡ suc e.level) (sized : frame_end e.parts e.program head.number head.level ≡ fixed_size (suc e.level) 0) → head.kind ≡ Y.BeginBlock → head.line < 2 ^ 31 → variables_of_block e.program head.number ≡ [] → around.enter ≡ M.entered e.program (suc more) → ((t0 : ℕ → ℕ) → Does (inner_block bl inner t0 head.number head.level next sized) links code (suc more) (stmts_code (begin_environment head e) none_taken body) (M.list (inner_around e.program more head.line) body)) → {i : ℕ} {s : State} {v : Services} {h t : ℕ → ℕ} {aims : Aims (Unit {0})} (closed : Closed code aims) (n : Values) (f : Family) (k line : ℕ) → k < suc more + v.world.acts → 10 ≤ i → {turns0 i0 acts0 : ℕ} → Enough bl links k turns0 i0 h t acts0 aims.jumped aims.returned → acts0 ≤ v.world.acts → Linked links code i (inner_code e head inner.words body) → nat_lt (length s.activations) most_activations ≡ true → Serving k s v line → AllHold bl.frames v.activations (e.level ∷ bl.depths) s block types n → ((b : Base) → At b i (Known (bl.ground n) v h t nothing b) (f b)) → ((s' : State) (v' : Services) (line' : ℕ) (n' : Values) (h' : ℕ → ℕ) (f' : Family) → Serving k s' v' line' → AllHold bl.frames v'.activations (e.level ∷ bl.depths) s' block types n' → ((b : Base) → At b (i + size_of (inner_code e head inner.words body)) (Known (bl.ground n') v' h' t nothing b) (f' b)) → aims.done (i + size_of (inner_code e head inner.words body)) f' v' tt s') → Comes code i f v aims (begin_part around head body k s)
+inner_piece : {e : Environment} {block : Names} {types : Types} (bl : Block e block types) {links : Links} {code : List Instr} (around : Around) (more : ℕ) (head : Y.BlockHead) (body : Y.Stmts) (inner : Inner bl) → owner_level e.owner ≤ e.level → e.level < 100 → (next : head.level ≡ suc e.level) (filled : IsFilled bl) → head.kind ≡ Y.BeginBlock → head.line < 2 ^ 31 → variables_of_block e.program head.number ≡ [] → around.enter ≡ M.entered e.program (suc more) → ((t0 : ℕ → ℕ) → Does (inner_block bl inner t0 head.number head.level next filled) links code (suc more) (stmts_code (begin_environment head e) none_taken body) (M.list (inner_around e.program more head.line) body)) → {i : ℕ} {s : State} {v : Services} {h t : ℕ → ℕ} {aims : Aims (Unit {0})} (closed : Closed code aims) (n : Values) (f : Family) (k line : ℕ) → k < suc more + v.world.acts → 10 ≤ i → {turns0 i0 acts0 : ℕ} → Enough bl links k turns0 i0 h t acts0 aims.jumped aims.returned → acts0 ≤ v.world.acts → Linked links code i (inner_code e head inner.words body) → nat_lt (length s.activations) most_activations ≡ true → Serving k s v line → AllHold bl.frames bl.serials (storage v) (e.level ∷ bl.depths) s block types n → ((b : Base) → At b i (Known (bl.ground n) v h t nothing b) (f b)) → ((s' : State) (v' : Services) (line' : ℕ) (n' : Values) (h' : ℕ → ℕ) (f' : Family) → Serving k s' v' line' → AllHold bl.frames bl.serials (storage v') (e.level ∷ bl.depths) s' block types n' → ((b : Base) → At b (i + size_of (inner_code e head inner.words body)) (Known (bl.ground n') v' h' t nothing b) (f' b)) → aims.done (i + size_of (inner_code e head inner.words body)) f' v' tt s') → Comes code i f v aims (begin_part around head body k s)
 unfolding M.end_reached give ◌>>◌
-inner_piece {e} {block} {types} bl {links} {code} around more head body inner lower shallow next sized kind fits none enter does' {i} {s} {v} {h} {t} {aims} closed n f k line enough later {turns0} {i0} {acts0} ready less l few serving all at goal =
+inner_piece {e} {block} {types} bl {links} {code} around more head body inner lower shallow next filled kind fits none enter does' {i} {s} {v} {h} {t} {aims} closed n f k line enough later {turns0} {i0} {acts0} ready less l few serving all at goal =
     let program = e.program in
     let here = inner_around program more head.line in
     let c1 = inner_begun inner.words (suc e.level) in
@@ -201,6 +202,7 @@ inner_piece {e} {block} {types} bl {links} {code} around more head body inner lo
     let newest = newest_is s.activations v.activations (length bl.depths) serving.nested long in
     let parent = newest_height s.activations in
     let some : 0 < head.level = omega (arith, next) in
+    let outside : Outside head.level e.level block types = inr (next, λ j kind at. bl.lower j at) in
     let last : Option BasicValue → Meaning (Unit {0}) = λ u. give tt in
     let behind : Unit {0} → Meaning (Unit {0}) = λ u. M.end_reached here false in
     let part = inner_part program more head body in
@@ -226,10 +228,10 @@ inner_piece {e} {block} {types} bl {links} {code} around more head body inner lo
       nested = entered_nested head body s v.activations (entered_activation v inner.at) parent some (omega (arith, long)) (omega (arith, newest)) (omega (arith, newest, long)) (λ u. omega (arith, newest, long)) (record { kind = λ further. refl; units = tt }) serving.nested;
       waiting = refl;
     })
-    (entered_all head body s v.activations (entered_activation v inner.at) parent some (omega (arith, newest)) (omega (arith, newest, long)) (λ u. omega (arith, newest, long)) (record { kind = λ further. refl; units = tt }) refl serving.nested all)
+    (entered_all head body s (storage v) (entered_activation v inner.at) parent some (omega (arith, newest)) (omega (arith, newest, long)) (λ u. omega (arith, newest, long)) (record { kind = λ further. refl; units = tt }) refl outside serving.nested all)
     at2
     (λ s3 v3 line3 n3' h3 t3 f3 serving3 all3 stays3 at3.
-    let o = left_all s3 v3.activations serving3.nested all3 in
+    let o = left_all s3 (storage v3) serving3.nested outside (λ j kind at. bl.owners j at) all3 in
     let v4 = ended_services v3 o.newest o.rest in
     record {
       to =
@@ -257,8 +259,8 @@ inner_piece {e} {block} {types} bl {links} {code} around more head body inner lo
       enough = omega (arith, enough);
       later = omega (arith, later);
       jumps = λ label among once. let no : false ≡ true = among in absurd (cc no);
-      outs = (λ label among once. own_outlet bl inner head.number head.level next t ready label among once (omega (arith, less)), outer_outlets bl inner t head.number head.level next links k acts0 v.world.acts aims.jumped less bl.outer bl.enclosing ready.outs);
-      homes = (λ deep owned once. own_home bl inner head.number head.level next t (ready.own deep owned once), outer_homes bl inner t head.number head.level next links k aims.returned bl.outer bl.enclosing ready.homes);
+      outs = (λ label among once. own_outlet bl inner head.number head.level next filled t ready label among once (omega (arith, less)), outer_outlets bl inner t head.number head.level next links k acts0 v.world.acts aims.jumped less bl.outer bl.enclosing ready.outs);
+      homes = (λ deep owned once. own_home bl inner head.number head.level next filled t (ready.own deep owned once), outer_homes bl inner t head.number head.level next links k aims.returned bl.outer bl.enclosing ready.homes);
       own = λ deep owned once. let no : owner_level e.owner ≡ head.level = ap owner_level owned in absurd (omega (arith, no, lower, next));
       returns = λ number owned once.
           let o = ready.returns number owned once in
@@ -272,7 +274,7 @@ inner_piece {e} {block} {types} bl {links} {code} around more head body inner lo
     })))))))
 
 -- where too many blocks are entered the run ends
-limited_piece : {e : Environment} {block : ℕ} {types : Types} (bl : Block e block types) {links : Links} {code : List Instr} (head : Y.BlockHead) (words : ℕ) (body : Y.Stmts) (inner : Inner bl) → inner.words ≡ words → e.level < 100 → head.line < 2 ^ 31 → {X : Type 0} {i : ℕ} {s : State} {v : Services} {h t : ℕ → ℕ} {aims : Aims X} (closed : Closed code aims) (n : Values) (f : Family) (k line : ℕ) → 0 < i → Linked links code i (inner_code e head words body) → nat_lt (length s.activations) most_activations ≡ false → Serving k s v line → ((b : Base) → At b i (Known (bl.ground n) v h t nothing b) (f b)) → Comes code i f v aims (finish {R = X} (E.Limit L.Depth) k s)
+limited_piece : {e : Environment} {block : Names} {types : Types} (bl : Block e block types) {links : Links} {code : List Instr} (head : Y.BlockHead) (words : ℕ) (body : Y.Stmts) (inner : Inner bl) → inner.words ≡ words → e.level < 100 → head.line < 2 ^ 31 → {X : Type 0} {i : ℕ} {s : State} {v : Services} {h t : ℕ → ℕ} {aims : Aims X} (closed : Closed code aims) (n : Values) (f : Family) (k line : ℕ) → 0 < i → Linked links code i (inner_code e head words body) → nat_lt (length s.activations) most_activations ≡ false → Serving k s v line → ((b : Base) → At b i (Known (bl.ground n) v h t nothing b) (f b)) → Comes code i f v aims (finish {R = X} (E.Limit L.Depth) k s)
 limited_piece {e} bl {links} {code} head words body inner same shallow fits {i = i} {s = s} {v = v} {h = h} {t = t} {aims = aims} closed n f k line later l many serving at =
     let c1 = inner_begun inner.words (suc e.level) in
     let c2 = entered_without_texts 1 head.line in
@@ -288,9 +290,9 @@ limited_piece {e} bl {links} {code} head words body inner same shallow fits {i =
     (λ f1 at1.
     inner_limited bl inner n (i + size_of c1) f1 closed k head.line line fits (omega (arith, inside, size)) many' l2 serving at1)
 
-own_begin_does : {e : Environment} {block : ℕ} {types : Types} (bl : Block e block types) (links : Links) (code : List Instr) (around : Around) (more : ℕ) (head : Y.BlockHead) (body : Y.Stmts) (inner : Inner bl) → owner_level e.owner ≤ e.level → e.level < 100 → (next : head.level ≡ suc e.level) (sized : frame_end e.parts e.program head.number head.level ≡ fixed_size (suc e.level) 0) → head.kind ≡ Y.BeginBlock → head.line < 2 ^ 31 → variables_of_block e.program head.number ≡ [] → Entering e.program around more → ((more' : ℕ) → more ≡ suc more' → suc (length bl.depths) < most_activations → (t0 : ℕ → ℕ) → Does (inner_block bl inner t0 head.number head.level next sized) links code (suc more') (stmts_code (begin_environment head e) none_taken body) (M.list (inner_around e.program more' head.line) body)) → Does bl links code around.turns (act_code head.line ++ inner_code e head inner.words body) (M.statement around (Y.Begin (Y.BlockOf head body)))
+own_begin_does : {e : Environment} {block : Names} {types : Types} (bl : Block e block types) (links : Links) (code : List Instr) (around : Around) (more : ℕ) (head : Y.BlockHead) (body : Y.Stmts) (inner : Inner bl) → owner_level e.owner ≤ e.level → e.level < 100 → (next : head.level ≡ suc e.level) (filled : IsFilled bl) → head.kind ≡ Y.BeginBlock → head.line < 2 ^ 31 → variables_of_block e.program head.number ≡ [] → Entering e.program around more → ((more' : ℕ) → more ≡ suc more' → suc (length bl.depths) < most_activations → (t0 : ℕ → ℕ) → Does (inner_block bl inner t0 head.number head.level next filled) links code (suc more') (stmts_code (begin_environment head e) none_taken body) (M.list (inner_around e.program more' head.line) body)) → Does bl links code around.turns (act_code head.line ++ inner_code e head inner.words body) (M.statement around (Y.Begin (Y.BlockOf head body)))
 unfolding M.statement ◌>>◌
-own_begin_does {e} {block} {types} bl links code around zero head body inner lower shallow next sized kind fits none entering does' =
+own_begin_does {e} {block} {types} bl links code around zero head body inner lower shallow next filled kind fits none entering does' =
     record {
       does = λ {i} {s} {v} {h} {t} {aims} closed old n f k l serving all at goal more'.
           let next' : Unit {0} → Meaning (Unit {0}) = λ u. begin_part around head body in
@@ -299,7 +301,7 @@ own_begin_does {e} {block} {types} bl links code around zero head body inner low
           (λ f1 serving1 at1.
           absurd (let e1 = more'.enough in let e2 = entering.turns in let e3 = serving1.allowed in omega (arith, e1, e2, e3))));
     }
-own_begin_does {e} {block} {types} bl links code around (suc more) head body inner lower shallow next sized kind fits none entering does' =
+own_begin_does {e} {block} {types} bl links code around (suc more) head body inner lower shallow next filled kind fits none entering does' =
     record {
       does = λ {i} {s} {v} {h} {t} {aims} closed old n f k l serving all at goal more'.
           let a = act_code head.line in
@@ -322,7 +324,7 @@ own_begin_does {e} {block} {types} bl links code around (suc more) head body inn
           (limited_piece bl head inner.words body inner refl shallow fits (before_closed k last closed) n f1 k head.line (omega (arith, later)) (back_of a c l) many serving1 at1)))
           (λ few.
           let deep : suc (length bl.depths) < most_activations = (let below = ltb-true (length s.activations) most_activations few in let long = entered_length s.activations (e.level ∷ bl.depths) all.entered in omega (arith, below, long)) in
-          inner_piece bl around more head body inner lower shallow next sized kind fits none entering.enter (does' more refl deep) closed n f1 k head.line (omega (arith, e1, e2)) (omega (arith, later)) more' (omega arith) (back_of a c l) few serving1
+          inner_piece bl around more head body inner lower shallow next filled kind fits none entering.enter (does' more refl deep) closed n f1 k head.line (omega (arith, e1, e2)) (omega (arith, later)) more' (omega arith) (back_of a c l) few serving1
           (counted_all (counted s.world) all)
           at1
           (λ s4 v4 line4 n4 h4 f4 serving4 all4 at4.
@@ -333,7 +335,7 @@ own_begin_does {e} {block} {types} bl links code around (suc more) head body inn
           (λ b. record { pc = (at4 b).pc ∙ ap (address b) place; holds = (at4 b).holds }))))));
     }
 
-pub begin_does : {e : Environment} {block : ℕ} {types : Types} (bl : Block e block types) (links : Links) (code : List Instr) (around : Around) (more : ℕ) (head : Y.BlockHead) (body : Y.Stmts) (inner : Inner bl) → owner_level e.owner ≤ e.level → inner.words ≡ max 0 (stmts_words body) → e.level < 100 → (next : head.level ≡ suc e.level) (sized : frame_end e.parts e.program head.number head.level ≡ fixed_size (suc e.level) 0) → head.kind ≡ Y.BeginBlock → head.line < 2 ^ 31 → variables_of_block e.program head.number ≡ [] → Entering e.program around more → ((more' : ℕ) → more ≡ suc more' → suc (length bl.depths) < most_activations → (t0 : ℕ → ℕ) → Does (inner_block bl inner t0 head.number head.level next sized) links code (suc more') (stmts_code (begin_environment head e) none_taken body) (M.list (inner_around e.program more' head.line) body)) → Does bl links code around.turns (stmt_code e bl.taken (Y.Begin (Y.BlockOf head body))) (M.statement around (Y.Begin (Y.BlockOf head body)))
-begin_does {e} bl links code around more head body inner lower same shallow next sized kind fits none entering does' =
+pub begin_does : {e : Environment} {block : Names} {types : Types} (bl : Block e block types) (links : Links) (code : List Instr) (around : Around) (more : ℕ) (head : Y.BlockHead) (body : Y.Stmts) (inner : Inner bl) → owner_level e.owner ≤ e.level → inner.words ≡ max 0 (stmts_words body) → e.level < 100 → (next : head.level ≡ suc e.level) (filled : IsFilled bl) → head.kind ≡ Y.BeginBlock → head.line < 2 ^ 31 → variables_of_block e.program head.number ≡ [] → Entering e.program around more → ((more' : ℕ) → more ≡ suc more' → suc (length bl.depths) < most_activations → (t0 : ℕ → ℕ) → Does (inner_block bl inner t0 head.number head.level next filled) links code (suc more') (stmts_code (begin_environment head e) none_taken body) (M.list (inner_around e.program more' head.line) body)) → Does bl links code around.turns (stmt_code e bl.taken (Y.Begin (Y.BlockOf head body))) (M.statement around (Y.Begin (Y.BlockOf head body)))
+begin_does {e} bl links code around more head body inner lower same shallow next filled kind fits none entering does' =
     subst (λ c. Does bl links code around.turns (act_code head.line ++ c) (M.statement around (Y.Begin (Y.BlockOf head body)))) (ap (λ w. inner_code e head w body) same ∙ sym (inner_code_is e head body next none))
-    (own_begin_does bl links code around more head body inner lower shallow next sized kind fits none entering does')
+    (own_begin_does bl links code around more head body inner lower shallow next filled kind fits none entering does')

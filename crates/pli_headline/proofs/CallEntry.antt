@@ -14,7 +14,7 @@ use Rattle.pli_coding.specs.Frames.{display}
 use Rattle.pli_coding.specs.Environments.{Environment}
 use Rattle.pli_coding.specs.Expressions.{frame_given}
 use Rattle.pli_coding.specs.Linking.{Links, place_of}
-use Rattle.pli_headline.specs.ProvedSoFar.{Types}
+use Rattle.pli_headline.specs.ProvedSoFar.{Names, Types}
 use Rattle.pli_headline.proofs.Engine.{Base, address, most_code}
 use Rattle.pli_headline.proofs.Linking.{size_append}
 use Rattle.pli_headline.proofs.Items.{Linked, At, straight}
@@ -34,7 +34,7 @@ base_kept b base x within e = let v = b.valid.1 in omega (arith, v, within, e)
 abbrev given_by : Bool → Code
 given_by q = cond q [] (load_word a0 frame_register (display 0)) ++ move a0 (cond q frame_register a0) ∷ []
 
-given_piece : (q : Bool) {links : Links} {code : List Instr} {i : ℕ} {g : Ground} {v : Services} {h t : ℕ → ℕ} (c : ℕ) (f : Family) (base : ℕ) → Reaches q g base → base < memory_size → Linked links code i (given_by q) → ((b : Base) → At b i (Known g v h t without_texts b) (f b)) → Reach code c f v (c + size_of (given_by q)) v (λ b w. At b (i + size_of (given_by q)) (Known g v h t (with' 10 (λ b'. b'.at + base) without_texts) b) w)
+given_piece : (q : Bool) {links : Links} {code : List Instr} {i : ℕ} {g : Ground} {v : Services} {h t : ℕ → ℕ} (c : ℕ) (f : Family) (base : ℕ) → Reaches q 0 g base → base < memory_size → Linked links code i (given_by q) → ((b : Base) → At b i (Known g v h t without_texts b) (f b)) → Reach code c f v (c + size_of (given_by q)) v (λ b w. At b (i + size_of (given_by q)) (Known g v h t (with' 10 (λ b'. b'.at + base) without_texts) b) w)
 given_piece true {g = g} {v = v} {h = h} {t = t} c f base reaches within l there =
     straight c f v v (λ b. Known g v h t (with' 10 (λ b'. b'.at + base) without_texts) b) l (omega arith) (λ b. (there b).pc)
     (λ b.
@@ -66,7 +66,7 @@ call_of e list procedure =
 abbrev pub call_back : (i : ℕ) → Environment → (list : ℤ) → (procedure : ℕ) → ℕ
 call_back i e list procedure = i + size_of (call_of e list procedure)
 
-pub call_entry : {e : Environment} {block : ℕ} {types : Types} (bl : Block e block types) (n : Values) {links : Links} {code : List Instr} {i : ℕ} {v : Services} {h t : ℕ → ℕ} (c c' : ℕ) (f : Family) (list : ℤ) (procedure entry : ℕ) → word list < 2 ^ 32 → place_of links (ProcedureEntry procedure) ≡ 4 * entry → entry ≤ most_code → c + size_of (call_of e list procedure) ≤ c' → Linked links code i (call_of e list procedure) → ((b : Base) → At b i (Known (bl.ground n) v h t nothing b) (f b)) → Reach code c f v c' v (λ b w. At b entry (Known (bl.ground n) v h t (entry_regs bl.base (λ b'. address b' (call_back i e list procedure))) b) w)
+pub call_entry : {e : Environment} {block : Names} {types : Types} (bl : Block e block types) (n : Values) {links : Links} {code : List Instr} {i : ℕ} {v : Services} {h t : ℕ → ℕ} (c c' : ℕ) (f : Family) (list : ℤ) (procedure entry : ℕ) → word list < 2 ^ 32 → place_of links (ProcedureEntry procedure) ≡ 4 * entry → entry ≤ most_code → c + size_of (call_of e list procedure) ≤ c' → Linked links code i (call_of e list procedure) → ((b : Base) → At b i (Known (bl.ground n) v h t nothing b) (f b)) → Reach code c f v c' v (λ b w. At b entry (Known (bl.ground n) v h t (entry_regs bl.base (λ b'. address b' (call_back i e list procedure))) b) w)
 call_entry {e} bl n {links} {code} {i} {v} {h} {t} c c' f list procedure entry fits placed near paid l there =
     let g = bl.ground n in
     let list_code = plus a1 frame_register list in

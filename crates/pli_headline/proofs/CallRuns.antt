@@ -1,6 +1,6 @@
 -- A call of a procedure inside the main one: up to its end and back, once its statements do what they mean, or up to the limit on active
 -- blocks.
-use Rattle.std.proofs.Common.{◌≡◌, ℕ, zero, suc, ◌+◌, ◌*◌, ◌^◌, ◌<◌, ◌≤◌, List, [], ◌∷◌, ◌++◌, length, None, Option, Some, Bool, true, false, refl, sym, ap, ◌∙◌, subst, arith}
+use Rattle.std.proofs.Common.{◌≡◌, ℕ, zero, suc, ◌+◌, ◌*◌, ◌^◌, ◌<◌, ◌≤◌, List, [], ◌∷◌, ◌++◌, inl, length, None, Option, Some, Bool, true, false, refl, sym, ap, ◌∙◌, subst, arith}
 use Rattle.std.proofs.lemmas.Bool.{eq-eqb, ltb-true}
 use Rattle.std.proofs.lemmas.Bool.Decides.{nat_tests}
 use Rattle.std.specs.Prelude.{ℤ, pos, cond, max, ◌==◌, nat_lt}
@@ -23,7 +23,7 @@ use Rattle.pli_serving.specs.ServiceState.{Services}
 use Rattle.pli_coding.specs.Registers.{zero_register, return_register, frame_register, a0, a1, a2, a3, u5, a7}
 use Rattle.pli_coding.specs.Assembly.{ProcedureEntry, ReturnPlace, Plain, CallTo, Mark, Code, size_of}
 use Rattle.pli_coding.specs.Instructions.{move, plus, number, load_word, is_immediate, small}
-use Rattle.pli_coding.specs.Frames.{display, own_offset, fixed_size, frame_end}
+use Rattle.pli_coding.specs.Frames.{display, own_offset, fixed_size}
 use Rattle.pli_coding.specs.Allocating.{act_code}
 use Rattle.pli_coding.specs.Entries.{all_restored, frame_begun, frame_ended, block_entered, block_left, variables_made, variables_words}
 use Rattle.pli_coding.specs.Environments.{Environment, none_taken}
@@ -31,7 +31,8 @@ use Rattle.pli_coding.specs.Expressions.{frame_given}
 use Rattle.pli_coding.specs.Statements.{stmts_words, stmts_code}
 use Rattle.pli_coding.specs.Procedures.{procedure_environment, procedure_in}
 use Rattle.pli_coding.specs.Linking.{Links, place_of}
-use Rattle.pli_headline.specs.ProvedSoFar.{Types}
+use Rattle.pli_headline.specs.ProvedSoFar.{Names, Types}
+use Rattle.pli_headline.proofs.Storages.{storage}
 use Rattle.pli_headline.proofs.Engine.{Base, address, most_code}
 use Rattle.pli_headline.proofs.Linking.{size_append}
 use Rattle.pli_headline.proofs.Items.{Linked, At}
@@ -114,7 +115,7 @@ call_size e list procedure =
     by_level false = omega arith
 
 -- called from the main procedure's own block, it is inside the newest one
-pub called_direct : {e : Environment} {block : ℕ} {types : Types} (bl : Block e block types) (level : ℕ) (levels : List ℕ) (count : ℕ) → levels ≡ e.level ∷ bl.depths → count ≡ suc (length bl.depths) → level ≡ 1 → level ≡ suc (first_level levels) → 1 ≡ count
+pub called_direct : {e : Environment} {block : Names} {types : Types} (bl : Block e block types) (level : ℕ) (levels : List ℕ) (count : ℕ) → levels ≡ e.level ∷ bl.depths → count ≡ suc (length bl.depths) → level ≡ 1 → level ≡ suc (first_level levels) → 1 ≡ count
 called_direct {e} bl level levels count entered long next inside =
     let top : first_level levels ≡ e.level = ap first_level entered in
     let lowest : (0 == e.level) ≡ true = grind (arith, nat_tests) in
@@ -124,9 +125,9 @@ called_direct {e} bl level levels count entered long next inside =
 -- ---- behind the statements of the procedure
 
 -- it is left, and the caller goes on with the credits of its place
-leave_piece : {e : Environment} {block : ℕ} {types : Types} (bl : Block e block types) {links : Links} {code : List Instr} {level : ℕ} (callee : Callee bl) (k i resume : ℕ) (h t : ℕ → ℕ) {aims : Aims (Unit {0})} (closed : Closed code aims) → resume ≤ most_code → i + 3 + size_of all_restored + size_of (frame_ended callee.words) + 1 ≤ resume + length code → Linked links code i (called_ended callee.words) → ((s' : State) (v' : Services) (line' : ℕ) (n' : Values) (h' : ℕ → ℕ) (f' : Family) → Serving k s' v' line' → AllHold bl.frames v'.activations (e.level ∷ bl.depths) s' block types n' → ((b : Base) → At b resume (Known (bl.ground n') v' h' t nothing b) (f' b)) → aims.done resume f' v' tt s') → (s : State) (v : Services) (line : ℕ) (n : Values) (h1 t1 : ℕ → ℕ) (f : Family) (free : ℕ) → Serving k s v line → AllHold (atop callee.at S.ProcedureBlock bl.frames) v.activations (level ∷ e.level ∷ bl.depths) s block types n → ((b : Base) → At b i (Known (ending_ground bl callee (λ b'. address b' resume) h t n free) v h1 t1 nothing b) (f b)) → (owing code (length code) aims).done i f v tt (with_world s.world (newest_ended s))
+leave_piece : {e : Environment} {block : Names} {types : Types} (bl : Block e block types) {links : Links} {code : List Instr} {level : ℕ} (callee : Callee bl) (k i resume : ℕ) (h t : ℕ → ℕ) {aims : Aims (Unit {0})} (closed : Closed code aims) → resume ≤ most_code → i + 3 + size_of all_restored + size_of (frame_ended callee.words) + 1 ≤ resume + length code → Linked links code i (called_ended callee.words) → ((s' : State) (v' : Services) (line' : ℕ) (n' : Values) (h' : ℕ → ℕ) (f' : Family) → Serving k s' v' line' → AllHold bl.frames bl.serials (storage v') (e.level ∷ bl.depths) s' block types n' → ((b : Base) → At b resume (Known (bl.ground n') v' h' t nothing b) (f' b)) → aims.done resume f' v' tt s') → (s : State) (v : Services) (line : ℕ) (n : Values) (h1 t1 : ℕ → ℕ) (f : Family) (free : ℕ) → Serving k s v line → AllHold (atop callee.at S.ProcedureBlock bl.frames) bl.serials (storage v) (level ∷ e.level ∷ bl.depths) s block types n → ((b : Base) → At b i (Known (ending_ground bl callee (λ b'. address b' resume) h t n free) v h1 t1 nothing b) (f b)) → (owing code (length code) aims).done i f v tt (with_world s.world (newest_ended s))
 leave_piece {e} {block} {types} bl {code = code} callee k i resume h t closed near few l goal s v line n h1 t1 f free serving all at =
-    let o = left_all s v.activations serving.nested all in
+    let o = left_all s (storage v) serving.nested (inl callee.outer) (λ j kind at. bl.owners j at) all in
     let v' = ended_services v o.newest o.rest in
     let s' = with_world s.world (newest_ended s) in
     done_owing closed (length code) resume few (called_left bl callee resume n free i f o.newest o.rest near o.are l at) tt s'
@@ -146,9 +147,9 @@ leave_piece {e} {block} {types} bl {code = code} callee k i resume h t closed ne
 
 -- ---- behind its act
 
-call_piece : {e : Environment} {block : ℕ} {types : Types} (bl : Block e block types) {links : Links} {code : List Instr} (around : Around) (more : ℕ) (head : Y.BlockHead) (body : Y.Stmts) (callee : Callee bl) (stands : StandsAt links code e head callee.words body) (list : ℤ) → (next : head.level ≡ 1) (sized : frame_end e.parts e.program head.number head.level ≡ fixed_size 1 0) (main : ℕ) (mains : List Label) (has : HasMain main mains e.level e.block bl.labels bl.outer) → head.kind ≡ Y.ProcedureBlock → head.line < 2 ^ 31 → variables_of_block e.program head.number ≡ [] → around.program ≡ e.program → around.enter ≡ M.entered e.program (suc more) → procedure_numbered head.number e.program.procedures ≡ Some (plain_procedure head body) → word list < 2 ^ 32 → ((back : Base → ℕ) (h0 t0 : ℕ → ℕ) → Does (called_block bl callee back h0 t0 head next sized (main_of main mains) (main_enclosing bl callee back h0 t0 (procedure_owner head) head next main mains has)) links code (suc more) (stmts_code (procedure_environment head e) none_taken body) (M.list (inner_around e.program more head.line) body)) → {i : ℕ} {s : State} {v : Services} {h t : ℕ → ℕ} {aims : Aims (Unit {0})} (closed : Closed code aims) (n : Values) (f : Family) (k line : ℕ) → k < suc more + v.world.acts → (turns0 i0 acts0 : ℕ) → Enough bl links k turns0 i0 h t acts0 aims.jumped aims.returned → acts0 ≤ v.world.acts → Linked links code i (call_of e list head.number) → nat_lt (length s.activations) most_activations ≡ true → Serving k s v line → AllHold bl.frames v.activations (e.level ∷ bl.depths) s block types n → ((b : Base) → At b i (Known (bl.ground n) v h t nothing b) (f b)) → ((s' : State) (v' : Services) (line' : ℕ) (n' : Values) (h' : ℕ → ℕ) (f' : Family) → Serving k s' v' line' → AllHold bl.frames v'.activations (e.level ∷ bl.depths) s' block types n' → ((b : Base) → At b (call_back i e list head.number) (Known (bl.ground n') v' h' t nothing b) (f' b)) → aims.done (call_back i e list head.number) f' v' tt s') → Comes code 0 f v (owing code (length code) aims) (call_part around head.number k s)
+call_piece : {e : Environment} {block : Names} {types : Types} (bl : Block e block types) {links : Links} {code : List Instr} (around : Around) (more : ℕ) (head : Y.BlockHead) (body : Y.Stmts) (callee : Callee bl) (stands : StandsAt links code e head callee.words body) (list : ℤ) → (next : head.level ≡ 1) (main : ℕ) (mains : List Label) (has : HasMain main mains e.level e.block bl.labels bl.outer) → head.kind ≡ Y.ProcedureBlock → head.line < 2 ^ 31 → variables_of_block e.program head.number ≡ [] → around.program ≡ e.program → around.enter ≡ M.entered e.program (suc more) → procedure_numbered head.number e.program.procedures ≡ Some (plain_procedure head body) → word list < 2 ^ 32 → ((back : Base → ℕ) (h0 t0 : ℕ → ℕ) → Does (called_block bl callee back h0 t0 head next (main_of main mains) (main_enclosing bl callee back h0 t0 (procedure_owner head) head next main mains has)) links code (suc more) (stmts_code (procedure_environment head e) none_taken body) (M.list (inner_around e.program more head.line) body)) → {i : ℕ} {s : State} {v : Services} {h t : ℕ → ℕ} {aims : Aims (Unit {0})} (closed : Closed code aims) (n : Values) (f : Family) (k line : ℕ) → k < suc more + v.world.acts → (turns0 i0 acts0 : ℕ) → Enough bl links k turns0 i0 h t acts0 aims.jumped aims.returned → acts0 ≤ v.world.acts → Linked links code i (call_of e list head.number) → nat_lt (length s.activations) most_activations ≡ true → Serving k s v line → AllHold bl.frames bl.serials (storage v) (e.level ∷ bl.depths) s block types n → ((b : Base) → At b i (Known (bl.ground n) v h t nothing b) (f b)) → ((s' : State) (v' : Services) (line' : ℕ) (n' : Values) (h' : ℕ → ℕ) (f' : Family) → Serving k s' v' line' → AllHold bl.frames bl.serials (storage v') (e.level ∷ bl.depths) s' block types n' → ((b : Base) → At b (call_back i e list head.number) (Known (bl.ground n') v' h' t nothing b) (f' b)) → aims.done (call_back i e list head.number) f' v' tt s') → Comes code 0 f v (owing code (length code) aims) (call_part around head.number k s)
 unfolding M.end_reached give ◌>>◌
-call_piece {e} {block} {types} bl {links} {code} around more head body callee stands list next sized main mains has kind fits none same enter found short does' {i} {s} {v} {h} {t} {aims} closed n f k line enough turns0 start0 acts0 ready less l few serving all at goal =
+call_piece {e} {block} {types} bl {links} {code} around more head body callee stands list next main mains has kind fits none same enter found short does' {i} {s} {v} {h} {t} {aims} closed n f k line enough turns0 start0 acts0 ready less l few serving all at goal =
     let program = e.program in
     let here = inner_around program more head.line in
     let debt = length code in
@@ -228,7 +229,7 @@ call_piece {e} {block} {types} bl {links} {code} around more head body callee st
     let v3 = acted head.line v2 in
     comes_on k (M.list here body k s3) behind'
     ((does' back h t).does (before_closed k behind' closed1) head.line n f4 k (front_of st en ls) serving4
-    (counted_all (counted s2.world) (entered_all head body s v.activations (called_activation v callee.at) 1 some (omega arith) (omega (arith, long)) direct (record { kind = λ further. refl; units = tt }) refl serving.nested all))
+    (counted_all (counted s2.world) (entered_all head body s (storage v) (called_activation v callee.at) 1 some (omega arith) (omega (arith, long)) direct (record { kind = λ further. refl; units = tt }) refl (inl callee.outer) serving.nested all))
     at4
     (λ s5 v5 line5 n5 h5 t5 f5 serving5 all5 stays5 at5. record { to = record { to = leave s5 v5 line5 n5 h5 t5 f5 (callee.at + fixed_size 1 0) serving5 all5 at5 } })
     (record {
@@ -248,7 +249,7 @@ call_piece {e} {block} {types} bl {links} {code} around more head body callee st
     }))))))))))
 
 -- where too many blocks are entered the run ends
-limited_call : {e : Environment} {block : ℕ} {types : Types} (bl : Block e block types) {links : Links} {code : List Instr} (around : Around) (more : ℕ) (head : Y.BlockHead) (body : Y.Stmts) (callee : Callee bl) (stands : StandsAt links code e head callee.words body) (list : ℤ) → head.line < 2 ^ 31 → around.program ≡ e.program → around.enter ≡ M.entered e.program (suc more) → procedure_numbered head.number e.program.procedures ≡ Some (plain_procedure head body) → word list < 2 ^ 32 → {i : ℕ} {s : State} {v : Services} {h t : ℕ → ℕ} {aims : Aims (Unit {0})} (closed : Closed code aims) (n : Values) (f : Family) (k line : ℕ) → Linked links code i (call_of e list head.number) → nat_lt (length s.activations) most_activations ≡ false → Serving k s v line → ((b : Base) → At b i (Known (bl.ground n) v h t nothing b) (f b)) → Comes code 0 f v (owing code (length code) aims) (call_part around head.number k s)
+limited_call : {e : Environment} {block : Names} {types : Types} (bl : Block e block types) {links : Links} {code : List Instr} (around : Around) (more : ℕ) (head : Y.BlockHead) (body : Y.Stmts) (callee : Callee bl) (stands : StandsAt links code e head callee.words body) (list : ℤ) → head.line < 2 ^ 31 → around.program ≡ e.program → around.enter ≡ M.entered e.program (suc more) → procedure_numbered head.number e.program.procedures ≡ Some (plain_procedure head body) → word list < 2 ^ 32 → {i : ℕ} {s : State} {v : Services} {h t : ℕ → ℕ} {aims : Aims (Unit {0})} (closed : Closed code aims) (n : Values) (f : Family) (k line : ℕ) → Linked links code i (call_of e list head.number) → nat_lt (length s.activations) most_activations ≡ false → Serving k s v line → ((b : Base) → At b i (Known (bl.ground n) v h t nothing b) (f b)) → Comes code 0 f v (owing code (length code) aims) (call_part around head.number k s)
 limited_call {e} bl {code = code} around more head body callee stands list fits same enter found short {i} {s} {v} {h} {t} {aims} closed n f k line l many serving at =
     let debt = length code in
     let resume = call_back i e list head.number in
@@ -283,9 +284,9 @@ limited_call {e} bl {code = code} around more head body callee stands list fits 
 
 -- ---- the statement
 
-pub own_call_does : {e : Environment} {block : ℕ} {types : Types} (bl : Block e block types) (links : Links) (code : List Instr) (around : Around) (more : ℕ) (head : Y.BlockHead) (body : Y.Stmts) (callee : Callee bl) (stands : StandsAt links code e head callee.words body) (list : ℤ) (line : ℕ) → (next : head.level ≡ 1) (sized : frame_end e.parts e.program head.number head.level ≡ fixed_size 1 0) (main : ℕ) (mains : List Label) (has : HasMain main mains e.level e.block bl.labels bl.outer) → head.kind ≡ Y.ProcedureBlock → head.line < 2 ^ 31 → variables_of_block e.program head.number ≡ [] → around.program ≡ e.program → Entering e.program around more → procedure_numbered head.number e.program.procedures ≡ Some (plain_procedure head body) → word list < 2 ^ 32 → line < 2 ^ 31 → ((more' : ℕ) → more ≡ suc more' → suc (length bl.depths) < most_activations → (back : Base → ℕ) (h0 t0 : ℕ → ℕ) → Does (called_block bl callee back h0 t0 head next sized (main_of main mains) (main_enclosing bl callee back h0 t0 (procedure_owner head) head next main mains has)) links code (suc more') (stmts_code (procedure_environment head e) none_taken body) (M.list (inner_around e.program more' head.line) body)) → Does bl links code around.turns (act_code line ++ call_of e list head.number) (M.statement around (Y.CallProcedure (Y.Calling head.number 0 Y.NoArgument) line))
+pub own_call_does : {e : Environment} {block : Names} {types : Types} (bl : Block e block types) (links : Links) (code : List Instr) (around : Around) (more : ℕ) (head : Y.BlockHead) (body : Y.Stmts) (callee : Callee bl) (stands : StandsAt links code e head callee.words body) (list : ℤ) (line : ℕ) → (next : head.level ≡ 1) (main : ℕ) (mains : List Label) (has : HasMain main mains e.level e.block bl.labels bl.outer) → head.kind ≡ Y.ProcedureBlock → head.line < 2 ^ 31 → variables_of_block e.program head.number ≡ [] → around.program ≡ e.program → Entering e.program around more → procedure_numbered head.number e.program.procedures ≡ Some (plain_procedure head body) → word list < 2 ^ 32 → line < 2 ^ 31 → ((more' : ℕ) → more ≡ suc more' → suc (length bl.depths) < most_activations → (back : Base → ℕ) (h0 t0 : ℕ → ℕ) → Does (called_block bl callee back h0 t0 head next (main_of main mains) (main_enclosing bl callee back h0 t0 (procedure_owner head) head next main mains has)) links code (suc more') (stmts_code (procedure_environment head e) none_taken body) (M.list (inner_around e.program more' head.line) body)) → Does bl links code around.turns (act_code line ++ call_of e list head.number) (M.statement around (Y.CallProcedure (Y.Calling head.number 0 Y.NoArgument) line))
 unfolding M.statement ◌>>◌
-own_call_does {e} {block} {types} bl links code around zero head body callee stands list line next sized main mains has kind fits none same entering found short low does' =
+own_call_does {e} {block} {types} bl links code around zero head body callee stands list line next main mains has kind fits none same entering found short low does' =
     record {
       does = λ {i} {s} {v} {h} {t} {aims} closed old n f k l serving all at goal more'.
           let next' : Unit {0} → Meaning (Unit {0}) = λ u. call_part (at_line around line) head.number in
@@ -294,7 +295,7 @@ own_call_does {e} {block} {types} bl links code around zero head body callee sta
           (λ f1 serving1 at1.
           absurd (let e1 = more'.enough in let e2 = entering.turns in let e3 = serving1.allowed in omega (arith, e1, e2, e3))));
     }
-own_call_does {e} {block} {types} bl links code around (suc more) head body callee stands list line next sized main mains has kind fits none same entering found short low does' =
+own_call_does {e} {block} {types} bl links code around (suc more) head body callee stands list line next main mains has kind fits none same entering found short low does' =
     record {
       does = λ {i} {s} {v} {h} {t} {aims} closed old n f k l serving all at goal more'.
           let a = act_code line in
@@ -314,7 +315,7 @@ own_call_does {e} {block} {types} bl links code around (suc more) head body call
           (λ many. limited_call bl (at_line around line) more head body callee stands list fits same entering.enter found short closed n f1 k line (back_of a c l) many serving1 at1)
           (λ few.
           let deep : suc (length bl.depths) < most_activations = (let below = ltb-true (length s.activations) most_activations few in let long = entered_length s.activations (e.level ∷ bl.depths) all.entered in omega (arith, below, long)) in
-          call_piece bl (at_line around line) more head body callee stands list next sized main mains has kind fits none same entering.enter found short (does' more refl deep) closed n f1 k line (omega (arith, e1, e2)) around.turns i v.world.acts more' (omega arith) (back_of a c l) few serving1
+          call_piece bl (at_line around line) more head body callee stands list next main mains has kind fits none same entering.enter found short (does' more refl deep) closed n f1 k line (omega (arith, e1, e2)) around.turns i v.world.acts more' (omega arith) (back_of a c l) few serving1
           (counted_all (counted s.world) all)
           at1
           (λ s4 v4 line4 n4 h4 f4 serving4 all4 at4.

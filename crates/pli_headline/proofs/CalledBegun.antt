@@ -17,7 +17,7 @@ use Rattle.pli_coding.specs.Entries.{all_saved, frame_begun}
 use Rattle.pli_coding.specs.Environments.{Environment}
 use Rattle.pli_coding.specs.Linking.{Links}
 use Rattle.image_runs.specs.Runs.{Whole}
-use Rattle.pli_headline.specs.ProvedSoFar.{Types}
+use Rattle.pli_headline.specs.ProvedSoFar.{Names, Types}
 use Rattle.pli_headline.proofs.Engine.{Base, most_code}
 use Rattle.pli_headline.proofs.Linking.{size_append}
 use Rattle.pli_headline.proofs.Items.{Linked, At, Items, straight}
@@ -42,7 +42,7 @@ abbrev pub without_texts : Base → List (ℕ × ℕ)
 without_texts = with_texts 0
 
 -- the frame's register is set, but the stack's isn't yet
-abbrev filled_ground : {e : Environment} {block : ℕ} {types : Types} (bl : Block e block types) → Callee bl → (back : Base → ℕ) → (h0 t0 : ℕ → ℕ) → Values → Ground
+abbrev filled_ground : {e : Environment} {block : Names} {types : Types} (bl : Block e block types) → Callee bl → (back : Base → ℕ) → (h0 t0 : ℕ → ℕ) → Values → Ground
 filled_ground bl callee back h0 t0 n =
     record {
       frame = callee.at;
@@ -63,7 +63,7 @@ filled_code =
 only_level : (m : List ℕ) (at x j : ℕ) → j < 1 → load 4 m (at + 144) ≡ x → load 4 m (at + (144 + 4 * j)) ≡ x
 only_level m at x j few e = ap (λ u. load 4 m u) (omega (arith, few)) ∙ e
 
-filled_path : {e : Environment} {block : ℕ} {types : Types} (bl : Block e block types) (callee : Callee bl) (back : Base → ℕ) (texts : ℕ) (n : Values) (links : Links) (code : List Instr) (i : ℕ) (v : Services) (h t0 : ℕ → ℕ) (b : Base) (w : Whole) → 0 < i → length code ≤ most_code → Known (saved_ground (bl.ground n) callee.at back h 7) v h t0 (called_regs callee.at bl.base texts back) b w → Items links code b i filled_code w (Known (filled_ground bl callee back h t0 n) v h unknown (with_texts texts) b)
+filled_path : {e : Environment} {block : Names} {types : Types} (bl : Block e block types) (callee : Callee bl) (back : Base → ℕ) (texts : ℕ) (n : Values) (links : Links) (code : List Instr) (i : ℕ) (v : Services) (h t0 : ℕ → ℕ) (b : Base) (w : Whole) → 0 < i → length code ≤ most_code → Known (saved_ground (bl.ground n) callee.at back h 7) v h t0 (called_regs callee.at bl.base texts back) b w → Items links code b i filled_code w (Known (filled_ground bl callee back h t0 n) v h unknown (with_texts texts) b)
 filled_path bl callee back texts n links code i v h t0 b w later small' k =
     let g = bl.ground n in
     let x = w.machine.registers in
@@ -92,7 +92,7 @@ filled_path bl callee back texts n links code i v h t0 b w later small' k =
     let len : length m3 ≡ length m = length-store 4 m2 (at + 144) (x 10) ∙ length-store 4 m1 (at + 40) top ∙ length-store 4 m (at + 4) (x 8) in
     let within = bl.within in
     let declared = k.regs.1.0 in
-    let keeps = bl.stack.keeps n t0 b in (
+    let keeps = λ (m' : List ℕ) (p x : ℕ). bl.stack.keeps n t0 b m' 4 p x in (
       frame_word b at (x 5) 4 (omega (arith, room)) whole refl (omega arith) e',
       omega (arith, low),
       (
@@ -142,7 +142,7 @@ filled_path bl callee back texts n links code i v h t0 b w later small' k =
       ),
     )
 
-raised_piece : {e : Environment} {block : ℕ} {types : Types} (bl : Block e block types) (callee : Callee bl) (back : Base → ℕ) (texts : ℕ) (n : Values) {links : Links} {code : List Instr} {i : ℕ} {v : Services} {h t0 : ℕ → ℕ} (c : ℕ) (f : Family) → Linked links code i (plus stack_register frame_register (pos (fixed_size 1 0))) → ((b : Base) → At b i (Known (filled_ground bl callee back h t0 n) v h unknown (with_texts texts) b) (f b)) → Reach code c f v (c + size_of (plus stack_register frame_register (pos (fixed_size 1 0)))) v (λ b w. At b (i + size_of (plus stack_register frame_register (pos (fixed_size 1 0)))) (Known (called_ground bl callee back h t0 n) v h unknown (with_texts texts) b) w)
+raised_piece : {e : Environment} {block : Names} {types : Types} (bl : Block e block types) (callee : Callee bl) (back : Base → ℕ) (texts : ℕ) (n : Values) {links : Links} {code : List Instr} {i : ℕ} {v : Services} {h t0 : ℕ → ℕ} (c : ℕ) (f : Family) → Linked links code i (plus stack_register frame_register (pos (fixed_size 1 0))) → ((b : Base) → At b i (Known (filled_ground bl callee back h t0 n) v h unknown (with_texts texts) b) (f b)) → Reach code c f v (c + size_of (plus stack_register frame_register (pos (fixed_size 1 0)))) v (λ b w. At b (i + size_of (plus stack_register frame_register (pos (fixed_size 1 0)))) (Known (called_ground bl callee back h t0 n) v h unknown (with_texts texts) b) w)
 raised_piece bl callee back texts n {v = v} {h = h} {t0 = t0} c f l there =
     let size = fixed_size 1 0 in
     let room = callee.room in
@@ -167,7 +167,7 @@ raised_piece bl callee back texts n {v = v} {h = h} {t0 = t0} c f l there =
 
 -- ---- the frame is begun
 
-saving_at : {e : Environment} {block : ℕ} {types : Types} (bl : Block e block types) (callee : Callee bl) (n : Values) (t0 : ℕ → ℕ) → SavingAt (bl.ground n) t0 callee.at
+saving_at : {e : Environment} {block : Names} {types : Types} (bl : Block e block types) (callee : Callee bl) (n : Values) (t0 : ℕ → ℕ) → SavingAt (bl.ground n) t0 callee.at
 saving_at bl callee n t0 =
     let above = inner_above callee.at bl.stack.free callee.words callee.place in
     let room = callee.room in
@@ -176,7 +176,7 @@ saving_at bl callee n t0 =
       whole = inner_whole callee.at bl.stack.free callee.words callee.place bl.stack.aligned;
       high = omega (arith, above, high);
       room = omega (arith, room);
-      keeps = λ b m p x over o. bl.stack.keeps n t0 b m p x (omega (arith, above, over)) o;
+      keeps = λ b m p x over o. bl.stack.keeps n t0 b m 4 p x (omega (arith, above, over)) o;
     }
 
 -- what is known at the procedure's entry
@@ -186,7 +186,7 @@ entry_with base texts back b = (10, b.at + base) ∷ (12, texts) ∷ (1, back b)
 abbrev pub entry_regs : (base : ℕ) → (back : Base → ℕ) → Base → List (ℕ × ℕ)
 entry_regs base back = entry_with base 0 back
 
-pub called_frame : {e : Environment} {block : ℕ} {types : Types} (bl : Block e block types) (callee : Callee bl) (back : Base → ℕ) → ((b : Base) → back b < 2 ^ 32) → (texts : ℕ) (n : Values) {links : Links} {code : List Instr} {i : ℕ} {v : Services} {h t0 : ℕ → ℕ} (c : ℕ) (f : Family) → 0 < i → Linked links code i (frame_begun callee.words 1 0 true) → ((b : Base) → At b i (Known (bl.ground n) v h t0 (entry_with bl.base texts back) b) (f b)) → Reach code c f v (c + size_of (frame_begun callee.words 1 0 true)) v (λ b w. At b (i + size_of (frame_begun callee.words 1 0 true)) (Known (called_ground bl callee back h t0 n) v h unknown (with_texts texts) b) w)
+pub called_frame : {e : Environment} {block : Names} {types : Types} (bl : Block e block types) (callee : Callee bl) (back : Base → ℕ) → ((b : Base) → back b < 2 ^ 32) → (texts : ℕ) (n : Values) {links : Links} {code : List Instr} {i : ℕ} {v : Services} {h t0 : ℕ → ℕ} (c : ℕ) (f : Family) → 0 < i → Linked links code i (frame_begun callee.words 1 0 true) → ((b : Base) → At b i (Known (bl.ground n) v h t0 (entry_with bl.base texts back) b) (f b)) → Reach code c f v (c + size_of (frame_begun callee.words 1 0 true)) v (λ b w. At b (i + size_of (frame_begun callee.words 1 0 true)) (Known (called_ground bl callee back h t0 n) v h unknown (with_texts texts) b) w)
 called_frame bl callee back fits texts n {links} {code} {i} {v} {h} {t0} c f later l there =
     let g = bl.ground n in
     let size = temporary_bytes callee.words in

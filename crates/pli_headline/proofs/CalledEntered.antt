@@ -23,7 +23,7 @@ use Rattle.pli_coding.specs.Frames.{own_offset}
 use Rattle.pli_coding.specs.Entries.{block_entered}
 use Rattle.pli_coding.specs.Environments.{Environment}
 use Rattle.pli_coding.specs.Linking.{Links}
-use Rattle.pli_headline.specs.ProvedSoFar.{Types}
+use Rattle.pli_headline.specs.ProvedSoFar.{Names, Types}
 use Rattle.pli_headline.proofs.Engine.{Base, call_at}
 use Rattle.pli_headline.proofs.Linking.{size_append}
 use Rattle.pli_headline.proofs.Items.{Linked, At, straight}
@@ -77,7 +77,7 @@ zero_moved : (x : ℕ) → x ≡ 0 → sum x (word (pos 0)) ≡ 0
 zero_moved x e = omega (arith, e)
 
 -- up to the call
-asked_call : {e : Environment} {block : ℕ} {types : Types} (bl : Block e block types) (callee : Callee bl) (back : Base → ℕ) (n : Values) {links : Links} {code : List Instr} {i : ℕ} {v : Services} {h0 h t0 t : ℕ → ℕ} (c : ℕ) (f : Family) (line : ℕ) → line < 2 ^ 31 → Linked links code i (called_entry line) → ((b : Base) → At b i (Known (called_ground bl callee back h0 t0 n) v h t without_texts b) (f b)) → Reach code c f v (c + 4 + size_of (number a2 line) + 1) v (λ b w. At b (i + 4 + size_of (number a2 line) + 1) (Known (called_ground bl callee back h0 t0 n) v h t (λ b'. (17, 4) ∷ (12, line) ∷ enter_regs callee.at b') b) w)
+asked_call : {e : Environment} {block : Names} {types : Types} (bl : Block e block types) (callee : Callee bl) (back : Base → ℕ) (n : Values) {links : Links} {code : List Instr} {i : ℕ} {v : Services} {h0 h t0 t : ℕ → ℕ} (c : ℕ) (f : Family) (line : ℕ) → line < 2 ^ 31 → Linked links code i (called_entry line) → ((b : Base) → At b i (Known (called_ground bl callee back h0 t0 n) v h t without_texts b) (f b)) → Reach code c f v (c + 4 + size_of (number a2 line) + 1) v (λ b w. At b (i + 4 + size_of (number a2 line) + 1) (Known (called_ground bl callee back h0 t0 n) v h t (λ b'. (17, 4) ∷ (12, line) ∷ enter_regs callee.at b') b) w)
 asked_call bl callee back n {links} {code} {i} {v} {h0} {h} {t0} {t} c f line fits l there =
     let ground = called_ground bl callee back h0 t0 n in
     let m = number a2 line in
@@ -102,7 +102,7 @@ asked_call bl callee back n {links} {code} {i} {v} {h0} {h} {t0} {t} c f line fi
     }) in
     reach_then r1 (reach_then r2 r3)
 
-pub called_entered : {e : Environment} {block : ℕ} {types : Types} (bl : Block e block types) (callee : Callee bl) (back : Base → ℕ) (n : Values) {links : Links} {code : List Instr} {i : ℕ} {v : Services} {h0 h t0 t : ℕ → ℕ} (c : ℕ) (f : Family) (line : ℕ) → line < 2 ^ 31 → v.waiting ≡ None → nat_lt (length v.activations) most_activations ≡ true → Linked links code i (called_entry line) → ((b : Base) → At b i (Known (called_ground bl callee back h0 t0 n) v h t without_texts b) (f b)) → Reach code c f v (c + size_of (called_entry line)) (called_services v callee.at line) (λ b w. At b (i + size_of (called_entry line)) (Known (called_ground bl callee back h0 t0 n) (called_services v callee.at line) h t nothing b) w)
+pub called_entered : {e : Environment} {block : Names} {types : Types} (bl : Block e block types) (callee : Callee bl) (back : Base → ℕ) (n : Values) {links : Links} {code : List Instr} {i : ℕ} {v : Services} {h0 h t0 t : ℕ → ℕ} (c : ℕ) (f : Family) (line : ℕ) → line < 2 ^ 31 → v.waiting ≡ None → nat_lt (length v.activations) most_activations ≡ true → Linked links code i (called_entry line) → ((b : Base) → At b i (Known (called_ground bl callee back h0 t0 n) v h t without_texts b) (f b)) → Reach code c f v (c + size_of (called_entry line)) (called_services v callee.at line) (λ b w. At b (i + size_of (called_entry line)) (Known (called_ground bl callee back h0 t0 n) (called_services v callee.at line) h t nothing b) w)
 called_entered bl callee back n {links} {code} {i} {v} {h0} {h} {t0} {t} c f line fits none few l there =
     let ground = called_ground bl callee back h0 t0 n in
     let v' = called_services v callee.at line in
@@ -134,7 +134,7 @@ enter_limited code v m at line none many =
     ap (λ w. or_bad (K.entered_of 0 v.line w) next) none
     ∙ ap (λ q. cond q (Done (called_services v at line) m 0 at) (run_ended (E.Limit L.Depth) v)) many
 
-pub called_limited : {e : Environment} {block : ℕ} {types : Types} (bl : Block e block types) (callee : Callee bl) (back : Base → ℕ) (n : Values) {X : Type 0} {links : Links} {code : List Instr} {i : ℕ} {s : State} {v : Services} {h0 h t0 t : ℕ → ℕ} {aims : Aims X} (c : ℕ) (f : Family) (closed : Closed code aims) (k line old : ℕ) → line < 2 ^ 31 → c + 4 + size_of (number a2 line) + 1 < cost code → nat_lt (length v.activations) most_activations ≡ false → Linked links code i (called_entry line) → Serving k s v old → ((b : Base) → At b i (Known (called_ground bl callee back h0 t0 n) v h t without_texts b) (f b)) → Comes code c f v aims (finish {R = X} (E.Limit L.Depth) k s)
+pub called_limited : {e : Environment} {block : Names} {types : Types} (bl : Block e block types) (callee : Callee bl) (back : Base → ℕ) (n : Values) {X : Type 0} {links : Links} {code : List Instr} {i : ℕ} {s : State} {v : Services} {h0 h t0 t : ℕ → ℕ} {aims : Aims X} (c : ℕ) (f : Family) (closed : Closed code aims) (k line old : ℕ) → line < 2 ^ 31 → c + 4 + size_of (number a2 line) + 1 < cost code → nat_lt (length v.activations) most_activations ≡ false → Linked links code i (called_entry line) → Serving k s v old → ((b : Base) → At b i (Known (called_ground bl callee back h0 t0 n) v h t without_texts b) (f b)) → Comes code c f v aims (finish {R = X} (E.Limit L.Depth) k s)
 called_limited bl callee back n {code = code} {i = i} {s = s} {v = v} c f closed k line old fits few many l serving at =
     let m = number a2 line in
     let last = small a7 4 ∷ Plain I.Ecall ∷ [] in

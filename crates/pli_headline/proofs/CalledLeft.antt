@@ -18,7 +18,7 @@ use Rattle.pli_coding.specs.Environments.{Environment}
 use Rattle.pli_coding.specs.Procedures.{frame_returned}
 use Rattle.pli_coding.specs.Linking.{Links}
 use Rattle.image_runs.specs.Runs.{Whole}
-use Rattle.pli_headline.specs.ProvedSoFar.{Types}
+use Rattle.pli_headline.specs.ProvedSoFar.{Names, Types}
 use Rattle.pli_headline.proofs.Engine.{Base, address, most_code}
 use Rattle.pli_headline.proofs.Linking.{size_append}
 use Rattle.pli_headline.proofs.Items.{Linked, At, straight}
@@ -49,10 +49,10 @@ return_sum : (b : Base) (x j : ℕ) → j ≤ most_code → x ≡ address b j �
 return_sum b x j near e = let v = b.valid.1 in omega (arith, e, near, v)
 
 -- whatever the stack's register is
-abbrev pub ending_ground : {e : Environment} {block : ℕ} {types : Types} (bl : Block e block types) → Callee bl → (back : Base → ℕ) → (h0 t0 : ℕ → ℕ) → Values → (free : ℕ) → Ground
+abbrev pub ending_ground : {e : Environment} {block : Names} {types : Types} (bl : Block e block types) → Callee bl → (back : Base → ℕ) → (h0 t0 : ℕ → ℕ) → Values → (free : ℕ) → Ground
 ending_ground bl callee back h0 t0 n free = lower_ground (called_ground bl callee back h0 t0 n) free
 
-pub ending_saved : {e : Environment} {block : ℕ} {types : Types} (bl : Block e block types) (callee : Callee bl) (back : Base → ℕ) (h0 t0 : ℕ → ℕ) (n : Values) (free : ℕ) (t : ℕ → ℕ) → SavedIn (ending_ground bl callee back h0 t0 n free) t back h0
+pub ending_saved : {e : Environment} {block : Names} {types : Types} (bl : Block e block types) (callee : Callee bl) (back : Base → ℕ) (h0 t0 : ℕ → ℕ) (n : Values) (free : ℕ) (t : ℕ → ℕ) → SavedIn (ending_ground bl callee back h0 t0 n free) t back h0
 ending_saved bl callee back h0 t0 n free t =
     let above = inner_above callee.at bl.stack.free callee.words callee.place in
     let room = callee.room in
@@ -60,7 +60,7 @@ ending_saved bl callee back h0 t0 n free t =
     record { high = omega (arith, above, high); room = omega (arith, room); has = λ b m o. o.kept.1 }
 
 -- service 5
-asked_piece : {e : Environment} {block : ℕ} {types : Types} (bl : Block e block types) (callee : Callee bl) (back : Base → ℕ) (n : Values) (free : ℕ) {links : Links} {code : List Instr} {i : ℕ} {v : Services} {h0 h t0 t : ℕ → ℕ} (c : ℕ) (f : Family) (a : S.Activation) (rest : List S.Activation) → v.activations ≡ a ∷ rest → Linked links code i (block_left 0) → ((b : Base) → At b i (Known (ending_ground bl callee back h0 t0 n free) v h t nothing b) (f b)) → Reach code c f v (c + 3) (ended_services v a rest) (λ b w. At b (i + 3) (Known (ending_ground bl callee back h0 t0 n free) (ended_services v a rest) h t nothing b) w)
+asked_piece : {e : Environment} {block : Names} {types : Types} (bl : Block e block types) (callee : Callee bl) (back : Base → ℕ) (n : Values) (free : ℕ) {links : Links} {code : List Instr} {i : ℕ} {v : Services} {h0 h t0 t : ℕ → ℕ} (c : ℕ) (f : Family) (a : S.Activation) (rest : List S.Activation) → v.activations ≡ a ∷ rest → Linked links code i (block_left 0) → ((b : Base) → At b i (Known (ending_ground bl callee back h0 t0 n free) v h t nothing b) (f b)) → Reach code c f v (c + 3) (ended_services v a rest) (λ b w. At b (i + 3) (Known (ending_ground bl callee back h0 t0 n free) (ended_services v a rest) h t nothing b) w)
 asked_piece bl callee back n free {links} {code} {i} {v} {h0} {h} {t0} {t} c f a rest e l there =
     let ground = ending_ground bl callee back h0 t0 n free in
     let v' = ended_services v a rest in
@@ -84,7 +84,7 @@ asked_piece bl callee back n free {links} {code} {i} {v} {h0} {h} {t0} {t} c f a
     reach_moved (omega arith) (omega arith) (reach_then r1 r2)
 
 -- the caller's frame
-lowered_piece : {e : Environment} {block : ℕ} {types : Types} (bl : Block e block types) (callee : Callee bl) (back : Base → ℕ) (n : Values) (free : ℕ) {links : Links} {code : List Instr} {i : ℕ} {v : Services} {h0 h t0 t : ℕ → ℕ} (c : ℕ) (f : Family) → Linked links code i (frame_ended callee.words) → ((b : Base) → At b i (Known (ending_ground bl callee back h0 t0 n free) v h t (with' 1 back nothing) b) (f b)) → Reach code c f v (c + size_of (frame_ended callee.words)) v (λ b w. At b (i + size_of (frame_ended callee.words)) (Known (bl.ground n) v h t0 (with' 1 back nothing) b) w)
+lowered_piece : {e : Environment} {block : Names} {types : Types} (bl : Block e block types) (callee : Callee bl) (back : Base → ℕ) (n : Values) (free : ℕ) {links : Links} {code : List Instr} {i : ℕ} {v : Services} {h0 h t0 t : ℕ → ℕ} (c : ℕ) (f : Family) → Linked links code i (frame_ended callee.words) → ((b : Base) → At b i (Known (ending_ground bl callee back h0 t0 n free) v h t (with' 1 back nothing) b) (f b)) → Reach code c f v (c + size_of (frame_ended callee.words)) v (λ b w. At b (i + size_of (frame_ended callee.words)) (Known (bl.ground n) v h t0 (with' 1 back nothing) b) w)
 lowered_piece bl callee back n free {links} {code} {i} {v} {h0} {h} {t0} {t} c f l there =
     let ground = ending_ground bl callee back h0 t0 n free in
     let outer = bl.ground n in
@@ -144,7 +144,7 @@ returned_piece {code = code} {i = i} {g = g} {v = v} {h = h} {t = t} c f resume 
     ))
 
 -- the registers hold again what the caller's did, as far as a word holds it
-pub called_left : {e : Environment} {block : ℕ} {types : Types} (bl : Block e block types) (callee : Callee bl) (resume : ℕ) (n : Values) (free : ℕ) {links : Links} {code : List Instr} {i : ℕ} {v : Services} {h0 h t0 t : ℕ → ℕ} (c : ℕ) (f : Family) (a : S.Activation) (rest : List S.Activation) → resume ≤ most_code → v.activations ≡ a ∷ rest → Linked links code i (called_ended callee.words) → ((b : Base) → At b i (Known (ending_ground bl callee (λ b'. address b' resume) h0 t0 n free) v h t nothing b) (f b)) → Reach code c f v (c + 3 + size_of all_restored + size_of (frame_ended callee.words) + 1) (ended_services v a rest) (λ b w. At b resume (Known (bl.ground n) (ended_services v a rest) (held_again h0 0 7 h) t0 nothing b) w)
+pub called_left : {e : Environment} {block : Names} {types : Types} (bl : Block e block types) (callee : Callee bl) (resume : ℕ) (n : Values) (free : ℕ) {links : Links} {code : List Instr} {i : ℕ} {v : Services} {h0 h t0 t : ℕ → ℕ} (c : ℕ) (f : Family) (a : S.Activation) (rest : List S.Activation) → resume ≤ most_code → v.activations ≡ a ∷ rest → Linked links code i (called_ended callee.words) → ((b : Base) → At b i (Known (ending_ground bl callee (λ b'. address b' resume) h0 t0 n free) v h t nothing b) (f b)) → Reach code c f v (c + 3 + size_of all_restored + size_of (frame_ended callee.words) + 1) (ended_services v a rest) (λ b w. At b resume (Known (bl.ground n) (ended_services v a rest) (held_again h0 0 7 h) t0 nothing b) w)
 called_left bl callee resume n free {h0 = h0} {h = h} {t0 = t0} {t = t} c f a rest near e l there =
     let back : Base → ℕ = λ b. address b resume in
     let asked = block_left 0 in

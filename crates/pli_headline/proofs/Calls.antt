@@ -15,10 +15,11 @@ use Rattle.pli_meaning.specs.Control.{Flow, Normal, Paused, act, finish}
 use Rattle.pli_serving.specs.ServiceState.{Services}
 use Rattle.pli_serving.specs.Answers.{Answer, Done, Ends, Bad, acting}
 use Rattle.pli_serving.specs.Finding.{Call}
-use Rattle.pli_serving.specs.Serving as V
+use Rattle.pli_headline.proofs.Unlimited as V
 use Rattle.pli_coding.specs.Assembly.{Plain}
 use Rattle.pli_coding.specs.Linking.{Links}
-use Rattle.image_runs.specs.Runs.{Whole, Runs, answered, run_on}
+use Rattle.image_runs.specs.Runs.{Whole, Runs, answered}
+use Rattle.pli_headline.proofs.Unlimited.{run_on}
 use Rattle.pli_headline.proofs.Engine.{Base, address, most_code, call_at, served, call_next, next_address}
 use Rattle.pli_headline.proofs.Items.{Linked, At}
 use Rattle.pli_headline.proofs.Activations.{Nested}

@@ -17,7 +17,8 @@ use Rattle.pli_coding.specs.Assembly.{LabelPlace, same_symbol, Mark, size_of}
 use Rattle.pli_coding.specs.Environments.{Environment}
 use Rattle.pli_coding.specs.Statements.{stmt_code, stmts_code, marked}
 use Rattle.pli_coding.specs.Linking.{Links, place_of}
-use Rattle.pli_headline.specs.ProvedSoFar.{Types}
+use Rattle.pli_headline.specs.ProvedSoFar.{Names, Types}
+use Rattle.pli_headline.proofs.Storages.{storage}
 use Rattle.pli_headline.proofs.Engine.{Base, address}
 use Rattle.pli_headline.proofs.DataOnce.{same_bytes-equal, same_bytes-same}
 use Rattle.pli_headline.proofs.Linking.{size_append}
@@ -34,7 +35,7 @@ use Rattle.pli_headline.proofs.Reach.{Family, Aims, Comes, Closed}
 use Rattle.pli_headline.proofs.Scalars.{Values}
 
 -- the block while a list with these labels is carried out
-abbrev pub within : {e : Environment} {block : ℕ} {types : Types} → List Label → Block e block types → Block e block types
+abbrev pub within : {e : Environment} {block : Names} {types : Types} → List Label → Block e block types → Block e block types
 within labels bl =
     record {
       ground = bl.ground;
@@ -46,16 +47,25 @@ within labels bl =
       words_are = bl.words_are;
       same = bl.same;
       temps = bl.temps;
+      alike = bl.alike;
       declared = bl.declared;
       reach = bl.reach;
+      named = bl.named;
+      lower = bl.lower;
+      bases = bl.bases;
+      reaches = bl.reaches;
+      inside = bl.inside;
       places = bl.places;
       reads = bl.reads;
       writes = bl.writes;
       held = bl.held;
       frames = bl.frames;
+      serials = bl.serials;
       bottom = bl.bottom;
       depths = bl.depths;
       shallow = bl.shallow;
+      owners = bl.owners;
+      first_owner = bl.first_owner;
       stack = bl.stack;
       alone = bl.alone;
       lead = bl.lead;
@@ -67,10 +77,12 @@ within labels bl =
       level_room = bl.level_room;
       outermost_level = bl.outermost_level;
       displays = bl.displays;
+      leveled = bl.leveled;
       texts = bl.texts;
       arrays = bl.arrays;
       outer = bl.outer;
       enclosing = bl.enclosing;
+      beneath = bl.beneath;
     }
 
 -- ---- where a label stands
@@ -92,7 +104,7 @@ label_marked {links} {i = i} block (x ∷ xs) label among l =
     (or_cases (same_bytes label x) (is_among label xs) among)
 
 -- from a label on, a list means what its statements from there on mean
-record Resumed {e : Environment} {block : ℕ} {types : Types} (bl : Block e block types) (links : Links) (code : List Instr) (around : Around) (body : Y.Stmts) (label : Label) (i : ℕ) : Type 1 where
+record Resumed {e : Environment} {block : Names} {types : Types} (bl : Block e block types) (links : Links) (code : List Instr) (around : Around) (body : Y.Stmts) (label : Label) (i : ℕ) : Type 1 where
   at : ℕ
   later : i ≤ at
   rest : Y.Stmts
@@ -102,7 +114,7 @@ record Resumed {e : Environment} {block : ℕ} {types : Types} (bl : Block e blo
   each : EachDoes bl links code around rest
   means : (k : ℕ) (s : State) → M.statements around body (Some label) k s ≡ M.statements around rest None k s
 
-resumed_by : {e : Environment} {block : ℕ} {types : Types} (bl : Block e block types) {links : Links} {code : List Instr} {i : ℕ} (around : Around) (labels : List Label) (first : Y.Stmt) (rest : Y.Stmts) (label : Label) (q : Bool) → is_among label labels ≡ q → is_among label (labels ++ M.labels_in rest) ≡ true → EachDoes bl links code around (Y.StmtThen labels first rest) → Linked links code i (stmts_code e bl.taken (Y.StmtThen labels first rest)) → ((j : ℕ) → is_among label (M.labels_in rest) ≡ true → Linked links code j (stmts_code e bl.taken rest) → Resumed bl links code around rest label j) → Resumed bl links code around (Y.StmtThen labels first rest) label i
+resumed_by : {e : Environment} {block : Names} {types : Types} (bl : Block e block types) {links : Links} {code : List Instr} {i : ℕ} (around : Around) (labels : List Label) (first : Y.Stmt) (rest : Y.Stmts) (label : Label) (q : Bool) → is_among label labels ≡ q → is_among label (labels ++ M.labels_in rest) ≡ true → EachDoes bl links code around (Y.StmtThen labels first rest) → Linked links code i (stmts_code e bl.taken (Y.StmtThen labels first rest)) → ((j : ℕ) → is_among label (M.labels_in rest) ≡ true → Linked links code j (stmts_code e bl.taken rest) → Resumed bl links code around rest label j) → Resumed bl links code around (Y.StmtThen labels first rest) label i
 unfolding M.statements choose
 resumed_by {e} bl {i = i} around labels first rest label true own among each l later =
     let c = stmt_code e bl.taken first ++ stmts_code e bl.taken rest in
@@ -142,7 +154,7 @@ ended_means : (around : Around) (labels : List Label) (label : Label) (k : ℕ) 
 unfolding M.statements
 ended_means around labels label k s = refl
 
-resumed_at_end : {e : Environment} {block : ℕ} {types : Types} (bl : Block e block types) {links : Links} {code : List Instr} {i : ℕ} (around : Around) (labels : List Label) (label : Label) → is_among label labels ≡ true → Linked links code i (marked e.block labels) → Resumed bl links code around (Y.EndOfList labels) label i
+resumed_at_end : {e : Environment} {block : Names} {types : Types} (bl : Block e block types) {links : Links} {code : List Instr} {i : ℕ} (around : Around) (labels : List Label) (label : Label) → is_among label labels ≡ true → Linked links code i (marked e.block labels) → Resumed bl links code around (Y.EndOfList labels) label i
 resumed_at_end {e} bl {i = i} around labels label among l =
     record {
       at = i;
@@ -155,7 +167,7 @@ resumed_at_end {e} bl {i = i} around labels label among l =
       means = λ k s. ended_means around labels label k s;
     }
 
-resumed : {e : Environment} {block : ℕ} {types : Types} (bl : Block e block types) {links : Links} {code : List Instr} {i : ℕ} (around : Around) (body : Y.Stmts) (label : Label) → is_among label (M.labels_in body) ≡ true → EachDoes bl links code around body → Linked links code i (stmts_code e bl.taken body) → Resumed bl links code around body label i
+resumed : {e : Environment} {block : Names} {types : Types} (bl : Block e block types) {links : Links} {code : List Instr} {i : ℕ} (around : Around) (body : Y.Stmts) (label : Label) → is_among label (M.labels_in body) ≡ true → EachDoes bl links code around body → Linked links code i (stmts_code e bl.taken body) → Resumed bl links code around body label i
 resumed bl around (Y.EndOfList labels) label among each l = resumed_at_end bl around labels label among l
 resumed bl around (Y.StmtThen labels first rest) label among each l =
     resumed_by bl around labels first rest label (is_among label labels) refl among each l
@@ -164,7 +176,7 @@ resumed bl around (Y.StmtThen labels first rest) label among each l =
 -- ---- the turns
 
 -- a jump is caught, or goes on outside
-landing_by : {e : Environment} {block : ℕ} {types : Types} (bl : Block e block types) {links : Links} {code : List Instr} {k : ℕ} {h t : ℕ → ℕ} {acts : ℕ} {aims : Aims (Unit {0})} (labels : List Label) (next : Label → Meaning (Unit {0})) (label : Label) (q : Bool) → is_among label labels ≡ q → (q ≡ true → Landing bl links k h t acts (λ i f v height l s. Comes code i f v aims (next l k s)) label) → (q ≡ false → Landing bl links k h t acts aims.jumped label) → Landing bl links k h t acts (catching code k (suc (length bl.depths)) labels next aims).jumped label
+landing_by : {e : Environment} {block : Names} {types : Types} (bl : Block e block types) {links : Links} {code : List Instr} {k : ℕ} {h t : ℕ → ℕ} {acts : ℕ} {aims : Aims (Unit {0})} (labels : List Label) (next : Label → Meaning (Unit {0})) (label : Label) (q : Bool) → is_among label labels ≡ q → (q ≡ true → Landing bl links k h t acts (λ i f v height l s. Comes code i f v aims (next l k s)) label) → (q ≡ false → Landing bl links k h t acts aims.jumped label) → Landing bl links k h t acts (catching code k (suc (length bl.depths)) labels next aims).jumped label
 landing_by {e} bl {code = code} {k = k} {aims = aims} labels next label true among own outer =
     let o = own refl in
     let here : ((suc (length bl.depths) == suc (length bl.depths)) && is_among label labels) ≡ true = ap (λ u. u && is_among label labels) (eq-eqb (suc (length bl.depths)) (suc (length bl.depths)) refl) ∙ among in
@@ -189,7 +201,7 @@ landing_by {e} bl {code = code} {k = k} {aims = aims} labels next label false am
     }
 
 -- a list from its start, or from a label on
-catch_piece : {e : Environment} {block : ℕ} {types : Types} (bl : Block e block types) {links : Links} {code : List Instr} (around : Around) (body : Y.Stmts) → EachDoes (within (M.labels_in body) bl) links code around body → (start : ℕ) → 10 ≤ start → Linked links code start (stmts_code e bl.taken body) → (turns : ℕ) {i : ℕ} {s : State} {v : Services} {h t : ℕ → ℕ} {aims : Aims (Unit {0})} (from : Option Label) (rest : Y.Stmts) (closed : Closed code aims) (line : ℕ) (n : Values) (f : Family) (k : ℕ) → k < turns + v.world.acts → ((k' : ℕ) (s' : State) → M.statements around body from k' s' ≡ M.statements around rest None k' s') → EachDoes (within (M.labels_in body) bl) links code around rest → Linked links code i (stmts_code e bl.taken rest) → i + size_of (stmts_code e bl.taken rest) ≡ start + size_of (stmts_code e bl.taken body) → Serving k s v line → AllHold bl.frames v.activations (e.level ∷ bl.depths) s block types n → ((b : Base) → At b i (Known (bl.ground n) v h t nothing b) (f b)) → Behind bl k h t (start + size_of (stmts_code e bl.taken body)) aims → Enough bl links k around.turns i h t v.world.acts aims.jumped aims.returned → Comes code i f v aims (list_from turns (suc (length bl.depths)) (M.labels_in body) (M.statements around body) from k s)
+catch_piece : {e : Environment} {block : Names} {types : Types} (bl : Block e block types) {links : Links} {code : List Instr} (around : Around) (body : Y.Stmts) → EachDoes (within (M.labels_in body) bl) links code around body → (start : ℕ) → 10 ≤ start → Linked links code start (stmts_code e bl.taken body) → (turns : ℕ) {i : ℕ} {s : State} {v : Services} {h t : ℕ → ℕ} {aims : Aims (Unit {0})} (from : Option Label) (rest : Y.Stmts) (closed : Closed code aims) (line : ℕ) (n : Values) (f : Family) (k : ℕ) → k < turns + v.world.acts → ((k' : ℕ) (s' : State) → M.statements around body from k' s' ≡ M.statements around rest None k' s') → EachDoes (within (M.labels_in body) bl) links code around rest → Linked links code i (stmts_code e bl.taken rest) → i + size_of (stmts_code e bl.taken rest) ≡ start + size_of (stmts_code e bl.taken body) → Serving k s v line → AllHold bl.frames bl.serials (storage v) (e.level ∷ bl.depths) s block types n → ((b : Base) → At b i (Known (bl.ground n) v h t nothing b) (f b)) → Behind bl k h t (start + size_of (stmts_code e bl.taken body)) aims → Enough bl links k around.turns i h t v.world.acts aims.jumped aims.returned → Comes code i f v aims (list_from turns (suc (length bl.depths)) (M.labels_in body) (M.statements around body) from k s)
 unfolding list_from
 catch_piece bl around body every start behind whole zero from rest closed line n f k enough means each l ends serving all at goal more =
     absurd (let a = serving.allowed in omega (arith, a, enough))
@@ -233,7 +245,7 @@ catch_piece {e} {block} {types} bl {links} {code} around body every start behind
                         later = p.later;
                         lands = λ s3 v3 line3 n3 h3 t3 f3 serving3 all3 stays3 acted3 at3. p.lands s3 v3 line3 n3 h3 t3 f3 serving3 all3 (stays_then stays2 stays3) (omega (arith, grown, acted3)) at3;
                       };
-                  outs = outlets_by e bl.ground bl.levels bl.frames (e.level ∷ bl.depths) bl.outer bl.enclosing block types links k v.world.acts v2.world.acts aims.jumped aims.jumped
+                  outs = outlets_by e bl.ground bl.levels bl.frames (e.level ∷ bl.depths) bl.outer bl.enclosing bl.serials block types links k v.world.acts v2.world.acts aims.jumped aims.jumped
                       (λ o3 c3 label3 p. record {
                         at = p.at;
                         place = p.place;
@@ -250,7 +262,7 @@ catch_piece {e} {block} {types} bl {links} {code} around body every start behind
           (λ none.
           let o = more.jumps label (sym (ap (λ q. q || is_among label bl.labels) none) ∙ sym (list_any-append (same_bytes label) labels bl.labels) ∙ among) once in
           record { at = o.at; place = o.place; near = o.near; later = o.later; lands = o.lands });
-      outs = outlets_by e bl.ground bl.levels bl.frames (e.level ∷ bl.depths) bl.outer bl.enclosing block types links k v.world.acts v.world.acts aims.jumped (catching code k (suc (length bl.depths)) labels next' aims).jumped
+      outs = outlets_by e bl.ground bl.levels bl.frames (e.level ∷ bl.depths) bl.outer bl.enclosing bl.serials block types links k v.world.acts v.world.acts aims.jumped (catching code k (suc (length bl.depths)) labels next' aims).jumped
           (λ outer c label o.
           let long = risen_length (suc c.count) c.frame outer.level bl.frames.list (e.level ∷ bl.depths) c.behind c.depths c.rises in
           let other : (suc (length c.depths) == suc (length bl.depths)) ≡ false = grind (arith, nat_tests) in
@@ -270,7 +282,7 @@ catch_piece {e} {block} {types} bl {links} {code} around body every start behind
     })))
 
 -- a list of statements, of which each does what it means while the list catches
-pub listed : {e : Environment} {block : ℕ} {types : Types} (bl : Block e block types) {links : Links} {code : List Instr} (around : Around) (body : Y.Stmts) → EachDoes (within (M.labels_in body) bl) links code around body → Does bl links code around.turns (stmts_code e bl.taken body) (M.list around body)
+pub listed : {e : Environment} {block : Names} {types : Types} (bl : Block e block types) {links : Links} {code : List Instr} (around : Around) (body : Y.Stmts) → EachDoes (within (M.labels_in body) bl) links code around body → Does bl links code around.turns (stmts_code e bl.taken body) (M.list around body)
 unfolding M.list M.list_with looked ◌>>=◌
 listed {e} bl {code = code} around body each =
     record {

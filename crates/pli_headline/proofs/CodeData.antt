@@ -27,6 +27,7 @@ use Rattle.pli_coding.specs.Entries.{frame_begun, block_entered, constant_made, 
 use Rattle.pli_coding.specs.Statements.{stmt_code, stmts_code, stmts_words, block_words, marked}
 use Rattle.pli_coding.specs.Procedures.{procedure_begun, procedure_ended, procedure_in}
 use Rattle.pli_coding.specs.Images.{raise_code, code_of}
+use Rattle.pli_headline.specs.ProvedSoFar.{main_names}
 use Rattle.pli_headline.specs.Headline.{parts}
 use Rattle.pli_headline.specs.FirstForms.{plain_number, AreNumbers, AllNumbers, IsFirstReference, IsFirstOperator, IsFirstNumber, IsFirstItem, AreFirstItems, AreFirstPairs, IsFirstStatement, AreFirstStatements}
 use Rattle.pli_headline.proofs.FirstFrame.{start_of}
@@ -118,9 +119,9 @@ sign_none t Y.Negative = overflow_none t
 reference_none : (e : Environment) (t : Taken) (block count : ℕ) (r : Y.Reference) → HasPlain e block count → IsFirstReference block count r → Names (number_code (outermost e) t (Y.NumberIn r)) []
 reference_none e t block count r has is =
     let d = declared_plain e block count is.index has is.declared in
-    let same : number_code (outermost e) t (Y.NumberIn r) ≡ load_word a0 frame_register (pos (data_place e block is.index)) =
-    ap (λ q. number_code (outermost e) t (Y.NumberIn q)) is.is ∙ number_loaded (outermost e) t block is.index 31 ([], d) in
-    ap data_named same ∙ load_none a0 frame_register (pos (data_place e block is.index))
+    let same : number_code (outermost e) t (Y.NumberIn r) ≡ load_word a0 frame_register (pos (data_place e (main_names e.program block) is.index)) =
+    ap (λ q. number_code (outermost e) t (Y.NumberIn q)) is.is ∙ number_loaded (outermost e) t (main_names e.program block) is.index 31 ([], d) in
+    ap data_named same ∙ load_none a0 frame_register (pos (data_place e (main_names e.program block) is.index))
 
 number_none : (e : Environment) (t : Taken) (block count : ℕ) (x : Y.Number) → HasPlain e block count → IsFirstNumber block count x → Names (number_code (outermost e) t x) []
 number_none e t block count (Y.NumberConstant n) has is = constant_none a0 (pos n)
@@ -180,12 +181,12 @@ fitted_none t precision e = subst (λ p. Names (fitted_code t p) []) (sym e) ref
 target_none : (e : Environment) (t : Taken) (block count : ℕ) (r : Y.Reference) → HasPlain e block count → IsFirstReference block count r → Names (word_stored (outermost e) t r) []
 target_none e t block count r has is =
     let d = declared_plain e block count is.index has is.declared in
-    let place : ℤ = pos (data_place e block is.index) in
+    let place : ℤ = pos (data_place e (main_names e.program block) is.index) in
     let into = store_word frame_register a0 place in
     let same : word_stored (outermost e) t r ≡ save a0 t ++ ([] ++ (fetch a0 t ++ into)) =
     ap (λ q. word_stored (outermost e) t q) is.is
-    ∙ ap (λ c. save a0 t ++ (c ++ (fetch a0 t ++ stored (type_in (outermost e) (whole (own block is.index))) a0 (address_in (outermost e) (whole (own block is.index)))))) (scalar_found (outermost e) (with_number t) block is.index (Y.FixedLeaf 31) tt ([], d))
-    ∙ ap (λ c. save a0 t ++ ([] ++ (fetch a0 t ++ c))) (scalar_kept (outermost e) block is.index (Y.FixedLeaf 31) tt ([], d)) in
+    ∙ ap (λ c. save a0 t ++ (c ++ (fetch a0 t ++ stored (type_in (outermost e) (whole (own (main_names e.program block) is.index))) a0 (address_in (outermost e) (whole (own (main_names e.program block) is.index)))))) (scalar_found (outermost e) (with_number t) (main_names e.program block) is.index (Y.FixedLeaf 31) tt ([], d))
+    ∙ ap (λ c. save a0 t ++ ([] ++ (fetch a0 t ++ c))) (scalar_kept (outermost e) (main_names e.program block) is.index (Y.FixedLeaf 31) tt ([], d)) in
     ap data_named same
     ∙ behind (save a0 t) (fetch a0 t ++ into) [] (saved_none a0 t)
     (behind (fetch a0 t) into [] (fetched_none a0 t) (store_none frame_register a0 place))

@@ -20,6 +20,7 @@ use Rattle.pli_coding.specs.Locating.{stored}
 use Rattle.pli_coding.specs.Streams.{has_fixed, has_text, controls_carried_out, by_item, number_written, text_written, number_put, as_text, item_put, items_put, edit_begun, edit_ended, put_pair, put_pairs}
 use Rattle.pli_coding.specs.Allocating.{act_code}
 use Rattle.pli_coding.specs.Statements.{stmt_code, stmts_code, marked}
+use Rattle.pli_headline.specs.ProvedSoFar.{main_names}
 use Rattle.pli_headline.specs.FirstForms.{plain_number, AreNumbers, IsFirstReference, IsFirstOperator, IsFirstNumber, IsFirstItem, AreFirstItems, AreFirstPairs, IsFirstStatement, AreFirstStatements}
 use Rattle.pli_headline.proofs.Linking.{size_append}
 use Rattle.pli_headline.proofs.FirstForms.{number_at}
@@ -114,9 +115,9 @@ declared_plain e block count index has h =
 reference_most : (e : Environment) (t : Taken) (block count : ℕ) (r : Y.Reference) → HasPlain e block count → IsFirstReference block count r → size_of (number_code (outermost e) t (Y.NumberIn r)) ≤ 3
 reference_most e t block count r has is =
     let d = declared_plain e block count is.index has is.declared in
-    let n = load_most a0 frame_register (pos (data_place e block is.index)) in
-    let same : number_code (outermost e) t (Y.NumberIn r) ≡ load_word a0 frame_register (pos (data_place e block is.index)) =
-    ap (λ q. number_code (outermost e) t (Y.NumberIn q)) is.is ∙ number_loaded (outermost e) t block is.index 31 ([], d) in
+    let n = load_most a0 frame_register (pos (data_place e (main_names e.program block) is.index)) in
+    let same : number_code (outermost e) t (Y.NumberIn r) ≡ load_word a0 frame_register (pos (data_place e (main_names e.program block) is.index)) =
+    ap (λ q. number_code (outermost e) t (Y.NumberIn q)) is.is ∙ number_loaded (outermost e) t (main_names e.program block) is.index 31 ([], d) in
     subst (λ c. size_of c ≤ 3) (sym same) n
 
 pub number_most : (e : Environment) (t : Taken) (block count : ℕ) (x : Y.Number) → HasPlain e block count → IsFirstNumber block count x → size_of (number_code (outermost e) t x) ≤ 30 * number_nodes x
@@ -207,14 +208,14 @@ target_most e t block count r has is =
     let d = declared_plain e block count is.index has is.declared in
     let saved = saved_most a0 t in
     let fetched = fetched_most a0 t in
-    let place : ℤ = pos (data_place e block is.index) in
+    let place : ℤ = pos (data_place e (main_names e.program block) is.index) in
     let n = store_most frame_register a0 place in
     let s1 = size_append (save a0 t) ([] ++ (fetch a0 t ++ store_word frame_register a0 place)) in
     let s2 = size_append (fetch a0 t) (store_word frame_register a0 place) in
     let same : word_stored (outermost e) t r ≡ save a0 t ++ ([] ++ (fetch a0 t ++ store_word frame_register a0 place)) =
     ap (λ q. word_stored (outermost e) t q) is.is
-    ∙ ap (λ c. save a0 t ++ (c ++ (fetch a0 t ++ stored (type_in (outermost e) (whole (own block is.index))) a0 (address_in (outermost e) (whole (own block is.index)))))) (scalar_found (outermost e) (with_number t) block is.index (Y.FixedLeaf 31) tt ([], d))
-    ∙ ap (λ c. save a0 t ++ ([] ++ (fetch a0 t ++ c))) (scalar_kept (outermost e) block is.index (Y.FixedLeaf 31) tt ([], d)) in
+    ∙ ap (λ c. save a0 t ++ (c ++ (fetch a0 t ++ stored (type_in (outermost e) (whole (own (main_names e.program block) is.index))) a0 (address_in (outermost e) (whole (own (main_names e.program block) is.index)))))) (scalar_found (outermost e) (with_number t) (main_names e.program block) is.index (Y.FixedLeaf 31) tt ([], d))
+    ∙ ap (λ c. save a0 t ++ ([] ++ (fetch a0 t ++ c))) (scalar_kept (outermost e) (main_names e.program block) is.index (Y.FixedLeaf 31) tt ([], d)) in
     subst (λ c. size_of c ≤ 9) (sym same) (omega (arith, saved, fetched, n, s1, s2))
 
 pub statement_most : (e : Environment) (t : Taken) (block count : ℕ) (x : Y.Stmt) → HasPlain e block count → IsFirstStatement block count x → size_of (stmt_code (outermost e) t x) ≤ 40 * stmt_nodes x

@@ -25,7 +25,8 @@ use Rattle.pli_coding.specs.Storing.{word_stored}
 use Rattle.pli_coding.specs.Temporaries.{number_words, bit_words, text_words, reference_words, subscripts_words}
 use Rattle.pli_coding.specs.Statements.{in_turns, limit_code, step_code, number_if, stmts_code, bit_if, before_turns, start_code, start_loaded, stmt_code}
 use Rattle.pli_coding.specs.Linking.{Links}
-use Rattle.pli_headline.specs.ProvedSoFar.{Types, IsProvedNumber, IsProvedNumberIf, IsProvedBitIf, IsPart, IsAssigned, AreSubscripts, AreProvedNumbers, IsProvedBit, IsProvedStart, IsProvedText}
+use Rattle.pli_headline.specs.ProvedSoFar.{Names, Types, IsProvedNumber, IsProvedNumberIf, IsProvedBitIf, IsPart, IsAssigned, AreSubscripts, AreProvedNumbers, IsProvedBit, IsProvedStart, IsProvedText}
+use Rattle.pli_headline.proofs.Storages.{storage}
 use Rattle.pli_headline.proofs.Engine.{Base, address}
 use Rattle.pli_headline.proofs.Linking.{size_append}
 use Rattle.pli_headline.proofs.Items.{Linked, At}
@@ -71,7 +72,7 @@ count_rest around line counter limit step condition part value =
     (M.limit_of (at_line around line) limit) >>= (λ most. (V.number (at_line around line) step) >>= (λ by. (M.counter_started (at_line around line) counter value) >>= (stored_first around line counter most by condition part)))
 
 -- the number in a0 is what the variable begins with, and the turns come
-begun_piece : {links : Links} {code : List Instr} {i : ℕ} {v : Services} {h0 t0 h t : ℕ → ℕ} {s : State} {aims : Aims (Unit {0})} {e : Environment} {block : ℕ} {types : Types} (bl : Block e block types) (routines : Standing bl links code) (around : Around) (r : Y.Reference) (p : ℕ) (limit : Option Y.Number) (most : Option ℤ) (by : ℤ) (condition : Option Y.Bit) (line : ℕ) (c : Code) (part : Meaning (Unit {0})) → Counts bl links code r p → IsWide by → IsProvedBitIf block types condition → bl.taken.words + 3 ≤ bl.words → bl.taken.words + 2 + bit_if condition ≤ bl.words → line < 2 ^ 31 → Does (turning bl) links code around.turns c part → (closed : Closed code aims) (n : Values) (f : Family) (k : ℕ) (z : ℤ) → IsWide z → Linked links code i (fitted_code (in_turns bl.taken) p) → Linked links code (i + size_of (fitted_code (in_turns bl.taken) p)) (turns_of bl r p limit condition line c) → LimitWaits limit most t bl.taken.words → t (bl.taken.words + 1) ≡ word by → Serving k s v line → AllHold bl.frames v.activations (e.level ∷ bl.depths) s block types n → ((b : Base) → At b i (Known (bl.ground n) v h t (valued (word z)) b) (f b)) → Stays bl.taken h0 t0 h t → Behind bl k h0 t0 (i + size_of (fitted_code (in_turns bl.taken) p) + size_of (turns_of bl r p limit condition line c)) aims → Enough bl links k around.turns i h0 t0 v.world.acts aims.jumped aims.returned → Comes code i f v (before code aims k (stored_first around line (Y.NumberCounter p r) most by condition part)) (M.counter_value (at_line around line) (Y.NumberCounter p r) z k s)
+begun_piece : {links : Links} {code : List Instr} {i : ℕ} {v : Services} {h0 t0 h t : ℕ → ℕ} {s : State} {aims : Aims (Unit {0})} {e : Environment} {block : Names} {types : Types} (bl : Block e block types) (routines : Standing bl links code) (around : Around) (r : Y.Reference) (p : ℕ) (limit : Option Y.Number) (most : Option ℤ) (by : ℤ) (condition : Option Y.Bit) (line : ℕ) (c : Code) (part : Meaning (Unit {0})) → Counts bl links code r p → IsWide by → IsProvedBitIf block types condition → bl.taken.words + 3 ≤ bl.words → bl.taken.words + 2 + bit_if condition ≤ bl.words → line < 2 ^ 31 → Does (turning bl) links code around.turns c part → (closed : Closed code aims) (n : Values) (f : Family) (k : ℕ) (z : ℤ) → IsWide z → Linked links code i (fitted_code (in_turns bl.taken) p) → Linked links code (i + size_of (fitted_code (in_turns bl.taken) p)) (turns_of bl r p limit condition line c) → LimitWaits limit most t bl.taken.words → t (bl.taken.words + 1) ≡ word by → Serving k s v line → AllHold bl.frames bl.serials (storage v) (e.level ∷ bl.depths) s block types n → ((b : Base) → At b i (Known (bl.ground n) v h t (valued (word z)) b) (f b)) → Stays bl.taken h0 t0 h t → Behind bl k h0 t0 (i + size_of (fitted_code (in_turns bl.taken) p) + size_of (turns_of bl r p limit condition line c)) aims → Enough bl links k around.turns i h0 t0 v.world.acts aims.jumped aims.returned → Comes code i f v (before code aims k (stored_first around line (Y.NumberCounter p r) most by condition part)) (M.counter_value (at_line around line) (Y.NumberCounter p r) z k s)
 unfolding M.counter_value ◌>>=◌ ◌>>◌ give
 begun_piece {i = i} {v = v} {s = s} {e = e} {block = block} {types = types} bl routines around r p limit most by condition line c part counts wby isc room roomc fits inner closed n f k z wz lf lt waits at_step serving all at stays goal more =
     let here = at_line around line in
@@ -88,7 +89,7 @@ begun_piece {i = i} {v = v} {s = s} {e = e} {block = block} {types = types} bl r
     let s7 = size_append st (act_code line) in
     let inside = lt.inside in
     let words = bl.words_are n in
-    let few : p ≤ 31 = (takes.old s v.activations n all).1.0 in
+    let few : p ≤ 31 = (takes.old s (storage v) n all).1.0 in
     let store = stored_first around line counter most by condition part in
     let goes : Unit {0} → Meaning (Unit {0}) = λ q. loop_of around line counter most by condition part in
     let as_stored : ℤ → Meaning BasicValue = λ u. give (BasicNumber u) in
@@ -116,8 +117,8 @@ record Loads (links : Links) (code : List Instr) (g : Ground) (v' v : Services) 
   does : {i : ℕ} {h t : ℕ → ℕ} {aims : Aims BasicValue} (closed : Closed code aims) (f : Family) → Linked links code i c → t place ≡ x → ((b : Base) → At b i (Known g v' h t nothing b) (f b)) → ((z : ℤ) (f' : Family) → IsWide z → ((b : Base) → At b (i + size_of c) (Known g v h t (valued (word z)) b) (f' b)) → Comes code (i + size_of c) f' v aims (M.counter_value around (Y.NumberCounter p r) z k s)) → Comes code i f v' aims (M.counter_started around (Y.NumberCounter p r) value k s)
 
 -- a start is evaluated by one piece of code, and waits until another loads it
-record Starts {e : Environment} {block : ℕ} {types : Types} (bl : Block e block types) (links : Links) (code : List Instr) (around : Around) (r : Y.Reference) (p : ℕ) (start : Y.Value) (c0 c3 : Code) : Type 1 where
-  does : {i : ℕ} {s : State} {v : Services} {h t : ℕ → ℕ} {aims : Aims V.Computational} (closed : Closed code aims) (n : Values) (f : Family) (k : ℕ) → Linked links code i c0 → Serving k s v around.line → AllHold bl.frames v.activations (e.level ∷ bl.depths) s block types n → ((b : Base) → At b i (Known (bl.ground n) v h t nothing b) (f b)) → ((value : V.Computational) (v' : Services) (f' : Family) (h' t' : ℕ → ℕ) → Serving k s v' around.line → v'.activations ≡ v.activations → Stays bl.taken h t h' t' → Loads links code (bl.ground n) v' v s k around r p c3 (t' (bl.taken.words + 2)) (bl.taken.words + 2) value → ((b : Base) → At b (i + size_of c0) (Known (bl.ground n) v' h' t' nothing b) (f' b)) → aims.done (i + size_of c0) f' v' value s) → Comes code i f v aims (V.computational around start k s)
+record Starts {e : Environment} {block : Names} {types : Types} (bl : Block e block types) (links : Links) (code : List Instr) (around : Around) (r : Y.Reference) (p : ℕ) (start : Y.Value) (c0 c3 : Code) : Type 1 where
+  does : {i : ℕ} {s : State} {v : Services} {h t : ℕ → ℕ} {aims : Aims V.Computational} (closed : Closed code aims) (n : Values) (f : Family) (k : ℕ) → Linked links code i c0 → Serving k s v around.line → AllHold bl.frames bl.serials (storage v) (e.level ∷ bl.depths) s block types n → ((b : Base) → At b i (Known (bl.ground n) v h t nothing b) (f b)) → ((value : V.Computational) (v' : Services) (f' : Family) (h' t' : ℕ → ℕ) → Serving k s v' around.line → storage v' ≡ storage v → Stays bl.taken h t h' t' → Loads links code (bl.ground n) v' v s k around r p c3 (t' (bl.taken.words + 2)) (bl.taken.words + 2) value → ((b : Base) → At b (i + size_of c0) (Known (bl.ground n) v' h' t' nothing b) (f' b)) → aims.done (i + size_of c0) f' v' value s) → Comes code i f v aims (V.computational around start k s)
 
 -- ---- the statement
 
@@ -125,7 +126,7 @@ abbrev count_ahead : Environment → Taken → (p : ℕ) → Option Y.Number →
 count_ahead e taken p limit step c0 c3 =
     c0 ++ (limit_code e taken limit ++ (step_code e taken step ++ (c3 ++ fitted_code (in_turns taken) p)))
 
-count_does : {e : Environment} {block : ℕ} {types : Types} (bl : Block e block types) (links : Links) (code : List Instr) (routines : Standing bl links code) (around : Around) (r : Y.Reference) (p : ℕ) (start : Y.Value) (c0 c3 : Code) (limit : Option Y.Number) (step : Y.Number) (condition : Option Y.Bit) (body : Y.Stmts) (line : ℕ) → Starts bl links code (at_line around line) r p start c0 c3 → Counts bl links code r p → IsProvedNumberIf block types limit → IsProvedNumber block types step → IsProvedBitIf block types condition → bl.taken.words + 3 ≤ bl.words → bl.taken.words + 3 + number_if limit ≤ bl.words → bl.taken.words + 3 + number_words step ≤ bl.words → bl.taken.words + 2 + bit_if condition ≤ bl.words → line < 2 ^ 31 → Does (turning bl) links code around.turns (stmts_code e (in_turns bl.taken) body) (M.list around body) → Does bl links code around.turns (act_code line ++ (count_ahead e bl.taken p limit step c0 c3 ++ turns_of bl r p limit condition line (stmts_code e (in_turns bl.taken) body))) (M.statement around (Y.DoCount (Y.NumberCounter p r) start limit step condition body line))
+count_does : {e : Environment} {block : Names} {types : Types} (bl : Block e block types) (links : Links) (code : List Instr) (routines : Standing bl links code) (around : Around) (r : Y.Reference) (p : ℕ) (start : Y.Value) (c0 c3 : Code) (limit : Option Y.Number) (step : Y.Number) (condition : Option Y.Bit) (body : Y.Stmts) (line : ℕ) → Starts bl links code (at_line around line) r p start c0 c3 → Counts bl links code r p → IsProvedNumberIf block types limit → IsProvedNumber block types step → IsProvedBitIf block types condition → bl.taken.words + 3 ≤ bl.words → bl.taken.words + 3 + number_if limit ≤ bl.words → bl.taken.words + 3 + number_words step ≤ bl.words → bl.taken.words + 2 + bit_if condition ≤ bl.words → line < 2 ^ 31 → Does (turning bl) links code around.turns (stmts_code e (in_turns bl.taken) body) (M.list around body) → Does bl links code around.turns (act_code line ++ (count_ahead e bl.taken p limit step c0 c3 ++ turns_of bl r p limit condition line (stmts_code e (in_turns bl.taken) body))) (M.statement around (Y.DoCount (Y.NumberCounter p r) start limit step condition body line))
 unfolding M.statement M.list ◌>>=◌ ◌>>◌
 count_does {e} {block} {types} bl links code routines around r p start c0 c3 limit step condition body line starts counts isl iss isc room rooml rooms roomc fits inner =
     record {
@@ -163,11 +164,11 @@ count_does {e} {block} {types} bl links code routines around r p start c0 c3 lim
           (act_piece (before_closed k next' closed) f line old k fits (front_of a (ahead ++ turns') l) serving at
           (λ f1 serving1 at1.
           let s' = with_world (counted s.world) s in
-          let all1 : AllHold bl.frames v.activations (e.level ∷ bl.depths) s' block types n = counted_all _ all in
+          let all1 : AllHold bl.frames bl.serials (storage v) (e.level ∷ bl.depths) s' block types n = counted_all _ all in
           comes_on k (V.computational here start k s') behind'
           (starts.does (before_closed k behind' closed) n f1 k (front_of c0 (c1 ++ (c2 ++ (c3 ++ c4))) lc) serving1 all1 at1
           (λ value v2 f2 h2 t2 serving2 same stays2 loads at2.
-          limits_piece bl routines here limit step n (λ most by. (M.counter_started here counter value) >>= (stored_first around line counter most by condition part)) closed f2 k isl iss rooml rooms (front_of c1 (c2 ++ (c3 ++ c4)) l1) (front_of c2 (c3 ++ c4) l2) serving2 (subst (λ xs. AllHold bl.frames xs (e.level ∷ bl.depths) s' block types n) (sym same) all1) at2
+          limits_piece bl routines here limit step n (λ most by. (M.counter_started here counter value) >>= (stored_first around line counter most by condition part)) closed f2 k isl iss rooml rooms (front_of c1 (c2 ++ (c3 ++ c4)) l1) (front_of c2 (c3 ++ c4) l2) serving2 (subst (λ xs. AllHold bl.frames bl.serials xs (e.level ∷ bl.depths) s' block types n) (sym same) all1) at2
           (λ most by f3 h3 t3 wby waits at_step start3 stays3 at3.
           let store = stored_first around line counter most by condition part in
           comes_on k (M.counter_started here counter value k s') store
@@ -182,7 +183,7 @@ count_does {e} {block} {types} bl links code routines around r p start c0 c3 lim
 
 -- ---- numbers and bits wait in a word, and texts on the stack of texts
 
-word_loads : {links : Links} {code : List Instr} {v : Services} {s : State} {k : ℕ} {e : Environment} {block : ℕ} {types : Types} (bl : Block e block types) (n : Values) (around : Around) (r : Y.Reference) (p x : ℕ) (value : V.Computational) (z : ℤ) → bl.taken.words + 3 ≤ bl.words → x ≡ word z → IsWide z → ((s' : State) → M.counter_started around (Y.NumberCounter p r) value k s' ≡ M.counter_value around (Y.NumberCounter p r) z k s') → Loads links code (bl.ground n) v v s k around r p (start_loaded bl.taken) x (bl.taken.words + 2) value
+word_loads : {links : Links} {code : List Instr} {v : Services} {s : State} {k : ℕ} {e : Environment} {block : Names} {types : Types} (bl : Block e block types) (n : Values) (around : Around) (r : Y.Reference) (p x : ℕ) (value : V.Computational) (z : ℤ) → bl.taken.words + 3 ≤ bl.words → x ≡ word z → IsWide z → ((s' : State) → M.counter_started around (Y.NumberCounter p r) value k s' ≡ M.counter_value around (Y.NumberCounter p r) z k s') → Loads links code (bl.ground n) v v s k around r p (start_loaded bl.taken) x (bl.taken.words + 2) value
 word_loads {code = code} {v = v} {s = s} bl n around r p x value z room is wide same =
     let words = bl.words_are n in
     record {
@@ -191,7 +192,7 @@ word_loads {code = code} {v = v} {s = s} bl n around r p x value z room is wide 
           (λ f1 at1. subst (Comes code (i + size_of (start_loaded bl.taken)) f1 v aims) (sym (same s)) (goal z f1 wide at1));
     }
 
-number_starts : {e : Environment} {block : ℕ} {types : Types} (bl : Block e block types) (links : Links) (code : List Instr) (routines : Standing bl links code) (around : Around) (r : Y.Reference) (p precision : ℕ) (x : Y.Number) → IsProvedNumber block types x → bl.taken.words + 3 + number_words x ≤ bl.words → Starts bl links code around r p (Y.NumberValue precision x) (start_code e bl.taken (Y.NumberValue precision x)) (start_loaded bl.taken)
+number_starts : {e : Environment} {block : Names} {types : Types} (bl : Block e block types) (links : Links) (code : List Instr) (routines : Standing bl links code) (around : Around) (r : Y.Reference) (p precision : ℕ) (x : Y.Number) → IsProvedNumber block types x → bl.taken.words + 3 + number_words x ≤ bl.words → Starts bl links code around r p (Y.NumberValue precision x) (start_code e bl.taken (Y.NumberValue precision x)) (start_loaded bl.taken)
 unfolding V.computational M.counter_started R.or_error ◌>>=◌ give
 number_starts {e} bl links code routines around r p precision x is room =
     record {
@@ -209,7 +210,7 @@ number_starts {e} bl links code routines around r p precision x is room =
           }));
     }
 
-bit_starts : {e : Environment} {block : ℕ} {types : Types} (bl : Block e block types) (links : Links) (code : List Instr) (routines : Standing bl links code) (around : Around) (r : Y.Reference) (p : ℕ) (x : Y.Bit) → IsProvedBit block types x → bl.taken.words + 3 + bit_words x ≤ bl.words → Starts bl links code around r p (Y.BitValue x) (start_code e bl.taken (Y.BitValue x)) (start_loaded bl.taken)
+bit_starts : {e : Environment} {block : Names} {types : Types} (bl : Block e block types) (links : Links) (code : List Instr) (routines : Standing bl links code) (around : Around) (r : Y.Reference) (p : ℕ) (x : Y.Bit) → IsProvedBit block types x → bl.taken.words + 3 + bit_words x ≤ bl.words → Starts bl links code around r p (Y.BitValue x) (start_code e bl.taken (Y.BitValue x)) (start_loaded bl.taken)
 unfolding V.computational M.counter_started R.or_error ◌>>=◌ give
 bit_starts {e} bl links code routines around r p x is room =
     record {
@@ -227,7 +228,7 @@ bit_starts {e} bl links code routines around r p x is room =
           }));
     }
 
-text_starts : {e : Environment} {block : ℕ} {types : Types} (bl : Block e block types) (links : Links) (code : List Instr) (routines : Standing bl links code) (around : Around) (r : Y.Reference) (p : ℕ) (x : Y.Text) → IsProvedText block types x → bl.taken.words + 3 + text_words x ≤ bl.words → Starts bl links code around r p (Y.TextValue x) (start_code e bl.taken (Y.TextValue x)) (small a0 0 ∷ tested_service 26)
+text_starts : {e : Environment} {block : Names} {types : Types} (bl : Block e block types) (links : Links) (code : List Instr) (routines : Standing bl links code) (around : Around) (r : Y.Reference) (p : ℕ) (x : Y.Text) → IsProvedText block types x → bl.taken.words + 3 + text_words x ≤ bl.words → Starts bl links code around r p (Y.TextValue x) (start_code e bl.taken (Y.TextValue x)) (small a0 0 ∷ tested_service 26)
 unfolding V.computational M.counter_started ◌>>=◌ give
 text_starts {e} {block} bl links code routines around r p x is room =
     record {
@@ -253,7 +254,7 @@ text_starts {e} {block} bl links code routines around r p x is room =
 
 -- ---- the statement with a variable or an element of the block
 
-start_does : {e : Environment} {block : ℕ} {types : Types} (bl : Block e block types) (links : Links) (code : List Instr) (routines : Standing bl links code) (around : Around) (r : Y.Reference) (p : ℕ) (start : Y.Value) (limit : Option Y.Number) (step : Y.Number) (condition : Option Y.Bit) (body : Y.Stmts) (line : ℕ) → IsProvedStart block types start → Counts bl links code r p → IsProvedNumberIf block types limit → IsProvedNumber block types step → IsProvedBitIf block types condition → bl.taken.words + 3 + value_words start ≤ bl.words → bl.taken.words + 3 + number_if limit ≤ bl.words → bl.taken.words + 3 + number_words step ≤ bl.words → bl.taken.words + 2 + bit_if condition ≤ bl.words → line < 2 ^ 31 → Does (turning bl) links code around.turns (stmts_code e (in_turns bl.taken) body) (M.list around body) → Does bl links code around.turns (stmt_code e bl.taken (Y.DoCount (Y.NumberCounter p r) start limit step condition body line)) (M.statement around (Y.DoCount (Y.NumberCounter p r) start limit step condition body line))
+start_does : {e : Environment} {block : Names} {types : Types} (bl : Block e block types) (links : Links) (code : List Instr) (routines : Standing bl links code) (around : Around) (r : Y.Reference) (p : ℕ) (start : Y.Value) (limit : Option Y.Number) (step : Y.Number) (condition : Option Y.Bit) (body : Y.Stmts) (line : ℕ) → IsProvedStart block types start → Counts bl links code r p → IsProvedNumberIf block types limit → IsProvedNumber block types step → IsProvedBitIf block types condition → bl.taken.words + 3 + value_words start ≤ bl.words → bl.taken.words + 3 + number_if limit ≤ bl.words → bl.taken.words + 3 + number_words step ≤ bl.words → bl.taken.words + 2 + bit_if condition ≤ bl.words → line < 2 ^ 31 → Does (turning bl) links code around.turns (stmts_code e (in_turns bl.taken) body) (M.list around body) → Does bl links code around.turns (stmt_code e bl.taken (Y.DoCount (Y.NumberCounter p r) start limit step condition body line)) (M.statement around (Y.DoCount (Y.NumberCounter p r) start limit step condition body line))
 start_does bl links code routines around r p (Y.NumberValue precision x) limit step condition body line is counts isl iss isc room rooml rooms roomc fits inner =
     let most = le-max_right 1 (number_words x) in
     count_does bl links code routines around r p (Y.NumberValue precision x) _ _ limit step condition body line
@@ -268,7 +269,7 @@ start_does bl links code routines around r p (Y.TextValue x) limit step conditio
 start_does bl links code routines around r p _ limit step condition body line is counts isl iss isc room rooml rooms roomc fits inner = absurd is
 
 -- what is assigned to may count
-assigned_counts : {e : Environment} {block : ℕ} {types : Types} (bl : Block e block types) (links : Links) (code : List Instr) (routines : Standing bl links code) (r : Y.Reference) (p : ℕ) → IsAssigned block types (Y.FixedLeaf p) r → bl.taken.words + 3 + reference_words r ≤ bl.words → Counts bl links code r p
+assigned_counts : {e : Environment} {block : Names} {types : Types} (bl : Block e block types) (links : Links) (code : List Instr) (routines : Standing bl links code) (r : Y.Reference) (p : ℕ) → IsAssigned block types (Y.FixedLeaf p) r → bl.taken.words + 3 + reference_words r ≤ bl.words → Counts bl links code r p
 assigned_counts {e} {block} {types} bl links code routines r p target room =
     record { takes = by_part target.0; reads = assigned_read block types p r target; room = room }
   where
@@ -284,6 +285,6 @@ assigned_counts {e} {block} {types} bl links code routines r p target room =
         subst (λ q. Takes (turning bl) links code q (Y.FixedLeaf p)) (sym o.is)
         (element_takes (turning bl) links code (standing_turning routines) o.index o.bound o.bounds o.first o.rest o.declared o.many are (omega (arith, room, most, same)))
 
-pub counted_does : {e : Environment} {block : ℕ} {types : Types} (bl : Block e block types) (links : Links) (code : List Instr) (routines : Standing bl links code) (around : Around) (r : Y.Reference) (precision : ℕ) (start : Y.Value) (limit : Option Y.Number) (step : Y.Number) (condition : Option Y.Bit) (body : Y.Stmts) (line : ℕ) → IsAssigned block types (Y.FixedLeaf precision) r → bl.taken.words + 3 + reference_words r ≤ bl.words → IsProvedStart block types start → IsProvedNumberIf block types limit → IsProvedNumber block types step → IsProvedBitIf block types condition → bl.taken.words + 3 + value_words start ≤ bl.words → bl.taken.words + 3 + number_if limit ≤ bl.words → bl.taken.words + 3 + number_words step ≤ bl.words → bl.taken.words + 2 + bit_if condition ≤ bl.words → line < 2 ^ 31 → Does (turning bl) links code around.turns (stmts_code e (in_turns bl.taken) body) (M.list around body) → Does bl links code around.turns (stmt_code e bl.taken (Y.DoCount (Y.NumberCounter precision r) start limit step condition body line)) (M.statement around (Y.DoCount (Y.NumberCounter precision r) start limit step condition body line))
+pub counted_does : {e : Environment} {block : Names} {types : Types} (bl : Block e block types) (links : Links) (code : List Instr) (routines : Standing bl links code) (around : Around) (r : Y.Reference) (precision : ℕ) (start : Y.Value) (limit : Option Y.Number) (step : Y.Number) (condition : Option Y.Bit) (body : Y.Stmts) (line : ℕ) → IsAssigned block types (Y.FixedLeaf precision) r → bl.taken.words + 3 + reference_words r ≤ bl.words → IsProvedStart block types start → IsProvedNumberIf block types limit → IsProvedNumber block types step → IsProvedBitIf block types condition → bl.taken.words + 3 + value_words start ≤ bl.words → bl.taken.words + 3 + number_if limit ≤ bl.words → bl.taken.words + 3 + number_words step ≤ bl.words → bl.taken.words + 2 + bit_if condition ≤ bl.words → line < 2 ^ 31 → Does (turning bl) links code around.turns (stmts_code e (in_turns bl.taken) body) (M.list around body) → Does bl links code around.turns (stmt_code e bl.taken (Y.DoCount (Y.NumberCounter precision r) start limit step condition body line)) (M.statement around (Y.DoCount (Y.NumberCounter precision r) start limit step condition body line))
 counted_does bl links code routines around r precision start limit step condition body line target some is isl iss isc room rooml rooms roomc fits inner =
     start_does bl links code routines around r precision start limit step condition body line is (assigned_counts bl links code routines r precision target some) isl iss isc room rooml rooms roomc fits inner

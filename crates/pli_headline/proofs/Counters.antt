@@ -15,7 +15,7 @@ use Rattle.pli_coding.specs.Assembly.{Plain, Code, size_of}
 use Rattle.pli_coding.specs.Instructions.{small, number, service}
 use Rattle.pli_coding.specs.Environments.{Environment}
 use Rattle.pli_coding.specs.Linking.{Links}
-use Rattle.pli_headline.specs.ProvedSoFar.{Types}
+use Rattle.pli_headline.specs.ProvedSoFar.{Names, Types}
 use Rattle.pli_headline.proofs.Engine.{Base, address}
 use Rattle.pli_headline.proofs.Linking.{size_append}
 use Rattle.pli_headline.proofs.Items.{Linked, At, straight}
@@ -39,7 +39,7 @@ on_line line v = record v { line = line }
 line_small : (line : ℕ) → line < 2 ^ 31 → word (pos line) < 2 ^ 32
 line_small line h = omega (arith, ints)
 
-pub line_piece : {links : Links} {code : List Instr} {i : ℕ} {v : Services} {h t : ℕ → ℕ} {s : State} {aims : Aims (Unit {0})} {e : Environment} {block : ℕ} {types : Types} (bl : Block e block types) (n : Values) (closed : Closed code aims) (f : Family) (flow : Flow (Unit {0})) (line old k : ℕ) → line < 2 ^ 31 → Linked links code i (line_code line) → Serving k s v old → ((b : Base) → At b i (Known (bl.ground n) v h t nothing b) (f b)) → ((f' : Family) → Serving k s (on_line line v) line → ((b : Base) → At b (i + size_of (line_code line)) (Known (bl.ground n) (on_line line v) h t nothing b) (f' b)) → Comes code (i + size_of (line_code line)) f' (on_line line v) aims flow) → Comes code i f v aims flow
+pub line_piece : {links : Links} {code : List Instr} {i : ℕ} {v : Services} {h t : ℕ → ℕ} {s : State} {aims : Aims (Unit {0})} {e : Environment} {block : Names} {types : Types} (bl : Block e block types) (n : Values) (closed : Closed code aims) (f : Family) (flow : Flow (Unit {0})) (line old k : ℕ) → line < 2 ^ 31 → Linked links code i (line_code line) → Serving k s v old → ((b : Base) → At b i (Known (bl.ground n) v h t nothing b) (f b)) → ((f' : Family) → Serving k s (on_line line v) line → ((b : Base) → At b (i + size_of (line_code line)) (Known (bl.ground n) (on_line line v) h t nothing b) (f' b)) → Comes code (i + size_of (line_code line)) f' (on_line line v) aims flow) → Comes code i f v aims flow
 line_piece {code = code} {i = i} {v = v} {h = h} {t = t} {aims = aims} bl n closed f flow line old k fits l serving at next' =
     let g = bl.ground n in
     let first = number a0 line in

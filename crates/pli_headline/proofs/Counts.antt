@@ -29,7 +29,8 @@ use Rattle.pli_coding.specs.Frames.{words_place}
 use Rattle.pli_coding.specs.Temporaries.{number_words, reference_words}
 use Rattle.pli_coding.specs.Statements.{step_place, in_turns, before_turns, limit_code, step_code, number_if, limit_kept, while_kept, stepped_code, turn_of, words_behind_condition, words_behind_limit, words_back, turns_code, bit_if}
 use Rattle.pli_coding.specs.Linking.{Links}
-use Rattle.pli_headline.specs.ProvedSoFar.{Types, IsProvedNumber, IsProvedNumberIf, IsProvedBitIf}
+use Rattle.pli_headline.specs.ProvedSoFar.{Names, Types, IsProvedNumber, IsProvedNumberIf, IsProvedBitIf}
+use Rattle.pli_headline.proofs.Storages.{storage}
 use Rattle.pli_headline.proofs.Engine.{Base, address}
 use Rattle.pli_headline.proofs.Linking.{size_append}
 use Rattle.pli_headline.proofs.Items.{Linked, At, straight}
@@ -56,7 +57,7 @@ use Rattle.pli_headline.proofs.Reach.{Family, cost, Aims, Comes, Closed, before,
 use Rattle.pli_headline.proofs.Evaluations.{Evaluates, Kind, number_kind}
 
 -- the block while limit and step wait
-abbrev pub turning : {e : Environment} {block : ℕ} {types : Types} → Block e block types → Block e block types
+abbrev pub turning : {e : Environment} {block : Names} {types : Types} → Block e block types → Block e block types
 turning bl =
     record {
       ground = bl.ground;
@@ -68,16 +69,25 @@ turning bl =
       words_are = bl.words_are;
       same = bl.same;
       temps = bl.temps;
+      alike = bl.alike;
       declared = bl.declared;
       reach = bl.reach;
+      named = bl.named;
+      lower = bl.lower;
+      bases = bl.bases;
+      reaches = bl.reaches;
+      inside = bl.inside;
       places = bl.places;
       reads = bl.reads;
       writes = bl.writes;
       held = bl.held;
       frames = bl.frames;
+      serials = bl.serials;
       bottom = bl.bottom;
       depths = bl.depths;
       shallow = bl.shallow;
+      owners = bl.owners;
+      first_owner = bl.first_owner;
       stack = bl.stack;
       alone = bl.alone;
       lead = bl.lead;
@@ -89,17 +99,19 @@ turning bl =
       level_room = bl.level_room;
       outermost_level = bl.outermost_level;
       displays = bl.displays;
+      leveled = bl.leveled;
       texts = bl.texts;
       arrays = bl.arrays;
       outer = bl.outer;
       enclosing = bl.enclosing;
+      beneath = bl.beneath;
     }
 
-pub standing_turning : {e : Environment} {block : ℕ} {types : Types} {bl : Block e block types} {links : Links} {code : List Instr} → Standing bl links code → Standing (turning bl) links code
-standing_turning s = record { raises = s.raises; constants = s.constants }
+pub standing_turning : {e : Environment} {block : Names} {types : Types} {bl : Block e block types} {links : Links} {code : List Instr} → Standing bl links code → Standing (turning bl) links code
+standing_turning s = record { raises = s.raises; constants = s.constants; filled = s.filled }
 
 -- a jump out of it leaves fewer words that wait
-turning_enough : {e : Environment} {block : ℕ} {types : Types} (bl : Block e block types) {links : Links} {k turns i : ℕ} {h t : ℕ → ℕ} {acts : ℕ} {jumped : ℕ → Family → Services → ℕ → Label → State → Type 0} {returned : ℕ → Family → Services → Option BasicValue → State → Type 0} → Enough bl links k turns i h t acts jumped returned → Enough (turning bl) links k turns i h t acts jumped returned
+turning_enough : {e : Environment} {block : Names} {types : Types} (bl : Block e block types) {links : Links} {k turns i : ℕ} {h t : ℕ → ℕ} {acts : ℕ} {jumped : ℕ → Family → Services → ℕ → Label → State → Type 0} {returned : ℕ → Family → Services → Option BasicValue → State → Type 0} → Enough bl links k turns i h t acts jumped returned → Enough (turning bl) links k turns i h t acts jumped returned
 turning_enough bl more =
     record {
       enough = more.enough;
@@ -125,7 +137,7 @@ turning_enough bl more =
 abbrev lefted : ℕ → Base → List (ℕ × ℕ)
 lefted x b = (6, x) ∷ []
 
-pub stepping_piece : {links : Links} {code : List Instr} {i : ℕ} {v : Services} {h t : ℕ → ℕ} {s : State} {aims : Aims (Unit {0})} {e : Environment} {block : ℕ} {types : Types} (bl : Block e block types) (routines : Standing bl links code) (around : Around) (line : ℕ) (r : Y.Reference) (p : ℕ) (step : ℤ) (closed : Closed code aims) (n : Values) (f : Family) (old k : ℕ) → line < 2 ^ 31 → p ≤ 31 → IsProvedNumber block types (Y.NumberIn r) → IsWide step → t (bl.taken.words + 1) ≡ word step → bl.taken.words + 3 + reference_words r ≤ bl.words → Linked links code i (stepped_code e bl.taken (Y.NumberCounter p r) line) → Serving k s v old → AllHold bl.frames v.activations (e.level ∷ bl.depths) s block types n → ((b : Base) → At b i (Known (bl.ground n) v h t nothing b) (f b)) → ((z : ℤ) (f' : Family) (h' t' : ℕ → ℕ) → Fits (Y.FixedLeaf p) z → IsUnpaused (M.assigned (at_line around line) r (BasicNumber z) k s) → Stays (in_turns bl.taken) h t h' t' → Serving k s (on_line line v) line → ((b : Base) → At b (i + size_of (stepped_code e bl.taken (Y.NumberCounter p r) line)) (Known (bl.ground n) (on_line line v) h' t' (valued (word z)) b) (f' b)) → Comes code (i + size_of (stepped_code e bl.taken (Y.NumberCounter p r) line)) f' (on_line line v) aims (M.assigned (at_line around line) r (BasicNumber z) k s)) → Comes code i f v aims (M.stepped (at_line around line) (Y.NumberCounter p r) step k s)
+pub stepping_piece : {links : Links} {code : List Instr} {i : ℕ} {v : Services} {h t : ℕ → ℕ} {s : State} {aims : Aims (Unit {0})} {e : Environment} {block : Names} {types : Types} (bl : Block e block types) (routines : Standing bl links code) (around : Around) (line : ℕ) (r : Y.Reference) (p : ℕ) (step : ℤ) (closed : Closed code aims) (n : Values) (f : Family) (old k : ℕ) → line < 2 ^ 31 → p ≤ 31 → IsProvedNumber block types (Y.NumberIn r) → IsWide step → t (bl.taken.words + 1) ≡ word step → bl.taken.words + 3 + reference_words r ≤ bl.words → Linked links code i (stepped_code e bl.taken (Y.NumberCounter p r) line) → Serving k s v old → AllHold bl.frames bl.serials (storage v) (e.level ∷ bl.depths) s block types n → ((b : Base) → At b i (Known (bl.ground n) v h t nothing b) (f b)) → ((z : ℤ) (f' : Family) (h' t' : ℕ → ℕ) → Fits (Y.FixedLeaf p) z → IsUnpaused (M.assigned (at_line around line) r (BasicNumber z) k s) → Stays (in_turns bl.taken) h t h' t' → Serving k s (on_line line v) line → ((b : Base) → At b (i + size_of (stepped_code e bl.taken (Y.NumberCounter p r) line)) (Known (bl.ground n) (on_line line v) h' t' (valued (word z)) b) (f' b)) → Comes code (i + size_of (stepped_code e bl.taken (Y.NumberCounter p r) line)) f' (on_line line v) aims (M.assigned (at_line around line) r (BasicNumber z) k s)) → Comes code i f v aims (M.stepped (at_line around line) (Y.NumberCounter p r) step k s)
 unfolding M.stepped M.counter_number M.counter_value V.number ◌>>=◌ give
 stepping_piece {links = links} {code = code} {i = i} {v = v} {h = h} {t = t} {s = s} {aims = aims} {e = e} {block = block} {types = types} bl routines around line r p step closed n f old k fits few mine ws at_step room l serving all at goal =
     let here = at_line around line in
@@ -190,19 +202,19 @@ stepping_piece {links = links} {code = code} {i = i} {v = v} {h = h} {t = t} {s 
 -- ---- the turns
 
 -- a variable or an element of the block that counts
-pub record Counts {e : Environment} {block : ℕ} {types : Types} (bl : Block e block types) (links : Links) (code : List Instr) (r : Y.Reference) (p : ℕ) : Type 1 where
+pub record Counts {e : Environment} {block : Names} {types : Types} (bl : Block e block types) (links : Links) (code : List Instr) (r : Y.Reference) (p : ℕ) : Type 1 where
   pub takes : Takes (turning bl) links code r (Y.FixedLeaf p)
   pub reads : IsProvedNumber block types (Y.NumberIn r)
   pub room : bl.taken.words + 3 + reference_words r ≤ bl.words
 
 -- the code of a turn behind what begins it
-abbrev pub turn_rest : {e : Environment} {block : ℕ} {types : Types} → Block e block types → (r : Y.Reference) → (p : ℕ) → Option Y.Number → Option Y.Bit → (line : ℕ) → Code → Code
+abbrev pub turn_rest : {e : Environment} {block : Names} {types : Types} → Block e block types → (r : Y.Reference) → (p : ℕ) → Option Y.Number → Option Y.Bit → (line : ℕ) → Code → Code
 turn_rest {e} {block} bl r p limit condition line c =
     let u = turn_of e bl.taken (Y.NumberCounter p r) limit condition line c in
     limit_kept e bl.taken (Y.NumberCounter p r) limit (words_behind_limit u)
     ++ (while_kept e bl.taken condition (words_behind_condition u) ++ (c ++ (stepped_code e bl.taken (Y.NumberCounter p r) line ++ JumpBack (words_back u) ∷ [])))
 
-abbrev pub turns_of : {e : Environment} {block : ℕ} {types : Types} → Block e block types → (r : Y.Reference) → (p : ℕ) → Option Y.Number → Option Y.Bit → (line : ℕ) → Code → Code
+abbrev pub turns_of : {e : Environment} {block : Names} {types : Types} → Block e block types → (r : Y.Reference) → (p : ℕ) → Option Y.Number → Option Y.Bit → (line : ℕ) → Code → Code
 turns_of {e} {block} bl r p limit condition line c = turns_code (turn_of e bl.taken (Y.NumberCounter p r) limit condition line c)
 
 pub limit_stays : (limit : Option Y.Number) (most : Option ℤ) (t t' : ℕ → ℕ) (j : ℕ) → t' j ≡ t j → LimitWaits limit most t j → LimitWaits limit most t' j
@@ -212,7 +224,7 @@ limit_stays (Some x) None t t' j e waits = absurd waits
 limit_stays (Some x) (Some m) t t' j e waits = (waits.0, e ∙ waits.1)
 
 -- from the act of a turn on, with credits enough for it
-pub head_piece : {e : Environment} {block : ℕ} {types : Types} (bl : Block e block types) {links : Links} {code : List Instr} (routines : Standing bl links code) (around : Around) (r : Y.Reference) (p : ℕ) (limit : Option Y.Number) (most : Option ℤ) (step : ℤ) (condition : Option Y.Bit) (line : ℕ) (c : Code) (part : Meaning (Unit {0})) → Counts bl links code r p → IsWide step → IsProvedBitIf block types condition → bl.taken.words + 3 ≤ bl.words → bl.taken.words + 2 + bit_if condition ≤ bl.words → line < 2 ^ 31 → Does (turning bl) links code around.turns c part → (turns : ℕ) {i : ℕ} {s : State} {v : Services} {h t : ℕ → ℕ} {aims : Aims (Unit {0})} (closed : Closed code aims) (credits old : ℕ) (n : Values) (f : Family) (k : ℕ) → k < turns + v.world.acts → credits + size_of (act_code line) ≤ cost code → Linked links code i (turns_of bl r p limit condition line c) → LimitWaits limit most t bl.taken.words → t (bl.taken.words + 1) ≡ word step → Serving k s v old → AllHold bl.frames v.activations (e.level ∷ bl.depths) s block types n → ((b : Base) → At b (i + size_of (word_stored e (in_turns bl.taken) r)) (Known (bl.ground n) v h t nothing b) (f b)) → Behind bl k h t (i + size_of (turns_of bl r p limit condition line c)) aims → Enough bl links k around.turns i h t v.world.acts aims.jumped aims.returned → Comes code credits f v aims (repeated_while turns (M.turn_due (at_line around line) (Y.NumberCounter p r) most step condition) (part >> (M.stepped (at_line around line) (Y.NumberCounter p r) step)) k s)
+pub head_piece : {e : Environment} {block : Names} {types : Types} (bl : Block e block types) {links : Links} {code : List Instr} (routines : Standing bl links code) (around : Around) (r : Y.Reference) (p : ℕ) (limit : Option Y.Number) (most : Option ℤ) (step : ℤ) (condition : Option Y.Bit) (line : ℕ) (c : Code) (part : Meaning (Unit {0})) → Counts bl links code r p → IsWide step → IsProvedBitIf block types condition → bl.taken.words + 3 ≤ bl.words → bl.taken.words + 2 + bit_if condition ≤ bl.words → line < 2 ^ 31 → Does (turning bl) links code around.turns c part → (turns : ℕ) {i : ℕ} {s : State} {v : Services} {h t : ℕ → ℕ} {aims : Aims (Unit {0})} (closed : Closed code aims) (credits old : ℕ) (n : Values) (f : Family) (k : ℕ) → k < turns + v.world.acts → credits + size_of (act_code line) ≤ cost code → Linked links code i (turns_of bl r p limit condition line c) → LimitWaits limit most t bl.taken.words → t (bl.taken.words + 1) ≡ word step → Serving k s v old → AllHold bl.frames bl.serials (storage v) (e.level ∷ bl.depths) s block types n → ((b : Base) → At b (i + size_of (word_stored e (in_turns bl.taken) r)) (Known (bl.ground n) v h t nothing b) (f b)) → Behind bl k h t (i + size_of (turns_of bl r p limit condition line c)) aims → Enough bl links k around.turns i h t v.world.acts aims.jumped aims.returned → Comes code credits f v aims (repeated_while turns (M.turn_due (at_line around line) (Y.NumberCounter p r) most step condition) (part >> (M.stepped (at_line around line) (Y.NumberCounter p r) step)) k s)
 unfolding repeated_while M.turn_due ◌>>=◌ ◌>>◌ give stuck choose
 head_piece bl routines around r p limit most step condition line c part counts ws is room room' fits inner zero closed credits old n f k enough paid l waits at_step serving all at goal more =
     absurd (let a = serving.allowed in omega (arith, a, enough))
@@ -269,7 +281,7 @@ head_piece {e} {block} {types} bl {links} {code} routines around r p limit most 
     (λ f1 serving1 at1.
     let s' = with_world (counted s.world) s in
     let v' = acted line v in
-    let all1 : AllHold bl.frames v.activations (e.level ∷ bl.depths) s' block types n = counted_all _ all in
+    let all1 : AllHold bl.frames bl.serials (storage v) (e.level ∷ bl.depths) s' block types n = counted_all _ all in
     comes_on k (M.within_limit here (Y.NumberCounter p r) most step k s') conditions
     (within_piece bl routines here r p limit most step (words_behind_limit u) (before_closed k conditions (before_closed k branch closed)) n f1 k counts.reads waits ws at_step (omega (arith, some)) (omega (arith, inside, over1)) (front_of lim (con ++ (c ++ (sp ++ jump))) l1) serving1 all1 at1 (
       (λ f2 h2 t2 stays2 at2.
@@ -281,7 +293,7 @@ head_piece {e} {block} {types} bl {links} {code} routines around r p limit most 
                 (inner.does (since_closed acts1 (before_closed k steps (before_closed k goes closed))) line n f3 k (front_of c (sp ++ jump) l3) serving1 all1 at3
                 (λ s4' v4 line4 n4 h4 t4 f4 serving4 all4 stays4 at4 grown.
                 let stays04 = stays_then stays2 (stays_then stays3 stays4) in
-                stepping_piece bl routines around line r p step (before_closed k goes closed) n4 f4 line4 k fits (takes.old s4' v4.activations n4 all4).1.0 counts.reads ws (stays04.words (w + 1) (omega arith) ∙ at_step) some (front_of sp jump l4) serving4 all4 at4
+                stepping_piece bl routines around line r p step (before_closed k goes closed) n4 f4 line4 k fits (takes.old s4' (storage v4) n4 all4).1.0 counts.reads ws (stays04.words (w + 1) (omega arith) ∙ at_step) some (front_of sp jump l4) serving4 all4 at4
                 (λ z f5 h5 t5 wz unpaused stays5 serving5 at5.
                 onward (before_closed k goes closed) (back_piece i5 f5 (words_back u) i back (record { reserved_stay = λ y x. refl; known_stay = λ b y x q. q; set = λ y x. refl }) (back_of sp jump l4) at5)
                 (λ f6 at6.
@@ -322,7 +334,7 @@ other_place : (i k : ℕ) → k < i → (i == k) ≡ false
 other_place i k h = grind (arith, nat_tests)
 
 -- a value is evaluated while three words may wait, and kept in one of them
-pub word_kept : {X : Type 0} (kind : Kind X) {words : ℕ} {part : Taken → Code} {meaning : Meaning X} {links : Links} {code : List Instr} {i : ℕ} {v : Services} {h t : ℕ → ℕ} {s : State} {aims : Aims X} {e : Environment} {block : ℕ} {types : Types} (bl : Block e block types) (n : Values) (j : ℕ) (closed : Closed code aims) (f : Family) (k : ℕ) → Evaluates kind links code (bl.ground n) v s k words part meaning → bl.taken.words + 3 + words ≤ bl.words → j < bl.words → Linked links code i (part (before_turns bl.taken) ++ store_word frame_register a0 (words_place j 1)) → ((b : Base) → At b i (Known (bl.ground n) v h t nothing b) (f b)) → ((x : X) (f' : Family) (h' t' : ℕ → ℕ) → kind.Fits x → Stays (before_turns bl.taken) h t h' t' → ((b : Base) → At b (i + size_of (part (before_turns bl.taken) ++ store_word frame_register a0 (words_place j 1))) (Known (bl.ground n) v h' (put t' j (kind.word_of x)) nothing b) (f' b)) → aims.done (i + size_of (part (before_turns bl.taken) ++ store_word frame_register a0 (words_place j 1))) f' v x s) → Comes code i f v aims (meaning k s)
+pub word_kept : {X : Type 0} (kind : Kind X) {words : ℕ} {part : Taken → Code} {meaning : Meaning X} {links : Links} {code : List Instr} {i : ℕ} {v : Services} {h t : ℕ → ℕ} {s : State} {aims : Aims X} {e : Environment} {block : Names} {types : Types} (bl : Block e block types) (n : Values) (j : ℕ) (closed : Closed code aims) (f : Family) (k : ℕ) → Evaluates kind links code (bl.ground n) v s k words part meaning → bl.taken.words + 3 + words ≤ bl.words → j < bl.words → Linked links code i (part (before_turns bl.taken) ++ store_word frame_register a0 (words_place j 1)) → ((b : Base) → At b i (Known (bl.ground n) v h t nothing b) (f b)) → ((x : X) (f' : Family) (h' t' : ℕ → ℕ) → kind.Fits x → Stays (before_turns bl.taken) h t h' t' → ((b : Base) → At b (i + size_of (part (before_turns bl.taken) ++ store_word frame_register a0 (words_place j 1))) (Known (bl.ground n) v h' (put t' j (kind.word_of x)) nothing b) (f' b)) → aims.done (i + size_of (part (before_turns bl.taken) ++ store_word frame_register a0 (words_place j 1))) f' v x s) → Comes code i f v aims (meaning k s)
 word_kept kind {part = part} {i = i} {v = v} {s = s} {aims = aims} bl n j closed f k x room inside l at goal =
     let a = part (before_turns bl.taken) in
     let c = store_word frame_register a0 (words_place j 1) in
@@ -336,11 +348,11 @@ word_kept kind {part = part} {i = i} {v = v} {s = s} {aims = aims} bl n j closed
     (subst (λ u. aims.done u (reached r) v z s) (sym place)
     (goal z (reached r) h1 t1 fits stays (λ b. record { pc = (reached_holds r b).pc ∙ ap (address b) place; holds = (reached_holds r b).holds }))))
 
-number_kept : {links : Links} {code : List Instr} {i : ℕ} {v : Services} {h t : ℕ → ℕ} {s : State} {aims : Aims ℤ} {e : Environment} {block : ℕ} {types : Types} (bl : Block e block types) (routines : Standing bl links code) (around : Around) (x : Y.Number) (n : Values) (j : ℕ) (closed : Closed code aims) (f : Family) (k : ℕ) → IsProvedNumber block types x → bl.taken.words + 3 + number_words x ≤ bl.words → j < bl.words → Linked links code i (number_code e (before_turns bl.taken) x ++ store_word frame_register a0 (words_place j 1)) → Serving k s v around.line → AllHold bl.frames v.activations (e.level ∷ bl.depths) s block types n → ((b : Base) → At b i (Known (bl.ground n) v h t nothing b) (f b)) → ((z : ℤ) (f' : Family) (h' t' : ℕ → ℕ) → IsWide z → Stays (before_turns bl.taken) h t h' t' → ((b : Base) → At b (i + size_of (number_code e (before_turns bl.taken) x ++ store_word frame_register a0 (words_place j 1))) (Known (bl.ground n) v h' (put t' j (word z)) nothing b) (f' b)) → aims.done (i + size_of (number_code e (before_turns bl.taken) x ++ store_word frame_register a0 (words_place j 1))) f' v z s) → Comes code i f v aims (V.number around x k s)
+number_kept : {links : Links} {code : List Instr} {i : ℕ} {v : Services} {h t : ℕ → ℕ} {s : State} {aims : Aims ℤ} {e : Environment} {block : Names} {types : Types} (bl : Block e block types) (routines : Standing bl links code) (around : Around) (x : Y.Number) (n : Values) (j : ℕ) (closed : Closed code aims) (f : Family) (k : ℕ) → IsProvedNumber block types x → bl.taken.words + 3 + number_words x ≤ bl.words → j < bl.words → Linked links code i (number_code e (before_turns bl.taken) x ++ store_word frame_register a0 (words_place j 1)) → Serving k s v around.line → AllHold bl.frames bl.serials (storage v) (e.level ∷ bl.depths) s block types n → ((b : Base) → At b i (Known (bl.ground n) v h t nothing b) (f b)) → ((z : ℤ) (f' : Family) (h' t' : ℕ → ℕ) → IsWide z → Stays (before_turns bl.taken) h t h' t' → ((b : Base) → At b (i + size_of (number_code e (before_turns bl.taken) x ++ store_word frame_register a0 (words_place j 1))) (Known (bl.ground n) v h' (put t' j (word z)) nothing b) (f' b)) → aims.done (i + size_of (number_code e (before_turns bl.taken) x ++ store_word frame_register a0 (words_place j 1))) f' v z s) → Comes code i f v aims (V.number around x k s)
 number_kept {e = e} bl routines around x n j closed f k is room inside l serving all at goal =
     word_kept number_kind bl n j closed f k (number_does x {e = e} {around = around} (setting bl routines n all serving) is) room inside l at goal
 
-limit_kept_piece : {links : Links} {code : List Instr} {i : ℕ} {v : Services} {h t : ℕ → ℕ} {s : State} {aims : Aims (Option ℤ)} {e : Environment} {block : ℕ} {types : Types} (bl : Block e block types) (routines : Standing bl links code) (around : Around) (limit : Option Y.Number) (n : Values) (closed : Closed code aims) (f : Family) (k : ℕ) → IsProvedNumberIf block types limit → bl.taken.words + 3 + number_if limit ≤ bl.words → Linked links code i (limit_code e bl.taken limit) → Serving k s v around.line → AllHold bl.frames v.activations (e.level ∷ bl.depths) s block types n → ((b : Base) → At b i (Known (bl.ground n) v h t nothing b) (f b)) → ((most : Option ℤ) (f' : Family) (h' t' : ℕ → ℕ) → LimitWaits limit most t' bl.taken.words → Stays bl.taken h t h' t' → t' (bl.taken.words + 2) ≡ t (bl.taken.words + 2) → ((b : Base) → At b (i + size_of (limit_code e bl.taken limit)) (Known (bl.ground n) v h' t' nothing b) (f' b)) → aims.done (i + size_of (limit_code e bl.taken limit)) f' v most s) → Comes code i f v aims (M.limit_of around limit k s)
+limit_kept_piece : {links : Links} {code : List Instr} {i : ℕ} {v : Services} {h t : ℕ → ℕ} {s : State} {aims : Aims (Option ℤ)} {e : Environment} {block : Names} {types : Types} (bl : Block e block types) (routines : Standing bl links code) (around : Around) (limit : Option Y.Number) (n : Values) (closed : Closed code aims) (f : Family) (k : ℕ) → IsProvedNumberIf block types limit → bl.taken.words + 3 + number_if limit ≤ bl.words → Linked links code i (limit_code e bl.taken limit) → Serving k s v around.line → AllHold bl.frames bl.serials (storage v) (e.level ∷ bl.depths) s block types n → ((b : Base) → At b i (Known (bl.ground n) v h t nothing b) (f b)) → ((most : Option ℤ) (f' : Family) (h' t' : ℕ → ℕ) → LimitWaits limit most t' bl.taken.words → Stays bl.taken h t h' t' → t' (bl.taken.words + 2) ≡ t (bl.taken.words + 2) → ((b : Base) → At b (i + size_of (limit_code e bl.taken limit)) (Known (bl.ground n) v h' t' nothing b) (f' b)) → aims.done (i + size_of (limit_code e bl.taken limit)) f' v most s) → Comes code i f v aims (M.limit_of around limit k s)
 unfolding M.limit_of ◌>>=◌ give
 limit_kept_piece {i = i} {v = v} {h = h} {t = t} {s = s} {aims = aims} bl routines around None n closed f k is room l serving all at goal =
     let same : i ≡ i + 0 = omega arith in
@@ -358,7 +370,7 @@ limit_kept_piece {h = h} {t = t} {s = s} bl routines around (Some x) n closed f 
     }))
 
 -- limit and step are evaluated, and wait in their words
-pub limits_piece : {links : Links} {code : List Instr} {i : ℕ} {v : Services} {h t : ℕ → ℕ} {s : State} {aims : Aims (Unit {0})} {e : Environment} {block : ℕ} {types : Types} (bl : Block e block types) (routines : Standing bl links code) (around : Around) (limit : Option Y.Number) (step : Y.Number) (n : Values) (next' : Option ℤ → ℤ → Meaning (Unit {0})) (closed : Closed code aims) (f : Family) (k : ℕ) → IsProvedNumberIf block types limit → IsProvedNumber block types step → bl.taken.words + 3 + number_if limit ≤ bl.words → bl.taken.words + 3 + number_words step ≤ bl.words → Linked links code i (limit_code e bl.taken limit) → Linked links code (i + size_of (limit_code e bl.taken limit)) (step_code e bl.taken step) → Serving k s v around.line → AllHold bl.frames v.activations (e.level ∷ bl.depths) s block types n → ((b : Base) → At b i (Known (bl.ground n) v h t nothing b) (f b)) → ((most : Option ℤ) (by : ℤ) (f' : Family) (h' t' : ℕ → ℕ) → IsWide by → LimitWaits limit most t' bl.taken.words → t' (bl.taken.words + 1) ≡ word by → t' (bl.taken.words + 2) ≡ t (bl.taken.words + 2) → Stays bl.taken h t h' t' → ((b : Base) → At b (i + size_of (limit_code e bl.taken limit) + size_of (step_code e bl.taken step)) (Known (bl.ground n) v h' t' nothing b) (f' b)) → Comes code (i + size_of (limit_code e bl.taken limit) + size_of (step_code e bl.taken step)) f' v aims (next' most by k s)) → Comes code i f v aims (((M.limit_of around limit) >>= (λ most. (V.number around step) >>= (λ by. next' most by))) k s)
+pub limits_piece : {links : Links} {code : List Instr} {i : ℕ} {v : Services} {h t : ℕ → ℕ} {s : State} {aims : Aims (Unit {0})} {e : Environment} {block : Names} {types : Types} (bl : Block e block types) (routines : Standing bl links code) (around : Around) (limit : Option Y.Number) (step : Y.Number) (n : Values) (next' : Option ℤ → ℤ → Meaning (Unit {0})) (closed : Closed code aims) (f : Family) (k : ℕ) → IsProvedNumberIf block types limit → IsProvedNumber block types step → bl.taken.words + 3 + number_if limit ≤ bl.words → bl.taken.words + 3 + number_words step ≤ bl.words → Linked links code i (limit_code e bl.taken limit) → Linked links code (i + size_of (limit_code e bl.taken limit)) (step_code e bl.taken step) → Serving k s v around.line → AllHold bl.frames bl.serials (storage v) (e.level ∷ bl.depths) s block types n → ((b : Base) → At b i (Known (bl.ground n) v h t nothing b) (f b)) → ((most : Option ℤ) (by : ℤ) (f' : Family) (h' t' : ℕ → ℕ) → IsWide by → LimitWaits limit most t' bl.taken.words → t' (bl.taken.words + 1) ≡ word by → t' (bl.taken.words + 2) ≡ t (bl.taken.words + 2) → Stays bl.taken h t h' t' → ((b : Base) → At b (i + size_of (limit_code e bl.taken limit) + size_of (step_code e bl.taken step)) (Known (bl.ground n) v h' t' nothing b) (f' b)) → Comes code (i + size_of (limit_code e bl.taken limit) + size_of (step_code e bl.taken step)) f' v aims (next' most by k s)) → Comes code i f v aims (((M.limit_of around limit) >>= (λ most. (V.number around step) >>= (λ by. next' most by))) k s)
 unfolding ◌>>=◌
 limits_piece {s = s} bl routines around limit step n next' closed f k isl iss rooml rooms l1 l2 serving all at goal =
     let w = bl.taken.words in

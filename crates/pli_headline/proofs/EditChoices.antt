@@ -13,7 +13,8 @@ use Rattle.pli_coding.specs.Assembly.{JumpAhead, Code, size_of}
 use Rattle.pli_coding.specs.Instructions.{small, skip_where, choice}
 use Rattle.pli_coding.specs.Environments.{Environment}
 use Rattle.pli_coding.specs.Linking.{Links}
-use Rattle.pli_headline.specs.ProvedSoFar.{Types}
+use Rattle.pli_headline.specs.ProvedSoFar.{Names, Types}
+use Rattle.pli_headline.proofs.Storages.{storage}
 use Rattle.pli_headline.proofs.Engine.{Base, address}
 use Rattle.pli_headline.proofs.Linking.{size_append}
 use Rattle.pli_headline.proofs.Items.{Linked, At, straight}
@@ -31,9 +32,9 @@ use Rattle.pli_headline.proofs.Reach.{Family, Aims, Comes, Closed, onward, reach
 use Rattle.pli_headline.proofs.Scalars.{Values}
 
 -- behind a value, with what is left of the format list
-abbrev pub ValueBehind : {e : Environment} {block : ℕ} {types : Types} → Block e block types → (k line : ℕ) → (h t : ℕ → ℕ) → (i : ℕ) → Values → (whole left : List FormatItem) → (below : List EditPlace) → Aims (List FormatItem) → Type 0
+abbrev pub ValueBehind : {e : Environment} {block : Names} {types : Types} → Block e block types → (k line : ℕ) → (h t : ℕ → ℕ) → (i : ℕ) → Values → (whole left : List FormatItem) → (below : List EditPlace) → Aims (List FormatItem) → Type 0
 ValueBehind {e = e} {block = block} {types = types} bl k line h t i n whole left below aims =
-    (s : State) (v : Services) (f : Family) → Serving k s v line → AllHold bl.frames v.activations (e.level ∷ bl.depths) s block types n → v.edits ≡ putting whole left ∷ below → ((b : Base) → At b i (Known (bl.ground n) v h t nothing b) (f b)) → aims.done i f v left s
+    (s : State) (v : Services) (f : Family) → Serving k s v line → AllHold bl.frames bl.serials (storage v) (e.level ∷ bl.depths) s block types n → v.edits ≡ putting whole left ∷ below → ((b : Base) → At b i (Known (bl.ground n) v h t nothing b) (f b)) → aims.done i f v left s
 
 -- by a test where the list has both
 abbrev pub choice_code : (fixed text : Code) → Code
@@ -55,7 +56,7 @@ same_one x y e f = ap (λ u. u == y) e ∙ ap (λ u. 1 == u) f
 two_one : (x y : ℕ) → x ≡ 2 → y ≡ 1 → (x == y) ≡ false
 two_one x y e f = ap (λ u. u == y) e ∙ ap (λ u. 2 == u) f
 
-pub item_chosen : {e : Environment} {block : ℕ} {types : Types} (bl : Block e block types) {links : Links} {code : List Instr} {i : ℕ} {v : Services} {h t : ℕ → ℕ} {aims : Aims (List FormatItem)} {flow : Flow (List FormatItem)} (p q : Bool) (closed : Closed code aims) (f : Family) (d : DataItem) (fixed text : Code) (n : Values) (whole left : List FormatItem) (below : List EditPlace) (k line : ℕ) → IsOf p q d → Linked links code i (by_kinds p q fixed text) → ((b : Base) → At b i (Known (bl.ground n) v h t (valued (E.data_number d)) b) (f b)) → ((j : ℕ) (f' : Family) → Linked links code j (chosen_code d fixed text) → ((b : Base) → At b j (Known (bl.ground n) v h t nothing b) (f' b)) → ValueBehind bl k line h t (j + size_of (chosen_code d fixed text)) n whole left below aims → Comes code j f' v aims flow) → ValueBehind bl k line h t (i + size_of (by_kinds p q fixed text)) n whole left below aims → Comes code i f v aims flow
+pub item_chosen : {e : Environment} {block : Names} {types : Types} (bl : Block e block types) {links : Links} {code : List Instr} {i : ℕ} {v : Services} {h t : ℕ → ℕ} {aims : Aims (List FormatItem)} {flow : Flow (List FormatItem)} (p q : Bool) (closed : Closed code aims) (f : Family) (d : DataItem) (fixed text : Code) (n : Values) (whole left : List FormatItem) (below : List EditPlace) (k line : ℕ) → IsOf p q d → Linked links code i (by_kinds p q fixed text) → ((b : Base) → At b i (Known (bl.ground n) v h t (valued (E.data_number d)) b) (f b)) → ((j : ℕ) (f' : Family) → Linked links code j (chosen_code d fixed text) → ((b : Base) → At b j (Known (bl.ground n) v h t nothing b) (f' b)) → ValueBehind bl k line h t (j + size_of (chosen_code d fixed text)) n whole left below aims → Comes code j f' v aims flow) → ValueBehind bl k line h t (i + size_of (by_kinds p q fixed text)) n whole left below aims → Comes code i f v aims flow
 item_chosen bl {i = i} true false closed f (FixedItem width) fixed text n whole left below k line is l at next' goal =
     next' i f l (λ b. record { pc = (at b).pc; holds = record { body = (at b).holds.body; regs = tt } }) goal
 item_chosen bl {i = i} false true closed f (TextItem width) fixed text n whole left below k line is l at next' goal =

@@ -23,7 +23,8 @@ use Rattle.pli_coding.specs.Instructions.{small, tested_service}
 use Rattle.pli_coding.specs.Environments.{Environment}
 use Rattle.pli_coding.specs.Streams.{has_fixed, has_text, by_item, number_written, text_written}
 use Rattle.pli_coding.specs.Linking.{Links}
-use Rattle.pli_headline.specs.ProvedSoFar.{Types}
+use Rattle.pli_headline.specs.ProvedSoFar.{Names, Types}
+use Rattle.pli_headline.proofs.Storages.{storage}
 use Rattle.pli_headline.proofs.Engine.{Base, address}
 use Rattle.pli_headline.proofs.Items.{Linked, At, straight}
 use Rattle.pli_headline.proofs.Bodies.{Ground, Known, zero_is}
@@ -83,7 +84,7 @@ converted_piece {code = code} {i = i} {g = g} {v = v} {h = h} {t = t} {s = s} {a
 
 -- ---- by either
 
-converted_shown : {e : Environment} {block : ℕ} {types : Types} (bl : Block e block types) {links : Links} {code : List Instr} {i : ℕ} {v : Services} {h t : ℕ → ℕ} {s : State} {aims : Aims (List FormatItem)} (closed : Closed code aims) (routines : Routines links code) (f : Family) (around : Around) (width : ℕ) (n : Values) (whole left : List FormatItem) (below : List EditPlace) (text : List ℕ) (texts : List Entry) (k : ℕ) → v.entries ≡ TextEntry text ∷ texts → Finds v.edits (DataFormat (FixedItem width)) whole left below → Linked links code i text_by_fixed → Serving k s v around.line → AllHold bl.frames v.activations (e.level ∷ bl.depths) s block types n → ((b : Base) → At b i (Known (bl.ground n) v h t nothing b) (f b)) → ValueBehind bl k around.line h t (i + 15) n whole left below aims → Comes code i f v aims (((P.shown_by around (ComputationalText text) (FixedItem width)) >> (give left)) k s)
+converted_shown : {e : Environment} {block : Names} {types : Types} (bl : Block e block types) {links : Links} {code : List Instr} {i : ℕ} {v : Services} {h t : ℕ → ℕ} {s : State} {aims : Aims (List FormatItem)} (closed : Closed code aims) (routines : Routines links code) (f : Family) (around : Around) (width : ℕ) (n : Values) (whole left : List FormatItem) (below : List EditPlace) (text : List ℕ) (texts : List Entry) (k : ℕ) → v.entries ≡ TextEntry text ∷ texts → Finds v.edits (DataFormat (FixedItem width)) whole left below → Linked links code i text_by_fixed → Serving k s v around.line → AllHold bl.frames bl.serials (storage v) (e.level ∷ bl.depths) s block types n → ((b : Base) → At b i (Known (bl.ground n) v h t nothing b) (f b)) → ValueBehind bl k around.line h t (i + 15) n whole left below aims → Comes code i f v aims (((P.shown_by around (ComputationalText text) (FixedItem width)) >> (give left)) k s)
 unfolding ◌>>◌ give
 converted_shown bl {code = code} {i = i} {v = v} {s = s} {aims = aims} closed routines f around width n whole left below text texts k top found l serving all at goal =
     let last : Unit {0} → Meaning (List FormatItem) = λ q. give left in
@@ -91,7 +92,7 @@ converted_shown bl {code = code} {i = i} {v = v} {s = s} {aims = aims} closed ro
     (converted_piece (before_closed k last closed) routines f around width whole left below text texts k top found l serving at
     (λ field f1 serving1 at1. record { to = goal (shown_state field s) _ f1 serving1 (counted_all _ all) refl at1 }))
 
-as_it_is_shown : {e : Environment} {block : ℕ} {types : Types} (bl : Block e block types) {links : Links} {code : List Instr} {i : ℕ} {v : Services} {h t : ℕ → ℕ} {s : State} {aims : Aims (List FormatItem)} (closed : Closed code aims) (f : Family) (around : Around) (width : Option ℕ) (n : Values) (whole left : List FormatItem) (below : List EditPlace) (text : List ℕ) (texts : List Entry) (k : ℕ) → v.entries ≡ TextEntry text ∷ texts → Finds v.edits (DataFormat (TextItem width)) whole left below → Linked links code i text_written → Serving k s v around.line → AllHold bl.frames v.activations (e.level ∷ bl.depths) s block types n → ((b : Base) → At b i (Known (bl.ground n) v h t nothing b) (f b)) → ValueBehind bl k around.line h t (i + 2) n whole left below aims → Comes code i f v aims (((P.shown_by around (ComputationalText text) (TextItem width)) >> (give left)) k s)
+as_it_is_shown : {e : Environment} {block : Names} {types : Types} (bl : Block e block types) {links : Links} {code : List Instr} {i : ℕ} {v : Services} {h t : ℕ → ℕ} {s : State} {aims : Aims (List FormatItem)} (closed : Closed code aims) (f : Family) (around : Around) (width : Option ℕ) (n : Values) (whole left : List FormatItem) (below : List EditPlace) (text : List ℕ) (texts : List Entry) (k : ℕ) → v.entries ≡ TextEntry text ∷ texts → Finds v.edits (DataFormat (TextItem width)) whole left below → Linked links code i text_written → Serving k s v around.line → AllHold bl.frames bl.serials (storage v) (e.level ∷ bl.depths) s block types n → ((b : Base) → At b i (Known (bl.ground n) v h t nothing b) (f b)) → ValueBehind bl k around.line h t (i + 2) n whole left below aims → Comes code i f v aims (((P.shown_by around (ComputationalText text) (TextItem width)) >> (give left)) k s)
 unfolding ◌>>◌ give
 as_it_is_shown bl {s = s} closed f around width n whole left below text texts k top found l serving all at goal =
     let last : Unit {0} → Meaning (List FormatItem) = λ q. give left in
@@ -99,7 +100,7 @@ as_it_is_shown bl {s = s} closed f around width n whole left below text texts k 
     (text_piece (before_closed k last closed) f around (ComputationalText text) width whole left below texts k found top l serving at
     (λ field f1 serving1 at1. record { to = goal (shown_state field s) _ f1 serving1 (counted_all _ all) refl at1 }))
 
-pub text_shown : {e : Environment} {block : ℕ} {types : Types} (bl : Block e block types) {links : Links} {code : List Instr} {i : ℕ} {v : Services} {h t : ℕ → ℕ} {s : State} {aims : Aims (List FormatItem)} (closed : Closed code aims) (routines : Routines links code) (f : Family) (around : Around) (fs : T.Formats) (d : DataItem) (n : Values) (whole left : List FormatItem) (below : List EditPlace) (text : List ℕ) (texts : List Entry) (k : ℕ) → IsOf (has_fixed fs) (has_text fs) d → v.entries ≡ TextEntry text ∷ texts → Finds v.edits (DataFormat d) whole left below → Linked links code i (by_item fs text_by_fixed text_written) → Serving k s v around.line → AllHold bl.frames v.activations (e.level ∷ bl.depths) s block types n → ((b : Base) → At b i (Known (bl.ground n) v h t (valued (E.data_number d)) b) (f b)) → ValueBehind bl k around.line h t (i + size_of (by_item fs text_by_fixed text_written)) n whole left below aims → Comes code i f v aims (((P.shown_by around (ComputationalText text) d) >> (give left)) k s)
+pub text_shown : {e : Environment} {block : Names} {types : Types} (bl : Block e block types) {links : Links} {code : List Instr} {i : ℕ} {v : Services} {h t : ℕ → ℕ} {s : State} {aims : Aims (List FormatItem)} (closed : Closed code aims) (routines : Routines links code) (f : Family) (around : Around) (fs : T.Formats) (d : DataItem) (n : Values) (whole left : List FormatItem) (below : List EditPlace) (text : List ℕ) (texts : List Entry) (k : ℕ) → IsOf (has_fixed fs) (has_text fs) d → v.entries ≡ TextEntry text ∷ texts → Finds v.edits (DataFormat d) whole left below → Linked links code i (by_item fs text_by_fixed text_written) → Serving k s v around.line → AllHold bl.frames bl.serials (storage v) (e.level ∷ bl.depths) s block types n → ((b : Base) → At b i (Known (bl.ground n) v h t (valued (E.data_number d)) b) (f b)) → ValueBehind bl k around.line h t (i + size_of (by_item fs text_by_fixed text_written)) n whole left below aims → Comes code i f v aims (((P.shown_by around (ComputationalText text) d) >> (give left)) k s)
 text_shown bl closed routines f around fs (FixedItem width) n whole left below text texts k is top found l serving all at goal =
     item_chosen bl (has_fixed fs) (has_text fs) closed f (FixedItem width) text_by_fixed text_written n whole left below k around.line is l at
     (λ j f1 l1 at1 goal1. converted_shown bl closed routines f1 around width n whole left below text texts k top found l1 serving all at1 goal1) goal

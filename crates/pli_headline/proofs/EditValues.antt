@@ -20,7 +20,8 @@ use Rattle.pli_coding.specs.Assembly.{Code, size_of}
 use Rattle.pli_coding.specs.Environments.{Environment, Taken, fetch, is_register_left}
 use Rattle.pli_coding.specs.Streams.{has_fixed, has_text, by_item, number_written, as_text, text_written}
 use Rattle.pli_coding.specs.Linking.{Links}
-use Rattle.pli_headline.specs.ProvedSoFar.{Types, IsPrecision}
+use Rattle.pli_headline.specs.ProvedSoFar.{Names, Types, IsPrecision}
+use Rattle.pli_headline.proofs.Storages.{storage}
 use Rattle.pli_headline.proofs.Engine.{Base, address}
 use Rattle.pli_headline.proofs.Linking.{size_append}
 use Rattle.pli_headline.proofs.Items.{Linked, At}
@@ -70,7 +71,7 @@ bit_as around texts b =
       text = λ some. (omega arith, bit_text_is b);
     }
 
-fixed_shown : {e : Environment} {block : ℕ} {types : Types} (bl : Block e block types) {links : Links} {code : List Instr} {i : ℕ} {v : Services} {h t : ℕ → ℕ} {s : State} {aims : Aims (List FormatItem)} (closed : Closed code aims) (routines : Routines links code) (f : Family) (around : Around) (width : ℕ) (texts : Bool) (shown : Computational) (p : ℕ) (z : ℤ) (n : Values) (whole left : List FormatItem) (below : List EditPlace) (k : ℕ) → ShownAs around texts shown p z → (is_register_left bl.taken ≡ false → bl.taken.words < (bl.ground n).words) → waiting bl.taken h t ≡ word z → Finds v.edits (DataFormat (FixedItem width)) whole left below → Linked links code i (by_fixed bl.taken) → Serving k s v around.line → AllHold bl.frames v.activations (e.level ∷ bl.depths) s block types n → ((b : Base) → At b i (Known (bl.ground n) v h t nothing b) (f b)) → ValueBehind bl k around.line h t (i + size_of (by_fixed bl.taken)) n whole left below aims → Comes code i f v aims (((P.shown_by around shown (FixedItem width)) >> (give left)) k s)
+fixed_shown : {e : Environment} {block : Names} {types : Types} (bl : Block e block types) {links : Links} {code : List Instr} {i : ℕ} {v : Services} {h t : ℕ → ℕ} {s : State} {aims : Aims (List FormatItem)} (closed : Closed code aims) (routines : Routines links code) (f : Family) (around : Around) (width : ℕ) (texts : Bool) (shown : Computational) (p : ℕ) (z : ℤ) (n : Values) (whole left : List FormatItem) (below : List EditPlace) (k : ℕ) → ShownAs around texts shown p z → (is_register_left bl.taken ≡ false → bl.taken.words < (bl.ground n).words) → waiting bl.taken h t ≡ word z → Finds v.edits (DataFormat (FixedItem width)) whole left below → Linked links code i (by_fixed bl.taken) → Serving k s v around.line → AllHold bl.frames bl.serials (storage v) (e.level ∷ bl.depths) s block types n → ((b : Base) → At b i (Known (bl.ground n) v h t nothing b) (f b)) → ValueBehind bl k around.line h t (i + size_of (by_fixed bl.taken)) n whole left below aims → Comes code i f v aims (((P.shown_by around shown (FixedItem width)) >> (give left)) k s)
 unfolding ◌>>◌ give
 fixed_shown bl {i = i} {v = v} {s = s} {aims = aims} closed routines f around width texts shown p z n whole left below k as' room waits found l serving all at goal =
     let wide = as'.wide in
@@ -90,7 +91,7 @@ fixed_shown bl {i = i} {v = v} {s = s} {aims = aims} closed routines f around wi
           (goal (shown_state field s) v2 f2 serving2 (counted_all _ all) refl (λ b. record { pc = (at2 b).pc ∙ ap (address b) place; holds = (at2 b).holds }));
     }))))
 
-text_shown : {e : Environment} {block : ℕ} {types : Types} (bl : Block e block types) {links : Links} {code : List Instr} {i : ℕ} {v : Services} {h t : ℕ → ℕ} {s : State} {aims : Aims (List FormatItem)} (closed : Closed code aims) (f : Family) (around : Around) (width : Option ℕ) (texts : Bool) (shown : Computational) (p : ℕ) (z : ℤ) (n : Values) (whole left : List FormatItem) (below : List EditPlace) (k : ℕ) → texts ≡ true → ShownAs around texts shown p z → (is_register_left bl.taken ≡ false → bl.taken.words < (bl.ground n).words) → waiting bl.taken h t ≡ word z → Finds v.edits (DataFormat (TextItem width)) whole left below → Linked links code i (by_text bl.taken p) → Serving k s v around.line → AllHold bl.frames v.activations (e.level ∷ bl.depths) s block types n → ((b : Base) → At b i (Known (bl.ground n) v h t nothing b) (f b)) → ValueBehind bl k around.line h t (i + size_of (by_text bl.taken p)) n whole left below aims → Comes code i f v aims (((P.shown_by around shown (TextItem width)) >> (give left)) k s)
+text_shown : {e : Environment} {block : Names} {types : Types} (bl : Block e block types) {links : Links} {code : List Instr} {i : ℕ} {v : Services} {h t : ℕ → ℕ} {s : State} {aims : Aims (List FormatItem)} (closed : Closed code aims) (f : Family) (around : Around) (width : Option ℕ) (texts : Bool) (shown : Computational) (p : ℕ) (z : ℤ) (n : Values) (whole left : List FormatItem) (below : List EditPlace) (k : ℕ) → texts ≡ true → ShownAs around texts shown p z → (is_register_left bl.taken ≡ false → bl.taken.words < (bl.ground n).words) → waiting bl.taken h t ≡ word z → Finds v.edits (DataFormat (TextItem width)) whole left below → Linked links code i (by_text bl.taken p) → Serving k s v around.line → AllHold bl.frames bl.serials (storage v) (e.level ∷ bl.depths) s block types n → ((b : Base) → At b i (Known (bl.ground n) v h t nothing b) (f b)) → ValueBehind bl k around.line h t (i + size_of (by_text bl.taken p)) n whole left below aims → Comes code i f v aims (((P.shown_by around shown (TextItem width)) >> (give left)) k s)
 unfolding ◌>>◌ give
 text_shown bl {i = i} {v = v} {s = s} {aims = aims} closed f around width texts shown p z n whole left below k some as' room waits found l serving all at goal =
     let wide = as'.wide in
@@ -116,7 +117,7 @@ text_shown bl {i = i} {v = v} {s = s} {aims = aims} closed f around width texts 
     }))))
 
 -- by either, as the list has it
-pub word_shown : {e : Environment} {block : ℕ} {types : Types} (bl : Block e block types) {links : Links} {code : List Instr} {i : ℕ} {v : Services} {h t : ℕ → ℕ} {s : State} {aims : Aims (List FormatItem)} (closed : Closed code aims) (routines : Routines links code) (f : Family) (around : Around) (fs : T.Formats) (d : DataItem) (shown : Computational) (p : ℕ) (z : ℤ) (n : Values) (whole left : List FormatItem) (below : List EditPlace) (k : ℕ) → IsOf (has_fixed fs) (has_text fs) d → ShownAs around (has_text fs) shown p z → (is_register_left bl.taken ≡ false → bl.taken.words < (bl.ground n).words) → waiting bl.taken h t ≡ word z → Finds v.edits (DataFormat d) whole left below → Linked links code i (by_item fs (by_fixed bl.taken) (by_text bl.taken p)) → Serving k s v around.line → AllHold bl.frames v.activations (e.level ∷ bl.depths) s block types n → ((b : Base) → At b i (Known (bl.ground n) v h t (valued (E.data_number d)) b) (f b)) → ValueBehind bl k around.line h t (i + size_of (by_item fs (by_fixed bl.taken) (by_text bl.taken p))) n whole left below aims → Comes code i f v aims (((P.shown_by around shown d) >> (give left)) k s)
+pub word_shown : {e : Environment} {block : Names} {types : Types} (bl : Block e block types) {links : Links} {code : List Instr} {i : ℕ} {v : Services} {h t : ℕ → ℕ} {s : State} {aims : Aims (List FormatItem)} (closed : Closed code aims) (routines : Routines links code) (f : Family) (around : Around) (fs : T.Formats) (d : DataItem) (shown : Computational) (p : ℕ) (z : ℤ) (n : Values) (whole left : List FormatItem) (below : List EditPlace) (k : ℕ) → IsOf (has_fixed fs) (has_text fs) d → ShownAs around (has_text fs) shown p z → (is_register_left bl.taken ≡ false → bl.taken.words < (bl.ground n).words) → waiting bl.taken h t ≡ word z → Finds v.edits (DataFormat d) whole left below → Linked links code i (by_item fs (by_fixed bl.taken) (by_text bl.taken p)) → Serving k s v around.line → AllHold bl.frames bl.serials (storage v) (e.level ∷ bl.depths) s block types n → ((b : Base) → At b i (Known (bl.ground n) v h t (valued (E.data_number d)) b) (f b)) → ValueBehind bl k around.line h t (i + size_of (by_item fs (by_fixed bl.taken) (by_text bl.taken p))) n whole left below aims → Comes code i f v aims (((P.shown_by around shown d) >> (give left)) k s)
 word_shown bl closed routines f around fs (FixedItem width) shown p z n whole left below k is as' room waits found l serving all at goal =
     item_chosen bl (has_fixed fs) (has_text fs) closed f (FixedItem width) (by_fixed bl.taken) (by_text bl.taken p) n whole left below k around.line is l at
     (λ j f1 l1 at1 goal1. fixed_shown bl closed routines f1 around width (has_text fs) shown p z n whole left below k as' room waits found l1 serving all at1 goal1) goal

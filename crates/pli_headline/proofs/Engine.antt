@@ -20,9 +20,9 @@ use Rattle.rv_meaning.specs.Machine.{Loaded, State, Effect, Goes, Faults, memory
 use Rattle.pli_serving.specs.ServiceState.{Services}
 use Rattle.pli_serving.specs.Answers.{Answer, Done}
 use Rattle.pli_serving.specs.Finding.{Call}
-use Rattle.pli_serving.specs.Serving.{serves}
 use Rattle.area_keeper.specs.Chain.{chain}
-use Rattle.image_runs.specs.Runs.{Whole, Run, Runs, Ended, Stopped, layout_of, next, of_effect, answered, run_on}
+use Rattle.image_runs.specs.Runs.{Whole, Run, Runs, Ended, Stopped, layout_of, answered}
+use Rattle.pli_headline.proofs.Unlimited.{serves, next, of_effect, run_on}
 
 -- a base at which programs run
 pub record Base : Type 0 where

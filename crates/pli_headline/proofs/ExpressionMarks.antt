@@ -15,60 +15,60 @@ use Rattle.pli_coding.specs.Locating.{frame_found, stored, address_offset}
 use Rattle.pli_coding.specs.Expressions.{number_code, extremes_code, text_code, bit_code, type_in, address_in, subscripts_code, BoundAsked, LowerAsked, UpperAsked, ElementsAsked}
 use Rattle.pli_coding.specs.Streams.{as_text}
 use Rattle.pli_coding.specs.Storing.{word_stored, top_stored}
-use Rattle.pli_headline.specs.ProvedSoFar.{Types, IsOwn, IsProvedNumber, AreProvedNumbers, IsProvedBit, IsProvedText, text_leaf, IsOwnText, alone, IsPart, IsPartNumber, IsAssigned, AreSubscripts, Kind, IsDimension}
+use Rattle.pli_headline.specs.ProvedSoFar.{Names, Types, IsOwn, IsProvedNumber, AreProvedNumbers, IsProvedBit, IsProvedText, text_leaf, IsOwnText, alone, IsPart, IsPartNumber, IsAssigned, AreSubscripts, Kind, IsDimension}
 use Rattle.pli_headline.proofs.Scalars.{IsNumeric, element_numeric}
 use Rattle.pli_headline.proofs.Reaching.{found_by, register_by}
 use Rattle.pli_headline.proofs.TextPlaces.{text_mode, kind_asked, text_asked}
 use Rattle.pli_headline.proofs.TextVariables.{text_loaded, text_kept}
-use Rattle.pli_headline.proofs.Variables.{own, whole, data_place, base_found, scalar_loaded, scalar_stored, number_loaded, bit_loaded, scalar_found, scalar_kept, HasTypes, subscripts_in}
+use Rattle.pli_headline.proofs.Variables.{own, whole, data_place, base_found, scalar_loaded, scalar_stored, number_loaded, bit_loaded, scalar_found, scalar_kept, HasTypes, subscripts_in, level_of}
 use Rattle.pli_headline.proofs.SymbolsMarked.{symbols_marked, Marks, behind, either, constant_none, load_none, plus_none, saved_none, fetched_none, overflow_none, calculated_none, fitted_none, divided_none, sign_none, extreme_none, combined_none, compared_none}
 use Rattle.pli_headline.proofs.ArrayMarks.{next_none, part_none, kept_element_none}
 use Rattle.pli_headline.proofs.ArrayDimensions.{asked_number, checked_if, answer_code, answer_is}
 use Rattle.pli_typing.specs.Signatures.{Bounds}
 
-base_none : (e : Environment) → Marks (base_found e) []
-base_none e =
-    behind (frame_found e 0 u3) [] [] (either (0 == e.level) [] (load_word u3 frame_register (display 0)) refl (load_none u3 frame_register (display 0))) refl
+base_none : (e : Environment) (level : ℕ) → Marks (base_found e level) []
+base_none e level =
+    behind (frame_found e level u3) [] [] (either (level == e.level) [] (load_word u3 frame_register (display level)) refl (load_none u3 frame_register (display level))) refl
 
-loaded_none : (type : Y.LeafType) (e : Environment) (place : ℕ) → Marks (scalar_loaded type e place) []
-loaded_none type e place = behind (base_found e) _ [] (base_none e) (either (is_immediate (pos place)) _ _ refl refl)
+loaded_none : (type : Y.LeafType) (e : Environment) (level place : ℕ) → Marks (scalar_loaded type e level place) []
+loaded_none type e level place = behind (base_found e level) _ [] (base_none e level) (either (is_immediate (pos place)) _ _ refl refl)
 
-kept_none : (type : Y.LeafType) (e : Environment) (place : ℕ) → Marks (scalar_stored type e place) []
-kept_none type e place = either (is_immediate (pos place)) _ _ refl refl
+kept_none : (type : Y.LeafType) (e : Environment) (level place : ℕ) → Marks (scalar_stored type e level place) []
+kept_none type e level place = either (is_immediate (pos place)) _ _ refl refl
 
-pub reference_none : (e : Environment) (t : Taken) (block : ℕ) (types : Types) (p : ℕ) (r : Y.Reference) → HasTypes e block types → IsOwn block types (Y.FixedLeaf p) r → Marks (number_code e t (Y.NumberIn r)) []
+pub reference_none : (e : Environment) (t : Taken) (block : Names) (types : Types) (p : ℕ) (r : Y.Reference) → HasTypes e block types → IsOwn block types (Y.FixedLeaf p) r → Marks (number_code e t (Y.NumberIn r)) []
 reference_none e t block types p r has is =
     let place = data_place e block is.index in
-    let same : number_code e t (Y.NumberIn r) ≡ scalar_loaded (Y.FixedLeaf p) e place =
+    let same : number_code e t (Y.NumberIn r) ≡ scalar_loaded (Y.FixedLeaf p) e (level_of block is.index) place =
     ap (λ q. number_code e t (Y.NumberIn q)) is.is ∙ number_loaded e t block is.index p (has is.index (alone (Y.FixedLeaf p)) is.declared) in
-    ap symbols_marked same ∙ loaded_none (Y.FixedLeaf p) e place
+    ap symbols_marked same ∙ loaded_none (Y.FixedLeaf p) e (level_of block is.index) place
 
 -- what asks a service about a text of a variable
-asked_none : (q : Bool) (n : ℕ) (varying : Bool) (most place : ℕ) → Marks (text_asked q n varying most place) []
-asked_none q n varying most place =
+asked_none : (q : Bool) (level n : ℕ) (varying : Bool) (most place : ℕ) → Marks (text_asked q level n varying most place) []
+asked_none q level n varying most place =
     let kind = number a1 most ++ small a2 (text_mode varying) ∷ [] in
     let offset = address_offset (record { register = register_by q; displacement = pos place }) in
-    behind (found_by q) (offset ++ kind_asked n varying most) []
-    (behind (cond q [] (load_word u3 frame_register (display 0))) [] [] (either q [] (load_word u3 frame_register (display 0)) refl (load_none u3 frame_register (display 0))) refl)
+    behind (found_by q level) (offset ++ kind_asked n varying most) []
+    (behind (cond q [] (load_word u3 frame_register (display level))) [] [] (either q [] (load_word u3 frame_register (display level)) refl (load_none u3 frame_register (display level))) refl)
     (behind offset (kind_asked n varying most) [] (plus_none a0 a0 (pos place))
     (behind kind (service n) [] (behind (number a1 most) (small a2 (text_mode varying) ∷ []) [] (constant_none a1 (pos most)) refl) refl))
 
-text_reference_none : (e : Environment) (t : Taken) (block : ℕ) (types : Types) (r : Y.Reference) → HasTypes e block types → IsOwnText block types r → Marks (text_code e t (Y.TextIn r)) []
+text_reference_none : (e : Environment) (t : Taken) (block : Names) (types : Types) (r : Y.Reference) → HasTypes e block types → IsOwnText block types r → Marks (text_code e t (Y.TextIn r)) []
 text_reference_none e t block types r has is =
     let j = is.own.index in
-    let same : text_code e t (Y.TextIn r) ≡ text_asked (0 == e.level) 20 is.varying is.most (data_place e block j) =
+    let same : text_code e t (Y.TextIn r) ≡ text_asked (level_of block j == e.level) (level_of block j) 20 is.varying is.most (data_place e block j) =
     ap (λ q. text_code e t (Y.TextIn q)) is.own.is ∙ text_loaded is.varying e t block j is.most (has j (alone (text_leaf is.varying is.most)) is.own.declared) in
-    ap symbols_marked same ∙ asked_none (0 == e.level) 20 is.varying is.most (data_place e block j)
+    ap symbols_marked same ∙ asked_none (level_of block j == e.level) (level_of block j) 20 is.varying is.most (data_place e block j)
 
-bit_reference_none : (e : Environment) (t : Taken) (block : ℕ) (types : Types) (r : Y.Reference) → HasTypes e block types → IsOwn block types Y.BitLeaf r → Marks (bit_code e t (Y.BitIn r)) []
+bit_reference_none : (e : Environment) (t : Taken) (block : Names) (types : Types) (r : Y.Reference) → HasTypes e block types → IsOwn block types Y.BitLeaf r → Marks (bit_code e t (Y.BitIn r)) []
 bit_reference_none e t block types r has is =
     let place = data_place e block is.index in
-    let same : bit_code e t (Y.BitIn r) ≡ scalar_loaded Y.BitLeaf e place =
+    let same : bit_code e t (Y.BitIn r) ≡ scalar_loaded Y.BitLeaf e (level_of block is.index) place =
     ap (λ q. bit_code e t (Y.BitIn q)) is.is ∙ bit_loaded e t block is.index (has is.index (alone Y.BitLeaf) is.declared) in
-    ap symbols_marked same ∙ loaded_none Y.BitLeaf e place
+    ap symbols_marked same ∙ loaded_none Y.BitLeaf e (level_of block is.index) place
 
 -- an element, or a variable
-number_part_none : (e : Environment) (t : Taken) (block : ℕ) (types : Types) (r : Y.Reference) → HasTypes e block types → IsPartNumber block types r → Marks (subscripts_code e t (subscripts_in r)) [] → Marks (number_code e t (Y.NumberIn r)) []
+number_part_none : (e : Environment) (t : Taken) (block : Names) (types : Types) (r : Y.Reference) → HasTypes e block types → IsPartNumber block types r → Marks (subscripts_code e t (subscripts_in r)) [] → Marks (number_code e t (Y.NumberIn r)) []
 number_part_none e t block types r has is none = by_part is.part
   where
     by_part : IsPart block types (Y.FixedLeaf is.precision) r → Marks (number_code e t (Y.NumberIn r)) []
@@ -79,7 +79,7 @@ number_part_none e t block types r has is none = by_part is.part
         let none' = subst (λ q. Marks (subscripts_code e t (subscripts_in q)) []) o.is none in
         subst (λ q. Marks (number_code e t (Y.NumberIn q)) []) (sym o.is) (part_none e t block o.index type (o.bound ∷ o.bounds) o.first o.rest tt (has o.index kind o.declared) none')
 
-bit_part_none : (e : Environment) (t : Taken) (block : ℕ) (types : Types) (r : Y.Reference) → HasTypes e block types → IsPart block types Y.BitLeaf r → Marks (subscripts_code e t (subscripts_in r)) [] → Marks (bit_code e t (Y.BitIn r)) []
+bit_part_none : (e : Environment) (t : Taken) (block : Names) (types : Types) (r : Y.Reference) → HasTypes e block types → IsPart block types Y.BitLeaf r → Marks (subscripts_code e t (subscripts_in r)) [] → Marks (bit_code e t (Y.BitIn r)) []
 bit_part_none e t block types r has (inl o) none = bit_reference_none e t block types r has o
 bit_part_none e t block types r has (inr o) none =
     let kind : Kind = record { type = Y.BitLeaf; bounds = o.bound ∷ o.bounds } in
@@ -96,7 +96,7 @@ answer_none t ElementsAsked b =
     behind (constant a0 b.upper) (constant u1 b.lower ++ last) [] (constant_none a0 b.upper)
     (behind (constant u1 b.lower) last [] (constant_none u1 b.lower) (either q [] (count_checked t) refl (overflow_none t)))
 
-dimension_none : (e : Environment) (t : Taken) (block : ℕ) (types : Types) (asked : BoundAsked) (r : Y.Reference) (dimension : ℕ) → HasTypes e block types → IsDimension block types r dimension → Marks (number_code e t (asked_number asked r dimension)) []
+dimension_none : (e : Environment) (t : Taken) (block : Names) (types : Types) (asked : BoundAsked) (r : Y.Reference) (dimension : ℕ) → HasTypes e block types → IsDimension block types r dimension → Marks (number_code e t (asked_number asked r dimension)) []
 dimension_none e t block types asked r dimension has is =
     let kind : Kind = record { type = is.type; bounds = is.bound ∷ is.bounds } in
     let same : number_code e t (asked_number asked r dimension) ≡ answer_code t asked is.asked =
@@ -117,7 +117,7 @@ texts_none : (a c last : Code) → Marks a [] → Marks c [] → Marks last [] �
 texts_none a c last h k m = behind a (c ++ last) [] h (behind c last [] k m)
 
 mutual
-  pub number_none : (e : Environment) (t : Taken) (block : ℕ) (types : Types) (x : Y.Number) → HasTypes e block types → IsProvedNumber block types x → Marks (number_code e t x) []
+  pub number_none : (e : Environment) (t : Taken) (block : Names) (types : Types) (x : Y.Number) → HasTypes e block types → IsProvedNumber block types x → Marks (number_code e t x) []
   number_none e t block types (Y.NumberConstant n) has is = constant_none a0 (pos n)
   number_none e t block types (Y.NumberIn (Y.Referring v locator part subscripts)) has is =
       number_part_none e t block types (Y.Referring v locator part subscripts) has is.0 (subscripts_none e t block types subscripts has is.1)
@@ -153,7 +153,7 @@ mutual
   number_none e t block types Y.OnCode has is = refl
   number_none e t block types _ has is = absurd is
 
-  numbers_none : (e : Environment) (t : Taken) (block : ℕ) (types : Types) (extremum : Y.Extremum) (xs : Y.Numbers) → HasTypes e block types → AreProvedNumbers block types xs → Marks (extremes_code e t extremum xs) []
+  numbers_none : (e : Environment) (t : Taken) (block : Names) (types : Types) (extremum : Y.Extremum) (xs : Y.Numbers) → HasTypes e block types → AreProvedNumbers block types xs → Marks (extremes_code e t extremum xs) []
   numbers_none e t block types extremum Y.NoNumber has are = refl
   numbers_none e t block types extremum (Y.NumberThen first rest) has are =
       let c = number_code e (with_number t) first in
@@ -164,12 +164,12 @@ mutual
       (behind (fetch u1 t) (further ++ more) [] (fetched_none u1 t)
       (behind further more [] (extreme_none extremum) (numbers_none e t block types extremum rest has are.1))))
 
-  pub subscripts_none : (e : Environment) (t : Taken) (block : ℕ) (types : Types) (xs : Y.Numbers) → HasTypes e block types → AreProvedNumbers block types xs → Marks (subscripts_code e t xs) []
+  pub subscripts_none : (e : Environment) (t : Taken) (block : Names) (types : Types) (xs : Y.Numbers) → HasTypes e block types → AreProvedNumbers block types xs → Marks (subscripts_code e t xs) []
   subscripts_none e t block types Y.NoNumber has are = refl
   subscripts_none e t block types (Y.NumberThen first rest) has are =
       next_none e t first rest (number_none e t block types first has are.0) (subscripts_none e (with_number t) block types rest has are.1)
 
-  pub bit_none : (e : Environment) (t : Taken) (block : ℕ) (types : Types) (x : Y.Bit) → HasTypes e block types → IsProvedBit block types x → Marks (bit_code e t x) []
+  pub bit_none : (e : Environment) (t : Taken) (block : Names) (types : Types) (x : Y.Bit) → HasTypes e block types → IsProvedBit block types x → Marks (bit_code e t x) []
   bit_none e t block types (Y.BitConstant true) has is = refl
   bit_none e t block types (Y.BitConstant false) has is = refl
   bit_none e t block types (Y.BitIn (Y.Referring v locator part subscripts)) has is =
@@ -193,7 +193,7 @@ mutual
       (behind (service 24) (moves ++ compared_code comparison) [] refl (behind moves (compared_code comparison) [] refl (compared_none comparison)))
   bit_none e t block types _ has is = absurd is
 
-  pub text_none : (e : Environment) (t : Taken) (block : ℕ) (types : Types) (x : Y.Text) → HasTypes e block types → IsProvedText block types x → Marks (text_code e t x) []
+  pub text_none : (e : Environment) (t : Taken) (block : Names) (types : Types) (x : Y.Text) → HasTypes e block types → IsProvedText block types x → Marks (text_code e t x) []
   text_none e t block types (Y.TextConstant bytes) has is =
       behind (number a1 (length bytes)) (small a2 0 ∷ service 20) [] (constant_none a1 (pos (length bytes))) refl
   text_none e t block types (Y.TextIn r) has is = text_reference_none e t block types r has is
@@ -223,22 +223,22 @@ mutual
 
 -- ---- assignments
 
-pub target_none : (e : Environment) (t : Taken) (block : ℕ) (types : Types) (type : Y.LeafType) (r : Y.Reference) → IsNumeric type → HasTypes e block types → IsOwn block types type r → Marks (word_stored e t r) []
+pub target_none : (e : Environment) (t : Taken) (block : Names) (types : Types) (type : Y.LeafType) (r : Y.Reference) → IsNumeric type → HasTypes e block types → IsOwn block types type r → Marks (word_stored e t r) []
 target_none e t block types type r numeric has is =
     let d = has is.index (alone type) is.declared in
     let place = data_place e block is.index in
-    let into = scalar_stored type e place in
-    let same : word_stored e t r ≡ save a0 t ++ (base_found e ++ (fetch a0 t ++ into)) =
+    let into = scalar_stored type e (level_of block is.index) place in
+    let same : word_stored e t r ≡ save a0 t ++ (base_found e (level_of block is.index) ++ (fetch a0 t ++ into)) =
     ap (λ q. word_stored e t q) is.is
     ∙ ap (λ c. save a0 t ++ (c ++ (fetch a0 t ++ stored (type_in e (whole (own block is.index))) a0 (address_in e (whole (own block is.index)))))) (scalar_found e (with_number t) block is.index type numeric d)
-    ∙ ap (λ c. save a0 t ++ (base_found e ++ (fetch a0 t ++ c))) (scalar_kept e block is.index type numeric d) in
+    ∙ ap (λ c. save a0 t ++ (base_found e (level_of block is.index) ++ (fetch a0 t ++ c))) (scalar_kept e block is.index type numeric d) in
     ap symbols_marked same
-    ∙ behind (save a0 t) (base_found e ++ (fetch a0 t ++ into)) [] (saved_none a0 t)
-    (behind (base_found e) (fetch a0 t ++ into) [] (base_none e)
-    (behind (fetch a0 t) into [] (fetched_none a0 t) (kept_none type e place)))
+    ∙ behind (save a0 t) (base_found e (level_of block is.index) ++ (fetch a0 t ++ into)) [] (saved_none a0 t)
+    (behind (base_found e (level_of block is.index)) (fetch a0 t ++ into) [] (base_none e (level_of block is.index))
+    (behind (fetch a0 t) into [] (fetched_none a0 t) (kept_none type e (level_of block is.index) place)))
 
 -- what is assigned to
-pub assigned_none : (e : Environment) (t : Taken) (block : ℕ) (types : Types) (type : Y.LeafType) (r : Y.Reference) → IsNumeric type → HasTypes e block types → IsAssigned block types type r → Marks (word_stored e t r) []
+pub assigned_none : (e : Environment) (t : Taken) (block : Names) (types : Types) (type : Y.LeafType) (r : Y.Reference) → IsNumeric type → HasTypes e block types → IsAssigned block types type r → Marks (word_stored e t r) []
 assigned_none e t block types type r numeric has is = by_part is.0
   where
     by_part : IsPart block types type r → Marks (word_stored e t r) []
@@ -250,37 +250,37 @@ assigned_none e t block types type r numeric has is = by_part is.0
         (kept_element_none e t block o.index type (o.bound ∷ o.bounds) o.first o.rest numeric (has o.index kind o.declared) (subscripts_none e (with_number t) block types (Y.NumberThen o.first o.rest) has are))
 
 -- a number that is assigned
-pub number_assigned_none : (e : Environment) (t : Taken) (block : ℕ) (types : Types) (precision : ℕ) (r : Y.Reference) (x : Y.Number) → HasTypes e block types → IsAssigned block types (Y.FixedLeaf precision) r → IsProvedNumber block types x → Marks ((number_code e t x ++ fitted_code t precision) ++ word_stored e t r) []
+pub number_assigned_none : (e : Environment) (t : Taken) (block : Names) (types : Types) (precision : ℕ) (r : Y.Reference) (x : Y.Number) → HasTypes e block types → IsAssigned block types (Y.FixedLeaf precision) r → IsProvedNumber block types x → Marks ((number_code e t x ++ fitted_code t precision) ++ word_stored e t r) []
 number_assigned_none e t block types precision r x has target is =
     let code = number_code e t x in
     let fitted = fitted_code t precision in
     behind (code ++ fitted) (word_stored e t r) [] (behind code fitted [] (number_none e t block types x has is) (fitted_none t precision)) (assigned_none e t block types (Y.FixedLeaf precision) r tt has target)
 
 -- a bit
-pub bit_assigned_none : (e : Environment) (t : Taken) (block : ℕ) (types : Types) (r : Y.Reference) (x : Y.Bit) → HasTypes e block types → IsAssigned block types Y.BitLeaf r → IsProvedBit block types x → Marks (bit_code e t x ++ word_stored e t r) []
+pub bit_assigned_none : (e : Environment) (t : Taken) (block : Names) (types : Types) (r : Y.Reference) (x : Y.Bit) → HasTypes e block types → IsAssigned block types Y.BitLeaf r → IsProvedBit block types x → Marks (bit_code e t x ++ word_stored e t r) []
 bit_assigned_none e t block types r x has target is =
     behind (bit_code e t x) (word_stored e t r) [] (bit_none e t block types x has is) (assigned_none e t block types Y.BitLeaf r tt has target)
 
 -- a number that is stored
-pub stored_none : (e : Environment) (t : Taken) (block : ℕ) (types : Types) (precision : ℕ) (r : Y.Reference) (x : Y.Number) → HasTypes e block types → IsOwn block types (Y.FixedLeaf precision) r → IsProvedNumber block types x → Marks ((number_code e t x ++ fitted_code t precision) ++ word_stored e t r) []
+pub stored_none : (e : Environment) (t : Taken) (block : Names) (types : Types) (precision : ℕ) (r : Y.Reference) (x : Y.Number) → HasTypes e block types → IsOwn block types (Y.FixedLeaf precision) r → IsProvedNumber block types x → Marks ((number_code e t x ++ fitted_code t precision) ++ word_stored e t r) []
 stored_none e t block types precision r x has own' is =
     let code = number_code e t x in
     let fitted = fitted_code t precision in
     behind (code ++ fitted) (word_stored e t r) [] (behind code fitted [] (number_none e t block types x has is) (fitted_none t precision)) (target_none e t block types (Y.FixedLeaf precision) r tt has own')
 
 -- a bit that is stored
-pub bit_stored_none : (e : Environment) (t : Taken) (block : ℕ) (types : Types) (r : Y.Reference) (x : Y.Bit) → HasTypes e block types → IsOwn block types Y.BitLeaf r → IsProvedBit block types x → Marks (bit_code e t x ++ word_stored e t r) []
+pub bit_stored_none : (e : Environment) (t : Taken) (block : Names) (types : Types) (r : Y.Reference) (x : Y.Bit) → HasTypes e block types → IsOwn block types Y.BitLeaf r → IsProvedBit block types x → Marks (bit_code e t x ++ word_stored e t r) []
 bit_stored_none e t block types r x has own' is =
     behind (bit_code e t x) (word_stored e t r) [] (bit_none e t block types x has is) (target_none e t block types Y.BitLeaf r tt has own')
 
 -- the store of a text
-pub top_none : (e : Environment) (t : Taken) (block : ℕ) (types : Types) (varying : Bool) (most : ℕ) (r : Y.Reference) → HasTypes e block types → IsOwn block types (text_leaf varying most) r → Marks (top_stored e t r) []
+pub top_none : (e : Environment) (t : Taken) (block : Names) (types : Types) (varying : Bool) (most : ℕ) (r : Y.Reference) → HasTypes e block types → IsOwn block types (text_leaf varying most) r → Marks (top_stored e t r) []
 top_none e t block types varying most r has is =
-    let same : top_stored e t r ≡ text_asked (0 == e.level) 27 varying most (data_place e block is.index) =
+    let same : top_stored e t r ≡ text_asked (level_of block is.index == e.level) (level_of block is.index) 27 varying most (data_place e block is.index) =
     ap (top_stored e t) is.is ∙ text_kept varying e t block is.index most (has is.index (alone (text_leaf varying most)) is.declared) in
-    ap symbols_marked same ∙ asked_none (0 == e.level) 27 varying most (data_place e block is.index)
+    ap symbols_marked same ∙ asked_none (level_of block is.index == e.level) (level_of block is.index) 27 varying most (data_place e block is.index)
 
 -- a text that is stored
-pub text_stored_none : (e : Environment) (t : Taken) (block : ℕ) (types : Types) (r : Y.Reference) (x : Y.Text) → HasTypes e block types → IsOwnText block types r → IsProvedText block types x → Marks (text_code e t x ++ top_stored e t r) []
+pub text_stored_none : (e : Environment) (t : Taken) (block : Names) (types : Types) (r : Y.Reference) (x : Y.Text) → HasTypes e block types → IsOwnText block types r → IsProvedText block types x → Marks (text_code e t x ++ top_stored e t r) []
 text_stored_none e t block types r x has own' is =
     behind (text_code e t x) (top_stored e t r) [] (text_none e t block types x has is) (top_none e t block types own'.varying own'.most r has own'.own)

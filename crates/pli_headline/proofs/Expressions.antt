@@ -23,7 +23,7 @@ use Rattle.pli_coding.specs.Environments.{Environment, Taken}
 use Rattle.pli_coding.specs.Expressions.{number_code, extremes_code, bit_code, text_code, given_in, BoundAsked, LowerAsked, UpperAsked, ElementsAsked}
 use Rattle.pli_coding.specs.Temporaries.{number_words, numbers_words, bit_words, text_words, subscripts_words}
 use Rattle.pli_coding.specs.Linking.{Links}
-use Rattle.pli_headline.specs.ProvedSoFar.{Types, IsOwn, IsOwnText, IsProvedNumber, AreProvedNumbers, IsProvedBit, IsProvedText, IsPart, IsPartNumber, alone, IsDimension}
+use Rattle.pli_headline.specs.ProvedSoFar.{Names, Types, IsOwn, IsOwnText, IsProvedNumber, AreProvedNumbers, IsProvedBit, IsProvedText, IsPart, IsPartNumber, alone, IsDimension}
 use Rattle.pli_headline.proofs.Engine.{Base}
 use Rattle.pli_headline.proofs.Items.{Linked, At, straight}
 use Rattle.pli_headline.proofs.Numbers.{IsWide, word_small}
@@ -46,7 +46,7 @@ use Rattle.pli_headline.proofs.EditTexts.{at_other_texts}
 use Rattle.pli_headline.proofs.Texts.{EvaluatesText, constant_evaluates, number_evaluates_text, bit_evaluates_text, joined_evaluates, from_evaluates, part_evaluates}
 use Rattle.pli_headline.proofs.OnCodes.{oncode_evaluates}
 use Rattle.pli_headline.proofs.TextValues.{one_finishes, two_finish, length_finishes, index_finishes, verify_finishes, number_finishes, bit_finishes, compare_finishes}
-use Rattle.pli_headline.proofs.Variables.{HoldsScalar, IsDeclared, whole, own, number_gives, bit_gives, data_place, scalar_loaded, number_loaded, bit_loaded, subscripts_in}
+use Rattle.pli_headline.proofs.Variables.{HoldsScalar, IsDeclared, whole, own, level_of, number_gives, bit_gives, data_place, scalar_loaded, number_loaded, bit_loaded, subscripts_in}
 use Rattle.pli_headline.proofs.TextScopes.{TextsHeld, variable_evaluates}
 use Rattle.pli_headline.proofs.Reach.{Family, Aims, Comes, Closed, onward}
 use Rattle.pli_headline.proofs.Subscripts.{none_evaluate, next_evaluate}
@@ -55,19 +55,19 @@ use Rattle.pli_headline.proofs.ArrayExpressions.{AllEvaluate, element_number_doe
 use Rattle.pli_headline.proofs.ArrayDimensions.{asked_number, dimension_does}
 
 -- the variables of a block, in the meaning and in memory
-pub record Scope (g : Ground) (e : Environment) (block : ℕ) (types : Types) (s : State) (held : Values) : Type 0 where
+pub record Scope (g : Ground) (e : Environment) (block : Names) (types : Types) (s : State) (held : Values) : Type 0 where
   pub declared : (j : ℕ) {type : Y.LeafType} → slice_get types j ≡ Some (alone type) → IsDeclared e block j type
   pub holds : (j : ℕ) {type : Y.LeafType} → slice_get types j ≡ Some (alone type) → IsNumeric type → HoldsScalar s (own block j) type (held.numbers j)
-  pub base : ℕ
-  pub within : base < memory_size
-  pub reach : Reaches (0 == e.level) g base
-  pub places : (j : ℕ) {type : Y.LeafType} → slice_get types j ≡ Some (alone type) → PlaceFrom base (pos (data_place e block j)) (base + data_place e block j)
-  pub reads : (j : ℕ) {type : Y.LeafType} → slice_get types j ≡ Some (alone type) → IsNumeric type → (t : ℕ → ℕ) (b : Base) (m : List ℕ) → g.memory t b m → extended (load_kind type) (load (load_width (load_kind type)) m (base + data_place e block j)) ≡ word (held.numbers j)
+  pub base : ℕ → ℕ
+  pub within : (j : ℕ) {type : Y.LeafType} → slice_get types j ≡ Some (alone type) → base j < memory_size
+  pub reach : (j : ℕ) {type : Y.LeafType} → slice_get types j ≡ Some (alone type) → Reaches (level_of block j == e.level) (level_of block j) g (base j)
+  pub places : (j : ℕ) {type : Y.LeafType} → slice_get types j ≡ Some (alone type) → PlaceFrom (base j) (pos (data_place e block j)) (base j + data_place e block j)
+  pub reads : (j : ℕ) {type : Y.LeafType} → slice_get types j ≡ Some (alone type) → IsNumeric type → (t : ℕ → ℕ) (b : Base) (m : List ℕ) → g.memory t b m → extended (load_kind type) (load (load_width (load_kind type)) m (base j + data_place e block j)) ≡ word (held.numbers j)
   pub texts : TextsHeld g e block types s base held
   pub arrays : ArraysHeld g e block types s held
 
 -- what stands around an expression
-pub record Setting (links : Links) (code : List Instr) (g : Ground) (v : Services) (s : State) (k : ℕ) (e : Environment) (block : ℕ) (types : Types) (held : Values) (around : Around) : Type 0 where
+pub record Setting (links : Links) (code : List Instr) (g : Ground) (v : Services) (s : State) (k : ℕ) (e : Environment) (block : Names) (types : Types) (held : Values) (around : Around) : Type 0 where
   pub routines : Routines links code
   pub constants : ConstantsStand links code g
   pub temps : Temporaries g
@@ -75,7 +75,7 @@ pub record Setting (links : Links) (code : List Instr) (g : Ground) (v : Service
   pub serving : Serving k s v around.line
 
 -- above other texts
-pub above_texts : {links : Links} {code : List Instr} {g : Ground} {v : Services} {s : State} {k : ℕ} {e : Environment} {block : ℕ} {types : Types} {held : Values} {around : Around} (texts : List Entry) → Setting links code g v s k e block types held around → Setting links code g (with_entries texts v) s k e block types held around
+pub above_texts : {links : Links} {code : List Instr} {g : Ground} {v : Services} {s : State} {k : ℕ} {e : Environment} {block : Names} {types : Types} {held : Values} {around : Around} (texts : List Entry) → Setting links code g v s k e block types held around → Setting links code g (with_entries texts v) s k e block types held around
 above_texts texts st =
     record { routines = st.routines; constants = st.constants; temps = st.temps; scope = st.scope; serving = at_other_texts texts st.serving }
 
@@ -99,21 +99,21 @@ constant_does e around n is =
     }
 
 -- a variable of a type, read as a value of some kind
-own_piece : {X : Type 0} (kind : Kind X) {links : Links} {code : List Instr} {i : ℕ} {g : Ground} {v : Services} {h t : ℕ → ℕ} {s : State} {aims : Aims X} (closed : Closed code aims) (e : Environment) (block : ℕ) (types : Types) (held : Values) (f : Family) (taken : Taken) (j k : ℕ) {type : Y.LeafType} (below : slice_get types j ≡ Some (alone type)) → IsNumeric type → (x : X) → kind.Fits x → word (held.numbers j) ≡ kind.word_of x → (scope : Scope g e block types s held) → Linked links code i (scalar_loaded type e (data_place e block j)) → ((b : Base) → At b i (Known g v h t nothing b) (f b)) → Valued kind g taken h t v s (i + size_of (scalar_loaded type e (data_place e block j))) aims → Comes code i f v aims (give x k s)
+own_piece : {X : Type 0} (kind : Kind X) {links : Links} {code : List Instr} {i : ℕ} {g : Ground} {v : Services} {h t : ℕ → ℕ} {s : State} {aims : Aims X} (closed : Closed code aims) (e : Environment) (block : Names) (types : Types) (held : Values) (f : Family) (taken : Taken) (j k : ℕ) {type : Y.LeafType} (below : slice_get types j ≡ Some (alone type)) → IsNumeric type → (x : X) → kind.Fits x → word (held.numbers j) ≡ kind.word_of x → (scope : Scope g e block types s held) → Linked links code i (scalar_loaded type e (level_of block j) (data_place e block j)) → ((b : Base) → At b i (Known g v h t nothing b) (f b)) → Valued kind g taken h t v s (i + size_of (scalar_loaded type e (level_of block j) (data_place e block j))) aims → Comes code i f v aims (give x k s)
 unfolding give
 own_piece kind {i = i} {h = h} {t = t} closed e block types held f taken j k {type} below numeric x fits same scope l at goal =
     let place = data_place e block j in
-    let r = read_based (0 == e.level) i f scope.base (load_kind type) (pos place) (scope.base + place) (λ b. word (held.numbers j)) scope.reach scope.within (scope.places j below) (λ b m o. scope.reads j below numeric t b m o) l at in
+    let r = read_based (level_of block j == e.level) (level_of block j) i f (scope.base j) (load_kind type) (pos place) (scope.base j + place) (λ b. word (held.numbers j)) (scope.reach j below) (scope.within j below) (scope.places j below) (λ b m o. scope.reads j below numeric t b m o) l at in
     onward closed r (λ f' at'. record { to = goal x f' h t fits (stays_same taken h t) (λ b. record { pc = (at' b).pc; holds = record { body = (at' b).holds.body; regs = ((at' b).holds.regs.0 ∙ same, tt) } }) })
 
-own_does : {links : Links} {code : List Instr} {g : Ground} {v : Services} {s : State} {k : ℕ} {e : Environment} {block : ℕ} {types : Types} {held : Values} (around : Around) (r : Y.Reference) (words p : ℕ) → IsOwn block types (Y.FixedLeaf p) r → Scope g e block types s held → Evaluates number_kind links code g v s k words (λ taken. number_code e taken (Y.NumberIn r)) (V.number around (Y.NumberIn r))
+own_does : {links : Links} {code : List Instr} {g : Ground} {v : Services} {s : State} {k : ℕ} {e : Environment} {block : Names} {types : Types} {held : Values} (around : Around) (r : Y.Reference) (words p : ℕ) → IsOwn block types (Y.FixedLeaf p) r → Scope g e block types s held → Evaluates number_kind links code g v s k words (λ taken. number_code e taken (Y.NumberIn r)) (V.number around (Y.NumberIn r))
 own_does {links} {code} {g} {v} {s} {k} {e} {block} {types} {held} around r words p is scope =
     record {
       does = λ {i} {h} {t} {aims} closed f taken room l at goal.
           let j = is.index in
           let holds = scope.holds j is.declared tt in
           let eq = number_loaded e taken block j p (scope.declared j is.declared) in
-          let loaded = scalar_loaded (Y.FixedLeaf p) e (data_place e block j) in
+          let loaded = scalar_loaded (Y.FixedLeaf p) e (level_of block j) (data_place e block j) in
           let P : Code → Type 0 = λ c. Linked links code i c → Valued number_kind g taken h t v s (i + size_of c) aims → Comes code i f v aims (V.number around (Y.NumberIn (whole (own block j))) k s) in
           let q : P loaded = λ l' goal'.
           subst (Comes code i f v aims) (sym (number_gives around s (own block j) p (held.numbers j) k holds))
@@ -123,14 +123,14 @@ own_does {links} {code} {g} {v} {s} {k} {e} {block} {types} {held} around r word
           subst T (sym is.is) w l goal;
     }
 
-own_bit_does : {links : Links} {code : List Instr} {g : Ground} {v : Services} {s : State} {k : ℕ} {e : Environment} {block : ℕ} {types : Types} {held : Values} (around : Around) (r : Y.Reference) (words : ℕ) → IsOwn block types Y.BitLeaf r → Scope g e block types s held → Evaluates bit_kind links code g v s k words (λ taken. bit_code e taken (Y.BitIn r)) (V.bit around (Y.BitIn r))
+own_bit_does : {links : Links} {code : List Instr} {g : Ground} {v : Services} {s : State} {k : ℕ} {e : Environment} {block : Names} {types : Types} {held : Values} (around : Around) (r : Y.Reference) (words : ℕ) → IsOwn block types Y.BitLeaf r → Scope g e block types s held → Evaluates bit_kind links code g v s k words (λ taken. bit_code e taken (Y.BitIn r)) (V.bit around (Y.BitIn r))
 own_bit_does {links} {code} {g} {v} {s} {k} {e} {block} {types} {held} around r words is scope =
     record {
       does = λ {i} {h} {t} {aims} closed f taken room l at goal.
           let j = is.index in
           let holds = scope.holds j is.declared tt in
           let eq = bit_loaded e taken block j (scope.declared j is.declared) in
-          let loaded = scalar_loaded Y.BitLeaf e (data_place e block j) in
+          let loaded = scalar_loaded Y.BitLeaf e (level_of block j) (data_place e block j) in
           let same : word (held.numbers j) ≡ flag (bit_of (held.numbers j)) = ap word holds.fits ∙ sym (bit_word (bit_of (held.numbers j))) in
           let P : Code → Type 0 = λ c. Linked links code i c → Valued bit_kind g taken h t v s (i + size_of c) aims → Comes code i f v aims (V.bit around (Y.BitIn (whole (own block j))) k s) in
           let q : P loaded = λ l' goal'.
@@ -141,12 +141,12 @@ own_bit_does {links} {code} {g} {v} {s} {k} {e} {block} {types} {held} around r 
           subst T (sym is.is) w l goal;
     }
 
-own_text_does : {links : Links} {code : List Instr} {g : Ground} {v : Services} {s : State} {k : ℕ} {e : Environment} {block : ℕ} {types : Types} {held : Values} (around : Around) (r : Y.Reference) → IsOwnText block types r → Scope g e block types s held → EvaluatesText links code g v s k (text_words (Y.TextIn r)) (λ taken. text_code e taken (Y.TextIn r)) (V.text around (Y.TextIn r))
+own_text_does : {links : Links} {code : List Instr} {g : Ground} {v : Services} {s : State} {k : ℕ} {e : Environment} {block : Names} {types : Types} {held : Values} (around : Around) (r : Y.Reference) → IsOwnText block types r → Scope g e block types s held → EvaluatesText links code g v s k (text_words (Y.TextIn r)) (λ taken. text_code e taken (Y.TextIn r)) (V.text around (Y.TextIn r))
 own_text_does {links} {code} {g} {v} {s} {k} {e} {block} around r is scope =
     let j = is.own.index in
     let inside = (scope.places j is.own.declared).inside in
     subst (λ u. EvaluatesText links code g v s k (text_words (Y.TextIn u)) (λ taken. text_code e taken (Y.TextIn u)) (V.text around (Y.TextIn u))) (sym is.own.is)
-    (variable_evaluates around j is.varying is.most (text_words (Y.TextIn (whole (own block j)))) is.own.declared (scope.declared j is.own.declared) scope.reach (omega (arith, inside)) scope.texts)
+    (variable_evaluates around j is.varying is.most (text_words (Y.TextIn (whole (own block j)))) is.own.declared (scope.declared j is.own.declared) (scope.reach j is.own.declared) (omega (arith, inside)) scope.texts)
 
 bit_does' : {links : Links} {code : List Instr} {g : Ground} {v : Services} {s : State} {k : ℕ} (n : ℕ) (b : Bool) → n < 2 ^ 16 → n ≡ flag b → Evaluates bit_kind links code g v s k 0 (λ taken. small a0 n ∷ []) (give b)
 unfolding give
@@ -164,7 +164,7 @@ bit_does' {g = g} {v = v} n b few e =
 -- ---- references
 
 -- an element, or a variable
-number_part_does : {links : Links} {code : List Instr} {g : Ground} {v : Services} {s : State} {k : ℕ} {e : Environment} {block : ℕ} {types : Types} {held : Values} {around : Around} (r : Y.Reference) → IsPartNumber block types r → Setting links code g v s k e block types held around → AllEvaluate links code g v s k e around (subscripts_in r) → Evaluates number_kind links code g v s k (number_words (Y.NumberIn r)) (λ taken. number_code e taken (Y.NumberIn r)) (V.number around (Y.NumberIn r))
+number_part_does : {links : Links} {code : List Instr} {g : Ground} {v : Services} {s : State} {k : ℕ} {e : Environment} {block : Names} {types : Types} {held : Values} {around : Around} (r : Y.Reference) → IsPartNumber block types r → Setting links code g v s k e block types held around → AllEvaluate links code g v s k e around (subscripts_in r) → Evaluates number_kind links code g v s k (number_words (Y.NumberIn r)) (λ taken. number_code e taken (Y.NumberIn r)) (V.number around (Y.NumberIn r))
 number_part_does {links} {code} {g} {v} {s} {k} {e} {block} {types} {held} {around} r is st all = by_part is.part
   where
     by_part : IsPart block types (Y.FixedLeaf is.precision) r → Evaluates number_kind links code g v s k (number_words (Y.NumberIn r)) (λ taken. number_code e taken (Y.NumberIn r)) (V.number around (Y.NumberIn r))
@@ -174,7 +174,7 @@ number_part_does {links} {code} {g} {v} {s} {k} {e} {block} {types} {held} {arou
         subst (λ q. Evaluates number_kind links code g v s k (number_words (Y.NumberIn q)) (λ taken. number_code e taken (Y.NumberIn q)) (V.number around (Y.NumberIn q))) (sym o.is)
         (element_number_does around st.routines st.temps st.serving (st.scope.arrays o.index (Y.FixedLeaf is.precision) o.bound o.bounds o.declared) o.first o.rest all' (ap (λ n. suc n) o.many))
 
-bit_part_does : {links : Links} {code : List Instr} {g : Ground} {v : Services} {s : State} {k : ℕ} {e : Environment} {block : ℕ} {types : Types} {held : Values} {around : Around} (r : Y.Reference) → IsPart block types Y.BitLeaf r → Setting links code g v s k e block types held around → AllEvaluate links code g v s k e around (subscripts_in r) → Evaluates bit_kind links code g v s k (bit_words (Y.BitIn r)) (λ taken. bit_code e taken (Y.BitIn r)) (V.bit around (Y.BitIn r))
+bit_part_does : {links : Links} {code : List Instr} {g : Ground} {v : Services} {s : State} {k : ℕ} {e : Environment} {block : Names} {types : Types} {held : Values} {around : Around} (r : Y.Reference) → IsPart block types Y.BitLeaf r → Setting links code g v s k e block types held around → AllEvaluate links code g v s k e around (subscripts_in r) → Evaluates bit_kind links code g v s k (bit_words (Y.BitIn r)) (λ taken. bit_code e taken (Y.BitIn r)) (V.bit around (Y.BitIn r))
 bit_part_does {around = around} r (inl o) st all = own_bit_does around r (bit_words (Y.BitIn r)) o st.scope
 bit_part_does {links} {code} {g} {v} {s} {k} {e} {around = around} r (inr o) st all =
     let all' = subst (λ q. AllEvaluate links code g v s k e around (subscripts_in q)) o.is all in
@@ -182,7 +182,7 @@ bit_part_does {links} {code} {g} {v} {s} {k} {e} {around = around} r (inr o) st 
     (element_bit_does around st.routines st.temps st.serving (st.scope.arrays o.index Y.BitLeaf o.bound o.bounds o.declared) o.first o.rest all' (ap (λ n. suc n) o.many))
 
 -- a bound, or the number of subscripts
-bound_asked : {links : Links} {code : List Instr} {g : Ground} {v : Services} {s : State} {k : ℕ} {e : Environment} {block : ℕ} {types : Types} {held : Values} {around : Around} (asked : BoundAsked) (r : Y.Reference) (dimension : ℕ) → IsDimension block types r dimension → Setting links code g v s k e block types held around → Evaluates number_kind links code g v s k (number_words (asked_number asked r dimension)) (λ taken. number_code e taken (asked_number asked r dimension)) (V.number around (asked_number asked r dimension))
+bound_asked : {links : Links} {code : List Instr} {g : Ground} {v : Services} {s : State} {k : ℕ} {e : Environment} {block : Names} {types : Types} {held : Values} {around : Around} (asked : BoundAsked) (r : Y.Reference) (dimension : ℕ) → IsDimension block types r dimension → Setting links code g v s k e block types held around → Evaluates number_kind links code g v s k (number_words (asked_number asked r dimension)) (λ taken. number_code e taken (asked_number asked r dimension)) (V.number around (asked_number asked r dimension))
 bound_asked {links} {code} {g} {v} {s} {k} {e} {block} {around = around} asked r dimension is st =
     let T : Y.Reference → ℕ → Type 1 = λ q n. Evaluates number_kind links code g v s k (number_words (asked_number asked q n)) (λ taken. number_code e taken (asked_number asked q n)) (V.number around (asked_number asked q n)) in
     subst (λ q. T q dimension) (sym is.is)
@@ -194,7 +194,7 @@ bound_asked {links} {code} {g} {v} {s} {k} {e} {block} {around = around} asked r
 mutual
   unfolding V.number V.numbers V.bit V.text ◌>>=◌ give
 
-  pub number_does : (x : Y.Number) {links : Links} {code : List Instr} {g : Ground} {v : Services} {s : State} {k : ℕ} {e : Environment} {block : ℕ} {types : Types} {held : Values} {around : Around} → Setting links code g v s k e block types held around → IsProvedNumber block types x → Evaluates number_kind links code g v s k (number_words x) (λ taken. number_code e taken x) (V.number around x)
+  pub number_does : (x : Y.Number) {links : Links} {code : List Instr} {g : Ground} {v : Services} {s : State} {k : ℕ} {e : Environment} {block : Names} {types : Types} {held : Values} {around : Around} → Setting links code g v s k e block types held around → IsProvedNumber block types x → Evaluates number_kind links code g v s k (number_words x) (λ taken. number_code e taken x) (V.number around x)
   number_does (Y.NumberConstant n) {e = e} {around = around} st is = constant_does e around n is
   number_does (Y.NumberIn (Y.Referring w locator part subscripts)) st is =
       number_part_does (Y.Referring w locator part subscripts) is.0 st (subscripts_do subscripts st is.1)
@@ -234,17 +234,17 @@ mutual
   number_does (Y.AllocationsOf x) st is = absurd is
   number_does Y.OnCode {around = around} st is = oncode_evaluates around st.serving
 
-  pub numbers_do : (xs : Y.Numbers) (extremum : Y.Extremum) {links : Links} {code : List Instr} {g : Ground} {v : Services} {s : State} {k : ℕ} {e : Environment} {block : ℕ} {types : Types} {held : Values} {around : Around} → Setting links code g v s k e block types held around → AreProvedNumbers block types xs → Follows links code g v s k (numbers_words xs) extremum (λ taken. extremes_code e taken extremum xs) (V.numbers around xs)
+  pub numbers_do : (xs : Y.Numbers) (extremum : Y.Extremum) {links : Links} {code : List Instr} {g : Ground} {v : Services} {s : State} {k : ℕ} {e : Environment} {block : Names} {types : Types} {held : Values} {around : Around} → Setting links code g v s k e block types held around → AreProvedNumbers block types xs → Follows links code g v s k (numbers_words xs) extremum (λ taken. extremes_code e taken extremum xs) (V.numbers around xs)
   numbers_do Y.NoNumber extremum st are = follows_none extremum
   numbers_do (Y.NumberThen first rest) extremum st are =
       follows_next st.temps (number_words first) (numbers_words rest) extremum (number_does first st are.0) (numbers_do rest extremum st are.1)
 
-  pub subscripts_do : (xs : Y.Numbers) {links : Links} {code : List Instr} {g : Ground} {v : Services} {s : State} {k : ℕ} {e : Environment} {block : ℕ} {types : Types} {held : Values} {around : Around} → Setting links code g v s k e block types held around → AreProvedNumbers block types xs → AllEvaluate links code g v s k e around xs
+  pub subscripts_do : (xs : Y.Numbers) {links : Links} {code : List Instr} {g : Ground} {v : Services} {s : State} {k : ℕ} {e : Environment} {block : Names} {types : Types} {held : Values} {around : Around} → Setting links code g v s k e block types held around → AreProvedNumbers block types xs → AllEvaluate links code g v s k e around xs
   subscripts_do Y.NoNumber st are = none_evaluate
   subscripts_do (Y.NumberThen first rest) st are =
       next_evaluate st.temps (number_words first) (subscripts_words rest) (given_in rest) (number_does first st are.0) (subscripts_do rest st are.1)
 
-  pub bit_does : (x : Y.Bit) {links : Links} {code : List Instr} {g : Ground} {v : Services} {s : State} {k : ℕ} {e : Environment} {block : ℕ} {types : Types} {held : Values} {around : Around} → Setting links code g v s k e block types held around → IsProvedBit block types x → Evaluates bit_kind links code g v s k (bit_words x) (λ taken. bit_code e taken x) (V.bit around x)
+  pub bit_does : (x : Y.Bit) {links : Links} {code : List Instr} {g : Ground} {v : Services} {s : State} {k : ℕ} {e : Environment} {block : Names} {types : Types} {held : Values} {around : Around} → Setting links code g v s k e block types held around → IsProvedBit block types x → Evaluates bit_kind links code g v s k (bit_words x) (λ taken. bit_code e taken x) (V.bit around x)
   bit_does (Y.BitConstant true) st is = bit_does' 1 true (lit< tt) refl
   bit_does (Y.BitConstant false) st is = bit_does' 0 false (lit< tt) refl
   bit_does (Y.BitIn (Y.Referring w locator part subscripts)) st is =
@@ -269,7 +269,7 @@ mutual
   bit_does (Y.PointersCompared equal left right) st is = absurd is
   bit_does (Y.OffsetsCompared equal left right) st is = absurd is
 
-  pub text_does : (x : Y.Text) {links : Links} {code : List Instr} {g : Ground} {v : Services} {s : State} {k : ℕ} {e : Environment} {block : ℕ} {types : Types} {held : Values} {around : Around} → Setting links code g v s k e block types held around → IsProvedText block types x → EvaluatesText links code g v s k (text_words x) (λ taken. text_code e taken x) (V.text around x)
+  pub text_does : (x : Y.Text) {links : Links} {code : List Instr} {g : Ground} {v : Services} {s : State} {k : ℕ} {e : Environment} {block : Names} {types : Types} {held : Values} {around : Around} → Setting links code g v s k e block types held around → IsProvedText block types x → EvaluatesText links code g v s k (text_words x) (λ taken. text_code e taken x) (V.text around x)
   text_does (Y.TextConstant bytes) st is = constant_evaluates bytes st.constants is
   text_does (Y.TextIn r) {around = around} st is = own_text_does around r is st.scope
   text_does (Y.TextOfNumber precision x) st is = number_evaluates_text precision is.0 (number_does x st is.1)
@@ -284,6 +284,6 @@ mutual
   text_does (Y.TextFrom c) st is = absurd is
 
 -- a number, wherever its code stands
-pub number_piece : {links : Links} {code : List Instr} {i : ℕ} {g : Ground} {v : Services} {h t : ℕ → ℕ} {s : State} {aims : Aims ℤ} (x : Y.Number) (closed : Closed code aims) (routines : Routines links code) (constants : ConstantsStand links code g) (temps : Temporaries g) (e : Environment) (block : ℕ) (types : Types) (held : Values) (f : Family) (around : Around) (taken : Taken) (k : ℕ) → IsProvedNumber block types x → taken.words + number_words x ≤ g.words → Scope g e block types s held → Linked links code i (number_code e taken x) → Serving k s v around.line → ((b : Base) → At b i (Known g v h t nothing b) (f b)) → Valued number_kind g taken h t v s (i + size_of (number_code e taken x)) aims → Comes code i f v aims (V.number around x k s)
+pub number_piece : {links : Links} {code : List Instr} {i : ℕ} {g : Ground} {v : Services} {h t : ℕ → ℕ} {s : State} {aims : Aims ℤ} (x : Y.Number) (closed : Closed code aims) (routines : Routines links code) (constants : ConstantsStand links code g) (temps : Temporaries g) (e : Environment) (block : Names) (types : Types) (held : Values) (f : Family) (around : Around) (taken : Taken) (k : ℕ) → IsProvedNumber block types x → taken.words + number_words x ≤ g.words → Scope g e block types s held → Linked links code i (number_code e taken x) → Serving k s v around.line → ((b : Base) → At b i (Known g v h t nothing b) (f b)) → Valued number_kind g taken h t v s (i + size_of (number_code e taken x)) aims → Comes code i f v aims (V.number around x k s)
 number_piece x closed routines constants temps e block types held f around taken k is room scope l serving at goal =
     (number_does x (record { routines = routines; constants = constants; temps = temps; scope = scope; serving = serving }) is).does closed f taken room l at goal

@@ -16,7 +16,8 @@ use Rattle.pli_coding.specs.Frames.{own_offset, lower_top}
 use Rattle.pli_coding.specs.Linking.{Links, upper_part, lower_part, distance, place_of, item_code}
 use Rattle.pli_coding.specs.Procedures.{finish_code}
 use Rattle.pli_coding.specs.Images.{first_frame_bytes, first_frame, environment_of, main_called, start_code}
-use Rattle.image_runs.specs.Runs.{Whole, Runs, next, run_on}
+use Rattle.image_runs.specs.Runs.{Whole, Runs}
+use Rattle.pli_headline.proofs.Unlimited.{next, run_on}
 use Rattle.pli_headline.specs.Headline.{parts}
 use Rattle.pli_headline.specs.ProvedSoFar.{AllPlain}
 use Rattle.pli_headline.proofs.Engine.{Base, at_base, address, most_code, WordAt, passes}

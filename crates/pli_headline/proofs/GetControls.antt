@@ -10,7 +10,7 @@ use Rattle.pli_meaning.specs.StorageState.{State}
 use Rattle.pli_meaning.specs.Control.{Meaning, give, given, stuck, ◌>>=◌, ◌>>◌}
 use Rattle.pli_meaning.specs.Streaming as P
 use Rattle.pli_meaning.specs.Streaming.{FormatItem, DataFormat, ControlFormat, DataItem, FixedItem, TextItem, ControlItem, control_read}
-use Rattle.pli_serving.specs.ServiceState.{Services, Activation, EditPlace}
+use Rattle.pli_serving.specs.ServiceState.{Services, EditPlace}
 use Rattle.pli_serving.specs.Answers.{Done}
 use Rattle.pli_serving.specs.Edits as E
 use Rattle.pli_coding.specs.Registers.{zero_register, a0, a7}
@@ -18,6 +18,7 @@ use Rattle.pli_coding.specs.Assembly.{Plain, JumpBack, Code}
 use Rattle.pli_coding.specs.Instructions.{small, service, skip_where}
 use Rattle.pli_coding.specs.Streams.{controls_carried_out}
 use Rattle.pli_coding.specs.Linking.{Links}
+use Rattle.pli_headline.proofs.Storages.{Storage, storage}
 use Rattle.pli_headline.proofs.Engine.{Base, address}
 use Rattle.pli_headline.proofs.Items.{Linked, At, straight}
 use Rattle.pli_headline.proofs.Bodies.{Ground, Known, Free, zero_is}
@@ -37,18 +38,18 @@ use Rattle.pli_headline.proofs.Reach.{Family, Aims, Comes, Closed, cost, before_
 -- ---- what stays while control items are carried out
 
 -- what acts that read leave of a state as it is
-pub record Kept (Q : List Activation → State → Type 0) : Type 0 where
-  pub keeps : (xs : List Activation) (change : Input → Input) (s : State) → Q xs s → Q xs (read_state change s)
+pub record Kept (Q : Storage → State → Type 0) : Type 0 where
+  pub keeps : (xs : Storage) (change : Input → Input) (s : State) → Q xs s → Q xs (read_state change s)
 
 -- a state and services that stand together
-pub record Reading (Q : List Activation → State → Type 0) (k line : ℕ) (s : State) (v : Services) : Type 0 where
+pub record Reading (Q : Storage → State → Type 0) (k line : ℕ) (s : State) (v : Services) : Type 0 where
   pub serving : Serving k s v line
-  pub holds : Q v.activations s
+  pub holds : Q (storage v) s
 
 -- ---- a turn
 
 -- a control item is next: it is carried out, and what is next behind it is in a0
-turn_piece : {links : Links} {code : List Instr} {i : ℕ} {g : Ground} {v : Services} {h t : ℕ → ℕ} {rs : Base → List (ℕ × ℕ)} {s : State} {Q : List Activation → State → Type 0} {line : ℕ} {aims : Aims (Unit {0})} (kept : Kept Q) (closed : Closed code aims) (credits : ℕ) (f : Family) (item : ControlItem) (whole left : List FormatItem) (below : List EditPlace) (x : FormatItem) (behind : List FormatItem) (k : ℕ) → Gets v.edits (ControlFormat item) whole left below → Gets (getting whole left ∷ below) x whole behind below → credits + 2 ≤ cost code → Linked links code i (service 35) → Reading Q k line s v → ((b : Base) → At b i (Known g v h t rs b) (f b)) → ((f' : Family) → Reading Q k line (read_state (control_read item) s) (carried_got item (getting whole left ∷ below) v) → ((b : Base) → At b (i + 2) (Known g (carried_got item (getting whole left ∷ below) v) h t (valued (number_in (carried_got item (getting whole left ∷ below) v).input x)) b) (f' b)) → aims.done (i + 2) f' (carried_got item (getting whole left ∷ below) v) tt (read_state (control_read item) s)) → Comes code credits f v aims (P.control_got item k s)
+turn_piece : {links : Links} {code : List Instr} {i : ℕ} {g : Ground} {v : Services} {h t : ℕ → ℕ} {rs : Base → List (ℕ × ℕ)} {s : State} {Q : Storage → State → Type 0} {line : ℕ} {aims : Aims (Unit {0})} (kept : Kept Q) (closed : Closed code aims) (credits : ℕ) (f : Family) (item : ControlItem) (whole left : List FormatItem) (below : List EditPlace) (x : FormatItem) (behind : List FormatItem) (k : ℕ) → Gets v.edits (ControlFormat item) whole left below → Gets (getting whole left ∷ below) x whole behind below → credits + 2 ≤ cost code → Linked links code i (service 35) → Reading Q k line s v → ((b : Base) → At b i (Known g v h t rs b) (f b)) → ((f' : Family) → Reading Q k line (read_state (control_read item) s) (carried_got item (getting whole left ∷ below) v) → ((b : Base) → At b (i + 2) (Known g (carried_got item (getting whole left ∷ below) v) h t (valued (number_in (carried_got item (getting whole left ∷ below) v).input x)) b) (f' b)) → aims.done (i + 2) f' (carried_got item (getting whole left ∷ below) v) tt (read_state (control_read item) s)) → Comes code credits f v aims (P.control_got item k s)
 unfolding P.control_got
 turn_piece {code = code} {i = i} {g = g} {v = v} {h = h} {t = t} {s = s} kept closed credits f item whole left below x behind k found again paid l under at goal =
     let front = small a7 35 ∷ [] in
@@ -107,17 +108,17 @@ free_by_value : (x : ℕ) → Free (valued x) 31
 free_by_value x = record { reserved_stay = λ y u. refl; known_stay = λ b y u q. q; set = λ y u. refl }
 
 -- a data item is next
-abbrev pub DataBehind : Ground → (h t : ℕ → ℕ) → (Q : List Activation → State → Type 0) → (k line : ℕ) → (fixed text : Bool) → (i : ℕ) → (whole : List FormatItem) → (below : List EditPlace) → {R : Type 0} → (DataItem × List FormatItem → R) → Aims R → Type 0
+abbrev pub DataBehind : Ground → (h t : ℕ → ℕ) → (Q : Storage → State → Type 0) → (k line : ℕ) → (fixed text : Bool) → (i : ℕ) → (whole : List FormatItem) → (below : List EditPlace) → {R : Type 0} → (DataItem × List FormatItem → R) → Aims R → Type 0
 DataBehind g h t Q k line fixed text i whole below result aims =
     (s : State) (v : Services) (f : Family) (d : DataItem) (left : List FormatItem) → Reading Q k line s v → Gets v.edits (DataFormat d) whole left below → Suits fixed text (DataFormat d ∷ left) → ((b : Base) → At b i (Known g v h t (valued (number_in v.input (DataFormat d))) b) (f b)) → aims.done i f v (result (d, left)) s
 
 -- the list has ended, and begins again with an item of which a0 tells
-abbrev EndBehind : Ground → (h t : ℕ → ℕ) → (Q : List Activation → State → Type 0) → (k line : ℕ) → (i : ℕ) → (first : FormatItem) → (more : List FormatItem) → (below : List EditPlace) → (items : List FormatItem) → Aims (Option (DataItem × List FormatItem)) → Type 0
+abbrev EndBehind : Ground → (h t : ℕ → ℕ) → (Q : Storage → State → Type 0) → (k line : ℕ) → (i : ℕ) → (first : FormatItem) → (more : List FormatItem) → (below : List EditPlace) → (items : List FormatItem) → Aims (Option (DataItem × List FormatItem)) → Type 0
 EndBehind g h t Q k line i first more below items aims =
     has_data items ≡ false → (s : State) (v : Services) (f : Family) → Reading Q k line s v → v.edits ≡ getting (first ∷ more) [] ∷ below → ((b : Base) → At b i (Known g v h t (valued (number_in v.input first)) b) (f b)) → aims.done i f v None s
 
 -- past the test, where a data item is next
-data_piece : {links : Links} {code : List Instr} {i : ℕ} {g : Ground} {v : Services} {h t : ℕ → ℕ} {s : State} {Q : List Activation → State → Type 0} {line k : ℕ} {whole : List FormatItem} {below : List EditPlace} {aims : Aims (Option (DataItem × List FormatItem))} (closed : Closed code aims) (fixed text : Bool) (f : Family) (d : DataItem) (left : List FormatItem) → Gets v.edits (DataFormat d) whole left below → Suits fixed text (DataFormat d ∷ left) → Linked links code i controls_carried_out → Reading Q k line s v → ((b : Base) → At b (i + 2) (Known g v h t (valued (number_in v.input (DataFormat d))) b) (f b)) → DataBehind g h t Q k line fixed text (i + 5) whole below Some aims → Comes code (i + 2) f v aims (P.controls P.control_got (DataFormat d ∷ left) k s)
+data_piece : {links : Links} {code : List Instr} {i : ℕ} {g : Ground} {v : Services} {h t : ℕ → ℕ} {s : State} {Q : Storage → State → Type 0} {line k : ℕ} {whole : List FormatItem} {below : List EditPlace} {aims : Aims (Option (DataItem × List FormatItem))} (closed : Closed code aims) (fixed text : Bool) (f : Family) (d : DataItem) (left : List FormatItem) → Gets v.edits (DataFormat d) whole left below → Suits fixed text (DataFormat d ∷ left) → Linked links code i controls_carried_out → Reading Q k line s v → ((b : Base) → At b (i + 2) (Known g v h t (valued (number_in v.input (DataFormat d))) b) (f b)) → DataBehind g h t Q k line fixed text (i + 5) whole below Some aims → Comes code (i + 2) f v aims (P.controls P.control_got (DataFormat d ∷ left) k s)
 unfolding P.controls give
 data_piece {i = i} {v = v} {s = s} {aims = aims} closed fixed text f d left found suits l under at goal =
     let e : i + 2 + 3 ≡ i + 5 = omega arith in
@@ -130,7 +131,7 @@ data_piece {i = i} {v = v} {s = s} {aims = aims} closed fixed text f d left foun
     })
 
 -- from the call on, with credits for a turn
-again_piece : {links : Links} {code : List Instr} {i : ℕ} {g : Ground} {v : Services} {h t : ℕ → ℕ} {rs : Base → List (ℕ × ℕ)} {s : State} {Q : List Activation → State → Type 0} {line k : ℕ} {first : FormatItem} {more : List FormatItem} {below : List EditPlace} {aims : Aims (Option (DataItem × List FormatItem))} (kept : Kept Q) (closed : Closed code aims) (credits : ℕ) (f : Family) (item : ControlItem) (left : List FormatItem) → Gets v.edits (ControlFormat item) (first ∷ more) left below → credits + 2 ≤ cost code → Linked links code i (service 35) → Reading Q k line s v → ((b : Base) → At b i (Known g v h t rs b) (f b)) → ((s' : State) (v' : Services) (f' : Family) → Reading Q k line s' v' → v'.edits ≡ getting (first ∷ more) left ∷ below → ((b : Base) → At b (i + 2) (Known g v' h t (valued (number_in v'.input (next_of first left))) b) (f' b)) → Comes code (i + 2) f' v' aims (P.controls P.control_got left k s')) → Comes code credits f v aims (P.controls P.control_got (ControlFormat item ∷ left) k s)
+again_piece : {links : Links} {code : List Instr} {i : ℕ} {g : Ground} {v : Services} {h t : ℕ → ℕ} {rs : Base → List (ℕ × ℕ)} {s : State} {Q : Storage → State → Type 0} {line k : ℕ} {first : FormatItem} {more : List FormatItem} {below : List EditPlace} {aims : Aims (Option (DataItem × List FormatItem))} (kept : Kept Q) (closed : Closed code aims) (credits : ℕ) (f : Family) (item : ControlItem) (left : List FormatItem) → Gets v.edits (ControlFormat item) (first ∷ more) left below → credits + 2 ≤ cost code → Linked links code i (service 35) → Reading Q k line s v → ((b : Base) → At b i (Known g v h t rs b) (f b)) → ((s' : State) (v' : Services) (f' : Family) → Reading Q k line s' v' → v'.edits ≡ getting (first ∷ more) left ∷ below → ((b : Base) → At b (i + 2) (Known g v' h t (valued (number_in v'.input (next_of first left))) b) (f' b)) → Comes code (i + 2) f' v' aims (P.controls P.control_got left k s')) → Comes code credits f v aims (P.controls P.control_got (ControlFormat item ∷ left) k s)
 unfolding P.controls ◌>>◌
 again_piece {v = v} {s = s} {k = k} {first = first} {more = more} {below = below} kept closed credits f item left found paid l under at next' =
     let rest' : Unit {0} → Meaning (Option (DataItem × List FormatItem)) = λ u. P.controls P.control_got left in
@@ -139,7 +140,7 @@ again_piece {v = v} {s = s} {k = k} {first = first} {more = more} {below = below
     (λ f1 under1 at1. next' _ _ f1 under1 refl at1))
 
 -- behind a call, from what a0 tells on
-passes_piece : {links : Links} {code : List Instr} {i : ℕ} {g : Ground} {h t : ℕ → ℕ} {Q : List Activation → State → Type 0} {line k : ℕ} {first : FormatItem} {more : List FormatItem} {below : List EditPlace} {aims : Aims (Option (DataItem × List FormatItem))} (kept : Kept Q) (closed : Closed code aims) (fixed text : Bool) (items : List FormatItem) (f : Family) (s : State) (v : Services) → GetsAt v.edits items (first ∷ more) below → Suits fixed text items → Linked links code i controls_carried_out → Reading Q k line s v → ((b : Base) → At b (i + 2) (Known g v h t (valued (number_in v.input (next_of first items))) b) (f b)) → DataBehind g h t Q k line fixed text (i + 5) (first ∷ more) below Some aims → EndBehind g h t Q k line (i + 2) first more below items aims → Comes code (i + 2) f v aims (P.controls P.control_got items k s)
+passes_piece : {links : Links} {code : List Instr} {i : ℕ} {g : Ground} {h t : ℕ → ℕ} {Q : Storage → State → Type 0} {line k : ℕ} {first : FormatItem} {more : List FormatItem} {below : List EditPlace} {aims : Aims (Option (DataItem × List FormatItem))} (kept : Kept Q) (closed : Closed code aims) (fixed text : Bool) (items : List FormatItem) (f : Family) (s : State) (v : Services) → GetsAt v.edits items (first ∷ more) below → Suits fixed text items → Linked links code i controls_carried_out → Reading Q k line s v → ((b : Base) → At b (i + 2) (Known g v h t (valued (number_in v.input (next_of first items))) b) (f b)) → DataBehind g h t Q k line fixed text (i + 5) (first ∷ more) below Some aims → EndBehind g h t Q k line (i + 2) first more below items aims → Comes code (i + 2) f v aims (P.controls P.control_got items k s)
 unfolding P.controls give
 passes_piece kept closed fixed text [] f s v found suits l under at goal ended = record { to = ended refl s v f under found at }
 passes_piece kept closed fixed text (DataFormat d ∷ left) f s v found suits l under at goal ended =
@@ -156,7 +157,7 @@ passes_piece {code = code} {i = i} {first = first} {more = more} {below = below}
     passes_piece kept closed fixed text left f3 s3 v3 (gets_left v3.edits left (first ∷ more) below edits3) suits l under3 at3 goal ended)))
 
 -- from the call on, with an item that is next
-called_piece : {links : Links} {code : List Instr} {i : ℕ} {g : Ground} {h t : ℕ → ℕ} {s : State} {v : Services} {Q : List Activation → State → Type 0} {line k : ℕ} {first : FormatItem} {more : List FormatItem} {below : List EditPlace} {aims : Aims (Option (DataItem × List FormatItem))} (kept : Kept Q) (closed : Closed code aims) (fixed text : Bool) (f : Family) (x : FormatItem) (left : List FormatItem) → Gets v.edits x (first ∷ more) left below → Suits fixed text (x ∷ left) → Linked links code i controls_carried_out → Reading Q k line s v → ((b : Base) → At b i (Known g v h t nothing b) (f b)) → DataBehind g h t Q k line fixed text (i + 5) (first ∷ more) below Some aims → EndBehind g h t Q k line (i + 2) first more below (x ∷ left) aims → Comes code i f v aims (P.controls P.control_got (x ∷ left) k s)
+called_piece : {links : Links} {code : List Instr} {i : ℕ} {g : Ground} {h t : ℕ → ℕ} {s : State} {v : Services} {Q : Storage → State → Type 0} {line k : ℕ} {first : FormatItem} {more : List FormatItem} {below : List EditPlace} {aims : Aims (Option (DataItem × List FormatItem))} (kept : Kept Q) (closed : Closed code aims) (fixed text : Bool) (f : Family) (x : FormatItem) (left : List FormatItem) → Gets v.edits x (first ∷ more) left below → Suits fixed text (x ∷ left) → Linked links code i controls_carried_out → Reading Q k line s v → ((b : Base) → At b i (Known g v h t nothing b) (f b)) → DataBehind g h t Q k line fixed text (i + 5) (first ∷ more) below Some aims → EndBehind g h t Q k line (i + 2) first more below (x ∷ left) aims → Comes code i f v aims (P.controls P.control_got (x ∷ left) k s)
 called_piece {code = code} {i = i} {v = v} {first = first} {more = more} {below = below} kept closed fixed text f (DataFormat d) left found suits l under at goal ended =
     let x : Base → ℕ = λ b. (f b).machine.registers 10 in
     let y : Base → ℕ = λ b. (f b).machine.registers 11 in
@@ -176,7 +177,7 @@ called_piece {i = i} {first = first} {more = more} {below = below} kept closed f
 abbrev found_again : Option (DataItem × List FormatItem) → Meaning (DataItem × List FormatItem)
 found_again o = given o give stuck
 
-pub next_piece : {links : Links} {code : List Instr} {i : ℕ} {g : Ground} {h t : ℕ → ℕ} {s : State} {v : Services} {Q : List Activation → State → Type 0} {line : ℕ} {aims : Aims (DataItem × List FormatItem)} (kept : Kept Q) (closed : Closed code aims) (fixed text : Bool) (f : Family) (whole rest : List FormatItem) (below : List EditPlace) (k : ℕ) → has_data whole ≡ true → Suits fixed text whole → Suits fixed text rest → v.edits ≡ getting whole rest ∷ below → Linked links code i controls_carried_out → Reading Q k line s v → ((b : Base) → At b i (Known g v h t nothing b) (f b)) → DataBehind g h t Q k line fixed text (i + 5) whole below (λ r. r) aims → Comes code i f v aims (P.next_item P.control_got whole rest k s)
+pub next_piece : {links : Links} {code : List Instr} {i : ℕ} {g : Ground} {h t : ℕ → ℕ} {s : State} {v : Services} {Q : Storage → State → Type 0} {line : ℕ} {aims : Aims (DataItem × List FormatItem)} (kept : Kept Q) (closed : Closed code aims) (fixed text : Bool) (f : Family) (whole rest : List FormatItem) (below : List EditPlace) (k : ℕ) → has_data whole ≡ true → Suits fixed text whole → Suits fixed text rest → v.edits ≡ getting whole rest ∷ below → Linked links code i controls_carried_out → Reading Q k line s v → ((b : Base) → At b i (Known g v h t nothing b) (f b)) → DataBehind g h t Q k line fixed text (i + 5) whole below (λ r. r) aims → Comes code i f v aims (P.next_item P.control_got whole rest k s)
 unfolding P.next_item P.controls ◌>>=◌ give given stuck
 next_piece kept closed fixed text f [] rest below k has suits left_suits edits l under at goal = absurd (cc has)
 next_piece {s = s} {v = v} kept closed fixed text f (first ∷ more) [] below k has suits left_suits edits l under at goal =

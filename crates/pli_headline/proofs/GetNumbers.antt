@@ -20,7 +20,7 @@ use Rattle.pli_meaning.specs.Placing as Q
 use Rattle.pli_meaning.specs.Executing as M
 use Rattle.pli_meaning.specs.Streaming as P
 use Rattle.pli_meaning.specs.Streaming.{FormatItem, DataFormat, DataItem, FixedItem, TextItem, Field, NumberField, TextField}
-use Rattle.pli_serving.specs.ServiceState.{Services, Activation, EditPlace, TextEntry}
+use Rattle.pli_serving.specs.ServiceState.{Services, EditPlace, TextEntry}
 use Rattle.pli_serving.specs.Outcomes.{pushed, with_entries}
 use Rattle.pli_serving.specs.Edits as E
 use Rattle.pli_serving.specs.TextServices as X
@@ -28,6 +28,7 @@ use Rattle.pli_coding.specs.Registers.{a0, u1}
 use Rattle.pli_coding.specs.Assembly.{Code, JumpAhead, size_of}
 use Rattle.pli_coding.specs.Instructions.{small, skip_where, service, status_tested, tested_service}
 use Rattle.pli_coding.specs.Linking.{Links}
+use Rattle.pli_headline.proofs.Storages.{Storage}
 use Rattle.pli_headline.proofs.Engine.{Base, address}
 use Rattle.pli_headline.proofs.Linking.{size_append}
 use Rattle.pli_headline.proofs.Items.{Linked, At, straight}
@@ -158,10 +159,10 @@ abbrev pub number_in_a0 : ℤ → Base → List (ℕ × ℕ)
 number_in_a0 z = valued (word z)
 
 -- what holds of it
-abbrev pub GotNumber : (Q : List Activation → State → Type 0) → (k line : ℕ) → (whole left : List FormatItem) → (below : List EditPlace) → ℤ → State → Services → Type 0
+abbrev pub GotNumber : (Q : Storage → State → Type 0) → (k line : ℕ) → (whole left : List FormatItem) → (below : List EditPlace) → ℤ → State → Services → Type 0
 GotNumber Q k line whole left below z s v = N.IsWide z × (Reading Q k line s v × (v.edits ≡ getting whole left ∷ below))
 
-abbrev pub NumberBehind : List Instr → Ground → (h t : ℕ → ℕ) → (Q : List Activation → State → Type 0) → Around → (k i p : ℕ) → (whole left : List FormatItem) → (below : List EditPlace) → Aims BasicValue → Type 0
+abbrev pub NumberBehind : List Instr → Ground → (h t : ℕ → ℕ) → (Q : Storage → State → Type 0) → Around → (k i p : ℕ) → (whole left : List FormatItem) → (below : List EditPlace) → Aims BasicValue → Type 0
 NumberBehind code g h t Q around k i p whole left below aims =
     GotBehind code g h t number_in_a0 (GotNumber Q k around.line whole left below) k i aims (P.number_kept around p)
 
@@ -172,7 +173,7 @@ abbrev pub text_as_number : Code
 text_as_number = service 37 ++ (small a0 0 ∷ tested_service 26)
 
 -- by F, whatever the number becomes
-pub fixed_taken : {links : Links} {code : List Instr} {i : ℕ} {g : Ground} {v : Services} {h t : ℕ → ℕ} {s : State} {Q : List Activation → State → Type 0} {aims : Aims (Option (List FormatItem))} (kept : Kept Q) (closed : Closed code aims) (routines : Routines links code) (f : Family) (around : Around) (r : Y.Reference) (type : Y.LeafType) (width : ℕ) (whole left : List FormatItem) (below : List EditPlace) (k : ℕ) → P.target_type around r ≡ Some type → Gets v.edits (DataFormat (FixedItem width)) whole left below → has_character v.input.marks ≡ true → Linked links code i fixed_as_number → Reading Q k around.line s v → ((b : Base) → At b i (Known g v h t nothing b) (f b)) → ((z : ℤ) (f' : Family) → N.IsWide z → Reading Q k around.line (read_state (behind_field width) s) (taken_by width (getting whole left ∷ below) v) → ((b : Base) → At b (i + 5) (Known g (taken_by width (getting whole left ∷ below) v) h t (number_in_a0 z) b) (f' b)) → Comes code (i + 5) f' (taken_by width (getting whole left ∷ below) v) (converting code aims k around r left) (P.field_converted around (kind_of [] type) (NumberField z) k (read_state (behind_field width) s))) → Comes code i f v aims (got_and_stored around r left (FixedItem width) k s)
+pub fixed_taken : {links : Links} {code : List Instr} {i : ℕ} {g : Ground} {v : Services} {h t : ℕ → ℕ} {s : State} {Q : Storage → State → Type 0} {aims : Aims (Option (List FormatItem))} (kept : Kept Q) (closed : Closed code aims) (routines : Routines links code) (f : Family) (around : Around) (r : Y.Reference) (type : Y.LeafType) (width : ℕ) (whole left : List FormatItem) (below : List EditPlace) (k : ℕ) → P.target_type around r ≡ Some type → Gets v.edits (DataFormat (FixedItem width)) whole left below → has_character v.input.marks ≡ true → Linked links code i fixed_as_number → Reading Q k around.line s v → ((b : Base) → At b i (Known g v h t nothing b) (f b)) → ((z : ℤ) (f' : Family) → N.IsWide z → Reading Q k around.line (read_state (behind_field width) s) (taken_by width (getting whole left ∷ below) v) → ((b : Base) → At b (i + 5) (Known g (taken_by width (getting whole left ∷ below) v) h t (number_in_a0 z) b) (f' b)) → Comes code (i + 5) f' (taken_by width (getting whole left ∷ below) v) (converting code aims k around r left) (P.field_converted around (kind_of [] type) (NumberField z) k (read_state (behind_field width) s))) → Comes code i f v aims (got_and_stored around r left (FixedItem width) k s)
 unfolding P.field_got P.number_got ◌>>=◌ give
 fixed_taken {code = code} {i = i} {g = g} {v = v} {h = h} {t = t} {s = s} {aims = aims} kept closed routines f around r type width whole left below k is_type found has l under at behind =
     let next1 : Option Field → Meaning (Option (List FormatItem)) = λ u. P.scalar_if_got around r left u in
@@ -206,14 +207,14 @@ fixed_taken {code = code} {i = i} {g = g} {v = v} {h = h} {t = t} {s = s} {aims 
     })))))
 
 -- by F
-fixed_got : {links : Links} {code : List Instr} {i : ℕ} {g : Ground} {v : Services} {h t : ℕ → ℕ} {s : State} {Q : List Activation → State → Type 0} {aims : Aims (Option (List FormatItem))} (kept : Kept Q) (closed : Closed code aims) (routines : Routines links code) (f : Family) (around : Around) (r : Y.Reference) (p width : ℕ) (whole left : List FormatItem) (below : List EditPlace) (k : ℕ) → P.target_type around r ≡ Some (Y.FixedLeaf p) → Gets v.edits (DataFormat (FixedItem width)) whole left below → has_character v.input.marks ≡ true → Linked links code i fixed_as_number → Reading Q k around.line s v → ((b : Base) → At b i (Known g v h t nothing b) (f b)) → NumberBehind code g h t Q around k (i + 5) p whole left below (converting code aims k around r left) → Comes code i f v aims (got_and_stored around r left (FixedItem width) k s)
+fixed_got : {links : Links} {code : List Instr} {i : ℕ} {g : Ground} {v : Services} {h t : ℕ → ℕ} {s : State} {Q : Storage → State → Type 0} {aims : Aims (Option (List FormatItem))} (kept : Kept Q) (closed : Closed code aims) (routines : Routines links code) (f : Family) (around : Around) (r : Y.Reference) (p width : ℕ) (whole left : List FormatItem) (below : List EditPlace) (k : ℕ) → P.target_type around r ≡ Some (Y.FixedLeaf p) → Gets v.edits (DataFormat (FixedItem width)) whole left below → has_character v.input.marks ≡ true → Linked links code i fixed_as_number → Reading Q k around.line s v → ((b : Base) → At b i (Known g v h t nothing b) (f b)) → NumberBehind code g h t Q around k (i + 5) p whole left below (converting code aims k around r left) → Comes code i f v aims (got_and_stored around r left (FixedItem width) k s)
 unfolding P.field_converted
 fixed_got {v = v} {s = s} kept closed routines f around r p width whole left below k type found has l under at goal =
     fixed_taken kept closed routines f around r (Y.FixedLeaf p) width whole left below k type found has l under at
     (λ z f2 wide under2 at2. goal z (read_state (behind_field width) s) (taken_by width (getting whole left ∷ below) v) f2 (wide, (under2, refl)) at2)
 
 -- a text that waits becomes a number
-converted_piece : {links : Links} {code : List Instr} {i : ℕ} {g : Ground} {v : Services} {h t : ℕ → ℕ} {rs : Base → List (ℕ × ℕ)} {s : State} {Q : List Activation → State → Type 0} {aims : Aims BasicValue} (closed : Closed code aims) (routines : Routines links code) (f : Family) (around : Around) (p : ℕ) (text : List ℕ) (whole left : List FormatItem) (below : List EditPlace) (k : ℕ) → Linked links code i (small a0 0 ∷ tested_service 26) → Reading Q k around.line s v → v.edits ≡ getting whole left ∷ below → ((b : Base) → At b i (Known g (pushed (TextEntry text) v) h t rs b) (f b)) → NumberBehind code g h t Q around k (i + 6) p whole left below aims → Comes code i f (pushed (TextEntry text) v) aims (P.field_converted around (Fixed p) (TextField text) k s)
+converted_piece : {links : Links} {code : List Instr} {i : ℕ} {g : Ground} {v : Services} {h t : ℕ → ℕ} {rs : Base → List (ℕ × ℕ)} {s : State} {Q : Storage → State → Type 0} {aims : Aims BasicValue} (closed : Closed code aims) (routines : Routines links code) (f : Family) (around : Around) (p : ℕ) (text : List ℕ) (whole left : List FormatItem) (below : List EditPlace) (k : ℕ) → Linked links code i (small a0 0 ∷ tested_service 26) → Reading Q k around.line s v → v.edits ≡ getting whole left ∷ below → ((b : Base) → At b i (Known g (pushed (TextEntry text) v) h t rs b) (f b)) → NumberBehind code g h t Q around k (i + 6) p whole left below aims → Comes code i f (pushed (TextEntry text) v) aims (P.field_converted around (Fixed p) (TextField text) k s)
 unfolding P.field_converted ◌>>=◌
 converted_piece {code = code} {i = i} {g = g} {v = v} {h = h} {t = t} {s = s} {aims = aims} closed routines f around p text whole left below k l under edits at goal =
     let next' : ℤ → Meaning BasicValue = λ z. P.number_kept around p z in
@@ -238,7 +239,7 @@ converted_piece {code = code} {i = i} {g = g} {v = v} {h = h} {t = t} {s = s} {a
     (goal n s v' f2 (number_wide text n is, (record { serving = at_other_texts v.entries under.serving; holds = under.holds }, edits)) (λ b. record { pc = (at2 b).pc ∙ ap (address b) e; holds = (at2 b).holds })))))
 
 -- a field is taken as a text
-pub text_taken : {links : Links} {code : List Instr} {i : ℕ} {g : Ground} {v : Services} {h t : ℕ → ℕ} {s : State} {Q : List Activation → State → Type 0} {aims : Aims (Option (List FormatItem))} (kept : Kept Q) (closed : Closed code aims) (f : Family) (around : Around) (r : Y.Reference) (type : Y.LeafType) (width : ℕ) (whole left : List FormatItem) (below : List EditPlace) (k : ℕ) → P.target_type around r ≡ Some type → Gets v.edits (DataFormat (TextItem (Some width))) whole left below → has_character v.input.marks ≡ true → Linked links code i (service 37) → Reading Q k around.line s v → ((b : Base) → At b i (Known g v h t nothing b) (f b)) → ((f' : Family) → Reading Q k around.line (read_state (behind_field width) s) (taken_by width (getting whole left ∷ below) v) → ((b : Base) → At b (i + 2) (Known g (pushed (TextEntry (field_of width v.input)) (taken_by width (getting whole left ∷ below) v)) h t nothing b) (f' b)) → Comes code (i + 2) f' (pushed (TextEntry (field_of width v.input)) (taken_by width (getting whole left ∷ below) v)) (converting code aims k around r left) (P.field_converted around (kind_of [] type) (TextField (field_of width v.input)) k (read_state (behind_field width) s))) → Comes code i f v aims (got_and_stored around r left (TextItem (Some width)) k s)
+pub text_taken : {links : Links} {code : List Instr} {i : ℕ} {g : Ground} {v : Services} {h t : ℕ → ℕ} {s : State} {Q : Storage → State → Type 0} {aims : Aims (Option (List FormatItem))} (kept : Kept Q) (closed : Closed code aims) (f : Family) (around : Around) (r : Y.Reference) (type : Y.LeafType) (width : ℕ) (whole left : List FormatItem) (below : List EditPlace) (k : ℕ) → P.target_type around r ≡ Some type → Gets v.edits (DataFormat (TextItem (Some width))) whole left below → has_character v.input.marks ≡ true → Linked links code i (service 37) → Reading Q k around.line s v → ((b : Base) → At b i (Known g v h t nothing b) (f b)) → ((f' : Family) → Reading Q k around.line (read_state (behind_field width) s) (taken_by width (getting whole left ∷ below) v) → ((b : Base) → At b (i + 2) (Known g (pushed (TextEntry (field_of width v.input)) (taken_by width (getting whole left ∷ below) v)) h t nothing b) (f' b)) → Comes code (i + 2) f' (pushed (TextEntry (field_of width v.input)) (taken_by width (getting whole left ∷ below) v)) (converting code aims k around r left) (P.field_converted around (kind_of [] type) (TextField (field_of width v.input)) k (read_state (behind_field width) s))) → Comes code i f v aims (got_and_stored around r left (TextItem (Some width)) k s)
 unfolding P.field_got ◌>>=◌ give
 text_taken {code = code} {i = i} {v = v} {s = s} {aims = aims} kept closed f around r type width whole left below k is found has l under at next' =
     let next1 : Option Field → Meaning (Option (List FormatItem)) = λ u. P.scalar_if_got around r left u in
@@ -262,7 +263,7 @@ text_taken {code = code} {i = i} {v = v} {s = s} {aims = aims} kept closed f aro
     })))
 
 -- by A
-text_got : {links : Links} {code : List Instr} {i : ℕ} {g : Ground} {v : Services} {h t : ℕ → ℕ} {s : State} {Q : List Activation → State → Type 0} {aims : Aims (Option (List FormatItem))} (kept : Kept Q) (closed : Closed code aims) (routines : Routines links code) (f : Family) (around : Around) (r : Y.Reference) (p width : ℕ) (whole left : List FormatItem) (below : List EditPlace) (k : ℕ) → P.target_type around r ≡ Some (Y.FixedLeaf p) → Gets v.edits (DataFormat (TextItem (Some width))) whole left below → has_character v.input.marks ≡ true → Linked links code i text_as_number → Reading Q k around.line s v → ((b : Base) → At b i (Known g v h t nothing b) (f b)) → NumberBehind code g h t Q around k (i + 8) p whole left below (converting code aims k around r left) → Comes code i f v aims (got_and_stored around r left (TextItem (Some width)) k s)
+text_got : {links : Links} {code : List Instr} {i : ℕ} {g : Ground} {v : Services} {h t : ℕ → ℕ} {s : State} {Q : Storage → State → Type 0} {aims : Aims (Option (List FormatItem))} (kept : Kept Q) (closed : Closed code aims) (routines : Routines links code) (f : Family) (around : Around) (r : Y.Reference) (p width : ℕ) (whole left : List FormatItem) (below : List EditPlace) (k : ℕ) → P.target_type around r ≡ Some (Y.FixedLeaf p) → Gets v.edits (DataFormat (TextItem (Some width))) whole left below → has_character v.input.marks ≡ true → Linked links code i text_as_number → Reading Q k around.line s v → ((b : Base) → At b i (Known g v h t nothing b) (f b)) → NumberBehind code g h t Q around k (i + 8) p whole left below (converting code aims k around r left) → Comes code i f v aims (got_and_stored around r left (TextItem (Some width)) k s)
 text_got {code = code} {i = i} {v = v} {s = s} {aims = aims} kept closed routines f around r p width whole left below k type found has l under at goal =
     let e : i + 2 + 6 ≡ i + 8 = omega arith in
     text_taken kept closed f around r (Y.FixedLeaf p) width whole left below k type found has (front_of (service 37) (small a0 0 ∷ tested_service 26) l) under at
@@ -273,7 +274,7 @@ text_got {code = code} {i = i} {v = v} {s = s} {aims = aims} kept closed routine
     (goal z s2 v2 f2 holds2 (λ b. record { pc = (at2 b).pc ∙ ap (address b) e; holds = (at2 b).holds }))))
 
 -- by either
-pub number_got : {links : Links} {code : List Instr} {i : ℕ} {g : Ground} {v : Services} {h t : ℕ → ℕ} {s : State} {Q : List Activation → State → Type 0} {aims : Aims (Option (List FormatItem))} (kept : Kept Q) (closed : Closed code aims) (routines : Routines links code) (f : Family) (around : Around) (r : Y.Reference) (fixed text : Bool) (p : ℕ) (d : DataItem) (whole left : List FormatItem) (below : List EditPlace) (k : ℕ) → P.target_type around r ≡ Some (Y.FixedLeaf p) → IsOf fixed text d → IsWide d → Gets v.edits (DataFormat d) whole left below → has_character v.input.marks ≡ true → Linked links code i (by_kinds fixed text fixed_as_number text_as_number) → Reading Q k around.line s v → ((b : Base) → At b i (Known g v h t (valued (E.data_number d)) b) (f b)) → NumberBehind code g h t Q around k (i + size_of (by_kinds fixed text fixed_as_number text_as_number)) p whole left below (converting code aims k around r left) → Comes code i f v aims (got_and_stored around r left d k s)
+pub number_got : {links : Links} {code : List Instr} {i : ℕ} {g : Ground} {v : Services} {h t : ℕ → ℕ} {s : State} {Q : Storage → State → Type 0} {aims : Aims (Option (List FormatItem))} (kept : Kept Q) (closed : Closed code aims) (routines : Routines links code) (f : Family) (around : Around) (r : Y.Reference) (fixed text : Bool) (p : ℕ) (d : DataItem) (whole left : List FormatItem) (below : List EditPlace) (k : ℕ) → P.target_type around r ≡ Some (Y.FixedLeaf p) → IsOf fixed text d → IsWide d → Gets v.edits (DataFormat d) whole left below → has_character v.input.marks ≡ true → Linked links code i (by_kinds fixed text fixed_as_number text_as_number) → Reading Q k around.line s v → ((b : Base) → At b i (Known g v h t (valued (E.data_number d)) b) (f b)) → NumberBehind code g h t Q around k (i + size_of (by_kinds fixed text fixed_as_number text_as_number)) p whole left below (converting code aims k around r left) → Comes code i f v aims (got_and_stored around r left d k s)
 number_got {Q = Q} kept closed routines f around r fixed text p (FixedItem width) whole left below k type is wide found has l under at goal =
     chosen_piece number_in_a0 (λ z. record { reserved_stay = λ y u. refl; known_stay = λ b y u q. q; set = λ y u. refl }) (GotNumber Q k around.line whole left below) (P.number_kept around p) fixed text closed (converting_closed k around r left closed) f (FixedItem width) fixed_as_number text_as_number k is l at
     (λ j f1 l1 at1 goal1. fixed_got kept closed routines f1 around r p width whole left below k type found has l1 under at1 goal1) goal

@@ -21,7 +21,7 @@ use Rattle.pli_serving.specs.Answers.{Answer, Done}
 use Rattle.pli_serving.specs.Finding.{Call}
 use Rattle.pli_serving.specs.FormatLists.{formats_at}
 use Rattle.pli_serving.specs.Edits as E
-use Rattle.pli_serving.specs.Serving as V
+use Rattle.pli_headline.proofs.Unlimited as V
 use Rattle.pli_coding.specs.Registers.{zero_register, a0, a1, a7, u1}
 use Rattle.pli_coding.specs.Assembly.{DataPlace, RaiseError, Plain, OffsetOf, JumpTo, JumpAhead, Code}
 use Rattle.pli_coding.specs.Instructions.{small, service, skip_where, status_tested}

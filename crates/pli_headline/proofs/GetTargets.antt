@@ -18,7 +18,7 @@ use Rattle.pli_meaning.specs.Raising as R
 use Rattle.pli_meaning.specs.Raising.{Around}
 use Rattle.pli_meaning.specs.Streaming as P
 use Rattle.pli_meaning.specs.Streaming.{FormatItem, DataFormat, DataItem, FixedItem, TextItem, Field, TextField, format_items}
-use Rattle.pli_serving.specs.ServiceState.{Services, Activation, EditPlace, TextEntry}
+use Rattle.pli_serving.specs.ServiceState.{Services, EditPlace, TextEntry}
 use Rattle.pli_serving.specs.Outcomes.{pushed, with_entries}
 use Rattle.pli_serving.specs.Edits as E
 use Rattle.pli_serving.specs.TextServices as X
@@ -32,7 +32,8 @@ use Rattle.pli_coding.specs.Storing.{word_stored, top_stored}
 use Rattle.pli_coding.specs.Streams as C
 use Rattle.pli_coding.specs.Streams.{has_fixed, has_text, controls_carried_out, awaited_before, field_awaited, field_stored, bit_got, text_got, get_item_words}
 use Rattle.pli_coding.specs.Linking.{Links}
-use Rattle.pli_headline.specs.ProvedSoFar.{Types, IsReadBy, IsProvedGetItem, AreProvedFormats, HasData, HaveWidths, text_leaf, alone, IsOwn, IsElement, IsElementType, IsTarget, AreSubscripts, AreProvedNumbers}
+use Rattle.pli_headline.specs.ProvedSoFar.{Names, Types, IsReadBy, IsProvedGetItem, AreProvedFormats, HasData, HaveWidths, text_leaf, alone, IsOwn, IsElement, IsElementType, IsTarget, AreSubscripts, AreProvedNumbers}
+use Rattle.pli_headline.proofs.Storages.{storage, Storage, Serials}
 use Rattle.pli_headline.proofs.Engine.{Base, address}
 use Rattle.pli_headline.proofs.Linking.{size_append}
 use Rattle.pli_headline.proofs.Items.{Linked, At, straight}
@@ -75,29 +76,29 @@ use Rattle.std.proofs.Math.Nat.{le-max_right}
 -- ---- what is declared
 
 -- the type of a variable in the meaning
-target_is : (e : Environment) (around : Around) (block j : ℕ) (type : Y.LeafType) → around.program ≡ e.program → IsDeclared e block j type → P.target_type around (whole (own block j)) ≡ Some type
+target_is : (e : Environment) (around : Around) (block : Names) (j : ℕ) (type : Y.LeafType) → around.program ≡ e.program → IsDeclared e block j type → P.target_type around (whole (own block j)) ≡ Some type
 target_is e around block j type same declared =
-    ap (λ q. P.type_of_first whole_part (slice_get (variables_of_block q block) j)) same
+    ap (λ q. P.type_of_first whole_part (slice_get (variables_of_block q (block.at j).number) (block.at j).index)) same
     ∙ ap (P.type_of_first whole_part) declared.1
 
 -- ---- what is behind an item
 
 -- with what is left of the format list, and other numbers in the variables
-abbrev pub ItemBehind : {e : Environment} {block : ℕ} {types : Types} → Block e block types → (k line : ℕ) → (h t : ℕ → ℕ) → (i : ℕ) → (fixed text : Bool) → (whole : List FormatItem) → (below : List EditPlace) → Aims (Option (List FormatItem)) → Type 0
+abbrev pub ItemBehind : {e : Environment} {block : Names} {types : Types} → Block e block types → (k line : ℕ) → (h t : ℕ → ℕ) → (i : ℕ) → (fixed text : Bool) → (whole : List FormatItem) → (below : List EditPlace) → Aims (Option (List FormatItem)) → Type 0
 ItemBehind {e = e} {block = block} {types = types} bl k line h0 t0 i fixed text whole below aims =
-    (s : State) (v : Services) (rest : List FormatItem) (n : Values) (h t : ℕ → ℕ) (f : Family) → Serving k s v line → AllHold bl.frames v.activations (e.level ∷ bl.depths) s block types n → Suits fixed text rest → v.edits ≡ getting whole rest ∷ below → Stays bl.taken h0 t0 h t → ((b : Base) → At b i (Known (bl.ground n) v h t nothing b) (f b)) → aims.done i f v (Some rest) s
+    (s : State) (v : Services) (rest : List FormatItem) (n : Values) (h t : ℕ → ℕ) (f : Family) → Serving k s v line → AllHold bl.frames bl.serials (storage v) (e.level ∷ bl.depths) s block types n → Suits fixed text rest → v.edits ≡ getting whole rest ∷ below → Stays bl.taken h0 t0 h t → ((b : Base) → At b i (Known (bl.ground n) v h t nothing b) (f b)) → aims.done i f v (Some rest) s
 
 -- acts that read leave what the variables hold
-read_holds : {s : State} {block j : ℕ} {type : Y.LeafType} {z : ℤ} (change : Input → Input) → Holds s block j type z → Holds (read_state change s) block j type z
+read_holds : {s : State} {block : Names} {j serial : ℕ} {type : Y.LeafType} {z : ℤ} (change : Input → Input) → Holds s block j serial type z → Holds (read_state change s) block j serial type z
 read_holds change h = record { values = h.values; stands = h.stands; lives = h.lives; value = h.value; fits = h.fits }
 
-read_keeps : {s : State} {block j : ℕ} {varying : Bool} {most : ℕ} {text : List ℕ} (change : Input → Input) → KeepsText s block j varying most text → KeepsText (read_state change s) block j varying most text
+read_keeps : {s : State} {block : Names} {j serial : ℕ} {varying : Bool} {most : ℕ} {text : List ℕ} (change : Input → Input) → KeepsText s block j serial varying most text → KeepsText (read_state change s) block j serial varying most text
 read_keeps change h = record { values = h.values; stands = h.stands; lives = h.lives; value = h.value; short = h.short }
 
-read_array : {s : State} {block j : ℕ} {type : Y.LeafType} {bs : List Bounds} {n : ℕ → ℤ} (change : Input → Input) → HoldsArray s block j type bs n → HoldsArray (read_state change s) block j type bs n
+read_array : {s : State} {block : Names} {j serial : ℕ} {type : Y.LeafType} {bs : List Bounds} {n : ℕ → ℤ} (change : Input → Input) → HoldsArray s block j serial type bs n → HoldsArray (read_state change s) block j serial type bs n
 read_array change h = record { values = h.values; numeric = h.numeric; stands = h.stands; lives = h.lives; value = h.value; fits = h.fits }
 
-pub read_all : {frames : Frames} {xs : List Activation} {levels : List ℕ} {s : State} {block : ℕ} {types : Types} {n : Values} (change : Input → Input) → AllHold frames xs levels s block types n → AllHold frames xs levels (read_state change s) block types n
+pub read_all : {frames : Frames} {serials : Serials} {xs : Storage} {levels : List ℕ} {s : State} {block : Names} {types : Types} {n : Values} (change : Input → Input) → AllHold frames serials xs levels s block types n → AllHold frames serials xs levels (read_state change s) block types n
 read_all change all =
     record {
       numbers = λ j b numeric. read_holds change (all.numbers j b numeric);
@@ -107,14 +108,14 @@ read_all change all =
       framed = all.framed;
       kinds = all.kinds;
       units = all.units;
-      owned = all.owned;
+      stored = all.stored;
     }
 
-all_kept : (frames : Frames) (levels : List ℕ) (block : ℕ) (types : Types) (n : Values) → Kept (λ xs s. AllHold frames xs levels s block types n)
-all_kept frames levels block types n = record { keeps = λ xs change s all. read_all change all }
+all_kept : (frames : Frames) (serials : Serials) (levels : List ℕ) (block : Names) (types : Types) (n : Values) → Kept (λ xs s. AllHold frames serials xs levels s block types n)
+all_kept frames serials levels block types n = record { keeps = λ xs change s all. read_all change all }
 
 -- a value in a0 is stored
-value_stored : {e : Environment} {block : ℕ} {types : Types} (bl : Block e block types) {links : Links} {code : List Instr} {i : ℕ} {v : Services} {h t : ℕ → ℕ} {s : State} {aims : Aims (Option (List FormatItem))} (closed : Closed code aims) (f : Family) (around : Around) (r : Y.Reference) {type : Y.LeafType} (takes : Takes bl links code r type) (z : ℤ) (n : Values) (fixed text : Bool) (all left : List FormatItem) (below : List EditPlace) (k : ℕ) → Fits type z → Suits fixed text left → v.edits ≡ getting all left ∷ below → Linked links code i (word_stored e bl.taken r) → Serving k s v around.line → AllHold bl.frames v.activations (e.level ∷ bl.depths) s block types n → ((b : Base) → At b i (Known (bl.ground n) v h t (valued (word z)) b) (f b)) → ItemBehind bl k around.line h t (i + size_of (word_stored e bl.taken r)) fixed text all below aims → Comes code i f v (before code aims k (rest_given left)) (stored_value around r (value_as type z) k s)
+value_stored : {e : Environment} {block : Names} {types : Types} (bl : Block e block types) {links : Links} {code : List Instr} {i : ℕ} {v : Services} {h t : ℕ → ℕ} {s : State} {aims : Aims (Option (List FormatItem))} (closed : Closed code aims) (f : Family) (around : Around) (r : Y.Reference) {type : Y.LeafType} (takes : Takes bl links code r type) (z : ℤ) (n : Values) (fixed text : Bool) (all left : List FormatItem) (below : List EditPlace) (k : ℕ) → Fits type z → Suits fixed text left → v.edits ≡ getting all left ∷ below → Linked links code i (word_stored e bl.taken r) → Serving k s v around.line → AllHold bl.frames bl.serials (storage v) (e.level ∷ bl.depths) s block types n → ((b : Base) → At b i (Known (bl.ground n) v h t (valued (word z)) b) (f b)) → ItemBehind bl k around.line h t (i + size_of (word_stored e bl.taken r)) fixed text all below aims → Comes code i f v (before code aims k (rest_given left)) (stored_value around r (value_as type z) k s)
 unfolding give
 value_stored bl {v = v} closed f around r takes z n fixed text all left below k fits suits edits l serving hold at goal =
     takes.does (before_closed k (rest_given left) closed) f around z n k fits l serving hold at
@@ -123,7 +124,7 @@ value_stored bl {v = v} closed f around r takes z n fixed text all left below k 
 -- ---- numbers
 
 -- a number in a0 is stored where it fits
-number_stored : {e : Environment} {block : ℕ} {types : Types} (bl : Block e block types) {links : Links} {code : List Instr} {i : ℕ} {v : Services} {h t : ℕ → ℕ} {s : State} {aims : Aims (Option (List FormatItem))} (closed : Closed code aims) (routines : Routines links code) (f : Family) (around : Around) (r : Y.Reference) (p : ℕ) (takes : Takes bl links code r (Y.FixedLeaf p)) (z : ℤ) (n : Values) (fixed text : Bool) (all left : List FormatItem) (below : List EditPlace) (k : ℕ) → N.IsWide z → bl.taken.words + 1 ≤ bl.words → Suits fixed text left → v.edits ≡ getting all left ∷ below → Linked links code i (fitted_code bl.taken p ++ word_stored e bl.taken r) → Serving k s v around.line → AllHold bl.frames v.activations (e.level ∷ bl.depths) s block types n → ((b : Base) → At b i (Known (bl.ground n) v h t (valued (word z)) b) (f b)) → ItemBehind bl k around.line h t (i + size_of (fitted_code bl.taken p ++ word_stored e bl.taken r)) fixed text all below aims → Comes code i f v (converting code aims k around r left) (P.number_kept around p z k s)
+number_stored : {e : Environment} {block : Names} {types : Types} (bl : Block e block types) {links : Links} {code : List Instr} {i : ℕ} {v : Services} {h t : ℕ → ℕ} {s : State} {aims : Aims (Option (List FormatItem))} (closed : Closed code aims) (routines : Routines links code) (f : Family) (around : Around) (r : Y.Reference) (p : ℕ) (takes : Takes bl links code r (Y.FixedLeaf p)) (z : ℤ) (n : Values) (fixed text : Bool) (all left : List FormatItem) (below : List EditPlace) (k : ℕ) → N.IsWide z → bl.taken.words + 1 ≤ bl.words → Suits fixed text left → v.edits ≡ getting all left ∷ below → Linked links code i (fitted_code bl.taken p ++ word_stored e bl.taken r) → Serving k s v around.line → AllHold bl.frames bl.serials (storage v) (e.level ∷ bl.depths) s block types n → ((b : Base) → At b i (Known (bl.ground n) v h t (valued (word z)) b) (f b)) → ItemBehind bl k around.line h t (i + size_of (fitted_code bl.taken p ++ word_stored e bl.taken r)) fixed text all below aims → Comes code i f v (converting code aims k around r left) (P.number_kept around p z k s)
 unfolding P.number_kept ◌>>=◌ give
 number_stored {e} {block} {types} bl {code = code} {i = i} {v = v} {s = s} {aims = aims} closed routines f around r p takes z n fixed text all left below k wide room suits edits l serving hold at goal =
     let fit = fitted_code bl.taken p in
@@ -131,7 +132,7 @@ number_stored {e} {block} {types} bl {code = code} {i = i} {v = v} {s = s} {aims
     let size = size_append fit last in
     let place : i + size_of fit + size_of last ≡ i + size_of (fit ++ last) = omega (arith, size) in
     let w = bl.words_are n in
-    let few = (takes.old s v.activations n hold).1.0 in
+    let few = (takes.old s (storage v) n hold).1.0 in
     let next' : ℤ → Meaning BasicValue = λ q. give (BasicNumber q) in
     comes_on k (R.value_of around (checked p z) k s) next'
     (fitted_piece (before_closed k next' (converting_closed k around r left closed)) routines (bl.temps n) f around bl.taken p z k few wide (λ none. omega (arith, room, w)) (front_of fit last l) serving at
@@ -147,7 +148,7 @@ number_stored {e} {block} {types} bl {code = code} {i = i} {v = v} {s = s} {aims
 -- ---- bits
 
 -- a text that waits is stored as a bit
-bit_stored : {e : Environment} {block : ℕ} {types : Types} (bl : Block e block types) {links : Links} {code : List Instr} {i : ℕ} {v : Services} {h t : ℕ → ℕ} {s : State} {aims : Aims (Option (List FormatItem))} (closed : Closed code aims) (routines : Routines links code) (f : Family) (around : Around) (r : Y.Reference) (takes : Takes bl links code r Y.BitLeaf) (field : List ℕ) (n : Values) (fixed text : Bool) (all left : List FormatItem) (below : List EditPlace) (k : ℕ) → Suits fixed text left → v.edits ≡ getting all left ∷ below → Linked links code i (small a0 1 ∷ (tested_service 26 ++ word_stored e bl.taken r)) → Serving k s v around.line → AllHold bl.frames v.activations (e.level ∷ bl.depths) s block types n → ((b : Base) → At b i (Known (bl.ground n) (pushed (TextEntry field) v) h t nothing b) (f b)) → ItemBehind bl k around.line h t (i + 6 + size_of (word_stored e bl.taken r)) fixed text all below aims → Comes code i f (pushed (TextEntry field) v) (converting code aims k around r left) (P.field_converted around Bit (TextField field) k s)
+bit_stored : {e : Environment} {block : Names} {types : Types} (bl : Block e block types) {links : Links} {code : List Instr} {i : ℕ} {v : Services} {h t : ℕ → ℕ} {s : State} {aims : Aims (Option (List FormatItem))} (closed : Closed code aims) (routines : Routines links code) (f : Family) (around : Around) (r : Y.Reference) (takes : Takes bl links code r Y.BitLeaf) (field : List ℕ) (n : Values) (fixed text : Bool) (all left : List FormatItem) (below : List EditPlace) (k : ℕ) → Suits fixed text left → v.edits ≡ getting all left ∷ below → Linked links code i (small a0 1 ∷ (tested_service 26 ++ word_stored e bl.taken r)) → Serving k s v around.line → AllHold bl.frames bl.serials (storage v) (e.level ∷ bl.depths) s block types n → ((b : Base) → At b i (Known (bl.ground n) (pushed (TextEntry field) v) h t nothing b) (f b)) → ItemBehind bl k around.line h t (i + 6 + size_of (word_stored e bl.taken r)) fixed text all below aims → Comes code i f (pushed (TextEntry field) v) (converting code aims k around r left) (P.field_converted around Bit (TextField field) k s)
 unfolding P.field_converted ◌>>=◌ give
 bit_stored {e} {block} {types} bl {links} {code} {i} {v} {h} {t} {s} {aims} closed routines f around r takes field n fixed text all left below k suits edits l serving hold at goal =
     let next' : Bool → Meaning BasicValue = λ b. give (BasicBit b) in
@@ -185,7 +186,7 @@ bit_stored {e} {block} {types} bl {links} {code} {i} {v} {h} {t} {s} {aims} clos
 -- ---- texts
 
 -- a text that waits is stored in a variable that holds texts
-text_kept_piece : {e : Environment} {block : ℕ} {types : Types} (bl : Block e block types) {links : Links} {code : List Instr} {i : ℕ} {v : Services} {h t : ℕ → ℕ} {s : State} {aims : Aims (Option (List FormatItem))} (closed : Closed code aims) (f : Family) (around : Around) (j : ℕ) (varying : Bool) (most : ℕ) (field : List ℕ) (n : Values) (fixed text : Bool) (all left : List FormatItem) (below : List EditPlace) (k : ℕ) → IsTextAt types j varying most → Suits fixed text left → v.edits ≡ getting all left ∷ below → Linked links code i (top_stored e bl.taken (whole (own block j))) → Serving k s v around.line → AllHold bl.frames v.activations (e.level ∷ bl.depths) s block types n → ((b : Base) → At b i (Known (bl.ground n) (pushed (TextEntry field) v) h t nothing b) (f b)) → ItemBehind bl k around.line h t (i + size_of (top_stored e bl.taken (whole (own block j)))) fixed text all below aims → Comes code i f (pushed (TextEntry field) v) (converting code aims k around (whole (own block j)) left) (give (BasicText field) k s)
+text_kept_piece : {e : Environment} {block : Names} {types : Types} (bl : Block e block types) {links : Links} {code : List Instr} {i : ℕ} {v : Services} {h t : ℕ → ℕ} {s : State} {aims : Aims (Option (List FormatItem))} (closed : Closed code aims) (f : Family) (around : Around) (j : ℕ) (varying : Bool) (most : ℕ) (field : List ℕ) (n : Values) (fixed text : Bool) (all left : List FormatItem) (below : List EditPlace) (k : ℕ) → IsTextAt types j varying most → Suits fixed text left → v.edits ≡ getting all left ∷ below → Linked links code i (top_stored e bl.taken (whole (own block j))) → Serving k s v around.line → AllHold bl.frames bl.serials (storage v) (e.level ∷ bl.depths) s block types n → ((b : Base) → At b i (Known (bl.ground n) (pushed (TextEntry field) v) h t nothing b) (f b)) → ItemBehind bl k around.line h t (i + size_of (top_stored e bl.taken (whole (own block j)))) fixed text all below aims → Comes code i f (pushed (TextEntry field) v) (converting code aims k around (whole (own block j)) left) (give (BasicText field) k s)
 unfolding give
 text_kept_piece {e} {block} {types} bl {i = i} {v = v} {h = h} {t = t} {s = s} closed f around j varying most field n fixed text all left below k at_place suits edits l serving hold at goal =
     record {
@@ -195,21 +196,21 @@ text_kept_piece {e} {block} {types} bl {i = i} {v = v} {h = h} {t = t} {s = s} c
           (λ f1 at1.
           record {
             to =
-                goal (text_state s (text_leaf varying most) (suc j) values field) v left (with_text_at n j (text_kept_as varying most field)) h t f1
+                goal (text_state s (text_leaf varying most) (bl.serials.of j) values field) v left (with_text_at n j (text_kept_as varying most field)) h t f1
                 (record { world = serving.world; running = serving.running; line_is = serving.line_is; input = serving.input; allowed = serving.allowed; fits = serving.fits; nested = serving.nested; waiting = serving.waiting })
                 (text_assigned_all j varying most field at_place (bl.texts.room.short j varying most at_place) hold) suits edits (stays_same bl.taken h t) at1;
           });
     }
 
 -- a field is read into it
-text_target : {e : Environment} {block : ℕ} {types : Types} (bl : Block e block types) {links : Links} {code : List Instr} {i : ℕ} {v : Services} {h t : ℕ → ℕ} {s : State} {aims : Aims (Option (List FormatItem))} (closed : Closed code aims) (routines : Routines links code) (f : Family) (around : Around) (same : around.program ≡ e.program) (j : ℕ) (varying : Bool) (most : ℕ) (fs : T.Formats) (d : DataItem) (n : Values) (all left : List FormatItem) (below : List EditPlace) (k : ℕ) → IsTextAt types j varying most → Suits (has_fixed fs) (has_text fs) (DataFormat d ∷ left) → Gets v.edits (DataFormat d) all left below → has_character v.input.marks ≡ true → Linked links code i (text_got fs ++ top_stored e bl.taken (whole (own block j))) → Serving k s v around.line → AllHold bl.frames v.activations (e.level ∷ bl.depths) s block types n → ((b : Base) → At b i (Known (bl.ground n) v h t (valued (E.data_number d)) b) (f b)) → ItemBehind bl k around.line h t (i + size_of (text_got fs ++ top_stored e bl.taken (whole (own block j)))) (has_fixed fs) (has_text fs) all below aims → Comes code i f v aims (got_and_stored around (whole (own block j)) left d k s)
+text_target : {e : Environment} {block : Names} {types : Types} (bl : Block e block types) {links : Links} {code : List Instr} {i : ℕ} {v : Services} {h t : ℕ → ℕ} {s : State} {aims : Aims (Option (List FormatItem))} (closed : Closed code aims) (routines : Routines links code) (f : Family) (around : Around) (same : around.program ≡ e.program) (j : ℕ) (varying : Bool) (most : ℕ) (fs : T.Formats) (d : DataItem) (n : Values) (all left : List FormatItem) (below : List EditPlace) (k : ℕ) → IsTextAt types j varying most → Suits (has_fixed fs) (has_text fs) (DataFormat d ∷ left) → Gets v.edits (DataFormat d) all left below → has_character v.input.marks ≡ true → Linked links code i (text_got fs ++ top_stored e bl.taken (whole (own block j))) → Serving k s v around.line → AllHold bl.frames bl.serials (storage v) (e.level ∷ bl.depths) s block types n → ((b : Base) → At b i (Known (bl.ground n) v h t (valued (E.data_number d)) b) (f b)) → ItemBehind bl k around.line h t (i + size_of (text_got fs ++ top_stored e bl.taken (whole (own block j)))) (has_fixed fs) (has_text fs) all below aims → Comes code i f v aims (got_and_stored around (whole (own block j)) left d k s)
 text_target {e} {block} {types} bl {links} {code} {i} {v} {h} {t} {s} {aims} closed routines f around same j varying most fs d n all left below k at_place suits found has l serving hold at goal =
     let r = whole (own block j) in
     let got = by_kinds (has_fixed fs) (has_text fs) number_as_text (service 37) in
     let last = top_stored e bl.taken r in
     let size = size_append got last in
     let place : i + size_of got + size_of last ≡ i + size_of (got ++ last) = omega (arith, size) in
-    field_as_text (all_kept bl.frames (e.level ∷ bl.depths) block types n) closed routines f around r varying most (has_fixed fs) (has_text fs) d all left below k (target_is e around block j (text_leaf varying most) same (bl.declared j at_place)) suits.0.0 suits.1.0 found has (front_of got last l) (record { serving = serving; holds = hold }) at
+    field_as_text (all_kept bl.frames bl.serials (e.level ∷ bl.depths) block types n) closed routines f around r varying most (has_fixed fs) (has_text fs) d all left below k (target_is e around block j (text_leaf varying most) same (bl.declared j at_place)) suits.0.0 suits.1.0 found has (front_of got last l) (record { serving = serving; holds = hold }) at
     (λ text s1 v1 f1 o at1.
     let K : Services → Type 0 = λ w. ((b : Base) → At b (i + size_of got) (Known (bl.ground n) w h t nothing b) (f1 b)) → Comes code (i + size_of got) f1 w (converting code aims k around r left) (give (BasicText text) k s1) in
     let stores : K (pushed (TextEntry text) o.0) = λ at2.
@@ -222,10 +223,10 @@ text_target {e} {block} {types} bl {links} {code} {i} {v} {h} {t} {s} {aims} clo
 -- ---- behind the test of the end
 
 -- a field is read into what a reference designates
-pub record Reads {e : Environment} {block : ℕ} {types : Types} (bl : Block e block types) (links : Links) (code : List Instr) (around : Around) (r : Y.Reference) (type : Y.LeafType) (fs : T.Formats) : Type 1 where
-  pub does : {i : ℕ} {v : Services} {h t : ℕ → ℕ} {s : State} {aims : Aims (Option (List FormatItem))} (closed : Closed code aims) (f : Family) (d : DataItem) (n : Values) (all left : List FormatItem) (below : List EditPlace) (k : ℕ) → Suits (has_fixed fs) (has_text fs) (DataFormat d ∷ left) → Gets v.edits (DataFormat d) all left below → has_character v.input.marks ≡ true → Linked links code i (field_stored e bl.taken fs r type) → Serving k s v around.line → AllHold bl.frames v.activations (e.level ∷ bl.depths) s block types n → ((b : Base) → At b i (Known (bl.ground n) v h t (valued (E.data_number d)) b) (f b)) → ItemBehind bl k around.line h t (i + size_of (field_stored e bl.taken fs r type)) (has_fixed fs) (has_text fs) all below aims → Comes code i f v aims (got_and_stored around r left d k s)
+pub record Reads {e : Environment} {block : Names} {types : Types} (bl : Block e block types) (links : Links) (code : List Instr) (around : Around) (r : Y.Reference) (type : Y.LeafType) (fs : T.Formats) : Type 1 where
+  pub does : {i : ℕ} {v : Services} {h t : ℕ → ℕ} {s : State} {aims : Aims (Option (List FormatItem))} (closed : Closed code aims) (f : Family) (d : DataItem) (n : Values) (all left : List FormatItem) (below : List EditPlace) (k : ℕ) → Suits (has_fixed fs) (has_text fs) (DataFormat d ∷ left) → Gets v.edits (DataFormat d) all left below → has_character v.input.marks ≡ true → Linked links code i (field_stored e bl.taken fs r type) → Serving k s v around.line → AllHold bl.frames bl.serials (storage v) (e.level ∷ bl.depths) s block types n → ((b : Base) → At b i (Known (bl.ground n) v h t (valued (E.data_number d)) b) (f b)) → ItemBehind bl k around.line h t (i + size_of (field_stored e bl.taken fs r type)) (has_fixed fs) (has_text fs) all below aims → Comes code i f v aims (got_and_stored around r left d k s)
 
-number_reads : {e : Environment} {block : ℕ} {types : Types} (bl : Block e block types) {links : Links} {code : List Instr} (routines : Routines links code) (around : Around) (r : Y.Reference) (p : ℕ) (fs : T.Formats) → Takes bl links code r (Y.FixedLeaf p) → P.target_type around r ≡ Some (Y.FixedLeaf p) → bl.taken.words + 1 ≤ bl.words → Reads bl links code around r (Y.FixedLeaf p) fs
+number_reads : {e : Environment} {block : Names} {types : Types} (bl : Block e block types) {links : Links} {code : List Instr} (routines : Routines links code) (around : Around) (r : Y.Reference) (p : ℕ) (fs : T.Formats) → Takes bl links code r (Y.FixedLeaf p) → P.target_type around r ≡ Some (Y.FixedLeaf p) → bl.taken.words + 1 ≤ bl.words → Reads bl links code around r (Y.FixedLeaf p) fs
 number_reads {e} {block} {types} bl routines around r p fs takes target room =
     record {
       does = λ {i} {v} {h} {t} {s} {aims} closed f d n all left below k suits found has l serving hold at goal.
@@ -233,7 +234,7 @@ number_reads {e} {block} {types} bl routines around r p fs takes target room =
           let store = fitted_code bl.taken p ++ word_stored e bl.taken r in
           let size = size_append got store in
           let place : i + size_of got + size_of store ≡ i + size_of (got ++ store) = omega (arith, size) in
-          number_got (all_kept bl.frames (e.level ∷ bl.depths) block types n) closed routines f around r (has_fixed fs) (has_text fs) p d all left below k target suits.0.0 suits.1.0 found has (front_of got store l) (record { serving = serving; holds = hold }) at
+          number_got (all_kept bl.frames bl.serials (e.level ∷ bl.depths) block types n) closed routines f around r (has_fixed fs) (has_text fs) p d all left below k target suits.0.0 suits.1.0 found has (front_of got store l) (record { serving = serving; holds = hold }) at
           (λ z s1 v1 f1 o at1.
           number_stored bl closed routines f1 around r p takes z n (has_fixed fs) (has_text fs) all left below k o.0 room (suits.0.1, suits.1.1) o.1.1 (back_of got store l) o.1.0.serving o.1.0.holds at1
           (λ s2 v2 rest2 n2 h2 t2 f2 serving2 hold2 suits2 edits2 stays2 at2.
@@ -242,11 +243,11 @@ number_reads {e} {block} {types} bl routines around r p fs takes target room =
     }
 
 -- a bit, by an item that shows text
-bit_target : {e : Environment} {block : ℕ} {types : Types} (bl : Block e block types) {links : Links} {code : List Instr} {i : ℕ} {v : Services} {h t : ℕ → ℕ} {s : State} {aims : Aims (Option (List FormatItem))} (closed : Closed code aims) (routines : Routines links code) (f : Family) (around : Around) (r : Y.Reference) (takes : Takes bl links code r Y.BitLeaf) (fs : T.Formats) (d : DataItem) (n : Values) (all left : List FormatItem) (below : List EditPlace) (k : ℕ) → P.target_type around r ≡ Some Y.BitLeaf → has_fixed fs ≡ false → Suits (has_fixed fs) (has_text fs) (DataFormat d ∷ left) → Gets v.edits (DataFormat d) all left below → has_character v.input.marks ≡ true → Linked links code i (field_stored e bl.taken fs r Y.BitLeaf) → Serving k s v around.line → AllHold bl.frames v.activations (e.level ∷ bl.depths) s block types n → ((b : Base) → At b i (Known (bl.ground n) v h t (valued (E.data_number d)) b) (f b)) → ItemBehind bl k around.line h t (i + size_of (field_stored e bl.taken fs r Y.BitLeaf)) (has_fixed fs) (has_text fs) all below aims → Comes code i f v aims (got_and_stored around r left d k s)
+bit_target : {e : Environment} {block : Names} {types : Types} (bl : Block e block types) {links : Links} {code : List Instr} {i : ℕ} {v : Services} {h t : ℕ → ℕ} {s : State} {aims : Aims (Option (List FormatItem))} (closed : Closed code aims) (routines : Routines links code) (f : Family) (around : Around) (r : Y.Reference) (takes : Takes bl links code r Y.BitLeaf) (fs : T.Formats) (d : DataItem) (n : Values) (all left : List FormatItem) (below : List EditPlace) (k : ℕ) → P.target_type around r ≡ Some Y.BitLeaf → has_fixed fs ≡ false → Suits (has_fixed fs) (has_text fs) (DataFormat d ∷ left) → Gets v.edits (DataFormat d) all left below → has_character v.input.marks ≡ true → Linked links code i (field_stored e bl.taken fs r Y.BitLeaf) → Serving k s v around.line → AllHold bl.frames bl.serials (storage v) (e.level ∷ bl.depths) s block types n → ((b : Base) → At b i (Known (bl.ground n) v h t (valued (E.data_number d)) b) (f b)) → ItemBehind bl k around.line h t (i + size_of (field_stored e bl.taken fs r Y.BitLeaf)) (has_fixed fs) (has_text fs) all below aims → Comes code i f v aims (got_and_stored around r left d k s)
 bit_target {e} {block} {types} bl {i = i} {v = v} {aims = aims} closed routines f around r takes fs (TextItem (Some width)) n all left below k target read suits found has l serving hold at goal =
     let last = word_stored e bl.taken r in
     let place : i + 2 + 6 + size_of last ≡ i + size_of (bit_got ++ last) = omega arith in
-    text_taken (all_kept bl.frames (e.level ∷ bl.depths) block types n) closed f around r Y.BitLeaf width all left below k target found has (front_of (service 37) (small a0 1 ∷ (tested_service 26 ++ last)) l) (record { serving = serving; holds = hold }) (λ b. record { pc = (at b).pc; holds = record { body = (at b).holds.body; regs = tt } })
+    text_taken (all_kept bl.frames bl.serials (e.level ∷ bl.depths) block types n) closed f around r Y.BitLeaf width all left below k target found has (front_of (service 37) (small a0 1 ∷ (tested_service 26 ++ last)) l) (record { serving = serving; holds = hold }) (λ b. record { pc = (at b).pc; holds = record { body = (at b).holds.body; regs = tt } })
     (λ f1 under1 at1.
     bit_stored bl closed routines f1 around r takes (field_of width v.input) n (has_fixed fs) (has_text fs) all left below k (suits.0.1, suits.1.1) refl (back_of (service 37) (small a0 1 ∷ (tested_service 26 ++ last)) l) under1.serving under1.holds at1
     (λ s2 v2 rest2 n2 h2 t2 f2 serving2 hold2 suits2 edits2 stays2 at2.
@@ -256,18 +257,18 @@ bit_target bl closed routines f around r takes fs (TextItem None) n all left bel
 bit_target bl closed routines f around r takes fs (FixedItem width) n all left below k target read suits found has l serving hold at goal =
     true_false (has_fixed fs) suits.0.0 read
 
-bit_reads : {e : Environment} {block : ℕ} {types : Types} (bl : Block e block types) {links : Links} {code : List Instr} (routines : Routines links code) (around : Around) (r : Y.Reference) (fs : T.Formats) → Takes bl links code r Y.BitLeaf → P.target_type around r ≡ Some Y.BitLeaf → has_fixed fs ≡ false → Reads bl links code around r Y.BitLeaf fs
+bit_reads : {e : Environment} {block : Names} {types : Types} (bl : Block e block types) {links : Links} {code : List Instr} (routines : Routines links code) (around : Around) (r : Y.Reference) (fs : T.Formats) → Takes bl links code r Y.BitLeaf → P.target_type around r ≡ Some Y.BitLeaf → has_fixed fs ≡ false → Reads bl links code around r Y.BitLeaf fs
 bit_reads bl routines around r fs takes target read =
     record { does = λ closed f d n all left below k suits found has l serving hold at goal. bit_target bl closed routines f around r takes fs d n all left below k target read suits found has l serving hold at goal }
 
-text_reads : {e : Environment} {block : ℕ} {types : Types} (bl : Block e block types) {links : Links} {code : List Instr} (routines : Routines links code) (around : Around) (same : around.program ≡ e.program) (j : ℕ) (varying : Bool) (most : ℕ) (fs : T.Formats) → IsTextAt types j varying most → Reads bl links code around (whole (own block j)) (text_leaf varying most) fs
+text_reads : {e : Environment} {block : Names} {types : Types} (bl : Block e block types) {links : Links} {code : List Instr} (routines : Routines links code) (around : Around) (same : around.program ≡ e.program) (j : ℕ) (varying : Bool) (most : ℕ) (fs : T.Formats) → IsTextAt types j varying most → Reads bl links code around (whole (own block j)) (text_leaf varying most) fs
 text_reads bl routines around same j false most fs at_place =
     record { does = λ closed f d n all left below k suits found has l serving hold at goal. text_target bl closed routines f around same j false most fs d n all left below k at_place suits found has l serving hold at goal }
 text_reads bl routines around same j true most fs at_place =
     record { does = λ closed f d n all left below k suits found has l serving hold at goal. text_target bl closed routines f around same j true most fs d n all left below k at_place suits found has l serving hold at goal }
 
 -- a variable
-own_reads : {e : Environment} {block : ℕ} {types : Types} (bl : Block e block types) {links : Links} {code : List Instr} (routines : Routines links code) (around : Around) (same : around.program ≡ e.program) (j : ℕ) (type : Y.LeafType) (fs : T.Formats) → slice_get types j ≡ Some (alone type) → IsReadBy (has_fixed fs) type → bl.taken.words + 1 ≤ bl.words → Reads bl links code around (whole (own block j)) type fs
+own_reads : {e : Environment} {block : Names} {types : Types} (bl : Block e block types) {links : Links} {code : List Instr} (routines : Routines links code) (around : Around) (same : around.program ≡ e.program) (j : ℕ) (type : Y.LeafType) (fs : T.Formats) → slice_get types j ≡ Some (alone type) → IsReadBy (has_fixed fs) type → bl.taken.words + 1 ≤ bl.words → Reads bl links code around (whole (own block j)) type fs
 own_reads {e} {block} bl {links} {code} routines around same j (Y.FixedLeaf p) fs below read room =
     number_reads bl routines around (whole (own block j)) p fs (scalar_takes bl links code j below tt room) (target_is e around block j (Y.FixedLeaf p) same (bl.declared j below)) room
 own_reads {e} {block} bl {links} {code} routines around same j Y.BitLeaf fs below read room =
@@ -277,7 +278,7 @@ own_reads bl routines around same j (Y.VaryingLeaf (Y.ConstantExtent (pos most))
 own_reads bl routines around same j _ fs below read room = absurd read
 
 -- an element
-element_reads : {e : Environment} {block : ℕ} {types : Types} (bl : Block e block types) {links : Links} {code : List Instr} (routines : Standing bl links code) (around : Around) (same : around.program ≡ e.program) (j : ℕ) (type : Y.LeafType) (b : Bounds) (bs : List Bounds) (first : Y.Number) (rest : Y.Numbers) (fs : T.Formats) → IsElementType type → IsArrayAt types j type b bs → given_in rest ≡ length bs → AreProvedNumbers block types (Y.NumberThen first rest) → IsReadBy (has_fixed fs) type → bl.taken.words + suc (subscripts_words (Y.NumberThen first rest)) ≤ bl.words → Reads bl links code around (element block j first rest) type fs
+element_reads : {e : Environment} {block : Names} {types : Types} (bl : Block e block types) {links : Links} {code : List Instr} (routines : Standing bl links code) (around : Around) (same : around.program ≡ e.program) (j : ℕ) (type : Y.LeafType) (b : Bounds) (bs : List Bounds) (first : Y.Number) (rest : Y.Numbers) (fs : T.Formats) → IsElementType type → IsArrayAt types j type b bs → given_in rest ≡ length bs → AreProvedNumbers block types (Y.NumberThen first rest) → IsReadBy (has_fixed fs) type → bl.taken.words + suc (subscripts_words (Y.NumberThen first rest)) ≤ bl.words → Reads bl links code around (element block j first rest) type fs
 element_reads {e} {block} bl {links} {code} routines around same j (Y.FixedLeaf p) b bs first rest fs is below many are read room =
     number_reads bl routines.raises around (element block j first rest) p fs (element_takes bl links code routines j b bs first rest below many are room) (element_target e around block j (Y.FixedLeaf p) (b ∷ bs) first rest same (bl.arrays j (Y.FixedLeaf p) b bs below).declared) (omega (arith, room))
 element_reads {e} {block} bl {links} {code} routines around same j Y.BitLeaf b bs first rest fs is below many are read room =
@@ -285,14 +286,14 @@ element_reads {e} {block} bl {links} {code} routines around same j Y.BitLeaf b b
 element_reads bl routines around same j _ b bs first rest fs is below many are read room = absurd is
 
 -- what a reference takes is enough for its subscripts
-subscripts_few : (block j : ℕ) (first : Y.Number) (rest : Y.Numbers) (r : Y.Reference) (taken words : ℕ) → r ≡ element block j first rest → taken + suc (reference_words r) ≤ words → taken + suc (subscripts_words (Y.NumberThen first rest)) ≤ words
+subscripts_few : (block : Names) (j : ℕ) (first : Y.Number) (rest : Y.Numbers) (r : Y.Reference) (taken words : ℕ) → r ≡ element block j first rest → taken + suc (reference_words r) ≤ words → taken + suc (subscripts_words (Y.NumberThen first rest)) ≤ words
 subscripts_few block j first rest r taken words e room =
     let most = le-max_right 0 (0 + subscripts_words (Y.NumberThen first rest)) in
     let same = ap reference_words e in
     omega (arith, room, most, same)
 
 -- its type in the code
-block_type : {e : Environment} {block : ℕ} {types : Types} (bl : Block e block types) {fixed : Bool} (r : Y.Reference) (is : IsTarget block types fixed r) → type_in e r ≡ is.type
+block_type : {e : Environment} {block : Names} {types : Types} (bl : Block e block types) {fixed : Bool} (r : Y.Reference) (is : IsTarget block types fixed r) → type_in e r ≡ is.type
 block_type {e} {block} {types} bl r is = by_part is.part
   where
     by_part : IsOwn block types is.type r ⊎ (IsElement block types is.type r × IsElementType is.type) → type_in e r ≡ is.type
@@ -300,7 +301,7 @@ block_type {e} {block} {types} bl r is = by_part is.part
     by_part (inr (o, element)) =
         ap (type_in e) o.is ∙ element_type e block o.index is.type (o.bound ∷ o.bounds) o.first o.rest (bl.arrays o.index is.type o.bound o.bounds o.declared).declared
 
-part_reads : {e : Environment} {block : ℕ} {types : Types} (bl : Block e block types) {links : Links} {code : List Instr} (routines : Standing bl links code) (around : Around) (same : around.program ≡ e.program) (r : Y.Reference) (fs : T.Formats) (is : IsTarget block types (has_fixed fs) r) → bl.taken.words + suc (reference_words r) ≤ bl.words → Reads bl links code around r is.type fs
+part_reads : {e : Environment} {block : Names} {types : Types} (bl : Block e block types) {links : Links} {code : List Instr} (routines : Standing bl links code) (around : Around) (same : around.program ≡ e.program) (r : Y.Reference) (fs : T.Formats) (is : IsTarget block types (has_fixed fs) r) → bl.taken.words + suc (reference_words r) ≤ bl.words → Reads bl links code around r is.type fs
 part_reads {block = block} {types} bl {links} {code} routines around same r fs is room = by_part is.part
   where
     by_part : IsOwn block types is.type r ⊎ (IsElement block types is.type r × IsElementType is.type) → Reads bl links code around r is.type fs
@@ -313,7 +314,7 @@ part_reads {block = block} {types} bl {links} {code} routines around same r fs i
 
 -- ---- the whole item
 
-reference_piece : {e : Environment} {block : ℕ} {types : Types} (bl : Block e block types) {links : Links} {code : List Instr} {i : ℕ} {v : Services} {h t : ℕ → ℕ} {s : State} {aims : Aims (Option (List FormatItem))} (closed : Closed code aims) (routines : Routines links code) (f : Family) (around : Around) (r : Y.Reference) (type : Y.LeafType) (fs : T.Formats) (reads : Reads bl links code around r type fs) (n : Values) (rest : List FormatItem) (below : List EditPlace) (behind k : ℕ) → AreProvedFormats fs → HasData fs → HaveWidths fs → Suits (has_fixed fs) (has_text fs) rest → v.edits ≡ getting (format_items fs) rest ∷ below → Linked links code i (awaited_before (field_stored e bl.taken fs r type) behind) → Serving k s v around.line → AllHold bl.frames v.activations (e.level ∷ bl.depths) s block types n → ((b : Base) → At b i (Known (bl.ground n) v h t nothing b) (f b)) → ItemBehind bl k around.line h t (i + size_of (awaited_before (field_stored e bl.taken fs r type) behind)) (has_fixed fs) (has_text fs) (format_items fs) below aims → Comes code i f v aims (P.item_got around (format_items fs) rest (Y.GetScalar r) k s)
+reference_piece : {e : Environment} {block : Names} {types : Types} (bl : Block e block types) {links : Links} {code : List Instr} {i : ℕ} {v : Services} {h t : ℕ → ℕ} {s : State} {aims : Aims (Option (List FormatItem))} (closed : Closed code aims) (routines : Routines links code) (f : Family) (around : Around) (r : Y.Reference) (type : Y.LeafType) (fs : T.Formats) (reads : Reads bl links code around r type fs) (n : Values) (rest : List FormatItem) (below : List EditPlace) (behind k : ℕ) → AreProvedFormats fs → HasData fs → HaveWidths fs → Suits (has_fixed fs) (has_text fs) rest → v.edits ≡ getting (format_items fs) rest ∷ below → Linked links code i (awaited_before (field_stored e bl.taken fs r type) behind) → Serving k s v around.line → AllHold bl.frames bl.serials (storage v) (e.level ∷ bl.depths) s block types n → ((b : Base) → At b i (Known (bl.ground n) v h t nothing b) (f b)) → ItemBehind bl k around.line h t (i + size_of (awaited_before (field_stored e bl.taken fs r type) behind)) (has_fixed fs) (has_text fs) (format_items fs) below aims → Comes code i f v aims (P.item_got around (format_items fs) rest (Y.GetScalar r) k s)
 unfolding P.item_got ◌>>=◌
 reference_piece {e} {block} {types} bl {links} {code} {i} {v} {h} {t} {s} {aims} closed routines f around r type fs reads n rest below behind k are has wide suits edits l serving hold at goal =
     let all = format_items fs in
@@ -328,7 +329,7 @@ reference_piece {e} {block} {types} bl {links} {code} {i} {v} {h} {t} {s} {aims}
     let next1 : Option Field → List FormatItem → Meaning (Option (List FormatItem)) = λ u left. P.scalar_if_got around r left u in
     let nextn : DataItem × List FormatItem → Meaning (Option (List FormatItem)) = λ next. (P.field_got around next.0) >>= (λ u. next1 u next.1) in
     comes_on k (P.next_item P.control_got all rest k s) nextn
-    (next_piece (all_kept bl.frames (e.level ∷ bl.depths) block types n) (before_closed k nextn closed) (has_fixed fs) (has_text fs) f all rest below k (items_data fs are has) (formats_suited fs wide) suits edits (front_of controls_carried_out (endfile_tested b0) l1) (record { serving = serving; holds = hold }) at
+    (next_piece (all_kept bl.frames bl.serials (e.level ∷ bl.depths) block types n) (before_closed k nextn closed) (has_fixed fs) (has_text fs) f all rest below k (items_data fs are has) (formats_suited fs wide) suits edits (front_of controls_carried_out (endfile_tested b0) l1) (record { serving = serving; holds = hold }) at
     (λ s1 v1 f1 d left under1 found1 suits1 at1.
     awaited_piece (λ u. next1 u left) closed routines f1 around d b0 k suits1.1.0 (back_of controls_carried_out (endfile_tested b0) l1) under1.serving at1
     (λ some f2 at2.
@@ -337,7 +338,7 @@ reference_piece {e} {block} {types} bl {links} {code} {i} {v} {h} {t} {s} {aims}
     subst (λ u. aims.done u f3 v3 (Some rest3) s3) (sym place)
     (goal s3 v3 rest3 n3 h3 t3 f3 serving3 hold3 suits3 edits3 stays3 (λ b. record { pc = (at3 b).pc ∙ ap (address b) place; holds = (at3 b).holds }))))))
 
-pub item_piece : {e : Environment} {block : ℕ} {types : Types} (bl : Block e block types) {links : Links} {code : List Instr} (item : Y.GetItem) {i : ℕ} {v : Services} {h t : ℕ → ℕ} {s : State} {aims : Aims (Option (List FormatItem))} (closed : Closed code aims) (routines : Standing bl links code) (f : Family) (around : Around) (same : around.program ≡ e.program) (fs : T.Formats) (n : Values) (rest : List FormatItem) (below : List EditPlace) (behind k : ℕ) → IsProvedGetItem block types (has_fixed fs) item → bl.taken.words + get_item_words item ≤ bl.words → AreProvedFormats fs → HasData fs → HaveWidths fs → Suits (has_fixed fs) (has_text fs) rest → v.edits ≡ getting (format_items fs) rest ∷ below → Linked links code i (C.item_got e bl.taken fs item behind) → Serving k s v around.line → AllHold bl.frames v.activations (e.level ∷ bl.depths) s block types n → ((b : Base) → At b i (Known (bl.ground n) v h t nothing b) (f b)) → ItemBehind bl k around.line h t (i + size_of (C.item_got e bl.taken fs item behind)) (has_fixed fs) (has_text fs) (format_items fs) below aims → Comes code i f v aims (P.item_got around (format_items fs) rest item k s)
+pub item_piece : {e : Environment} {block : Names} {types : Types} (bl : Block e block types) {links : Links} {code : List Instr} (item : Y.GetItem) {i : ℕ} {v : Services} {h t : ℕ → ℕ} {s : State} {aims : Aims (Option (List FormatItem))} (closed : Closed code aims) (routines : Standing bl links code) (f : Family) (around : Around) (same : around.program ≡ e.program) (fs : T.Formats) (n : Values) (rest : List FormatItem) (below : List EditPlace) (behind k : ℕ) → IsProvedGetItem block types (has_fixed fs) item → bl.taken.words + get_item_words item ≤ bl.words → AreProvedFormats fs → HasData fs → HaveWidths fs → Suits (has_fixed fs) (has_text fs) rest → v.edits ≡ getting (format_items fs) rest ∷ below → Linked links code i (C.item_got e bl.taken fs item behind) → Serving k s v around.line → AllHold bl.frames bl.serials (storage v) (e.level ∷ bl.depths) s block types n → ((b : Base) → At b i (Known (bl.ground n) v h t nothing b) (f b)) → ItemBehind bl k around.line h t (i + size_of (C.item_got e bl.taken fs item behind)) (has_fixed fs) (has_text fs) (format_items fs) below aims → Comes code i f v aims (P.item_got around (format_items fs) rest item k s)
 item_piece {e} {block} {types} bl {links} {code} (Y.GetScalar r) {i} {v} {h} {t} {s} {aims} closed routines f around same fs n rest below behind k is room are has wide suits edits l serving hold at goal =
     let code_is : C.item_got e bl.taken fs (Y.GetScalar r) behind ≡ awaited_before (field_stored e bl.taken fs r is.type) behind =
     ap (λ u. awaited_before (field_stored e bl.taken fs r u) behind) (block_type bl r is) in

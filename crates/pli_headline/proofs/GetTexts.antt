@@ -14,7 +14,7 @@ use Rattle.pli_meaning.specs.Control.{give}
 use Rattle.pli_meaning.specs.Raising.{Around}
 use Rattle.pli_meaning.specs.Streaming as P
 use Rattle.pli_meaning.specs.Streaming.{FormatItem, DataFormat, DataItem, FixedItem, TextItem, NumberField, TextField}
-use Rattle.pli_serving.specs.ServiceState.{Services, Activation, EditPlace, TextEntry}
+use Rattle.pli_serving.specs.ServiceState.{Services, EditPlace, TextEntry}
 use Rattle.pli_serving.specs.Outcomes.{pushed}
 use Rattle.pli_serving.specs.Edits as E
 use Rattle.pli_coding.specs.Assembly.{Code, size_of}
@@ -22,6 +22,7 @@ use Rattle.pli_coding.specs.Instructions.{service}
 use Rattle.pli_coding.specs.Streams.{as_text}
 use Rattle.pli_coding.specs.Linking.{Links}
 use Rattle.pli_headline.specs.ProvedSoFar.{text_leaf}
+use Rattle.pli_headline.proofs.Storages.{Storage}
 use Rattle.pli_headline.proofs.Engine.{Base, address}
 use Rattle.pli_headline.proofs.Items.{Linked, At}
 use Rattle.pli_headline.proofs.Bodies.{Ground, Known}
@@ -53,11 +54,11 @@ number_converted true around most z k s = refl
 -- ---- a text
 
 -- what holds of it: it waits above what waited behind the field
-abbrev pub GotText : (Q : List Activation → State → Type 0) → (k line : ℕ) → (whole left : List FormatItem) → (below : List EditPlace) → List ℕ → State → Services → Type 0
+abbrev pub GotText : (Q : Storage → State → Type 0) → (k line : ℕ) → (whole left : List FormatItem) → (below : List EditPlace) → List ℕ → State → Services → Type 0
 GotText Q k line whole left below text s v =
     (under : Services) × ((v ≡ pushed (TextEntry text) under) × (Reading Q k line s under × (under.edits ≡ getting whole left ∷ below)))
 
-abbrev pub TextBehind : List Instr → Ground → (h t : ℕ → ℕ) → (Q : List Activation → State → Type 0) → Around → (k i : ℕ) → (whole left : List FormatItem) → (below : List EditPlace) → Aims BasicValue → Type 0
+abbrev pub TextBehind : List Instr → Ground → (h t : ℕ → ℕ) → (Q : Storage → State → Type 0) → Around → (k i : ℕ) → (whole left : List FormatItem) → (below : List EditPlace) → Aims BasicValue → Type 0
 TextBehind code g h t Q around k i whole left below aims =
     GotBehind code g h t (λ (u : List ℕ). nothing) (GotText Q k around.line whole left below) k i aims (λ u. give (BasicText u))
 
@@ -65,7 +66,7 @@ abbrev pub number_as_text : Code
 number_as_text = fixed_as_number ++ as_text operator_precision
 
 -- by F
-fixed_got : {links : Links} {code : List Instr} {i : ℕ} {g : Ground} {v : Services} {h t : ℕ → ℕ} {s : State} {Q : List Activation → State → Type 0} {aims : Aims (Option (List FormatItem))} (kept : Kept Q) (closed : Closed code aims) (routines : Routines links code) (f : Family) (around : Around) (r : Y.Reference) (varying : Bool) (most width : ℕ) (whole left : List FormatItem) (below : List EditPlace) (k : ℕ) → P.target_type around r ≡ Some (text_leaf varying most) → Gets v.edits (DataFormat (FixedItem width)) whole left below → has_character v.input.marks ≡ true → Linked links code i number_as_text → Reading Q k around.line s v → ((b : Base) → At b i (Known g v h t nothing b) (f b)) → TextBehind code g h t Q around k (i + 8) whole left below (converting code aims k around r left) → Comes code i f v aims (got_and_stored around r left (FixedItem width) k s)
+fixed_got : {links : Links} {code : List Instr} {i : ℕ} {g : Ground} {v : Services} {h t : ℕ → ℕ} {s : State} {Q : Storage → State → Type 0} {aims : Aims (Option (List FormatItem))} (kept : Kept Q) (closed : Closed code aims) (routines : Routines links code) (f : Family) (around : Around) (r : Y.Reference) (varying : Bool) (most width : ℕ) (whole left : List FormatItem) (below : List EditPlace) (k : ℕ) → P.target_type around r ≡ Some (text_leaf varying most) → Gets v.edits (DataFormat (FixedItem width)) whole left below → has_character v.input.marks ≡ true → Linked links code i number_as_text → Reading Q k around.line s v → ((b : Base) → At b i (Known g v h t nothing b) (f b)) → TextBehind code g h t Q around k (i + 8) whole left below (converting code aims k around r left) → Comes code i f v aims (got_and_stored around r left (FixedItem width) k s)
 fixed_got {code = code} {i = i} {v = v} {s = s} {aims = aims} kept closed routines f around r varying most width whole left below k type found has l under at goal =
     let e : i + 5 + 3 ≡ i + 8 = omega arith in
     let s' = read_state (behind_field width) s in
@@ -81,7 +82,7 @@ fixed_got {code = code} {i = i} {v = v} {s = s} {aims = aims} kept closed routin
     (goal text s' (pushed (TextEntry text) v') f2 (v', (refl, (under1, refl))) (λ b. record { pc = (at2 b).pc ∙ ap (address b) e; holds = (at2 b).holds })))))
 
 -- by A
-text_got : {links : Links} {code : List Instr} {i : ℕ} {g : Ground} {v : Services} {h t : ℕ → ℕ} {s : State} {Q : List Activation → State → Type 0} {aims : Aims (Option (List FormatItem))} (kept : Kept Q) (closed : Closed code aims) (f : Family) (around : Around) (r : Y.Reference) (varying : Bool) (most width : ℕ) (whole left : List FormatItem) (below : List EditPlace) (k : ℕ) → P.target_type around r ≡ Some (text_leaf varying most) → Gets v.edits (DataFormat (TextItem (Some width))) whole left below → has_character v.input.marks ≡ true → Linked links code i (service 37) → Reading Q k around.line s v → ((b : Base) → At b i (Known g v h t nothing b) (f b)) → TextBehind code g h t Q around k (i + 2) whole left below (converting code aims k around r left) → Comes code i f v aims (got_and_stored around r left (TextItem (Some width)) k s)
+text_got : {links : Links} {code : List Instr} {i : ℕ} {g : Ground} {v : Services} {h t : ℕ → ℕ} {s : State} {Q : Storage → State → Type 0} {aims : Aims (Option (List FormatItem))} (kept : Kept Q) (closed : Closed code aims) (f : Family) (around : Around) (r : Y.Reference) (varying : Bool) (most width : ℕ) (whole left : List FormatItem) (below : List EditPlace) (k : ℕ) → P.target_type around r ≡ Some (text_leaf varying most) → Gets v.edits (DataFormat (TextItem (Some width))) whole left below → has_character v.input.marks ≡ true → Linked links code i (service 37) → Reading Q k around.line s v → ((b : Base) → At b i (Known g v h t nothing b) (f b)) → TextBehind code g h t Q around k (i + 2) whole left below (converting code aims k around r left) → Comes code i f v aims (got_and_stored around r left (TextItem (Some width)) k s)
 text_got {code = code} {i = i} {v = v} {s = s} {aims = aims} kept closed f around r varying most width whole left below k type found has l under at goal =
     let s' = read_state (behind_field width) s in
     let v' = taken_by width (getting whole left ∷ below) v in
@@ -92,7 +93,7 @@ text_got {code = code} {i = i} {v = v} {s = s} {aims = aims} kept closed f aroun
     (goal field s' (pushed (TextEntry field) v') f1 (v', (refl, (under1, refl))) at1))
 
 -- by either
-pub field_as_text : {links : Links} {code : List Instr} {i : ℕ} {g : Ground} {v : Services} {h t : ℕ → ℕ} {s : State} {Q : List Activation → State → Type 0} {aims : Aims (Option (List FormatItem))} (kept : Kept Q) (closed : Closed code aims) (routines : Routines links code) (f : Family) (around : Around) (r : Y.Reference) (varying : Bool) (most : ℕ) (fixed text : Bool) (d : DataItem) (whole left : List FormatItem) (below : List EditPlace) (k : ℕ) → P.target_type around r ≡ Some (text_leaf varying most) → IsOf fixed text d → IsWide d → Gets v.edits (DataFormat d) whole left below → has_character v.input.marks ≡ true → Linked links code i (by_kinds fixed text number_as_text (service 37)) → Reading Q k around.line s v → ((b : Base) → At b i (Known g v h t (valued (E.data_number d)) b) (f b)) → TextBehind code g h t Q around k (i + size_of (by_kinds fixed text number_as_text (service 37))) whole left below (converting code aims k around r left) → Comes code i f v aims (got_and_stored around r left d k s)
+pub field_as_text : {links : Links} {code : List Instr} {i : ℕ} {g : Ground} {v : Services} {h t : ℕ → ℕ} {s : State} {Q : Storage → State → Type 0} {aims : Aims (Option (List FormatItem))} (kept : Kept Q) (closed : Closed code aims) (routines : Routines links code) (f : Family) (around : Around) (r : Y.Reference) (varying : Bool) (most : ℕ) (fixed text : Bool) (d : DataItem) (whole left : List FormatItem) (below : List EditPlace) (k : ℕ) → P.target_type around r ≡ Some (text_leaf varying most) → IsOf fixed text d → IsWide d → Gets v.edits (DataFormat d) whole left below → has_character v.input.marks ≡ true → Linked links code i (by_kinds fixed text number_as_text (service 37)) → Reading Q k around.line s v → ((b : Base) → At b i (Known g v h t (valued (E.data_number d)) b) (f b)) → TextBehind code g h t Q around k (i + size_of (by_kinds fixed text number_as_text (service 37))) whole left below (converting code aims k around r left) → Comes code i f v aims (got_and_stored around r left d k s)
 field_as_text {Q = Q} kept closed routines f around r varying most fixed text (FixedItem width) whole left below k type is wide found has l under at goal =
     chosen_piece (λ (u : List ℕ). nothing) (λ u. record { reserved_stay = λ y w. refl; known_stay = λ b y w q. q; set = λ y w. refl }) (GotText Q k around.line whole left below) (λ u. give (BasicText u)) fixed text closed (converting_closed k around r left closed) f (FixedItem width) number_as_text (service 37) k is l at
     (λ j f1 l1 at1 goal1. fixed_got kept closed routines f1 around r varying most width whole left below k type found has l1 under at1 goal1) goal

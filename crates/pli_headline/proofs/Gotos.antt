@@ -16,7 +16,7 @@ use Rattle.pli_coding.specs.Allocating.{act_code}
 use Rattle.pli_coding.specs.Environments.{Owner, BlockOwner, UnitOwner, BlockPlace, Environment, block_around, last_of_level}
 use Rattle.pli_coding.specs.Statements.{goto_outer, goto_code, stmt_code}
 use Rattle.pli_coding.specs.Linking.{Links}
-use Rattle.pli_headline.specs.ProvedSoFar.{Types, times}
+use Rattle.pli_headline.specs.ProvedSoFar.{Names, Types, times}
 use Rattle.pli_headline.proofs.InnerLevels.{IsAmong}
 use Rattle.pli_headline.proofs.Activations.{own_is}
 use Rattle.pli_headline.proofs.Linking.{size_append}
@@ -46,7 +46,7 @@ pub record LabelsStand (e : Environment) (links : Links) (all : List (ℕ × Lab
   pub bare : (number level : ℕ) → variables_of_block e.program number ≡ [] → frame_end e.parts e.program number level ≡ fixed_size level 0
 
 -- the act leaves no credits to count, so the label may stand anywhere
-own_goto_does : {e : Environment} {block : ℕ} {types : Types} (bl : Block e block types) (links : Links) (code : List Instr) (around : Around) (label : Label) (line : ℕ) → line < 2 ^ 31 → is_among label bl.labels ≡ true → IsMarkedOnce links e.block label → Does bl links code around.turns (act_code line ++ JumpTo (LabelPlace e.block label) ∷ []) (M.statement around (Y.Goto e.level label line))
+own_goto_does : {e : Environment} {block : Names} {types : Types} (bl : Block e block types) (links : Links) (code : List Instr) (around : Around) (label : Label) (line : ℕ) → line < 2 ^ 31 → is_among label bl.labels ≡ true → IsMarkedOnce links e.block label → Does bl links code around.turns (act_code line ++ JumpTo (LabelPlace e.block label) ∷ []) (M.statement around (Y.Goto e.level label line))
 unfolding M.statement looked jumps ◌>>=◌ ◌>>◌
 own_goto_does {e} {block} {types} bl links code around label line fits among once =
     record {
@@ -77,7 +77,7 @@ own_goto_code e label own =
     ap (λ b. JumpTo (LabelPlace b label) ∷ []) (sym own)
     ∙ ap (λ q. cond q [] (goto_outer e e.level) ++ JumpTo (LabelPlace (block_around e e.level) label) ∷ []) (sym (eq-eqb e.level e.level refl))
 
-pub goto_does : {e : Environment} {block : ℕ} {types : Types} (bl : Block e block types) (links : Links) (code : List Instr) (around : Around) (level : ℕ) (label : Label) (line : ℕ) → level ≡ e.level → line < 2 ^ 31 → is_among label bl.labels ≡ true → IsMarkedOnce links e.block label → block_around e e.level ≡ e.block → Does bl links code around.turns (stmt_code e bl.taken (Y.Goto level label line)) (M.statement around (Y.Goto level label line))
+pub goto_does : {e : Environment} {block : Names} {types : Types} (bl : Block e block types) (links : Links) (code : List Instr) (around : Around) (level : ℕ) (label : Label) (line : ℕ) → level ≡ e.level → line < 2 ^ 31 → is_among label bl.labels ≡ true → IsMarkedOnce links e.block label → block_around e e.level ≡ e.block → Does bl links code around.turns (stmt_code e bl.taken (Y.Goto level label line)) (M.statement around (Y.Goto level label line))
 goto_does {e} bl links code around level label line same fits among once own =
     subst (λ n. Does bl links code around.turns (stmt_code e bl.taken (Y.Goto n label line)) (M.statement around (Y.Goto n label line))) (sym same)
     (subst (λ c. Does bl links code around.turns (act_code line ++ c) (M.statement around (Y.Goto e.level label line))) (own_goto_code e label own)

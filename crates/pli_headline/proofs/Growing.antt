@@ -4,9 +4,10 @@ use Rattle.rv_meaning.specs.declared.instr.Instr.{Instr}
 use Rattle.rv_meaning.specs.Machine.{Loaded, Effect, Goes, Faults, Calls, effect}
 use Rattle.pli_meaning.specs.World.{World}
 use Rattle.pli_serving.specs.Answers.{Answer, Done, Ends, Bad}
-use Rattle.image_runs.specs.Runs.{Whole, Run, Runs, Ended, Stopped, next, of_effect, answered, run_on}
+use Rattle.image_runs.specs.Runs.{Whole, Run, Runs, Ended, Stopped, answered}
+use Rattle.pli_headline.proofs.Unlimited.{next, of_effect, run_on, unlimited_shows}
 use Rattle.pli_headline.proofs.Engine.{call_at, served, run_on-ended, run_on-stopped}
-use Rattle.pli_headline.proofs.Showing.{Shows, serves_shows}
+use Rattle.pli_headline.proofs.Showing.{Shows}
 
 -- what a run shows beside an earlier machine
 abbrev pub After : Whole → Run → Type 0
@@ -16,10 +17,10 @@ After w (Stopped fault) = Unit {0}
 
 served_shows : (code : List Instr) (w : Whole) → Shows w.services (served code w)
 unfolding served
-served_shows code w = serves_shows (call_at code w.services w.machine.memory) w.machine.registers
+served_shows code w = unlimited_shows (call_at code w.services w.machine.memory) w.machine.registers
 
 answered_after : (w : Whole) (a : Answer) → Shows w.services a → After w (answered w.machine a)
-answered_after w (Done v m x y) h = h.is
+answered_after w (Done v m x y) h = h.is.0
 answered_after w (Ends v) h = h.is
 answered_after w Bad h = tt
 

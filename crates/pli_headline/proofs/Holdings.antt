@@ -1,17 +1,19 @@
 -- What stands in memory for a variable: a number in its cell, a text, or the numbers of an array.
-use Rattle.std.proofs.Common.{◌≡◌, ℕ, ◌+◌, ◌*◌, ◌≤◌, ◌⊎◌, inl, inr, List, [], ◌∷◌, Bool, true, false, refl, arith}
+use Rattle.std.proofs.Common.{◌≡◌, ℕ, ◌+◌, ◌*◌, ◌≤◌, ◌⊎◌, inl, inr, List, [], ◌∷◌, length, Bool, true, false, refl, ◌∙◌, arith}
 use Rattle.std.specs.Prelude.{ℤ, pos}
 use Rattle.rv_meaning.specs.Words.{word}
 use Rattle.rv_meaning.specs.Memory.{store}
 use Rattle.pli_typing.specs.Signatures.{Bounds, element_count}
 use Rattle.pli_typing.specs.TypedTree as Y
+use Rattle.pli_serving.specs.Bytes.{with_bytes}
+use Rattle.pli_headline.proofs.WrittenBytes.{load-with_other}
 use Rattle.pli_headline.specs.ProvedSoFar.{IsScalar, IsHeld, Kind, text_leaf}
 use Rattle.pli_headline.proofs.Scalars.{Fits, by_held, by_shape}
 use Rattle.pli_headline.proofs.VariablePlaces.{scalar_size, size_for, frame_size, many_fits}
 use Rattle.pli_headline.proofs.Cells.{Cell, content, cell_other}
-use Rattle.pli_headline.proofs.ElementsStay.{ElementsThere, contents_of, elements_other}
+use Rattle.pli_headline.proofs.ElementsStay.{ElementsThere, contents_of, elements_other, elements_beside}
 use Rattle.pli_headline.proofs.TextPlaces.{text_bytes, TextThere}
-use Rattle.pli_headline.proofs.TextsStay.{text_other}
+use Rattle.pli_headline.proofs.TextsStay.{text_other, text_beside}
 
 pub data Content : Type 0 where
   Counted : ℤ → Content
@@ -34,6 +36,17 @@ there_other n m p x at (Counted z) apart o = cell_other n m p x at (word z) apar
 there_other n m p x at (Written varying most text) (inl h) o = text_other n varying most at m text p x (inr h) o
 there_other n m p x at (Written varying most text) (inr h) o = text_other n varying most at m text p x (inl h) o
 there_other n m p x at (Many count z) apart o = elements_other n m p x at count z apart o
+
+-- bytes are written behind it
+pub there_below : (bytes m : List ℕ) (p at : ℕ) (c : Content) → p + length bytes ≤ length m → at + size_in c ≤ p → There m at c → There (with_bytes bytes p m) at c
+there_below bytes m p at (Counted z) room below o =
+    record {
+      whole = load-with_other 4 bytes m p at room (inl below) ∙ o.whole;
+      half = load-with_other 2 bytes m p at room (inl (omega (arith, below))) ∙ o.half;
+      byte = load-with_other 1 bytes m p at room (inl (omega (arith, below))) ∙ o.byte;
+    }
+there_below bytes m p at (Written varying most text) room below o = text_beside varying most at m text bytes p room (inr below) o
+there_below bytes m p at (Many count z) room below o = elements_beside bytes m p at count z room (inl below) o
 
 -- ---- by the type
 

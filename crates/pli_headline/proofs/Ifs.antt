@@ -21,7 +21,8 @@ use Rattle.pli_coding.specs.Expressions.{bit_code}
 use Rattle.pli_coding.specs.Statements.{if_met, stmt_code}
 use Rattle.pli_coding.specs.Temporaries.{bit_words}
 use Rattle.pli_coding.specs.Linking.{Links}
-use Rattle.pli_headline.specs.ProvedSoFar.{Types, IsProvedBit}
+use Rattle.pli_headline.specs.ProvedSoFar.{Names, Types, IsProvedBit}
+use Rattle.pli_headline.proofs.Storages.{storage}
 use Rattle.pli_headline.proofs.Engine.{Base, address}
 use Rattle.pli_headline.proofs.Linking.{size_append}
 use Rattle.pli_headline.proofs.Items.{Linked, At}
@@ -70,14 +71,14 @@ chosen_piece {links = links} {code = code} {i = i} {g = g} {v = v} {h = h} {t = 
     (λ f2 at2. subst (λ n. Comes code n f2 v aims (other k s)) (sym there) (otherwise f2 (λ b. record { pc = (at2 b).pc ∙ ap (address b) there; holds = (at2 b).holds }))))
 
 -- what stands around an expression of a block
-abbrev pub setting : {e : Environment} {block : ℕ} {types : Types} (bl : Block e block types) {links : Links} {code : List Instr} {v : Services} {s : State} {k : ℕ} {around : Around} → Standing bl links code → (n : Values) → AllHold bl.frames v.activations (e.level ∷ bl.depths) s block types n → Serving k s v around.line → Setting links code (bl.ground n) v s k e block types n around
+abbrev pub setting : {e : Environment} {block : Names} {types : Types} (bl : Block e block types) {links : Links} {code : List Instr} {v : Services} {s : State} {k : ℕ} {around : Around} → Standing bl links code → (n : Values) → AllHold bl.frames bl.serials (storage v) (e.level ∷ bl.depths) s block types n → Serving k s v around.line → Setting links code (bl.ground n) v s k e block types n around
 setting bl routines n all serving =
     record { routines = routines.raises; constants = routines.constants n; temps = bl.temps n; scope = scope_of bl n all; serving = serving }
 
 -- ---- the statements
 
 -- code that runs where a test behind an act is met
-pub tested_does : {e : Environment} {block : ℕ} {types : Types} (bl : Block e block types) (links : Links) (code : List Instr) (turns : ℕ) (routines : Standing bl links code) (around : Around) (condition : Y.Bit) (line : ℕ) (c : Code) (meaning : Meaning (Unit {0})) → IsProvedBit block types condition → bl.taken.words + bit_words condition ≤ bl.words → line < 2 ^ 31 → Does bl links code turns c meaning → Does bl links code turns (act_code line ++ (bit_code e bl.taken condition ++ if_met c)) ((act counted) >> ((V.bit (at_line around line) condition) >>= (λ met. choose met meaning (give tt))))
+pub tested_does : {e : Environment} {block : Names} {types : Types} (bl : Block e block types) (links : Links) (code : List Instr) (turns : ℕ) (routines : Standing bl links code) (around : Around) (condition : Y.Bit) (line : ℕ) (c : Code) (meaning : Meaning (Unit {0})) → IsProvedBit block types condition → bl.taken.words + bit_words condition ≤ bl.words → line < 2 ^ 31 → Does bl links code turns c meaning → Does bl links code turns (act_code line ++ (bit_code e bl.taken condition ++ if_met c)) ((act counted) >> ((V.bit (at_line around line) condition) >>= (λ met. choose met meaning (give tt))))
 unfolding ◌>>=◌ ◌>>◌ give
 tested_does {e} {block} {types} bl links code turns routines around condition line c meaning is room fits inner =
     record {
@@ -100,7 +101,7 @@ tested_does {e} {block} {types} bl links code turns routines around condition li
           (act_piece (before_closed k next' closed) f line old k fits (front_of a (test ++ if_met c) l) serving at
           (λ f1 serving1 at1.
           let s1 = with_world (counted s.world) s in
-          let all1 : AllHold bl.frames v.activations (e.level ∷ bl.depths) s1 block types n = counted_all _ all in
+          let all1 : AllHold bl.frames bl.serials (storage v) (e.level ∷ bl.depths) s1 block types n = counted_all _ all in
           comes_on k (V.bit here condition k s1) branch
           ((bit_does condition {e = e} {around = here} (setting bl routines n all1 serving1) is).does (before_closed k branch closed) f1 bl.taken (omega (arith, room, w)) (front_of test (if_met c) l1) at1
           (λ met f2 h2 t2 one stays at2.
@@ -118,12 +119,12 @@ tested_does {e} {block} {types} bl links code turns routines around condition li
           })))));
     }
 
-pub if_does : {e : Environment} {block : ℕ} {types : Types} (bl : Block e block types) (links : Links) (code : List Instr) (routines : Standing bl links code) (around : Around) (condition : Y.Bit) (unit : Y.Stmt) (line : ℕ) → IsProvedBit block types condition → bl.taken.words + bit_words condition ≤ bl.words → line < 2 ^ 31 → Does bl links code around.turns (stmt_code e bl.taken unit) (M.statement around unit) → Does bl links code around.turns (stmt_code e bl.taken (Y.If condition unit line)) (M.statement around (Y.If condition unit line))
+pub if_does : {e : Environment} {block : Names} {types : Types} (bl : Block e block types) (links : Links) (code : List Instr) (routines : Standing bl links code) (around : Around) (condition : Y.Bit) (unit : Y.Stmt) (line : ℕ) → IsProvedBit block types condition → bl.taken.words + bit_words condition ≤ bl.words → line < 2 ^ 31 → Does bl links code around.turns (stmt_code e bl.taken unit) (M.statement around unit) → Does bl links code around.turns (stmt_code e bl.taken (Y.If condition unit line)) (M.statement around (Y.If condition unit line))
 unfolding M.statement
 if_does {e} bl links code routines around condition unit line is room fits inner =
     tested_does bl links code around.turns routines around condition line (stmt_code e bl.taken unit) (M.statement around unit) is room fits inner
 
-pub if_else_does : {e : Environment} {block : ℕ} {types : Types} (bl : Block e block types) (links : Links) (code : List Instr) (routines : Standing bl links code) (around : Around) (condition : Y.Bit) (unit otherwise : Y.Stmt) (line : ℕ) → IsProvedBit block types condition → bl.taken.words + bit_words condition ≤ bl.words → line < 2 ^ 31 → Does bl links code around.turns (stmt_code e bl.taken unit) (M.statement around unit) → Does bl links code around.turns (stmt_code e bl.taken otherwise) (M.statement around otherwise) → Does bl links code around.turns (stmt_code e bl.taken (Y.IfElse condition unit otherwise line)) (M.statement around (Y.IfElse condition unit otherwise line))
+pub if_else_does : {e : Environment} {block : Names} {types : Types} (bl : Block e block types) (links : Links) (code : List Instr) (routines : Standing bl links code) (around : Around) (condition : Y.Bit) (unit otherwise : Y.Stmt) (line : ℕ) → IsProvedBit block types condition → bl.taken.words + bit_words condition ≤ bl.words → line < 2 ^ 31 → Does bl links code around.turns (stmt_code e bl.taken unit) (M.statement around unit) → Does bl links code around.turns (stmt_code e bl.taken otherwise) (M.statement around otherwise) → Does bl links code around.turns (stmt_code e bl.taken (Y.IfElse condition unit otherwise line)) (M.statement around (Y.IfElse condition unit otherwise line))
 unfolding M.statement ◌>>=◌ ◌>>◌
 if_else_does {e} {block} {types} bl links code routines around condition unit otherwise line is room fits first second =
     record {
@@ -156,7 +157,7 @@ if_else_does {e} {block} {types} bl links code routines around condition unit ot
           (act_piece (before_closed k next' closed) f line old k fits (front_of a (test ++ (both ++ d)) l) serving at
           (λ f1 serving1 at1.
           let s1 = with_world (counted s.world) s in
-          let all1 : AllHold bl.frames v.activations (e.level ∷ bl.depths) s1 block types n = counted_all _ all in
+          let all1 : AllHold bl.frames bl.serials (storage v) (e.level ∷ bl.depths) s1 block types n = counted_all _ all in
           comes_on k (V.bit here condition k s1) branch
           ((bit_does condition {e = e} {around = here} (setting bl routines n all1 serving1) is).does (before_closed k branch closed) f1 bl.taken (omega (arith, room, w)) (front_of test (both ++ d) l1) at1
           (λ met f2 h2 t2 one stays at2.

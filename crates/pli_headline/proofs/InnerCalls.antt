@@ -21,7 +21,7 @@ use Rattle.pli_coding.specs.Linking.{Links}
 use Rattle.pli_coding.specs.Procedures.{procedure_environment, procedure_in}
 use Rattle.pli_coding.specs.Statements.{stmt_code, stmts_code, stmts_words}
 use Rattle.pli_headline.specs.Headline.{parts}
-use Rattle.pli_headline.specs.ProvedSoFar.{Types, types_of, main_labels, main_outer, AllJumpAround, is_number, number_times, AllOnce, IsCallable, IsInner, AreInner}
+use Rattle.pli_headline.specs.ProvedSoFar.{Names, Types, types_of, main_labels, main_outer, AllJumpAround, is_number, number_times, AllOnce, IsCallable, IsInner, AreInner, main_names}
 use Rattle.pli_headline.proofs.Engine.{Base}
 use Rattle.pli_headline.proofs.Numbers.{below_small}
 use Rattle.pli_headline.proofs.Linking.{times_marked}
@@ -45,11 +45,12 @@ use Rattle.pli_headline.proofs.InnerUnits.{Done, fewer_signals, signals_with}
 
 -- ---- the statements of a procedure that is called
 
-standing_called : {program : Y.Program} {block : ℕ} {types : Types} {o : Owner} {number level : ℕ} {bl : Block (owned_by o (in_frame number level (main_environment program block))) block types} {links : Links} {code : List Instr} (callee : Callee bl) (back : Base → ℕ) (h0 t0 : ℕ → ℕ) (head : Y.BlockHead) (next : head.level ≡ 1) (sized : frame_end parts program head.number head.level ≡ fixed_size 1 0) (main : ℕ) (mains : List Label) (has : HasMain main mains level number bl.labels bl.outer) → Standing bl links code → Standing (called_block bl callee back h0 t0 head next sized (main_of main mains) (main_enclosing bl callee back h0 t0 (procedure_owner head) head next main mains has)) links code
-standing_called callee back h0 t0 head next sized main mains has s =
+standing_called : {program : Y.Program} (block : ℕ) {block' : Names} {types : Types} {o : Owner} {number level : ℕ} {bl : Block (owned_by o (in_frame number level (main_environment program block))) block' types} {links : Links} {code : List Instr} (callee : Callee bl) (back : Base → ℕ) (h0 t0 : ℕ → ℕ) (head : Y.BlockHead) (next : head.level ≡ 1) (sized : frame_end parts program head.number head.level ≡ fixed_size 1 0) (main : ℕ) (mains : List Label) (has : HasMain main mains level number bl.labels bl.outer) → Standing bl links code → Standing (called_block bl callee back h0 t0 head next (main_of main mains) (main_enclosing bl callee back h0 t0 (procedure_owner head) head next main mains has)) links code
+standing_called block callee back h0 t0 head next sized main mains has s =
     record {
       raises = s.raises;
       constants = λ n. record { stand = λ bytes placed t b m o. (s.constants n).stand bytes placed t0 b m o.kept.0 };
+      filled = λ owned. ap (λ u. callee.at + u) sized;
     }
 
 labels_called : {program : Y.Program} {block : ℕ} {links : Links} {all : List (ℕ × Label)} (head : Y.BlockHead) → head.level ≡ 1 → LabelsStand (main_environment program block) links all block true → IsAmong (place_of_head head) (blocks_of program.procedures) → LabelsStand (procedure_environment head (main_environment program block)) links all block false
@@ -70,34 +71,34 @@ labels_called head next named among =
 abbrev called_sized : {program : Y.Program} {block : ℕ} {all : List (ℕ × Label)} {called : List ℕ} {procedure : Y.Procedure} (q : IsInner program block all called procedure) {links : Links} → LabelsStand (main_environment program block) links all block true → frame_end parts program q.head.number q.head.level ≡ fixed_size 1 0
 called_sized q named = named.bare q.head.number q.head.level q.bare ∙ ap (λ l. fixed_size l 0) q.level
 
-called_does : {program : Y.Program} {block : ℕ} {all : List (ℕ × Label)} {called : List ℕ} {procedure : Y.Procedure} (q : IsInner program block all called procedure) (can : IsCallable called q.head q.body) {links : Links} {code : List Instr} {o : Owner} {number level : ℕ} (bl : Block (owned_by o (in_frame number level (main_environment program block))) block (types_of (variables_of_block program block))) (callee : Callee bl) → callee.words ≡ max 0 (stmts_words q.body) → length bl.depths < most_activations → suc (length bl.depths) < most_activations → bl.stack.free + 4000 * (500 - length bl.depths) ≤ 14 * 2 ^ 20 → Standing bl links code → (named : LabelsStand (main_environment program block) links all block true) → ((b : BlockPlace) → IsAmong b (place_of_head q.head ∷ blocks_among q.body) → IsAmong b (blocks_of program.procedures)) → IsEndMarkedOnce links q.head.number → (bound : ℕ) → Calls (main_environment program block) block (types_of (variables_of_block program block)) all block bound links code called → Signals (main_environment program block) block (types_of (variables_of_block program block)) all block bound links code called → Tells (main_environment program block) block (types_of (variables_of_block program block)) all block called links code bl.base bl.frames.known → (has : HasMain block (main_labels program.procedures) level number bl.labels bl.outer) → (back : Base → ℕ) (h0 t0 : ℕ → ℕ) → Does (called_block bl callee back h0 t0 q.head q.level (called_sized q named) (main_of block (main_labels program.procedures)) (main_enclosing bl callee back h0 t0 (procedure_owner q.head) q.head q.level block (main_labels program.procedures) has)) links code (suc bound) (stmts_code (procedure_environment q.head (main_environment program block)) none_taken q.body) (M.list (inner_around program bound q.head.line) q.body)
+called_does : {program : Y.Program} {block : ℕ} {all : List (ℕ × Label)} {called : List ℕ} {procedure : Y.Procedure} (q : IsInner program block all called procedure) (can : IsCallable program called q.head q.body) {links : Links} {code : List Instr} {o : Owner} {number level : ℕ} (bl : Block (owned_by o (in_frame number level (main_environment program block))) (main_names program block) (types_of (variables_of_block program block))) (callee : Callee bl) → callee.words ≡ max 0 (stmts_words q.body) → length bl.depths < most_activations → suc (length bl.depths) < most_activations → bl.stack.free + 4000 * (500 - length bl.depths) ≤ 14 * 2 ^ 20 → Standing bl links code → (named : LabelsStand (main_environment program block) links all block true) → ((b : BlockPlace) → IsAmong b (place_of_head q.head ∷ blocks_among q.body) → IsAmong b (blocks_of program.procedures)) → IsEndMarkedOnce links q.head.number → (bound : ℕ) → Calls (main_environment program block) (main_names program block) (types_of (variables_of_block program block)) all block bound links code called → Signals (main_environment program block) (main_names program block) (types_of (variables_of_block program block)) all block bound links code called → Tells (main_environment program block) (main_names program block) (types_of (variables_of_block program block)) all block called links code bl.base bl.frames.known → (has : HasMain block (main_labels program.procedures) level number bl.labels bl.outer) → (back : Base → ℕ) (h0 t0 : ℕ → ℕ) → Does (called_block bl callee back h0 t0 q.head q.level (main_of block (main_labels program.procedures)) (main_enclosing bl callee back h0 t0 (procedure_owner q.head) q.head q.level block (main_labels program.procedures) has)) links code (suc bound) (stmts_code (procedure_environment q.head (main_environment program block)) none_taken q.body) (M.list (inner_around program bound q.head.line) q.body)
 called_does {program} {block} {all} q can {links} {code} bl callee words deep deeper space standing named known ended bound calls signals tells has back h0 t0 =
     let sized = called_sized q named in
     let mains = main_labels program.procedures in
-    let cb = called_block bl callee back h0 t0 q.head q.level sized (main_of block mains) (main_enclosing bl callee back h0 t0 (procedure_owner q.head) q.head q.level block mains has) in
+    let cb = called_block bl callee back h0 t0 q.head q.level (main_of block mains) (main_enclosing bl callee back h0 t0 (procedure_owner q.head) q.head q.level block mains has) in
     let next = q.level in
     let place = callee.place in
     let few = can.few in
     let most' = le-max_right 0 (stmts_words q.body) in
     let low = most 0 (stmts_words q.body) 800 (omega arith) (omega (arith, few)) in
-    let jumps : AllJumpAround q.head.number q.head.level all (blocks_of program.procedures) (main_outer block program.procedures) (main_outer block program.procedures ∷ []) (labels_in q.body ++ []) q.body = subst (λ n. AllJumpAround q.head.number n all (blocks_of program.procedures) (main_outer block program.procedures) (main_outer block program.procedures ∷ []) (labels_in q.body ++ []) q.body) (sym next) (subst (λ ls. AllJumpAround q.head.number 1 all (blocks_of program.procedures) (main_outer block program.procedures) (main_outer block program.procedures ∷ []) ls q.body) (sym (append-nil (labels_in q.body))) q.jumps) in
-    body_does cb links code (standing_called callee back h0 t0 q.head next sized block mains has standing) (inner_around program bound q.head.line) refl {small = true}
+    let jumps : AllJumpAround program q.head.number q.head.level all (blocks_of program.procedures) (main_outer block program.procedures) (main_outer block program.procedures ∷ []) (labels_in q.body ++ []) q.body = subst (λ n. AllJumpAround program q.head.number n all (blocks_of program.procedures) (main_outer block program.procedures) (main_outer block program.procedures ∷ []) (labels_in q.body ++ []) q.body) (sym next) (subst (λ ls. AllJumpAround program q.head.number 1 all (blocks_of program.procedures) (main_outer block program.procedures) (main_outer block program.procedures ∷ []) ls q.body) (sym (append-nil (labels_in q.body))) q.jumps) in
+    body_does cb links code (standing_called block callee back h0 t0 q.head next sized block mains has standing) (inner_around program bound q.head.line) refl {small = true}
     (labels_called q.head next named (known (place_of_head q.head) (inl refl))) q.body q.statements jumps (omega (arith, most', words))
     ((omega (arith, place, words, low, space, deeper), omega (arith, few)), deeper) q.inside
     (inner_entering program bound q.head.line) (omega arith) (λ b h. known b (inr h)) can.calls
-    (record { calls = calls; signals = signals; tells = tells; makes = λ same' u at k. let no : true ≡ false = sym same' ∙ other_level q.head.level 0 next in absurd (cc no); narrow = omega (arith, words, low); ends = λ may called'. inl (other_level q.head.level 0 next, (refl, ended)); mains = inr (inl (refl, (refl, λ label among. among))) })
+    (record { calls = calls; signals = signals; tells = tells; outermost = λ j kind at. refl; makes = λ same' u at k. let no : true ≡ false = sym same' ∙ other_level q.head.level 0 next in absurd (cc no); narrow = omega (arith, words, low); ends = λ may called'. inl (other_level q.head.level 0 next, (refl, ended)); mains = inr (inl (refl, (refl, λ label among. among))) })
 
 -- ---- the call
 
 -- of one of them, which stands somewhere, where those that its statements make do what they mean
-one_does : (program : Y.Program) (block line : ℕ) (body : Y.Stmts) (alone : IsAlone program block line body) {all : List (ℕ × Label)} {called : List ℕ} {procedure : Y.Procedure} (q : IsInner program block all called procedure) (can : IsCallable called q.head q.body) {links : Links} {code : List Instr} {o : Owner} {number level : ℕ} (bl : Block (owned_by o (in_frame number level (main_environment program block))) block (types_of (variables_of_block program block))) (at : ℕ) → Linked links code at (procedure_in (procedure_environment q.head (main_environment program block)) q.head q.body [] None) → 10 ≤ at → times_marked (ProcedureEntry q.head.number) links.marks ≡ 1 → IsEndMarkedOnce links q.head.number → procedure_numbered q.head.number alone.others ≡ Some (plain_procedure q.head q.body) → LabelsStand (main_environment program block) links all block true → ((b : BlockPlace) → IsAmong b (place_of_head q.head ∷ blocks_among q.body) → IsAmong b (blocks_of program.procedures)) → length bl.depths < most_activations → bl.stack.free + 4000 * (500 - length bl.depths) ≤ 14 * 2 ^ 20 → bl.words < 2 ^ 22 → Standing bl links code → Tells (main_environment program block) block (types_of (variables_of_block program block)) all block called links code bl.base bl.frames.known → bl.taken.words ≤ bl.words → HasMain block (main_labels program.procedures) level number bl.labels bl.outer → (around : Around) → around.program ≡ program → {more : ℕ} → Entering program around more → ((m : ℕ) → more ≡ suc m → Done (main_environment program block) block (types_of (variables_of_block program block)) all block m links code called) → (line' : ℕ) → line' < 2 ^ 31 → Does bl links code around.turns (stmt_code (owned_by o (in_frame number level (main_environment program block))) bl.taken (Y.CallProcedure (Y.Calling q.head.number 0 Y.NoArgument) line')) (M.statement around (Y.CallProcedure (Y.Calling q.head.number 0 Y.NoArgument) line'))
+one_does : (program : Y.Program) (block line : ℕ) (body : Y.Stmts) (alone : IsAlone program block line body) {all : List (ℕ × Label)} {called : List ℕ} {procedure : Y.Procedure} (q : IsInner program block all called procedure) (can : IsCallable program called q.head q.body) {links : Links} {code : List Instr} {o : Owner} {number level : ℕ} (bl : Block (owned_by o (in_frame number level (main_environment program block))) (main_names program block) (types_of (variables_of_block program block))) (at : ℕ) → Linked links code at (procedure_in (procedure_environment q.head (main_environment program block)) q.head q.body [] None) → 10 ≤ at → times_marked (ProcedureEntry q.head.number) links.marks ≡ 1 → IsEndMarkedOnce links q.head.number → procedure_numbered q.head.number alone.others ≡ Some (plain_procedure q.head q.body) → LabelsStand (main_environment program block) links all block true → ((b : BlockPlace) → IsAmong b (place_of_head q.head ∷ blocks_among q.body) → IsAmong b (blocks_of program.procedures)) → length bl.depths < most_activations → bl.stack.free + 4000 * (500 - length bl.depths) ≤ 14 * 2 ^ 20 → bl.words < 2 ^ 22 → Standing bl links code → Tells (main_environment program block) (main_names program block) (types_of (variables_of_block program block)) all block called links code bl.base bl.frames.known → bl.taken.words ≤ bl.words → HasMain block (main_labels program.procedures) level number bl.labels bl.outer → (around : Around) → around.program ≡ program → {more : ℕ} → Entering program around more → ((m : ℕ) → more ≡ suc m → Done (main_environment program block) (main_names program block) (types_of (variables_of_block program block)) all block m links code called) → (line' : ℕ) → line' < 2 ^ 31 → Does bl links code around.turns (stmt_code (owned_by o (in_frame number level (main_environment program block))) bl.taken (Y.CallProcedure (Y.Calling q.head.number 0 Y.NoArgument) line')) (M.statement around (Y.CallProcedure (Y.Calling q.head.number 0 Y.NoArgument) line'))
 one_does program block line body alone {all} {called} {procedure} q can {links} {code} {o} {number} {level} bl at l later once ended found named known deep space few standing tells taken has around same {more} entering below line' fits =
     let e = owned_by o (in_frame number level (main_environment program block)) in
     let head = q.head in
     let words = max 0 (stmts_words q.body) in
     let small' = can.few in
     let low : words ≤ 800 = most 0 (stmts_words q.body) 800 (omega arith) (omega (arith, small')) in
-    let callee : Callee bl = record { words = words; at = bl.stack.free + temporary_bytes words; place = refl; room = omega (arith, low, space, deep) } in
+    let callee : Callee bl = record { words = words; at = bl.stack.free + temporary_bytes words; place = refl; room = omega (arith, low, space, deep); outer = λ j kind at. refl } in
     let stands : StandsAt links code e head words q.body = record {
       entry = at;
       placed = l.has.0 (eq-eqb head.number head.number refl) once;
@@ -105,12 +106,12 @@ one_does program block line body alone {all} {called} {procedure} q can {links} 
       linked = subst (Linked links code at) (called_code_is e head q.body q.level q.bare) l;
     } in
     let whole : procedure_numbered head.number program.procedures ≡ Some (plain_procedure head q.body) = ap (procedure_numbered head.number) alone.are ∙ ap (λ t. cond t (Some (main_procedure block line body)) (procedure_numbered head.number alone.others)) q.apart ∙ found in
-    own_call_does bl links code around more head q.body callee stands (words_place bl.taken.words 0) line' q.level (called_sized q named) block (main_labels program.procedures) has can.kind can.line q.bare same entering whole
+    own_call_does bl links code around more head q.body callee stands (words_place bl.taken.words 0) line' q.level block (main_labels program.procedures) has can.kind can.line q.bare same entering whole
     (below_small (4 * (bl.taken.words + 0)) (omega (arith, taken, few))) fits
     (λ m step deeper back h0 t0. called_does q can bl callee refl deep deeper space standing named known ended m (below m step).0 (below m step).1 tells has back h0 t0)
 
 -- all calls, of so many blocks in one another at most, where those of fewer do
-calls_with : (program : Y.Program) (block line : ℕ) (body : Y.Stmts) (called : List ℕ) (alone : IsAlone program block line body) {all : List (ℕ × Label)} → AreInner program block all called alone.others → AllOnce called alone.others → {links : Links} {code : List Instr} (i : ℕ) → Linked links code i (others_code program alone.others) → 10 ≤ i → ((number : ℕ) → (number == block) ≡ false → number_times number alone.others ≡ 1 → times_marked (ProcedureEntry number) links.marks ≡ 1) → ((number : ℕ) → is_number number called ≡ true → (number == block) ≡ false → number_times number alone.others ≡ 1 → IsEndMarkedOnce links number) → LabelsStand (main_environment program block) links all block true → ((b : BlockPlace) → IsAmong b (blocks_of alone.others) → IsAmong b (blocks_of program.procedures)) → (bound : ℕ) → ((m : ℕ) → suc m ≤ bound → Done (main_environment program block) block (types_of (variables_of_block program block)) all block m links code called) → Calls (main_environment program block) block (types_of (variables_of_block program block)) all block bound links code called
+calls_with : (program : Y.Program) (block line : ℕ) (body : Y.Stmts) (called : List ℕ) (alone : IsAlone program block line body) {all : List (ℕ × Label)} → AreInner program block all called alone.others → AllOnce called alone.others → {links : Links} {code : List Instr} (i : ℕ) → Linked links code i (others_code program alone.others) → 10 ≤ i → ((number : ℕ) → (number == block) ≡ false → number_times number alone.others ≡ 1 → times_marked (ProcedureEntry number) links.marks ≡ 1) → ((number : ℕ) → is_number number called ≡ true → (number == block) ≡ false → number_times number alone.others ≡ 1 → IsEndMarkedOnce links number) → LabelsStand (main_environment program block) links all block true → ((b : BlockPlace) → IsAmong b (blocks_of alone.others) → IsAmong b (blocks_of program.procedures)) → (bound : ℕ) → ((m : ℕ) → suc m ≤ bound → Done (main_environment program block) (main_names program block) (types_of (variables_of_block program block)) all block m links code called) → Calls (main_environment program block) (main_names program block) (types_of (variables_of_block program block)) all block bound links code called
 calls_with program block line body called alone inner once {links} {code} i l later entries ends named known bound below o n level b deep space words standing tells taken has around same more entering least number among line' fits =
     let once' = called_once number called alone.others once among in
     let p = inner_at (environment_of parts program) called number i 0 alone.others inner once' l in
@@ -124,21 +125,21 @@ calls_with program block line body called alone inner once {links} {code} i l la
     (subst (λ m. procedure_numbered m alone.others ≡ Some (plain_procedure q.head q.body)) p.same p.found)
     named (λ c h. known c (p.known c h)) deep space words standing tells taken has around same entering (λ m step. below m (omega (arith, step, least))) line' fits)
 
-fewer_calls : (e : Environment) (block : ℕ) (types : Types) (all : List (ℕ × Label)) (procedure : ℕ) (links : Links) (code : List Instr) (called : List ℕ) (m bound : ℕ) → m ≤ bound → Calls e block types all procedure bound links code called → Calls e block types all procedure m links code called
+fewer_calls : (e : Environment) (block : Names) (types : Types) (all : List (ℕ × Label)) (procedure : ℕ) (links : Links) (code : List Instr) (called : List ℕ) (m bound : ℕ) → m ≤ bound → Calls e block types all procedure bound links code called → Calls e block types all procedure m links code called
 fewer_calls e block types all procedure links code called m bound less calls o n level b deep space words standing tells taken has around same more entering least number among line fits =
     calls o n level b deep space words standing tells taken has around same more entering (omega (arith, least, less)) number among line fits
 
-pub inner_calls : (program : Y.Program) (block line : ℕ) (body : Y.Stmts) (called : List ℕ) (alone : IsAlone program block line body) {all : List (ℕ × Label)} → AreInner program block all called alone.others → AllOnce called alone.others → {links : Links} {code : List Instr} (i : ℕ) → Linked links code i (others_code program alone.others) → 10 ≤ i → ((number : ℕ) → (number == block) ≡ false → number_times number alone.others ≡ 1 → times_marked (ProcedureEntry number) links.marks ≡ 1) → ((number : ℕ) → is_number number called ≡ true → (number == block) ≡ false → number_times number alone.others ≡ 1 → IsEndMarkedOnce links number) → LabelsStand (main_environment program block) links all block true → ((b : BlockPlace) → IsAmong b (blocks_of alone.others) → IsAmong b (blocks_of program.procedures)) → (bound : ℕ) → Done (main_environment program block) block (types_of (variables_of_block program block)) all block bound links code called
+pub inner_calls : (program : Y.Program) (block line : ℕ) (body : Y.Stmts) (called : List ℕ) (alone : IsAlone program block line body) {all : List (ℕ × Label)} → AreInner program block all called alone.others → AllOnce called alone.others → {links : Links} {code : List Instr} (i : ℕ) → Linked links code i (others_code program alone.others) → 10 ≤ i → ((number : ℕ) → (number == block) ≡ false → number_times number alone.others ≡ 1 → times_marked (ProcedureEntry number) links.marks ≡ 1) → ((number : ℕ) → is_number number called ≡ true → (number == block) ≡ false → number_times number alone.others ≡ 1 → IsEndMarkedOnce links number) → LabelsStand (main_environment program block) links all block true → ((b : BlockPlace) → IsAmong b (blocks_of alone.others) → IsAmong b (blocks_of program.procedures)) → (bound : ℕ) → Done (main_environment program block) (main_names program block) (types_of (variables_of_block program block)) all block bound links code called
 inner_calls program block line body called alone {all} inner once {links} {code} i l later entries ends named known zero = (
   calls_with program block line body called alone inner once i l later entries ends named known zero (λ m less. absurd (omega (arith, less))),
-  signals_with (main_environment program block) block (types_of (variables_of_block program block)) all block links code called zero (λ m less. absurd (omega (arith, less))),
+  signals_with (main_environment program block) (main_names program block) (types_of (variables_of_block program block)) all block links code called zero (λ j kind at. refl) (λ m less. absurd (omega (arith, less))),
 )
 inner_calls program block line body called alone {all} inner once {links} {code} i l later entries ends named known (suc bound) =
     let e = main_environment program block in
     let types = types_of (variables_of_block program block) in
     let rest = inner_calls program block line body called alone inner once i l later entries ends named known bound in
-    let below : (m : ℕ) → suc m ≤ suc bound → Done e block types all block m links code called =
-    λ m less. (fewer_calls e block types all block links code called m bound (omega (arith, less)) rest.0, fewer_signals e block types all block links code called m bound (omega (arith, less)) rest.1) in (
+    let below : (m : ℕ) → suc m ≤ suc bound → Done e (main_names program block) types all block m links code called =
+    λ m less. (fewer_calls e (main_names program block) types all block links code called m bound (omega (arith, less)) rest.0, fewer_signals e (main_names program block) types all block links code called m bound (omega (arith, less)) rest.1) in (
       calls_with program block line body called alone inner once i l later entries ends named known (suc bound) below,
-      signals_with e block types all block links code called (suc bound) below,
+      signals_with e (main_names program block) types all block links code called (suc bound) (λ j kind at. refl) below,
     )

@@ -8,9 +8,9 @@ use Rattle.rv_meaning.specs.Memory.{load, store}
 use Rattle.rv_meaning.specs.Machine.{memory_size, store_width}
 use Rattle.rv_meaning.proofs.MemoryLaws.{load-store_same, load-store_other}
 use Rattle.pli_typing.specs.TypedTree as Y
-use Rattle.pli_coding.specs.Frames.{display, fixed_size, frame_end, temporary_bytes}
+use Rattle.pli_coding.specs.Frames.{display, fixed_size, temporary_bytes}
 use Rattle.pli_coding.specs.Environments.{Environment, none_taken, in_frame}
-use Rattle.pli_headline.specs.ProvedSoFar.{Types, OuterBlock, alone}
+use Rattle.pli_headline.specs.ProvedSoFar.{Names, Types, OuterBlock, alone, Kind}
 use Rattle.pli_headline.proofs.Engine.{Base}
 use Rattle.pli_headline.proofs.Numbers.{above_sum, above_small}
 use Rattle.pli_headline.proofs.Scalars.{Fits, store_kind, Values}
@@ -18,7 +18,7 @@ use Rattle.pli_headline.proofs.Bodies.{Ground, PlaceOf}
 use Rattle.pli_headline.proofs.Activations.{rest_more}
 use Rattle.pli_headline.proofs.Reaching.{Reaches}
 use Rattle.pli_headline.proofs.Temporaries.{Temporaries}
-use Rattle.pli_headline.proofs.Variables.{data_place}
+use Rattle.pli_headline.proofs.Variables.{data_place, level_of}
 use Rattle.pli_headline.proofs.States.{with_number_at, with_text_at}
 use Rattle.pli_headline.proofs.MainGround.{apart_words, width_few}
 use Rattle.pli_meaning.specs.BasicValues.{BasicText}
@@ -30,26 +30,26 @@ use Rattle.pli_headline.proofs.TextsKept.{kept_length, text_kept_as}
 use Rattle.pli_serving.specs.ServiceState as S
 use Rattle.pli_headline.proofs.Entered.{atop}
 use Rattle.pli_headline.proofs.OuterBlocks.{risen_over}
-use Rattle.pli_headline.proofs.Statements.{Block, Enclosing, Enclosures}
+use Rattle.pli_headline.proofs.Statements.{Block, IsFilled, Enclosing, Enclosures, AllBeneath}
 use Rattle.pli_headline.proofs.TextScopes.{IsTextAt}
 use Rattle.pli_typing.specs.Signatures.{Bounds, element_count}
 use Rattle.pli_headline.proofs.ArrayScopes.{with_element_of, ArrayOn}
 
 -- the frames of the levels around it, of which the last is that of the block around
-abbrev pub inner_levels : {e : Environment} {block : ℕ} {types : Types} → Block e block types → ℕ → ℕ
+abbrev pub inner_levels : {e : Environment} {block : Names} {types : Types} → Block e block types → ℕ → ℕ
 inner_levels {e} bl j = cond (j == e.level) bl.stack.frame (bl.levels j)
 
-pub outermost_inner : {e : Environment} {block : ℕ} {types : Types} (bl : Block e block types) (q : Bool) → (0 == e.level) ≡ q → cond q bl.stack.frame (bl.levels 0) ≡ bl.base
+pub outermost_inner : {e : Environment} {block : Names} {types : Types} (bl : Block e block types) (q : Bool) → (0 == e.level) ≡ q → cond q bl.stack.frame (bl.levels 0) ≡ bl.base
 outermost_inner bl true known = bl.alone known
 outermost_inner bl false known = bl.outermost_level known
 
-pub inner_level_room : {e : Environment} {block : ℕ} {types : Types} (bl : Block e block types) (q : Bool) (j : ℕ) → (j == e.level) ≡ q → bl.stack.free ≤ 14 * 2 ^ 20 → j < suc e.level → cond q bl.stack.frame (bl.levels j) < memory_size
+pub inner_level_room : {e : Environment} {block : Names} {types : Types} (bl : Block e block types) (q : Bool) (j : ℕ) → (j == e.level) ≡ q → bl.stack.free ≤ 14 * 2 ^ 20 → j < suc e.level → cond q bl.stack.frame (bl.levels j) < memory_size
 inner_level_room bl true j known room below = let over = bl.stack.above in omega (arith, over, room)
 inner_level_room {e} bl false j known room below =
     bl.level_room j (grind (arith, nat_tests))
 
 -- where it lies, and its words for temporaries
-pub record Inner {e : Environment} {block : ℕ} {types : Types} (bl : Block e block types) : Type 0 where
+pub record Inner {e : Environment} {block : Names} {types : Types} (bl : Block e block types) : Type 0 where
   pub words : ℕ
   pub at : ℕ
   pub place : at ≡ bl.stack.free + temporary_bytes words
@@ -69,7 +69,7 @@ pub inner_above : (at free words : ℕ) → at ≡ free + temporary_bytes words 
 inner_above at free words e = omega (arith, e)
 
 -- on the ground of the block around, where these temporaries wait
-abbrev pub inner_ground : {e : Environment} {block : ℕ} {types : Types} (bl : Block e block types) → Inner bl → (t0 : ℕ → ℕ) → Values → Ground
+abbrev pub inner_ground : {e : Environment} {block : Names} {types : Types} (bl : Block e block types) → Inner bl → (t0 : ℕ → ℕ) → Values → Ground
 inner_ground {e} bl inner t0 n =
     record {
       frame = inner.at;
@@ -90,7 +90,7 @@ inner_put true m t at i j x words e len fits h k r s known o =
 inner_put false m t at i j x words e len fits h k r s known o =
     load-store_other 4 4 m (at - 4 * suc j) x (at - 4 * suc i) (apart_words at i j words e h k r) ∙ o known
 
-pub inner_temporaries : {e : Environment} {block : ℕ} {types : Types} (bl : Block e block types) (inner : Inner bl) (t0 : ℕ → ℕ) (n : Values) → Temporaries (inner_ground bl inner t0 n)
+pub inner_temporaries : {e : Environment} {block : Names} {types : Types} (bl : Block e block types) (inner : Inner bl) (t0 : ℕ → ℕ) (n : Values) → Temporaries (inner_ground bl inner t0 n)
 inner_temporaries bl inner t0 n =
     let above = inner_above inner.at bl.stack.free inner.words inner.place in
     let room = inner.room in
@@ -98,7 +98,7 @@ inner_temporaries bl inner t0 n =
       kept = λ t b m j x below len fits o.
           let p = inner.at - 4 * suc j in
           record {
-            kept = bl.stack.keeps n t0 b m p x (omega (arith, above, below)) o.kept;
+            kept = bl.stack.keeps n t0 b m 4 p x (omega (arith, above, below)) o.kept;
             below = load-store_other 4 4 m p x (inner.at + 4) (inr (omega (arith, above, below))) ∙ o.below;
             own = load-store_other 4 4 m p x (inner.at + 36) (inr (omega (arith, above, below))) ∙ o.own;
             shown = λ i h. load-store_other 4 4 m p x (inner.at + (144 + 4 * i)) (inr (omega (arith, above, below))) ∙ o.shown i h;
@@ -109,9 +109,9 @@ inner_temporaries bl inner t0 n =
 
 -- ---- variables of the block around
 
-pub inner_writes : {e : Environment} {block : ℕ} {types : Types} (bl : Block e block types) (inner : Inner bl) (t0 : ℕ → ℕ) (n : Values) (j : ℕ) (z : ℤ) {type : Y.LeafType} → slice_get types j ≡ Some (alone type) → Fits type (n.numbers j) → Fits type z → (t : ℕ → ℕ) (b : Base) (m : List ℕ) → length m ≡ memory_size → (inner_ground bl inner t0 n).memory t b m → (inner_ground bl inner t0 (with_number_at n j z)).memory t b (store (store_width (store_kind type)) m (bl.base + data_place e block j) (word z))
+pub inner_writes : {e : Environment} {block : Names} {types : Types} (bl : Block e block types) (inner : Inner bl) (t0 : ℕ → ℕ) (n : Values) (j : ℕ) (z : ℤ) {type : Y.LeafType} → slice_get types j ≡ Some (alone type) → Fits type (n.numbers j) → Fits type z → (t : ℕ → ℕ) (b : Base) (m : List ℕ) → length m ≡ memory_size → (inner_ground bl inner t0 n).memory t b m → (inner_ground bl inner t0 (with_number_at n j z)).memory t b (store (store_width (store_kind type)) m (bl.bases j + data_place e block j) (word z))
 inner_writes {e} {block} bl inner t0 n j z {type} below old fits t b m len o =
-    let p = bl.base + data_place e block j in
+    let p = bl.bases j + data_place e block j in
     let w = store_width (store_kind type) in
     let few = width_few (store_kind type) in
     let above = inner_above inner.at bl.stack.free inner.words inner.place in
@@ -125,9 +125,9 @@ inner_writes {e} {block} bl inner t0 n j z {type} below old fits t b m len o =
     }
 
 -- a text is stored
-pub inner_text_writes : {e : Environment} {block : ℕ} {types : Types} (bl : Block e block types) (inner : Inner bl) (t0 : ℕ → ℕ) (n : Values) (j : ℕ) (varying : Bool) (most : ℕ) (text : List ℕ) → IsTextAt types j varying most → (t : ℕ → ℕ) (b : Base) (m : List ℕ) → length m ≡ memory_size → (inner_ground bl inner t0 n).memory t b m → (inner_ground bl inner t0 (with_text_at n j (text_kept_as varying most text))).memory t b (with_bytes (kept_bytes (text_kind_of varying most) (BasicText text)) (bl.base + data_place e block j) m)
+pub inner_text_writes : {e : Environment} {block : Names} {types : Types} (bl : Block e block types) (inner : Inner bl) (t0 : ℕ → ℕ) (n : Values) (j : ℕ) (varying : Bool) (most : ℕ) (text : List ℕ) → IsTextAt types j varying most → (t : ℕ → ℕ) (b : Base) (m : List ℕ) → length m ≡ memory_size → (inner_ground bl inner t0 n).memory t b m → (inner_ground bl inner t0 (with_text_at n j (text_kept_as varying most text))).memory t b (with_bytes (kept_bytes (text_kind_of varying most) (BasicText text)) (bl.bases j + data_place e block j) m)
 inner_text_writes {e} {block} bl inner t0 n j varying most text at t b m len o =
-    let p = bl.base + data_place e block j in
+    let p = bl.bases j + data_place e block j in
     let bytes = kept_bytes (text_kind_of varying most) (BasicText text) in
     let long = kept_length varying most text in
     let above = inner_above inner.at bl.stack.free inner.words inner.place in
@@ -143,9 +143,9 @@ inner_text_writes {e} {block} bl inner t0 n j varying most text at t b m len o =
     }
 
 -- an element is stored
-inner_element_stored : {e : Environment} {block : ℕ} {types : Types} (bl : Block e block types) (inner : Inner bl) (t0 : ℕ → ℕ) {j : ℕ} {type : Y.LeafType} {bs : List Bounds} (on : ArrayOn e block bl.base bl.stack.free bl.ground j type bs) → (n : Values) (p : ℕ) (z : ℤ) → p < element_count bs → Fits type (n.arrays j p) → Fits type z → (t : ℕ → ℕ) (b : Base) (m : List ℕ) → length m ≡ memory_size → (inner_ground bl inner t0 n).memory t b m → (inner_ground bl inner t0 (with_element_of n j p z)).memory t b (store (store_width (store_kind type)) m (bl.base + 4 * p + data_place e block j) (word z))
+inner_element_stored : {e : Environment} {block : Names} {types : Types} (bl : Block e block types) (inner : Inner bl) (t0 : ℕ → ℕ) {j : ℕ} {type : Y.LeafType} {bs : List Bounds} (on : ArrayOn e block (bl.bases j) bl.stack.free bl.ground j type bs) → (n : Values) (p : ℕ) (z : ℤ) → p < element_count bs → Fits type (n.arrays j p) → Fits type z → (t : ℕ → ℕ) (b : Base) (m : List ℕ) → length m ≡ memory_size → (inner_ground bl inner t0 n).memory t b m → (inner_ground bl inner t0 (with_element_of n j p z)).memory t b (store (store_width (store_kind type)) m (bl.bases j + 4 * p + data_place e block j) (word z))
 inner_element_stored {e} {block} bl inner t0 {j} {type} {bs} on n p z inside old fits t b m len o =
-    let q = bl.base + 4 * p + data_place e block j in
+    let q = bl.bases j + 4 * p + data_place e block j in
     let w = store_width (store_kind type) in
     let few = width_few (store_kind type) in
     let under = on.under in
@@ -159,7 +159,7 @@ inner_element_stored {e} {block} bl inner t0 {j} {type} {bs} on n p z inside old
     }
 
 -- an array of the block around
-pub inner_array : {e : Environment} {block : ℕ} {types : Types} (bl : Block e block types) (inner : Inner bl) (t0 : ℕ → ℕ) (number level free : ℕ) → inner.at + 144 ≤ free → {j : ℕ} {type : Y.LeafType} {bs : List Bounds} (on : ArrayOn e block bl.base bl.stack.free bl.ground j type bs) → ArrayOn (in_frame number level e) block bl.base free (inner_ground bl inner t0) j type bs
+pub inner_array : {e : Environment} {block : Names} {types : Types} (bl : Block e block types) (inner : Inner bl) (t0 : ℕ → ℕ) (number level free : ℕ) → inner.at + 144 ≤ free → {j : ℕ} {type : Y.LeafType} {bs : List Bounds} (on : ArrayOn e block (bl.bases j) bl.stack.free bl.ground j type bs) → ArrayOn (in_frame number level e) block (bl.bases j) free (inner_ground bl inner t0) j type bs
 inner_array bl inner t0 number level free over on =
     let above = inner_above inner.at bl.stack.free inner.words inner.place in
     let under = on.under in
@@ -174,12 +174,12 @@ inner_array bl inner t0 number level free over on =
       writes = λ n p z inside old fits t b m len o. inner_element_stored bl inner t0 on n p z inside old fits t b m len o;
     }
 
-pub inner_place : (g : Ground) → g.frame + 148 ≤ 14 * 2 ^ 20 → 7 * 2 ^ 20 ≤ g.frame → PlaceOf g (display 0) (g.frame + 144)
-inner_place g room high =
+pub inner_place : (g : Ground) (level : ℕ) → g.frame + (148 + 4 * level) ≤ 14 * 2 ^ 20 → 7 * 2 ^ 20 ≤ g.frame → PlaceOf g (display level) (g.frame + (144 + 4 * level))
+inner_place g level room high =
     let whole = g.whole in
     record {
-      small' = above_small 144 (omega arith);
-      sums = λ b. above_sum b.at g.frame 144 b.valid.1 (omega (arith, room));
+      small' = above_small (144 + 4 * level) (omega (arith, room));
+      sums = λ b. above_sum b.at g.frame (144 + 4 * level) b.valid.1 (omega (arith, room));
       aligned = omega (arith, whole);
       inside = omega (arith, room);
       above_code = omega (arith, high);
@@ -201,8 +201,8 @@ other_shown true x y frame other e = absurd (cc other)
 other_shown false x y frame other e = e
 
 -- the block in which it stands
-abbrev pub inner_own : {e : Environment} {block : ℕ} {types : Types} (bl : Block e block types) (inner : Inner bl) (t0 : ℕ → ℕ) (number level : ℕ) → level ≡ suc e.level → Enclosing (in_frame number level e) (record { level = e.level; number = e.block; labels = bl.labels }) (inner_ground bl inner t0) (inner_levels bl) (inner.at ∷ bl.frames.list) (level ∷ e.level ∷ bl.depths)
-inner_own {e} bl inner t0 number level next =
+abbrev pub inner_own : {e : Environment} {block : Names} {types : Types} (bl : Block e block types) (inner : Inner bl) (t0 : ℕ → ℕ) (number level : ℕ) → level ≡ suc e.level → IsFilled bl → Enclosing (in_frame number level e) (record { level = e.level; number = e.block; labels = bl.labels }) (inner_ground bl inner t0) (inner_levels bl) (inner.at ∷ bl.frames.list) (level ∷ e.level ∷ bl.depths)
+inner_own {e} bl inner t0 number level next filled =
     let above = inner_above inner.at bl.stack.free inner.words inner.place in
     let over = bl.stack.above in
     record {
@@ -214,7 +214,7 @@ inner_own {e} bl inner t0 number level next =
       free_is = bl.stack.free_is;
       above = bl.stack.above;
       ends = bl.ends;
-      sized = bl.sized;
+      sized = filled;
       kept = λ n t b m o. o.kept;
       own = bl.own;
       deeper = omega (arith, next);
@@ -227,7 +227,7 @@ inner_own {e} bl inner t0 number level next =
     }
 
 -- those around that one
-abbrev pub inner_outer : {e : Environment} {block : ℕ} {types : Types} (bl : Block e block types) (inner : Inner bl) (t0 : ℕ → ℕ) (number level : ℕ) → level ≡ suc e.level → (o : OuterBlock) → Enclosing e o bl.ground bl.levels bl.frames.list (e.level ∷ bl.depths) → Enclosing (in_frame number level e) o (inner_ground bl inner t0) (inner_levels bl) (inner.at ∷ bl.frames.list) (level ∷ e.level ∷ bl.depths)
+abbrev pub inner_outer : {e : Environment} {block : Names} {types : Types} (bl : Block e block types) (inner : Inner bl) (t0 : ℕ → ℕ) (number level : ℕ) → level ≡ suc e.level → (o : OuterBlock) → Enclosing e o bl.ground bl.levels bl.frames.list (e.level ∷ bl.depths) → Enclosing (in_frame number level e) o (inner_ground bl inner t0) (inner_levels bl) (inner.at ∷ bl.frames.list) (level ∷ e.level ∷ bl.depths)
 inner_outer {e} bl inner t0 number level next o c =
     let above = inner_above inner.at bl.stack.free inner.words inner.place in
     let below = c.deeper in
@@ -254,14 +254,39 @@ inner_outer {e} bl inner t0 number level next o c =
       rises = ((omega (arith, above, over, high), inl next), c.rises);
     }
 
-abbrev pub inner_outers : {e : Environment} {block : ℕ} {types : Types} (bl : Block e block types) (inner : Inner bl) (t0 : ℕ → ℕ) (number level : ℕ) → level ≡ suc e.level → (os : List OuterBlock) → Enclosures e bl.ground bl.levels bl.frames.list (e.level ∷ bl.depths) os → Enclosures (in_frame number level e) (inner_ground bl inner t0) (inner_levels bl) (inner.at ∷ bl.frames.list) (level ∷ e.level ∷ bl.depths) os
+abbrev pub inner_outers : {e : Environment} {block : Names} {types : Types} (bl : Block e block types) (inner : Inner bl) (t0 : ℕ → ℕ) (number level : ℕ) → level ≡ suc e.level → (os : List OuterBlock) → Enclosures e bl.ground bl.levels bl.frames.list (e.level ∷ bl.depths) os → Enclosures (in_frame number level e) (inner_ground bl inner t0) (inner_levels bl) (inner.at ∷ bl.frames.list) (level ∷ e.level ∷ bl.depths) os
 inner_outers bl inner t0 number level next [] cs = tt
 inner_outers bl inner t0 number level next (o ∷ os) cs =
     (inner_outer bl inner t0 number level next o cs.0, inner_outers bl inner t0 number level next os cs.1)
 
+-- variables stand in the blocks around
+pub inner_beneath : {e : Environment} {block : Names} {types : Types} (bl : Block e block types) (inner : Inner bl) (t0 : ℕ → ℕ) (number level : ℕ) (next : level ≡ suc e.level) (os : List OuterBlock) (cs : Enclosures e bl.ground bl.levels bl.frames.list (e.level ∷ bl.depths) os) → AllBeneath e bl.ground bl.levels bl.frames.list (e.level ∷ bl.depths) os cs bl.serials block types → AllBeneath (in_frame number level e) (inner_ground bl inner t0) (inner_levels bl) (inner.at ∷ bl.frames.list) (level ∷ e.level ∷ bl.depths) os (inner_outers bl inner t0 number level next os cs) bl.serials block types
+inner_beneath bl inner t0 number level next [] cs below = tt
+inner_beneath bl inner t0 number level next (o ∷ os) cs below =
+    (below.0, inner_beneath bl inner t0 number level next os cs.1 below.1)
+
+-- a variable of a block around is known
+pub inner_reaches : {e : Environment} {block : Names} {types : Types} (bl : Block e block types) (inner : Inner bl) (t0 : ℕ → ℕ) (level : ℕ) → level ≡ suc e.level → (n : Values) (j : ℕ) (kind : Kind) → slice_get types j ≡ Some kind → Reaches (level_of block j == level) (level_of block j) (inner_ground bl inner t0 n) (bl.bases j)
+inner_reaches {e} {block} bl inner t0 level next n j kind at =
+    let g = inner_ground bl inner t0 n in
+    let l = level_of block j in
+    let low = bl.lower j at in
+    let other : (l == level) ≡ false = grind (arith, nat_tests) in
+    let above = inner_above inner.at bl.stack.free inner.words inner.place in
+    let high = bl.stack.high in
+    let room = inner.room in
+    let reaches : Reaches false l g (bl.bases j) = (inner_place g l (omega (arith, room, low)) (omega (arith, above, high)), λ t b m o. o.shown l (omega (arith, low)) ∙ ap (λ u. b.at + u) (bl.leveled j at)) in
+    subst (λ q. Reaches q l g (bl.bases j)) (sym other) reaches
+
+pub inner_leveled : {e : Environment} {block : Names} {types : Types} (bl : Block e block types) (at level : ℕ) → level ≡ suc e.level → (j : ℕ) (kind : Kind) → slice_get types j ≡ Some kind → cond (level_of block j == level) at (inner_levels bl (level_of block j)) ≡ bl.bases j
+inner_leveled {e} {block} bl at level next j kind known =
+    let low = bl.lower j known in
+    let other : (level_of block j == level) ≡ false = grind (arith, nat_tests) in
+    ap (λ q. cond q at (inner_levels bl (level_of block j))) other ∙ bl.leveled j known
+
 -- the block inside, in a frame of the next level
-abbrev pub inner_block : {e : Environment} {block : ℕ} {types : Types} (bl : Block e block types) (inner : Inner bl) (t0 : ℕ → ℕ) (number level : ℕ) → level ≡ suc e.level → frame_end e.parts e.program number level ≡ fixed_size (suc e.level) 0 → Block (in_frame number level e) block types
-inner_block {e} bl inner t0 number level next size =
+abbrev pub inner_block : {e : Environment} {block : Names} {types : Types} (bl : Block e block types) (inner : Inner bl) (t0 : ℕ → ℕ) (number level : ℕ) → level ≡ suc e.level → IsFilled bl → Block (in_frame number level e) block types
+inner_block {e} bl inner t0 number level next filled =
     let above = inner_above inner.at bl.stack.free inner.words inner.place in
     let high = bl.stack.high in
     let over = bl.stack.over in
@@ -275,13 +300,20 @@ inner_block {e} bl inner t0 number level next size =
       words_are = λ n. refl;
       same = λ n n' b h. refl;
       temps = inner_temporaries bl inner t0;
+      alike = λ n n' same t b m o. record { kept = bl.alike n n' same t0 b m o.kept; below = o.below; own = o.own; shown = o.shown; temporaries = o.temporaries };
       declared = λ j below. bl.declared j below;
-      reach = λ n. subst (λ q. Reaches q (inner_ground bl inner t0 n) bl.base) (sym (other_level level e.level next)) (inner_place (inner_ground bl inner t0 n) (let room = inner.room in omega (arith, room)) (omega (arith, above, high)), λ t b m o. o.shown 0 (omega arith) ∙ ap (λ u. b.at + u) (outermost_inner bl (0 == e.level) refl));
+      reach = λ n. subst (λ q. Reaches q 0 (inner_ground bl inner t0 n) bl.base) (sym (other_level level e.level next)) (inner_place (inner_ground bl inner t0 n) 0 (let room = inner.room in omega (arith, room)) (omega (arith, above, high)), λ t b m o. o.shown 0 (omega arith) ∙ ap (λ u. b.at + u) (outermost_inner bl (0 == e.level) refl));
+      named = bl.named;
+      lower = λ j at. let low = bl.lower j at in omega (arith, low, next);
+      bases = bl.bases;
+      reaches = λ n j at. inner_reaches bl inner t0 level next n j _ at;
+      inside = λ j at. bl.inside j at;
       places = λ j below. bl.places j below;
       reads = λ n j below fits t b m o. bl.reads n j below fits t0 b m o.kept;
       writes = λ n j z below old fits t b m len o. inner_writes bl inner t0 n j z below old fits t b m len o;
       held = refl;
       frames = atop inner.at S.BeginBlock bl.frames;
+      serials = bl.serials;
       bottom = record {
         holds = bl.bottom.holds;
         aligned = bl.bottom.aligned;
@@ -296,8 +328,10 @@ inner_block {e} bl inner t0 number level next size =
       lead = bl.frames.list;
       leads = refl;
       ends = let room = inner.room in omega (arith, room);
-      sized = λ owned. ap (λ u. inner.at + u) size;
+      sized = λ low. absurd (omega (arith, low, next));
       own = λ n t b m o. o.own;
+      owners = λ j at. let o = bl.owners j at in omega (arith, o);
+      first_owner = λ j at low. bl.first_owner j at low;
       stack = record {
         frame = inner.at;
         free = inner.at + fixed_size (suc e.level) 0;
@@ -307,12 +341,19 @@ inner_block {e} bl inner t0 number level next size =
         high = omega (arith, above, high);
         above = omega arith;
         over = omega (arith, over, above);
-        keeps = λ n t b m p x over o. record {
-          kept = bl.stack.keeps n t0 b m p x (omega (arith, above, over)) o.kept;
-          below = load-store_other 4 4 m p x (inner.at + 4) (inl (omega (arith, over))) ∙ o.below;
-          own = load-store_other 4 4 m p x (inner.at + 36) (inl (omega (arith, over))) ∙ o.own;
-          shown = λ i h. load-store_other 4 4 m p x (inner.at + (144 + 4 * i)) (inl (omega (arith, over, h))) ∙ o.shown i h;
-          temporaries = λ i h known. load-store_other 4 4 m p x (inner.at - 4 * suc i) (inl (omega (arith, over, above, h))) ∙ o.temporaries i h known;
+        keeps = λ n t b m w p x over o. record {
+          kept = bl.stack.keeps n t0 b m w p x (omega (arith, above, over)) o.kept;
+          below = load-store_other w 4 m p x (inner.at + 4) (inl (omega (arith, over))) ∙ o.below;
+          own = load-store_other w 4 m p x (inner.at + 36) (inl (omega (arith, over))) ∙ o.own;
+          shown = λ i h. load-store_other w 4 m p x (inner.at + (144 + 4 * i)) (inl (omega (arith, over, h))) ∙ o.shown i h;
+          temporaries = λ i h known. load-store_other w 4 m p x (inner.at - 4 * suc i) (inl (omega (arith, over, above, h))) ∙ o.temporaries i h known;
+        };
+        keeps_bytes = λ n t b m bytes p over room o. record {
+          kept = bl.stack.keeps_bytes n t0 b m bytes p (omega (arith, above, over)) room o.kept;
+          below = load-with_other 4 bytes m p (inner.at + 4) room (inl (omega (arith, over))) ∙ o.below;
+          own = load-with_other 4 bytes m p (inner.at + 36) room (inl (omega (arith, over))) ∙ o.own;
+          shown = λ i h. load-with_other 4 bytes m p (inner.at + (144 + 4 * i)) room (inl (omega (arith, over, h))) ∙ o.shown i h;
+          temporaries = λ i h known. load-with_other 4 bytes m p (inner.at - 4 * suc i) room (inl (omega (arith, over, above, h))) ∙ o.temporaries i h known;
         };
         under = λ j below. let u = bl.stack.under j below in omega (arith, u, above);
       };
@@ -320,9 +361,10 @@ inner_block {e} bl inner t0 number level next size =
       level_room = λ j below. let room = inner.room in inner_level_room bl (j == e.level) j refl (omega (arith, room, above)) (omega (arith, below, next));
       outermost_level = λ inside. outermost_inner bl (0 == e.level) refl;
       displays = λ n t b m j below o. o.shown j (omega (arith, below, next));
+      leveled = λ j at. inner_leveled bl inner.at level next j _ at;
       texts = record {
         room = record {
-          high = bl.texts.room.high;
+          high = λ j varying most at. bl.texts.room.high j varying most at;
           short = λ j varying most at. bl.texts.room.short j varying most at;
           inside = λ j varying most at. bl.texts.room.inside j varying most at;
         };
@@ -332,5 +374,6 @@ inner_block {e} bl inner t0 number level next size =
       };
       arrays = λ j type b bs at. inner_array bl inner t0 number level (inner.at + fixed_size (suc e.level) 0) (omega arith) (bl.arrays j type b bs at);
       outer = record { level = e.level; number = e.block; labels = bl.labels } ∷ bl.outer;
-      enclosing = (inner_own bl inner t0 number level next, inner_outers bl inner t0 number level next bl.outer bl.enclosing);
+      enclosing = (inner_own bl inner t0 number level next filled, inner_outers bl inner t0 number level next bl.outer bl.enclosing);
+      beneath = (λ j kind at. (bl.lower j at, bl.owners j at), inner_beneath bl inner t0 number level next bl.outer bl.enclosing bl.beneath);
     }

@@ -17,7 +17,7 @@ use Rattle.pli_coding.specs.Frames.{fixed_size, frame_end, temporary_bytes}
 use Rattle.pli_coding.specs.Linking.{Links}
 use Rattle.pli_coding.specs.Statements.{owner_of_unit, unit_environment, stmt_code, stmts_code, stmt_words, stmts_words}
 use Rattle.pli_coding.specs.Temporaries.{number_words, bit_words, text_words, reference_words}
-use Rattle.pli_headline.specs.ProvedSoFar.{Types, OuterBlock, main_labels, main_outer, times, IsOutward, JumpsAround, IsSimple, IsUnitBody, IsProvedStatement, AreProvedStatements, AllJumpAround, DeclaresNothing, AreBare, CallsAmong, AllCallAmong}
+use Rattle.pli_headline.specs.ProvedSoFar.{Types, OuterBlock, main_labels, main_outer, times, IsOutward, JumpsAround, IsSimple, IsUnitBody, IsProvedStatement, AreProvedStatements, AllJumpAround, DeclaresNothing, AreBare, CallsAmong, AllCallAmong, Names}
 use Rattle.pli_headline.specs.InnerWords.{all_inner_words}
 use Rattle.pli_coding.specs.Images.{blocks_among}
 use Rattle.pli_headline.proofs.Sizes.{most}
@@ -26,7 +26,8 @@ use Rattle.pli_headline.proofs.InnerFrames.{other_level}
 use Rattle.pli_headline.proofs.Gotos.{LabelsStand}
 use Rattle.pli_headline.proofs.UnitMeant.{IsBareUnit}
 use Rattle.pli_headline.proofs.Engine.{Base}
-use Rattle.pli_headline.proofs.Statements.{IsOwned, IsMarkedOnce, Block, Standing, Does, null_does}
+use Rattle.pli_headline.proofs.Variables.{AllOutermost}
+use Rattle.pli_headline.proofs.Statements.{IsOwned, owned_of, IsMarkedOnce, Block, Standing, Does, null_does}
 use Rattle.pli_headline.proofs.Catching.{within, listed}
 use Rattle.pli_headline.proofs.BeginMeant.{Entering, inner_around, inner_entering}
 use Rattle.pli_headline.proofs.CalledFrames.{Callee, called_block_as}
@@ -45,12 +46,12 @@ use Rattle.pli_headline.proofs.UnitStanding.{program_around, words_of_unit, Tell
 use Rattle.pli_headline.proofs.ProvedStatements.{standing_within, Calls, Signals, body_does}
 
 -- calls and signals do what they mean, so many blocks deep at most
-abbrev pub Done : Environment → (block : ℕ) → Types → (all : List (ℕ × Label)) → (procedure bound : ℕ) → Links → List Instr → (may : List ℕ) → Type 1
+abbrev pub Done : Environment → (block : Names) → Types → (all : List (ℕ × Label)) → (procedure bound : ℕ) → Links → List Instr → (may : List ℕ) → Type 1
 Done e block types all procedure bound links code may = Calls e block types all procedure bound links code may × Signals e block types all procedure bound links code may
 
 -- ---- a single statement
 
-simple_does : {e : Environment} {block : ℕ} {types : Types} (bl : Block e block types) (links : Links) (code : List Instr) (routines : Standing bl links code) (around : Around) → around.program ≡ e.program → {all : List (ℕ × Label)} {procedure : ℕ} {may : List ℕ} {bound : ℕ} → Done e block types all procedure bound links code may → Tells e block types all procedure may links code bl.base bl.frames.known → HasMain block (main_labels e.program.procedures) e.level e.block bl.labels bl.outer → length bl.depths < most_activations → bl.stack.free + 4000 * (500 - length bl.depths) ≤ 14 * 2 ^ 20 → bl.words < 2 ^ 22 → {more : ℕ} → Entering e.program around more → more ≤ bound → (x : Y.Stmt) → IsSimple x → IsProvedStatement block types x → bl.taken.words + stmt_words x ≤ bl.words → CallsAmong may false x → ((number : ℕ) (label : Label) → times number label all ≡ 1 → IsMarkedOnce links number label) → e.level ≤ 100 → JumpsAround e.block e.level all e.blocks (main_outer block e.program.procedures) bl.outer [] x → ((level : ℕ) (label : Label) → IsOutward e.block level label all e.blocks bl.outer → level ≡ 0) → Does bl links code around.turns (stmt_code e bl.taken x) (M.statement around x)
+simple_does : {e : Environment} {block : Names} {types : Types} (bl : Block e block types) (links : Links) (code : List Instr) (routines : Standing bl links code) (around : Around) → around.program ≡ e.program → {all : List (ℕ × Label)} {procedure : ℕ} {may : List ℕ} {bound : ℕ} → Done e block types all procedure bound links code may → Tells e block types all procedure may links code bl.base bl.frames.known → HasMain procedure (main_labels e.program.procedures) e.level e.block bl.labels bl.outer → length bl.depths < most_activations → bl.stack.free + 4000 * (500 - length bl.depths) ≤ 14 * 2 ^ 20 → bl.words < 2 ^ 22 → {more : ℕ} → Entering e.program around more → more ≤ bound → (x : Y.Stmt) → IsSimple x → IsProvedStatement block types x → bl.taken.words + stmt_words x ≤ bl.words → CallsAmong e.program may false x → ((number : ℕ) (label : Label) → times number label all ≡ 1 → IsMarkedOnce links number label) → e.level ≤ 100 → JumpsAround e.program e.block e.level all e.blocks (main_outer procedure e.program.procedures) bl.outer [] x → ((level : ℕ) (label : Label) → IsOutward e.block level label all e.blocks bl.outer → level ≡ 0) → Does bl links code around.turns (stmt_code e bl.taken x) (M.statement around x)
 simple_does bl links code routines around same can tells has deep space narrow entering least (Y.Null line) simple is room calls once few jumps low = null_does bl links code around line is
 simple_does bl links code routines around same can tells has deep space narrow entering least (Y.Assign target (Y.StoredNumber precision x) line) simple is room calls once few jumps low =
     let a = le-max_left (max 1 (number_words x)) (4 + reference_words target) in
@@ -98,11 +99,12 @@ main_level : (block : ℕ) (all : List (ℕ × Label)) (blocks : List BlockPlace
 main_level block all blocks main lowest level label (inl jumps) = sym jumps.0 ∙ lowest
 main_level block all blocks main lowest level label (inr jumps) = absurd jumps
 
-standing_raised : {e : Environment} {block : ℕ} {types : Types} {bl : Block e block types} {links : Links} {code : List Instr} (callee : Callee bl) (kind : S.BlockKind) (back : Base → ℕ) (h0 t0 : ℕ → ℕ) (head : Y.BlockHead) (next : head.level ≡ 1) (sized : IsOwned (owner_of_unit head head.kind) → frame_end e.parts e.program head.number head.level ≡ fixed_size 1 0) (main : ℕ) (mains : List Label) (has : HasMain main mains e.level e.block bl.labels bl.outer) → Standing bl links code → Standing (called_block_as bl callee back h0 t0 (owner_of_unit head head.kind) kind head next sized (main_of main mains) (main_enclosing bl callee back h0 t0 (owner_of_unit head head.kind) head next main mains has)) links code
+standing_raised : {e : Environment} {block : Names} {types : Types} {bl : Block e block types} {links : Links} {code : List Instr} (callee : Callee bl) (kind : S.BlockKind) (back : Base → ℕ) (h0 t0 : ℕ → ℕ) (head : Y.BlockHead) (next : head.level ≡ 1) (sized : IsOwned (owner_of_unit head head.kind) → frame_end e.parts e.program head.number head.level ≡ fixed_size 1 0) (main : ℕ) (mains : List Label) (has : HasMain main mains e.level e.block bl.labels bl.outer) → Standing bl links code → Standing (called_block_as bl callee back h0 t0 (owner_of_unit head head.kind) kind head next (main_of main mains) (main_enclosing bl callee back h0 t0 (owner_of_unit head head.kind) head next main mains has)) links code
 standing_raised callee kind back h0 t0 head next sized main mains has s =
     record {
       raises = s.raises;
       constants = λ n. record { stand = λ bytes placed t b m o. (s.constants n).stand bytes placed t0 b m o.kept.0 };
+      filled = λ owned. ap (λ u. callee.at + u) (sized (owned_of (owner_of_unit head head.kind) head.level next owned));
     }
 
 words_few : (kind : Y.BlockKind) (body : ℕ) → body ≤ 800 → words_of_unit kind body ≤ 800
@@ -117,22 +119,22 @@ bare_unit program head Y.UnitBlock is body what none = inr (is, none)
 bare_unit program head _ is body what none = absurd what
 
 -- its statements, where calls and signals in it do what they mean
-body_by : {e : Environment} {block : ℕ} {types : Types} (bl : Block e block types) {links : Links} {code : List Instr} (standing : Standing bl links code) {all : List (ℕ × Label)} {procedure : ℕ} {may : List ℕ} (m : ℕ) → Done e block types all procedure m links code may → Tells e block types all procedure may links code bl.base bl.frames.known → (has : HasMain block (main_labels e.program.procedures) e.level e.block bl.labels bl.outer) → suc (length bl.depths) < most_activations → bl.stack.free + 4000 * (500 - length bl.depths) ≤ 14 * 2 ^ 20 → (head : Y.BlockHead) (next : head.level ≡ 1) (sized : IsOwned (owner_of_unit head head.kind) → frame_end e.parts e.program head.number head.level ≡ fixed_size 1 0) (kind : Y.BlockKind) → head.kind ≡ kind → (body : Y.Stmts) → IsUnitBody kind body → AreProvedStatements block types body → AllJumpAround head.number head.level all e.blocks (main_outer block e.program.procedures) (main_outer block e.program.procedures ∷ []) (labels_in body) body → AreBare e.program body → AllCallAmong may false body → stmts_words body + all_inner_words body ≤ 800 → ((number : ℕ) (label : Label) → times number label all ≡ 1 → IsMarkedOnce links number label) → (head.kind ≡ Y.UnitBlock → LabelsStand (unit_environment head (program_around e)) links all procedure false) → ((b : BlockPlace) → IsAmong b (blocks_among body) → IsAmong b e.blocks) → (callee : Callee bl) → callee.words ≡ words_of_unit kind (stmts_words body) → (entered : S.BlockKind) (back : Base → ℕ) (h0 t0 : ℕ → ℕ) → Does (called_block_as bl callee back h0 t0 (owner_of_unit head head.kind) entered head next sized (main_of block (main_labels e.program.procedures)) (main_enclosing bl callee back h0 t0 (owner_of_unit head head.kind) head next block (main_labels e.program.procedures) has)) links code (suc m) (stmts_code (unit_environment head e) none_taken body) (M.list (inner_around e.program m head.line) body)
-body_by {e} {block} bl {links} {code} standing {all} m can tells has deeper space head next sized Y.SimpleUnit kind (Y.StmtThen [] x (Y.EndOfList [])) what proved jumps bare calls few once labels blocks callee words entered back h0 t0 =
+body_by : {e : Environment} {block : Names} {types : Types} (bl : Block e block types) {links : Links} {code : List Instr} (standing : Standing bl links code) {all : List (ℕ × Label)} {procedure : ℕ} {may : List ℕ} (m : ℕ) → Done e block types all procedure m links code may → Tells e block types all procedure may links code bl.base bl.frames.known → (has : HasMain procedure (main_labels e.program.procedures) e.level e.block bl.labels bl.outer) → suc (length bl.depths) < most_activations → bl.stack.free + 4000 * (500 - length bl.depths) ≤ 14 * 2 ^ 20 → (head : Y.BlockHead) (next : head.level ≡ 1) (sized : IsOwned (owner_of_unit head head.kind) → frame_end e.parts e.program head.number head.level ≡ fixed_size 1 0) (kind : Y.BlockKind) → head.kind ≡ kind → (body : Y.Stmts) → IsUnitBody kind body → AreProvedStatements block types body → AllJumpAround e.program head.number head.level all e.blocks (main_outer procedure e.program.procedures) (main_outer procedure e.program.procedures ∷ []) (labels_in body) body → AreBare e.program false body → AllCallAmong e.program may false body → stmts_words body + all_inner_words body ≤ 800 → ((number : ℕ) (label : Label) → times number label all ≡ 1 → IsMarkedOnce links number label) → (head.kind ≡ Y.UnitBlock → LabelsStand (unit_environment head (program_around e)) links all procedure false) → ((b : BlockPlace) → IsAmong b (blocks_among body) → IsAmong b e.blocks) → (callee : Callee bl) → callee.words ≡ words_of_unit kind (stmts_words body) → (entered : S.BlockKind) (back : Base → ℕ) (h0 t0 : ℕ → ℕ) → Does (called_block_as bl callee back h0 t0 (owner_of_unit head head.kind) entered head next (main_of procedure (main_labels e.program.procedures)) (main_enclosing bl callee back h0 t0 (owner_of_unit head head.kind) head next procedure (main_labels e.program.procedures) has)) links code (suc m) (stmts_code (unit_environment head e) none_taken body) (M.list (inner_around e.program m head.line) body)
+body_by {e} bl {links} {code} standing {all} {procedure} m can tells has deeper space head next sized Y.SimpleUnit kind (Y.StmtThen [] x (Y.EndOfList [])) what proved jumps bare calls few once labels blocks callee words entered back h0 t0 =
     let mains = main_labels e.program.procedures in
-    let cb = called_block_as bl callee back h0 t0 (owner_of_unit head head.kind) entered head next sized (main_of block mains) (main_enclosing bl callee back h0 t0 (owner_of_unit head head.kind) head next block mains has) in
+    let cb = called_block_as bl callee back h0 t0 (owner_of_unit head head.kind) entered head next (main_of procedure mains) (main_enclosing bl callee back h0 t0 (owner_of_unit head head.kind) head next procedure mains has) in
     let first = le-max_left (stmt_words x) 0 in
     let place = callee.place in
     listed cb (inner_around e.program m head.line) (Y.StmtThen [] x (Y.EndOfList []))
-    (simple_does (within [] cb) links code (standing_within [] (standing_raised callee entered back h0 t0 head next sized block mains has standing)) (inner_around e.program m head.line) refl can tells (inr (inl (refl, (refl, λ label among. among)))) deeper (omega (arith, place, words, few, space, deeper)) (omega (arith, words, few)) (inner_entering e.program m head.line) (omega arith) x what proved.0 (omega (arith, words, first)) calls.0 once (omega (arith, next)) jumps.0 (main_level head.number all e.blocks (main_of block mains) refl), tt)
-body_by {e} {block} bl {links} {code} standing {all} {procedure} m can tells has deeper space head next sized Y.UnitBlock kind body what proved jumps bare calls few once labels blocks callee words entered back h0 t0 =
+    (simple_does (within [] cb) links code (standing_within [] (standing_raised callee entered back h0 t0 head next sized procedure mains has standing)) (inner_around e.program m head.line) refl can tells (inr (inl (refl, (refl, λ label among. among)))) deeper (omega (arith, place, words, few, space, deeper)) (omega (arith, words, few)) (inner_entering e.program m head.line) (omega arith) x what proved.0 (omega (arith, words, first)) calls.0 once (omega (arith, next)) jumps.0 (main_level head.number all e.blocks (main_of procedure mains) refl), tt)
+body_by {e} bl {links} {code} standing {all} {procedure} m can tells has deeper space head next sized Y.UnitBlock kind body what proved jumps bare calls few once labels blocks callee words entered back h0 t0 =
     let mains = main_labels e.program.procedures in
-    let cb = called_block_as bl callee back h0 t0 (owner_of_unit head head.kind) entered head next sized (main_of block mains) (main_enclosing bl callee back h0 t0 (owner_of_unit head head.kind) head next block mains has) in
+    let cb = called_block_as bl callee back h0 t0 (owner_of_unit head head.kind) entered head next (main_of procedure mains) (main_enclosing bl callee back h0 t0 (owner_of_unit head head.kind) head next procedure mains has) in
     let place = callee.place in
     let most' = le-max_right 0 (stmts_words body) in
     let low = most 0 (stmts_words body) 800 (omega arith) (omega (arith, few)) in
-    let high : AllJumpAround head.number head.level all e.blocks (main_of block mains) (main_of block mains ∷ []) (labels_in body ++ []) body = subst (λ ls. AllJumpAround head.number head.level all e.blocks (main_of block mains) (main_of block mains ∷ []) ls body) (sym (append-nil (labels_in body))) jumps in
-    body_does cb links code (standing_raised callee entered back h0 t0 head next sized block mains has standing) (inner_around e.program m head.line) refl {small = true}
+    let high : AllJumpAround e.program head.number head.level all e.blocks (main_of procedure mains) (main_of procedure mains ∷ []) (labels_in body ++ []) body = subst (λ ls. AllJumpAround e.program head.number head.level all e.blocks (main_of procedure mains) (main_of procedure mains ∷ []) ls body) (sym (append-nil (labels_in body))) jumps in
+    body_does cb links code (standing_raised callee entered back h0 t0 head next sized procedure mains has standing) (inner_around e.program m head.line) refl {small = true}
     (labels kind) body proved high (omega (arith, most', words))
     ((omega (arith, place, words, low, space, deeper), omega (arith, few)), deeper) bare
     (inner_entering e.program m head.line) (omega arith) blocks calls
@@ -142,6 +144,7 @@ body_by {e} {block} bl {links} {code} standing {all} {procedure} m can tells has
       tells = tells;
       makes = λ same' u at k. let no : true ≡ false = sym same' ∙ other_level head.level 0 next in absurd (cc no);
       narrow = omega (arith, words, low);
+      outermost = callee.outer;
       ends = λ no. let apart : false ≡ true = no in absurd (cc apart);
       mains = inr (inl (refl, (refl, λ label among. among)));
     })
@@ -153,14 +156,14 @@ sized_by e head Y.SimpleUnit body what size owned = absurd owned
 sized_by e head Y.UnitBlock body what size owned = size refl
 sized_by e head _ body what size owned = absurd what
 
-unit_raisable : {e : Environment} {block : ℕ} {types : Types} (bl : Block e block types) {links : Links} {code : List Instr} (standing : Standing bl links code) {all : List (ℕ × Label)} {procedure : ℕ} {may : List ℕ} (more : ℕ) → ((m : ℕ) → more ≡ suc m → Done e block types all procedure m links code may) → Tells e block types all procedure may links code bl.base bl.frames.known → (has : HasMain block (main_labels e.program.procedures) e.level e.block bl.labels bl.outer) → length bl.depths < most_activations → bl.stack.free + 4000 * (500 - length bl.depths) ≤ 14 * 2 ^ 20 → (frame : ℕ) (u : Y.Block) (at : ℕ) → bl.frames.known frame u at → Raisable bl block (main_labels e.program.procedures) has links code more frame u at
-unit_raisable {e} {block} {types} bl {links} {code} standing more below tells has deep space frame u at known =
+unit_raisable : {e : Environment} {block : Names} {types : Types} (bl : Block e block types) {links : Links} {code : List Instr} (standing : Standing bl links code) {all : List (ℕ × Label)} {procedure : ℕ} {may : List ℕ} (more : ℕ) → AllOutermost block types → ((m : ℕ) → more ≡ suc m → Done e block types all procedure m links code may) → Tells e block types all procedure may links code bl.base bl.frames.known → (has : HasMain procedure (main_labels e.program.procedures) e.level e.block bl.labels bl.outer) → length bl.depths < most_activations → bl.stack.free + 4000 * (500 - length bl.depths) ≤ 14 * 2 ^ 20 → (frame : ℕ) (u : Y.Block) (at : ℕ) → bl.frames.known frame u at → Raisable bl procedure (main_labels e.program.procedures) has links code more frame u at
+unit_raisable {e} {block} {types} bl {links} {code} standing more outermost below tells has deep space frame u at known =
     let q = (tells frame u at known).1 in
     let words = words_of_unit q.head.kind (stmts_words q.body) in
     let few = q.few in
     let sized = sized_by e q.head q.head.kind q.body q.what (λ kind. (q.labels kind).bare q.head.number q.head.level (subst (DeclaresNothing e.program q.head) kind q.bare.0) ∙ ap (λ l. fixed_size l 0) q.level) in
     let small' = words_few q.head.kind (stmts_words q.body) (omega (arith, few)) in
-    let callee : Callee bl = record { words = words; at = bl.stack.free + temporary_bytes words; place = refl; room = omega (arith, small', space, deep) } in
+    let callee : Callee bl = record { words = words; at = bl.stack.free + temporary_bytes words; place = refl; room = omega (arith, small', space, deep); outer = outermost } in
     record {
       lowest = (tells frame u at known).0;
       head = q.head;
@@ -169,7 +172,6 @@ unit_raisable {e} {block} {types} bl {links} {code} standing more below tells ha
       bare = bare_unit e.program q.head q.head.kind refl q.body q.what q.bare.0;
       level = q.level;
       line = q.line;
-      sized = sized;
       callee = callee;
       index = q.index;
       at_is = q.at_is;
@@ -181,11 +183,11 @@ unit_raisable {e} {block} {types} bl {links} {code} standing more below tells ha
 
 -- ---- all signals
 
-pub signals_with : (e : Environment) (block : ℕ) (types : Types) (all : List (ℕ × Label)) (procedure : ℕ) (links : Links) (code : List Instr) (may : List ℕ) (bound : ℕ) → ((m : ℕ) → suc m ≤ bound → Done e block types all procedure m links code may) → Signals e block types all procedure bound links code may
-signals_with e block types all procedure links code may bound below o number level b deep space narrow standing tells has around same more entering least line fits =
-    signal_area_does b block (main_labels e.program.procedures) has links code standing.raises around more line fits entering
-    (λ frame u at known. unit_raisable b standing more (λ m next. below m (omega (arith, next, least))) tells has deep space frame u at known)
+pub signals_with : (e : Environment) (block : Names) (types : Types) (all : List (ℕ × Label)) (procedure : ℕ) (links : Links) (code : List Instr) (may : List ℕ) (bound : ℕ) → AllOutermost block types → ((m : ℕ) → suc m ≤ bound → Done e block types all procedure m links code may) → Signals e block types all procedure bound links code may
+signals_with e block types all procedure links code may bound outermost below o number level b deep space narrow standing tells has around same more entering least line fits =
+    signal_area_does b procedure (main_labels e.program.procedures) has links code standing.raises around more line fits entering
+    (λ frame u at known. unit_raisable b standing more outermost (λ m next. below m (omega (arith, next, least))) tells has deep space frame u at known)
 
-pub fewer_signals : (e : Environment) (block : ℕ) (types : Types) (all : List (ℕ × Label)) (procedure : ℕ) (links : Links) (code : List Instr) (may : List ℕ) (m bound : ℕ) → m ≤ bound → Signals e block types all procedure bound links code may → Signals e block types all procedure m links code may
+pub fewer_signals : (e : Environment) (block : Names) (types : Types) (all : List (ℕ × Label)) (procedure : ℕ) (links : Links) (code : List Instr) (may : List ℕ) (m bound : ℕ) → m ≤ bound → Signals e block types all procedure bound links code may → Signals e block types all procedure m links code may
 fewer_signals e block types all procedure links code may m bound less signals o number level b deep space narrow standing tells has around same more entering least line fits =
     signals o number level b deep space narrow standing tells has around same more entering (omega (arith, least, less)) line fits

@@ -10,7 +10,8 @@ use Rattle.rv_meaning.specs.Machine.{written}
 use Rattle.pli_serving.specs.ServiceState.{Services}
 use Rattle.pli_coding.specs.Assembly.{Datum, Item, Plain, BaseIn, OffsetOf, OffsetAhead, JumpTo, CallTo, JumpAhead, JumpBack, Mark, Code, item_size, size_of}
 use Rattle.pli_coding.specs.Linking.{Links, upper_part, lower_part, distance, place_of, item_code}
-use Rattle.image_runs.specs.Runs.{Whole, Runs, run_on}
+use Rattle.image_runs.specs.Runs.{Whole, Runs}
+use Rattle.pli_headline.proofs.Unlimited.{run_on}
 use Rattle.pli_headline.proofs.Engine.{Base, at_base, HasAt, address, most_code, Steps, Passed, passes, run_on-add}
 use Rattle.pli_headline.proofs.Linking.{HasItems, item_has}
 use Rattle.pli_headline.proofs.DataNamed.{IsNamed, IsPlaced}

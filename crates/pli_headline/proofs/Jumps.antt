@@ -14,7 +14,8 @@ use Rattle.pli_serving.specs.ServiceState.{Services}
 use Rattle.pli_coding.specs.Assembly.{Symbol, Item, JumpTo, CallTo, JumpAhead, Code, item_size, size_of}
 use Rattle.pli_coding.specs.Instructions.{skip_where}
 use Rattle.pli_coding.specs.Linking.{Links, upper_part, lower_part, distance, jump_code, place_of}
-use Rattle.image_runs.specs.Runs.{Whole, Runs, next, of_effect, run_on}
+use Rattle.image_runs.specs.Runs.{Whole, Runs}
+use Rattle.pli_headline.proofs.Unlimited.{next, of_effect, run_on}
 use Rattle.pli_headline.proofs.Engine.{Base, at_base, HasAt, address, most_code, effect_at, next_address, branch_taken, branch_passed, with_register, passes}
 use Rattle.pli_headline.proofs.Linking.{items_front, items_back, size_append}
 use Rattle.pli_headline.proofs.DataNamed.{is_named_front, is_named_back}

@@ -1,5 +1,5 @@
 -- GOTO out of a block to a label of a block around: the blocks in it end among the services (service 6), and its frame runs again.
-use Rattle.std.proofs.Common.{◌≡◌, ℕ, ◌+◌, ◌*◌, ◌^◌, ◌<◌, ◌≤◌, inl, inr, suc, List, [], ◌∷◌, ◌++◌, Bool, true, false, refl, sym, ap, ◌∙◌, subst, arith, lit<, Option}
+use Rattle.std.proofs.Common.{◌≡◌, ℕ, ◌+◌, ◌*◌, ◌^◌, ◌<◌, ◌≤◌, inl, inr, suc, List, [], ◌∷◌, ◌++◌, Bool, true, false, refl, sym, ap, ◌∙◌, subst, arith, lit<, Option, length}
 use Rattle.std.specs.Prelude.{pos, cond, ◌==◌}
 use Rattle.std.proofs.lemmas.Bool.Decides.{nat_tests}
 use Rattle.std.proofs.lemmas.Int.{ints}
@@ -26,7 +26,8 @@ use Rattle.pli_coding.specs.Allocating.{act_code}
 use Rattle.pli_coding.specs.Environments.{Environment, block_around}
 use Rattle.pli_coding.specs.Statements.{unwound_to, goto_outer, goto_code, stmt_code}
 use Rattle.pli_coding.specs.Linking.{Links}
-use Rattle.pli_headline.specs.ProvedSoFar.{Types, OuterBlock, IsOutward, times}
+use Rattle.pli_headline.proofs.Storages.{storage}
+use Rattle.pli_headline.specs.ProvedSoFar.{Names, Types, OuterBlock, IsOutward, times}
 use Rattle.pli_headline.proofs.Engine.{Base, address}
 use Rattle.pli_headline.proofs.Linking.{size_append}
 use Rattle.pli_headline.proofs.Items.{Linked, At, straight}
@@ -40,7 +41,7 @@ use Rattle.pli_headline.proofs.Calls.{called, Calling, call_done}
 use Rattle.pli_headline.proofs.Raising.{small_is}
 use Rattle.pli_headline.proofs.Acts.{acted, act_to}
 use Rattle.pli_headline.proofs.Ifs.{free_far}
-use Rattle.pli_headline.proofs.Statements.{IsSized, lower_ground, Enclosing, Enclosures, Block, counted_all, IsMarkedOnce, OutletOf, Outlets, Enough, Does}
+use Rattle.pli_headline.proofs.Statements.{IsSized, lower_ground, Beneath, AllBeneath, Enclosing, Enclosures, Block, counted_all, IsMarkedOnce, OutletOf, Outlets, Enough, Does}
 use Rattle.pli_headline.proofs.BeginDisplays.{frame_word, moved_reserved, without_two, outer_place}
 use Rattle.pli_headline.proofs.EndedBlocks.{all_ended}
 use Rattle.pli_headline.proofs.Returns.{unwound_services, unwind_answer}
@@ -53,7 +54,7 @@ abbrev rest_asked : Code
 rest_asked = load_word a0 frame_register own_offset ++ (small a1 0 ∷ (small a7 6 ∷ []))
 
 -- the frame's address is in the display
-display_piece : {e : Environment} {block : ℕ} {types : Types} (bl : Block e block types) {o : OuterBlock} (d : Enclosing e o bl.ground bl.levels bl.frames.list (e.level ∷ bl.depths)) {links : Links} {code : List Instr} {i : ℕ} {v : Services} {h t : ℕ → ℕ} (n : Values) (c : ℕ) (f : Family) → e.level ≤ 100 → Linked links code i (load_word frame_register frame_register (display o.level)) → ((b : Base) → At b i (Known (bl.ground n) v h t nothing b) (f b)) → Reach code c f v (c + size_of (load_word frame_register frame_register (display o.level))) v (λ b w. At b (i + size_of (load_word frame_register frame_register (display o.level))) (Known (lower_ground (d.its n) (bl.ground n).free) v h d.waits nothing b) w)
+display_piece : {e : Environment} {block : Names} {types : Types} (bl : Block e block types) {o : OuterBlock} (d : Enclosing e o bl.ground bl.levels bl.frames.list (e.level ∷ bl.depths)) {links : Links} {code : List Instr} {i : ℕ} {v : Services} {h t : ℕ → ℕ} (n : Values) (c : ℕ) (f : Family) → e.level ≤ 100 → Linked links code i (load_word frame_register frame_register (display o.level)) → ((b : Base) → At b i (Known (bl.ground n) v h t nothing b) (f b)) → Reach code c f v (c + size_of (load_word frame_register frame_register (display o.level))) v (λ b w. At b (i + size_of (load_word frame_register frame_register (display o.level))) (Known (lower_ground (d.its n) (bl.ground n).free) v h d.waits nothing b) w)
 display_piece {e} bl {o} d {v = v} {h = h} {t = t} n c f few l at =
     let g = bl.ground n in
     let lower = lower_ground (d.its n) g.free in
@@ -88,7 +89,7 @@ display_piece {e} bl {o} d {v = v} {h = h} {t = t} n c f few l at =
     l at
 
 -- the blocks above it end among the services
-ended_piece : {e : Environment} {block : ℕ} {types : Types} (bl : Block e block types) {o : OuterBlock} (d : Enclosing e o bl.ground bl.levels bl.frames.list (e.level ∷ bl.depths)) {links : Links} {code : List Instr} {i : ℕ} {v : Services} {h : ℕ → ℕ} (n : Values) (free c : ℕ) (f : Family) (a : S.Activation) (rest : List S.Activation) → K.from_frame d.frame v.activations ≡ a ∷ rest → Linked links code i (rest_asked ++ Plain I.Ecall ∷ []) → ((b : Base) → At b i (Known (lower_ground (d.its n) free) v h d.waits nothing b) (f b)) → Reach code c f v (c + 4) (unwound_services v a rest) (λ b w. At b (i + 4) (Known (lower_ground (d.its n) free) (unwound_services v a rest) h d.waits nothing b) w)
+ended_piece : {e : Environment} {block : Names} {types : Types} (bl : Block e block types) {o : OuterBlock} (d : Enclosing e o bl.ground bl.levels bl.frames.list (e.level ∷ bl.depths)) {links : Links} {code : List Instr} {i : ℕ} {v : Services} {h : ℕ → ℕ} (n : Values) (free c : ℕ) (f : Family) (a : S.Activation) (rest : List S.Activation) → K.from_frame d.frame v.activations ≡ a ∷ rest → Linked links code i (rest_asked ++ Plain I.Ecall ∷ []) → ((b : Base) → At b i (Known (lower_ground (d.its n) free) v h d.waits nothing b) (f b)) → Reach code c f v (c + 4) (unwound_services v a rest) (λ b w. At b (i + 4) (Known (lower_ground (d.its n) free) (unwound_services v a rest) h d.waits nothing b) w)
 ended_piece bl d {code = code} {i = i} {v = v} {h = h} n free c f a rest found l at =
     let its = d.its n in
     let lower = lower_ground its free in
@@ -121,7 +122,7 @@ ended_piece bl d {code = code} {i = i} {v = v} {h = h} n free c f a rest found l
     (λ b. let p = (reached_holds r1 b).holds.body in record { body = record { services = refl; registers = p.registers; bytes = p.bytes; memory = p.memory }; regs = tt }) in
     reach_moved (omega arith) (omega arith) (reach_then r1 r2)
 
-pub unwound_piece : {e : Environment} {block : ℕ} {types : Types} (bl : Block e block types) {o : OuterBlock} (d : Enclosing e o bl.ground bl.levels bl.frames.list (e.level ∷ bl.depths)) {links : Links} {code : List Instr} {i : ℕ} {v : Services} {h t : ℕ → ℕ} (n : Values) (c : ℕ) (f : Family) (a : S.Activation) (rest : List S.Activation) → e.level ≤ 100 → K.from_frame d.frame v.activations ≡ a ∷ rest → Linked links code i (unwound_to o.level 0) → ((b : Base) → At b i (Known (bl.ground n) v h t nothing b) (f b)) → Reach code c f v (c + size_of (unwound_to o.level 0)) (unwound_services v a rest) (λ b w. At b (i + size_of (unwound_to o.level 0)) (Known (lower_ground (d.its n) (bl.ground n).free) (unwound_services v a rest) h d.waits nothing b) w)
+pub unwound_piece : {e : Environment} {block : Names} {types : Types} (bl : Block e block types) {o : OuterBlock} (d : Enclosing e o bl.ground bl.levels bl.frames.list (e.level ∷ bl.depths)) {links : Links} {code : List Instr} {i : ℕ} {v : Services} {h t : ℕ → ℕ} (n : Values) (c : ℕ) (f : Family) (a : S.Activation) (rest : List S.Activation) → e.level ≤ 100 → K.from_frame d.frame v.activations ≡ a ∷ rest → Linked links code i (unwound_to o.level 0) → ((b : Base) → At b i (Known (bl.ground n) v h t nothing b) (f b)) → Reach code c f v (c + size_of (unwound_to o.level 0)) (unwound_services v a rest) (λ b w. At b (i + size_of (unwound_to o.level 0)) (Known (lower_ground (d.its n) (bl.ground n).free) (unwound_services v a rest) h d.waits nothing b) w)
 unwound_piece bl {o} d n c f a rest few found l at =
     let first = load_word frame_register frame_register (display o.level) in
     let second = rest_asked ++ Plain I.Ecall ∷ [] in
@@ -130,7 +131,7 @@ unwound_piece bl {o} d n c f a rest few found l at =
     let r2 = ended_piece bl d n (bl.ground n).free (c + size_of first) (reached r1) a rest found (back_of first second l) (reached_holds r1) in
     reach_moved (omega (arith, size)) (omega (arith, size)) (reach_then r1 r2)
 
-stack_piece : (g : Ground) (free size : ℕ) {links : Links} {code : List Instr} {i : ℕ} {v : Services} {h t : ℕ → ℕ} (c : ℕ) (f : Family) → g.free ≡ g.frame + size → g.frame + size ≤ 14 * 2 ^ 20 → Linked links code i (plus stack_register frame_register (pos size)) → ((b : Base) → At b i (Known (lower_ground g free) v h t nothing b) (f b)) → Reach code c f v (c + size_of (plus stack_register frame_register (pos size))) v (λ b w. At b (i + size_of (plus stack_register frame_register (pos size))) (Known g v h t nothing b) w)
+pub stack_piece : (g : Ground) (free size : ℕ) {links : Links} {code : List Instr} {i : ℕ} {v : Services} {h t : ℕ → ℕ} (c : ℕ) (f : Family) → g.free ≡ g.frame + size → g.frame + size ≤ 14 * 2 ^ 20 → Linked links code i (plus stack_register frame_register (pos size)) → ((b : Base) → At b i (Known (lower_ground g free) v h t nothing b) (f b)) → Reach code c f v (c + size_of (plus stack_register frame_register (pos size))) v (λ b w. At b (i + size_of (plus stack_register frame_register (pos size))) (Known g v h t nothing b) w)
 stack_piece g free size {v = v} {h = h} {t = t} c f ends room l at =
     displaced_by (is_immediate (pos size)) c f (λ q d. I.Immediate Imm.Add stack_register q d) frame_register (pos size) (λ b. b.at + g.frame) (Known (lower_ground g free) v h t nothing) (Known g v h t nothing) (above_small size (omega (arith, room)))
     (λ b. let v' = b.valid.1 in omega (arith, v', room))
@@ -175,9 +176,9 @@ unwound_size level few = by_near (is_immediate (display level)) (near_display le
     by_near false near = absurd (cc near)
 
 -- the act leaves no credits to count, so the label may stand anywhere
-own_out_does : {e : Environment} {block : ℕ} {types : Types} (bl : Block e block types) (links : Links) (code : List Instr) (around : Around) {o : OuterBlock} (d : Enclosing e o bl.ground bl.levels bl.frames.list (e.level ∷ bl.depths)) (label : Label) (line : ℕ) → ((i k : ℕ) (h t : ℕ → ℕ) (acts : ℕ) (jumped : ℕ → Family → Services → ℕ → Label → State → Type 0) (returned : ℕ → Family → Services → Option BasicValue → State → Type 0) → Enough bl links k around.turns i h t acts jumped returned → OutletOf bl.frames d block types links k acts jumped label) → IsSized e.owner o.level → e.level ≤ 100 → line < 2 ^ 31 → Does bl links code around.turns (act_code line ++ out_code o (frame_end e.parts e.program o.number o.level) label) (M.statement around (Y.Goto o.level label line))
+own_out_does : {e : Environment} {block : Names} {types : Types} (bl : Block e block types) (links : Links) (code : List Instr) (around : Around) {o : OuterBlock} (d : Enclosing e o bl.ground bl.levels bl.frames.list (e.level ∷ bl.depths)) (below : Beneath o.level (suc (length d.depths)) bl.serials block types) (label : Label) (line : ℕ) → ((i k : ℕ) (h t : ℕ → ℕ) (acts : ℕ) (jumped : ℕ → Family → Services → ℕ → Label → State → Type 0) (returned : ℕ → Family → Services → Option BasicValue → State → Type 0) → Enough bl links k around.turns i h t acts jumped returned → OutletOf bl.frames d bl.serials block types links k acts jumped label) → IsSized e.owner o.level → e.level ≤ 100 → line < 2 ^ 31 → Does bl links code around.turns (act_code line ++ out_code o (frame_end e.parts e.program o.number o.level) label) (M.statement around (Y.Goto o.level label line))
 unfolding M.statement looked jumps ◌>>=◌ ◌>>◌
-own_out_does {e} {block} {types} bl links code around {o} d label line outs owned few fits =
+own_out_does {e} {block} {types} bl links code around {o} d below label line outs owned few fits =
     record {
       does = λ {i} {s} {v} {h} {t} {aims} closed old n f k l serving all at goal more.
           let a = act_code line in
@@ -205,7 +206,7 @@ own_out_does {e} {block} {types} bl links code around {o} d label line outs owne
           let frame = d.frame_is n in
           let free = d.free_is n in
           let s1 = with_world (counted s.world) s in
-          let left' = all_ended (suc d.count) d.frame o.level bl.frames bl.frames.list (e.level ∷ bl.depths) d.behind d.depths s1 v.activations refl d.rises serving.nested (counted_all (counted s.world) all) in
+          let left' = all_ended (suc d.count) d.frame o.level bl.frames bl.frames.list (e.level ∷ bl.depths) d.behind d.depths s1 (storage v) refl d.rises below serving.nested (counted_all (counted s.world) all) in
           let v2 = unwound_services (acted line v) left'.activation left'.rest in
           comes_on k (act counted k s) next'
           (act_to (before_closed k next' closed) i 0 f line old k fits (omega (arith, inside, total)) (front_of a c l) serving at
@@ -240,23 +241,23 @@ deep_code e o label deep around =
     ap (λ u. (unwound_to o.level 0 ++ plus stack_register frame_register (pos (frame_end e.parts e.program u o.level))) ++ JumpTo (LabelPlace u label) ∷ []) (sym around)
     ∙ ap (λ q. cond q [] (goto_outer e o.level) ++ JumpTo (LabelPlace (block_around e o.level) label) ∷ []) (sym deep)
 
-outer_does : {e : Environment} {block : ℕ} {types : Types} (bl : Block e block types) (links : Links) (code : List Instr) (around : Around) {o : OuterBlock} (d : Enclosing e o bl.ground bl.levels bl.frames.list (e.level ∷ bl.depths)) (level : ℕ) (label : Label) (line : ℕ) → ((i k : ℕ) (h t : ℕ → ℕ) (acts : ℕ) (jumped : ℕ → Family → Services → ℕ → Label → State → Type 0) (returned : ℕ → Family → Services → Option BasicValue → State → Type 0) → Enough bl links k around.turns i h t acts jumped returned → OutletOf bl.frames d block types links k acts jumped label) → o.level ≡ level → block_around e level ≡ o.number → IsSized e.owner level → e.level ≤ 100 → line < 2 ^ 31 → Does bl links code around.turns (stmt_code e bl.taken (Y.Goto level label line)) (M.statement around (Y.Goto level label line))
-outer_does {e} bl links code around {o} d level label line outs same found owned few fits =
+outer_does : {e : Environment} {block : Names} {types : Types} (bl : Block e block types) (links : Links) (code : List Instr) (around : Around) {o : OuterBlock} (d : Enclosing e o bl.ground bl.levels bl.frames.list (e.level ∷ bl.depths)) (below : Beneath o.level (suc (length d.depths)) bl.serials block types) (level : ℕ) (label : Label) (line : ℕ) → ((i k : ℕ) (h t : ℕ → ℕ) (acts : ℕ) (jumped : ℕ → Family → Services → ℕ → Label → State → Type 0) (returned : ℕ → Family → Services → Option BasicValue → State → Type 0) → Enough bl links k around.turns i h t acts jumped returned → OutletOf bl.frames d bl.serials block types links k acts jumped label) → o.level ≡ level → block_around e level ≡ o.number → IsSized e.owner level → e.level ≤ 100 → line < 2 ^ 31 → Does bl links code around.turns (stmt_code e bl.taken (Y.Goto level label line)) (M.statement around (Y.Goto level label line))
+outer_does {e} bl links code around {o} d below level label line outs same found owned few fits =
     let deeper = d.deeper in
     let apart : (o.level == e.level) ≡ false = grind (arith, nat_tests) in
     subst (λ n. Does bl links code around.turns (stmt_code e bl.taken (Y.Goto n label line)) (M.statement around (Y.Goto n label line))) same
     (subst (λ c. Does bl links code around.turns (act_code line ++ c) (M.statement around (Y.Goto o.level label line))) (deep_code e o label apart (ap (block_around e) same ∙ found))
-    (own_out_does bl links code around d label line outs (subst (λ n. IsSized e.owner n) (sym same) owned) few fits))
+    (own_out_does bl links code around d below label line outs (subst (λ n. IsSized e.owner n) (sym same) owned) few fits))
 
 -- ---- to any of the blocks around
 
-out_among : {e : Environment} {block : ℕ} {types : Types} (bl : Block e block types) (links : Links) (code : List Instr) (around : Around) (all : List (ℕ × Label)) (level : ℕ) (label : Label) (line : ℕ) → ((number : ℕ) → times number label all ≡ 1 → IsMarkedOnce links number label) → IsSized e.owner level → e.level ≤ 100 → line < 2 ^ 31 → (os : List OuterBlock) (ds : Enclosures e bl.ground bl.levels bl.frames.list (e.level ∷ bl.depths) os) → ((i k : ℕ) (h t : ℕ → ℕ) (acts : ℕ) (jumped : ℕ → Family → Services → ℕ → Label → State → Type 0) (returned : ℕ → Family → Services → Option BasicValue → State → Type 0) → Enough bl links k around.turns i h t acts jumped returned → Outlets e bl.ground bl.levels bl.frames (e.level ∷ bl.depths) os ds block types links k acts jumped) → IsOutward e.block level label all e.blocks os → Does bl links code around.turns (stmt_code e bl.taken (Y.Goto level label line)) (M.statement around (Y.Goto level label line))
-out_among bl links code around all level label line once owned few fits [] ds outs outward = absurd outward
-out_among bl links code around all level label line once owned few fits (o ∷ os) ds outs (inl h) =
-    outer_does bl links code around ds.0 level label line (λ i k h' t acts jumped returned more. (outs i k h' t acts jumped returned more).0 label h.1.0 (once o.number h.1.1.0)) h.0 h.1.1.1 owned few fits
-out_among bl links code around all level label line once owned few fits (o ∷ os) ds outs (inr h) =
-    out_among bl links code around all level label line once owned few fits os ds.1 (λ i k h' t acts jumped returned more. (outs i k h' t acts jumped returned more).1) h
+out_among : {e : Environment} {block : Names} {types : Types} (bl : Block e block types) (links : Links) (code : List Instr) (around : Around) (all : List (ℕ × Label)) (level : ℕ) (label : Label) (line : ℕ) → ((number : ℕ) → times number label all ≡ 1 → IsMarkedOnce links number label) → IsSized e.owner level → e.level ≤ 100 → line < 2 ^ 31 → (os : List OuterBlock) (ds : Enclosures e bl.ground bl.levels bl.frames.list (e.level ∷ bl.depths) os) → AllBeneath e bl.ground bl.levels bl.frames.list (e.level ∷ bl.depths) os ds bl.serials block types → ((i k : ℕ) (h t : ℕ → ℕ) (acts : ℕ) (jumped : ℕ → Family → Services → ℕ → Label → State → Type 0) (returned : ℕ → Family → Services → Option BasicValue → State → Type 0) → Enough bl links k around.turns i h t acts jumped returned → Outlets e bl.ground bl.levels bl.frames (e.level ∷ bl.depths) os ds bl.serials block types links k acts jumped) → IsOutward e.block level label all e.blocks os → Does bl links code around.turns (stmt_code e bl.taken (Y.Goto level label line)) (M.statement around (Y.Goto level label line))
+out_among bl links code around all level label line once owned few fits [] ds below outs outward = absurd outward
+out_among bl links code around all level label line once owned few fits (o ∷ os) ds below outs (inl h) =
+    outer_does bl links code around ds.0 below.0 level label line (λ i k h' t acts jumped returned more. (outs i k h' t acts jumped returned more).0 label h.1.0 (once o.number h.1.1.0)) h.0 h.1.1.1 owned few fits
+out_among bl links code around all level label line once owned few fits (o ∷ os) ds below outs (inr h) =
+    out_among bl links code around all level label line once owned few fits os ds.1 below.1 (λ i k h' t acts jumped returned more. (outs i k h' t acts jumped returned more).1) h
 
-pub out_does : {e : Environment} {block : ℕ} {types : Types} (bl : Block e block types) (links : Links) (code : List Instr) (around : Around) (all : List (ℕ × Label)) (level : ℕ) (label : Label) (line : ℕ) → ((number : ℕ) → times number label all ≡ 1 → IsMarkedOnce links number label) → IsSized e.owner level → e.level ≤ 100 → line < 2 ^ 31 → IsOutward e.block level label all e.blocks bl.outer → Does bl links code around.turns (stmt_code e bl.taken (Y.Goto level label line)) (M.statement around (Y.Goto level label line))
+pub out_does : {e : Environment} {block : Names} {types : Types} (bl : Block e block types) (links : Links) (code : List Instr) (around : Around) (all : List (ℕ × Label)) (level : ℕ) (label : Label) (line : ℕ) → ((number : ℕ) → times number label all ≡ 1 → IsMarkedOnce links number label) → IsSized e.owner level → e.level ≤ 100 → line < 2 ^ 31 → IsOutward e.block level label all e.blocks bl.outer → Does bl links code around.turns (stmt_code e bl.taken (Y.Goto level label line)) (M.statement around (Y.Goto level label line))
 out_does bl links code around all level label line once owned few fits outward =
-    out_among bl links code around all level label line once owned few fits bl.outer bl.enclosing (λ i k h t acts jumped returned more. more.outs) outward
+    out_among bl links code around all level label line once owned few fits bl.outer bl.enclosing bl.beneath (λ i k h t acts jumped returned more. more.outs) outward

@@ -1,5 +1,6 @@
 pub mod Engine
 pub mod Showing
+pub mod Unlimited
 pub mod Growing
 pub mod Reach
 pub mod Owing
@@ -16,6 +17,7 @@ pub mod SavedRegisters
 pub mod Activations
 pub mod OuterBlocks
 pub mod Entered
+pub mod Storages
 pub mod Calls
 pub mod Raising
 pub mod WordProducts
@@ -34,6 +36,7 @@ pub mod Products
 pub mod Quotients
 pub mod Increments
 pub mod Variables
+pub mod DeclaredNames
 pub mod Evaluations
 pub mod ArrayPlaces
 pub mod Subscripts
@@ -86,6 +89,10 @@ pub mod TextAssignments
 pub mod Since
 pub mod MainFlow
 pub mod Statements
+pub mod OneMore
+pub mod MoreStates
+pub mod MoreServed
+pub mod Declares
 pub mod MainGround
 pub mod MainTexts
 pub mod MainBlock

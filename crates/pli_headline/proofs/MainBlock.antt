@@ -1,6 +1,6 @@
 -- The main procedure's block: its variables, numbers and texts, stand in its frame behind one another.
-use Rattle.std.proofs.Common.{◌≡◌, ℕ, ◌+◌, ◌<◌, ◌≤◌, List, [], length, Some, Bool, true, false, refl, sym, ap, ◌∙◌, subst, arith, ◌∷◌, ◌*◌, ◌^◌}
-use Rattle.std.specs.Prelude.{pos, ◌==◌, slice_get}
+use Rattle.std.proofs.Common.{◌≡◌, ℕ, suc, ◌+◌, ◌<◌, ◌≤◌, List, [], length, Some, Bool, true, false, refl, sym, ap, ◌∙◌, subst, arith, ◌∷◌, ◌*◌, ◌^◌}
+use Rattle.std.specs.Prelude.{pos, cond, ◌==◌, slice_get}
 use Rattle.rv_meaning.specs.Words.{word}
 use Rattle.rv_meaning.specs.Memory.{load, store}
 use Rattle.rv_meaning.specs.Machine.{load_width, extended, store_width}
@@ -9,21 +9,23 @@ use Rattle.pli_meaning.specs.BasicValues.{BasicText}
 use Rattle.pli_serving.specs.Bytes.{with_bytes}
 use Rattle.pli_serving.specs.Stored.{kept_bytes}
 use Rattle.pli_coding.specs.Environments.{Environment, none_taken}
-use Rattle.pli_headline.specs.ProvedSoFar.{Types, text_leaf, IsScalar, alone, IsHeld, AreBounds, Kind}
-use Rattle.pli_headline.proofs.Scalars.{Values, load_kind, store_kind, kind_at, kind_is, place_below}
+use Rattle.pli_headline.proofs.Bodies.{Ground}
+use Rattle.pli_headline.proofs.Storages.{Serials}
+use Rattle.pli_headline.specs.ProvedSoFar.{Names, Types, text_leaf, IsScalar, alone, IsHeld, AreBounds, Kind}
+use Rattle.pli_headline.proofs.Scalars.{Values, load_kind, store_kind, kind_at, kind_is, place_below, place_taken}
 use Rattle.pli_headline.proofs.VariablePlaces.{frame_size, room_of, number_place, room_before, room_next, room_even, data_fits}
 use Rattle.pli_headline.proofs.Reaching.{Reaches}
-use Rattle.pli_headline.proofs.Variables.{data_place, HasTypes}
+use Rattle.pli_headline.proofs.Variables.{data_place, HasTypes, level_of}
 use Rattle.pli_headline.proofs.States.{with_number_at, with_text_at}
 use Rattle.pli_headline.proofs.TextPlaces.{text_kind_of, text_bytes, TextThere}
 use Rattle.pli_headline.proofs.TextsKept.{text_kept_as}
 use Rattle.pli_headline.proofs.Holdings.{There, size_in, content_text, content_fits, content_for}
-use Rattle.pli_headline.proofs.MainGround.{Frame, Stands, ground_of, main_temporaries, contents, main_writes, place_at, reads_by, main_keeps, lowest_holds}
+use Rattle.pli_headline.proofs.MainGround.{Frame, Stands, ground_of, main_temporaries, contents, main_writes, place_at, reads_by, main_keeps, lowest_holds, main_keeps_bytes, stands_same}
 use Rattle.pli_headline.proofs.MainTexts.{text_writes}
 use Rattle.pli_headline.proofs.TextScopes.{IsTextAt}
 use Rattle.pli_headline.proofs.TextGrounds.{TextsStand}
 use Rattle.pli_headline.proofs.Entered.{lone}
-use Rattle.pli_headline.proofs.Statements.{Stack, Block}
+use Rattle.pli_headline.proofs.Statements.{Stack, Block, SameValues}
 use Rattle.pli_typing.specs.Signatures.{Bounds, element_count}
 use Rattle.pli_headline.proofs.ArrayScopes.{IsArrayAt, ArraysOn}
 use Rattle.pli_headline.proofs.ArrayGrounds.{array_in, main_array}
@@ -65,14 +67,14 @@ text_stands types n m p j varying most at o =
     subst (There m p) (content_text varying most (n.numbers j) (n.texts j))
     (subst (λ u. There m p (content_for u (n.numbers j) (n.texts j) (n.arrays j))) (kind_is types j at) o)
 
-abbrev main_texts : (f : Frame) (first : List ℕ) (e : Environment) (block : ℕ) (types : Types) → ((j : ℕ) (kind : Kind) → slice_get types j ≡ Some kind → j < f.count) → ((j : ℕ) → j < f.count → data_place e block j ≡ number_place f.sizes j) → VariablesFit f types → TextsStand e block types f.at (f.at + 144 + room_of f.sizes f.count) (λ n. ground_of f first (contents (kind_at types) n))
+abbrev main_texts : (f : Frame) (first : List ℕ) (e : Environment) (block : Names) (types : Types) → ((j : ℕ) (kind : Kind) → slice_get types j ≡ Some kind → j < f.count) → ((j : ℕ) → j < f.count → data_place e block j ≡ number_place f.sizes j) → VariablesFit f types → TextsStand e block types (λ j. f.at) (f.at + 144 + room_of f.sizes f.count) (λ n. ground_of f first (contents (kind_at types) n))
 main_texts f first e block types inside placed texts =
     let above = f.above_statics in
     let within = f.inside in
     let kind = kind_at types in
     record {
       room = record {
-        high = omega (arith, above);
+        high = λ j varying most at. omega (arith, above);
         short = texts.short;
         inside = λ j varying most at. let h = inside j (alone (text_leaf varying most)) at in let e' = placed j h in let r = room_next f.sizes j f.count h in let s = texts.room j varying most at in omega (arith, within, e', r, s);
       };
@@ -86,7 +88,7 @@ main_texts f first e block types inside placed texts =
           subst T (sym (placed j h)) (text_writes f first kind n j varying most text h (kind_is types j at) (texts.short j varying most at) t b m len o);
     }
 
-abbrev main_stack : (f : Frame) (first : List ℕ) (e : Environment) (block : ℕ) (types : Types) → ((j : ℕ) (kind : Kind) → slice_get types j ≡ Some kind → j < f.count) → ((j : ℕ) → j < f.count → data_place e block j ≡ number_place f.sizes j) → Stack e block types f.at (λ n. ground_of f first (contents (kind_at types) n))
+abbrev main_stack : (f : Frame) (first : List ℕ) (e : Environment) (block : Names) (types : Types) → ((j : ℕ) (kind : Kind) → slice_get types j ≡ Some kind → j < f.count) → ((j : ℕ) → j < f.count → data_place e block j ≡ number_place f.sizes j) → Stack e block types f.at (λ j. f.at) (λ n. ground_of f first (contents (kind_at types) n))
 main_stack f first e block types inside placed =
     let above = f.above_statics in
     let whole = f.whole in
@@ -100,10 +102,11 @@ main_stack f first e block types inside placed =
       above = omega arith;
       over = omega arith;
       keeps = λ n. main_keeps f first (contents (kind_at types) n);
+      keeps_bytes = λ n. main_keeps_bytes f first (contents (kind_at types) n);
       under = λ j {type} below. let h = inside j (alone type) below in let e' = placed j h in let r = room_before f.sizes j f.count h in omega (arith, e', r);
     }
 
-abbrev main_arrays : (f : Frame) (first : List ℕ) (e : Environment) (block : ℕ) (types : Types) → ((j : ℕ) (kind : Kind) → slice_get types j ≡ Some kind → j < f.count) → HasTypes e block types → ((j : ℕ) → j < f.count → data_place e block j ≡ number_place f.sizes j) → VariablesFit f types → ArraysOn e block types f.at (f.at + 144 + room_of f.sizes f.count) (λ n. ground_of f first (contents (kind_at types) n))
+abbrev main_arrays : (f : Frame) (first : List ℕ) (e : Environment) (block : Names) (types : Types) → ((j : ℕ) (kind : Kind) → slice_get types j ≡ Some kind → j < f.count) → HasTypes e block types → ((j : ℕ) → j < f.count → data_place e block j ≡ number_place f.sizes j) → VariablesFit f types → ArraysOn e block types (λ j. f.at) (f.at + 144 + room_of f.sizes f.count) (λ n. ground_of f first (contents (kind_at types) n))
 main_arrays f first e block types inside declared placed fit j type b bs at =
     let kind : Kind = record { type = type; bounds = b ∷ bs } in
     let here = inside j kind at in
@@ -112,8 +115,26 @@ main_arrays f first e block types inside declared placed fit j type b bs at =
     (declared j kind at) (fit.bounds j type b bs at) (placed j here)
 
 -- the main procedure's block, where its variables stand one behind the other
-unfoldable pub main_block : (f : Frame) (first : List ℕ) (e : Environment) (block : ℕ) (types : Types) (known : ℕ → Y.Block → ℕ → Type 0) → e.level ≡ 0 → f.count ≡ length types → HasTypes e block types → ((j : ℕ) → j < f.count → data_place e block j ≡ number_place f.sizes j) → frame_end e.parts e.program e.block 0 ≡ 144 + room_of f.sizes f.count → VariablesFit f types → Block e block types
-main_block f first e block types known outermost count declared placed sized texts =
+-- each variable has the serial number behind its place
+abbrev pub main_serials : Serials
+main_serials = record { of = λ j. suc j; owner = λ j. 1 }
+
+pub contents_same : (types : Types) (n n' : Values) (j : ℕ) → SameValues types n n' → (kind : Kind) × (slice_get types j ≡ Some kind) → contents (kind_at types) n j ≡ contents (kind_at types) n' j
+contents_same types n n' j same at =
+    let o = same j at.0 at.1 in
+    let k = kind_at types j in
+    ap (λ z. content_for k z (n.texts j) (n.arrays j)) o.0 ∙ ap (λ text. content_for k (n'.numbers j) text (n.arrays j)) o.1.0 ∙ ap (λ a. content_for k (n'.numbers j) (n'.texts j) a) o.1.1
+
+pub either_same : (q : Bool) (x : ℕ) → cond q x x ≡ x
+either_same true x = refl
+either_same false x = refl
+
+pub own_reaches : (g : Ground) (level level' : ℕ) → level ≡ 0 → level' ≡ 0 → Reaches (level == level') level g g.frame
+own_reaches g level level' e e' =
+    subst (λ l. Reaches (l == level') l g g.frame) (sym e) (subst (λ m. Reaches (0 == m) 0 g g.frame) (sym e') refl)
+
+unfoldable pub main_block : (f : Frame) (first : List ℕ) (e : Environment) (block : Names) (types : Types) (known : ℕ → Y.Block → ℕ → Type 0) → block.program ≡ e.program → ((j : ℕ) → level_of block j ≡ 0) → e.level ≡ 0 → f.count ≡ length types → HasTypes e block types → ((j : ℕ) → j < f.count → data_place e block j ≡ number_place f.sizes j) → frame_end e.parts e.program e.block 0 ≡ 144 + room_of f.sizes f.count → VariablesFit f types → Block e block types
+main_block f first e block types known named outer outermost count declared placed sized texts =
     let inside : (j : ℕ) (kind : Kind) → slice_get types j ≡ Some kind → j < f.count = λ j kind h. let n = place_below types j kind h in omega (arith, n, count) in
     record {
       ground = λ n. ground_of f first (contents (kind_at types) n);
@@ -125,8 +146,14 @@ main_block f first e block types known outermost count declared placed sized tex
       words_are = λ n. refl;
       same = λ n n' b h. refl;
       temps = λ n. main_temporaries f first (contents (kind_at types) n);
+      alike = λ n n' same t b m o. stands_same f first (contents (kind_at types) n) (contents (kind_at types) n') t b m (λ j below. contents_same types n n' j same (place_taken types j (omega (arith, below, count)))) o;
       declared = λ j {type} below. declared j (alone type) below;
-      reach = λ n. subst (λ l. Reaches (0 == l) (ground_of f first (contents (kind_at types) n)) f.at) (sym outermost) refl;
+      reach = λ n. subst (λ l. Reaches (0 == l) 0 (ground_of f first (contents (kind_at types) n)) f.at) (sym outermost) refl;
+      named = named;
+      lower = λ j at. let o = outer j in omega (arith, o);
+      bases = λ j. f.at;
+      reaches = λ n j at. own_reaches (ground_of f first (contents (kind_at types) n)) (level_of block j) e.level (outer j) outermost;
+      inside = λ j at. let i = f.inside in omega (arith, i);
       places = λ j {type} below. place_at f j (data_place e block j) (inside j (alone type) below) (placed j (inside j (alone type) below));
       reads = λ n j {type} below fits t b m o. ap (λ u. extended (load_kind type) (load (load_width (load_kind type)) m (f.at + u))) (placed j (inside j (alone type) below)) ∙ reads_by f first (kind_at types) n j type (inside j (alone type) below) (kind_is types j below) fits t b m o;
       writes = λ n j z {type} below old fits t b m len o.
@@ -135,6 +162,7 @@ main_block f first e block types known outermost count declared placed sized tex
           subst T (sym (placed j here)) (main_writes f first (kind_at types) n j type z here (kind_is types j below) old fits t b m len o);
       held = refl;
       frames = lone f.at known;
+      serials = main_serials;
       bottom = record {
         holds = lowest_holds f;
         aligned = f.whole;
@@ -145,6 +173,8 @@ main_block f first e block types known outermost count declared placed sized tex
       };
       depths = [];
       shallow = λ q. refl;
+      owners = λ j at. omega arith;
+      first_owner = λ j at low. omega arith;
       stack = main_stack f first e block types inside placed;
       alone = λ q. refl;
       lead = [];
@@ -156,8 +186,10 @@ main_block f first e block types known outermost count declared placed sized tex
       level_room = λ j below. absurd (omega (arith, outermost, below));
       outermost_level = λ q. refl;
       displays = λ n t b m j below o. absurd (omega (arith, outermost, below));
+      leveled = λ j at. either_same (level_of block j == e.level) f.at;
       texts = main_texts f first e block types inside placed texts;
       arrays = main_arrays f first e block types inside declared placed texts;
       outer = [];
       enclosing = tt;
+      beneath = tt;
     }

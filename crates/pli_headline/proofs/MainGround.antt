@@ -10,13 +10,15 @@ use Rattle.rv_meaning.specs.Memory.{load, store}
 use Rattle.rv_meaning.specs.Machine.{memory_size, load_width, extended, store_width}
 use Rattle.rv_meaning.proofs.MemoryLaws.{byte-store_below, load-store_same, load-store_other}
 use Rattle.pli_typing.specs.TypedTree as Y
+use Rattle.pli_serving.specs.Bytes.{with_bytes}
+use Rattle.pli_headline.proofs.WrittenBytes.{load-with_other, byte-with_below}
 use Rattle.pli_headline.specs.ProvedSoFar.{Kind, alone}
 use Rattle.pli_headline.proofs.Engine.{Base, address}
 use Rattle.pli_headline.proofs.Numbers.{above_sum, above_small, word_small}
 use Rattle.pli_headline.proofs.Scalars.{Fits, fits_wide, load_kind, store_kind, Values}
 use Rattle.pli_headline.proofs.VariablePlaces.{Sizes, room_of, number_place, room_before, room_next, room_even, apart_places}
 use Rattle.pli_headline.proofs.Cells.{Cell, kept_by, content, content_word, cell_stored, cell_found}
-use Rattle.pli_headline.proofs.Holdings.{Content, Counted, There, size_in, there_other, content_numeric, content_for, sizes_same}
+use Rattle.pli_headline.proofs.Holdings.{Content, Counted, There, size_in, there_other, content_numeric, content_for, sizes_same, there_below}
 use Rattle.pli_headline.proofs.Bodies.{Ground, PlaceFrom}
 use Rattle.pli_headline.proofs.Temporaries.{Temporaries}
 use Rattle.pli_headline.proofs.States.{with_number_at}
@@ -136,6 +138,19 @@ main_writes f first kind held j type z below is old fits t b m len o =
       temporaries = λ i h. load-store_other n 4 m p (word z) (f.at - 4 * suc i) (inl (omega (arith, above, h))) ∙ o.temporaries i h;
     }
 
+-- what variables hold may be said otherwise
+pub stands_same : (f : Frame) (first : List ℕ) (held held' : ℕ → Content) (t : ℕ → ℕ) (b : Base) (m : List ℕ) → ((j : ℕ) → j < f.count → held j ≡ held' j) → Stands f first held t b m → Stands f first held' t b m
+stands_same f first held held' t b m same o =
+    record {
+      statics = o.statics;
+      resumes = o.resumes;
+      below = o.below;
+      own = o.own;
+      variables = λ j h. subst (There m (f.at + number_place f.sizes j)) (same j h) (o.variables j h);
+      fits = λ j h. subst (λ c. 16 + size_in c ≤ f.sizes.of j) (same j h) (o.fits j h);
+      temporaries = o.temporaries;
+    }
+
 -- without variables there is nothing to hold
 pub no_contents : (f : Frame) (first : List ℕ) (held others : ℕ → Content) (t : ℕ → ℕ) (b : Base) (m : List ℕ) → f.count ≡ 0 → Stands f first held t b m → Stands f first others t b m
 no_contents f first held others t b m none o =
@@ -172,15 +187,28 @@ reads_by f first kind held j type below e fits t b m o =
     cell_found type (held.numbers j) m (f.at + number_place f.sizes j) fits (subst (Cell m (f.at + number_place f.sizes j)) (content_word type (held.numbers j) (fits_wide type (held.numbers j) fits)) found)
 
 -- what lies above the frame may change
-pub main_keeps : (f : Frame) (first : List ℕ) (held : ℕ → Content) (t : ℕ → ℕ) (b : Base) (m : List ℕ) (p x : ℕ) → f.at + 144 + room_of f.sizes f.count ≤ p → Stands f first held t b m → Stands f first held t b (store 4 m p x)
-main_keeps f first held t b m p x over o =
+pub main_keeps : (f : Frame) (first : List ℕ) (held : ℕ → Content) (t : ℕ → ℕ) (b : Base) (m : List ℕ) (w p x : ℕ) → f.at + 144 + room_of f.sizes f.count ≤ p → Stands f first held t b m → Stands f first held t b (store w m p x)
+main_keeps f first held t b m w p x over o =
     let above = f.above_statics in
     record {
-      statics = λ k h. byte-store_below 4 m p x k (omega (arith, above, over, h)) ∙ o.statics k h;
-      resumes = load-store_other 4 4 m p x f.at (inl (omega (arith, over))) ∙ o.resumes;
-      below = load-store_other 4 4 m p x (f.at + 4) (inl (omega (arith, over))) ∙ o.below;
-      own = load-store_other 4 4 m p x (f.at + 36) (inl (omega (arith, over))) ∙ o.own;
-      variables = λ j h. there_other 4 m p x (f.at + number_place f.sizes j) (held j) (inl (let r = room_next f.sizes j f.count h in let size = o.fits j h in omega (arith, over, r, size))) (o.variables j h);
+      statics = λ k h. byte-store_below w m p x k (omega (arith, above, over, h)) ∙ o.statics k h;
+      resumes = load-store_other w 4 m p x f.at (inl (omega (arith, over))) ∙ o.resumes;
+      below = load-store_other w 4 m p x (f.at + 4) (inl (omega (arith, over))) ∙ o.below;
+      own = load-store_other w 4 m p x (f.at + 36) (inl (omega (arith, over))) ∙ o.own;
+      variables = λ j h. there_other w m p x (f.at + number_place f.sizes j) (held j) (inl (let r = room_next f.sizes j f.count h in let size = o.fits j h in omega (arith, over, r, size))) (o.variables j h);
       fits = o.fits;
-      temporaries = λ j h. load-store_other 4 4 m p x (f.at - 4 * suc j) (inl (omega (arith, over))) ∙ o.temporaries j h;
+      temporaries = λ j h. load-store_other w 4 m p x (f.at - 4 * suc j) (inl (omega (arith, over))) ∙ o.temporaries j h;
+    }
+
+pub main_keeps_bytes : (f : Frame) (first : List ℕ) (held : ℕ → Content) (t : ℕ → ℕ) (b : Base) (m bytes : List ℕ) (p : ℕ) → f.at + 144 + room_of f.sizes f.count ≤ p → p + length bytes ≤ length m → Stands f first held t b m → Stands f first held t b (with_bytes bytes p m)
+main_keeps_bytes f first held t b m bytes p over room o =
+    let above = f.above_statics in
+    record {
+      statics = λ k h. byte-with_below bytes m p k room (omega (arith, above, over, h)) ∙ o.statics k h;
+      resumes = load-with_other 4 bytes m p f.at room (inl (omega (arith, over))) ∙ o.resumes;
+      below = load-with_other 4 bytes m p (f.at + 4) room (inl (omega (arith, over))) ∙ o.below;
+      own = load-with_other 4 bytes m p (f.at + 36) room (inl (omega (arith, over))) ∙ o.own;
+      variables = λ j h. there_below bytes m p (f.at + number_place f.sizes j) (held j) room (let r = room_next f.sizes j f.count h in let size = o.fits j h in omega (arith, over, r, size)) (o.variables j h);
+      fits = o.fits;
+      temporaries = λ j h. load-with_other 4 bytes m p (f.at - 4 * suc j) room (inl (omega (arith, over))) ∙ o.temporaries j h;
     }

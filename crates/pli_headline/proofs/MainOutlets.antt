@@ -16,7 +16,7 @@ use Rattle.pli_coding.specs.Assembly.{LabelPlace}
 use Rattle.pli_coding.specs.Frames.{frame_end}
 use Rattle.pli_coding.specs.Environments.{Owner, BlockOwner, Environment, in_frame, owned_by}
 use Rattle.pli_coding.specs.Linking.{Links, place_of}
-use Rattle.pli_headline.specs.ProvedSoFar.{Types, OuterBlock}
+use Rattle.pli_headline.specs.ProvedSoFar.{Types, OuterBlock, Names}
 use Rattle.pli_headline.proofs.Engine.{Base}
 use Rattle.pli_headline.proofs.Items.{At}
 use Rattle.pli_headline.proofs.Bodies.{Ground, Known}
@@ -30,6 +30,7 @@ use Rattle.pli_headline.proofs.InnerFrames.{level_first, inner_above}
 use Rattle.pli_headline.proofs.CalledFrames.{Callee, called_ground}
 use Rattle.pli_headline.proofs.Begins.{ended_jump}
 use Rattle.pli_headline.proofs.Reach.{Family, Aims, Closed}
+use Rattle.pli_headline.proofs.Storages.{Serials, storage}
 
 -- ---- the way there
 
@@ -69,7 +70,7 @@ main_of block mains = record { level = 0; number = block; labels = mains }
 pub level_later : (level outer : ℕ) → outer < level → (0 == level) ≡ false
 level_later level outer below = grind (arith, nat_tests)
 
-abbrev pub own_main : {e : Environment} {block : ℕ} {types : Types} (bl : Block e block types) (callee : Callee bl) (back : Base → ℕ) (h0 t0 : ℕ → ℕ) (owner : Owner) (head : Y.BlockHead) → head.level ≡ 1 → (place : ℕ) (mains : List Label) → (e.level ≡ 0) → (e.block ≡ place) → Enclosing (owned_by owner (in_frame head.number head.level e)) (main_of place mains) (called_ground bl callee back h0 t0) (λ j. bl.base) (callee.at ∷ bl.frames.list) (head.level ∷ e.level ∷ bl.depths)
+abbrev pub own_main : {e : Environment} {block : Names} {types : Types} (bl : Block e block types) (callee : Callee bl) (back : Base → ℕ) (h0 t0 : ℕ → ℕ) (owner : Owner) (head : Y.BlockHead) → head.level ≡ 1 → (place : ℕ) (mains : List Label) → (e.level ≡ 0) → (e.block ≡ place) → Enclosing (owned_by owner (in_frame head.number head.level e)) (main_of place mains) (called_ground bl callee back h0 t0) (λ j. bl.base) (callee.at ∷ bl.frames.list) (head.level ∷ e.level ∷ bl.depths)
 own_main {e} bl callee back h0 t0 owner head next place mains lowest same =
     let above = inner_above callee.at bl.stack.free callee.words callee.place in
     let over = bl.stack.above in
@@ -82,7 +83,7 @@ own_main {e} bl callee back h0 t0 owner head next place mains lowest same =
       free_is = bl.stack.free_is;
       above = bl.stack.above;
       ends = bl.ends;
-      sized = λ first. subst (λ n. bl.stack.frame + frame_end e.parts e.program place n ≡ bl.stack.free) lowest (subst (λ m. bl.stack.frame + frame_end e.parts e.program m e.level ≡ bl.stack.free) same (bl.sized (inl lowest)));
+      sized = λ first. subst (λ n. bl.stack.frame + frame_end e.parts e.program place n ≡ bl.stack.free) lowest (subst (λ m. bl.stack.frame + frame_end e.parts e.program m e.level ≡ bl.stack.free) same (bl.sized lowest));
       kept = λ n t b m o. o.kept.0;
       own = bl.own;
       deeper = omega (arith, next);
@@ -94,7 +95,7 @@ own_main {e} bl callee back h0 t0 owner head next place mains lowest same =
       rises = ((omega (arith, above, over), inr (refl, bl.shallow (level_first e.level lowest))), (bl.leads, ap (λ l. l ∷ bl.depths) lowest));
     }
 
-abbrev pub outer_main : {e : Environment} {block : ℕ} {types : Types} (bl : Block e block types) (callee : Callee bl) (back : Base → ℕ) (h0 t0 : ℕ → ℕ) (owner : Owner) (head : Y.BlockHead) → head.level ≡ 1 → (place : ℕ) (mains : List Label) (o : OuterBlock) (c : Enclosing e o bl.ground bl.levels bl.frames.list (e.level ∷ bl.depths)) → o.level ≡ 0 → o.number ≡ place → Enclosing (owned_by owner (in_frame head.number head.level e)) (main_of place mains) (called_ground bl callee back h0 t0) (λ j. bl.base) (callee.at ∷ bl.frames.list) (head.level ∷ e.level ∷ bl.depths)
+abbrev pub outer_main : {e : Environment} {block : Names} {types : Types} (bl : Block e block types) (callee : Callee bl) (back : Base → ℕ) (h0 t0 : ℕ → ℕ) (owner : Owner) (head : Y.BlockHead) → head.level ≡ 1 → (place : ℕ) (mains : List Label) (o : OuterBlock) (c : Enclosing e o bl.ground bl.levels bl.frames.list (e.level ∷ bl.depths)) → o.level ≡ 0 → o.number ≡ place → Enclosing (owned_by owner (in_frame head.number head.level e)) (main_of place mains) (called_ground bl callee back h0 t0) (λ j. bl.base) (callee.at ∷ bl.frames.list) (head.level ∷ e.level ∷ bl.depths)
 outer_main {e} bl callee back h0 t0 owner head next place mains o c lowest same =
     let above = inner_above callee.at bl.stack.free callee.words callee.place in
     let over = bl.stack.above in
@@ -120,14 +121,14 @@ outer_main {e} bl callee back h0 t0 owner head next place mains o c lowest same 
       rises = ((omega (arith, above, over, high), inr (refl, c.lowest lowest)), subst (λ n. Rises (suc c.count) c.frame n bl.frames.list (e.level ∷ bl.depths) c.behind c.depths) lowest c.rises);
     }
 
-abbrev pub main_among : {e : Environment} {block : ℕ} {types : Types} (bl : Block e block types) (callee : Callee bl) (back : Base → ℕ) (h0 t0 : ℕ → ℕ) (owner : Owner) (head : Y.BlockHead) → head.level ≡ 1 → (place : ℕ) (mains : List Label) (os : List OuterBlock) → Enclosures e bl.ground bl.levels bl.frames.list (e.level ∷ bl.depths) os → MainAround place mains os → Enclosing (owned_by owner (in_frame head.number head.level e)) (main_of place mains) (called_ground bl callee back h0 t0) (λ j. bl.base) (callee.at ∷ bl.frames.list) (head.level ∷ e.level ∷ bl.depths)
+abbrev pub main_among : {e : Environment} {block : Names} {types : Types} (bl : Block e block types) (callee : Callee bl) (back : Base → ℕ) (h0 t0 : ℕ → ℕ) (owner : Owner) (head : Y.BlockHead) → head.level ≡ 1 → (place : ℕ) (mains : List Label) (os : List OuterBlock) → Enclosures e bl.ground bl.levels bl.frames.list (e.level ∷ bl.depths) os → MainAround place mains os → Enclosing (owned_by owner (in_frame head.number head.level e)) (main_of place mains) (called_ground bl callee back h0 t0) (λ j. bl.base) (callee.at ∷ bl.frames.list) (head.level ∷ e.level ∷ bl.depths)
 main_among bl callee back h0 t0 owner head next place mains [] cs has = absurd has
 main_among bl callee back h0 t0 owner head next place mains (o ∷ os) cs (inl h) =
     outer_main bl callee back h0 t0 owner head next place mains o cs.0 h.0 h.1.0
 main_among bl callee back h0 t0 owner head next place mains (o ∷ os) cs (inr h) =
     main_among bl callee back h0 t0 owner head next place mains os cs.1 h
 
-abbrev pub main_enclosing : {e : Environment} {block : ℕ} {types : Types} (bl : Block e block types) (callee : Callee bl) (back : Base → ℕ) (h0 t0 : ℕ → ℕ) (owner : Owner) (head : Y.BlockHead) → head.level ≡ 1 → (place : ℕ) (mains : List Label) → HasMain place mains e.level e.block bl.labels bl.outer → Enclosing (owned_by owner (in_frame head.number head.level e)) (main_of place mains) (called_ground bl callee back h0 t0) (λ j. bl.base) (callee.at ∷ bl.frames.list) (head.level ∷ e.level ∷ bl.depths)
+abbrev pub main_enclosing : {e : Environment} {block : Names} {types : Types} (bl : Block e block types) (callee : Callee bl) (back : Base → ℕ) (h0 t0 : ℕ → ℕ) (owner : Owner) (head : Y.BlockHead) → head.level ≡ 1 → (place : ℕ) (mains : List Label) → HasMain place mains e.level e.block bl.labels bl.outer → Enclosing (owned_by owner (in_frame head.number head.level e)) (main_of place mains) (called_ground bl callee back h0 t0) (λ j. bl.base) (callee.at ∷ bl.frames.list) (head.level ∷ e.level ∷ bl.depths)
 main_enclosing bl callee back h0 t0 owner head next place mains (inl h) =
     own_main bl callee back h0 t0 owner head next place mains h.0 h.1.0
 main_enclosing bl callee back h0 t0 owner head next place mains (inr h) =
@@ -135,7 +136,7 @@ main_enclosing bl callee back h0 t0 owner head next place mains (inr h) =
 
 -- ---- its labels
 
-own_main_outlet : {e : Environment} {block : ℕ} {types : Types} (bl : Block e block types) (callee : Callee bl) (back : Base → ℕ) (h0 : ℕ → ℕ) (owner : Owner) (kind : S.BlockKind) (head : Y.BlockHead) (next : head.level ≡ 1) (place : ℕ) (mains : List Label) (lowest : e.level ≡ 0) (same : e.block ≡ place) {links : Links} {k turns i : ℕ} {h : ℕ → ℕ} (t : ℕ → ℕ) {acts acts' : ℕ} {jumped : ℕ → Family → Services → ℕ → Label → State → Type 0} {returned : ℕ → Family → Services → Option BasicValue → State → Type 0} → Enough bl links k turns i h t acts jumped returned → (label : Label) → is_among label bl.labels ≡ true → IsMarkedOnce links place label → acts ≤ acts' → OutletOf (atop callee.at kind bl.frames) (own_main bl callee back h0 t owner head next place mains lowest same) block types links k acts' (ended_jump jumped) label
+own_main_outlet : {e : Environment} {block : Names} {types : Types} (bl : Block e block types) (callee : Callee bl) (back : Base → ℕ) (h0 : ℕ → ℕ) (owner : Owner) (kind : S.BlockKind) (head : Y.BlockHead) (next : head.level ≡ 1) (place : ℕ) (mains : List Label) (lowest : e.level ≡ 0) (same : e.block ≡ place) {links : Links} {k turns i : ℕ} {h : ℕ → ℕ} (t : ℕ → ℕ) {acts acts' : ℕ} {jumped : ℕ → Family → Services → ℕ → Label → State → Type 0} {returned : ℕ → Family → Services → Option BasicValue → State → Type 0} → Enough bl links k turns i h t acts jumped returned → (label : Label) → is_among label bl.labels ≡ true → IsMarkedOnce links place label → acts ≤ acts' → OutletOf (atop callee.at kind bl.frames) (own_main bl callee back h0 t owner head next place mains lowest same) bl.serials block types links k acts' (ended_jump jumped) label
 own_main_outlet {e} {block} {types} bl callee back h0 owner kind head next place mains lowest same {links = links} {k = k} {h = h} t ready label among once less =
     let o = ready.jumps label among (subst (λ u. IsMarkedOnce links u label) (sym same) once) in
     record {
@@ -147,12 +148,12 @@ own_main_outlet {e} {block} {types} bl callee back h0 owner kind head next place
           let s1 = with_world s.world (newest_ended s) in
           o.lands s1 v line n h' t f serving
           (listed_of bl.frames (bl.stack.frame ∷ bl.lead) bl.leads
-          (subst (λ l. AllHold (frames_left 1 bl.stack.frame bl.lead (atop callee.at kind bl.frames)) v.activations (l ∷ bl.depths) s1 block types n) (sym lowest) all))
+          (subst (λ l. AllHold (frames_left 1 bl.stack.frame bl.lead (atop callee.at kind bl.frames)) bl.serials (storage v) (l ∷ bl.depths) s1 block types n) (sym lowest) all))
           (record { registers = λ r below. absurd (let held = bl.held in omega (arith, held, below)); words = λ j below. refl })
           (omega (arith, less, acted')) at';
     }
 
-outer_main_outlet : {e : Environment} {block : ℕ} {types : Types} (bl : Block e block types) (callee : Callee bl) (back : Base → ℕ) (h0 t : ℕ → ℕ) (owner : Owner) (kind : S.BlockKind) (head : Y.BlockHead) (next : head.level ≡ 1) (place : ℕ) (mains : List Label) (links : Links) (k acts acts' : ℕ) (jumped : ℕ → Family → Services → ℕ → Label → State → Type 0) (label : Label) → acts ≤ acts' → IsMarkedOnce links place label → is_among label mains ≡ true → (os : List OuterBlock) (cs : Enclosures e bl.ground bl.levels bl.frames.list (e.level ∷ bl.depths) os) (has : MainAround place mains os) → Outlets e bl.ground bl.levels bl.frames (e.level ∷ bl.depths) os cs block types links k acts jumped → OutletOf (atop callee.at kind bl.frames) (main_among bl callee back h0 t owner head next place mains os cs has) block types links k acts' (ended_jump jumped) label
+outer_main_outlet : {e : Environment} {block : Names} {types : Types} (bl : Block e block types) (callee : Callee bl) (back : Base → ℕ) (h0 t : ℕ → ℕ) (owner : Owner) (kind : S.BlockKind) (head : Y.BlockHead) (next : head.level ≡ 1) (place : ℕ) (mains : List Label) (links : Links) (k acts acts' : ℕ) (jumped : ℕ → Family → Services → ℕ → Label → State → Type 0) (label : Label) → acts ≤ acts' → IsMarkedOnce links place label → is_among label mains ≡ true → (os : List OuterBlock) (cs : Enclosures e bl.ground bl.levels bl.frames.list (e.level ∷ bl.depths) os) (has : MainAround place mains os) → Outlets e bl.ground bl.levels bl.frames (e.level ∷ bl.depths) os cs bl.serials block types links k acts jumped → OutletOf (atop callee.at kind bl.frames) (main_among bl callee back h0 t owner head next place mains os cs has) bl.serials block types links k acts' (ended_jump jumped) label
 outer_main_outlet bl callee back h0 t owner kind head next place mains links k acts acts' jumped label less once among [] cs has outs = absurd has
 outer_main_outlet {e} {block} {types} bl callee back h0 t owner kind head next place mains links k acts acts' jumped label less once among (o ∷ os) cs (inl h) outs =
     let c = cs.0 in
@@ -164,20 +165,20 @@ outer_main_outlet {e} {block} {types} bl callee back h0 t owner kind head next p
       later = p.later;
       lands = λ s v line n h' f serving all acted' at'.
           p.lands (with_world s.world (newest_ended s)) v line n h' f serving
-          (subst (λ l. AllHold (frames_left (suc c.count) c.frame c.behind bl.frames) v.activations (l ∷ c.depths) (ended_times (suc c.count) (with_world s.world (newest_ended s))) block types n) (sym h.0) all)
+          (subst (λ l. AllHold (frames_left (suc c.count) c.frame c.behind bl.frames) bl.serials (storage v) (l ∷ c.depths) (ended_times (suc c.count) (with_world s.world (newest_ended s))) block types n) (sym h.0) all)
           (omega (arith, less, acted')) at';
     }
 outer_main_outlet bl callee back h0 t owner kind head next place mains links k acts acts' jumped label less once among (o ∷ os) cs (inr h) outs =
     outer_main_outlet bl callee back h0 t owner kind head next place mains links k acts acts' jumped label less once among os cs.1 h outs.1
 
-pub main_outlet : {e : Environment} {block : ℕ} {types : Types} (bl : Block e block types) (callee : Callee bl) (back : Base → ℕ) (h0 : ℕ → ℕ) (owner : Owner) (kind : S.BlockKind) (head : Y.BlockHead) (next : head.level ≡ 1) (place : ℕ) (mains : List Label) (has : HasMain place mains e.level e.block bl.labels bl.outer) (links : Links) (k turns i : ℕ) (h t : ℕ → ℕ) (acts acts' : ℕ) (jumped : ℕ → Family → Services → ℕ → Label → State → Type 0) (returned : ℕ → Family → Services → Option BasicValue → State → Type 0) → Enough bl links k turns i h t acts jumped returned → (label : Label) → is_among label mains ≡ true → IsMarkedOnce links place label → acts ≤ acts' → OutletOf (atop callee.at kind bl.frames) (main_enclosing bl callee back h0 t owner head next place mains has) block types links k acts' (ended_jump jumped) label
+pub main_outlet : {e : Environment} {block : Names} {types : Types} (bl : Block e block types) (callee : Callee bl) (back : Base → ℕ) (h0 : ℕ → ℕ) (owner : Owner) (kind : S.BlockKind) (head : Y.BlockHead) (next : head.level ≡ 1) (place : ℕ) (mains : List Label) (has : HasMain place mains e.level e.block bl.labels bl.outer) (links : Links) (k turns i : ℕ) (h t : ℕ → ℕ) (acts acts' : ℕ) (jumped : ℕ → Family → Services → ℕ → Label → State → Type 0) (returned : ℕ → Family → Services → Option BasicValue → State → Type 0) → Enough bl links k turns i h t acts jumped returned → (label : Label) → is_among label mains ≡ true → IsMarkedOnce links place label → acts ≤ acts' → OutletOf (atop callee.at kind bl.frames) (main_enclosing bl callee back h0 t owner head next place mains has) bl.serials block types links k acts' (ended_jump jumped) label
 main_outlet bl callee back h0 owner kind head next place mains (inl m) links k turns i h t acts acts' jumped returned ready label among once less =
     own_main_outlet bl callee back h0 owner kind head next place mains m.0 m.1.0 t ready label (m.1.1 label among) once less
 main_outlet bl callee back h0 owner kind head next place mains (inr m) links k turns i h t acts acts' jumped returned ready label among once less =
     outer_main_outlet bl callee back h0 t owner kind head next place mains links k acts acts' jumped label less once among bl.outer bl.enclosing m ready.outs
 
 -- where it comes to pays back what the call or the raise owes
-pub owed_outlet : {code : List Instr} {aims : Aims (Unit {0})} (closed : Closed code aims) {e : Environment} {o : OuterBlock} {ground : Values → Ground} {shows : ℕ → ℕ} (frames : Frames) {levels : List ℕ} (c : Enclosing e o ground shows frames.list levels) {block : ℕ} {types : Types} {links : Links} {k acts : ℕ} (label : Label) → OutletOf frames c block types links k acts (ended_jump aims.jumped) label → OutletOf frames c block types links k acts (ended_jump (owing code (length code) aims).jumped) label
+pub owed_outlet : {code : List Instr} {aims : Aims (Unit {0})} (closed : Closed code aims) {e : Environment} {o : OuterBlock} {ground : Values → Ground} {shows : ℕ → ℕ} (frames : Frames) {levels : List ℕ} (c : Enclosing e o ground shows frames.list levels) {serials : Serials} {block : Names} {types : Types} {links : Links} {k acts : ℕ} (label : Label) → OutletOf frames c serials block types links k acts (ended_jump aims.jumped) label → OutletOf frames c serials block types links k acts (ended_jump (owing code (length code) aims).jumped) label
 owed_outlet {code} {aims} closed frames c label p =
     record {
       at = p.at;

@@ -20,13 +20,14 @@ use Rattle.pli_serving.specs.ServiceState.{Services, first_services}
 use Rattle.pli_coding.specs.Assembly.{ProcedureEntry, ReturnPlace, Mark, size_of}
 use Rattle.pli_coding.specs.SignatureTable.{table_of}
 use Rattle.pli_coding.specs.Frames.{frame_end}
+use Rattle.pli_headline.proofs.Storages.{storage}
 use Rattle.pli_coding.specs.Environments.{none_taken}
 use Rattle.pli_coding.specs.Allocating.{act_code}
 use Rattle.pli_coding.specs.Entries.{frame_begun, variables_code}
 use Rattle.pli_coding.specs.Statements.{stmts_code}
 use Rattle.pli_coding.specs.Procedures.{finish_code, procedure_ended, procedure_in}
 use Rattle.pli_coding.specs.Linking.{Links, place_of}
-use Rattle.pli_headline.specs.ProvedSoFar.{AllPlain, Types, types_of, text_leaf, alone, AreConstants, Kind}
+use Rattle.pli_headline.specs.ProvedSoFar.{AllPlain, Types, types_of, text_leaf, alone, AreConstants, Kind, main_names}
 use Rattle.pli_headline.proofs.Engine.{Base, address, most_code}
 use Rattle.pli_headline.proofs.Linking.{size_append}
 use Rattle.pli_headline.proofs.Items.{Linked, At}
@@ -42,7 +43,7 @@ use Rattle.pli_headline.proofs.Variables.{data_place}
 use Rattle.pli_headline.proofs.Gotos.{owner_number}
 use Rattle.pli_headline.proofs.Reach.{Family, Aims, Comes, Closed, before, before_closed, comes_on, onward, never, never_closed}
 use Rattle.pli_headline.proofs.MainGround.{ground_of, no_contents}
-use Rattle.pli_headline.proofs.MainBlock.{main_block, VariablesFit, text_few, types_fit}
+use Rattle.pli_headline.proofs.MainBlock.{main_block, VariablesFit, text_few, types_fit, main_serials}
 use Rattle.pli_headline.proofs.MainProcedure.{main_head, main_procedure, IsAlone, main_environment, main_words, main_plain, declared_at, main_sizes, main_place, statics_meant}
 use Rattle.pli_headline.proofs.Holdings.{Counted}
 use Rattle.pli_headline.proofs.TextStates.{KeepsText}
@@ -55,7 +56,7 @@ use Rattle.pli_headline.proofs.Marks.{Placed}
 use Rattle.pli_headline.proofs.FirstFrame.{start_resume, start_family, start_ground, no_texts, finish_linked, zeros, started}
 use Rattle.pli_headline.proofs.MainFrame.{main_frame, first_words}
 use Rattle.pli_headline.proofs.Prologue.{begun}
-use Rattle.pli_headline.proofs.MainStates.{begin_numbers, begin_values, begin_contents, main_state, scalars_hold, texts_hold, scalars_owned, main_services, main_nested, arrays_hold}
+use Rattle.pli_headline.proofs.MainStates.{begin_numbers, begin_values, begin_contents, main_state, scalars_hold, texts_hold, main_stored, main_services, main_nested, arrays_hold}
 use Rattle.pli_headline.proofs.VariablesMade.{variables_piece}
 use Rattle.pli_headline.proofs.Leaving.{leaving_piece}
 use Rattle.pli_headline.proofs.MainFlow.{inside, inside_closed, comes_left}
@@ -105,7 +106,7 @@ main_count program block = length (variables_of_block program block)
 abbrev pub main_room : Y.Program → (block : ℕ) → ℕ
 main_room program block = room_of (main_sizes program block) (main_count program block)
 
-pub main_data : (program : Y.Program) (block line : ℕ) (body : Y.Stmts) (j : ℕ) → AllPlain program.variables → IsAlone program block line body → j < main_count program block → main_room program block ≤ 2 ^ 20 → data_place (main_environment program block) block j ≡ number_place (main_sizes program block) j
+pub main_data : (program : Y.Program) (block line : ℕ) (body : Y.Stmts) (j : ℕ) → AllPlain program.variables → IsAlone program block line body → j < main_count program block → main_room program block ≤ 2 ^ 20 → data_place (main_environment program block) (main_names program block) j ≡ number_place (main_sizes program block) j
 main_data program block line body j all alone below few =
     let before' = room_before (main_sizes program block) j (main_count program block) below in
     let e = main_place program block line body j all alone (omega (arith, below)) (omega (arith, before', few)) in
@@ -122,9 +123,9 @@ main_fit program block body all small' few =
     types_fit (main_frame (main_words program block body) (main_sizes program block) (main_count program block) small' few) (main_types program block) (λ j. refl) few
     (λ j kind at. kind_held (variables_of_block program block) j kind (main_plain program block all) at)
 
-abbrev pub block_of : (known : ℕ → Y.Block → ℕ → Type 0) (program : Y.Program) (block line : ℕ) (body : Y.Stmts) (first : List ℕ) (all : AllPlain program.variables) (alone : IsAlone program block line body) (small' : main_words program block body ≤ most_code) (few : main_room program block ≤ 2 ^ 20) → Block (main_environment program block) block (main_types program block)
+abbrev pub block_of : (known : ℕ → Y.Block → ℕ → Type 0) (program : Y.Program) (block line : ℕ) (body : Y.Stmts) (first : List ℕ) (all : AllPlain program.variables) (alone : IsAlone program block line body) (small' : main_words program block body ≤ most_code) (few : main_room program block ≤ 2 ^ 20) → Block (main_environment program block) (main_names program block) (main_types program block)
 block_of known program block line body first all alone small' few =
-    main_block (main_frame (main_words program block body) (main_sizes program block) (main_count program block) small' few) first (main_environment program block) block (main_types program block) known refl (sym (length_types (variables_of_block program block)))
+    main_block (main_frame (main_words program block body) (main_sizes program block) (main_count program block) small' few) first (main_environment program block) (main_names program block) (main_types program block) known refl (λ j. refl) refl (sym (length_types (variables_of_block program block)))
     (λ j kind at. declared_at (variables_of_block program block) j (main_plain program block all) at)
     (λ j below. main_data program block line body j all alone below few)
     (main_sized program block line body all alone few) (main_fit program block body all small' few)
@@ -144,7 +145,7 @@ to_finish_closed : (code : List Instr) (k : ℕ) → Closed code (to_finish code
 to_finish_closed code k =
     before_closed k (λ (u : Option BasicValue). finish {R = Unit {0}} E.Finished) (never_closed code)
 
-statements_piece : {links : Links} {code : List Instr} {i : ℕ} {h t : ℕ → ℕ} (known : ℕ → Y.Block → ℕ → Type 0) (program : Y.Program) (block line : ℕ) (body : Y.Stmts) (first : List ℕ) (all : AllPlain program.variables) (alone : IsAlone program block line body) (small' : main_words program block body ≤ most_code) (few : main_room program block ≤ 2 ^ 20) (k : ℕ) → BodyDoes known program block line body first all alone small' links code k → 10 ≤ i → Linked links code i (stmts_code (main_environment program block) none_taken body ++ procedure_ended (main_environment program block) (main_head block line) (main_words program block body) None) → Linked links code start_resume finish_code → (s : State) → {v : Services} → (g : Family) → Serving k s v line → AllHold (lone (main_frame (main_words program block body) (main_sizes program block) (main_count program block) small' few).at known) v.activations (0 ∷ []) s block (main_types program block) (begin_values (main_kind program block)) → ((b : Base) → At b i (Known (ground_of (main_frame (main_words program block body) (main_sizes program block) (main_count program block) small' few) first (begin_contents (main_kind program block))) v h t nothing b) (g b)) → Comes code i g v (inside (to_finish code k) newest_ended) ((M.list (main_around program k line) body >> M.end_reached (main_around program k line) false) k s)
+statements_piece : {links : Links} {code : List Instr} {i : ℕ} {h t : ℕ → ℕ} (known : ℕ → Y.Block → ℕ → Type 0) (program : Y.Program) (block line : ℕ) (body : Y.Stmts) (first : List ℕ) (all : AllPlain program.variables) (alone : IsAlone program block line body) (small' : main_words program block body ≤ most_code) (few : main_room program block ≤ 2 ^ 20) (k : ℕ) → BodyDoes known program block line body first all alone small' links code k → 10 ≤ i → Linked links code i (stmts_code (main_environment program block) none_taken body ++ procedure_ended (main_environment program block) (main_head block line) (main_words program block body) None) → Linked links code start_resume finish_code → (s : State) → {v : Services} → (g : Family) → Serving k s v line → AllHold (lone (main_frame (main_words program block body) (main_sizes program block) (main_count program block) small' few).at known) main_serials (storage v) (0 ∷ []) s (main_names program block) (main_types program block) (begin_values (main_kind program block)) → ((b : Base) → At b i (Known (ground_of (main_frame (main_words program block body) (main_sizes program block) (main_count program block) small' few) first (begin_contents (main_kind program block))) v h t nothing b) (g b)) → Comes code i g v (inside (to_finish code k) newest_ended) ((M.list (main_around program k line) body >> M.end_reached (main_around program k line) false) k s)
 unfolding main_block M.end_reached give ◌>>◌
 statements_piece {links = links} {code = code} {i = i} {h = h} {t = t} known program block line body first all alone small' few k does' later l finish' s g serving holds at =
     let e = main_environment program block in
@@ -208,26 +209,26 @@ main_inside program block j kind at =
     let long = length_types (variables_of_block program block) in
     omega (arith, few, long)
 
-main_holds : (links : Links) (code : List Instr) (first : List ℕ) (program : Y.Program) (block : ℕ) (input : List ℕ) → AllPlain program.variables → AllReady links code first program block → (j : ℕ) (b : Typed (main_types program block) j) → IsNumeric b.0 → Holds (main_state (main_kind program block) input (main_count program block)) block j b.0 (begin_numbers (main_kind program block) j)
+main_holds : (links : Links) (code : List Instr) (first : List ℕ) (program : Y.Program) (block : ℕ) (input : List ℕ) → AllPlain program.variables → AllReady links code first program block → (j : ℕ) (b : Typed (main_types program block) j) → IsNumeric b.0 → Holds (main_state (main_kind program block) input (main_count program block)) (main_names program block) j (suc j) b.0 (begin_numbers (main_kind program block) j)
 main_holds links code first program block input all ready j b numeric =
     let kind = main_kind program block in
     let same = kind_is (main_types program block) j b.1 in
     let inside = main_inside program block j (alone b.0) b.1 in
     let held = kind_held (variables_of_block program block) j (alone b.0) (main_plain program block all) b.1 in
-    scalars_hold kind input block (main_count program block) j b.0 inside same (scalar_limited b.0 held numeric)
+    scalars_hold kind input program block (main_count program block) j b.0 inside same (scalar_limited b.0 held numeric)
     (subst (λ (k : Kind). AreConstants k.type (kind j).initial) same (ready j inside).begins)
 
-main_texts_hold : (links : Links) (code : List Instr) (first : List ℕ) (program : Y.Program) (block : ℕ) (input : List ℕ) → AllPlain program.variables → AllReady links code first program block → (j : ℕ) (varying : Bool) (most : ℕ) → IsTextAt (main_types program block) j varying most → KeepsText (main_state (main_kind program block) input (main_count program block)) block j varying most (begin_text (main_kind program block j).kind.type (main_kind program block j).initial)
+main_texts_hold : (links : Links) (code : List Instr) (first : List ℕ) (program : Y.Program) (block : ℕ) (input : List ℕ) → AllPlain program.variables → AllReady links code first program block → (j : ℕ) (varying : Bool) (most : ℕ) → IsTextAt (main_types program block) j varying most → KeepsText (main_state (main_kind program block) input (main_count program block)) (main_names program block) j (suc j) varying most (begin_text (main_kind program block j).kind.type (main_kind program block j).initial)
 main_texts_hold links code first program block input all ready j varying most at =
     let kind = main_kind program block in
     let type = text_leaf varying most in
     let same = kind_is (main_types program block) j at in
     let inside = main_inside program block j (alone type) at in
-    texts_hold kind input block (main_count program block) j varying most inside same
+    texts_hold kind input program block (main_count program block) j varying most inside same
     (text_few varying most (kind_held (variables_of_block program block) j (alone type) (main_plain program block all) at))
     (subst (λ (k : Kind). AreConstants k.type (kind j).initial) same (ready j inside).begins)
 
-main_arrays_hold : (links : Links) (code : List Instr) (first : List ℕ) (program : Y.Program) (block : ℕ) (input : List ℕ) → AllPlain program.variables → AllReady links code first program block → (j : ℕ) (type : Y.LeafType) (b : Bounds) (bs : List Bounds) → IsArrayAt (main_types program block) j type b bs → HoldsArray (main_state (main_kind program block) input (main_count program block)) block j type (b ∷ bs) (numbers_of (main_kind program block j).initial)
+main_arrays_hold : (links : Links) (code : List Instr) (first : List ℕ) (program : Y.Program) (block : ℕ) (input : List ℕ) → AllPlain program.variables → AllReady links code first program block → (j : ℕ) (type : Y.LeafType) (b : Bounds) (bs : List Bounds) → IsArrayAt (main_types program block) j type b bs → HoldsArray (main_state (main_kind program block) input (main_count program block)) (main_names program block) j (suc j) type (b ∷ bs) (numbers_of (main_kind program block j).initial)
 main_arrays_hold links code first program block input all ready j type b bs at =
     let kind = main_kind program block in
     let is : Kind = record { type = type; bounds = b ∷ bs } in
@@ -235,9 +236,9 @@ main_arrays_hold links code first program block input all ready j type b bs at =
     let inside = main_inside program block j is at in
     let held = kind_held (variables_of_block program block) j is (main_plain program block all) at in
     let begins = subst (λ (k : Kind). AreConstants k.type (kind j).initial) same (ready j inside).begins in
-    arrays_hold kind input block (main_count program block) j type (b ∷ bs) inside same held.0 begins
+    arrays_hold kind input program block (main_count program block) j type (b ∷ bs) inside same held.0 begins
 
-main_hold : (known : ℕ → Y.Block → ℕ → Type 0) (links : Links) (code : List Instr) (first : List ℕ) (program : Y.Program) (block : ℕ) (input : List ℕ) (frame at line : ℕ) → at ≡ frame → AllPlain program.variables → AllReady links code first program block → AllHold (lone frame known) (main_services (table_of program) (main_kind program block) input at line (main_count program block)).activations (0 ∷ []) (main_state (main_kind program block) input (main_count program block)) block (main_types program block) (begin_values (main_kind program block))
+main_hold : (known : ℕ → Y.Block → ℕ → Type 0) (links : Links) (code : List Instr) (first : List ℕ) (program : Y.Program) (block : ℕ) (input : List ℕ) (frame at line : ℕ) → at ≡ frame → AllPlain program.variables → AllReady links code first program block → AllHold (lone frame known) main_serials (storage (main_services (table_of program) (main_kind program block) input at line (main_count program block))) (0 ∷ []) (main_state (main_kind program block) input (main_count program block)) (main_names program block) (main_types program block) (begin_values (main_kind program block))
 main_hold known links code first program block input frame at line same all ready =
     record {
       numbers = λ j b numeric. main_holds links code first program block input all ready j b numeric;
@@ -247,7 +248,7 @@ main_hold known links code first program block input frame at line same all read
       framed = ap (λ u. u ∷ []) same;
       kinds = refl;
       units = (tt, tt);
-      owned = λ height above. scalars_owned (main_kind program block) (main_count program block) height above;
+      stored = main_stored program block (main_types program block) (main_kind program block) at (main_count program block) (λ j kind at'. main_inside program block j kind at') (λ j below. (ready j below).numbered);
     }
 
 -- behind the variables: the act of the entry, and the statements

@@ -1,6 +1,6 @@
 -- The state of the main procedure when so many of its variables are made, and the services beside it.
 use Rattle.std.proofs.Common.{◌≡◌, ℕ, zero, suc, ◌+◌, ◌*◌, ◌<◌, List, [], ◌∷◌, map, Some, None, Bool, true, false, refl, sym, ap, ◌∙◌, subst, arith, ◌≤◌, lit<}
-use Rattle.std.specs.Prelude.{ℤ, pos, cond, nat_le, ◌==◌, nat_lt, ◌-◌}
+use Rattle.std.specs.Prelude.{ℤ, pos, cond, nat_le, ◌==◌, nat_lt, ◌-◌, slice_get}
 use Rattle.std.proofs.lemmas.Bool.{eqb-true}
 use Rattle.std.proofs.lemmas.Bool.Decides.{nat_tests}
 use Rattle.rv_meaning.specs.Tables.{TableSignature}
@@ -17,7 +17,9 @@ use Rattle.pli_serving.specs.Templates.{template_of}
 use Rattle.pli_serving.specs.ServiceState as S
 use Rattle.pli_serving.specs.ServiceState.{Services}
 use Rattle.pli_serving.specs.Making as G
-use Rattle.pli_headline.specs.ProvedSoFar.{IsConstantOf, IsScalar, text_leaf, IsHeld, Kind, alone, IsElementType, AreConstants}
+use Rattle.pli_coding.specs.SignatureTable.{table_of}
+use Rattle.pli_headline.proofs.Storages.{Stored, Alike, owner_in}
+use Rattle.pli_headline.specs.ProvedSoFar.{IsConstantOf, IsScalar, text_leaf, IsHeld, Kind, alone, IsElementType, AreConstants, main_names, Types}
 use Rattle.pli_headline.proofs.Scalars.{Declared, IsNumeric, by_type, is_numeric, by_held, value_as, bit_back, constant_number, constant_text, begin_text, begin_of, begin_fits, IsLimited, Values, by_shape, element_numeric}
 use Rattle.pli_headline.proofs.VariablePlaces.{room_of, number_place, frame_size, sizes_of, text_print, scalar_size, size_for, many_is}
 use Rattle.pli_headline.proofs.Holdings.{Content}
@@ -29,7 +31,7 @@ use Rattle.pli_headline.proofs.TextPlaces.{text_kind_of}
 use Rattle.pli_headline.proofs.TextsKept.{kept_short}
 use Rattle.pli_headline.proofs.TextStates.{KeepsText}
 use Rattle.pli_headline.proofs.Activations.{Nested}
-use Rattle.pli_headline.proofs.States.{Holds, NoneOwned}
+use Rattle.pli_headline.proofs.States.{Holds}
 use Rattle.pli_headline.proofs.ArrayPlaces.{count_some}
 use Rattle.pli_headline.proofs.ArrayMeant.{array_shape, HoldsArray}
 use Rattle.pli_headline.proofs.ArraysMade.{size_by, array_room}
@@ -158,8 +160,8 @@ abbrev pub begin_contents : (kind : ℕ → Declared) → ℕ → Content
 begin_contents kind = contents (λ j. (kind j).kind) (begin_values kind)
 
 -- all variables hold what they begin with
-pub scalars_hold : (kind : ℕ → Declared) (input : List ℕ) (block count j : ℕ) (type : Y.LeafType) → j < count → (kind j).kind ≡ alone type → IsLimited type → AreConstants type (kind j).initial → Holds (main_state kind input count) block j type (begin_numbers kind j)
-scalars_hold kind input block count j type below alike is begins =
+pub scalars_hold : (kind : ℕ → Declared) (input : List ℕ) (program : Y.Program) (block count j : ℕ) (type : Y.LeafType) → j < count → (kind j).kind ≡ alone type → IsLimited type → AreConstants type (kind j).initial → Holds (main_state kind input count) (main_names program block) j (suc j) type (begin_numbers kind j)
+scalars_hold kind input program block count j type below alike is begins =
     let items = (kind j).initial in
     record {
       values = (fresh_scalar (record { kind = alone type; initial = items })).values;
@@ -170,8 +172,8 @@ scalars_hold kind input block count j type below alike is begins =
     }
 
 -- and the elements of arrays
-pub arrays_hold : (kind : ℕ → Declared) (input : List ℕ) (block count j : ℕ) (type : Y.LeafType) (bs : List Bounds) → j < count → (kind j).kind ≡ record { type = type; bounds = bs } → IsElementType type → AreConstants type (kind j).initial → HoldsArray (main_state kind input count) block j type bs (numbers_of (kind j).initial)
-arrays_hold kind input block count j type bs below alike is are =
+pub arrays_hold : (kind : ℕ → Declared) (input : List ℕ) (program : Y.Program) (block count j : ℕ) (type : Y.LeafType) (bs : List Bounds) → j < count → (kind j).kind ≡ record { type = type; bounds = bs } → IsElementType type → AreConstants type (kind j).initial → HoldsArray (main_state kind input count) (main_names program block) j (suc j) type bs (numbers_of (kind j).initial)
+arrays_hold kind input program block count j type bs below alike is are =
     let items = (kind j).initial in
     record {
       values = (begun_array type bs items).values;
@@ -191,12 +193,12 @@ text_short false most items few = kept_short false most (constant_text (K.initia
 text_short true most items few = kept_short true most (constant_text (K.initial_at items 0)) few
 
 -- blank, or empty where they vary, without a constant
-pub texts_hold : (kind : ℕ → Declared) (input : List ℕ) (block count j : ℕ) (varying : Bool) (most : ℕ) → j < count → (kind j).kind ≡ alone (text_leaf varying most) → most ≤ 1024 → AreConstants (text_leaf varying most) (kind j).initial → KeepsText (main_state kind input count) block j varying most (begin_text (kind j).kind.type (kind j).initial)
-texts_hold kind input block count j varying most below is few begins =
+pub texts_hold : (kind : ℕ → Declared) (input : List ℕ) (program : Y.Program) (block count j : ℕ) (varying : Bool) (most : ℕ) → j < count → (kind j).kind ≡ alone (text_leaf varying most) → most ≤ 1024 → AreConstants (text_leaf varying most) (kind j).initial → KeepsText (main_state kind input count) (main_names program block) j (suc j) varying most (begin_text (kind j).kind.type (kind j).initial)
+texts_hold kind input program block count j varying most below is few begins =
     let items = (kind j).initial in
     let type = text_leaf varying most in
     let fresh' : Kind → Generation = λ k. fresh_scalar (record { kind = k; initial = items }) in
-    subst (λ (k : Kind). KeepsText (main_state kind input count) block j varying most (begin_text k.type items)) (sym is) (record {
+    subst (λ (k : Kind). KeepsText (main_state kind input count) (main_names program block) j (suc j) varying most (begin_text k.type items)) (sym is) (record {
       values = (fresh' (alone type)).values;
       stands = scalars_stand kind count j below ∙ ap (λ k. Some (kind_binding k j (suc j))) is;
       lives = scalars_live kind count j below ∙ ap (λ k. Some (fresh' k)) is;
@@ -204,13 +206,14 @@ texts_hold kind input block count j varying most below is few begins =
       short = text_short varying most items few;
     })
 
-other_height : (height : ℕ) → 1 < height → (1 == height) ≡ false
-other_height height above = grind (arith, nat_tests)
+owned_by : (kind : ℕ → Declared) (q : Bool) (n j : ℕ) → (suc n == suc j) ≡ q → j < suc n → (j < n → owner_in (living_of (scalars_living kind n) (suc j)) ≡ Some 1) → owner_in (cond q (Some (record { serial = suc n; owner = 1; generation = fresh_scalar (kind n); placed = [] })) (living_of (scalars_living kind n) (suc j))) ≡ Some 1
+owned_by kind true n j e below ih = refl
+owned_by kind false n j e below ih = ih (grind (arith, nat_tests))
 
 -- all that lives is of the first height
-pub scalars_owned : (kind : ℕ → Declared) (count height : ℕ) → 1 < height → NoneOwned height (scalars_living kind count)
-scalars_owned kind zero height above = tt
-scalars_owned kind (suc j) height above = (other_height height above, scalars_owned kind j height above)
+scalars_owned : (kind : ℕ → Declared) (count j : ℕ) → j < count → owner_in (living_of (scalars_living kind count) (suc j)) ≡ Some 1
+scalars_owned kind zero j below = absurd (omega (arith, below))
+scalars_owned kind (suc n) j below = owned_by kind (suc n == suc j) n j refl below (scalars_owned kind n j)
 
 -- ---- in the services
 
@@ -250,7 +253,7 @@ many_shape_print : (type : Y.LeafType) → IsNumeric type → (bs : List Bounds)
 many_shape_print type is bs =
     by_type (λ t. G.footprint_of_shape (Some (array_shape t bs)) ≡ array_room bs) (λ p. ap (λ n. 16 + rounded_up 16 n) (size_by (nat_le p 15) (element_count bs))) (ap (λ n. 16 + rounded_up 16 n) (size_by false (element_count bs))) type is
 
-shape_print : (k : Kind) → IsHeld k.type k.bounds → G.footprint_of_shape (Some (kind_shape k)) ≡ frame_size k
+pub shape_print : (k : Kind) → IsHeld k.type k.bounds → G.footprint_of_shape (Some (kind_shape k)) ≡ frame_size k
 shape_print k is =
     by_shape (λ t bs. G.footprint_of_shape (Some (array_shape t bs)) ≡ size_for t bs) alone_shape_print
     (λ t b bs element are few. many_shape_print t (element_numeric t element) (b ∷ bs) ∙ sym (many_is (element_count (b ∷ bs)) (count_some (b ∷ bs) are)))
@@ -263,6 +266,33 @@ served_in_use table kind frame (suc j) are =
     let shape = ap G.footprint_of_shape (numbered_shape table (kind j).kind o) ∙ shape_print (kind j).kind o.held in
     let rest = served_in_use table kind frame j (λ i h. are i (omega (arith, h))) in
     omega (arith, shape, rest)
+
+main_alike : (table : List TableSignature) (kind : ℕ → Declared) (frame count : ℕ) → ((i : ℕ) → i < count → Numbered table (kind i).kind) → Alike (map template_of table) 1 (scalars_living kind count) (scalars_served table kind frame count)
+main_alike table kind frame zero are = tt
+main_alike table kind frame (suc j) are =
+    let o = are j (omega arith) in (
+      record {
+        owner = refl;
+        low = omega arith;
+        size = ap G.footprint_of_shape (numbered_shape table (kind j).kind o) ∙ shape_print (kind j).kind o.held ∙ sym (scalar_print (kind j) o.held);
+      },
+      main_alike table kind frame j (λ i h. are i (omega (arith, h))),
+    )
+
+serials_apart : (i j : ℕ) → (i == j) ≡ false → (suc j == suc i) ≡ false
+serials_apart i j e = grind (arith, nat_tests)
+
+-- what stands beside them
+pub main_stored : (program : Y.Program) (block : ℕ) (types : Types) (kind : ℕ → Declared) (frame count : ℕ) → ((j : ℕ) (k : Kind) → slice_get types j ≡ Some k → j < count) → ((i : ℕ) → i < count → Numbered (table_of program) (kind i).kind) → Stored (record { of = λ j. suc j; owner = λ j. 1 }) (map template_of (table_of program)) (scalars_served (table_of program) kind frame count) count 1 (scalars_living kind count) count (main_names program block) types
+main_stored program block types kind frame count inside are =
+    record {
+      owned = λ j at. scalars_owned kind count j (inside j _ at);
+      apart = λ i j at at' e. serials_apart i j e;
+      older = λ j at. let below = inside j _ at in omega (arith, below);
+      alike = main_alike (table_of program) kind frame count are;
+      counted = refl;
+      table = refl;
+    }
 
 pub main_nested : (table : List TableSignature) (kind : ℕ → Declared) (input : List ℕ) (frame line count : ℕ) → Nested (main_state kind input count).activations (main_services table kind input frame line count).activations
 main_nested table kind input frame line count =

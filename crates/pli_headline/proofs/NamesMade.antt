@@ -6,6 +6,7 @@ use Rattle.rv_meaning.specs.declared.instr.Instr.{Instr}
 use Rattle.rv_meaning.specs.declared.instr.Instr.TheVariants as I
 use Rattle.rv_meaning.specs.declared.instr.Register.{Register}
 use Rattle.rv_meaning.specs.Words.{word, sum}
+use Rattle.rv_meaning.specs.Memory.{load}
 use Rattle.pli_typing.specs.TypedTree as Y
 use Rattle.pli_language.specs.Tree as T
 use Rattle.pli_serving.specs.ServiceState.{Services}
@@ -144,10 +145,8 @@ start_piece {links = links} {g = g} {v = v} {h = h} {t = t} c f n name (Some d) 
       },
     ))
 
-pub variable_asked : {links : Links} {code : List Instr} {i : ℕ} (c : ℕ) (f : Frame) (first : List ℕ) (numbers : ℕ → Content) (v : Services) (h t : ℕ → ℕ) (g : Family) (size place n : ℕ) (start : Option Datum) → start_of links start < 2 ^ 32 → n < 2 ^ 24 → f.at + place + 32 ≤ 14 * 2 ^ 20 → Linked links code i (made_code size place n start) → ((b : Base) → At b i (Known (ground_of f first numbers) v h t nothing b) (g b)) → Reach code c g v (asked_size place n start c) v (λ b w. At b (asked_size place n start i) (Known (ground_of f first numbers) v h t (asked_regs (f.at + place) n (start_of links start) (f.at + (place + 16))) b) w)
-variable_asked {links} {code} {i} c f first numbers v h t g size place n start fits few room l at =
-    let ground = ground_of f first numbers in
-    let inside = f.inside in
+pub ground_asked : {links : Links} {code : List Instr} {i : ℕ} (c : ℕ) (ground : Ground) (own : PlaceOf ground (pos 36) (ground.frame + 36)) → ((t : ℕ → ℕ) (b : Base) (m : List ℕ) → ground.memory t b m → load 4 m (ground.frame + 36) ≡ ground.frame) → (v : Services) (h t : ℕ → ℕ) (g : Family) (size place n : ℕ) (start : Option Datum) → start_of links start < 2 ^ 32 → n < 2 ^ 24 → ground.frame + place + 32 ≤ 14 * 2 ^ 20 → Linked links code i (made_code size place n start) → ((b : Base) → At b i (Known (ground) v h t nothing b) (g b)) → Reach code c g v (asked_size place n start c) v (λ b w. At b (asked_size place n start i) (Known (ground) v h t (asked_regs (ground.frame + place) n (start_of links start) (ground.frame + (place + 16))) b) w)
+ground_asked {links} {code} {i} c ground own shown v h t g size place n start fits few room l at =
     let p0 = plus a0 a0 (pos place) in
     let p1 = number a1 n in
     let p2 = start_given start in
@@ -162,15 +161,15 @@ variable_asked {links} {code} {i} c f first numbers v h t g size place n start f
     let l6 = back_of p3 last l5 in
     let front = small a4 0 ∷ small a7 7 ∷ [] in
     let behind = Plain I.Ecall ∷ plus stack_register frame_register (pos (min last_place (place + size))) in
-    let r1 = load_piece c g a0 own_offset (f.at + 36) (λ b. f.at) (own_word f first numbers) (λ b m o. o.own)
+    let r1 = load_piece c g a0 own_offset (ground.frame + 36) (λ b. ground.frame) (own) (λ b m o. shown t b m o)
     (record { reserved_stay = λ y u. refl; known_stay = λ b y u o. o; set = λ y u. refl })
     (record { reserved_stay = λ y u. refl; known_stay = λ b y u o. o; set = λ y u. refl })
     (front_of (own_loaded a0) (p0 ++ (p1 ++ (p2 ++ (o3 ++ (p3 ++ last))))) l) at in
-    let r2 = plus_own (c + 1) (reached r1) a0 (pos place) (λ b. f.at) (λ b. f.at + place)
+    let r2 = plus_own (c + 1) (reached r1) a0 (pos place) (λ b. ground.frame) (λ b. ground.frame + place)
     (above_small place (omega (arith, room)))
-    (λ b. omega (arith, inside))
+    (λ b. omega (arith, room))
     (λ y u. refl)
-    (λ b. offset_sum f.at place (omega (arith, room)))
+    (λ b. offset_sum ground.frame place (omega (arith, room)))
     (record { reserved_stay = λ y u. refl; known_stay = λ b y u o. o; set = λ y u. refl })
     (record { reserved_stay = λ y u. refl; known_stay = λ b y u o. o; set = λ y u. refl })
     (front_of p0 (p1 ++ (p2 ++ (o3 ++ (p3 ++ last)))) l1) (reached_holds r1) in
@@ -179,31 +178,35 @@ variable_asked {links} {code} {i} c f first numbers v h t g size place n start f
     (record { reserved_stay = λ y u. refl; known_stay = λ b y u o. o; set = λ y u. refl })
     (front_of p1 (p2 ++ (o3 ++ (p3 ++ last))) l2) (reached_holds r2) in
     let n3 = n2 + size_of p1 in
-    let r4 = start_piece n3 (reached r3) n (f.at + place) start fits few (front_of p2 (o3 ++ (p3 ++ last)) l3) (reached_holds r3) in
+    let r4 = start_piece n3 (reached r3) n (ground.frame + place) start fits few (front_of p2 (o3 ++ (p3 ++ last)) l3) (reached_holds r3) in
     let n4 = n3 + size_of p2 in
-    let r5 = straight n4 (reached r4) v v (λ b w. Known ground v h t (λ b'. (13, f.at) ∷ given_regs n (f.at + place) (start_of links start) b') b w) (front_of o3 (p3 ++ last) l4) (omega arith) (λ b. (reached_holds r4 b).pc)
+    let r5 = straight n4 (reached r4) v v (λ b w. Known ground v h t (λ b'. (13, ground.frame) ∷ given_regs n (ground.frame + place) (start_of links start) b') b w) (front_of o3 (p3 ++ last) l4) (omega arith) (λ b. (reached_holds r4 b).pc)
     (λ b. let o = (reached_holds r4 b).holds in (
-      at_place b (own_word f first numbers) (sum ((reached r4 b).machine.registers 8) (word (pos 36))) (ap (λ u. sum u (word (pos 36))) (frame_is o.body)),
+      at_place b (own) (sum ((reached r4 b).machine.registers 8) (word (pos 36))) (ap (λ u. sum u (word (pos 36))) (frame_is o.body)),
       record {
         body = record { services = o.body.services; registers = o.body.registers; bytes = o.body.bytes; memory = o.body.memory };
-        regs = (o.body.memory.own, o.regs);
+        regs = (shown t b _ o.body.memory, o.regs);
       },
     )) in
-    let r6 = plus_own (n4 + 1) (reached r5) a3 (pos (place + name_bytes)) (λ b. f.at) (λ b. f.at + (place + 16))
+    let r6 = plus_own (n4 + 1) (reached r5) a3 (pos (place + name_bytes)) (λ b. ground.frame) (λ b. ground.frame + (place + 16))
     (above_small (place + name_bytes) (omega (arith, room)))
-    (λ b. omega (arith, inside))
+    (λ b. omega (arith, room))
     (λ y u. refl)
-    (λ b. offset_sum f.at (place + 16) (omega (arith, room)))
+    (λ b. offset_sum ground.frame (place + 16) (omega (arith, room)))
     (record { reserved_stay = λ y u. refl; known_stay = λ b y u o. o; set = λ y u. refl })
     (record { reserved_stay = λ y u. refl; known_stay = λ b y u o. o; set = λ y u. refl })
     (front_of p3 last l5) (reached_holds r5) in
     let n6 = n4 + 1 + size_of p3 in
-    let r7 = straight n6 (reached r6) v v (λ b w. Known ground v h t (asked_regs (f.at + place) n (start_of links start) (f.at + (place + 16))) b w) (front_of front behind l6) (omega arith) (λ b. (reached_holds r6 b).pc)
+    let r7 = straight n6 (reached r6) v v (λ b w. Known ground v h t (asked_regs (ground.frame + place) n (start_of links start) (ground.frame + (place + 16))) b w) (front_of front behind l6) (omega arith) (λ b. (reached_holds r6 b).pc)
     (λ b. let o = (reached_holds r6 b).holds in let z = zero_is o.body in record {
       body = record { services = o.body.services; registers = o.body.registers; bytes = o.body.bytes; memory = o.body.memory };
       regs = (small_is _ 7 z (lit< tt), (small_is _ 0 z (lit< tt), o.regs));
     }) in
     reach_then r1 (reach_then r2 (reach_then r3 (reach_then r4 (reach_then r5 (reach_then r6 r7)))))
+
+pub variable_asked : {links : Links} {code : List Instr} {i : ℕ} (c : ℕ) (f : Frame) (first : List ℕ) (numbers : ℕ → Content) (v : Services) (h t : ℕ → ℕ) (g : Family) (size place n : ℕ) (start : Option Datum) → start_of links start < 2 ^ 32 → n < 2 ^ 24 → f.at + place + 32 ≤ 14 * 2 ^ 20 → Linked links code i (made_code size place n start) → ((b : Base) → At b i (Known (ground_of f first numbers) v h t nothing b) (g b)) → Reach code c g v (asked_size place n start c) v (λ b w. At b (asked_size place n start i) (Known (ground_of f first numbers) v h t (asked_regs (f.at + place) n (start_of links start) (f.at + (place + 16))) b) w)
+variable_asked c f first numbers v h t g size place n start fits few room l at =
+    ground_asked c (ground_of f first numbers) (own_word f first numbers) (λ t' b m o. o.own) v h t g size place n start fits few room l at
 
 -- ---- the call and what stands behind it
 

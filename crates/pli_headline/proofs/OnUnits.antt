@@ -31,7 +31,7 @@ use Rattle.pli_coding.specs.Entries.{frame_begun, entered_without_texts}
 use Rattle.pli_coding.specs.Environments.{Environment, in_frame, owned_by, none_taken}
 use Rattle.pli_coding.specs.Statements.{condition_given, unit_variables, owner_of_unit, unit_words, unit_mark, unit_left, stmts_words, stmt_code, stmts_code}
 use Rattle.pli_coding.specs.Linking.{Links, upper_part, lower_part}
-use Rattle.pli_headline.specs.ProvedSoFar.{Types}
+use Rattle.pli_headline.specs.ProvedSoFar.{Types, Names}
 use Rattle.pli_headline.proofs.Engine.{Base, HasAt, address, call_at}
 use Rattle.pli_headline.proofs.Linking.{size_append}
 use Rattle.pli_headline.proofs.Items.{Linked, At, straight, parts_sum}
@@ -46,6 +46,7 @@ use Rattle.pli_headline.proofs.TextCalls.{three, asking_piece}
 use Rattle.pli_headline.proofs.Statements.{Block, AllHold, counted_all, Does}
 use Rattle.pli_headline.proofs.SystemUnits.{NewestKnown, changed_services, changed_serving, changed_all, newest_changed, established_is, number_small, condition_is, established_served, done_with, some_served}
 use Rattle.pli_headline.proofs.Reach.{Family, Reach, before_closed, comes_on, onward}
+use Rattle.pli_headline.proofs.Storages.{storage}
 
 -- ---- the offset of a place ahead comes into a register
 
@@ -111,7 +112,7 @@ not_zero i some = grind (arith, nat_tests)
 
 -- ---- the statement
 
-pub on_unit_does : {e : Environment} {block : ℕ} {types : Types} (bl : Block e block types) (links : Links) (code : List Instr) (around : Around) (c : Condition) (head : Y.BlockHead) (body : Y.Stmts) (line : ℕ) → (0 == e.level) ≡ true → c ≡ C.Area → line < 2 ^ 31 → ((i : ℕ) → 10 ≤ i → Linked links code i (unit_by e head body head.kind head.level) → bl.frames.known bl.base (Y.BlockOf head body) (4 * i)) → Does bl links code around.turns (stmt_code e bl.taken (Y.OnUnit c (Y.BlockOf head body) line)) (M.statement around (Y.OnUnit c (Y.BlockOf head body) line))
+pub on_unit_does : {e : Environment} {block : Names} {types : Types} (bl : Block e block types) (links : Links) (code : List Instr) (around : Around) (c : Condition) (head : Y.BlockHead) (body : Y.Stmts) (line : ℕ) → (0 == e.level) ≡ true → c ≡ C.Area → line < 2 ^ 31 → ((i : ℕ) → 10 ≤ i → Linked links code i (unit_by e head body head.kind head.level) → bl.frames.known bl.base (Y.BlockOf head body) (4 * i)) → Does bl links code around.turns (stmt_code e bl.taken (Y.OnUnit c (Y.BlockOf head body) line)) (M.statement around (Y.OnUnit c (Y.BlockOf head body) line))
 unfolding M.statement M.established_by stored ◌>>◌
 on_unit_does {e} {block} {types} bl links code around c head body line outermost area fits known =
     record {
@@ -144,7 +145,7 @@ on_unit_does {e} {block} {types} bl links code around c head body line outermost
           let s1 = with_world (counted s.world) s in
           let v1 = acted line v in
           let v2 = changed_services true w c v1 in
-          let all1 : AllHold bl.frames v1.activations (e.level ∷ bl.depths) s1 block types n = counted_all _ all in
+          let all1 : AllHold bl.frames bl.serials (storage v1) (e.level ∷ bl.depths) s1 block types n = counted_all _ all in
           let some = some_served e.level bl.depths s1.activations v1.activations serving1.nested all1.entered in
           let one = entered_length s1.activations (e.level ∷ bl.depths) all1.entered ∙ ap (λ (ds : List ℕ). suc (length ds)) (bl.shallow outermost) in
           let new = unit_known bl.frames.known u (4 * index) bl.base s1.activations v1.activations serving1.nested one (ap first_of_frames (all1.framed ∙ bl.leads) ∙ bl.alone outermost) (known index (omega (arith, later)) l5) in
@@ -163,7 +164,7 @@ on_unit_does {e} {block} {types} bl links code around c head body line outermost
           onward closed (ahead_piece (i1 + 2 + 1 + 2) f4 (size_of unit) (omega (arith, inside)) (record { reserved_stay = λ y r. refl; known_stay = λ b y r q. tt; set = λ y r. refl }) (front_of over unit l4)
           (λ b. record { pc = (at4 b).pc; holds = record { body = (at4 b).holds.body; regs = tt } }))
           (λ f5 at5.
-          let T : List Activation → Type 0 = λ as'. Serving k (with_world s1.world (with_activations as' s1)) v2 line × AllHold bl.frames v2.activations (e.level ∷ bl.depths) (with_world s1.world (with_activations as' s1)) block types n in
+          let T : List Activation → Type 0 = λ as'. Serving k (with_world s1.world (with_activations as' s1)) v2 line × AllHold bl.frames bl.serials (storage v2) (e.level ∷ bl.depths) (with_world s1.world (with_activations as' s1)) block types n in
           let both : T (newest_changed true (BlockUnit u) c s1.activations) = (changed_serving true (BlockUnit u) w c (record { meant = inr area; served = inr area }) serving1, changed_all true (BlockUnit u) w c new all1) in
           let o = subst T (established_is (BlockUnit u) c s1.activations) both in
           record {

@@ -30,7 +30,7 @@ least_by : (level l top : ℕ) (depths : List ℕ) → (l ≡ suc top) ⊎ ((lev
 least_by level l top depths (inl next) rest = omega (arith, next, rest)
 least_by level l top depths (inr h) rest = let lowest = h.0 in omega (arith, lowest)
 
-risen_least : (m frame level : ℕ) (frames levels behind depths : List ℕ) → Rises m frame level frames levels behind depths → level ≤ first_level levels
+pub risen_least : (m frame level : ℕ) (frames levels behind depths : List ℕ) → Rises m frame level frames levels behind depths → level ≤ first_level levels
 risen_least zero frame level frames levels behind depths rises =
     let same : first_level levels ≡ level = ap first_level rises.1 in
     omega (arith, same)

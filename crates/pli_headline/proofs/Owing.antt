@@ -6,7 +6,8 @@ use Rattle.pli_serving.specs.ServiceState.{Services}
 use Rattle.pli_meaning.specs.StorageState.{State}
 use Rattle.pli_meaning.specs.Control as F
 use Rattle.pli_meaning.specs.Control.{Flow, Normal, Jump, Return, Paused, Stuck}
-use Rattle.image_runs.specs.Runs.{Whole, Runs, run_on}
+use Rattle.image_runs.specs.Runs.{Whole, Runs}
+use Rattle.pli_headline.proofs.Unlimited.{run_on}
 use Rattle.pli_headline.proofs.Engine.{Base, at_base, run_on-add}
 use Rattle.pli_headline.proofs.Reach.{Family, cost, Reach, stay, reach_then, reached, reached_holds, Aims, Comes, Closed}
 

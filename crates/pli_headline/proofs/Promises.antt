@@ -14,7 +14,8 @@ use Rattle.pli_meaning.specs.Executing.{meaning, run}
 use Rattle.pli_meaning.specs.Laws.{StorageStays, StorageActsAllowed}
 use Rattle.rv_meaning.specs.Tables.{TableSignature}
 use Rattle.pli_meaning.specs.Pictures.{Picture, first_machine}
-use Rattle.image_runs.specs.Runs.{Whole, Run, Runs, Ended, Stopped, next, run_on, shown_by}
+use Rattle.image_runs.specs.Runs.{Whole, Run, Runs, Ended, Stopped, shown_by}
+use Rattle.pli_headline.proofs.Unlimited.{next, run_on, same_runs}
 use Rattle.pli_headline.specs.Headline.{Keeps, Headline}
 use Rattle.pli_headline.proofs.Engine.{Base, at_base, run_on-add, run_on-ended, run_on-stopped}
 use Rattle.pli_headline.proofs.Growing.{Grows, runs_grow}
@@ -341,10 +342,10 @@ promised laws image signatures program works base input bound valid fits =
     let r = result image signatures program input works b bound fits in
     record {
       world = r.0;
-      shows = r.1.shows;
+      shows = ap shown_by (sym (same_runs bound (at_base image.code b) (first_family image signatures input b) (omega (arith, fits)))) ∙ r.1.shows;
       keeps = keeps laws image signatures program input works b bound r.0 r.1;
       anywhere = λ other valid'.
           let c : Base = record { at = other; valid = valid' } in
           let q = result image signatures program input works c bound fits in
-          q.1.shows ∙ ap Some (sym (same_anywhere laws image signatures program input works b c bound r.0 q.0 r.1 q.1));
+          ap shown_by (sym (same_runs bound (at_base image.code c) (first_family image signatures input c) (omega (arith, fits)))) ∙ q.1.shows ∙ ap Some (sym (same_anywhere laws image signatures program input works b c bound r.0 q.0 r.1 q.1));
     }

@@ -1,6 +1,6 @@
 -- The statements that are proved so far: each list of them does what it means, where the constant bytes that its code names stand in
 -- memory.
-use Rattle.std.proofs.Common.{◌≡◌, ℕ, suc, ◌+◌, ◌-◌, ◌*◌, ◌^◌, ◌<◌, ◌≤◌, List, [], ◌++◌, None, Some, inl, inr, Bool, true, false, refl, sym, ap, ◌∙◌, subst, arith, append-nil, length}
+use Rattle.std.proofs.Common.{◌∷◌, ◌≡◌, ℕ, suc, ◌+◌, ◌-◌, ◌*◌, ◌^◌, ◌<◌, ◌≤◌, List, [], ◌++◌, None, Some, inl, inr, Bool, true, false, refl, sym, ap, ◌∙◌, subst, arith, append-nil, length}
 use Rattle.std.specs.Prelude.{max, ◌==◌}
 use Rattle.std.proofs.Math.Nat.{le-max_left, le-max_right}
 use Rattle.rv_meaning.specs.declared.instr.Instr.{Instr}
@@ -18,7 +18,9 @@ use Rattle.pli_coding.specs.Statements.{owner_of_unit, unit_environment, number_
 use Rattle.pli_coding.specs.Temporaries.{number_words, bit_words, reference_words, text_words}
 use Rattle.pli_coding.specs.Images.{place_of_head, place_of_unit, blocks_in, blocks_among}
 use Rattle.pli_coding.specs.Linking.{Links}
-use Rattle.pli_headline.specs.ProvedSoFar.{Types, OuterBlock, main_labels, main_outer, IsProvedStatement, AreProvedStatements, JumpsAround, AllJumpAround, IsBare, AreBare, is_number, CallsAmong, AllCallAmong}
+use Rattle.pli_headline.specs.ProvedSoFar.{Names, names_in, types_in, if_bare, Types, OuterBlock, main_labels, main_outer, IsProvedStatement, AreProvedStatements, JumpsAround, AllJumpAround, IsBare, AreBare, is_number, CallsAmong, AllCallAmong}
+use Rattle.pli_meaning.specs.DeclaredShapes.{variables_of_block}
+use Rattle.pli_headline.proofs.Variables.{AllOutermost}
 use Rattle.pli_headline.proofs.Statements.{owner_level, IsOwned, Standing, Block, Does, EachDoes, null_does, IsEndMarkedOnce}
 use Rattle.pli_headline.proofs.TextAssignments.{assign_text_does}
 use Rattle.pli_headline.proofs.Ifs.{if_does, if_else_does}
@@ -50,15 +52,16 @@ use Rattle.pli_headline.proofs.ElementAssignments.{assign_number_part_does, assi
 use Rattle.pli_headline.proofs.CountStarts.{counted_does}
 use Rattle.pli_coding.specs.Streams.{value_words}
 
-pub standing_within : {e : Environment} {block : ℕ} {types : Types} {bl : Block e block types} {links : Links} {code : List Instr} (labels : List Label) → Standing bl links code → Standing (within labels bl) links code
-standing_within labels s = record { raises = s.raises; constants = s.constants }
+pub standing_within : {e : Environment} {block : Names} {types : Types} {bl : Block e block types} {links : Links} {code : List Instr} (labels : List Label) → Standing bl links code → Standing (within labels bl) links code
+standing_within labels s = record { raises = s.raises; constants = s.constants; filled = s.filled }
 
 -- in a block inside it
-standing_inside : {e : Environment} {block : ℕ} {types : Types} {bl : Block e block types} {links : Links} {code : List Instr} (inner : Inner bl) (t0 : ℕ → ℕ) (number level : ℕ) (next : level ≡ suc e.level) (sized : frame_end e.parts e.program number level ≡ fixed_size (suc e.level) 0) → Standing bl links code → Standing (inner_block bl inner t0 number level next sized) links code
+standing_inside : {e : Environment} {block : Names} {types : Types} {bl : Block e block types} {links : Links} {code : List Instr} (inner : Inner bl) (t0 : ℕ → ℕ) (number level : ℕ) (next : level ≡ suc e.level) → frame_end e.parts e.program number level ≡ fixed_size (suc e.level) 0 → (s : Standing bl links code) → Standing (inner_block bl inner t0 number level next s.filled) links code
 standing_inside inner t0 number level next sized s =
     record {
       raises = s.raises;
       constants = λ n. record { stand = λ bytes placed t b m o. (s.constants n).stand bytes placed t0 b m o.kept };
+      filled = λ owned. ap (λ u. inner.at + u) sized;
     }
 
 inner_labels_stand : {e : Environment} {links : Links} {all : List (ℕ × Label)} {procedure : ℕ} {main : Bool} → LabelsStand e links all procedure main → (number level : ℕ) → level ≡ suc e.level → level ≤ 100 → IsAmong (record { number = number; level = level }) e.blocks → LabelsStand (in_frame number level e) links all procedure main
@@ -97,36 +100,38 @@ unit_labels_stand {e} head kind level named among =
 -- ---- calls
 
 -- calls of some procedures do what they mean, in any block where the frames of so many more have room, so many blocks deep at most
-abbrev pub Calls : Environment → (block : ℕ) → Types → (all : List (ℕ × Label)) → (procedure bound : ℕ) → Links → List Instr → (may : List ℕ) → Type 1
+abbrev pub Calls : Environment → (block : Names) → Types → (all : List (ℕ × Label)) → (procedure bound : ℕ) → Links → List Instr → (may : List ℕ) → Type 1
 Calls e block types all procedure bound links code may =
-    (o : Owner) (number level : ℕ) (b : Block (owned_by o (in_frame number level e)) block types) → length b.depths < most_activations → b.stack.free + 4000 * (500 - length b.depths) ≤ 14 * 2 ^ 20 → b.words < 2 ^ 22 → Standing b links code → Tells e block types all procedure may links code b.base b.frames.known → b.taken.words ≤ b.words → HasMain block (main_labels e.program.procedures) level number b.labels b.outer → (around : Around) → around.program ≡ e.program → (more : ℕ) → Entering e.program around more → more ≤ bound → (procedure : ℕ) → is_number procedure may ≡ true → (line : ℕ) → line < 2 ^ 31 → Does b links code around.turns (stmt_code (owned_by o (in_frame number level e)) b.taken (Y.CallProcedure (Y.Calling procedure 0 Y.NoArgument) line)) (M.statement around (Y.CallProcedure (Y.Calling procedure 0 Y.NoArgument) line))
+    (o : Owner) (number level : ℕ) (b : Block (owned_by o (in_frame number level e)) block types) → length b.depths < most_activations → b.stack.free + 4000 * (500 - length b.depths) ≤ 14 * 2 ^ 20 → b.words < 2 ^ 22 → Standing b links code → Tells e block types all procedure may links code b.base b.frames.known → b.taken.words ≤ b.words → HasMain procedure (main_labels e.program.procedures) level number b.labels b.outer → (around : Around) → around.program ≡ e.program → (more : ℕ) → Entering e.program around more → more ≤ bound → (procedure : ℕ) → is_number procedure may ≡ true → (line : ℕ) → line < 2 ^ 31 → Does b links code around.turns (stmt_code (owned_by o (in_frame number level e)) b.taken (Y.CallProcedure (Y.Calling procedure 0 Y.NoArgument) line)) (M.statement around (Y.CallProcedure (Y.Calling procedure 0 Y.NoArgument) line))
 
 -- SIGNAL of AREA does what it means there
-abbrev pub Signals : Environment → (block : ℕ) → Types → (all : List (ℕ × Label)) → (procedure bound : ℕ) → Links → List Instr → (may : List ℕ) → Type 1
+abbrev pub Signals : Environment → (block : Names) → Types → (all : List (ℕ × Label)) → (procedure bound : ℕ) → Links → List Instr → (may : List ℕ) → Type 1
 Signals e block types all procedure bound links code may =
-    (o : Owner) (number level : ℕ) (b : Block (owned_by o (in_frame number level e)) block types) → length b.depths < most_activations → b.stack.free + 4000 * (500 - length b.depths) ≤ 14 * 2 ^ 20 → b.words < 2 ^ 22 → Standing b links code → Tells e block types all procedure may links code b.base b.frames.known → HasMain block (main_labels e.program.procedures) level number b.labels b.outer → (around : Around) → around.program ≡ e.program → (more : ℕ) → Entering e.program around more → more ≤ bound → (line : ℕ) → line < 2 ^ 31 → Does b links code around.turns (stmt_code (owned_by o (in_frame number level e)) b.taken (Y.Signal C.Area line)) (M.statement around (Y.Signal C.Area line))
+    (o : Owner) (number level : ℕ) (b : Block (owned_by o (in_frame number level e)) block types) → length b.depths < most_activations → b.stack.free + 4000 * (500 - length b.depths) ≤ 14 * 2 ^ 20 → b.words < 2 ^ 22 → Standing b links code → Tells e block types all procedure may links code b.base b.frames.known → HasMain procedure (main_labels e.program.procedures) level number b.labels b.outer → (around : Around) → around.program ≡ e.program → (more : ℕ) → Entering e.program around more → more ≤ bound → (line : ℕ) → line < 2 ^ 31 → Does b links code around.turns (stmt_code (owned_by o (in_frame number level e)) b.taken (Y.Signal C.Area line)) (M.statement around (Y.Signal C.Area line))
 
 -- they do; the units that may be in force are known, and the main procedure's own block may get one; a return in a called procedure goes
 -- to its end
-pub record Ways (e : Environment) (block : ℕ) (types : Types) (words bound : ℕ) (small : Bool) (labels : List Label) (outer : List OuterBlock) (base : ℕ) (units : ℕ → Y.Block → ℕ → Type 0) (all : List (ℕ × Label)) (procedure : ℕ) (links : Links) (code : List Instr) (main returns : Bool) (may : List ℕ) : Type 1 where
-  pub calls : (o : Owner) (number level : ℕ) (b : Block (owned_by o (in_frame number level e)) block types) → length b.depths < most_activations → b.stack.free + 4000 * (500 - length b.depths) ≤ 14 * 2 ^ 20 → b.words < 2 ^ 22 → Standing b links code → Tells e block types all procedure may links code b.base b.frames.known → b.taken.words ≤ b.words → HasMain block (main_labels e.program.procedures) level number b.labels b.outer → (around : Around) → around.program ≡ e.program → (more : ℕ) → Entering e.program around more → more ≤ bound → (procedure : ℕ) → is_number procedure may ≡ true → (line : ℕ) → line < 2 ^ 31 → Does b links code around.turns (stmt_code (owned_by o (in_frame number level e)) b.taken (Y.CallProcedure (Y.Calling procedure 0 Y.NoArgument) line)) (M.statement around (Y.CallProcedure (Y.Calling procedure 0 Y.NoArgument) line))
-  pub signals : (o : Owner) (number level : ℕ) (b : Block (owned_by o (in_frame number level e)) block types) → length b.depths < most_activations → b.stack.free + 4000 * (500 - length b.depths) ≤ 14 * 2 ^ 20 → b.words < 2 ^ 22 → Standing b links code → Tells e block types all procedure may links code b.base b.frames.known → HasMain block (main_labels e.program.procedures) level number b.labels b.outer → (around : Around) → around.program ≡ e.program → (more : ℕ) → Entering e.program around more → more ≤ bound → (line : ℕ) → line < 2 ^ 31 → Does b links code around.turns (stmt_code (owned_by o (in_frame number level e)) b.taken (Y.Signal C.Area line)) (M.statement around (Y.Signal C.Area line))
+pub record Ways (e : Environment) (block : Names) (types : Types) (words bound : ℕ) (small : Bool) (labels : List Label) (outer : List OuterBlock) (base : ℕ) (units : ℕ → Y.Block → ℕ → Type 0) (all : List (ℕ × Label)) (procedure : ℕ) (links : Links) (code : List Instr) (main returns : Bool) (may : List ℕ) : Type 1 where
+  pub calls : (o : Owner) (number level : ℕ) (b : Block (owned_by o (in_frame number level e)) block types) → length b.depths < most_activations → b.stack.free + 4000 * (500 - length b.depths) ≤ 14 * 2 ^ 20 → b.words < 2 ^ 22 → Standing b links code → Tells e block types all procedure may links code b.base b.frames.known → b.taken.words ≤ b.words → HasMain procedure (main_labels e.program.procedures) level number b.labels b.outer → (around : Around) → around.program ≡ e.program → (more : ℕ) → Entering e.program around more → more ≤ bound → (procedure : ℕ) → is_number procedure may ≡ true → (line : ℕ) → line < 2 ^ 31 → Does b links code around.turns (stmt_code (owned_by o (in_frame number level e)) b.taken (Y.CallProcedure (Y.Calling procedure 0 Y.NoArgument) line)) (M.statement around (Y.CallProcedure (Y.Calling procedure 0 Y.NoArgument) line))
+  pub signals : (o : Owner) (number level : ℕ) (b : Block (owned_by o (in_frame number level e)) block types) → length b.depths < most_activations → b.stack.free + 4000 * (500 - length b.depths) ≤ 14 * 2 ^ 20 → b.words < 2 ^ 22 → Standing b links code → Tells e block types all procedure may links code b.base b.frames.known → HasMain procedure (main_labels e.program.procedures) level number b.labels b.outer → (around : Around) → around.program ≡ e.program → (more : ℕ) → Entering e.program around more → more ≤ bound → (line : ℕ) → line < 2 ^ 31 → Does b links code around.turns (stmt_code (owned_by o (in_frame number level e)) b.taken (Y.Signal C.Area line)) (M.statement around (Y.Signal C.Area line))
   pub tells : Tells e block types all procedure may links code base units
   pub makes : (0 == e.level) ≡ true → (u : Y.Block) (at : ℕ) → UnitStands (program_around e) block types all procedure may links code u at → units base u at
   pub narrow : words < 2 ^ 22
+  pub outermost : AllOutermost block types
   pub ends : returns ≡ true → main ≡ false → IsHome e links outer
-  pub mains : HasMain block (main_labels e.program.procedures) e.level e.block labels outer
+  pub mains : HasMain procedure (main_labels e.program.procedures) e.level e.block labels outer
 
-ways_within : {e : Environment} {block : ℕ} {types : Types} {words bound : ℕ} {small : Bool} {labels : List Label} {outer : List OuterBlock} {base : ℕ} {units : ℕ → Y.Block → ℕ → Type 0} {all : List (ℕ × Label)} {procedure : ℕ} {links : Links} {code : List Instr} {main returns : Bool} {may : List ℕ} (more : List Label) → Ways e block types words bound small labels outer base units all procedure links code main returns may → Ways e block types words bound small (more ++ labels) outer base units all procedure links code main returns may
-ways_within {e} {block} {labels = labels} {outer = outer} more ways =
+ways_within : {e : Environment} {block : Names} {types : Types} {words bound : ℕ} {small : Bool} {labels : List Label} {outer : List OuterBlock} {base : ℕ} {units : ℕ → Y.Block → ℕ → Type 0} {all : List (ℕ × Label)} {procedure : ℕ} {links : Links} {code : List Instr} {main returns : Bool} {may : List ℕ} (more : List Label) → Ways e block types words bound small labels outer base units all procedure links code main returns may → Ways e block types words bound small (more ++ labels) outer base units all procedure links code main returns may
+ways_within {e} {labels = labels} {outer = outer} {procedure = procedure} more ways =
     record {
       calls = ways.calls;
       signals = ways.signals;
       tells = ways.tells;
       makes = ways.makes;
       narrow = ways.narrow;
+      outermost = ways.outermost;
       ends = ways.ends;
-      mains = more_main block (main_labels e.program.procedures) e.level e.block more labels outer ways.mains;
+      mains = more_main procedure (main_labels e.program.procedures) e.level e.block more labels outer ways.mains;
     }
 
 -- ---- room
@@ -163,14 +168,14 @@ room_deep : (small : Bool) (free depth words level : ℕ) → Room small free de
 room_deep false free depth words level room = room.1
 room_deep true free depth words level room = room.1
 
-return_by : {e : Environment} {block : ℕ} {types : Types} (main : Bool) (bl : Block e block types) (links : Links) (code : List Instr) (around : Around) (line number : ℕ) → line < 2 ^ 31 → e.level ≤ 100 → (main ≡ true → e.owner ≡ BlockOwner (record { number = number; level = 0 })) → (main ≡ true → IsEndMarkedOnce links number) → (main ≡ false → IsHome e links bl.outer) → Does bl links code around.turns (stmt_code e bl.taken (Y.Return line)) (M.statement around (Y.Return line))
+return_by : {e : Environment} {block : Names} {types : Types} (main : Bool) (bl : Block e block types) (links : Links) (code : List Instr) (around : Around) (line number : ℕ) → line < 2 ^ 31 → e.level ≤ 100 → (main ≡ true → e.owner ≡ BlockOwner (record { number = number; level = 0 })) → (main ≡ true → IsEndMarkedOnce links number) → (main ≡ false → IsHome e links bl.outer) → Does bl links code around.turns (stmt_code e bl.taken (Y.Return line)) (M.statement around (Y.Return line))
 return_by true bl links code around line number fits few owner ended home =
     return_does bl links code around line number fits (owner refl) (ended refl)
 return_by false bl links code around line number fits few owner ended home =
     home_does bl links code around line few fits (home refl)
 
 mutual
-  pub statement_does : {e : Environment} {block : ℕ} {types : Types} (bl : Block e block types) (links : Links) (code : List Instr) (routines : Standing bl links code) (around : Around) (same : around.program ≡ e.program) {all : List (ℕ × Label)} {procedure : ℕ} {main returns small : Bool} {may : List ℕ} {bound : ℕ} (named : LabelsStand e links all procedure main) (x : Y.Stmt) → IsProvedStatement block types x → JumpsAround e.block e.level all e.blocks (main_outer block e.program.procedures) bl.outer bl.labels x → bl.taken.words + stmt_words x ≤ bl.words → Room small bl.stack.free (length bl.depths) (inner_words x) e.level → IsBare e.program x → {more : ℕ} → Entering e.program around more → more ≤ bound → ((b : BlockPlace) → IsAmong b (blocks_in x) → IsAmong b e.blocks) → CallsAmong may returns x → Ways e block types bl.words bound small bl.labels bl.outer bl.base bl.frames.known all procedure links code main returns may → Does bl links code around.turns (stmt_code e bl.taken x) (M.statement around x)
+  pub statement_does : {e : Environment} {block : Names} {types : Types} (bl : Block e block types) (links : Links) (code : List Instr) (routines : Standing bl links code) (around : Around) (same : around.program ≡ e.program) {all : List (ℕ × Label)} {procedure : ℕ} {main returns small : Bool} {may : List ℕ} {bound : ℕ} (named : LabelsStand e links all procedure main) (x : Y.Stmt) → IsProvedStatement block types x → JumpsAround e.program e.block e.level all e.blocks (main_outer procedure e.program.procedures) bl.outer bl.labels x → bl.taken.words + stmt_words x ≤ bl.words → Room small bl.stack.free (length bl.depths) (inner_words x) e.level → IsBare e.program false x → {more : ℕ} → Entering e.program around more → more ≤ bound → ((b : BlockPlace) → IsAmong b (blocks_in x) → IsAmong b e.blocks) → CallsAmong e.program may returns x → Ways e block types bl.words bound small bl.labels bl.outer bl.base bl.frames.known all procedure links code main returns may → Does bl links code around.turns (stmt_code e bl.taken x) (M.statement around x)
   statement_does bl links code routines around same named (Y.Null line) is jumps room space bare entering least known calls ways = null_does bl links code around line is
   statement_does bl links code routines around same named (Y.Assign target (Y.StoredNumber precision x) line) is jumps room space bare entering least known calls ways =
       let a = le-max_left (max 1 (number_words x)) (4 + reference_words target) in
@@ -257,23 +262,29 @@ mutual
       counted_does bl links code routines around target precision start limit step condition body line is.0.0 (omega (arith, room, m2, d0)) is.0.1 is.1.0.0 is.1.0.1 is.1.1.0
       (omega (arith, room, m1, a1)) (omega (arith, room, m1, a2, a4)) (omega (arith, room, m1, a2, a5)) (omega (arith, room, m2, d1, d2)) is.1.1.1.1
       (listed (turning bl) around body (each_does (within (labels_in body) (turning bl)) links code (standing_within (labels_in body) (standing_turning routines)) around same named body is.1.1.1.0 jumps (omega (arith, room, m2, d1, d3)) space bare entering least known calls (ways_within (labels_in body) ways)))
-  statement_does {e} {block} bl links code routines around same {all} {procedure} {main} {small} named (Y.Begin (Y.BlockOf head body)) is jumps room space bare {more} entering least known calls ways =
+  statement_does {e} {block} {types} bl links code routines around same {all} {procedure} {main} {returns} {small} {may} named (Y.Begin (Y.BlockOf head body)) is jumps room space bare {more} entering least known calls ways =
       let next = jumps.0.0 in
       let deep = jumps.0.1 in
       let shallow : e.level < 100 = omega (arith, next, deep) in
-      let sized : frame_end e.parts e.program head.number head.level ≡ fixed_size (suc e.level) 0 = named.bare head.number head.level bare.0 ∙ ap (λ l. fixed_size l 0) next in
+      let none : variables_of_block e.program head.number ≡ [] = bare.0 in
+      let here' : variables_of_block block.program head.number ≡ [] = ap (λ p. variables_of_block p head.number) bl.named ∙ none in
+      let are : AreProvedStatements block types body = subst (λ ds. AreProvedStatements (names_in block types head ds) (types_in types ds) body) here' is.1.1 in
+      let own' : OuterBlock = record { level = e.level; number = e.block; labels = bl.labels } in
+      let around' : AllJumpAround e.program head.number head.level all e.blocks (main_outer procedure e.program.procedures) (own' ∷ bl.outer) (labels_in body) body = subst (λ ds. AllJumpAround e.program head.number head.level all e.blocks (main_outer procedure e.program.procedures) (if_bare ds (own' ∷ bl.outer)) (labels_in body) body) none jumps.1 in
+      let calls' : AllCallAmong e.program may returns body = subst (λ ds. AllCallAmong e.program (if_bare ds may) returns body) none calls in
+      let sized : frame_end e.parts e.program head.number head.level ≡ fixed_size (suc e.level) 0 = named.bare head.number head.level none ∙ ap (λ l. fixed_size l 0) next in
       let inner = inner_of bl (max 0 (stmts_words body)) shallow (room_frame small bl.stack.free (length bl.depths) (max 0 (stmts_words body)) (all_inner_words body) e.level shallow space) in
-      begin_does bl links code around more head body inner named.lower refl shallow next sized is.0 is.1.0 bare.0 entering
+      begin_does bl links code around more head body inner named.lower refl shallow next routines.filled is.0 is.1.0 none entering
       (λ more' step deeper t0.
-      let ib = inner_block bl inner t0 head.number head.level next sized in
+      let ib = inner_block bl inner t0 head.number head.level next routines.filled in
       let here = inner_around e.program more' head.line in
-      let high : AllJumpAround head.number head.level all e.blocks (main_outer block e.program.procedures) ib.outer (labels_in body ++ []) body = subst (λ ls. AllJumpAround head.number head.level all e.blocks (main_outer block e.program.procedures) ib.outer ls body) (sym (append-nil (labels_in body))) jumps.1 in
+      let high : AllJumpAround e.program head.number head.level all e.blocks (main_outer procedure e.program.procedures) ib.outer (labels_in body ++ []) body = subst (λ ls. AllJumpAround e.program head.number head.level all e.blocks (main_outer procedure e.program.procedures) ib.outer ls body) (sym (append-nil (labels_in body))) around' in
       let most = le-max_right 0 (stmts_words body) in
       listed ib here body
-      (each_does (within (labels_in body) ib) links code (standing_within (labels_in body) (standing_inside inner t0 head.number head.level next sized routines)) here refl (inner_labels_stand named head.number head.level next deep (known (place_of_head head) (inl refl))) body is.1.1 high (omega (arith, most))
+      (each_does (within (labels_in body) ib) links code (standing_within (labels_in body) (standing_inside inner t0 head.number head.level next sized routines)) here refl (inner_labels_stand named head.number head.level next deep (known (place_of_head head) (inl refl))) body are high (omega (arith, most))
       (room_inner small bl.stack.free (length bl.depths) (max 0 (stmts_words body)) (all_inner_words body) e.level head.level shallow next deeper space)
-      bare.1 (inner_entering e.program more' head.line) (omega (arith, least, step)) (λ b h. known b (inr h)) calls
-      (record { calls = ways.calls; signals = ways.signals; tells = ways.tells; makes = λ same' u at k. let no : true ≡ false = sym same' ∙ other_level head.level e.level next in absurd (cc no); narrow = (let fits = room_frame small bl.stack.free (length bl.depths) (max 0 (stmts_words body)) (all_inner_words body) e.level shallow space in omega (arith, fits)); ends = λ may other. inr (ways.ends may other); mains = more_main block (main_labels e.program.procedures) head.level head.number (labels_in body) [] ib.outer (inr ways.mains) })))
+      bare.1 (inner_entering e.program more' head.line) (omega (arith, least, step)) (λ b h. known b (inr h)) calls'
+      (record { calls = ways.calls; signals = ways.signals; tells = ways.tells; outermost = ways.outermost; makes = λ same' u at k. let no : true ≡ false = sym same' ∙ other_level head.level e.level next in absurd (cc no); narrow = (let fits = room_frame small bl.stack.free (length bl.depths) (max 0 (stmts_words body)) (all_inner_words body) e.level shallow space in omega (arith, fits)); ends = λ may other. inr (ways.ends may other); mains = more_main procedure (main_labels e.program.procedures) head.level head.number (labels_in body) [] ib.outer (inr ways.mains) })))
   statement_does {e} bl links code routines around same {all} {procedure} {main} {small} named (Y.CallProcedure (Y.Calling number level Y.NoArgument) line) is jumps room space bare {more} entering least known calls ways =
       subst (λ n. Does bl links code around.turns (stmt_code e bl.taken (Y.CallProcedure (Y.Calling number n Y.NoArgument) line)) (M.statement around (Y.CallProcedure (Y.Calling number n Y.NoArgument) line))) (sym is.0)
       (ways.calls e.owner e.block e.level bl (room_deep small bl.stack.free (length bl.depths) 0 e.level space) (room_calls small bl.stack.free (length bl.depths) 0 e.level space) ways.narrow routines ways.tells (omega (arith, room)) ways.mains around same more entering least number calls line is.1)
@@ -324,7 +335,7 @@ mutual
       get_skip_does bl links code routines around same n pairs line is.0.0 is.0.1 is.1.0 is.1.1 room
   statement_does bl links code routines around same named _ is jumps room space bare entering least known calls ways = absurd is
 
-  pub each_does : {e : Environment} {block : ℕ} {types : Types} (bl : Block e block types) (links : Links) (code : List Instr) (routines : Standing bl links code) (around : Around) (same : around.program ≡ e.program) {all : List (ℕ × Label)} {procedure : ℕ} {main returns small : Bool} {may : List ℕ} {bound : ℕ} (named : LabelsStand e links all procedure main) (body : Y.Stmts) → AreProvedStatements block types body → AllJumpAround e.block e.level all e.blocks (main_outer block e.program.procedures) bl.outer bl.labels body → bl.taken.words + stmts_words body ≤ bl.words → Room small bl.stack.free (length bl.depths) (all_inner_words body) e.level → AreBare e.program body → {more : ℕ} → Entering e.program around more → more ≤ bound → ((b : BlockPlace) → IsAmong b (blocks_among body) → IsAmong b e.blocks) → AllCallAmong may returns body → Ways e block types bl.words bound small bl.labels bl.outer bl.base bl.frames.known all procedure links code main returns may → EachDoes bl links code around body
+  pub each_does : {e : Environment} {block : Names} {types : Types} (bl : Block e block types) (links : Links) (code : List Instr) (routines : Standing bl links code) (around : Around) (same : around.program ≡ e.program) {all : List (ℕ × Label)} {procedure : ℕ} {main returns small : Bool} {may : List ℕ} {bound : ℕ} (named : LabelsStand e links all procedure main) (body : Y.Stmts) → AreProvedStatements block types body → AllJumpAround e.program e.block e.level all e.blocks (main_outer procedure e.program.procedures) bl.outer bl.labels body → bl.taken.words + stmts_words body ≤ bl.words → Room small bl.stack.free (length bl.depths) (all_inner_words body) e.level → AreBare e.program false body → {more : ℕ} → Entering e.program around more → more ≤ bound → ((b : BlockPlace) → IsAmong b (blocks_among body) → IsAmong b e.blocks) → AllCallAmong e.program may returns body → Ways e block types bl.words bound small bl.labels bl.outer bl.base bl.frames.known all procedure links code main returns may → EachDoes bl links code around body
   each_does bl links code routines around same named (Y.EndOfList labels) are jumps room space bare entering least known calls ways = tt
   each_does {e} bl links code routines around same {all} {procedure} {main} {small} named (Y.StmtThen labels first rest) are jumps room space bare entering least known calls ways =
       let a = le-max_left (stmt_words first) (stmts_words rest) in
@@ -336,7 +347,7 @@ mutual
       )
 
 -- the statements of a block
-pub body_does : {e : Environment} {block : ℕ} {types : Types} (bl : Block e block types) (links : Links) (code : List Instr) (routines : Standing bl links code) (around : Around) (same : around.program ≡ e.program) {all : List (ℕ × Label)} {procedure : ℕ} {main returns small : Bool} {may : List ℕ} {bound : ℕ} (named : LabelsStand e links all procedure main) (body : Y.Stmts) → AreProvedStatements block types body → AllJumpAround e.block e.level all e.blocks (main_outer block e.program.procedures) bl.outer (labels_in body ++ bl.labels) body → bl.taken.words + stmts_words body ≤ bl.words → Room small bl.stack.free (length bl.depths) (all_inner_words body) e.level → AreBare e.program body → {more : ℕ} → Entering e.program around more → more ≤ bound → ((b : BlockPlace) → IsAmong b (blocks_among body) → IsAmong b e.blocks) → AllCallAmong may returns body → Ways e block types bl.words bound small (labels_in body ++ bl.labels) bl.outer bl.base bl.frames.known all procedure links code main returns may → Does bl links code around.turns (stmts_code e bl.taken body) (M.list around body)
+pub body_does : {e : Environment} {block : Names} {types : Types} (bl : Block e block types) (links : Links) (code : List Instr) (routines : Standing bl links code) (around : Around) (same : around.program ≡ e.program) {all : List (ℕ × Label)} {procedure : ℕ} {main returns small : Bool} {may : List ℕ} {bound : ℕ} (named : LabelsStand e links all procedure main) (body : Y.Stmts) → AreProvedStatements block types body → AllJumpAround e.program e.block e.level all e.blocks (main_outer procedure e.program.procedures) bl.outer (labels_in body ++ bl.labels) body → bl.taken.words + stmts_words body ≤ bl.words → Room small bl.stack.free (length bl.depths) (all_inner_words body) e.level → AreBare e.program false body → {more : ℕ} → Entering e.program around more → more ≤ bound → ((b : BlockPlace) → IsAmong b (blocks_among body) → IsAmong b e.blocks) → AllCallAmong e.program may returns body → Ways e block types bl.words bound small (labels_in body ++ bl.labels) bl.outer bl.base bl.frames.known all procedure links code main returns may → Does bl links code around.turns (stmts_code e bl.taken body) (M.list around body)
 body_does bl links code routines around same named body are jumps room space bare entering least known calls ways =
     listed bl around body
     (each_does (within (labels_in body) bl) links code (standing_within (labels_in body) routines) around same named body are jumps room space bare entering least known calls ways)

@@ -23,7 +23,8 @@ use Rattle.pli_coding.specs.Temporaries.{number_words, bit_words, text_words}
 use Rattle.pli_coding.specs.Streams as C
 use Rattle.pli_coding.specs.Streams.{has_fixed, has_text, by_item, controls_carried_out, number_written, text_written, put_item_words}
 use Rattle.pli_coding.specs.Linking.{Links}
-use Rattle.pli_headline.specs.ProvedSoFar.{Types, IsProvedNumber, IsProvedBit, IsProvedText, IsPrecision, HasPrecision, AreProvedFormats, HasData, IsProvedItem}
+use Rattle.pli_headline.specs.ProvedSoFar.{Names, Types, IsProvedNumber, IsProvedBit, IsProvedText, IsPrecision, HasPrecision, AreProvedFormats, HasData, IsProvedItem}
+use Rattle.pli_headline.proofs.Storages.{storage, Serials}
 use Rattle.pli_headline.proofs.Engine.{Base, address}
 use Rattle.pli_headline.proofs.Linking.{size_append}
 use Rattle.pli_headline.proofs.Items.{Linked, At}
@@ -57,17 +58,17 @@ abbrev pub text_item : Y.Text → Y.PutItem
 text_item x = Y.PutValue (Y.TextValue x)
 
 -- behind an item, with what is left of the format list
-abbrev pub ItemBehind : {e : Environment} {block : ℕ} {types : Types} → Block e block types → (k line : ℕ) → (h t : ℕ → ℕ) → (i : ℕ) → Values → T.Formats → (below : List EditPlace) → Aims (List FormatItem) → Type 0
+abbrev pub ItemBehind : {e : Environment} {block : Names} {types : Types} → Block e block types → (k line : ℕ) → (h t : ℕ → ℕ) → (i : ℕ) → Values → T.Formats → (below : List EditPlace) → Aims (List FormatItem) → Type 0
 ItemBehind {e = e} {block = block} {types = types} bl k line h0 t0 i n fs below aims =
-    (s : State) (v : Services) (rest : List FormatItem) (h t : ℕ → ℕ) (f : Family) → Serving k s v line → AllHold bl.frames v.activations (e.level ∷ bl.depths) s block types n → Suit (has_fixed fs) (has_text fs) rest → v.edits ≡ putting (format_items fs) rest ∷ below → Stays bl.taken h0 t0 h t → ((b : Base) → At b i (Known (bl.ground n) v h t nothing b) (f b)) → aims.done i f v rest s
+    (s : State) (v : Services) (rest : List FormatItem) (h t : ℕ → ℕ) (f : Family) → Serving k s v line → AllHold bl.frames bl.serials (storage v) (e.level ∷ bl.depths) s block types n → Suit (has_fixed fs) (has_text fs) rest → v.edits ≡ putting (format_items fs) rest ∷ below → Stays bl.taken h0 t0 h t → ((b : Base) → At b i (Known (bl.ground n) v h t nothing b) (f b)) → aims.done i f v rest s
 
 -- acts leave what the variables hold
-all_kept : (frames : Frames) (levels : List ℕ) (block : ℕ) (types : Types) (n : Values) → Kept (λ xs s. AllHold frames xs levels s block types n)
-all_kept frames levels block types n = record { keeps = λ xs w s all. counted_all w all }
+all_kept : (frames : Frames) (serials : Serials) (levels : List ℕ) (block : Names) (types : Types) (n : Values) → Kept (λ xs s. AllHold frames serials xs levels s block types n)
+all_kept frames serials levels block types n = record { keeps = λ xs w s all. counted_all w all }
 
 -- ---- a word in a0
 
-word_piece : {e : Environment} {block : ℕ} {types : Types} (bl : Block e block types) {links : Links} {code : List Instr} {i : ℕ} {v : Services} {h t : ℕ → ℕ} {s : State} {aims : Aims (List FormatItem)} (closed : Closed code aims) (routines : Routines links code) (f : Family) (around : Around) (fs : T.Formats) (shown : Computational) (p : ℕ) (z : ℤ) (n : Values) (rest : List FormatItem) (below : List EditPlace) (k : ℕ) → ShownAs around (has_text fs) shown p z → bl.taken.words + 1 ≤ bl.words → AreProvedFormats fs → HasData fs → Suit (has_fixed fs) (has_text fs) rest → v.edits ≡ putting (format_items fs) rest ∷ below → Linked links code i (save a0 bl.taken ++ C.number_put bl.taken fs (C.as_text p)) → Serving k s v around.line → AllHold bl.frames v.activations (e.level ∷ bl.depths) s block types n → ((b : Base) → At b i (Known (bl.ground n) v h t (valued (word z)) b) (f b)) → ItemBehind bl k around.line h t (i + size_of (save a0 bl.taken ++ C.number_put bl.taken fs (C.as_text p))) n fs below aims → Comes code i f v aims (((P.next_item P.control_put (format_items fs) rest) >>= (λ next. (P.shown_by around shown next.0) >> (give next.1))) k s)
+word_piece : {e : Environment} {block : Names} {types : Types} (bl : Block e block types) {links : Links} {code : List Instr} {i : ℕ} {v : Services} {h t : ℕ → ℕ} {s : State} {aims : Aims (List FormatItem)} (closed : Closed code aims) (routines : Routines links code) (f : Family) (around : Around) (fs : T.Formats) (shown : Computational) (p : ℕ) (z : ℤ) (n : Values) (rest : List FormatItem) (below : List EditPlace) (k : ℕ) → ShownAs around (has_text fs) shown p z → bl.taken.words + 1 ≤ bl.words → AreProvedFormats fs → HasData fs → Suit (has_fixed fs) (has_text fs) rest → v.edits ≡ putting (format_items fs) rest ∷ below → Linked links code i (save a0 bl.taken ++ C.number_put bl.taken fs (C.as_text p)) → Serving k s v around.line → AllHold bl.frames bl.serials (storage v) (e.level ∷ bl.depths) s block types n → ((b : Base) → At b i (Known (bl.ground n) v h t (valued (word z)) b) (f b)) → ItemBehind bl k around.line h t (i + size_of (save a0 bl.taken ++ C.number_put bl.taken fs (C.as_text p))) n fs below aims → Comes code i f v aims (((P.next_item P.control_put (format_items fs) rest) >>= (λ next. (P.shown_by around shown next.0) >> (give next.1))) k s)
 unfolding ◌>>=◌ ◌>>◌ give
 word_piece {e} {block} {types} bl {i = i} {h = h} {t = t} {s = s} {aims = aims} closed routines f around fs shown p z n rest below k as' room are has suits edits l serving all at goal =
     let left : is_register_left bl.taken ≡ false → bl.taken.words < (bl.ground n).words = λ none. let w = bl.words_are n in omega (arith, room, w) in
@@ -83,7 +84,7 @@ word_piece {e} {block} {types} bl {i = i} {h = h} {t = t} {s = s} {aims = aims} 
     onward closed (save_piece (bl.temps n) i f a0 bl.taken (word z) left (word_small z as'.wide) (λ y q. refl) (λ b w o. o.regs.0) (record { reserved_stay = λ y q. refl; known_stay = λ b y q o. o; set = λ y q. refl }) (front_of put' (controls_carried_out ++ field) l) at)
     (λ f1 at1.
     comes_on k (P.next_item P.control_put whole rest k s) next'
-    (next_piece (all_kept bl.frames (e.level ∷ bl.depths) block types n) (before_closed k next' closed) (has_fixed fs) (has_text fs) f1 whole rest below k (items_data fs are has) (formats_suit fs) suits edits (front_of controls_carried_out field l1) (record { serving = serving; holds = all; texts_are = refl }) at1
+    (next_piece (all_kept bl.frames bl.serials (e.level ∷ bl.depths) block types n) (before_closed k next' closed) (has_fixed fs) (has_text fs) f1 whole rest below k (items_data fs are has) (formats_suit fs) suits edits (front_of controls_carried_out field l1) (record { serving = serving; holds = all; texts_are = refl }) at1
     (λ s2 v2 f2 d behind under2 found2 suits2 at2.
     word_shown bl closed routines f2 around fs d shown p z n whole behind below k suits2.0 as' left (waiting_saved bl.taken h t (word z)) found2 (back_of controls_carried_out field l1) under2.serving under2.holds at2
     (λ s3 v3 f3 serving3 all3 edits3 at3.
@@ -92,7 +93,7 @@ word_piece {e} {block} {types} bl {i = i} {h = h} {t = t} {s = s} {aims = aims} 
 
 -- ---- a number, and a bit
 
-number_item_piece : {e : Environment} {block : ℕ} {types : Types} (bl : Block e block types) {links : Links} {code : List Instr} {i : ℕ} {v : Services} {h t : ℕ → ℕ} {s : State} {aims : Aims (List FormatItem)} (closed : Closed code aims) (routines : Standing bl links code) (f : Family) (around : Around) (fs : T.Formats) (p : ℕ) (x : Y.Number) (n : Values) (rest : List FormatItem) (below : List EditPlace) (k : ℕ) → IsProvedNumber block types x → bl.taken.words + max 1 (number_words x) ≤ bl.words → AreProvedFormats fs → HasData fs → (has_text fs ≡ true → IsPrecision p) → Suit (has_fixed fs) (has_text fs) rest → v.edits ≡ putting (format_items fs) rest ∷ below → Linked links code i (C.item_put e bl.taken fs (number_item p x)) → Serving k s v around.line → AllHold bl.frames v.activations (e.level ∷ bl.depths) s block types n → ((b : Base) → At b i (Known (bl.ground n) v h t nothing b) (f b)) → ItemBehind bl k around.line h t (i + size_of (C.item_put e bl.taken fs (number_item p x))) n fs below aims → Comes code i f v aims (P.item_put around (format_items fs) rest (number_item p x) k s)
+number_item_piece : {e : Environment} {block : Names} {types : Types} (bl : Block e block types) {links : Links} {code : List Instr} {i : ℕ} {v : Services} {h t : ℕ → ℕ} {s : State} {aims : Aims (List FormatItem)} (closed : Closed code aims) (routines : Standing bl links code) (f : Family) (around : Around) (fs : T.Formats) (p : ℕ) (x : Y.Number) (n : Values) (rest : List FormatItem) (below : List EditPlace) (k : ℕ) → IsProvedNumber block types x → bl.taken.words + max 1 (number_words x) ≤ bl.words → AreProvedFormats fs → HasData fs → (has_text fs ≡ true → IsPrecision p) → Suit (has_fixed fs) (has_text fs) rest → v.edits ≡ putting (format_items fs) rest ∷ below → Linked links code i (C.item_put e bl.taken fs (number_item p x)) → Serving k s v around.line → AllHold bl.frames bl.serials (storage v) (e.level ∷ bl.depths) s block types n → ((b : Base) → At b i (Known (bl.ground n) v h t nothing b) (f b)) → ItemBehind bl k around.line h t (i + size_of (C.item_put e bl.taken fs (number_item p x))) n fs below aims → Comes code i f v aims (P.item_put around (format_items fs) rest (number_item p x) k s)
 unfolding P.item_put V.computational ◌>>=◌ ◌>>◌ give
 number_item_piece {e} {block} {types} bl {i = i} {s = s} {aims = aims} closed routines f around fs p x n rest below k is room are has precise suits edits l serving all at goal =
     let least = le-max_left 1 (number_words x) in
@@ -116,7 +117,7 @@ number_item_piece {e} {block} {types} bl {i = i} {s = s} {aims = aims} closed ro
           (goal s2 v2 rest2 h2 t2 f2 serving2 all2 suits2 edits2 (stays_then stays stays2) (λ b. record { pc = (at2 b).pc ∙ ap (address b) place; holds = (at2 b).holds })));
     })))
 
-bit_item_piece : {e : Environment} {block : ℕ} {types : Types} (bl : Block e block types) {links : Links} {code : List Instr} {i : ℕ} {v : Services} {h t : ℕ → ℕ} {s : State} {aims : Aims (List FormatItem)} (closed : Closed code aims) (routines : Standing bl links code) (f : Family) (around : Around) (fs : T.Formats) (x : Y.Bit) (n : Values) (rest : List FormatItem) (below : List EditPlace) (k : ℕ) → IsProvedBit block types x → bl.taken.words + max 1 (bit_words x) ≤ bl.words → AreProvedFormats fs → HasData fs → Suit (has_fixed fs) (has_text fs) rest → v.edits ≡ putting (format_items fs) rest ∷ below → Linked links code i (C.item_put e bl.taken fs (bit_item x)) → Serving k s v around.line → AllHold bl.frames v.activations (e.level ∷ bl.depths) s block types n → ((b : Base) → At b i (Known (bl.ground n) v h t nothing b) (f b)) → ItemBehind bl k around.line h t (i + size_of (C.item_put e bl.taken fs (bit_item x))) n fs below aims → Comes code i f v aims (P.item_put around (format_items fs) rest (bit_item x) k s)
+bit_item_piece : {e : Environment} {block : Names} {types : Types} (bl : Block e block types) {links : Links} {code : List Instr} {i : ℕ} {v : Services} {h t : ℕ → ℕ} {s : State} {aims : Aims (List FormatItem)} (closed : Closed code aims) (routines : Standing bl links code) (f : Family) (around : Around) (fs : T.Formats) (x : Y.Bit) (n : Values) (rest : List FormatItem) (below : List EditPlace) (k : ℕ) → IsProvedBit block types x → bl.taken.words + max 1 (bit_words x) ≤ bl.words → AreProvedFormats fs → HasData fs → Suit (has_fixed fs) (has_text fs) rest → v.edits ≡ putting (format_items fs) rest ∷ below → Linked links code i (C.item_put e bl.taken fs (bit_item x)) → Serving k s v around.line → AllHold bl.frames bl.serials (storage v) (e.level ∷ bl.depths) s block types n → ((b : Base) → At b i (Known (bl.ground n) v h t nothing b) (f b)) → ItemBehind bl k around.line h t (i + size_of (C.item_put e bl.taken fs (bit_item x))) n fs below aims → Comes code i f v aims (P.item_put around (format_items fs) rest (bit_item x) k s)
 unfolding P.item_put V.computational ◌>>=◌ ◌>>◌ give
 bit_item_piece {e} {block} {types} bl {i = i} {v = v} {s = s} {aims = aims} closed routines f around fs x n rest below k is room are has suits edits l serving all at goal =
     let least = le-max_left 1 (bit_words x) in
@@ -143,7 +144,7 @@ bit_item_piece {e} {block} {types} bl {i = i} {v = v} {s = s} {aims = aims} clos
 
 -- ---- a text
 
-text_item_piece : {e : Environment} {block : ℕ} {types : Types} (bl : Block e block types) {links : Links} {code : List Instr} {i : ℕ} {v : Services} {h t : ℕ → ℕ} {s : State} {aims : Aims (List FormatItem)} (closed : Closed code aims) (routines : Standing bl links code) (f : Family) (around : Around) (fs : T.Formats) (x : Y.Text) (n : Values) (rest : List FormatItem) (below : List EditPlace) (k : ℕ) → IsProvedText block types x → bl.taken.words + text_words x ≤ bl.words → AreProvedFormats fs → HasData fs → Suit (has_fixed fs) (has_text fs) rest → v.edits ≡ putting (format_items fs) rest ∷ below → Linked links code i (C.item_put e bl.taken fs (text_item x)) → Serving k s v around.line → AllHold bl.frames v.activations (e.level ∷ bl.depths) s block types n → ((b : Base) → At b i (Known (bl.ground n) v h t nothing b) (f b)) → ItemBehind bl k around.line h t (i + size_of (C.item_put e bl.taken fs (text_item x))) n fs below aims → Comes code i f v aims (P.item_put around (format_items fs) rest (text_item x) k s)
+text_item_piece : {e : Environment} {block : Names} {types : Types} (bl : Block e block types) {links : Links} {code : List Instr} {i : ℕ} {v : Services} {h t : ℕ → ℕ} {s : State} {aims : Aims (List FormatItem)} (closed : Closed code aims) (routines : Standing bl links code) (f : Family) (around : Around) (fs : T.Formats) (x : Y.Text) (n : Values) (rest : List FormatItem) (below : List EditPlace) (k : ℕ) → IsProvedText block types x → bl.taken.words + text_words x ≤ bl.words → AreProvedFormats fs → HasData fs → Suit (has_fixed fs) (has_text fs) rest → v.edits ≡ putting (format_items fs) rest ∷ below → Linked links code i (C.item_put e bl.taken fs (text_item x)) → Serving k s v around.line → AllHold bl.frames bl.serials (storage v) (e.level ∷ bl.depths) s block types n → ((b : Base) → At b i (Known (bl.ground n) v h t nothing b) (f b)) → ItemBehind bl k around.line h t (i + size_of (C.item_put e bl.taken fs (text_item x))) n fs below aims → Comes code i f v aims (P.item_put around (format_items fs) rest (text_item x) k s)
 unfolding P.item_put V.computational ◌>>=◌ ◌>>◌ give
 text_item_piece {e} {block} {types} bl {links} {code} {i} {v} {h} {t} {s} {aims} closed routines f around fs x n rest below k is room are has suits edits l serving all at goal =
     let w = bl.words_are n in
@@ -164,7 +165,7 @@ text_item_piece {e} {block} {types} bl {links} {code} {i} {v} {h} {t} {s} {aims}
     record {
       to =
           comes_on k (P.next_item P.control_put whole rest k s) (show u)
-          (next_piece (all_kept bl.frames (e.level ∷ bl.depths) block types n) (before_closed k (show u) closed) (has_fixed fs) (has_text fs) f1 whole rest below k (items_data fs are has) (formats_suit fs) suits edits (front_of controls_carried_out shown l1) (record { serving = at_other_texts (TextEntry text ∷ v.entries) serving; holds = all; texts_are = refl }) at1
+          (next_piece (all_kept bl.frames bl.serials (e.level ∷ bl.depths) block types n) (before_closed k (show u) closed) (has_fixed fs) (has_text fs) f1 whole rest below k (items_data fs are has) (formats_suit fs) suits edits (front_of controls_carried_out shown l1) (record { serving = at_other_texts (TextEntry text ∷ v.entries) serving; holds = all; texts_are = refl }) at1
           (λ s2 v2 f2 d behind under2 found2 suits2 at2.
           text_shown bl closed routines.raises f2 around fs d n whole behind below text v.entries k suits2.0 under2.texts_are found2 (back_of controls_carried_out shown l1) under2.serving under2.holds at2
           (λ s3 v3 f3 serving3 all3 edits3 at3.
@@ -174,7 +175,7 @@ text_item_piece {e} {block} {types} bl {links} {code} {i} {v} {h} {t} {s} {aims}
 
 -- ---- any of these
 
-pub item_piece : {e : Environment} {block : ℕ} {types : Types} (bl : Block e block types) {links : Links} {code : List Instr} (item : Y.PutItem) {i : ℕ} {v : Services} {h t : ℕ → ℕ} {s : State} {aims : Aims (List FormatItem)} (closed : Closed code aims) (routines : Standing bl links code) (f : Family) (around : Around) (fs : T.Formats) (n : Values) (rest : List FormatItem) (below : List EditPlace) (k : ℕ) → IsProvedItem block types item → bl.taken.words + put_item_words item ≤ bl.words → AreProvedFormats fs → HasData fs → (has_text fs ≡ true → HasPrecision item) → Suit (has_fixed fs) (has_text fs) rest → v.edits ≡ putting (format_items fs) rest ∷ below → Linked links code i (C.item_put e bl.taken fs item) → Serving k s v around.line → AllHold bl.frames v.activations (e.level ∷ bl.depths) s block types n → ((b : Base) → At b i (Known (bl.ground n) v h t nothing b) (f b)) → ItemBehind bl k around.line h t (i + size_of (C.item_put e bl.taken fs item)) n fs below aims → Comes code i f v aims (P.item_put around (format_items fs) rest item k s)
+pub item_piece : {e : Environment} {block : Names} {types : Types} (bl : Block e block types) {links : Links} {code : List Instr} (item : Y.PutItem) {i : ℕ} {v : Services} {h t : ℕ → ℕ} {s : State} {aims : Aims (List FormatItem)} (closed : Closed code aims) (routines : Standing bl links code) (f : Family) (around : Around) (fs : T.Formats) (n : Values) (rest : List FormatItem) (below : List EditPlace) (k : ℕ) → IsProvedItem block types item → bl.taken.words + put_item_words item ≤ bl.words → AreProvedFormats fs → HasData fs → (has_text fs ≡ true → HasPrecision item) → Suit (has_fixed fs) (has_text fs) rest → v.edits ≡ putting (format_items fs) rest ∷ below → Linked links code i (C.item_put e bl.taken fs item) → Serving k s v around.line → AllHold bl.frames bl.serials (storage v) (e.level ∷ bl.depths) s block types n → ((b : Base) → At b i (Known (bl.ground n) v h t nothing b) (f b)) → ItemBehind bl k around.line h t (i + size_of (C.item_put e bl.taken fs item)) n fs below aims → Comes code i f v aims (P.item_put around (format_items fs) rest item k s)
 item_piece bl (Y.PutValue (Y.NumberValue p x)) closed routines f around fs n rest below k is room are has precise suits edits l serving all at goal =
     number_item_piece bl closed routines f around fs p x n rest below k is room are has precise suits edits l serving all at goal
 item_piece bl (Y.PutValue (Y.BitValue x)) closed routines f around fs n rest below k is room are has precise suits edits l serving all at goal =

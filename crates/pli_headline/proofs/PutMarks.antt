@@ -10,7 +10,7 @@ use Rattle.pli_coding.specs.Instructions.{small, number, choice, service}
 use Rattle.pli_coding.specs.Environments.{Environment, Taken, save, fetch}
 use Rattle.pli_coding.specs.Expressions.{number_code, text_code, bit_code}
 use Rattle.pli_coding.specs.Streams.{has_fixed, has_text, number_written, text_written, number_put, text_put, as_text, item_put, items_put, edit_ended, put_pair, put_pairs, skip_option}
-use Rattle.pli_headline.specs.ProvedSoFar.{Types, IsProvedItem, AreProvedItems, AreProvedPairs}
+use Rattle.pli_headline.specs.ProvedSoFar.{Names, Types, IsProvedItem, AreProvedItems, AreProvedPairs}
 use Rattle.pli_headline.proofs.EditConversions.{text_by_fixed}
 use Rattle.pli_headline.proofs.SymbolsMarked.{Marks, behind, constant_none, saved_none, fetched_none}
 use Rattle.pli_headline.proofs.Variables.{HasTypes}
@@ -31,7 +31,7 @@ put_none t formats precision =
     let text = fetch a0 t ++ (as_text precision ++ text_written) in
     chosen_none (has_fixed formats) (has_text formats) fixed text (behind (fetch a0 t) number_written [] (fetched_none a0 t) refl) (behind (fetch a0 t) (as_text precision ++ text_written) [] (fetched_none a0 t) refl)
 
-item_none : (e : Environment) (t : Taken) (block : ℕ) (types : Types) (formats : T.Formats) (i : Y.PutItem) → HasTypes e block types → IsProvedItem block types i → Marks (item_put e t formats i) []
+item_none : (e : Environment) (t : Taken) (block : Names) (types : Types) (formats : T.Formats) (i : Y.PutItem) → HasTypes e block types → IsProvedItem block types i → Marks (item_put e t formats i) []
 item_none e t block types formats (Y.PutValue (Y.NumberValue precision x)) has is =
     let put = number_put t formats (as_text precision) in
     behind (number_code e t x) (save a0 t ++ put) [] (number_none e t block types x has is)
@@ -44,12 +44,12 @@ item_none e t block types formats (Y.PutValue (Y.TextValue x)) has is =
     behind (text_code e t x) (text_put formats) [] (text_none e t block types x has is) (chosen_none (has_fixed formats) (has_text formats) text_by_fixed text_written refl refl)
 item_none e t block types formats _ has is = absurd is
 
-items_none : (e : Environment) (t : Taken) (block : ℕ) (types : Types) (formats : T.Formats) (is : List Y.PutItem) → HasTypes e block types → AreProvedItems block types is → Marks (items_put e t formats is) []
+items_none : (e : Environment) (t : Taken) (block : Names) (types : Types) (formats : T.Formats) (is : List Y.PutItem) → HasTypes e block types → AreProvedItems block types is → Marks (items_put e t formats is) []
 items_none e t block types formats [] has are = refl
 items_none e t block types formats (i ∷ is) has are =
     behind (item_put e t formats i) (items_put e t formats is) [] (item_none e t block types formats i has are.0) (items_none e t block types formats is has are.1)
 
-pub pairs_none : (e : Environment) (t : Taken) (block : ℕ) (types : Types) (ps : List Y.PutPair) → HasTypes e block types → AreProvedPairs block types ps → Marks (put_pairs e t ps) []
+pub pairs_none : (e : Environment) (t : Taken) (block : Names) (types : Types) (ps : List Y.PutPair) → HasTypes e block types → AreProvedPairs block types ps → Marks (put_pairs e t ps) []
 pairs_none e t block types [] has are = refl
 pairs_none e t block types (p ∷ ps) has are =
     let items = items_put e t p.formats p.items in

@@ -8,7 +8,8 @@ use Rattle.pli_meaning.specs.BasicValues.{BasicValue}
 use Rattle.pli_meaning.specs.StorageState.{State}
 use Rattle.pli_meaning.specs.Control as F
 use Rattle.pli_meaning.specs.Control.{Flow, Normal, Jump, Return, Paused, Stuck, Label, flow_on, Meaning}
-use Rattle.image_runs.specs.Runs.{Whole, Run, Runs, Ended, Stopped, next, run_on}
+use Rattle.image_runs.specs.Runs.{Whole, Run, Runs, Ended, Stopped}
+use Rattle.pli_headline.proofs.Unlimited.{next, run_on}
 use Rattle.pli_headline.proofs.Engine.{Base, at_base, run_on-add}
 
 -- a machine with its services at each base

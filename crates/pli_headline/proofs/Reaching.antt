@@ -1,5 +1,5 @@
 -- How code gets at the frame that holds the variables: it is the running frame, or stands in the display of that.
-use Rattle.std.proofs.Common.{◌≡◌, ℕ, ◌+◌, ◌^◌, ◌<◌, List, [], ◌++◌, length, Bool, true, false, refl, ap, ◌∙◌, subst, arith}
+use Rattle.std.proofs.Common.{◌≡◌, ℕ, ◌+◌, ◌*◌, ◌^◌, ◌<◌, List, [], ◌++◌, length, Bool, true, false, refl, ap, ◌∙◌, subst, arith}
 use Rattle.std.specs.Prelude.{ℤ, cond}
 use Rattle.rv_meaning.specs.declared.instr.Instr.{Instr}
 use Rattle.rv_meaning.specs.declared.instr.Instr.TheVariants as I
@@ -35,34 +35,36 @@ reach_moved {code} {f} {v} {v'} {c} {c'} {c''} {i'} {i''} {Q} e e' r =
 -- ---- the frame of the variables
 
 -- the running frame is that frame, or knows it
-abbrev pub Reaches : Bool → Ground → (base : ℕ) → Type 0
-Reaches true g base = g.frame ≡ base
-Reaches false g base =
-    PlaceOf g (display 0) (g.frame + 144)
-    × ((t : ℕ → ℕ) (b : Base) (m : List ℕ) → g.memory t b m → load 4 m (g.frame + 144) ≡ b.at + base)
+abbrev pub Reaches : Bool → (level : ℕ) → Ground → (base : ℕ) → Type 0
+Reaches true level g base = g.frame ≡ base
+Reaches false level g base =
+    PlaceOf g (display level) (g.frame + (144 + 4 * level))
+    × ((t : ℕ → ℕ) (b : Base) (m : List ℕ) → g.memory t b m → load 4 m (g.frame + (144 + 4 * level)) ≡ b.at + base)
 
 -- where it isn't the running one its address comes into a register
-abbrev pub found_by : Bool → Code
-found_by q = cond q [] (load_word u3 frame_register (display 0)) ++ []
+abbrev pub found_by : Bool → (level : ℕ) → Code
+found_by q level = cond q [] (load_word u3 frame_register (display level)) ++ []
 
 abbrev pub register_by : Bool → Register
 register_by q = cond q frame_register u3
 
 -- what stands for a variable comes into a0
-pub read_based : (q : Bool) {links : Links} {code : List Instr} {i : ℕ} {g : Ground} {v : Services} {h t : ℕ → ℕ} (c : ℕ) (f : Family) (base : ℕ) (kind : LoadKind) (z : ℤ) (o : ℕ) (x : Base → ℕ) → Reaches q g base → base < memory_size → PlaceFrom base z o → ((b : Base) (m : List ℕ) → g.memory t b m → extended kind (load (load_width kind) m o) ≡ x b) → Linked links code i (found_by q ++ displaced (λ s d. I.Load kind a0 s d) (register_by q) z) → ((b : Base) → At b i (Known g v h t nothing b) (f b)) → Reach code c f v (c + size_of (found_by q ++ displaced (λ s d. I.Load kind a0 s d) (register_by q) z)) v (λ b w. At b (i + size_of (found_by q ++ displaced (λ s d. I.Load kind a0 s d) (register_by q) z)) (Known g v h t (with' 10 x nothing) b) w)
-read_based true {g = g} c f base kind z o x reaches within place reads l at =
+pub read_based : (q : Bool) (level : ℕ) {links : Links} {code : List Instr} {i : ℕ} {g : Ground} {v : Services} {h t : ℕ → ℕ} (c : ℕ) (f : Family) (base : ℕ) (kind : LoadKind) (z : ℤ) (o : ℕ) (x : Base → ℕ) → Reaches q level g base → base < memory_size → PlaceFrom base z o → ((b : Base) (m : List ℕ) → g.memory t b m → extended kind (load (load_width kind) m o) ≡ x b) → Linked links code i (found_by q level ++ displaced (λ s d. I.Load kind a0 s d) (register_by q) z) → ((b : Base) → At b i (Known g v h t nothing b) (f b)) → Reach code c f v (c + size_of (found_by q level ++ displaced (λ s d. I.Load kind a0 s d) (register_by q) z)) v (λ b w. At b (i + size_of (found_by q level ++ displaced (λ s d. I.Load kind a0 s d) (register_by q) z)) (Known g v h t (with' 10 x nothing) b) w)
+read_based true level {g = g} c f base kind z o x reaches within place reads l at =
     narrow_load_from c f a0 frame_register kind z base o x place within (λ y u. refl) (λ b w k. frame_is k.body ∙ ap (λ u. b.at + u) reaches) reads
     (record { reserved_stay = λ y u. refl; known_stay = λ b y u k. k; set = λ y u. refl })
     (record { reserved_stay = λ y u. refl; known_stay = λ b y u k. k; set = λ y u. refl })
     l at
-read_based false {i = i} {g = g} {v = v} {h = h} {t = t} c f base kind z o x reaches within place reads l at =
-    let first = load_word u3 frame_register (display 0) in
+read_based false level {i = i} {g = g} {v = v} {h = h} {t = t} c f base kind z o x reaches within place reads l at =
+    let word' = load_word u3 frame_register (display level) in
+    let first = word' ++ [] in
     let second = displaced (λ s d. I.Load kind a0 s d) u3 z in
     let size = size_append first second in
-    let r1 = load_piece c f u3 (display 0) (g.frame + 144) (λ b. b.at + base) reaches.0 (λ b m k. reaches.1 t b m k)
+    let size' = size_append word' [] in
+    let r1 = reach_moved {c'' = c + size_of first} {i'' = i + size_of first} (omega (arith, size')) (omega (arith, size')) (load_piece c f u3 (display level) (g.frame + (144 + 4 * level)) (λ b. b.at + base) reaches.0 (λ b m k. reaches.1 t b m k)
     (record { reserved_stay = λ y u. refl; known_stay = λ b y u k. k; set = λ y u. refl })
     (record { reserved_stay = λ y u. refl; known_stay = λ b y u k. k; set = λ y u. refl })
-    (front_of first second l) at in
+    (front_of word' [] (front_of first second l)) at) in
     let r2 = narrow_load_from (c + size_of first) (reached r1) a0 u3 kind z base o x place within (λ y u. refl) (λ b w k. k.regs.0) reads
     (record { reserved_stay = λ y u. refl; known_stay = λ b y u k. (k.0, tt); set = λ y u. refl })
     (record { reserved_stay = λ y u. refl; known_stay = λ b y u k. (k.0, tt); set = λ y u. refl })
@@ -71,8 +73,8 @@ read_based false {i = i} {g = g} {v = v} {h = h} {t = t} c f base kind z o x rea
     (reach_map (λ b w. At b (i + size_of first + size_of second) (Known g v h t (with' 10 x nothing) b) w) (reach_then r1 r2) (λ b w k. record { pc = k.pc; holds = record { body = k.holds.body; regs = (k.holds.regs.0, tt) } }))
 
 -- what waits goes to a variable's place
-pub write_based : (q : Bool) {links : Links} {code : List Instr} {i : ℕ} {g : Ground} (g' : Ground) {v : Services} {h t : ℕ → ℕ} (temps : Temporaries g) (c : ℕ) (f : Family) (taken : Taken) (base : ℕ) (kind : StoreKind) (z : ℤ) (o x : ℕ) → Reaches q g base → base < memory_size → PlaceFrom base z o → (is_register_left taken ≡ false → taken.words < g.words) → x < 2 ^ 32 → waiting taken h t ≡ x → ((b : Base) → reserved_are b g h ≡ reserved_are b g' h) → ((b : Base) (m : List ℕ) → length m ≡ memory_size → g.memory t b m → g'.memory t b (store (store_width kind) m o x)) → Linked links code i (found_by q ++ (fetch a0 taken ++ displaced (λ s d. I.Store kind s a0 d) (register_by q) z)) → ((b : Base) → At b i (Known g v h t nothing b) (f b)) → Reach code c f v (c + size_of (found_by q ++ (fetch a0 taken ++ displaced (λ s d. I.Store kind s a0 d) (register_by q) z))) v (λ b w. At b (i + size_of (found_by q ++ (fetch a0 taken ++ displaced (λ s d. I.Store kind s a0 d) (register_by q) z))) (Known g' v h t nothing b) w)
-write_based true {i = i} {g = g} g' {v = v} {h = h} {t = t} temps c f taken base kind z o x reaches within place left fits waits same writes l at =
+pub write_based : (q : Bool) (level : ℕ) {links : Links} {code : List Instr} {i : ℕ} {g : Ground} (g' : Ground) {v : Services} {h t : ℕ → ℕ} (temps : Temporaries g) (c : ℕ) (f : Family) (taken : Taken) (base : ℕ) (kind : StoreKind) (z : ℤ) (o x : ℕ) → Reaches q level g base → base < memory_size → PlaceFrom base z o → (is_register_left taken ≡ false → taken.words < g.words) → x < 2 ^ 32 → waiting taken h t ≡ x → ((b : Base) → reserved_are b g h ≡ reserved_are b g' h) → ((b : Base) (m : List ℕ) → length m ≡ memory_size → g.memory t b m → g'.memory t b (store (store_width kind) m o x)) → Linked links code i (found_by q level ++ (fetch a0 taken ++ displaced (λ s d. I.Store kind s a0 d) (register_by q) z)) → ((b : Base) → At b i (Known g v h t nothing b) (f b)) → Reach code c f v (c + size_of (found_by q level ++ (fetch a0 taken ++ displaced (λ s d. I.Store kind s a0 d) (register_by q) z))) v (λ b w. At b (i + size_of (found_by q level ++ (fetch a0 taken ++ displaced (λ s d. I.Store kind s a0 d) (register_by q) z))) (Known g' v h t nothing b) w)
+write_based true level {i = i} {g = g} g' {v = v} {h = h} {t = t} temps c f taken base kind z o x reaches within place left fits waits same writes l at =
     let back = fetch a0 taken in
     let last = displaced (λ s d. I.Store kind s a0 d) frame_register z in
     let size = size_append back last in
@@ -85,17 +87,19 @@ write_based true {i = i} {g = g} g' {v = v} {h = h} {t = t} temps c f taken base
     (back_of back last l) (reached_holds r1) in
     reach_moved (omega (arith, size)) (omega (arith, size))
     (reach_map (λ b w. At b (i + size_of back + size_of last) (Known g' v h t nothing b) w) (reach_then r1 r2) (λ b w k. record { pc = k.pc; holds = record { body = k.holds.body; regs = tt } }))
-write_based false {i = i} {g = g} g' {v = v} {h = h} {t = t} temps c f taken base kind z o x reaches within place left fits waits same writes l at =
-    let first = load_word u3 frame_register (display 0) in
+write_based false level {i = i} {g = g} g' {v = v} {h = h} {t = t} temps c f taken base kind z o x reaches within place left fits waits same writes l at =
+    let word' = load_word u3 frame_register (display level) in
+    let first = word' ++ [] in
     let back = fetch a0 taken in
     let last = displaced (λ s d. I.Store kind s a0 d) u3 z in
     let size = size_append back last in
     let size' = size_append first (back ++ last) in
+    let size0 = size_append word' [] in
     let l2 = back_of first (back ++ last) l in
-    let r0 = load_piece c f u3 (display 0) (g.frame + 144) (λ b. b.at + base) reaches.0 (λ b m k. reaches.1 t b m k)
+    let r0 = reach_moved {c'' = c + size_of first} {i'' = i + size_of first} (omega (arith, size0)) (omega (arith, size0)) (load_piece c f u3 (display level) (g.frame + (144 + 4 * level)) (λ b. b.at + base) reaches.0 (λ b m k. reaches.1 t b m k)
     (record { reserved_stay = λ y u. refl; known_stay = λ b y u k. k; set = λ y u. refl })
     (record { reserved_stay = λ y u. refl; known_stay = λ b y u k. k; set = λ y u. refl })
-    (front_of first (back ++ last) l) at in
+    (front_of word' [] (front_of first (back ++ last) l)) at) in
     let r1 = fetch_piece temps (c + size_of first) (reached r0) a0 taken x left fits waits
     (record { reserved_stay = λ y u. refl; known_stay = λ b y u k. (k.0, tt); set = λ y u. refl })
     (record { reserved_stay = λ y u. refl; known_stay = λ b y u k. (k.0, tt); set = λ y u. refl })

@@ -26,7 +26,7 @@ use Rattle.pli_coding.specs.Environments.{Owner, BlockOwner, Environment}
 use Rattle.pli_coding.specs.Statements.{unwound_to, returned_by, stmt_code}
 use Rattle.pli_coding.specs.Linking.{Links}
 use Rattle.image_runs.specs.Runs.{Whole}
-use Rattle.pli_headline.specs.ProvedSoFar.{Types}
+use Rattle.pli_headline.specs.ProvedSoFar.{Names, Types}
 use Rattle.pli_headline.proofs.Engine.{Base, call_at}
 use Rattle.pli_headline.proofs.Linking.{size_append}
 use Rattle.pli_headline.proofs.Items.{Linked, At, straight}
@@ -73,7 +73,7 @@ unwind_asked =
     load_word frame_register frame_register (display 0)
     ++ (load_word a0 frame_register own_offset ++ (small a1 0 ∷ (small a7 6 ∷ [])))
 
-unwound_piece : {e : Environment} {block : ℕ} {types : Types} (bl : Block e block types) {links : Links} {code : List Instr} {i : ℕ} {v : Services} {h t : ℕ → ℕ} (n : Values) (c : ℕ) (f : Family) (a : S.Activation) → K.from_frame bl.base v.activations ≡ a ∷ [] → Reaches false (bl.ground n) bl.base → Linked links code i (unwound_to 0 0) → ((b : Base) → At b i (Known (bl.ground n) v h t nothing b) (f b)) → Reach code c f v (c + 5) (unwound_services v a []) (λ b w. At b (i + 5) (Unwound bl.base bl.bottom.holds (unwound_services v a []) b) w)
+unwound_piece : {e : Environment} {block : Names} {types : Types} (bl : Block e block types) {links : Links} {code : List Instr} {i : ℕ} {v : Services} {h t : ℕ → ℕ} (n : Values) (c : ℕ) (f : Family) (a : S.Activation) → K.from_frame bl.base v.activations ≡ a ∷ [] → Reaches false 0 (bl.ground n) bl.base → Linked links code i (unwound_to 0 0) → ((b : Base) → At b i (Known (bl.ground n) v h t nothing b) (f b)) → Reach code c f v (c + 5) (unwound_services v a []) (λ b w. At b (i + 5) (Unwound bl.base bl.bottom.holds (unwound_services v a []) b) w)
 unwound_piece bl {code = code} {i = i} {v = v} {t = t} n c f a found reaches l at =
     let g = bl.ground n in
     let base = bl.base in
@@ -117,7 +117,7 @@ unwound_lost : (base : ℕ) (holds : Base → List ℕ → Type 0) (v : Services
 unwound_lost base holds v b w u i o = record { services = o.services; regs = o.regs; memory = o.memory }
 
 -- the act leaves no credits to count, so the end may stand anywhere
-own_return_does : {e : Environment} {block : ℕ} {types : Types} (bl : Block e block types) (links : Links) (code : List Instr) (around : Around) (number line : ℕ) (q : Bool) → (0 == e.level) ≡ q → ((n : Values) → Reaches q (bl.ground n) bl.base) → line < 2 ^ 31 → e.owner ≡ BlockOwner (record { number = number; level = 0 }) → IsEndMarkedOnce links number → Does bl links code around.turns (act_code line ++ return_code q number) (M.statement around (Y.Return line))
+own_return_does : {e : Environment} {block : Names} {types : Types} (bl : Block e block types) (links : Links) (code : List Instr) (around : Around) (number line : ℕ) (q : Bool) → (0 == e.level) ≡ q → ((n : Values) → Reaches q 0 (bl.ground n) bl.base) → line < 2 ^ 31 → e.owner ≡ BlockOwner (record { number = number; level = 0 }) → IsEndMarkedOnce links number → Does bl links code around.turns (act_code line ++ return_code q number) (M.statement around (Y.Return line))
 unfolding M.statement returns ◌>>◌
 own_return_does {e} bl links code around number line true level reaches fits owned once =
     record {
@@ -175,14 +175,14 @@ own_return_does {e} bl links code around number line false level reaches fits ow
           }))));
     }
 
-pub return_does : {e : Environment} {block : ℕ} {types : Types} (bl : Block e block types) (links : Links) (code : List Instr) (around : Around) (line number : ℕ) → line < 2 ^ 31 → e.owner ≡ BlockOwner (record { number = number; level = 0 }) → IsEndMarkedOnce links number → Does bl links code around.turns (stmt_code e bl.taken (Y.Return line)) (M.statement around (Y.Return line))
+pub return_does : {e : Environment} {block : Names} {types : Types} (bl : Block e block types) (links : Links) (code : List Instr) (around : Around) (line number : ℕ) → line < 2 ^ 31 → e.owner ≡ BlockOwner (record { number = number; level = 0 }) → IsEndMarkedOnce links number → Does bl links code around.turns (stmt_code e bl.taken (Y.Return line)) (M.statement around (Y.Return line))
 return_does {e} bl links code around line number fits owned once =
     subst (λ (o : Owner). Does bl links code around.turns (act_code line ++ returned_by e 0 o) (M.statement around (Y.Return line))) (sym owned)
     (own_return_does bl links code around number line (0 == e.level) refl bl.reach fits owned once)
 
 -- ---- in a procedure's own block
 
-end_does : {e : Environment} {block : ℕ} {types : Types} (bl : Block e block types) (links : Links) (code : List Instr) (around : Around) (line : ℕ) → (0 == e.level) ≡ false → line < 2 ^ 31 → e.owner ≡ BlockOwner (record { number = e.block; level = e.level }) → IsEndMarkedOnce links e.block → Does bl links code around.turns (act_code line ++ JumpTo (ReturnPlace e.block) ∷ []) (M.statement around (Y.Return line))
+end_does : {e : Environment} {block : Names} {types : Types} (bl : Block e block types) (links : Links) (code : List Instr) (around : Around) (line : ℕ) → (0 == e.level) ≡ false → line < 2 ^ 31 → e.owner ≡ BlockOwner (record { number = e.block; level = e.level }) → IsEndMarkedOnce links e.block → Does bl links code around.turns (act_code line ++ JumpTo (ReturnPlace e.block) ∷ []) (M.statement around (Y.Return line))
 unfolding M.statement returns ◌>>◌
 end_does {e} bl links code around line deep fits owned once =
     record {
@@ -206,7 +206,7 @@ end_does {e} bl links code around line deep fits owned once =
           })));
     }
 
-pub own_end_does : {e : Environment} {block : ℕ} {types : Types} (bl : Block e block types) (links : Links) (code : List Instr) (around : Around) (line : ℕ) → (0 == e.level) ≡ false → line < 2 ^ 31 → e.owner ≡ BlockOwner (record { number = e.block; level = e.level }) → IsEndMarkedOnce links e.block → Does bl links code around.turns (stmt_code e bl.taken (Y.Return line)) (M.statement around (Y.Return line))
+pub own_end_does : {e : Environment} {block : Names} {types : Types} (bl : Block e block types) (links : Links) (code : List Instr) (around : Around) (line : ℕ) → (0 == e.level) ≡ false → line < 2 ^ 31 → e.owner ≡ BlockOwner (record { number = e.block; level = e.level }) → IsEndMarkedOnce links e.block → Does bl links code around.turns (stmt_code e bl.taken (Y.Return line)) (M.statement around (Y.Return line))
 own_end_does {e} bl links code around line deep fits owned once =
     subst (λ (o : Owner). Does bl links code around.turns (act_code line ++ returned_by e 0 o) (M.statement around (Y.Return line))) (sym owned)
     (subst (λ q. Does bl links code around.turns (act_code line ++ (cond q [] (unwound_to e.level 0) ++ JumpTo (ReturnPlace e.block) ∷ [])) (M.statement around (Y.Return line))) (sym (eq-eqb e.level e.level refl))

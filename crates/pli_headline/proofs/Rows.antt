@@ -12,7 +12,7 @@ use Rattle.image_runs.specs.Runs.{Stopped, layout_of, shown_by}
 use Rattle.pli_meaning.specs.Pictures.{step_cost}
 use Rattle.pli_headline.specs.Headline.{parts}
 use Rattle.pli_meaning.specs.Executing.{labels_in}
-use Rattle.pli_headline.specs.ProvedSoFar.{IsProvedSoFar, ArePlain, Types, AreProvedStatements, AllJumpAround, main_outer, all_labels, AreProvedFormats, AreProvedPairs, IsTimes, HasData, IsOwn, IsOwnText, IsTarget, plain_variable, text_leaf, alone, array_variable, IsProvedNumber, IsElement, IsDimension}
+use Rattle.pli_headline.specs.ProvedSoFar.{IsProvedSoFar, Names, main_names, ArePlain, Types, AreProvedStatements, AllJumpAround, main_outer, all_labels, AreProvedFormats, AreProvedPairs, IsTimes, HasData, IsOwn, IsOwnText, IsTarget, plain_variable, text_leaf, alone, array_variable, IsProvedNumber, IsElement, IsDimension}
 use Rattle.pli_typing.specs.Signatures.{Bounds}
 
 -- a fault is no world
@@ -53,10 +53,17 @@ loop =
     2)
     (Y.StmtThen [] (Y.Stop 4) (Y.EndOfList []))
 
-loop_proved : AreProvedStatements 1 (alone (Y.FixedLeaf 31) ∷ []) loop
+-- a program without variables, whose main procedure's variables these statements name
+abbrev no_program : Y.Program
+no_program = record { variables = []; procedures = [] }
+
+abbrev names : Names
+names = main_names no_program 1
+
+loop_proved : AreProvedStatements names (alone (Y.FixedLeaf 31) ∷ []) loop
 loop_proved =
-    let o : IsOwn 1 (alone (Y.FixedLeaf 31) ∷ []) (Y.FixedLeaf 31) whole_i = record { index = 0; declared = refl; is = refl } in
-    let i : IsProvedNumber 1 (alone (Y.FixedLeaf 31) ∷ []) (Y.NumberIn whole_i) = (record { precision = 31; part = inl o }, tt) in (
+    let o : IsOwn names (alone (Y.FixedLeaf 31) ∷ []) (Y.FixedLeaf 31) whole_i = record { index = 0; declared = refl; is = refl } in
+    let i : IsProvedNumber names (alone (Y.FixedLeaf 31) ∷ []) (Y.NumberIn whole_i) = (record { precision = 31; part = inl o }, tt) in (
       ((i, lit< tt), (((tt, (((inl o, tt), ((i, lit< tt), lit< tt)), lit< tt)), tt), lit< tt)),
       (lit< tt, tt),
     )
@@ -68,10 +75,10 @@ count =
     (Y.DoCount (Y.NumberCounter 31 whole_i) (Y.NumberValue 31 (Y.NumberConstant 1)) (Some (Y.NumberConstant 5)) (Y.NumberConstant 1) None (Y.EndOfList []) 2)
     (Y.EndOfList [])
 
-count_proved : AreProvedStatements 1 (alone (Y.FixedLeaf 31) ∷ []) count
+count_proved : AreProvedStatements names (alone (Y.FixedLeaf 31) ∷ []) count
 count_proved =
-    let o : IsOwn 1 (alone (Y.FixedLeaf 31) ∷ []) (Y.FixedLeaf 31) whole_i = record { index = 0; declared = refl; is = refl } in
-    let i : IsProvedNumber 1 (alone (Y.FixedLeaf 31) ∷ []) (Y.NumberIn whole_i) = (record { precision = 31; part = inl o }, tt) in
+    let o : IsOwn names (alone (Y.FixedLeaf 31) ∷ []) (Y.FixedLeaf 31) whole_i = record { index = 0; declared = refl; is = refl } in
+    let i : IsProvedNumber names (alone (Y.FixedLeaf 31) ∷ []) (Y.NumberIn whole_i) = (record { precision = 31; part = inl o }, tt) in
     ((((inl o, tt), lit< tt), ((lit< tt, lit< tt), (tt, (tt, lit< tt)))), tt)
 
 -- DCL S FIXED BIN(15) INIT(-7), B BIT(1) INIT('1'B);
@@ -103,9 +110,9 @@ starts =
     (Y.DoCount (Y.NumberCounter 31 whole_i) (Y.BitValue (Y.BitConstant true)) None (Y.NumberConstant 2) None (Y.EndOfList []) 3)
     (Y.EndOfList []))
 
-starts_proved : AreProvedStatements 1 (alone (Y.FixedLeaf 31) ∷ []) starts
+starts_proved : AreProvedStatements names (alone (Y.FixedLeaf 31) ∷ []) starts
 starts_proved =
-    let o : IsOwn 1 (alone (Y.FixedLeaf 31) ∷ []) (Y.FixedLeaf 31) whole_i = record { index = 0; declared = refl; is = refl } in (
+    let o : IsOwn names (alone (Y.FixedLeaf 31) ∷ []) (Y.FixedLeaf 31) whole_i = record { index = 0; declared = refl; is = refl } in (
       (((inl o, tt), omega arith), ((lit< tt, lit< tt), (tt, (tt, lit< tt)))),
       ((((inl o, tt), tt), ((tt, lit< tt), (tt, (tt, lit< tt)))), tt),
     )
@@ -118,9 +125,9 @@ units =
     (Y.StmtThen [] (Y.Revert C.ZeroDivide 4)
     (Y.EndOfList [])))
 
-units_proved : AreProvedStatements 1 (alone (Y.FixedLeaf 31) ∷ []) units
+units_proved : AreProvedStatements names (alone (Y.FixedLeaf 31) ∷ []) units
 units_proved =
-    let o : IsOwn 1 (alone (Y.FixedLeaf 31) ∷ []) (Y.FixedLeaf 31) whole_i = record { index = 0; declared = refl; is = refl } in
+    let o : IsOwn names (alone (Y.FixedLeaf 31) ∷ []) (Y.FixedLeaf 31) whole_i = record { index = 0; declared = refl; is = refl } in
     (lit< tt, (((inl o, tt), (tt, lit< tt)), (lit< tt, tt)))
 
 -- B = S > 100; IF B THEN S = S * 2;
@@ -134,12 +141,12 @@ kinds =
     (Y.StmtThen [] (Y.If (Y.BitIn (whole_of 1)) (Y.Assign (whole_of 0) (Y.StoredNumber 15 (Y.Calculated Y.Product (Y.NumberIn (whole_of 0)) (Y.NumberConstant 2))) 3) 3)
     (Y.EndOfList []))
 
-kinds_proved : AreProvedStatements 1 (alone (Y.FixedLeaf 15) ∷ alone Y.BitLeaf ∷ []) kinds
+kinds_proved : AreProvedStatements names (alone (Y.FixedLeaf 15) ∷ alone Y.BitLeaf ∷ []) kinds
 kinds_proved =
     let types : Types = alone (Y.FixedLeaf 15) ∷ alone Y.BitLeaf ∷ [] in
-    let s : IsOwn 1 types (Y.FixedLeaf 15) (whole_of 0) = record { index = 0; declared = refl; is = refl } in
-    let b : IsOwn 1 types Y.BitLeaf (whole_of 1) = record { index = 1; declared = refl; is = refl } in
-    let n : IsProvedNumber 1 types (Y.NumberIn (whole_of 0)) = (record { precision = 15; part = inl s }, tt) in
+    let s : IsOwn names types (Y.FixedLeaf 15) (whole_of 0) = record { index = 0; declared = refl; is = refl } in
+    let b : IsOwn names types Y.BitLeaf (whole_of 1) = record { index = 1; declared = refl; is = refl } in
+    let n : IsProvedNumber names types (Y.NumberIn (whole_of 0)) = (record { precision = 15; part = inl s }, tt) in
     (((inl b, tt), ((n, lit< tt), lit< tt)), (((inl b, tt), (((inl s, tt), ((n, lit< tt), lit< tt)), lit< tt)), tt))
 
 -- DCL C CHAR(5) INIT((2) *, 'X'), V CHAR(8) VARYING INIT((2) 'AB'), D CHAR(3), W CHAR(4) VARYING INIT('CD');
@@ -169,11 +176,11 @@ texts =
     (Y.If (Y.TextsCompared Y.IsEqual (Y.TextIn (whole_of 0)) (Y.TextIn (whole_of 1))) (Y.Assign (whole_of 0) (Y.StoredText (Y.SubstringFrom (Y.TextIn (whole_of 1)) (Y.LengthOf (Y.TextIn (whole_of 0))))) 3) 3)
     (Y.EndOfList []))
 
-texts_proved : AreProvedStatements 1 (alone (text_leaf false 5) ∷ alone (text_leaf true 8) ∷ []) texts
+texts_proved : AreProvedStatements names (alone (text_leaf false 5) ∷ alone (text_leaf true 8) ∷ []) texts
 texts_proved =
     let types : Types = alone (text_leaf false 5) ∷ alone (text_leaf true 8) ∷ [] in
-    let c : IsOwnText 1 types (whole_of 0) = record { varying = false; most = 5; own = record { index = 0; declared = refl; is = refl } } in
-    let v : IsOwnText 1 types (whole_of 1) = record { varying = true; most = 8; own = record { index = 1; declared = refl; is = refl } } in
+    let c : IsOwnText names types (whole_of 0) = record { varying = false; most = 5; own = record { index = 0; declared = refl; is = refl } } in
+    let v : IsOwnText names types (whole_of 1) = record { varying = true; most = 8; own = record { index = 1; declared = refl; is = refl } } in
     ((v, ((c, omega arith), lit< tt)), (((c, v), ((c, ((v, c), lit< tt)), lit< tt)), tt))
 
 -- DCL A(3, -1:1) FIXED BIN(31) INIT((4) 7, *, -7), I FIXED BIN(31);
@@ -207,15 +214,15 @@ elements =
     (Y.Assign (element_at (Y.NumberIn (element_at (Y.NumberConstant 1) (Y.NumberIn (whole_of 1)))) (Y.LowerBound (whole_of 0) 2)) (Y.StoredNumber 31 (Y.NumberIn (whole_of 1))) 2)
     (Y.EndOfList [])
 
-elements_proved : AreProvedStatements 1 (record { type = Y.FixedLeaf 31; bounds = three ∷ around_zero ∷ [] } ∷ alone (Y.FixedLeaf 31) ∷ []) elements
+elements_proved : AreProvedStatements names (record { type = Y.FixedLeaf 31; bounds = three ∷ around_zero ∷ [] } ∷ alone (Y.FixedLeaf 31) ∷ []) elements
 elements_proved =
     let types : Types = record { type = Y.FixedLeaf 31; bounds = three ∷ around_zero ∷ [] } ∷ alone (Y.FixedLeaf 31) ∷ [] in
-    let o : IsOwn 1 types (Y.FixedLeaf 31) (whole_of 1) = record { index = 1; declared = refl; is = refl } in
-    let n : IsProvedNumber 1 types (Y.NumberIn (whole_of 1)) = (record { precision = 31; part = inl o }, tt) in
-    let at : (i j : Y.Number) → IsElement 1 types (Y.FixedLeaf 31) (element_at i j) = λ i j.
+    let o : IsOwn names types (Y.FixedLeaf 31) (whole_of 1) = record { index = 1; declared = refl; is = refl } in
+    let n : IsProvedNumber names types (Y.NumberIn (whole_of 1)) = (record { precision = 31; part = inl o }, tt) in
+    let at : (i j : Y.Number) → IsElement names types (Y.FixedLeaf 31) (element_at i j) = λ i j.
     record { index = 0; bound = three; bounds = around_zero ∷ []; first = i; rest = Y.NumberThen j Y.NoNumber; declared = refl; many = refl; is = refl } in
-    let inner : IsProvedNumber 1 types (Y.NumberIn (element_at (Y.NumberConstant 1) (Y.NumberIn (whole_of 1)))) = (record { precision = 31; part = inr (at (Y.NumberConstant 1) (Y.NumberIn (whole_of 1))) }, (lit< tt, (n, tt))) in
-    let lower : IsDimension 1 types (whole_of 0) 2 = record { index = 0; type = Y.FixedLeaf 31; element = (omega arith, omega arith); bound = three; bounds = around_zero ∷ []; declared = refl; place = 1; asked = around_zero; dimension_is = refl; among = refl; is = refl } in
+    let inner : IsProvedNumber names types (Y.NumberIn (element_at (Y.NumberConstant 1) (Y.NumberIn (whole_of 1)))) = (record { precision = 31; part = inr (at (Y.NumberConstant 1) (Y.NumberIn (whole_of 1))) }, (lit< tt, (n, tt))) in
+    let lower : IsDimension names types (whole_of 0) 2 = record { index = 0; type = Y.FixedLeaf 31; element = (omega arith, omega arith); bound = three; bounds = around_zero ∷ []; declared = refl; place = 1; asked = around_zero; dimension_is = refl; among = refl; is = refl } in
     (((inr (at (Y.NumberIn (element_at (Y.NumberConstant 1) (Y.NumberIn (whole_of 1)))) (Y.LowerBound (whole_of 0) 2)), (inner, (lower, tt))), (n, lit< tt)), tt)
 
 -- DO A(2, I) = 1 TO 5; I = 0; END;
@@ -225,12 +232,12 @@ element_counts =
     (Y.DoCount (Y.NumberCounter 31 (element_at (Y.NumberConstant 2) (Y.NumberIn (whole_of 1)))) (Y.NumberValue 31 (Y.NumberConstant 1)) (Some (Y.NumberConstant 5)) (Y.NumberConstant 1) None (Y.StmtThen [] (Y.Assign (whole_of 1) (Y.StoredNumber 31 (Y.NumberConstant 0)) 3) (Y.EndOfList [])) 2)
     (Y.EndOfList [])
 
-element_counts_proved : AreProvedStatements 1 (record { type = Y.FixedLeaf 31; bounds = three ∷ around_zero ∷ [] } ∷ alone (Y.FixedLeaf 31) ∷ []) element_counts
+element_counts_proved : AreProvedStatements names (record { type = Y.FixedLeaf 31; bounds = three ∷ around_zero ∷ [] } ∷ alone (Y.FixedLeaf 31) ∷ []) element_counts
 element_counts_proved =
     let types : Types = record { type = Y.FixedLeaf 31; bounds = three ∷ around_zero ∷ [] } ∷ alone (Y.FixedLeaf 31) ∷ [] in
-    let o : IsOwn 1 types (Y.FixedLeaf 31) (whole_of 1) = record { index = 1; declared = refl; is = refl } in
-    let n : IsProvedNumber 1 types (Y.NumberIn (whole_of 1)) = (record { precision = 31; part = inl o }, tt) in
-    let at : IsElement 1 types (Y.FixedLeaf 31) (element_at (Y.NumberConstant 2) (Y.NumberIn (whole_of 1))) =
+    let o : IsOwn names types (Y.FixedLeaf 31) (whole_of 1) = record { index = 1; declared = refl; is = refl } in
+    let n : IsProvedNumber names types (Y.NumberIn (whole_of 1)) = (record { precision = 31; part = inl o }, tt) in
+    let at : IsElement names types (Y.FixedLeaf 31) (element_at (Y.NumberConstant 2) (Y.NumberIn (whole_of 1))) =
     record { index = 0; bound = three; bounds = around_zero ∷ []; first = Y.NumberConstant 2; rest = Y.NumberThen (Y.NumberIn (whole_of 1)) Y.NoNumber; declared = refl; many = refl; is = refl } in
     ((((inr at, (lit< tt, (n, tt))), lit< tt), ((lit< tt, lit< tt), (tt, ((((inl o, tt), (lit< tt, lit< tt)), tt), lit< tt)))), tt)
 
@@ -243,10 +250,10 @@ jumping =
     2)
     (Y.EndOfList [])
 
-jumping_proved : AreProvedStatements 1 [] jumping
+jumping_proved : AreProvedStatements names [] jumping
 jumping_proved = ((tt, (((tt, (lit< tt, lit< tt)), (lit< tt, tt)), lit< tt)), tt)
 
-jumps_around : AllJumpAround 1 0 (all_labels 1 jumping) (record { number = 1; level = 0 } ∷ []) (main_outer 1 []) [] (labels_in jumping) jumping
+jumps_around : AllJumpAround no_program 1 0 (all_labels 1 jumping) (record { number = 1; level = 0 } ∷ []) (main_outer 1 []) [] (labels_in jumping) jumping
 jumps_around = ((inl (refl, (refl, refl)), (inl (refl, (refl, refl)), tt)), tt)
 
 -- BEGIN; L: BEGIN; GOTO L; END; END;
@@ -259,7 +266,7 @@ jumping_out =
     (Y.EndOfList []))))
     (Y.EndOfList [])
 
-jumps_outward : AllJumpAround 1 0 (all_labels 1 jumping_out) (record { number = 1; level = 0 } ∷ record { number = 2; level = 1 } ∷ record { number = 3; level = 2 } ∷ []) (main_outer 1 []) [] (labels_in jumping_out) jumping_out
+jumps_outward : AllJumpAround no_program 1 0 (all_labels 1 jumping_out) (record { number = 1; level = 0 } ∷ record { number = 2; level = 1 } ∷ record { number = 3; level = 2 } ∷ []) (main_outer 1 []) [] (labels_in jumping_out) jumping_out
 jumps_outward =
     (((refl, omega arith), (((refl, omega arith), (inr (inl (refl, (refl, (refl, refl)))), tt)), tt)), tt)
 
@@ -267,7 +274,7 @@ jumps_outward =
 abbrev jumping_away : Y.Stmts
 jumping_away = Y.StmtThen [] (Y.Goto 0 (76 ∷ []) 3) (Y.EndOfList [])
 
-jumps_away : AllJumpAround 2 1 ((1, 76 ∷ []) ∷ []) (record { number = 1; level = 0 } ∷ record { number = 2; level = 1 } ∷ []) (main_outer 1 []) (record { level = 0; number = 1; labels = (76 ∷ []) ∷ [] } ∷ []) [] jumping_away
+jumps_away : AllJumpAround no_program 2 1 ((1, 76 ∷ []) ∷ []) (record { number = 1; level = 0 } ∷ record { number = 2; level = 1 } ∷ []) (main_outer 1 []) (record { level = 0; number = 1; labels = (76 ∷ []) ∷ [] } ∷ []) [] jumping_away
 jumps_away = (inr (inl (refl, (refl, (refl, refl)))), tt)
 
 -- (X(1), 2 (COLUMN(3), F(5)), A)
@@ -295,7 +302,7 @@ shown =
     }
     ∷ []
 
-shown_proved : AreProvedPairs 1 [] shown
+shown_proved : AreProvedPairs names [] shown
 unfolding formats_move_data format_moves_data
 shown_proved =
     let is = page_proved in
@@ -306,7 +313,7 @@ abbrev returning : Y.Stmts
 returning =
     Y.StmtThen [] (Y.If (Y.BitConstant true) (Y.Return 2) 2) (Y.StmtThen [] (Y.Return 3) (Y.EndOfList []))
 
-returning_proved : AreProvedStatements 1 [] returning
+returning_proved : AreProvedStatements names [] returning
 returning_proved = ((tt, (lit< tt, lit< tt)), (lit< tt, tt))
 
 -- GET EDIT (C, V) (F(5), A(3));
@@ -322,12 +329,12 @@ texts_read =
     2)
     (Y.EndOfList [])
 
-texts_read_proved : AreProvedStatements 1 (alone (text_leaf false 5) ∷ alone (text_leaf true 8) ∷ []) texts_read
+texts_read_proved : AreProvedStatements names (alone (text_leaf false 5) ∷ alone (text_leaf true 8) ∷ []) texts_read
 unfolding formats_move_data format_moves_data
 texts_read_proved =
     let types : Types = alone (text_leaf false 5) ∷ alone (text_leaf true 8) ∷ [] in
-    let c : IsTarget 1 types true (whole_of 0) = record { type = text_leaf false 5; part = inl (record { index = 0; declared = refl; is = refl }); read = tt; subscripts = tt } in
-    let v : IsTarget 1 types true (whole_of 1) = record { type = text_leaf true 8; part = inl (record { index = 1; declared = refl; is = refl }); read = tt; subscripts = tt } in
+    let c : IsTarget names types true (whole_of 0) = record { type = text_leaf false 5; part = inl (record { index = 0; declared = refl; is = refl }); read = tt; subscripts = tt } in
+    let v : IsTarget names types true (whole_of 1) = record { type = text_leaf true 8; part = inl (record { index = 1; declared = refl; is = refl }); read = tt; subscripts = tt } in
     let once : IsTimes 1 = (omega arith, omega arith) in
     ((((c, (v, tt)), (((once, ((omega arith, omega arith), (once, ((omega arith, omega arith), tt)))), (refl, (tt, (tt, tt)))), tt)), lit< tt), tt)
 
@@ -349,15 +356,15 @@ reading =
     2)
     (Y.EndOfList [])
 
-reading_proved : AreProvedStatements 1 (alone (Y.FixedLeaf 15) ∷ alone Y.BitLeaf ∷ []) reading
+reading_proved : AreProvedStatements names (alone (Y.FixedLeaf 15) ∷ alone Y.BitLeaf ∷ []) reading
 unfolding formats_move_data format_moves_data
 reading_proved =
     let types : Types = alone (Y.FixedLeaf 15) ∷ alone Y.BitLeaf ∷ [] in
-    let s : IsOwn 1 types (Y.FixedLeaf 15) (whole_of 0) = record { index = 0; declared = refl; is = refl } in
-    let b : IsOwn 1 types Y.BitLeaf (whole_of 1) = record { index = 1; declared = refl; is = refl } in
+    let s : IsOwn names types (Y.FixedLeaf 15) (whole_of 0) = record { index = 0; declared = refl; is = refl } in
+    let b : IsOwn names types Y.BitLeaf (whole_of 1) = record { index = 1; declared = refl; is = refl } in
     let once : IsTimes 1 = (omega arith, omega arith) in
-    let number_read : (fixed : Bool) → IsTarget 1 types fixed (whole_of 0) = λ fixed. record { type = Y.FixedLeaf 15; part = inl s; read = tt; subscripts = tt } in
-    let bit_read : IsTarget 1 types false (whole_of 1) = record { type = Y.BitLeaf; part = inl b; read = refl; subscripts = tt } in
+    let number_read : (fixed : Bool) → IsTarget names types fixed (whole_of 0) = λ fixed. record { type = Y.FixedLeaf 15; part = inl s; read = tt; subscripts = tt } in
+    let bit_read : IsTarget names types false (whole_of 1) = record { type = Y.BitLeaf; part = inl b; read = refl; subscripts = tt } in
     let line : AreProvedFormats inner = (once, (once, (once, ((omega arith, omega arith), tt)))) in (
       (
         (omega arith, omega arith),
@@ -388,8 +395,8 @@ program =
 small_program : IsProvedSoFar program
 unfolding formats_move_data format_moves_data
 small_program =
-    let o : IsOwn 1 (alone (Y.FixedLeaf 31) ∷ []) (Y.FixedLeaf 31) whole_i = record { index = 0; declared = refl; is = refl } in
-    let i : IsProvedNumber 1 (alone (Y.FixedLeaf 31) ∷ []) (Y.NumberIn whole_i) = (record { precision = 31; part = inl o }, tt) in
+    let o : IsOwn (main_names program 1) (alone (Y.FixedLeaf 31) ∷ []) (Y.FixedLeaf 31) whole_i = record { index = 0; declared = refl; is = refl } in
+    let i : IsProvedNumber (main_names program 1) (alone (Y.FixedLeaf 31) ∷ []) (Y.NumberIn whole_i) = (record { precision = 31; part = inl o }, tt) in
     record {
       head = head;
       body = body;
@@ -444,7 +451,7 @@ with_block =
 
 block_program : IsProvedSoFar with_block
 block_program =
-    let i : IsOwn 1 (alone (Y.FixedLeaf 31) ∷ []) (Y.FixedLeaf 31) whole_i = record { index = 0; declared = refl; is = refl } in
+    let i : IsOwn (main_names with_block 1) (alone (Y.FixedLeaf 31) ∷ []) (Y.FixedLeaf 31) whole_i = record { index = 0; declared = refl; is = refl } in
     record {
       head = head;
       body = outer_body;
@@ -492,7 +499,7 @@ with_procedure =
 
 procedure_program : IsProvedSoFar with_procedure
 procedure_program =
-    let i : IsOwn 1 (alone (Y.FixedLeaf 31) ∷ []) (Y.FixedLeaf 31) whole_i = record { index = 0; declared = refl; is = refl } in
+    let i : IsOwn (main_names with_procedure 1) (alone (Y.FixedLeaf 31) ∷ []) (Y.FixedLeaf 31) whole_i = record { index = 0; declared = refl; is = refl } in
     record {
       head = head;
       body = resting_body;
@@ -613,7 +620,7 @@ with_units =
 
 unit_program : IsProvedSoFar with_units
 unit_program =
-    let i : IsOwn 1 (alone (Y.FixedLeaf 31) ∷ []) (Y.FixedLeaf 31) whole_i = record { index = 0; declared = refl; is = refl } in
+    let i : IsOwn (main_names with_units 1) (alone (Y.FixedLeaf 31) ∷ []) (Y.FixedLeaf 31) whole_i = record { index = 0; declared = refl; is = refl } in
     record {
       head = head;
       body = raising_body;

@@ -18,7 +18,7 @@ use Rattle.pli_coding.specs.Allocating.{act_code}
 use Rattle.pli_coding.specs.Environments.{Environment}
 use Rattle.pli_coding.specs.Statements.{signal_code, stmt_code}
 use Rattle.pli_coding.specs.Linking.{Links}
-use Rattle.pli_headline.specs.ProvedSoFar.{Types}
+use Rattle.pli_headline.specs.ProvedSoFar.{Names, Types}
 use Rattle.pli_headline.proofs.Engine.{Base}
 use Rattle.pli_headline.proofs.Items.{Linked, At, straight}
 use Rattle.pli_headline.proofs.Bodies.{Ground, Known, zero_is}
@@ -57,7 +57,7 @@ signal_piece {i = i} {g = g} {v = v} {h = h} {t = t} C.Error other closed routin
     onward closed (jump_piece (i + 1) (i + 1 + 2) f1 RaiseError (routines.at + 8) (omega arith) routines.error (omega (arith, whole, near)) (record { reserved_stay = λ y u. refl; known_stay = λ b y u p. p; set = λ y u. refl }) (back_of front last l) at1)
     (λ f2 at2. error_piece closed routines (i + 1 + 2) f2 around n k (lit< tt) (omega (arith, inside, whole)) serving at2))
 
-pub signal_does : {e : Environment} {block : ℕ} {types : Types} (bl : Block e block types) (links : Links) (code : List Instr) (routines : Routines links code) (around : Around) (c : Condition) (line : ℕ) → IsOther c → line < 2 ^ 31 → Does bl links code around.turns (stmt_code e bl.taken (Y.Signal c line)) (M.statement around (Y.Signal c line))
+pub signal_does : {e : Environment} {block : Names} {types : Types} (bl : Block e block types) (links : Links) (code : List Instr) (routines : Routines links code) (around : Around) (c : Condition) (line : ℕ) → IsOther c → line < 2 ^ 31 → Does bl links code around.turns (stmt_code e bl.taken (Y.Signal c line)) (M.statement around (Y.Signal c line))
 unfolding M.statement ◌>>◌
 signal_does bl links code routines around c line other fits =
     record {

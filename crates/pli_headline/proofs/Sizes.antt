@@ -26,7 +26,7 @@ use Rattle.pli_coding.specs.Streams.{has_fixed, get_item_words, get_items_words,
 use Rattle.pli_coding.specs.Allocating.{act_code}
 use Rattle.pli_coding.specs.Statements.{if_met, while_met, block_words, stmt_code, stmts_code, stmt_words, stmts_words, marked, once_code, bit_if, in_turns, before_turns, number_if, start_code, limit_code, step_code, started_code, start_place, step_place, limit_place, turn_of, turns_code, words_back, words_behind_limit, words_behind_condition, limit_kept, while_kept, stepped_code}
 use Rattle.pli_coding.specs.Temporaries.{number_words, numbers_words, text_words, bit_words, reference_words, subscripts_words}
-use Rattle.pli_headline.specs.ProvedSoFar.{ArePlain, Types, IsOwn, IsProvedNumber, AreProvedNumbers, IsProvedBit, IsProvedText, IsProvedItem, AreProvedItems, AreProvedPairs, IsProvedGetItem, AreProvedGetItems, AreProvedGetPairs, IsProvedStatement, AreProvedStatements, IsProvedBitIf, IsProvedNumberIf, text_leaf, IsPart, IsAssigned, AreSubscripts, array_variable, IsElement, IsElementType, IsDimension, IsProvedStart}
+use Rattle.pli_headline.specs.ProvedSoFar.{Names, ArePlain, Types, IsOwn, IsProvedNumber, AreProvedNumbers, IsProvedBit, IsProvedText, IsProvedItem, AreProvedItems, AreProvedPairs, IsProvedGetItem, AreProvedGetItems, AreProvedGetPairs, IsProvedStatement, AreProvedStatements, IsProvedBitIf, IsProvedNumberIf, text_leaf, IsPart, IsAssigned, AreSubscripts, array_variable, IsElement, IsElementType, IsDimension, IsProvedStart}
 use Rattle.pli_coding.specs.Entries.{variables_words}
 use Rattle.pli_coding.specs.Procedures.{procedure_begun, procedure_ended, procedure_in}
 use Rattle.pli_headline.specs.Headline.{FitsMemory}
@@ -44,10 +44,10 @@ use Rattle.pli_headline.proofs.Targets.{part_type}
 pub most : (a b n : ℕ) → a ≤ n → b ≤ n → max a b ≤ n
 most a b n h i = grind (arith, nat_tests)
 
-pub own_words : (block : ℕ) (types : Types) (type : Y.LeafType) (r : Y.Reference) → IsOwn block types type r → reference_words r ≡ 0
+pub own_words : (block : Names) (types : Types) (type : Y.LeafType) (r : Y.Reference) → IsOwn block types type r → reference_words r ≡ 0
 own_words block types type r is = ap reference_words is.is
 
-asked_words : (block : ℕ) (types : Types) (r : Y.Reference) (dimension : ℕ) → IsDimension block types r dimension → reference_words r ≡ 0
+asked_words : (block : Names) (types : Types) (r : Y.Reference) (dimension : ℕ) → IsDimension block types r dimension → reference_words r ≡ 0
 asked_words block types r dimension is = ap reference_words is.is
 
 displaced_by : (q : Bool) (x : Code) (y : Code) → 1 ≤ size_of x → 1 ≤ size_of y → 1 ≤ size_of (cond q x y)
@@ -76,13 +76,13 @@ two_size a c last m n h i =
     most _ _ _ (omega (arith, h, s1)) (omega (arith, i, s1, s2))
 
 -- an element takes what its subscripts do
-element_size : (e : Environment) (t : Taken) (block index : ℕ) (first : Y.Number) (rest : Y.Numbers) → subscripts_words (Y.NumberThen first rest) ≤ size_of (subscripts_code e t (Y.NumberThen first rest)) → reference_words (element block index first rest) ≤ size_of (reference_code e t (element block index first rest))
+element_size : (e : Environment) (t : Taken) (block : Names) (index : ℕ) (first : Y.Number) (rest : Y.Numbers) → subscripts_words (Y.NumberThen first rest) ≤ size_of (subscripts_code e t (Y.NumberThen first rest)) → reference_words (element block index first rest) ≤ size_of (reference_code e t (element block index first rest))
 element_size e t block index first rest n =
     let xs = Y.NumberThen first rest in
     let s = size_append (subscripts_code e t xs) (reached e t t (own block index) whole_part (suc (given_in rest))) in
     most 0 (0 + subscripts_words xs) (size_of (reference_code e t (element block index first rest))) (omega arith) (omega (arith, n, s))
 
-part_size : (e : Environment) (t : Taken) (block : ℕ) (types : Types) (type : Y.LeafType) (r : Y.Reference) (last : Code) → IsPart block types type r → subscripts_words (subscripts_in r) ≤ size_of (subscripts_code e t (subscripts_in r)) → reference_words r ≤ size_of (reference_code e t r ++ last) + 1
+part_size : (e : Environment) (t : Taken) (block : Names) (types : Types) (type : Y.LeafType) (r : Y.Reference) (last : Code) → IsPart block types type r → subscripts_words (subscripts_in r) ≤ size_of (subscripts_code e t (subscripts_in r)) → reference_words r ≤ size_of (reference_code e t r ++ last) + 1
 part_size e t block types type r last (inl o) n = let z = own_words block types type r o in omega (arith, z)
 part_size e t block types type r last (inr o) n =
     let n' = subst (λ q. subscripts_words (subscripts_in q) ≤ size_of (subscripts_code e t (subscripts_in q))) o.is n in
@@ -91,7 +91,7 @@ part_size e t block types type r last (inr o) n =
     omega (arith, m, s)
 
 mutual
-  pub number_size : (e : Environment) (t : Taken) (block : ℕ) (types : Types) (x : Y.Number) → IsProvedNumber block types x → number_words x ≤ size_of (number_code e t x) + 1
+  pub number_size : (e : Environment) (t : Taken) (block : Names) (types : Types) (x : Y.Number) → IsProvedNumber block types x → number_words x ≤ size_of (number_code e t x) + 1
   number_size e t block types (Y.NumberConstant n) is = omega arith
   number_size e t block types (Y.NumberIn (Y.Referring v locator part subscripts)) is =
       let r = Y.Referring v locator part subscripts in
@@ -145,7 +145,7 @@ mutual
   number_size e t block types Y.OnCode is = omega arith
   number_size e t block types _ is = absurd is
 
-  numbers_size : (e : Environment) (t : Taken) (block : ℕ) (types : Types) (extremum : Y.Extremum) (xs : Y.Numbers) → AreProvedNumbers block types xs → numbers_words xs ≤ size_of (extremes_code e t extremum xs)
+  numbers_size : (e : Environment) (t : Taken) (block : Names) (types : Types) (extremum : Y.Extremum) (xs : Y.Numbers) → AreProvedNumbers block types xs → numbers_words xs ≤ size_of (extremes_code e t extremum xs)
   numbers_size e t block types extremum Y.NoNumber are = omega arith
   numbers_size e t block types extremum (Y.NumberThen first rest) are =
       let c = number_code e (with_number t) first in
@@ -161,7 +161,7 @@ mutual
       let s4 = size_append further more in
       most _ _ _ (omega (arith, n, one, s1, s2)) (omega (arith, m, s1, s2, s3, s4))
 
-  subscripts_size : (e : Environment) (t : Taken) (block : ℕ) (types : Types) (xs : Y.Numbers) → AreProvedNumbers block types xs → subscripts_words xs ≤ size_of (subscripts_code e t xs)
+  subscripts_size : (e : Environment) (t : Taken) (block : Names) (types : Types) (xs : Y.Numbers) → AreProvedNumbers block types xs → subscripts_words xs ≤ size_of (subscripts_code e t xs)
   subscripts_size e t block types Y.NoNumber are = omega arith
   subscripts_size e t block types (Y.NumberThen first rest) are =
       let c = subscripts_code e (with_number t) rest in
@@ -172,7 +172,7 @@ mutual
       let s2 = size_append (save a0 t) c in
       most _ _ _ (omega (arith, n, one, s1, s2)) (omega (arith, m, one, s1, s2))
 
-  pub bit_size : (e : Environment) (t : Taken) (block : ℕ) (types : Types) (x : Y.Bit) → IsProvedBit block types x → bit_words x ≤ size_of (bit_code e t x) + 1
+  pub bit_size : (e : Environment) (t : Taken) (block : Names) (types : Types) (x : Y.Bit) → IsProvedBit block types x → bit_words x ≤ size_of (bit_code e t x) + 1
   bit_size e t block types (Y.BitConstant b) is = omega arith
   bit_size e t block types (Y.BitIn (Y.Referring v locator part subscripts)) is =
       let r = Y.Referring v locator part subscripts in
@@ -200,7 +200,7 @@ mutual
   bit_size e t block types _ is = absurd is
 
   -- a text takes what its parts take
-  pub text_size : (e : Environment) (t : Taken) (block : ℕ) (types : Types) (x : Y.Text) → IsProvedText block types x → text_words x ≤ size_of (text_code e t x) + 1
+  pub text_size : (e : Environment) (t : Taken) (block : Names) (types : Types) (x : Y.Text) → IsProvedText block types x → text_words x ≤ size_of (text_code e t x) + 1
   text_size e t block types (Y.TextConstant bytes) is = omega arith
   text_size e t block types (Y.TextIn r) is = let z = own_words block types (text_leaf is.varying is.most) r is.own in omega (arith, z)
   text_size e t block types (Y.TextOfNumber precision x) is =
@@ -238,13 +238,13 @@ mutual
 
 -- ---- words of statements
 
-value_size : (e : Environment) (t : Taken) (block : ℕ) (types : Types) (formats : T.Formats) (precision : ℕ) (x : Y.Number) → IsProvedNumber block types x → max 1 (number_words x) ≤ size_of (value_put e t formats (Y.NumberValue precision x)) + 1
+value_size : (e : Environment) (t : Taken) (block : Names) (types : Types) (formats : T.Formats) (precision : ℕ) (x : Y.Number) → IsProvedNumber block types x → max 1 (number_words x) ≤ size_of (value_put e t formats (Y.NumberValue precision x)) + 1
 value_size e t block types formats precision x is =
     let n = number_size e t block types x is in
     let s = size_append (number_code e t x) (save a0 t ++ number_put t formats (as_text precision)) in
     most _ _ _ (omega arith) (omega (arith, n, s))
 
-item_size' : (e : Environment) (t : Taken) (block : ℕ) (types : Types) (formats : T.Formats) (i : Y.PutItem) → IsProvedItem block types i → put_item_words i ≤ size_of (item_put e t formats i) + 1
+item_size' : (e : Environment) (t : Taken) (block : Names) (types : Types) (formats : T.Formats) (i : Y.PutItem) → IsProvedItem block types i → put_item_words i ≤ size_of (item_put e t formats i) + 1
 item_size' e t block types formats (Y.PutValue (Y.NumberValue precision x)) is = value_size e t block types formats precision x is
 item_size' e t block types formats (Y.PutValue (Y.BitValue x)) is =
     let n = bit_size e t block types x is in
@@ -256,7 +256,7 @@ item_size' e t block types formats (Y.PutValue (Y.TextValue x)) is =
     omega (arith, n, s)
 item_size' e t block types formats _ is = absurd is
 
-items_size : (e : Environment) (t : Taken) (block : ℕ) (types : Types) (formats : T.Formats) (is : List Y.PutItem) → AreProvedItems block types is → put_items_words is ≤ size_of (items_put e t formats is) + 1
+items_size : (e : Environment) (t : Taken) (block : Names) (types : Types) (formats : T.Formats) (is : List Y.PutItem) → AreProvedItems block types is → put_items_words is ≤ size_of (items_put e t formats is) + 1
 items_size e t block types formats [] are = omega arith
 items_size e t block types formats (i ∷ is) are =
     let a = item_size' e t block types formats i are.0 in
@@ -264,7 +264,7 @@ items_size e t block types formats (i ∷ is) are =
     let s = size_append (item_put e t formats i) (items_put e t formats is) in
     most _ _ _ (omega (arith, a, s)) (omega (arith, c, s))
 
-pairs_size : (e : Environment) (t : Taken) (block : ℕ) (types : Types) (ps : List Y.PutPair) → AreProvedPairs block types ps → put_words ps ≤ size_of (put_pairs e t ps) + 1
+pairs_size : (e : Environment) (t : Taken) (block : Names) (types : Types) (ps : List Y.PutPair) → AreProvedPairs block types ps → put_words ps ≤ size_of (put_pairs e t ps) + 1
 pairs_size e t block types [] are = omega arith
 pairs_size e t block types (p ∷ ps) are =
     let items = items_put e t p.formats p.items in
@@ -287,7 +287,7 @@ act_size line =
 pub met_size' : (c : Code) → size_of (if_met c) ≡ 3 + size_of c
 met_size' c = size_append (skip_where Test.NotEqual a0 zero_register (JumpAhead (size_of c) ∷ [])) c
 
-pub once_size : (e : Environment) (t : Taken) (block : ℕ) (types : Types) (condition : Option Y.Bit) (line : ℕ) (c : Code) → IsProvedBitIf block types condition → (bit_if condition ≤ size_of (once_code e t condition line c) + 1) × (size_of c ≤ size_of (once_code e t condition line c))
+pub once_size : (e : Environment) (t : Taken) (block : Names) (types : Types) (condition : Option Y.Bit) (line : ℕ) (c : Code) → IsProvedBitIf block types condition → (bit_if condition ≤ size_of (once_code e t condition line c) + 1) × (size_of c ≤ size_of (once_code e t condition line c))
 once_size e t block types None line c is = (omega arith, omega arith)
 once_size e t block types (Some x) line c is =
     let n = bit_size e t block types x is in
@@ -296,7 +296,7 @@ once_size e t block types (Some x) line c is =
     let s3 = met_size' c in
     (omega (arith, n, s1, s2), omega (arith, s1, s2, s3))
 
-pub start_words_size : (e : Environment) (t : Taken) (block : ℕ) (types : Types) (start : Y.Value) → IsProvedStart block types start → value_words start ≤ size_of (start_code e t start) + 1
+pub start_words_size : (e : Environment) (t : Taken) (block : Names) (types : Types) (start : Y.Value) → IsProvedStart block types start → value_words start ≤ size_of (start_code e t start) + 1
 start_words_size e t block types (Y.NumberValue precision x) is =
     let n = number_size e (before_turns t) block types x is in
     let s = size_append (number_code e (before_turns t) x) (store_word frame_register a0 (start_place t)) in
@@ -308,14 +308,14 @@ start_words_size e t block types (Y.BitValue x) is =
 start_words_size e t block types (Y.TextValue x) is = text_size e (before_turns t) block types x is
 start_words_size e t block types _ is = absurd is
 
-pub limit_words_size : (e : Environment) (t : Taken) (block : ℕ) (types : Types) (limit : Option Y.Number) → IsProvedNumberIf block types limit → number_if limit ≤ size_of (limit_code e t limit) + 1
+pub limit_words_size : (e : Environment) (t : Taken) (block : Names) (types : Types) (limit : Option Y.Number) → IsProvedNumberIf block types limit → number_if limit ≤ size_of (limit_code e t limit) + 1
 limit_words_size e t block types None is = omega arith
 limit_words_size e t block types (Some x) is =
     let n = number_size e (before_turns t) block types x is in
     let s = size_append (number_code e (before_turns t) x) (store_word frame_register a0 (limit_place t)) in
     omega (arith, n, s)
 
-pub condition_words_size : (e : Environment) (t : Taken) (block : ℕ) (types : Types) (condition : Option Y.Bit) (behind : ℕ) → IsProvedBitIf block types condition → bit_if condition ≤ size_of (while_kept e t condition behind) + 1
+pub condition_words_size : (e : Environment) (t : Taken) (block : Names) (types : Types) (condition : Option Y.Bit) (behind : ℕ) → IsProvedBitIf block types condition → bit_if condition ≤ size_of (while_kept e t condition behind) + 1
 condition_words_size e t block types None behind is = omega arith
 condition_words_size e t block types (Some x) behind is =
     let n = bit_size e (in_turns t) block types x is in
@@ -323,7 +323,7 @@ condition_words_size e t block types (Some x) behind is =
     omega (arith, n, s)
 
 -- what is assigned to
-pub target_size : (e : Environment) (t : Taken) (block : ℕ) (types : Types) (type : Y.LeafType) (r : Y.Reference) → IsAssigned block types type r → reference_words r ≤ size_of (word_stored e t r)
+pub target_size : (e : Environment) (t : Taken) (block : Names) (types : Types) (type : Y.LeafType) (r : Y.Reference) → IsAssigned block types type r → reference_words r ≤ size_of (word_stored e t r)
 target_size e t block types type r is = by_part is.0
   where
     by_part : IsPart block types type r → reference_words r ≤ size_of (word_stored e t r)
@@ -347,7 +347,7 @@ field_size e t formats (Y.FixedLeaf p) r is =
 field_size e t formats Y.BitLeaf r is = let s = size_append bit_got (word_stored e t r) in omega (arith, s)
 field_size e t formats _ r is = absurd is
 
-got_item_words : (e : Environment) (t : Taken) (block : ℕ) (types : Types) (has : HasTypes e block types) (formats : T.Formats) (after : ℕ) (i : Y.GetItem) → IsProvedGetItem block types (has_fixed formats) i → get_item_words i ≤ size_of (item_got e t formats i after)
+got_item_words : (e : Environment) (t : Taken) (block : Names) (types : Types) (has : HasTypes e block types) (formats : T.Formats) (after : ℕ) (i : Y.GetItem) → IsProvedGetItem block types (has_fixed formats) i → get_item_words i ≤ size_of (item_got e t formats i after)
 got_item_words e t block types has formats after (Y.GetScalar r) is = by_part is.part
   where
     by_part : IsOwn block types is.type r ⊎ (IsElement block types is.type r × IsElementType is.type) → suc (reference_words r) ≤ size_of (item_got e t formats (Y.GetScalar r) after)
@@ -365,7 +365,7 @@ got_item_words e t block types has formats after (Y.GetScalar r) is = by_part is
         omega (arith, z, f, s)
 got_item_words e t block types has formats after (Y.GetAggregate r) is = absurd is
 
-got_items_words : (e : Environment) (t : Taken) (block : ℕ) (types : Types) (has : HasTypes e block types) (formats : T.Formats) (after : ℕ) (is : List Y.GetItem) → AreProvedGetItems block types (has_fixed formats) is → get_items_words is ≤ size_of (items_got e t formats after is)
+got_items_words : (e : Environment) (t : Taken) (block : Names) (types : Types) (has : HasTypes e block types) (formats : T.Formats) (after : ℕ) (is : List Y.GetItem) → AreProvedGetItems block types (has_fixed formats) is → get_items_words is ≤ size_of (items_got e t formats after is)
 got_items_words e t block types has formats after [] are = omega arith
 got_items_words e t block types has formats after (i ∷ is) are =
     let rest = items_got e t formats after is in
@@ -374,7 +374,7 @@ got_items_words e t block types has formats after (i ∷ is) are =
     let s = size_append (item_got e t formats i (size_of rest + after)) rest in
     most _ _ _ (omega (arith, a, s)) (omega (arith, c, s))
 
-got_words : (e : Environment) (t : Taken) (block : ℕ) (types : Types) (has : HasTypes e block types) (ps : List Y.GetPair) → AreProvedGetPairs block types ps → get_words ps ≤ size_of (get_pairs e t ps)
+got_words : (e : Environment) (t : Taken) (block : Names) (types : Types) (has : HasTypes e block types) (ps : List Y.GetPair) → AreProvedGetPairs block types ps → get_words ps ≤ size_of (get_pairs e t ps)
 got_words e t block types has [] are = omega arith
 got_words e t block types has (p ∷ ps) are =
     let rest = get_pairs e t ps in
@@ -387,7 +387,7 @@ got_words e t block types has (p ∷ ps) are =
     most _ _ _ (omega (arith, a, s1, s2, s3)) (omega (arith, c, s1))
 
 mutual
-  pub statement_size : (e : Environment) (t : Taken) (block : ℕ) (types : Types) (has : HasTypes e block types) (x : Y.Stmt) → IsProvedStatement block types x → stmt_words x ≤ size_of (stmt_code e t x) + 1
+  pub statement_size : (e : Environment) (t : Taken) (block : Names) (types : Types) (has : HasTypes e block types) (x : Y.Stmt) → IsProvedStatement block types x → stmt_words x ≤ size_of (stmt_code e t x) + 1
   statement_size e t block types has (Y.Null line) is = omega arith
   statement_size e t block types has (Y.Assign target (Y.StoredNumber precision x) line) is =
       let z : reference_words target ≤ size_of (stored_into e t target (Y.StoredNumber precision x)) = target_size e t block types (Y.FixedLeaf precision) target is.0 in
@@ -572,7 +572,7 @@ mutual
       omega (arith, n, s1, s2, s3)
   statement_size e t block types has _ is = absurd is
 
-  pub statements_size : (e : Environment) (t : Taken) (block : ℕ) (types : Types) (has : HasTypes e block types) (body : Y.Stmts) → AreProvedStatements block types body → stmts_words body ≤ size_of (stmts_code e t body) + 1
+  pub statements_size : (e : Environment) (t : Taken) (block : Names) (types : Types) (has : HasTypes e block types) (body : Y.Stmts) → AreProvedStatements block types body → stmts_words body ≤ size_of (stmts_code e t body) + 1
   statements_size e t block types has (Y.EndOfList labels) are = omega arith
   statements_size e t block types has (Y.StmtThen labels first rest) are =
       let a = statement_size e t block types has first are.0 in
@@ -591,14 +591,14 @@ no_variable_words (d ∷ ds) are =
     ∙ ap (λ n. max 0 n) (no_variable_words ds are.1)
 
 -- they are fewer than the words of its code
-pub procedure_size : (e : Environment) (head : Y.BlockHead) (types : Types) (body : Y.Stmts) → HasTypes e head.number types → ArePlain (variables_of_block e.program head.number) → AreProvedStatements head.number types body → block_words e head.number (stmts_words body) ≤ size_of (procedure_in e head body [] None)
-procedure_size e head types body has plain are =
+pub procedure_size : (e : Environment) (head : Y.BlockHead) (block : Names) (types : Types) (body : Y.Stmts) → HasTypes e block types → ArePlain (variables_of_block e.program head.number) → AreProvedStatements block types body → block_words e head.number (stmts_words body) ≤ size_of (procedure_in e head body [] None)
+procedure_size e head block types body has plain are =
     let words = block_words e head.number (stmts_words body) in
     let begun = procedure_begun e head words [] in
     let code = stmts_code e none_taken body in
     let ended = procedure_ended e head words None in
     let none = no_variable_words (variables_of_block e.program head.number) plain in
-    let n = statements_size e none_taken head.number types has body are in
+    let n = statements_size e none_taken block types has body are in
     let s1 = size_append begun (code ++ ended) in
     let s2 = size_append code ended in
     let room : stmts_words body ≤ size_of (procedure_in e head body [] None) = omega (arith, n, s1, s2) in

@@ -5,8 +5,9 @@ use Rattle.std.proofs.lemmas.Bool.{eqb-true}
 use Rattle.pli_typing.specs.TypedTree as Y
 use Rattle.pli_meaning.specs.Control.{Label}
 use Rattle.pli_meaning.specs.Executing.{labels_in}
+use Rattle.pli_meaning.specs.DeclaredShapes.{variables_of_block}
 use Rattle.pli_coding.specs.Environments.{BlockPlace}
-use Rattle.pli_headline.specs.ProvedSoFar.{OuterBlock, of_block, inner_labels, all_labels, JumpsAround, AllJumpAround, is_number, CallsAmong, AllCallAmong, IsUnitApart, IsUnitNew}
+use Rattle.pli_headline.specs.ProvedSoFar.{OuterBlock, if_bare, of_block, inner_labels, all_labels, JumpsAround, AllJumpAround, is_number, CallsAmong, AllCallAmong, IsUnitApart, IsUnitNew}
 use Rattle.pli_headline.proofs.InnerFrames.{other_level}
 
 -- a label of a block, or the end of one
@@ -153,54 +154,54 @@ mutual
 
 -- blocks inside the main procedure have no units
 mutual
-  no_unit : (number block level : ℕ) (all : List (ℕ × Label)) (blocks : List BlockPlace) (main : OuterBlock) (outer : List OuterBlock) (around : List Label) (x : Y.Stmt) → (0 == level) ≡ false → JumpsAround block level all blocks main outer around x → UnitsApart number x
-  no_unit number block level all blocks main outer around (Y.If condition unit line) deep jumps = no_unit number block level all blocks main outer around unit deep jumps
-  no_unit number block level all blocks main outer around (Y.IfElse condition unit otherwise line) deep jumps = (
-    no_unit number block level all blocks main outer around unit deep jumps.0,
-    no_unit number block level all blocks main outer around otherwise deep jumps.1,
+  no_unit : (program : Y.Program) (number block level : ℕ) (all : List (ℕ × Label)) (blocks : List BlockPlace) (main : OuterBlock) (outer : List OuterBlock) (around : List Label) (x : Y.Stmt) → (0 == level) ≡ false → JumpsAround program block level all blocks main outer around x → UnitsApart number x
+  no_unit program number block level all blocks main outer around (Y.If condition unit line) deep jumps = no_unit program number block level all blocks main outer around unit deep jumps
+  no_unit program number block level all blocks main outer around (Y.IfElse condition unit otherwise line) deep jumps = (
+    no_unit program number block level all blocks main outer around unit deep jumps.0,
+    no_unit program number block level all blocks main outer around otherwise deep jumps.1,
   )
-  no_unit number block level all blocks main outer around (Y.Do body line) deep jumps = no_units number block level all blocks main outer (labels_in body ++ around) body deep jumps
-  no_unit number block level all blocks main outer around (Y.DoWhile condition body line) deep jumps = no_units number block level all blocks main outer (labels_in body ++ around) body deep jumps
-  no_unit number block level all blocks main outer around (Y.DoOnce target start condition body line) deep jumps = no_units number block level all blocks main outer (labels_in body ++ around) body deep jumps
-  no_unit number block level all blocks main outer around (Y.DoCount counter start limit step condition body line) deep jumps = no_units number block level all blocks main outer (labels_in body ++ around) body deep jumps
-  no_unit number block level all blocks main outer around (Y.Begin (Y.BlockOf head body)) deep jumps =
-      no_units number head.number head.level all blocks main (record { level = level; number = block; labels = around } ∷ outer) (labels_in body) body (other_level head.level level jumps.0.0) jumps.1
-  no_unit number block level all blocks main outer around (Y.OnUnit condition (Y.BlockOf head body) line) deep jumps =
+  no_unit program number block level all blocks main outer around (Y.Do body line) deep jumps = no_units program number block level all blocks main outer (labels_in body ++ around) body deep jumps
+  no_unit program number block level all blocks main outer around (Y.DoWhile condition body line) deep jumps = no_units program number block level all blocks main outer (labels_in body ++ around) body deep jumps
+  no_unit program number block level all blocks main outer around (Y.DoOnce target start condition body line) deep jumps = no_units program number block level all blocks main outer (labels_in body ++ around) body deep jumps
+  no_unit program number block level all blocks main outer around (Y.DoCount counter start limit step condition body line) deep jumps = no_units program number block level all blocks main outer (labels_in body ++ around) body deep jumps
+  no_unit program number block level all blocks main outer around (Y.Begin (Y.BlockOf head body)) deep jumps =
+      no_units program number head.number head.level all blocks main (if_bare (variables_of_block program head.number) (record { level = level; number = block; labels = around } ∷ outer)) (labels_in body) body (other_level head.level level jumps.0.0) jumps.1
+  no_unit program number block level all blocks main outer around (Y.OnUnit condition (Y.BlockOf head body) line) deep jumps =
       let no : true ≡ false = sym jumps.0 ∙ deep in absurd (cc no)
-  no_unit number block level all blocks main outer around _ deep jumps = tt
+  no_unit program number block level all blocks main outer around _ deep jumps = tt
 
-  pub no_units : (number block level : ℕ) (all : List (ℕ × Label)) (blocks : List BlockPlace) (main : OuterBlock) (outer : List OuterBlock) (around : List Label) (body : Y.Stmts) → (0 == level) ≡ false → AllJumpAround block level all blocks main outer around body → AllUnitsApart number body
-  no_units number block level all blocks main outer around (Y.EndOfList labels) deep jumps = tt
-  no_units number block level all blocks main outer around (Y.StmtThen labels first rest) deep jumps = (
-    no_unit number block level all blocks main outer around first deep jumps.0,
-    no_units number block level all blocks main outer around rest deep jumps.1,
+  pub no_units : (program : Y.Program) (number block level : ℕ) (all : List (ℕ × Label)) (blocks : List BlockPlace) (main : OuterBlock) (outer : List OuterBlock) (around : List Label) (body : Y.Stmts) → (0 == level) ≡ false → AllJumpAround program block level all blocks main outer around body → AllUnitsApart number body
+  no_units program number block level all blocks main outer around (Y.EndOfList labels) deep jumps = tt
+  no_units program number block level all blocks main outer around (Y.StmtThen labels first rest) deep jumps = (
+    no_unit program number block level all blocks main outer around first deep jumps.0,
+    no_units program number block level all blocks main outer around rest deep jumps.1,
   )
 
 -- they are in the main procedure other than its own, by its jumps
 mutual
-  own_unit : (block level : ℕ) (all : List (ℕ × Label)) (blocks : List BlockPlace) (main : OuterBlock) (outer : List OuterBlock) (around : List Label) (x : Y.Stmt) → JumpsAround block level all blocks main outer around x → UnitsApart block x
-  own_unit block level all blocks main outer around (Y.If condition unit line) jumps = own_unit block level all blocks main outer around unit jumps
-  own_unit block level all blocks main outer around (Y.IfElse condition unit otherwise line) jumps = (
-    own_unit block level all blocks main outer around unit jumps.0,
-    own_unit block level all blocks main outer around otherwise jumps.1,
+  own_unit : (program : Y.Program) (block level : ℕ) (all : List (ℕ × Label)) (blocks : List BlockPlace) (main : OuterBlock) (outer : List OuterBlock) (around : List Label) (x : Y.Stmt) → JumpsAround program block level all blocks main outer around x → UnitsApart block x
+  own_unit program block level all blocks main outer around (Y.If condition unit line) jumps = own_unit program block level all blocks main outer around unit jumps
+  own_unit program block level all blocks main outer around (Y.IfElse condition unit otherwise line) jumps = (
+    own_unit program block level all blocks main outer around unit jumps.0,
+    own_unit program block level all blocks main outer around otherwise jumps.1,
   )
-  own_unit block level all blocks main outer around (Y.Do body line) jumps = own_units block level all blocks main outer (labels_in body ++ around) body jumps
-  own_unit block level all blocks main outer around (Y.DoWhile condition body line) jumps = own_units block level all blocks main outer (labels_in body ++ around) body jumps
-  own_unit block level all blocks main outer around (Y.DoOnce target start condition body line) jumps = own_units block level all blocks main outer (labels_in body ++ around) body jumps
-  own_unit block level all blocks main outer around (Y.DoCount counter start limit step condition body line) jumps = own_units block level all blocks main outer (labels_in body ++ around) body jumps
-  own_unit block level all blocks main outer around (Y.Begin (Y.BlockOf head body)) jumps =
-      no_units block head.number head.level all blocks main (record { level = level; number = block; labels = around } ∷ outer) (labels_in body) body (other_level head.level level jumps.0.0) jumps.1
-  own_unit block level all blocks main outer around (Y.OnUnit condition (Y.BlockOf head body) line) jumps = (
+  own_unit program block level all blocks main outer around (Y.Do body line) jumps = own_units program block level all blocks main outer (labels_in body ++ around) body jumps
+  own_unit program block level all blocks main outer around (Y.DoWhile condition body line) jumps = own_units program block level all blocks main outer (labels_in body ++ around) body jumps
+  own_unit program block level all blocks main outer around (Y.DoOnce target start condition body line) jumps = own_units program block level all blocks main outer (labels_in body ++ around) body jumps
+  own_unit program block level all blocks main outer around (Y.DoCount counter start limit step condition body line) jumps = own_units program block level all blocks main outer (labels_in body ++ around) body jumps
+  own_unit program block level all blocks main outer around (Y.Begin (Y.BlockOf head body)) jumps =
+      no_units program block head.number head.level all blocks main (if_bare (variables_of_block program head.number) (record { level = level; number = block; labels = around } ∷ outer)) (labels_in body) body (other_level head.level level jumps.0.0) jumps.1
+  own_unit program block level all blocks main outer around (Y.OnUnit condition (Y.BlockOf head body) line) jumps = (
     jumps.1.1.0,
-    no_units block head.number head.level all blocks main (main ∷ []) (labels_in body) body (other_level head.level 0 jumps.1.0) jumps.1.1.1,
+    no_units program block head.number head.level all blocks main (main ∷ []) (labels_in body) body (other_level head.level 0 jumps.1.0) jumps.1.1.1,
   )
-  own_unit block level all blocks main outer around _ jumps = tt
+  own_unit program block level all blocks main outer around _ jumps = tt
 
-  pub own_units : (block level : ℕ) (all : List (ℕ × Label)) (blocks : List BlockPlace) (main : OuterBlock) (outer : List OuterBlock) (around : List Label) (body : Y.Stmts) → AllJumpAround block level all blocks main outer around body → AllUnitsApart block body
-  own_units block level all blocks main outer around (Y.EndOfList labels) jumps = tt
-  own_units block level all blocks main outer around (Y.StmtThen labels first rest) jumps = (
-    own_unit block level all blocks main outer around first jumps.0,
-    own_units block level all blocks main outer around rest jumps.1,
+  pub own_units : (program : Y.Program) (block level : ℕ) (all : List (ℕ × Label)) (blocks : List BlockPlace) (main : OuterBlock) (outer : List OuterBlock) (around : List Label) (body : Y.Stmts) → AllJumpAround program block level all blocks main outer around body → AllUnitsApart block body
+  own_units program block level all blocks main outer around (Y.EndOfList labels) jumps = tt
+  own_units program block level all blocks main outer around (Y.StmtThen labels first rest) jumps = (
+    own_unit program block level all blocks main outer around first jumps.0,
+    own_units program block level all blocks main outer around rest jumps.1,
   )
 
 -- and other than those of the procedures that are called
@@ -216,26 +217,27 @@ apart_of number may head Y.ProcedureBlock among new = new_by (number == head.num
 apart_of number may head Y.BeginBlock among new = new_by (number == head.number) number head.number may refl among new
 
 mutual
-  called_unit : (number : ℕ) (may : List ℕ) (returns : Bool) (x : Y.Stmt) → is_number number may ≡ true → CallsAmong may returns x → UnitsApart number x
-  called_unit number may returns (Y.If condition unit line) among calls = called_unit number may returns unit among calls
-  called_unit number may returns (Y.IfElse condition unit otherwise line) among calls = (
-    called_unit number may returns unit among calls.0,
-    called_unit number may returns otherwise among calls.1,
+  called_unit : (program : Y.Program) (number block level : ℕ) (all : List (ℕ × Label)) (blocks : List BlockPlace) (main : OuterBlock) (outer : List OuterBlock) (around : List Label) (may : List ℕ) (returns : Bool) (x : Y.Stmt) → is_number number may ≡ true → JumpsAround program block level all blocks main outer around x → CallsAmong program may returns x → UnitsApart number x
+  called_unit program number block level all blocks main outer around may returns (Y.If condition unit line) among jumps calls = called_unit program number block level all blocks main outer around may returns unit among jumps calls
+  called_unit program number block level all blocks main outer around may returns (Y.IfElse condition unit otherwise line) among jumps calls = (
+    called_unit program number block level all blocks main outer around may returns unit among jumps.0 calls.0,
+    called_unit program number block level all blocks main outer around may returns otherwise among jumps.1 calls.1,
   )
-  called_unit number may returns (Y.Do body line) among calls = called_units number may returns body among calls
-  called_unit number may returns (Y.DoWhile condition body line) among calls = called_units number may returns body among calls
-  called_unit number may returns (Y.DoOnce target start condition body line) among calls = called_units number may returns body among calls
-  called_unit number may returns (Y.DoCount counter start limit step condition body line) among calls = called_units number may returns body among calls
-  called_unit number may returns (Y.Begin (Y.BlockOf head body)) among calls = called_units number may returns body among calls
-  called_unit number may returns (Y.OnUnit condition (Y.BlockOf head body) line) among calls = (
+  called_unit program number block level all blocks main outer around may returns (Y.Do body line) among jumps calls = called_units program number block level all blocks main outer (labels_in body ++ around) may returns body among jumps calls
+  called_unit program number block level all blocks main outer around may returns (Y.DoWhile condition body line) among jumps calls = called_units program number block level all blocks main outer (labels_in body ++ around) may returns body among jumps calls
+  called_unit program number block level all blocks main outer around may returns (Y.DoOnce target start condition body line) among jumps calls = called_units program number block level all blocks main outer (labels_in body ++ around) may returns body among jumps calls
+  called_unit program number block level all blocks main outer around may returns (Y.DoCount counter start limit step condition body line) among jumps calls = called_units program number block level all blocks main outer (labels_in body ++ around) may returns body among jumps calls
+  called_unit program number block level all blocks main outer around may returns (Y.Begin (Y.BlockOf head body)) among jumps calls =
+      no_units program number head.number head.level all blocks main (if_bare (variables_of_block program head.number) (record { level = level; number = block; labels = around } ∷ outer)) (labels_in body) body (other_level head.level level jumps.0.0) jumps.1
+  called_unit program number block level all blocks main outer around may returns (Y.OnUnit condition (Y.BlockOf head body) line) among jumps calls = (
     apart_of number may head head.kind among calls.1.1,
-    called_units number may false body among calls.0,
+    called_units program number head.number head.level all blocks main (main ∷ []) (labels_in body) may false body among jumps.1.1.1 calls.0,
   )
-  called_unit number may returns _ among calls = tt
+  called_unit program number block level all blocks main outer around may returns _ among jumps calls = tt
 
-  pub called_units : (number : ℕ) (may : List ℕ) (returns : Bool) (body : Y.Stmts) → is_number number may ≡ true → AllCallAmong may returns body → AllUnitsApart number body
-  called_units number may returns (Y.EndOfList labels) among calls = tt
-  called_units number may returns (Y.StmtThen labels first rest) among calls = (
-    called_unit number may returns first among calls.0,
-    called_units number may returns rest among calls.1,
+  pub called_units : (program : Y.Program) (number block level : ℕ) (all : List (ℕ × Label)) (blocks : List BlockPlace) (main : OuterBlock) (outer : List OuterBlock) (around : List Label) (may : List ℕ) (returns : Bool) (body : Y.Stmts) → is_number number may ≡ true → AllJumpAround program block level all blocks main outer around body → AllCallAmong program may returns body → AllUnitsApart number body
+  called_units program number block level all blocks main outer around may returns (Y.EndOfList labels) among jumps calls = tt
+  called_units program number block level all blocks main outer around may returns (Y.StmtThen labels first rest) among jumps calls = (
+    called_unit program number block level all blocks main outer around may returns first among jumps.0 calls.0,
+    called_units program number block level all blocks main outer around may returns rest among jumps.1 calls.1,
   )

@@ -1,18 +1,18 @@
 -- The code of statements that are proved marks the labels of their lists, each as often as it stands there, and nothing else.
-use Rattle.std.proofs.Common.{◌≡◌, ℕ, zero, suc, ◌+◌, List, [], ◌∷◌, ◌++◌, map, Option, None, Some, true, false, refl, sym, ap, ◌∙◌}
-use Rattle.std.specs.Prelude.{ℤ, pos, neg_ℤ, cond, ◌==◌}
+use Rattle.std.proofs.Common.{◌≡◌, ℕ, zero, suc, ◌+◌, List, [], ◌∷◌, ◌++◌, map, Option, None, Some, true, false, refl, sym, ap, ◌∙◌, Bool, true, subst}
+use Rattle.std.specs.Prelude.{ℤ, pos, min, neg_ℤ, cond, ◌==◌, if◌then◌else◌}
 use Rattle.rv_meaning.specs.declared.instr.Instr.TheVariants as I
 use Rattle.rv_meaning.specs.declared.instr.BranchTest.TheVariants as Test
 use Rattle.pli_language.specs.declared.condition.Condition.{Condition}
 use Rattle.pli_language.specs.declared.condition.Condition.TheVariants as C
 use Rattle.pli_typing.specs.TypedTree as Y
 use Rattle.pli_meaning.specs.Control.{Label}
-use Rattle.pli_coding.specs.Registers.{zero_register, stack_register, frame_register, a0, a1, a2, u0, u1, u2}
+use Rattle.pli_coding.specs.Registers.{zero_register, stack_register, frame_register, a0, a1, a2, u0, u1, u2, a3, a4}
 use Rattle.pli_coding.specs.Assembly.{Symbol, Plain, BaseIn, ProcedureEntry, LabelPlace, ReturnPlace, JumpTo, CallTo, JumpAhead, JumpBack, Code, size_of}
 use Rattle.pli_coding.specs.Instructions.{add, move, subtract, small, number, plus, load_word, store_word, skip_where, service, tested_service}
 use Rattle.pli_coding.specs.Environments.{Owner, BlockOwner, UnitOwner, Environment, in_frame, owned_by, Taken, none_taken, block_around}
-use Rattle.pli_coding.specs.Frames.{frame_below, own_offset, lower_top, display, fixed_size, frame_end, temporary_bytes, words_place}
-use Rattle.pli_coding.specs.Entries.{registers_restored, all_saved, display_copied, display_made, frame_begun, block_left, entered_without_texts, variables_made, variables_code}
+use Rattle.pli_coding.specs.Frames.{frame_below, own_offset, lower_top, display, fixed_size, frame_end, temporary_bytes, words_place, name_bytes, frame_bytes, automatic_place, last_place, is_automatic}
+use Rattle.pli_coding.specs.Entries.{registers_restored, all_saved, display_copied, display_made, frame_begun, block_left, entered_without_texts, variables_made, variables_code, constant_made, automatic_made}
 use Rattle.pli_meaning.specs.DeclaredShapes.{variables_of_block}
 use Rattle.pli_coding.specs.Arithmetic.{sum_code, fitted_code}
 use Rattle.pli_coding.specs.Expressions.{frame_given, number_code, bit_code, call_code}
@@ -20,7 +20,10 @@ use Rattle.pli_coding.specs.Storing.{word_stored, assigned_code}
 use Rattle.pli_coding.specs.Streams.{put_pairs, get_pairs, edit_ended, skip_option}
 use Rattle.pli_coding.specs.Allocating.{act_code}
 use Rattle.pli_coding.specs.Statements.{if_met, while_met, once_code, in_turns, before_turns, limit_place, step_place, start_place, start_code, limit_code, step_code, start_loaded, started_code, count_begun, limit_tested, limit_kept, while_kept, stepped_code, turn_of, turns_code, words_behind_limit, words_behind_condition, words_back, signal_code, unwound_to, returned_by, goto_outer, goto_code, marked, stmt_code, stmts_code, stmts_words, block_words, begin_environment, begin_code, condition_given, unit_established, unit_left, unit_variables, owner_of_unit, unit_words, unit_mark}
-use Rattle.pli_headline.specs.ProvedSoFar.{Types, IsAssigned, IsProvedNumber, IsProvedNumberIf, IsProvedBit, IsProvedBitIf, IsProvedStatement, AreProvedStatements, IsBare, AreBare, DeclaresNothing, IsProvedStart}
+use Rattle.pli_coding.specs.Locating.{own_place, frame_found, frame_in, table_number}
+use Rattle.rv_meaning.specs.declared.instr.Register.{Register}
+use Rattle.pli_headline.proofs.DeclaredNames.{declare_if, named_in, has_in, by_element}
+use Rattle.pli_headline.specs.ProvedSoFar.{Names, Types, IsAssigned, IsProvedNumber, IsProvedNumberIf, IsProvedBit, IsProvedBitIf, IsProvedStatement, AreProvedStatements, IsBare, AreBare, DeclaresNothing, IsProvedStart, names_in, types_in, AreDeclaring, IsElementType, plain_variable}
 use Rattle.pli_headline.proofs.Stands.{Stand, stands_of, end_of, inner_stands, all_stands}
 use Rattle.pli_headline.proofs.SymbolsMarked.{symbols_marked, Marks, both_mark, behind, before, either, constant_none, load_none, store_none, plus_none, overflow_none, act_none, fitted_none}
 use Rattle.pli_headline.proofs.PutMarks.{pairs_none, skip_none}
@@ -114,14 +117,49 @@ called_begun_none words level =
     (behind first (made ++ (own ++ raised)) [] refl
     (behind made (own ++ raised) [] (display_none level) (behind own raised [] refl (plus_none stack_register frame_register (pos (fixed_size level 0))))))
 
-begin_marks : (e : Environment) (head : Y.BlockHead) (words : ℕ) (c : Code) (ss : List Symbol) → variables_of_block e.program head.number ≡ [] → Marks c ss → Marks (begin_code e head words c) ss
-begin_marks e head words c ss none h =
+-- what makes a variable
+one_none : (e : Environment) (place : ℕ) (type : Y.LeafType) → IsElementType type → Marks (constant_made e place (plain_variable type [])) []
+one_none e place type element =
+    let d = plain_variable type [] in
+    let own = own_place e a0 (pos place) in
+    let named = number a1 (table_number e d) in
+    let first = small a2 0 ∷ [] in
+    let second = own_place e a3 (pos (place + name_bytes)) in
+    let asked = small a4 0 ∷ service 7 in
+    let up = plus stack_register frame_register (pos (min last_place (place + frame_bytes e.parts d))) in
+    behind own (named ++ (first ++ (second ++ (asked ++ up)))) [] (own_place_none e a0 place)
+    (behind named (first ++ (second ++ (asked ++ up))) [] (constant_none a1 (pos (table_number e d)))
+    (behind first (second ++ (asked ++ up)) [] refl
+    (behind second (asked ++ up) [] (own_place_none e a3 (place + name_bytes))
+    (behind asked up [] refl (plus_none stack_register frame_register (pos (min last_place (place + frame_bytes e.parts d))))))))
+  where
+    found_none : (e' : Environment) (r : Register) (q : Bool) → Marks (cond q [] (load_word r frame_register (display e'.level))) []
+    found_none e' r true = refl
+    found_none e' r false = load_none r frame_register (display e'.level)
+
+    own_place_none : (e' : Environment) (r : Register) (n : ℕ) → Marks (own_place e' r (pos n)) []
+    own_place_none e' r n =
+        let found = frame_found e' e'.level r in
+        let loaded = load_word r (frame_in e' e'.level r) own_offset in
+        behind found (loaded ++ plus r r (pos n)) [] (found_none e' r (e'.level == e'.level))
+        (behind loaded (plus r r (pos n)) [] (load_none r (frame_in e' e'.level r) own_offset) (plus_none r r (pos n)))
+
+declared_none : (e : Environment) (line index : ℕ) (ds : List Y.DeclaredVariable) → AreDeclaring ds → Marks (variables_made e line index ds) []
+declared_none e line index [] are = refl
+declared_none e line index (d ∷ ds) are =
+    let place = automatic_place e.parts e.program e.block e.level index in
+    let rest = variables_made e line (suc index) ds in
+    let T : Y.DeclaredVariable → Type 0 = λ u. Marks ((if is_automatic u.class then automatic_made e line place u else []) ++ rest) [] in
+    subst T (sym are.0.is) (by_element (λ t. T (plain_variable t [])) (λ p element. behind (constant_made e place (plain_variable (Y.FixedLeaf p) [])) rest [] (one_none e place (Y.FixedLeaf p) element) (declared_none e line (suc index) ds are.1)) (behind (constant_made e place (plain_variable Y.BitLeaf [])) rest [] (one_none e place Y.BitLeaf tt) (declared_none e line (suc index) ds are.1)) are.0.type are.0.element)
+
+begin_marks : (e : Environment) (head : Y.BlockHead) (words : ℕ) (c : Code) (ss : List Symbol) → AreDeclaring (variables_of_block e.program head.number) → Marks c ss → Marks (begin_code e head words c) ss
+begin_marks e head words c ss declaring h =
     let e' = begin_environment head e in
     let enter = entered_without_texts 1 head.line in
     let up = plus stack_register frame_register (neg_ℤ (pos (temporary_bytes words))) in
     let below = load_word frame_register frame_register frame_below in
     let ended = block_left 0 ++ (up ++ below) in
-    let made : Marks (variables_code e' head.line) [] = ap (λ ds. symbols_marked (variables_made e' head.line 0 ds)) none in
+    let made : Marks (variables_code e' head.line) [] = declared_none e' head.line 0 (variables_of_block e.program head.number) declaring in
     let frame = inner_begun_none words head.level in
     behind (frame_begun words head.level 0 false) (enter ++ (variables_code e' head.line ++ (c ++ ended))) ss frame
     (behind enter (variables_code e' head.line ++ (c ++ ended)) ss (behind (number a2 head.line) (service 4) [] (constant_none a2 (pos head.line)) refl)
@@ -129,21 +167,21 @@ begin_marks e head words c ss none h =
     (before c ended ss h (behind up below [] (plus_none stack_register frame_register (neg_ℤ (pos (temporary_bytes words)))) refl))))
 
 -- code behind an act and a test
-tested_marks : (e : Environment) (t : Taken) (block : ℕ) (types : Types) (condition : Y.Bit) (line : ℕ) (c : Code) (ss : List Symbol) → HasTypes e block types → IsProvedBit block types condition → Marks c ss → Marks (act_code line ++ (bit_code e t condition ++ c)) ss
+tested_marks : (e : Environment) (t : Taken) (block : Names) (types : Types) (condition : Y.Bit) (line : ℕ) (c : Code) (ss : List Symbol) → HasTypes e block types → IsProvedBit block types condition → Marks c ss → Marks (act_code line ++ (bit_code e t condition ++ c)) ss
 tested_marks e t block types condition line c ss has is h =
     behind (act_code line) (bit_code e t condition ++ c) ss (act_none line)
     (behind (bit_code e t condition) c ss (bit_none e t block types condition has is) h)
 
-once_marks : (e : Environment) (t : Taken) (block : ℕ) (types : Types) (condition : Option Y.Bit) (line : ℕ) (c : Code) (ss : List Symbol) → HasTypes e block types → IsProvedBitIf block types condition → Marks c ss → Marks (once_code e t condition line c) ss
+once_marks : (e : Environment) (t : Taken) (block : Names) (types : Types) (condition : Option Y.Bit) (line : ℕ) (c : Code) (ss : List Symbol) → HasTypes e block types → IsProvedBitIf block types condition → Marks c ss → Marks (once_code e t condition line c) ss
 once_marks e t block types None line c ss has is h = h
 once_marks e t block types (Some x) line c ss has is h = tested_marks e t block types x line (if_met c) ss has is h
 
-limit_none : (e : Environment) (t : Taken) (block : ℕ) (types : Types) (limit : Option Y.Number) → HasTypes e block types → IsProvedNumberIf block types limit → Marks (limit_code e t limit) []
+limit_none : (e : Environment) (t : Taken) (block : Names) (types : Types) (limit : Option Y.Number) → HasTypes e block types → IsProvedNumberIf block types limit → Marks (limit_code e t limit) []
 limit_none e t block types None has is = refl
 limit_none e t block types (Some x) has is =
     behind (number_code e (before_turns t) x) (store_word frame_register a0 (limit_place t)) [] (number_none e (before_turns t) block types x has is) (store_none frame_register a0 (limit_place t))
 
-start_none : (e : Environment) (t : Taken) (block : ℕ) (types : Types) (precision : ℕ) (r : Y.Reference) (start : Y.Value) → HasTypes e block types → IsProvedStart block types start → Marks (start_code e t start) [] × Marks (started_code t (Y.NumberCounter precision r) start) []
+start_none : (e : Environment) (t : Taken) (block : Names) (types : Types) (precision : ℕ) (r : Y.Reference) (start : Y.Value) → HasTypes e block types → IsProvedStart block types start → Marks (start_code e t start) [] × Marks (started_code t (Y.NumberCounter precision r) start) []
 start_none e t block types precision r (Y.NumberValue p x) has is = (
   behind (number_code e (before_turns t) x) (store_word frame_register a0 (start_place t)) [] (number_none e (before_turns t) block types x has is) (store_none frame_register a0 (start_place t)),
   behind (start_loaded t) (fitted_code (in_turns t) precision) [] (load_none a0 frame_register (start_place t)) (fitted_none (in_turns t) precision),
@@ -158,7 +196,7 @@ start_none e t block types precision r (Y.TextValue x) has is = (
 )
 start_none e t block types precision r _ has is = absurd is
 
-begun_none : (e : Environment) (t : Taken) (block : ℕ) (types : Types) (precision : ℕ) (r : Y.Reference) (start : Y.Value) (limit : Option Y.Number) (step : Y.Number) → HasTypes e block types → IsProvedStart block types start → IsProvedNumberIf block types limit → IsProvedNumber block types step → Marks (count_begun e t (Y.NumberCounter precision r) start limit step) []
+begun_none : (e : Environment) (t : Taken) (block : Names) (types : Types) (precision : ℕ) (r : Y.Reference) (start : Y.Value) (limit : Option Y.Number) (step : Y.Number) → HasTypes e block types → IsProvedStart block types start → IsProvedNumberIf block types limit → IsProvedNumber block types step → Marks (count_begun e t (Y.NumberCounter precision r) start limit step) []
 begun_none e t block types precision r start limit step has is isl iss =
     let c0 = start_code e t start in
     let c1 = limit_code e t limit in
@@ -177,17 +215,17 @@ tested_none t words =
     behind a _ [] (load_none u1 frame_register (limit_place t))
     (behind (load_word u2 frame_register (step_place t)) _ [] (load_none u2 frame_register (step_place t)) refl)
 
-kept_none : (e : Environment) (t : Taken) (block : ℕ) (types : Types) (precision : ℕ) (r : Y.Reference) (limit : Option Y.Number) (words : ℕ) → HasTypes e block types → IsAssigned block types (Y.FixedLeaf precision) r → Marks (limit_kept e t (Y.NumberCounter precision r) limit words) []
+kept_none : (e : Environment) (t : Taken) (block : Names) (types : Types) (precision : ℕ) (r : Y.Reference) (limit : Option Y.Number) (words : ℕ) → HasTypes e block types → IsAssigned block types (Y.FixedLeaf precision) r → Marks (limit_kept e t (Y.NumberCounter precision r) limit words) []
 kept_none e t block types precision r None words has is = refl
 kept_none e t block types precision r (Some x) words has is =
     behind (number_code e (in_turns t) (Y.NumberIn r)) (limit_tested t words) [] (number_none e (in_turns t) block types (Y.NumberIn r) has (assigned_read block types precision r is)) (tested_none t words)
 
-condition_none : (e : Environment) (t : Taken) (block : ℕ) (types : Types) (condition : Option Y.Bit) (words : ℕ) → HasTypes e block types → IsProvedBitIf block types condition → Marks (while_kept e t condition words) []
+condition_none : (e : Environment) (t : Taken) (block : Names) (types : Types) (condition : Option Y.Bit) (words : ℕ) → HasTypes e block types → IsProvedBitIf block types condition → Marks (while_kept e t condition words) []
 condition_none e t block types None words has is = refl
 condition_none e t block types (Some x) words has is =
     behind (bit_code e (in_turns t) x) (skip_where Test.NotEqual a0 zero_register (JumpAhead words ∷ [])) [] (bit_none e (in_turns t) block types x has is) refl
 
-stepped_none : (e : Environment) (t : Taken) (block : ℕ) (types : Types) (precision : ℕ) (r : Y.Reference) (line : ℕ) → HasTypes e block types → IsAssigned block types (Y.FixedLeaf precision) r → Marks (stepped_code e t (Y.NumberCounter precision r) line) []
+stepped_none : (e : Environment) (t : Taken) (block : Names) (types : Types) (precision : ℕ) (r : Y.Reference) (line : ℕ) → HasTypes e block types → IsAssigned block types (Y.FixedLeaf precision) r → Marks (stepped_code e t (Y.NumberCounter precision r) line) []
 stepped_none e t block types precision r line has is =
     let read = number_code e (in_turns t) (Y.NumberIn r) in
     let c = load_word a0 frame_register (step_place t) in
@@ -198,7 +236,7 @@ stepped_none e t block types precision r line has is =
     (behind c (d ++ last) [] (load_none a0 frame_register (step_place t))
     (behind d last [] (overflow_none (in_turns t)) (fitted_none (in_turns t) precision))))
 
-turns_mark : (e : Environment) (t : Taken) (block : ℕ) (types : Types) (precision : ℕ) (r : Y.Reference) (limit : Option Y.Number) (condition : Option Y.Bit) (line : ℕ) (c : Code) (ss : List Symbol) → HasTypes e block types → IsAssigned block types (Y.FixedLeaf precision) r → IsProvedBitIf block types condition → Marks c ss → Marks (turns_code (turn_of e t (Y.NumberCounter precision r) limit condition line c)) ss
+turns_mark : (e : Environment) (t : Taken) (block : Names) (types : Types) (precision : ℕ) (r : Y.Reference) (limit : Option Y.Number) (condition : Option Y.Bit) (line : ℕ) (c : Code) (ss : List Symbol) → HasTypes e block types → IsAssigned block types (Y.FixedLeaf precision) r → IsProvedBitIf block types condition → Marks c ss → Marks (turns_code (turn_of e t (Y.NumberCounter precision r) limit condition line c)) ss
 turns_mark e t block types precision r limit condition line c ss has target isc h =
     let u = turn_of e t (Y.NumberCounter precision r) limit condition line c in
     let st = word_stored e (in_turns t) r in
@@ -259,60 +297,60 @@ unit_marks e head body none marks =
 -- ---- the statements
 
 mutual
-  pub statement_marks : (e : Environment) (t : Taken) (block : ℕ) (types : Types) (x : Y.Stmt) → HasTypes e block types → IsProvedStatement block types x → IsBare e.program x → Marks (stmt_code e t x) (places_of (inner_stands e.block x))
-  statement_marks e t block types (Y.Null line) has is bare = act_none line
-  statement_marks e t block types (Y.Assign target (Y.StoredNumber precision x) line) has is bare =
+  pub statement_marks : (e : Environment) (t : Taken) (block : Names) (types : Types) (x : Y.Stmt) → block.program ≡ e.program → HasTypes e block types → IsProvedStatement block types x → IsBare e.program false x → Marks (stmt_code e t x) (places_of (inner_stands e.block x))
+  statement_marks e t block types (Y.Null line) named has is bare = act_none line
+  statement_marks e t block types (Y.Assign target (Y.StoredNumber precision x) line) named has is bare =
       behind (act_code line) (assigned_code e t target (Y.StoredNumber precision x)) [] (act_none line) (number_assigned_none e t block types precision target x has is.0 is.1.0)
-  statement_marks e t block types (Y.Assign target (Y.StoredBit x) line) has is bare =
+  statement_marks e t block types (Y.Assign target (Y.StoredBit x) line) named has is bare =
       behind (act_code line) (assigned_code e t target (Y.StoredBit x)) [] (act_none line) (bit_assigned_none e t block types target x has is.0 is.1.0)
-  statement_marks e t block types (Y.Assign target (Y.StoredText x) line) has is bare =
+  statement_marks e t block types (Y.Assign target (Y.StoredText x) line) named has is bare =
       behind (act_code line) (assigned_code e t target (Y.StoredText x)) [] (act_none line) (text_stored_none e t block types target x has is.0 is.1.0)
-  statement_marks e t block types (Y.If condition unit line) has is bare =
-      tested_marks e t block types condition line (if_met (stmt_code e t unit)) (places_of (inner_stands e.block unit)) has is.0 (statement_marks e t block types unit has is.1.0 bare)
-  statement_marks e t block types (Y.IfElse condition unit otherwise line) has is bare =
+  statement_marks e t block types (Y.If condition unit line) named has is bare =
+      tested_marks e t block types condition line (if_met (stmt_code e t unit)) (places_of (inner_stands e.block unit)) has is.0 (statement_marks e t block types unit named has is.1.0 bare)
+  statement_marks e t block types (Y.IfElse condition unit otherwise line) named has is bare =
       let c = stmt_code e t unit in
       let d = stmt_code e t otherwise in
       let over = JumpAhead (size_of d) ∷ [] in
       let ls = places_of (inner_stands e.block unit) in
       let ms = places_of (inner_stands e.block otherwise) in
       tested_marks e t block types condition line (if_met (c ++ over) ++ d) (places_of (inner_stands e.block unit ++ inner_stands e.block otherwise)) has is.0
-      (both_mark (c ++ over) d ls ms (before c over ls (statement_marks e t block types unit has is.1.0 bare.0) refl) (statement_marks e t block types otherwise has is.1.1.0 bare.1)
+      (both_mark (c ++ over) d ls ms (before c over ls (statement_marks e t block types unit named has is.1.0 bare.0) refl) (statement_marks e t block types otherwise named has is.1.1.0 bare.1)
       ∙ sym (places_append (inner_stands e.block unit) (inner_stands e.block otherwise)))
-  statement_marks e t block types (Y.Do body line) has is bare =
-      behind (act_code line) (stmts_code e t body) (places_of (all_stands e.block body)) (act_none line) (statements_mark e t block types body has is.0 bare)
-  statement_marks e t block types (Y.DoWhile condition body line) has is bare =
+  statement_marks e t block types (Y.Do body line) named has is bare =
+      behind (act_code line) (stmts_code e t body) (places_of (all_stands e.block body)) (act_none line) (statements_mark e t block types body named has is.0 bare)
+  statement_marks e t block types (Y.DoWhile condition body line) named has is bare =
       let test = act_code line ++ bit_code e t condition in
       let c = stmts_code e t body in
       let jump = JumpBack (size_of test + (3 + size_of c)) ∷ [] in
       let ls = places_of (all_stands e.block body) in
       behind (act_code line) (while_met test c) ls (act_none line)
       (behind test (if_met (c ++ jump)) ls (behind (act_code line) (bit_code e t condition) [] (act_none line) (bit_none e t block types condition has is.0))
-      (before c jump ls (statements_mark e t block types body has is.1.0 bare) refl))
-  statement_marks e t block types (Y.DoOnce target (Y.StoredNumber precision x) condition body line) has is bare =
+      (before c jump ls (statements_mark e t block types body named has is.1.0 bare) refl))
+  statement_marks e t block types (Y.DoOnce target (Y.StoredNumber precision x) condition body line) named has is bare =
       let stored' = assigned_code e t target (Y.StoredNumber precision x) in
       let c = stmts_code e t body in
       let rest = once_code e t condition line c in
       let ls = places_of (all_stands e.block body) in
       behind (act_code line) (stored' ++ rest) ls (act_none line)
       (behind stored' rest ls (number_assigned_none e t block types precision target x has is.0.0 is.0.1)
-      (once_marks e t block types condition line c ls has is.1.0 (statements_mark e t block types body has is.1.1.0 bare)))
-  statement_marks e t block types (Y.DoOnce target (Y.StoredBit x) condition body line) has is bare =
+      (once_marks e t block types condition line c ls has is.1.0 (statements_mark e t block types body named has is.1.1.0 bare)))
+  statement_marks e t block types (Y.DoOnce target (Y.StoredBit x) condition body line) named has is bare =
       let stored' = assigned_code e t target (Y.StoredBit x) in
       let c = stmts_code e t body in
       let rest = once_code e t condition line c in
       let ls = places_of (all_stands e.block body) in
       behind (act_code line) (stored' ++ rest) ls (act_none line)
       (behind stored' rest ls (bit_assigned_none e t block types target x has is.0.0 is.0.1)
-      (once_marks e t block types condition line c ls has is.1.0 (statements_mark e t block types body has is.1.1.0 bare)))
-  statement_marks e t block types (Y.DoOnce target (Y.StoredText x) condition body line) has is bare =
+      (once_marks e t block types condition line c ls has is.1.0 (statements_mark e t block types body named has is.1.1.0 bare)))
+  statement_marks e t block types (Y.DoOnce target (Y.StoredText x) condition body line) named has is bare =
       let stored' = assigned_code e t target (Y.StoredText x) in
       let c = stmts_code e t body in
       let rest = once_code e t condition line c in
       let ls = places_of (all_stands e.block body) in
       behind (act_code line) (stored' ++ rest) ls (act_none line)
       (behind stored' rest ls (text_stored_none e t block types target x has is.0.0 is.0.1)
-      (once_marks e t block types condition line c ls has is.1.0 (statements_mark e t block types body has is.1.1.0 bare)))
-  statement_marks e t block types (Y.DoCount (Y.NumberCounter precision target) start limit step condition body line) has is bare =
+      (once_marks e t block types condition line c ls has is.1.0 (statements_mark e t block types body named has is.1.1.0 bare)))
+  statement_marks e t block types (Y.DoCount (Y.NumberCounter precision target) start limit step condition body line) named has is bare =
       let counter = Y.NumberCounter precision target in
       let ahead = count_begun e t counter start limit step in
       let c = stmts_code e (in_turns t) body in
@@ -320,53 +358,53 @@ mutual
       let ls = places_of (all_stands e.block body) in
       behind (act_code line) (ahead ++ turns') ls (act_none line)
       (behind ahead turns' ls (begun_none e t block types precision target start limit step has is.0.1 is.1.0.0 is.1.0.1)
-      (turns_mark e t block types precision target limit condition line c ls has is.0.0 is.1.1.0 (statements_mark e (in_turns t) block types body has is.1.1.1.0 bare)))
-  statement_marks e t block types (Y.Begin (Y.BlockOf head body)) has is bare =
+      (turns_mark e t block types precision target limit condition line c ls has is.0.0 is.1.1.0 (statements_mark e (in_turns t) block types body named has is.1.1.1.0 bare)))
+  statement_marks e t block types (Y.Begin (Y.BlockOf head body)) named has is bare =
       let e' = begin_environment head e in
       let c = stmts_code e' none_taken body in
       let words = block_words e head.number (stmts_words body) in
       let ss = places_of (all_stands head.number body) in
-      behind (act_code head.line) (begin_code e head words c) ss (act_none head.line) (begin_marks e head words c ss bare.0 (statements_mark e' none_taken block types body has is.1.1 bare.1))
-  statement_marks e t block types (Y.CallProcedure (Y.Calling procedure level Y.NoArgument) line) has is bare =
+      behind (act_code head.line) (begin_code e head words c) ss (act_none head.line) (begin_marks e head words c ss (declare_if false (variables_of_block e.program head.number) bare.0) (statements_mark e' none_taken (names_in block types head (variables_of_block block.program head.number)) (types_in types (variables_of_block block.program head.number)) body (named_in block types head (variables_of_block block.program head.number) named) (has_in e block types head named (declare_if false (variables_of_block e.program head.number) bare.0) has) is.1.1 bare.1))
+  statement_marks e t block types (Y.CallProcedure (Y.Calling procedure level Y.NoArgument) line) named has is bare =
       behind (act_code line) (call_code e t (Y.Calling procedure level Y.NoArgument)) [] (act_none line) (call_none e (words_place t.words 0) procedure level)
-  statement_marks e t block types (Y.Return line) has is bare =
+  statement_marks e t block types (Y.Return line) named has is bare =
       behind (act_code line) (returned_by e 0 e.owner) [] (act_none line) (return_none e e.owner)
-  statement_marks e t block types (Y.Goto level label line) has is bare =
+  statement_marks e t block types (Y.Goto level label line) named has is bare =
       behind (act_code line) (goto_code e level label) [] (act_none line) (goto_none e level label)
-  statement_marks e t block types (Y.Stop line) has is bare =
+  statement_marks e t block types (Y.Stop line) named has is bare =
       before (act_code line) (small a0 1 ∷ small a1 0 ∷ service 2) [] (act_none line) refl
-  statement_marks e t block types (Y.Signal condition line) has is bare =
+  statement_marks e t block types (Y.Signal condition line) named has is bare =
       behind (act_code line) (signal_code condition) [] (act_none line) (signal_none condition)
-  statement_marks e t block types (Y.OnSystem condition line) has is bare =
+  statement_marks e t block types (Y.OnSystem condition line) named has is bare =
       before (act_code line) (condition_given condition ∷ small a1 0 ∷ service 28) [] (act_none line) refl
-  statement_marks e t block types (Y.Revert condition line) has is bare =
+  statement_marks e t block types (Y.Revert condition line) named has is bare =
       before (act_code line) (condition_given condition ∷ service 29) [] (act_none line) refl
-  statement_marks e t block types (Y.OnUnit condition (Y.BlockOf head body) line) has is bare =
+  statement_marks e t block types (Y.OnUnit condition (Y.BlockOf head body) line) named has is bare =
       let e' = owned_by (owner_of_unit head head.kind) (in_frame head.number head.level e) in
       let unit = unit_by e head body head.kind head.level in
       behind (act_code line) (unit_established condition unit) (places_of (all_stands head.number body ++ end_of head head.kind)) (act_none line)
-      (unit_marks e head body bare.0 (statements_mark e' none_taken block types body has is.1.1.1.1 bare.1))
-  statement_marks e t block types (Y.Put None pairs line) has is bare =
+      (unit_marks e head body bare.0 (statements_mark e' none_taken block types body named has is.1.1.1.1 bare.1))
+  statement_marks e t block types (Y.Put None pairs line) named has is bare =
       behind (act_code line) (put_pairs e t pairs) [] (act_none line) (pairs_none e t block types pairs has is.0)
-  statement_marks e t block types (Y.Put (Some n) pairs line) has is bare =
+  statement_marks e t block types (Y.Put (Some n) pairs line) named has is bare =
       behind (act_code line) (skip_option 1 (Some n) ++ put_pairs e t pairs) [] (act_none line)
       (behind (skip_option 1 (Some n)) (put_pairs e t pairs) [] (skip_none n) (pairs_none e t block types pairs has is.1.0))
-  statement_marks e t block types (Y.Get None pairs line) has is bare =
+  statement_marks e t block types (Y.Get None pairs line) named has is bare =
       behind (act_code line) (get_pairs e t pairs ++ edit_ended) [] (act_none line) (gets_none e t block types pairs has is.0)
-  statement_marks e t block types (Y.Get (Some n) pairs line) has is bare =
+  statement_marks e t block types (Y.Get (Some n) pairs line) named has is bare =
       let got = get_pairs e t pairs ++ edit_ended in
       behind (act_code line) (skip_option 0 (Some n) ++ got) [] (act_none line) (behind (skip_option 0 (Some n)) got [] (get_skip_none n) (gets_none e t block types pairs has is.1.0))
-  statement_marks e t block types _ has is bare = absurd is
+  statement_marks e t block types _ named has is bare = absurd is
 
-  pub statements_mark : (e : Environment) (t : Taken) (block : ℕ) (types : Types) (body : Y.Stmts) → HasTypes e block types → AreProvedStatements block types body → AreBare e.program body → Marks (stmts_code e t body) (places_of (all_stands e.block body))
-  statements_mark e t block types (Y.EndOfList labels) has are bare = marked_places e.block labels
-  statements_mark e t block types (Y.StmtThen labels first rest) has are bare =
+  pub statements_mark : (e : Environment) (t : Taken) (block : Names) (types : Types) (body : Y.Stmts) → block.program ≡ e.program → HasTypes e block types → AreProvedStatements block types body → AreBare e.program false body → Marks (stmts_code e t body) (places_of (all_stands e.block body))
+  statements_mark e t block types (Y.EndOfList labels) named has are bare = marked_places e.block labels
+  statements_mark e t block types (Y.StmtThen labels first rest) named has are bare =
       let c = stmt_code e t first in
       let d = stmts_code e t rest in
       let marks = stands_of e.block labels in
       let ls = inner_stands e.block first in
       let ms = all_stands e.block rest in
       both_mark (marked e.block labels) (c ++ d) (places_of marks) (places_of ls ++ places_of ms) (marked_places e.block labels)
-      (both_mark c d (places_of ls) (places_of ms) (statement_marks e t block types first has are.0 bare.0) (statements_mark e t block types rest has are.1 bare.1))
+      (both_mark c d (places_of ls) (places_of ms) (statement_marks e t block types first named has are.0 bare.0) (statements_mark e t block types rest named has are.1 bare.1))
       ∙ ap (λ ss. places_of marks ++ ss) (sym (places_append ls ms))
       ∙ sym (places_append marks (ls ++ ms))

@@ -1,6 +1,6 @@
 -- Statements of a block whose variables are scalars, one behind the other.
 use Rattle.std.proofs.Common.{◌≡◌, ℕ, zero, suc, ◌+◌, ◌*◌, ◌%◌, ◌^◌, ◌<◌, ◌≤◌, ◌⊎◌, inl, inr, List, [], ◌∷◌, ◌++◌, length, Option, Some, None, true, false, refl, sym, ap, ◌∙◌, subst, arith, Bool}
-use Rattle.std.specs.Prelude.{ℤ, pos, max, slice_get, ◌==◌}
+use Rattle.std.specs.Prelude.{ℤ, pos, cond, max, slice_get, ◌==◌}
 use Rattle.std.proofs.Math.Nat.{le-max_left}
 use Rattle.rv_meaning.specs.declared.instr.Instr.{Instr}
 use Rattle.rv_meaning.specs.Words.{word}
@@ -15,9 +15,11 @@ use Rattle.pli_meaning.specs.Control.{Label, Flow, Meaning, act, give, choose, i
 use Rattle.pli_meaning.specs.Raising.{Around, at_line}
 use Rattle.pli_meaning.specs.Evaluating as V
 use Rattle.pli_meaning.specs.Executing as M
+use Rattle.pli_meaning.specs.Placing as P
 use Rattle.pli_serving.specs.ServiceState.{Services, Activation}
+use Rattle.pli_serving.specs.Bytes.{with_bytes}
 use Rattle.pli_coding.specs.Assembly.{LabelPlace, ReturnPlace, Code, size_of}
-use Rattle.pli_coding.specs.Frames.{frame_end}
+use Rattle.pli_coding.specs.Frames.{frame_end, parameters_of_block}
 use Rattle.pli_coding.specs.Allocating.{act_code}
 use Rattle.pli_coding.specs.Environments.{Owner, BlockOwner, UnitOwner, Environment, Taken}
 use Rattle.pli_coding.specs.Expressions.{stored_code}
@@ -25,12 +27,17 @@ use Rattle.pli_coding.specs.Storing.{word_stored, stored_into, assigned_code}
 use Rattle.pli_coding.specs.Statements.{stmt_code, stmts_code, marked}
 use Rattle.pli_coding.specs.Temporaries.{number_words, bit_words}
 use Rattle.pli_coding.specs.Linking.{Links, place_of}
-use Rattle.pli_headline.specs.ProvedSoFar.{Types, OuterBlock, IsOwn, IsProvedNumber, IsProvedBit, alone}
+use Rattle.pli_coding.specs.SignatureTable.{table_of}
+use Rattle.pli_meaning.specs.DeclaredShapes.{variables_of_block}
+use Rattle.pli_headline.specs.Headline.{parts}
+use Rattle.pli_headline.proofs.PlainNumbers.{Numbered}
+use Rattle.pli_headline.specs.ProvedSoFar.{Names, Kind, Types, OuterBlock, IsOwn, IsProvedNumber, IsProvedBit, alone, types_of}
 use Rattle.image_runs.specs.Runs.{Whole}
+use Rattle.pli_headline.proofs.Storages.{storage, Storage, Serials, Stored, stored_changed}
 use Rattle.pli_headline.proofs.Engine.{Base, address, most_code}
 use Rattle.pli_headline.proofs.Linking.{times_marked, size_append}
 use Rattle.pli_headline.proofs.Items.{Linked, At, straight, Items}
-use Rattle.pli_headline.proofs.Scalars.{Typed, Fits, load_kind, store_kind, IsNumeric, Values, fits_numeric}
+use Rattle.pli_headline.proofs.Scalars.{Typed, Fits, load_kind, store_kind, IsNumeric, Values, fits_numeric, value_as}
 use Rattle.pli_headline.proofs.Bodies.{Ground, Known, PlaceFrom, Regs, reserved_are}
 use Rattle.pli_headline.proofs.Jumps.{front_of, back_of}
 use Rattle.pli_headline.proofs.Temporaries.{Temporaries, Stays, stays_same, stays_then, nothing}
@@ -42,12 +49,12 @@ use Rattle.pli_headline.proofs.Calls.{Serving}
 use Rattle.pli_headline.proofs.Raising.{Routines}
 use Rattle.pli_headline.proofs.StandingBytes.{ConstantsStand}
 use Rattle.pli_headline.proofs.Acts.{acted, act_piece}
-use Rattle.pli_headline.proofs.Variables.{IsDeclared, whole, own, data_place}
+use Rattle.pli_headline.proofs.Variables.{IsDeclared, whole, own, level_of, data_place, designated_scalar}
 use Rattle.pli_headline.proofs.Expressions.{Scope}
 use Rattle.pli_headline.proofs.Assignments.{assigned_state, Stores, number_stores, bit_stores, stored_piece}
-use Rattle.pli_headline.proofs.States.{Holds, holds_scalar, holds_assigned, with_number_at, NoneOwned, none_owned_changed}
+use Rattle.pli_headline.proofs.States.{Holds, holds_scalar, holds_assigned, with_number_at}
 use Rattle.pli_headline.proofs.TextScopes.{IsTextAt}
-use Rattle.pli_headline.proofs.TextStates.{KeepsText, holds_text, keeps_beside}
+use Rattle.pli_headline.proofs.TextStates.{KeepsText, holds_text, keeps_beside, text_apart}
 use Rattle.pli_headline.proofs.TextGrounds.{TextsStand}
 use Rattle.pli_headline.proofs.Since.{since_closed, comes_since}
 use Rattle.pli_headline.proofs.Reach.{Family, Aims, Comes, Closed, before_closed, comes_on, onward}
@@ -75,8 +82,13 @@ pub owned_of : (owner : Owner) (level : ℕ) → level ≡ 1 → IsSized owner l
 owned_of owner level next (inl lowest) = absurd (omega (arith, next, lowest))
 owned_of owner level next (inr owned) = owned
 
+-- these variables hold the same
+abbrev pub SameValues : Types → Values → Values → Type 0
+SameValues types n n' =
+    (j : ℕ) (kind : Kind) → slice_get types j ≡ Some kind → (n.numbers j ≡ n'.numbers j) × ((n.texts j ≡ n'.texts j) × (n.arrays j ≡ n'.arrays j))
+
 -- the stack above a block's frame, where blocks inside it have theirs
-pub record Stack (e : Environment) (block : ℕ) (types : Types) (base : ℕ) (ground : Values → Ground) : Type 0 where
+pub record Stack (e : Environment) (block : Names) (types : Types) (base : ℕ) (bases : ℕ → ℕ) (ground : Values → Ground) : Type 0 where
   pub frame : ℕ
   pub free : ℕ
   pub frame_is : (n : Values) → (ground n).frame ≡ frame
@@ -85,8 +97,9 @@ pub record Stack (e : Environment) (block : ℕ) (types : Types) (base : ℕ) (g
   pub high : 7 * 2 ^ 20 ≤ free
   pub above : frame + 144 ≤ free
   pub over : base < free
-  pub keeps : (n : Values) (t : ℕ → ℕ) (b : Base) (m : List ℕ) (p x : ℕ) → free ≤ p → (ground n).memory t b m → (ground n).memory t b (store 4 m p x)
-  pub under : (j : ℕ) {type : Y.LeafType} → slice_get types j ≡ Some (alone type) → base + data_place e block j + 4 ≤ free
+  pub keeps : (n : Values) (t : ℕ → ℕ) (b : Base) (m : List ℕ) (w p x : ℕ) → free ≤ p → (ground n).memory t b m → (ground n).memory t b (store w m p x)
+  pub keeps_bytes : (n : Values) (t : ℕ → ℕ) (b : Base) (m bytes : List ℕ) (p : ℕ) → free ≤ p → p + length bytes ≤ length m → (ground n).memory t b m → (ground n).memory t b (with_bytes bytes p m)
+  pub under : (j : ℕ) {type : Y.LeafType} → slice_get types j ≡ Some (alone type) → bases j + data_place e block j + 4 ≤ free
 
 -- the frame of the main procedure, below all others, with what stands in it whatever a block does
 pub record Lowest (base : ℕ) (frames : List ℕ) (ground : Values → Ground) : Type 1 where
@@ -136,11 +149,22 @@ Enclosures e ground shows frames levels [] = Unit {1}
 Enclosures e ground shows frames levels (o ∷ os) =
     Enclosing e o ground shows frames levels × Enclosures e ground shows frames levels os
 
+-- variables of blocks of these levels at most, whose activations are no higher
+abbrev pub Beneath : (level height : ℕ) → Serials → Names → Types → Type 0
+Beneath level height serials block types =
+    (j : ℕ) (kind : Kind) → slice_get types j ≡ Some kind → (level_of block j ≤ level) × (serials.owner j ≤ height)
+
+-- all variables stand in the blocks around
+abbrev pub AllBeneath : (e : Environment) (ground : Values → Ground) (shows : ℕ → ℕ) (frames levels : List ℕ) (os : List OuterBlock) → Enclosures e ground shows frames levels os → Serials → Names → Types → Type 0
+AllBeneath e ground shows frames levels [] cs serials block types = Unit {0}
+AllBeneath e ground shows frames levels (o ∷ os) cs serials block types =
+    Beneath o.level (suc (length cs.0.depths)) serials block types × AllBeneath e ground shows frames levels os cs.1 serials block types
+
 -- the ground of a block by what variables hold, which stand in the main procedure's frame, the temporaries that are taken
 -- while its statements run, the labels that a GOTO there may name: those of the lists that are carried out around, the frames of the
 -- blocks that are entered, the levels of those before it, the frames of the levels around, which stand in its display, and the blocks
 -- around to whose labels a GOTO may go
-pub record Block (e : Environment) (block : ℕ) (types : Types) : Type 1 where
+pub record Block (e : Environment) (block : Names) (types : Types) : Type 1 where
   pub ground : Values → Ground
   pub words : ℕ
   pub taken : Taken
@@ -150,57 +174,80 @@ pub record Block (e : Environment) (block : ℕ) (types : Types) : Type 1 where
   pub words_are : (n : Values) → (ground n).words ≡ words
   pub same : (n n' : Values) (b : Base) (h : ℕ → ℕ) → reserved_are b (ground n) h ≡ reserved_are b (ground n') h
   pub temps : (n : Values) → Temporaries (ground n)
+  pub alike : (n n' : Values) → SameValues types n n' → (t : ℕ → ℕ) (b : Base) (m : List ℕ) → (ground n).memory t b m → (ground n').memory t b m
   pub declared : (j : ℕ) {type : Y.LeafType} → slice_get types j ≡ Some (alone type) → IsDeclared e block j type
-  pub reach : (n : Values) → Reaches (0 == e.level) (ground n) base
-  pub places : (j : ℕ) {type : Y.LeafType} → slice_get types j ≡ Some (alone type) → PlaceFrom base (pos (data_place e block j)) (base + data_place e block j)
-  pub reads : (n : Values) (j : ℕ) {type : Y.LeafType} → slice_get types j ≡ Some (alone type) → Fits type (n.numbers j) → (t : ℕ → ℕ) (b : Base) (m : List ℕ) → (ground n).memory t b m → extended (load_kind type) (load (load_width (load_kind type)) m (base + data_place e block j)) ≡ word (n.numbers j)
-  pub writes : (n : Values) (j : ℕ) (z : ℤ) {type : Y.LeafType} → slice_get types j ≡ Some (alone type) → Fits type (n.numbers j) → Fits type z → (t : ℕ → ℕ) (b : Base) (m : List ℕ) → length m ≡ memory_size → (ground n).memory t b m → (ground (with_number_at n j z)).memory t b (store (store_width (store_kind type)) m (base + data_place e block j) (word z))
+  pub reach : (n : Values) → Reaches (0 == e.level) 0 (ground n) base
+  pub named : block.program ≡ e.program
+  pub lower : (j : ℕ) {kind : Kind} → slice_get types j ≡ Some kind → level_of block j ≤ e.level
+  pub bases : ℕ → ℕ
+  pub reaches : (n : Values) (j : ℕ) {kind : Kind} → slice_get types j ≡ Some kind → Reaches (level_of block j == e.level) (level_of block j) (ground n) (bases j)
+  pub inside : (j : ℕ) {kind : Kind} → slice_get types j ≡ Some kind → bases j < memory_size
+  pub places : (j : ℕ) {type : Y.LeafType} → slice_get types j ≡ Some (alone type) → PlaceFrom (bases j) (pos (data_place e block j)) (bases j + data_place e block j)
+  pub reads : (n : Values) (j : ℕ) {type : Y.LeafType} → slice_get types j ≡ Some (alone type) → Fits type (n.numbers j) → (t : ℕ → ℕ) (b : Base) (m : List ℕ) → (ground n).memory t b m → extended (load_kind type) (load (load_width (load_kind type)) m (bases j + data_place e block j)) ≡ word (n.numbers j)
+  pub writes : (n : Values) (j : ℕ) (z : ℤ) {type : Y.LeafType} → slice_get types j ≡ Some (alone type) → Fits type (n.numbers j) → Fits type z → (t : ℕ → ℕ) (b : Base) (m : List ℕ) → length m ≡ memory_size → (ground n).memory t b m → (ground (with_number_at n j z)).memory t b (store (store_width (store_kind type)) m (bases j + data_place e block j) (word z))
   pub held : taken.registers ≡ 0
   pub frames : Frames
+  pub serials : Serials
   pub bottom : Lowest base frames.list ground
   pub depths : List ℕ
   pub shallow : (0 == e.level) ≡ true → depths ≡ []
-  pub stack : Stack e block types base ground
+  pub owners : (j : ℕ) {kind : Kind} → slice_get types j ≡ Some kind → serials.owner j ≤ suc (length depths)
+  pub first_owner : (j : ℕ) {kind : Kind} → slice_get types j ≡ Some kind → level_of block j ≡ 0 → serials.owner j ≤ 1
+  pub stack : Stack e block types base bases ground
   pub alone : (0 == e.level) ≡ true → stack.frame ≡ base
   pub lead : List ℕ
   pub leads : frames.list ≡ stack.frame ∷ lead
   pub ends : stack.free ≤ 14 * 2 ^ 20
-  pub sized : IsSized e.owner e.level → stack.frame + frame_end e.parts e.program e.block e.level ≡ stack.free
+  pub sized : e.level ≡ 0 → stack.frame + frame_end e.parts e.program e.block e.level ≡ stack.free
   pub own : (n : Values) (t : ℕ → ℕ) (b : Base) (m : List ℕ) → (ground n).memory t b m → load 4 m (stack.frame + 36) ≡ stack.frame
   pub levels : ℕ → ℕ
   pub level_room : (j : ℕ) → j < e.level → levels j < memory_size
   pub outermost_level : (0 == e.level) ≡ false → levels 0 ≡ base
   pub displays : (n : Values) (t : ℕ → ℕ) (b : Base) (m : List ℕ) (j : ℕ) → j < e.level → (ground n).memory t b m → load 4 m (stack.frame + (144 + 4 * j)) ≡ b.at + levels j
-  pub texts : TextsStand e block types base stack.free ground
-  pub arrays : ArraysOn e block types base stack.free ground
+  pub leveled : (j : ℕ) {kind : Kind} → slice_get types j ≡ Some kind → cond (level_of block j == e.level) stack.frame (levels (level_of block j)) ≡ bases j
+  pub texts : TextsStand e block types bases stack.free ground
+  pub arrays : ArraysOn e block types bases stack.free ground
   pub outer : List OuterBlock
   pub enclosing : Enclosures e ground levels frames.list (e.level ∷ depths) outer
+  pub beneath : AllBeneath e ground levels frames.list (e.level ∷ depths) outer enclosing serials block types
 
--- what stands beside it: the routines of raises, and constant bytes
-pub record Standing {e : Environment} {block : ℕ} {types : Types} (bl : Block e block types) (links : Links) (code : List Instr) : Type 0 where
+-- all variables of the program have numbers in its table, and no block has parameters
+pub record IsKnown (e : Environment) : Type 0 where
+  pub table : e.table ≡ table_of e.program
+  pub parts_are : e.parts ≡ parts
+  pub numbered : (number j : ℕ) {kind : Kind} → slice_get (types_of (variables_of_block e.program number)) j ≡ Some kind → Numbered (table_of e.program) kind
+  pub none : (number : ℕ) → parameters_of_block e.program number ≡ []
+
+-- all variables of its own stand in its frame
+abbrev pub IsFilled : {e : Environment} {block : Names} {types : Types} → Block e block types → Type 0
+IsFilled {e} bl = IsSized e.owner e.level → bl.stack.frame + frame_end e.parts e.program e.block e.level ≡ bl.stack.free
+
+-- what stands beside it: the routines of raises, and constant bytes; and its frame has its end
+pub record Standing {e : Environment} {block : Names} {types : Types} (bl : Block e block types) (links : Links) (code : List Instr) : Type 0 where
   pub raises : Routines links code
   pub constants : (n : Values) → ConstantsStand links code (bl.ground n)
+  pub filled : IsFilled bl
 
--- blocks of these levels are entered, which have these frames and units, variables hold these numbers and texts and arrays theirs, and all
--- that lives is STATIC or the main procedure's
-pub record AllHold (frames : Frames) (xs : List Activation) (levels : List ℕ) (s : State) (block : ℕ) (types : Types) (n : Values) : Type 0 where
-  pub numbers : (j : ℕ) (b : Typed types j) → IsNumeric b.0 → Holds s block j b.0 (n.numbers j)
-  pub texts : (j : ℕ) (varying : Bool) (most : ℕ) → IsTextAt types j varying most → KeepsText s block j varying most (n.texts j)
-  pub arrays : (j : ℕ) (type : Y.LeafType) (b : Bounds) (bs : List Bounds) → IsArrayAt types j type b bs → HoldsArray s block j type (b ∷ bs) (n.arrays j)
+-- blocks of these levels are entered, which have these frames and units, variables hold these numbers and texts and arrays theirs, and
+-- what lives in the meaning lives among the services
+pub record AllHold (frames : Frames) (serials : Serials) (xs : Storage) (levels : List ℕ) (s : State) (block : Names) (types : Types) (n : Values) : Type 0 where
+  pub numbers : (j : ℕ) (b : Typed types j) → IsNumeric b.0 → Holds s block j (serials.of j) b.0 (n.numbers j)
+  pub texts : (j : ℕ) (varying : Bool) (most : ℕ) → IsTextAt types j varying most → KeepsText s block j (serials.of j) varying most (n.texts j)
+  pub arrays : (j : ℕ) (type : Y.LeafType) (b : Bounds) (bs : List Bounds) → IsArrayAt types j type b bs → HoldsArray s block j (serials.of j) type (b ∷ bs) (n.arrays j)
   pub entered : levels_of s.activations ≡ levels
-  pub framed : frames_of xs ≡ frames.list
-  pub kinds : kinds_of xs ≡ frames.kinds
-  pub units : UnitsKnown frames.known s.activations xs
-  pub owned : (height' : ℕ) → 1 < height' → NoneOwned height' s.living
+  pub framed : frames_of xs.activations ≡ frames.list
+  pub kinds : kinds_of xs.activations ≡ frames.kinds
+  pub units : UnitsKnown frames.known s.activations xs.activations
+  pub stored : Stored serials xs.signatures xs.living xs.serials (length levels) s.living s.serials block types
 
-abbrev pub scope_of : {e : Environment} {block : ℕ} {types : Types} (b : Block e block types) {s : State} {xs : List Activation} (n : Values) → AllHold b.frames xs (e.level ∷ b.depths) s block types n → Scope (b.ground n) e block types s n
+abbrev pub scope_of : {e : Environment} {block : Names} {types : Types} (b : Block e block types) {s : State} {xs : Storage} (n : Values) → AllHold b.frames b.serials xs (e.level ∷ b.depths) s block types n → Scope (b.ground n) e block types s n
 scope_of b n all =
     record {
       declared = λ j below. b.declared j below;
       holds = λ j {type} below numeric. holds_scalar (all.numbers j (type, below) numeric);
-      base = b.base;
-      within = b.within;
-      reach = b.reach n;
+      base = b.bases;
+      within = λ j below. b.inside j below;
+      reach = λ j below. b.reaches n j below;
       places = λ j below. b.places j below;
       reads = λ j {type} below numeric. b.reads n j below (all.numbers j (type, below) numeric).fits;
       texts = record {
@@ -208,27 +255,27 @@ scope_of b n all =
         holds = λ j varying most at. holds_text (all.texts j varying most at);
         reads = λ j varying most at. b.texts.reads n j varying most at;
       };
-      arrays = λ j type c cs at. array_scope (b.arrays j type c cs at) n (all.arrays j type c cs at) (b.reach n);
+      arrays = λ j type c cs at. array_scope (b.arrays j type c cs at) n (all.arrays j type c cs at) (b.reaches n j at);
     }
 
 -- ---- what a statement's code does
 
 -- behind a statement: other services, a state and numbers that stand together, and what waited before it
-abbrev pub Behind : {e : Environment} {block : ℕ} {types : Types} → Block e block types → (k : ℕ) → (h t : ℕ → ℕ) → (i : ℕ) → Aims (Unit {0}) → Type 0
+abbrev pub Behind : {e : Environment} {block : Names} {types : Types} → Block e block types → (k : ℕ) → (h t : ℕ → ℕ) → (i : ℕ) → Aims (Unit {0}) → Type 0
 Behind {e = e} {block = block} {types = types} bl k h0 t0 i aims =
-    (s : State) (v : Services) (line : ℕ) (n : Values) (h t : ℕ → ℕ) (f : Family) → Serving k s v line → AllHold bl.frames v.activations (e.level ∷ bl.depths) s block types n → Stays bl.taken h0 t0 h t → ((b : Base) → At b i (Known (bl.ground n) v h t nothing b) (f b)) → aims.done i f v tt s
+    (s : State) (v : Services) (line : ℕ) (n : Values) (h t : ℕ → ℕ) (f : Family) → Serving k s v line → AllHold bl.frames bl.serials (storage v) (e.level ∷ bl.depths) s block types n → Stays bl.taken h0 t0 h t → ((b : Base) → At b i (Known (bl.ground n) v h t nothing b) (f b)) → aims.done i f v tt s
 
 -- a label is marked once
 abbrev pub IsMarkedOnce : Links → (block : ℕ) → Label → Type 0
 IsMarkedOnce links block label = times_marked (LabelPlace block label) links.marks ≡ 1
 
 -- where a jump goes on: at the mark of the label, with what waited before, and with more acts than before
-pub record Landing {e : Environment} {block : ℕ} {types : Types} (bl : Block e block types) (links : Links) (k : ℕ) (h0 t0 : ℕ → ℕ) (acts : ℕ) (jumped : ℕ → Family → Services → ℕ → Label → State → Type 0) (label : Label) : Type 0 where
+pub record Landing {e : Environment} {block : Names} {types : Types} (bl : Block e block types) (links : Links) (k : ℕ) (h0 t0 : ℕ → ℕ) (acts : ℕ) (jumped : ℕ → Family → Services → ℕ → Label → State → Type 0) (label : Label) : Type 0 where
   pub at : ℕ
   pub place : place_of links (LabelPlace e.block label) ≡ 4 * at
   pub near : at ≤ most_code
   pub later : 10 ≤ at
-  pub lands : (s : State) (v : Services) (line : ℕ) (n : Values) (h t : ℕ → ℕ) (f : Family) → Serving k s v line → AllHold bl.frames v.activations (e.level ∷ bl.depths) s block types n → Stays bl.taken h0 t0 h t → acts < v.world.acts → ((b : Base) → At b at (Known (bl.ground n) v h t nothing b) (f b)) → jumped at f v (suc (length bl.depths)) label s
+  pub lands : (s : State) (v : Services) (line : ℕ) (n : Values) (h t : ℕ → ℕ) (f : Family) → Serving k s v line → AllHold bl.frames bl.serials (storage v) (e.level ∷ bl.depths) s block types n → Stays bl.taken h0 t0 h t → acts < v.world.acts → ((b : Base) → At b at (Known (bl.ground n) v h t nothing b) (f b)) → jumped at f v (suc (length bl.depths)) label s
 
 -- the end of a block is marked once
 abbrev pub IsEndMarkedOnce : Links → (block : ℕ) → Type 0
@@ -240,28 +287,28 @@ ended_times zero s = s
 ended_times (suc m) s = ended_times m (with_world s.world (newest_ended s))
 
 -- where a jump out of a block goes on: at a label of a block around, in its frame, once the blocks in it have ended
-pub record Outlet (o : OuterBlock) (count frame : ℕ) (left : Frames) (depths : List ℕ) (block : ℕ) (types : Types) (its : Values → Ground) (waits : ℕ → ℕ) (links : Links) (k acts : ℕ) (jumped : ℕ → Family → Services → ℕ → Label → State → Type 0) (label : Label) : Type 0 where
+pub record Outlet (o : OuterBlock) (count frame : ℕ) (left : Frames) (depths : List ℕ) (serials : Serials) (block : Names) (types : Types) (its : Values → Ground) (waits : ℕ → ℕ) (links : Links) (k acts : ℕ) (jumped : ℕ → Family → Services → ℕ → Label → State → Type 0) (label : Label) : Type 0 where
   pub at : ℕ
   pub place : place_of links (LabelPlace o.number label) ≡ 4 * at
   pub near : at ≤ most_code
   pub later : 10 ≤ at
-  pub lands : (s : State) (v : Services) (line : ℕ) (n : Values) (h : ℕ → ℕ) (f : Family) → Serving k (ended_times count s) v line → AllHold left v.activations (o.level ∷ depths) (ended_times count s) block types n → acts < v.world.acts → ((b : Base) → At b at (Known (its n) v h waits nothing b) (f b)) → jumped at f v (suc (length depths)) label s
+  pub lands : (s : State) (v : Services) (line : ℕ) (n : Values) (h : ℕ → ℕ) (f : Family) → Serving k (ended_times count s) v line → AllHold left serials (storage v) (o.level ∷ depths) (ended_times count s) block types n → acts < v.world.acts → ((b : Base) → At b at (Known (its n) v h waits nothing b) (f b)) → jumped at f v (suc (length depths)) label s
 
-abbrev pub OutletOf : {e : Environment} {o : OuterBlock} {ground : Values → Ground} {shows : ℕ → ℕ} (frames : Frames) {levels : List ℕ} → Enclosing e o ground shows frames.list levels → (block : ℕ) → Types → Links → (k acts : ℕ) → (ℕ → Family → Services → ℕ → Label → State → Type 0) → Label → Type 0
-OutletOf {o = o} frames c block types links k acts jumped label =
-    Outlet o (suc c.count) c.frame (frames_left (suc c.count) c.frame c.behind frames) c.depths block types c.its c.waits links k acts jumped label
+abbrev pub OutletOf : {e : Environment} {o : OuterBlock} {ground : Values → Ground} {shows : ℕ → ℕ} (frames : Frames) {levels : List ℕ} → Enclosing e o ground shows frames.list levels → Serials → (block : Names) → Types → Links → (k acts : ℕ) → (ℕ → Family → Services → ℕ → Label → State → Type 0) → Label → Type 0
+OutletOf {o = o} frames c serials block types links k acts jumped label =
+    Outlet o (suc c.count) c.frame (frames_left (suc c.count) c.frame c.behind frames) c.depths serials block types c.its c.waits links k acts jumped label
 
-abbrev pub Outlets : (e : Environment) (ground : Values → Ground) (shows : ℕ → ℕ) (frames : Frames) (levels : List ℕ) (os : List OuterBlock) → Enclosures e ground shows frames.list levels os → (block : ℕ) → Types → Links → (k acts : ℕ) → (ℕ → Family → Services → ℕ → Label → State → Type 0) → Type 0
-Outlets e ground shows frames levels [] cs block types links k acts jumped = Unit {0}
-Outlets e ground shows frames levels (o ∷ os) cs block types links k acts jumped =
-    ((label : Label) → is_among label o.labels ≡ true → IsMarkedOnce links o.number label → OutletOf frames cs.0 block types links k acts jumped label)
-    × Outlets e ground shows frames levels os cs.1 block types links k acts jumped
+abbrev pub Outlets : (e : Environment) (ground : Values → Ground) (shows : ℕ → ℕ) (frames : Frames) (levels : List ℕ) (os : List OuterBlock) → Enclosures e ground shows frames.list levels os → Serials → (block : Names) → Types → Links → (k acts : ℕ) → (ℕ → Family → Services → ℕ → Label → State → Type 0) → Type 0
+Outlets e ground shows frames levels [] cs serials block types links k acts jumped = Unit {0}
+Outlets e ground shows frames levels (o ∷ os) cs serials block types links k acts jumped =
+    ((label : Label) → is_among label o.labels ≡ true → IsMarkedOnce links o.number label → OutletOf frames cs.0 serials block types links k acts jumped label)
+    × Outlets e ground shows frames levels os cs.1 serials block types links k acts jumped
 
 -- others
-pub outlets_by : (e : Environment) (ground : Values → Ground) (shows : ℕ → ℕ) (frames : Frames) (levels : List ℕ) (os : List OuterBlock) (cs : Enclosures e ground shows frames.list levels os) (block : ℕ) (types : Types) (links : Links) (k acts acts' : ℕ) (jumped jumped' : ℕ → Family → Services → ℕ → Label → State → Type 0) → ((o : OuterBlock) (c : Enclosing e o ground shows frames.list levels) (label : Label) → OutletOf frames c block types links k acts jumped label → OutletOf frames c block types links k acts' jumped' label) → Outlets e ground shows frames levels os cs block types links k acts jumped → Outlets e ground shows frames levels os cs block types links k acts' jumped'
-outlets_by e ground shows frames levels [] cs block types links k acts acts' jumped jumped' change outs = tt
-outlets_by e ground shows frames levels (o ∷ os) cs block types links k acts acts' jumped jumped' change outs =
-    (λ label among once. change o cs.0 label (outs.0 label among once), outlets_by e ground shows frames levels os cs.1 block types links k acts acts' jumped jumped' change outs.1)
+pub outlets_by : (e : Environment) (ground : Values → Ground) (shows : ℕ → ℕ) (frames : Frames) (levels : List ℕ) (os : List OuterBlock) (cs : Enclosures e ground shows frames.list levels os) (serials : Serials) (block : Names) (types : Types) (links : Links) (k acts acts' : ℕ) (jumped jumped' : ℕ → Family → Services → ℕ → Label → State → Type 0) → ((o : OuterBlock) (c : Enclosing e o ground shows frames.list levels) (label : Label) → OutletOf frames c serials block types links k acts jumped label → OutletOf frames c serials block types links k acts' jumped' label) → Outlets e ground shows frames levels os cs serials block types links k acts jumped → Outlets e ground shows frames levels os cs serials block types links k acts' jumped'
+outlets_by e ground shows frames levels [] cs serials block types links k acts acts' jumped jumped' change outs = tt
+outlets_by e ground shows frames levels (o ∷ os) cs serials block types links k acts acts' jumped jumped' change outs =
+    (λ label among once. change o cs.0 label (outs.0 label among once), outlets_by e ground shows frames levels os cs.1 serials block types links k acts acts' jumped jumped' change outs.1)
 
 -- a machine in the frame of the main procedure, of which the stack isn't asked
 pub record Unwound (base : ℕ) (holds : Base → List ℕ → Type 0) (v : Services) (b : Base) (w : Whole) : Type 0 where
@@ -278,46 +325,46 @@ pub record Exit (number base : ℕ) (holds : Base → List ℕ → Type 0) (link
   pub leaves : (s : State) (v : Services) (f : Family) (a : Activation) → v.world ≡ s.world → v.world.end ≡ E.Running → v.world.acts ≤ k → k + 1 < 2 ^ 64 → v.activations ≡ a ∷ [] → ((b : Base) → At b at (Unwound base holds v b) (f b)) → returned at f v None s
 
 -- where a return in a procedure's own block goes on: at the end of the procedure, in that block
-pub record OwnExit (e : Environment) (block : ℕ) (types : Types) (ground : Values → Ground) (frames : Frames) (depths : List ℕ) (links : Links) (k : ℕ) (returned : ℕ → Family → Services → Option BasicValue → State → Type 0) : Type 0 where
+pub record OwnExit (e : Environment) (block : Names) (types : Types) (ground : Values → Ground) (frames : Frames) (serials : Serials) (depths : List ℕ) (links : Links) (k : ℕ) (returned : ℕ → Family → Services → Option BasicValue → State → Type 0) : Type 0 where
   pub at : ℕ
   pub place : place_of links (ReturnPlace e.block) ≡ 4 * at
   pub near : at ≤ most_code
   pub later : 10 ≤ at
-  pub leaves : (s : State) (v : Services) (line : ℕ) (n : Values) (h t : ℕ → ℕ) (f : Family) (free : ℕ) → Serving k s v line → AllHold frames v.activations (e.level ∷ depths) s block types n → ((b : Base) → At b at (Known (lower_ground (ground n) free) v h t nothing b) (f b)) → returned at f v None s
+  pub leaves : (s : State) (v : Services) (line : ℕ) (n : Values) (h t : ℕ → ℕ) (f : Family) (free : ℕ) → Serving k s v line → AllHold frames serials (storage v) (e.level ∷ depths) s block types n → ((b : Base) → At b at (Known (lower_ground (ground n) free) v h t nothing b) (f b)) → returned at f v None s
 
 -- where a return in a block inside a procedure's goes on: at the end of the procedure, in its block, once the blocks in it have ended; the
 -- stack's register is any
-pub record HomeExit (o : OuterBlock) (count frame : ℕ) (left : Frames) (depths : List ℕ) (block : ℕ) (types : Types) (its : Values → Ground) (waits : ℕ → ℕ) (links : Links) (k : ℕ) (returned : ℕ → Family → Services → Option BasicValue → State → Type 0) : Type 0 where
+pub record HomeExit (o : OuterBlock) (count frame : ℕ) (left : Frames) (depths : List ℕ) (serials : Serials) (block : Names) (types : Types) (its : Values → Ground) (waits : ℕ → ℕ) (links : Links) (k : ℕ) (returned : ℕ → Family → Services → Option BasicValue → State → Type 0) : Type 0 where
   pub at : ℕ
   pub place : place_of links (ReturnPlace o.number) ≡ 4 * at
   pub near : at ≤ most_code
   pub later : 10 ≤ at
-  pub leaves : (s : State) (v : Services) (line : ℕ) (n : Values) (h : ℕ → ℕ) (f : Family) (free : ℕ) → Serving k (ended_times count s) v line → AllHold left v.activations (o.level ∷ depths) (ended_times count s) block types n → ((b : Base) → At b at (Known (lower_ground (its n) free) v h waits nothing b) (f b)) → returned at f v None s
+  pub leaves : (s : State) (v : Services) (line : ℕ) (n : Values) (h : ℕ → ℕ) (f : Family) (free : ℕ) → Serving k (ended_times count s) v line → AllHold left serials (storage v) (o.level ∷ depths) (ended_times count s) block types n → ((b : Base) → At b at (Known (lower_ground (its n) free) v h waits nothing b) (f b)) → returned at f v None s
 
-abbrev pub HomeOf : {e : Environment} {o : OuterBlock} {ground : Values → Ground} {shows : ℕ → ℕ} (frames : Frames) {levels : List ℕ} → Enclosing e o ground shows frames.list levels → (block : ℕ) → Types → Links → (k : ℕ) → (ℕ → Family → Services → Option BasicValue → State → Type 0) → Type 0
-HomeOf {o = o} frames c block types links k returned =
-    HomeExit o (suc c.count) c.frame (frames_left (suc c.count) c.frame c.behind frames) c.depths block types c.its c.waits links k returned
+abbrev pub HomeOf : {e : Environment} {o : OuterBlock} {ground : Values → Ground} {shows : ℕ → ℕ} (frames : Frames) {levels : List ℕ} → Enclosing e o ground shows frames.list levels → Serials → (block : Names) → Types → Links → (k : ℕ) → (ℕ → Family → Services → Option BasicValue → State → Type 0) → Type 0
+HomeOf {o = o} frames c serials block types links k returned =
+    HomeExit o (suc c.count) c.frame (frames_left (suc c.count) c.frame c.behind frames) c.depths serials block types c.its c.waits links k returned
 
 -- of the block around that owns this one, where it isn't the main procedure
-abbrev pub Homes : (e : Environment) (ground : Values → Ground) (shows : ℕ → ℕ) (frames : Frames) (levels : List ℕ) (os : List OuterBlock) → Enclosures e ground shows frames.list levels os → (block : ℕ) → Types → Links → (k : ℕ) → (ℕ → Family → Services → Option BasicValue → State → Type 0) → Type 0
-Homes e ground shows frames levels [] cs block types links k returned = Unit {0}
-Homes e ground shows frames levels (o ∷ os) cs block types links k returned =
-    ((0 == o.level) ≡ false → e.owner ≡ BlockOwner (record { number = o.number; level = o.level }) → IsEndMarkedOnce links o.number → HomeOf frames cs.0 block types links k returned)
-    × Homes e ground shows frames levels os cs.1 block types links k returned
+abbrev pub Homes : (e : Environment) (ground : Values → Ground) (shows : ℕ → ℕ) (frames : Frames) (levels : List ℕ) (os : List OuterBlock) → Enclosures e ground shows frames.list levels os → Serials → (block : Names) → Types → Links → (k : ℕ) → (ℕ → Family → Services → Option BasicValue → State → Type 0) → Type 0
+Homes e ground shows frames levels [] cs serials block types links k returned = Unit {0}
+Homes e ground shows frames levels (o ∷ os) cs serials block types links k returned =
+    ((0 == o.level) ≡ false → e.owner ≡ BlockOwner (record { number = o.number; level = o.level }) → IsEndMarkedOnce links o.number → HomeOf frames cs.0 serials block types links k returned)
+    × Homes e ground shows frames levels os cs.1 serials block types links k returned
 
 -- what a part may count on where it begins: loops and jumps may make more turns than acts are allowed, the code stands behind the
 -- start, and jumps to the block's labels and to those of blocks around go on, and so does a return
-pub record Enough {e : Environment} {block : ℕ} {types : Types} (bl : Block e block types) (links : Links) (k turns i : ℕ) (h t : ℕ → ℕ) (acts : ℕ) (jumped : ℕ → Family → Services → ℕ → Label → State → Type 0) (returned : ℕ → Family → Services → Option BasicValue → State → Type 0) : Type 0 where
+pub record Enough {e : Environment} {block : Names} {types : Types} (bl : Block e block types) (links : Links) (k turns i : ℕ) (h t : ℕ → ℕ) (acts : ℕ) (jumped : ℕ → Family → Services → ℕ → Label → State → Type 0) (returned : ℕ → Family → Services → Option BasicValue → State → Type 0) : Type 0 where
   pub enough : k < turns + acts
   pub later : 10 ≤ i
   pub jumps : (label : Label) → is_among label bl.labels ≡ true → IsMarkedOnce links e.block label → Landing bl links k h t acts jumped label
-  pub outs : Outlets e bl.ground bl.levels bl.frames (e.level ∷ bl.depths) bl.outer bl.enclosing block types links k acts jumped
+  pub outs : Outlets e bl.ground bl.levels bl.frames (e.level ∷ bl.depths) bl.outer bl.enclosing bl.serials block types links k acts jumped
   pub returns : (number : ℕ) → e.owner ≡ BlockOwner (record { number = number; level = 0 }) → IsEndMarkedOnce links number → Exit number bl.base bl.bottom.holds links k returned
-  pub own : (0 == e.level) ≡ false → e.owner ≡ BlockOwner (record { number = e.block; level = e.level }) → IsEndMarkedOnce links e.block → OwnExit e block types bl.ground bl.frames bl.depths links k returned
-  pub homes : Homes e bl.ground bl.levels bl.frames (e.level ∷ bl.depths) bl.outer bl.enclosing block types links k returned
+  pub own : (0 == e.level) ≡ false → e.owner ≡ BlockOwner (record { number = e.block; level = e.level }) → IsEndMarkedOnce links e.block → OwnExit e block types bl.ground bl.frames bl.serials bl.depths links k returned
+  pub homes : Homes e bl.ground bl.levels bl.frames (e.level ∷ bl.depths) bl.outer bl.enclosing bl.serials block types links k returned
 
 -- the same further on
-pub further : {e : Environment} {block : ℕ} {types : Types} {bl : Block e block types} {links : Links} {k turns i : ℕ} {h t : ℕ → ℕ} {acts : ℕ} {jumped : ℕ → Family → Services → ℕ → Label → State → Type 0} {returned : ℕ → Family → Services → Option BasicValue → State → Type 0} {i' : ℕ} {h' t' : ℕ → ℕ} {acts' : ℕ} → Enough bl links k turns i h t acts jumped returned → i ≤ i' → acts ≤ acts' → Stays bl.taken h t h' t' → Enough bl links k turns i' h' t' acts' jumped returned
+pub further : {e : Environment} {block : Names} {types : Types} {bl : Block e block types} {links : Links} {k turns i : ℕ} {h t : ℕ → ℕ} {acts : ℕ} {jumped : ℕ → Family → Services → ℕ → Label → State → Type 0} {returned : ℕ → Family → Services → Option BasicValue → State → Type 0} {i' : ℕ} {h' t' : ℕ → ℕ} {acts' : ℕ} → Enough bl links k turns i h t acts jumped returned → i ≤ i' → acts ≤ acts' → Stays bl.taken h t h' t' → Enough bl links k turns i' h' t' acts' jumped returned
 further {e = e} {block = block} {types = types} {bl = bl} {links = links} {k = k} {acts = acts} {jumped = jumped} {acts' = acts'} more behind grown stays =
     record {
       enough = let u = more.enough in omega (arith, u, grown);
@@ -331,7 +378,7 @@ further {e = e} {block = block} {types = types} {bl = bl} {links = links} {k = k
             later = o.later;
             lands = λ s v line n h'' t'' f serving all stays' acted' at'. o.lands s v line n h'' t'' f serving all (stays_then stays stays') (omega (arith, grown, acted')) at';
           };
-      outs = outlets_by e bl.ground bl.levels bl.frames (e.level ∷ bl.depths) bl.outer bl.enclosing block types links k acts acts' jumped jumped
+      outs = outlets_by e bl.ground bl.levels bl.frames (e.level ∷ bl.depths) bl.outer bl.enclosing bl.serials block types links k acts acts' jumped jumped
           (λ o c label out. record {
             at = out.at;
             place = out.place;
@@ -346,19 +393,19 @@ further {e = e} {block = block} {types = types} {bl = bl} {links = links} {k = k
     }
 
 -- from wherever a block's variables stand, a part's code does what the part means
-pub record Does {e : Environment} {block : ℕ} {types : Types} (bl : Block e block types) (links : Links) (code : List Instr) (turns : ℕ) (part : Code) (meaning : Meaning (Unit {0})) : Type 1 where
-  pub does : {i : ℕ} {s : State} {v : Services} {h t : ℕ → ℕ} {aims : Aims (Unit {0})} (closed : Closed code aims) (line : ℕ) (n : Values) (f : Family) (k : ℕ) → Linked links code i part → Serving k s v line → AllHold bl.frames v.activations (e.level ∷ bl.depths) s block types n → ((b : Base) → At b i (Known (bl.ground n) v h t nothing b) (f b)) → Behind bl k h t (i + size_of part) aims → Enough bl links k turns i h t v.world.acts aims.jumped aims.returned → Comes code i f v aims (meaning k s)
+pub record Does {e : Environment} {block : Names} {types : Types} (bl : Block e block types) (links : Links) (code : List Instr) (turns : ℕ) (part : Code) (meaning : Meaning (Unit {0})) : Type 1 where
+  pub does : {i : ℕ} {s : State} {v : Services} {h t : ℕ → ℕ} {aims : Aims (Unit {0})} (closed : Closed code aims) (line : ℕ) (n : Values) (f : Family) (k : ℕ) → Linked links code i part → Serving k s v line → AllHold bl.frames bl.serials (storage v) (e.level ∷ bl.depths) s block types n → ((b : Base) → At b i (Known (bl.ground n) v h t nothing b) (f b)) → Behind bl k h t (i + size_of part) aims → Enough bl links k turns i h t v.world.acts aims.jumped aims.returned → Comes code i f v aims (meaning k s)
 
-counted_holds : {s : State} {block j : ℕ} {type : Y.LeafType} {z : ℤ} (w : World) → Holds s block j type z → Holds (with_world w s) block j type z
+counted_holds : {s : State} {block : Names} {j serial : ℕ} {type : Y.LeafType} {z : ℤ} (w : World) → Holds s block j serial type z → Holds (with_world w s) block j serial type z
 counted_holds w h = record { values = h.values; stands = h.stands; lives = h.lives; value = h.value; fits = h.fits }
 
-counted_keeps : {s : State} {block j : ℕ} {varying : Bool} {most : ℕ} {text : List ℕ} (w : World) → KeepsText s block j varying most text → KeepsText (with_world w s) block j varying most text
+counted_keeps : {s : State} {block : Names} {j serial : ℕ} {varying : Bool} {most : ℕ} {text : List ℕ} (w : World) → KeepsText s block j serial varying most text → KeepsText (with_world w s) block j serial varying most text
 counted_keeps w h = record { values = h.values; stands = h.stands; lives = h.lives; value = h.value; short = h.short }
 
-counted_array : {s : State} {block j : ℕ} {type : Y.LeafType} {bs : List Bounds} {n : ℕ → ℤ} (w : World) → HoldsArray s block j type bs n → HoldsArray (with_world w s) block j type bs n
+counted_array : {s : State} {block : Names} {j serial : ℕ} {type : Y.LeafType} {bs : List Bounds} {n : ℕ → ℤ} (w : World) → HoldsArray s block j serial type bs n → HoldsArray (with_world w s) block j serial type bs n
 counted_array w h = record { values = h.values; numeric = h.numeric; stands = h.stands; lives = h.lives; value = h.value; fits = h.fits }
 
-pub counted_all : {frames : Frames} {xs : List Activation} {levels : List ℕ} {s : State} {block : ℕ} {types : Types} {n : Values} (w : World) → AllHold frames xs levels s block types n → AllHold frames xs levels (with_world w s) block types n
+pub counted_all : {frames : Frames} {serials : Serials} {xs : Storage} {levels : List ℕ} {s : State} {block : Names} {types : Types} {n : Values} (w : World) → AllHold frames serials xs levels s block types n → AllHold frames serials xs levels (with_world w s) block types n
 counted_all w all =
     record {
       numbers = λ j b numeric. counted_holds w (all.numbers j b numeric);
@@ -368,11 +415,11 @@ counted_all w all =
       framed = all.framed;
       kinds = all.kinds;
       units = all.units;
-      owned = all.owned;
+      stored = all.stored;
     }
 
 -- of frames that have another list, which is the same
-pub listed_as : (frames : Frames) (list : List ℕ) {xs : List Activation} {levels : List ℕ} {s : State} {block : ℕ} {types : Types} {n : Values} → frames.list ≡ list → AllHold frames xs levels s block types n → AllHold (record { list = list; kinds = frames.kinds; known = frames.known }) xs levels s block types n
+pub listed_as : (frames : Frames) (list : List ℕ) {serials : Serials} {xs : Storage} {levels : List ℕ} {s : State} {block : Names} {types : Types} {n : Values} → frames.list ≡ list → AllHold frames serials xs levels s block types n → AllHold (record { list = list; kinds = frames.kinds; known = frames.known }) serials xs levels s block types n
 listed_as frames list same all =
     record {
       numbers = all.numbers;
@@ -382,10 +429,10 @@ listed_as frames list same all =
       framed = all.framed ∙ same;
       kinds = all.kinds;
       units = all.units;
-      owned = all.owned;
+      stored = all.stored;
     }
 
-pub listed_of : (frames : Frames) (list : List ℕ) {xs : List Activation} {levels : List ℕ} {s : State} {block : ℕ} {types : Types} {n : Values} → frames.list ≡ list → AllHold (record { list = list; kinds = frames.kinds; known = frames.known }) xs levels s block types n → AllHold frames xs levels s block types n
+pub listed_of : (frames : Frames) (list : List ℕ) {serials : Serials} {xs : Storage} {levels : List ℕ} {s : State} {block : Names} {types : Types} {n : Values} → frames.list ≡ list → AllHold (record { list = list; kinds = frames.kinds; known = frames.known }) serials xs levels s block types n → AllHold frames serials xs levels s block types n
 listed_of frames list same all =
     record {
       numbers = all.numbers;
@@ -395,24 +442,26 @@ listed_of frames list same all =
       framed = all.framed ∙ sym same;
       kinds = all.kinds;
       units = all.units;
-      owned = all.owned;
+      stored = all.stored;
     }
 
 -- the numbers after one is assigned
-pub assigned_all : {frames : Frames} {xs : List Activation} {levels : List ℕ} {s : State} {block : ℕ} {types : Types} {n : Values} (j : ℕ) {type : Y.LeafType} (z : ℤ) (below : slice_get types j ≡ Some (alone type)) (fits : Fits type z) (all : AllHold frames xs levels s block types n) → AllHold frames xs levels (assigned_state s type (suc j) (all.numbers j (type, below) (fits_numeric type z fits)).values z) block types (with_number_at n j z)
-assigned_all {s = s} {types = types} {n = n} j {type} z below fits all =
+pub assigned_all : {frames : Frames} {serials : Serials} {xs : Storage} {levels : List ℕ} {s : State} {block : Names} {types : Types} {n : Values} (j : ℕ) {type : Y.LeafType} (z : ℤ) (below : slice_get types j ≡ Some (alone type)) (fits : Fits type z) (all : AllHold frames serials xs levels s block types n) → AllHold frames serials xs levels (assigned_state s type (serials.of j) (all.numbers j (type, below) (fits_numeric type z fits)).values z) block types (with_number_at n j z)
+assigned_all {serials = serials} {s = s} {types = types} {n = n} j {type} z below fits all =
+    let numeric' = fits_numeric type z fits in
+    let mine = all.numbers j (type, below) numeric' in
     record {
-      numbers = λ i b numeric. holds_assigned types n z below fits (all.numbers j (type, below) (fits_numeric type z fits)) all.numbers i b numeric;
-      texts = λ i varying most at. keeps_beside types z below (fits_numeric type z fits) (all.numbers j (type, below) (fits_numeric type z fits)) at (all.texts i varying most at);
-      arrays = λ i other b bs at. arrays_beside type j (all.numbers j (type, below) (fits_numeric type z fits)).values z (array_apart types i j type other b bs below at) (all.arrays i other b bs at);
+      numbers = λ i b numeric. holds_assigned serials.of types n z below fits mine (λ i' b' e. all.stored.apart i' j b'.1 below e) all.numbers i b numeric;
+      texts = λ i varying most at. keeps_beside z (all.stored.apart i j at below (text_apart types i j type varying most below numeric' at)) mine (all.texts i varying most at);
+      arrays = λ i other b bs at. arrays_beside type (serials.of j) mine.values z (all.stored.apart i j at below (array_apart types i j type other b bs below at)) (all.arrays i other b bs at);
       entered = all.entered;
       framed = all.framed;
       kinds = all.kinds;
       units = all.units;
-      owned = λ height' above. none_owned_changed height' (suc j) _ s.living (all.owned height' above);
+      stored = stored_changed (serials.of j) (P.with_element (designated_scalar type (serials.of j) mine.values) (value_as type z)) (λ g. refl) all.stored;
     }
 
-pub null_does : {e : Environment} {block : ℕ} {types : Types} (bl : Block e block types) (links : Links) (code : List Instr) (around : Around) (line : ℕ) → line < 2 ^ 31 → Does bl links code around.turns (act_code line) (M.statement around (Y.Null line))
+pub null_does : {e : Environment} {block : Names} {types : Types} (bl : Block e block types) (links : Links) (code : List Instr) (around : Around) (line : ℕ) → line < 2 ^ 31 → Does bl links code around.turns (act_code line) (M.statement around (Y.Null line))
 unfolding M.statement
 null_does bl links code around line fits =
     record {
@@ -421,7 +470,7 @@ null_does bl links code around line fits =
     }
 
 -- an assignment of a value that fits its target, a variable of the block
-pub assign_does : {e : Environment} {block : ℕ} {types : Types} (bl : Block e block types) (links : Links) (code : List Instr) (routines : Standing bl links code) (around : Around) (j : ℕ) {type : Y.LeafType} (source : Y.Stored) (line words : ℕ) (below : slice_get types j ≡ Some (alone type)) → ((v : Services) (s : State) (k : ℕ) (n : Values) → AllHold bl.frames v.activations (e.level ∷ bl.depths) s block types n → Serving k s v line → Stores links code (bl.ground n) v s k words type (λ taken. stored_code e taken source) (V.stored_value (at_line around line) source)) → stored_into e bl.taken (whole (own block j)) source ≡ word_stored e bl.taken (whole (own block j)) → bl.taken.words + 1 ≤ bl.words → bl.taken.words + words ≤ bl.words → line < 2 ^ 31 → Does bl links code around.turns (act_code line ++ assigned_code e bl.taken (whole (own block j)) source) (M.statement around (Y.Assign (whole (own block j)) source line))
+pub assign_does : {e : Environment} {block : Names} {types : Types} (bl : Block e block types) (links : Links) (code : List Instr) (routines : Standing bl links code) (around : Around) (j : ℕ) {type : Y.LeafType} (source : Y.Stored) (line words : ℕ) (below : slice_get types j ≡ Some (alone type)) → ((v : Services) (s : State) (k : ℕ) (n : Values) → AllHold bl.frames bl.serials (storage v) (e.level ∷ bl.depths) s block types n → Serving k s v line → Stores links code (bl.ground n) v s k words type (λ taken. stored_code e taken source) (V.stored_value (at_line around line) source)) → stored_into e bl.taken (whole (own block j)) source ≡ word_stored e bl.taken (whole (own block j)) → bl.taken.words + 1 ≤ bl.words → bl.taken.words + words ≤ bl.words → line < 2 ^ 31 → Does bl links code around.turns (act_code line ++ assigned_code e bl.taken (whole (own block j)) source) (M.statement around (Y.Assign (whole (own block j)) source line))
 unfolding M.statement ◌>>=◌ ◌>>◌
 assign_does {e} {block} {types} bl links code routines around j {type} source line words below stores into some room fits =
     record {
@@ -445,14 +494,14 @@ assign_does {e} {block} {types} bl links code routines around j {type} source li
           (act_piece (before_closed k next' closed) f line old k fits (front_of front rest l) serving at
           (λ f1 serving1 at1.
           let s1 = with_world (counted s.world) s in
-          let all1 : AllHold bl.frames v.activations (e.level ∷ bl.depths) s1 block types n = counted_all _ all in
+          let all1 : AllHold bl.frames bl.serials (storage v) (e.level ∷ bl.depths) s1 block types n = counted_all _ all in
           comes_on k (V.stored_value here source k s1) store
           ((stores _ s1 k n all1 serving1).does (before_closed k store closed) f1 bl.taken (omega (arith, room, w)) (front_of valued' (stored_into e bl.taken target source) l1) at1
           (λ z f2 h2 t2 fits2 stays2 at2.
           stored_piece (bl.ground (with_number_at n j z)) closed (bl.temps n) (i + size_of front + size_of valued') e block types n f2 here bl.taken j z k below fits2 (λ none. omega (arith, some, w)) (scope_of bl n all1)
           (λ b h'. bl.same n (with_number_at n j z) b h') (λ t' b m len o. bl.writes n j z below (all1.numbers j (type, below) (fits_numeric type z fits2)).fits fits2 t' b m len o) ll at2
           (λ f3 h3 t3 stays3 at3.
-          let s2 = assigned_state s1 type (suc j) (all1.numbers j (type, below) (fits_numeric type z fits2)).values z in
+          let s2 = assigned_state s1 type (bl.serials.of j) (all1.numbers j (type, below) (fits_numeric type z fits2)).values z in
           subst (λ u. aims.done u f3 (acted line v) tt s2) (sym place)
           (goal s2 (acted line v) line (with_number_at n j z) h3 t3 f3
           (record { world = serving1.world; running = serving1.running; line_is = serving1.line_is; input = serving1.input; allowed = serving1.allowed; fits = serving1.fits; nested = serving1.nested; waiting = serving1.waiting })
@@ -461,7 +510,7 @@ assign_does {e} {block} {types} bl links code routines around j {type} source li
           (λ b. record { pc = (at3 b).pc ∙ ap (address b) place; holds = (at3 b).holds })))))));
     }
 
-pub assign_number_does : {e : Environment} {block : ℕ} {types : Types} (bl : Block e block types) (links : Links) (code : List Instr) (routines : Standing bl links code) (around : Around) (r : Y.Reference) (p : ℕ) (x : Y.Number) (line : ℕ) → IsOwn block types (Y.FixedLeaf p) r → IsProvedNumber block types x → bl.taken.words + max 1 (number_words x) ≤ bl.words → line < 2 ^ 31 → Does bl links code around.turns (act_code line ++ assigned_code e bl.taken r (Y.StoredNumber p x)) (M.statement around (Y.Assign r (Y.StoredNumber p x) line))
+pub assign_number_does : {e : Environment} {block : Names} {types : Types} (bl : Block e block types) (links : Links) (code : List Instr) (routines : Standing bl links code) (around : Around) (r : Y.Reference) (p : ℕ) (x : Y.Number) (line : ℕ) → IsOwn block types (Y.FixedLeaf p) r → IsProvedNumber block types x → bl.taken.words + max 1 (number_words x) ≤ bl.words → line < 2 ^ 31 → Does bl links code around.turns (act_code line ++ assigned_code e bl.taken r (Y.StoredNumber p x)) (M.statement around (Y.Assign r (Y.StoredNumber p x) line))
 assign_number_does {e} {block} {types} bl links code routines around r p x line own' is room fits =
     let least = le-max_left 1 (number_words x) in
     subst (λ q. Does bl links code around.turns (act_code line ++ assigned_code e bl.taken q (Y.StoredNumber p x)) (M.statement around (Y.Assign q (Y.StoredNumber p x) line))) (sym own'.is)
@@ -469,7 +518,7 @@ assign_number_does {e} {block} {types} bl links code routines around r p x line 
     (λ v s k n all serving. number_stores {e = e} {block = block} {types = types} {held = n} {around = at_line around line} p x (all.numbers own'.index (Y.FixedLeaf p, own'.declared) tt).fits.0 (record { routines = routines.raises; constants = routines.constants n; temps = bl.temps n; scope = scope_of bl n all; serving = serving }) is)
     refl (omega (arith, room, least)) room fits)
 
-pub assign_bit_does : {e : Environment} {block : ℕ} {types : Types} (bl : Block e block types) (links : Links) (code : List Instr) (routines : Standing bl links code) (around : Around) (r : Y.Reference) (x : Y.Bit) (line : ℕ) → IsOwn block types Y.BitLeaf r → IsProvedBit block types x → bl.taken.words + 1 ≤ bl.words → bl.taken.words + bit_words x ≤ bl.words → line < 2 ^ 31 → Does bl links code around.turns (act_code line ++ assigned_code e bl.taken r (Y.StoredBit x)) (M.statement around (Y.Assign r (Y.StoredBit x) line))
+pub assign_bit_does : {e : Environment} {block : Names} {types : Types} (bl : Block e block types) (links : Links) (code : List Instr) (routines : Standing bl links code) (around : Around) (r : Y.Reference) (x : Y.Bit) (line : ℕ) → IsOwn block types Y.BitLeaf r → IsProvedBit block types x → bl.taken.words + 1 ≤ bl.words → bl.taken.words + bit_words x ≤ bl.words → line < 2 ^ 31 → Does bl links code around.turns (act_code line ++ assigned_code e bl.taken r (Y.StoredBit x)) (M.statement around (Y.Assign r (Y.StoredBit x) line))
 assign_bit_does {e} {block} {types} bl links code routines around r x line own' is some room fits =
     subst (λ q. Does bl links code around.turns (act_code line ++ assigned_code e bl.taken q (Y.StoredBit x)) (M.statement around (Y.Assign q (Y.StoredBit x) line))) (sym own'.is)
     (assign_does bl links code routines around own'.index (Y.StoredBit x) line (bit_words x) own'.declared
@@ -488,13 +537,13 @@ marked_piece {links = links} {code = code} {i = i} {g = g} {v = v} {h = h} {t = 
 
 -- ---- lists
 
-abbrev pub EachDoes : {e : Environment} {block : ℕ} {types : Types} → Block e block types → Links → List Instr → Around → Y.Stmts → Type 1
+abbrev pub EachDoes : {e : Environment} {block : Names} {types : Types} → Block e block types → Links → List Instr → Around → Y.Stmts → Type 1
 EachDoes {e} bl links code around (Y.EndOfList labels) = Unit {1}
 EachDoes {e} bl links code around (Y.StmtThen labels first rest) =
     Does bl links code around.turns (stmt_code e bl.taken first) (M.statement around first) × EachDoes bl links code around rest
 
 -- a list of statements, of which each does what it means
-pub list_does : {e : Environment} {block : ℕ} {types : Types} (bl : Block e block types) (links : Links) (code : List Instr) (around : Around) (body : Y.Stmts) → EachDoes bl links code around body → Does bl links code around.turns (stmts_code e bl.taken body) (M.statements around body None)
+pub list_does : {e : Environment} {block : Names} {types : Types} (bl : Block e block types) (links : Links) (code : List Instr) (around : Around) (body : Y.Stmts) → EachDoes bl links code around body → Does bl links code around.turns (stmts_code e bl.taken body) (M.statements around body None)
 unfolding M.statements give choose ◌>>◌
 list_does {e} bl links code around (Y.EndOfList labels) each =
     record {

@@ -1,14 +1,12 @@
--- The state of a block whose variables are scalars: variable j has serial j + 1.
-use Rattle.std.proofs.Common.{◌≡◌, ℕ, suc, List, [], ◌∷◌, None, Some, Bool, true, false, refl, sym, ap, ◌∙◌, subst, arith}
+-- The state of a block whose variables are scalars, each with its serial number.
+use Rattle.std.proofs.Common.{◌≡◌, ℕ, List, [], None, Some, Bool, true, false, refl, sym, ap, ◌∙◌, subst}
 use Rattle.std.specs.Prelude.{ℤ, cond, ◌==◌, slice_get, if◌then◌else◌}
 use Rattle.std.proofs.lemmas.Bool.{eqb-true}
-use Rattle.std.proofs.lemmas.Bool.Decides.{nat_tests}
 use Rattle.pli_typing.specs.TypedTree as Y
 use Rattle.pli_meaning.specs.BasicValues.{BasicValue}
-use Rattle.pli_meaning.specs.Contents.{Generation}
-use Rattle.pli_meaning.specs.StorageState.{State, Living, generation_of, living_of, living_changed, generation_changed, standing_for, if_same_shape}
+use Rattle.pli_meaning.specs.StorageState.{State, generation_of, living_of, standing_for, if_same_shape}
 use Rattle.pli_meaning.specs.Placing as P
-use Rattle.pli_headline.specs.ProvedSoFar.{Types, Kind, alone}
+use Rattle.pli_headline.specs.ProvedSoFar.{Names, Types, Kind, alone}
 use Rattle.pli_headline.proofs.Changes.{changed_same, changed_other}
 use Rattle.pli_headline.proofs.Scalars.{IsNumeric, Values, Typed, by_type, value_as, Fits, fits_numeric}
 use Rattle.pli_headline.proofs.Variables.{HoldsScalar, own, scalar_binding, scalar_generation, scalar_shape, same_scalar, designated_scalar}
@@ -24,32 +22,16 @@ with_text_at n j text =
     record { numbers = n.numbers; texts = λ i. if i == j then text else n.texts i; arrays = n.arrays }
 
 -- a variable of the block stands for a generation that holds the value of a number
-pub record Holds (s : State) (block j : ℕ) (type : Y.LeafType) (z : ℤ) : Type 0 where
+pub record Holds (s : State) (block : Names) (j serial : ℕ) (type : Y.LeafType) (z : ℤ) : Type 0 where
   pub values : ℕ → List ℤ → BasicValue
-  pub stands : standing_for s (own block j) ≡ Some (scalar_binding type j (suc j))
-  pub lives : generation_of (living_of s.living (suc j)) ≡ Some (scalar_generation type values)
+  pub stands : standing_for s (own block j) ≡ Some (scalar_binding type (block.at j).index serial)
+  pub lives : generation_of (living_of s.living serial) ≡ Some (scalar_generation type values)
   pub value : values 0 [] ≡ value_as type z
   pub fits : Fits type z
 
-abbrev pub holds_scalar : {s : State} {block j : ℕ} {type : Y.LeafType} {z : ℤ} → Holds s block j type z → HoldsScalar s (own block j) type z
-holds_scalar {j = j} {type = type} {z = z} h =
-    record { serial = suc j; values = h.values; stands = h.stands; lives = ap (if_same_shape (scalar_shape type)) h.lives ∙ ap (λ t. cond t (Some (scalar_generation type h.values)) None) (same_scalar type (fits_numeric type z h.fits)); value = h.value; fits = h.fits }
-
--- ---- owners
-
--- nothing lives with a height
-abbrev pub NoneOwned : (height : ℕ) → List Living → Type 0
-NoneOwned height [] = Unit {0}
-NoneOwned height (l ∷ ls) = ((l.owner == height) ≡ false) × NoneOwned height ls
-
-none_owned_by : (q : Bool) (height serial : ℕ) (change : Generation → Generation) (l : Living) (ls : List Living) → (l.owner == height) ≡ false → NoneOwned height ls → NoneOwned height (living_changed serial (generation_changed change) ls) → NoneOwned height (cond q (generation_changed change l ∷ ls) (l ∷ living_changed serial (generation_changed change) ls))
-none_owned_by true height serial change l ls here rest more = (here, rest)
-none_owned_by false height serial change l ls here rest more = (here, more)
-
-pub none_owned_changed : (height serial : ℕ) (change : Generation → Generation) (ls : List Living) → NoneOwned height ls → NoneOwned height (living_changed serial (generation_changed change) ls)
-none_owned_changed height serial change [] none = tt
-none_owned_changed height serial change (l ∷ ls) none =
-    none_owned_by (l.serial == serial) height serial change l ls none.0 none.1 (none_owned_changed height serial change ls none.1)
+abbrev pub holds_scalar : {s : State} {block : Names} {j serial : ℕ} {type : Y.LeafType} {z : ℤ} → Holds s block j serial type z → HoldsScalar s (own block j) type z
+holds_scalar {serial = serial} {type = type} {z = z} h =
+    record { serial = serial; values = h.values; stands = h.stands; lives = ap (if_same_shape (scalar_shape type)) h.lives ∙ ap (λ t. cond t (Some (scalar_generation type h.values)) None) (same_scalar type (fits_numeric type z h.fits)); value = h.value; fits = h.fits }
 
 -- ---- assignment
 
@@ -58,23 +40,24 @@ element_is : (type : Y.LeafType) → IsNumeric type → (serial : ℕ) (values :
 element_is type is serial values z =
     by_type (λ t. (P.with_element (designated_scalar t serial values) (value_as t z) (scalar_generation t values)).values 0 [] ≡ value_as t z) (λ p. refl) refl type is
 
-holds_by : {s : State} {block j : ℕ} {type : Y.LeafType} (q : Bool) (i : ℕ) (other : Y.LeafType) (x z : ℤ) → (i == j) ≡ q → (i ≡ j → other ≡ type) → Fits type z → (h : Holds s block j type x) (y : ℤ) → Holds s block i other y → Holds (assigned_state s type (suc j) h.values z) block i other (cond q z y)
-holds_by {s} {block} {j} {type} true i other x z e alike fits h y o =
+holds_by : {s : State} {block : Names} {j serial : ℕ} {type : Y.LeafType} (q : Bool) (i other' : ℕ) (other : Y.LeafType) (x z : ℤ) → (i == j) ≡ q → (i ≡ j → other ≡ type) → (i ≡ j → other' ≡ serial) → ((i == j) ≡ false → (serial == other') ≡ false) → Fits type z → (h : Holds s block j serial type x) (y : ℤ) → Holds s block i other' other y → Holds (assigned_state s type serial h.values z) block i other' other (cond q z y)
+holds_by {s} {block} {j} {serial} {type} true i other' other x z e alike same' apart fits h y o =
     let same : i ≡ j = eqb-true i j e in
-    let change = P.with_element (designated_scalar type (suc j) h.values) (value_as type z) in
-    subst (λ w. Holds (assigned_state s type (suc j) h.values z) block i w z) (sym (alike same))
-    (subst (λ u. Holds (assigned_state s type (suc j) h.values z) block u type z) (sym same)
+    let change = P.with_element (designated_scalar type serial h.values) (value_as type z) in
+    let s' = assigned_state s type serial h.values z in
+    subst (λ w. Holds s' block i other' w z) (sym (alike same))
+    (subst (λ m. Holds s' block i m type z) (sym (same' same))
+    (subst (λ u. Holds s' block u serial type z) (sym same)
     (record {
       values = (change (scalar_generation type h.values)).values;
       stands = h.stands;
-      lives = changed_same s.living (suc j) change (scalar_generation type h.values) h.lives;
-      value = element_is type (fits_numeric type z fits) (suc j) h.values z;
+      lives = changed_same s.living serial change (scalar_generation type h.values) h.lives;
+      value = element_is type (fits_numeric type z fits) serial h.values z;
       fits = fits;
-    }))
-holds_by {s} {block} {j} {type} false i other x z e alike fits h y o =
-    let change = P.with_element (designated_scalar type (suc j) h.values) (value_as type z) in
-    let apart : (suc j == suc i) ≡ false = grind (arith, nat_tests) in
-    record { values = o.values; stands = o.stands; lives = changed_other s.living (suc j) (suc i) change apart ∙ o.lives; value = o.value; fits = o.fits }
+    })))
+holds_by {s} {block} {j} {serial} {type} false i other' other x z e alike same' apart fits h y o =
+    let change = P.with_element (designated_scalar type serial h.values) (value_as type z) in
+    record { values = o.values; stands = o.stands; lives = changed_other s.living serial other' change (apart e) ∙ o.lives; value = o.value; fits = o.fits }
 
 -- the types of a place are one
 pub one_type : (types : Types) (i j : ℕ) (type other : Kind) → slice_get types j ≡ Some type → slice_get types i ≡ Some other → i ≡ j → other ≡ type
@@ -86,7 +69,7 @@ one_type types i j type other h k e =
 pub one_alone : (types : Types) (i j : ℕ) (type other : Y.LeafType) → slice_get types j ≡ Some (alone type) → slice_get types i ≡ Some (alone other) → i ≡ j → other ≡ type
 one_alone types i j type other h k e = ap (λ (u : Kind). u.type) (one_type types i j (alone type) (alone other) h k e)
 
--- the numbers after one is assigned
-pub holds_assigned : {s : State} {block j : ℕ} (types : Types) {type : Y.LeafType} (n : Values) (z : ℤ) (below : slice_get types j ≡ Some (alone type)) → Fits type z → (h : Holds s block j type (n.numbers j)) → ((i : ℕ) (b : Typed types i) → IsNumeric b.0 → Holds s block i b.0 (n.numbers i)) → (i : ℕ) (b : Typed types i) → IsNumeric b.0 → Holds (assigned_state s type (suc j) h.values z) block i b.0 ((with_number_at n j z).numbers i)
-holds_assigned {j = j} types {type} n z below fits h all i b numeric =
-    holds_by (i == j) i b.0 (n.numbers j) z refl (one_alone types i j type b.0 below b.1) fits h (n.numbers i) (all i b numeric)
+-- the numbers after one is assigned, where others have other serial numbers
+pub holds_assigned : {s : State} {block : Names} {j : ℕ} (serials : ℕ → ℕ) (types : Types) {type : Y.LeafType} (n : Values) (z : ℤ) (below : slice_get types j ≡ Some (alone type)) → Fits type z → (h : Holds s block j (serials j) type (n.numbers j)) → ((i : ℕ) (b : Typed types i) → (i == j) ≡ false → (serials j == serials i) ≡ false) → ((i : ℕ) (b : Typed types i) → IsNumeric b.0 → Holds s block i (serials i) b.0 (n.numbers i)) → (i : ℕ) (b : Typed types i) → IsNumeric b.0 → Holds (assigned_state s type (serials j) h.values z) block i (serials i) b.0 ((with_number_at n j z).numbers i)
+holds_assigned {j = j} serials types {type} n z below fits h apart all i b numeric =
+    holds_by (i == j) i (serials i) b.0 (n.numbers j) z refl (one_alone types i j type b.0 below b.1) (λ e. ap serials e) (apart i b) fits h (n.numbers i) (all i b numeric)

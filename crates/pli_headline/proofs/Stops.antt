@@ -20,7 +20,7 @@ use Rattle.pli_coding.specs.Allocating.{act_code}
 use Rattle.pli_coding.specs.Environments.{Environment}
 use Rattle.pli_coding.specs.Statements.{stmt_code}
 use Rattle.pli_coding.specs.Linking.{Links}
-use Rattle.pli_headline.specs.ProvedSoFar.{Types}
+use Rattle.pli_headline.specs.ProvedSoFar.{Names, Types}
 use Rattle.pli_headline.proofs.Engine.{Base}
 use Rattle.pli_headline.proofs.Linking.{size_append}
 use Rattle.pli_headline.proofs.Items.{Linked, At, straight}
@@ -57,7 +57,7 @@ stop_piece {code = code} {i = i} {g = g} {v = v} {h = h} {t = t} {s = s} closed 
     (end_pauses (credits + 3) f' v v' few serving.running (λ b. (at' b).holds.body.services) (add-one v.world.acts) calling)
     (call_ends (credits + 3) f' v v' (λ e. cc e) calling))
 
-pub stop_does : {e : Environment} {block : ℕ} {types : Types} (bl : Block e block types) (links : Links) (code : List Instr) (around : Around) (line : ℕ) → line < 2 ^ 31 → Does bl links code around.turns (stmt_code e bl.taken (Y.Stop line)) (M.statement around (Y.Stop line))
+pub stop_does : {e : Environment} {block : Names} {types : Types} (bl : Block e block types) (links : Links) (code : List Instr) (around : Around) (line : ℕ) → line < 2 ^ 31 → Does bl links code around.turns (stmt_code e bl.taken (Y.Stop line)) (M.statement around (Y.Stop line))
 unfolding M.statement ◌>>◌
 stop_does bl links code around line fits =
     record {

@@ -23,7 +23,8 @@ use Rattle.pli_coding.specs.Allocating.{act_code}
 use Rattle.pli_coding.specs.Environments.{Environment}
 use Rattle.pli_coding.specs.Statements.{condition_given, stmt_code}
 use Rattle.pli_coding.specs.Linking.{Links}
-use Rattle.pli_headline.specs.ProvedSoFar.{Types}
+use Rattle.pli_headline.specs.ProvedSoFar.{Names, Types}
+use Rattle.pli_headline.proofs.Storages.{storage, Storage, Serials}
 use Rattle.pli_headline.proofs.Engine.{Base, address, call_at}
 use Rattle.pli_headline.proofs.Linking.{size_append}
 use Rattle.pli_headline.proofs.Items.{straight}
@@ -107,15 +108,15 @@ changed_units known q u w c (a ∷ as') [] new all = absurd all
 changed_units known q u w c (a ∷ as') (x ∷ xs) new all = (changed_known known a.height x.frame q u w c a.units x.units new all.0, all.1)
 
 -- variables stand for what they stood for
-binding_by : (here there : Bool) (a a' : Activation) (as' : List Activation) (j : ℕ) → a'.bindings ≡ a.bindings → binding_in (cond here (cond there (Some a') (ancestor as' a.parent 0)) (ancestor as' a.height 0)) j ≡ binding_in (cond here (cond there (Some a) (ancestor as' a.parent 0)) (ancestor as' a.height 0)) j
-binding_by true true a a' as' j e = ap (λ bs. binding_of bs j) e
-binding_by true false a a' as' j e = refl
-binding_by false there a a' as' j e = refl
+binding_by : (here there : Bool) (level : ℕ) (a a' : Activation) (as' : List Activation) (j : ℕ) → a'.bindings ≡ a.bindings → binding_in (cond here (cond there (Some a') (ancestor as' a.parent level)) (ancestor as' a.height level)) j ≡ binding_in (cond here (cond there (Some a) (ancestor as' a.parent level)) (ancestor as' a.height level)) j
+binding_by true true level a a' as' j e = ap (λ bs. binding_of bs j) e
+binding_by true false level a a' as' j e = refl
+binding_by false there level a a' as' j e = refl
 
-binding_kept : (q : Bool) (u : OnUnit) (c : Condition) (as' : List Activation) (j : ℕ) → binding_in (ancestor (newest_changed q u c as') (newest_height (newest_changed q u c as')) 0) j ≡ binding_in (ancestor as' (newest_height as') 0) j
-binding_kept q u c [] j = refl
-binding_kept q u c (a ∷ as') j =
-    binding_by (a.height == a.height) (a.level == 0) a (record a { units = changed q u c a.units }) as' j refl
+binding_kept : (q : Bool) (u : OnUnit) (c : Condition) (as' : List Activation) (level j : ℕ) → binding_in (ancestor (newest_changed q u c as') (newest_height (newest_changed q u c as')) level) j ≡ binding_in (ancestor as' (newest_height as') level) j
+binding_kept q u c [] level j = refl
+binding_kept q u c (a ∷ as') level j =
+    binding_by (a.height == a.height) (a.level == level) level a (record a { units = changed q u c a.units }) as' j refl
 
 -- ---- the state and the services behind it
 
@@ -147,23 +148,23 @@ changed_kinds q u c [] = refl
 changed_kinds q u c (x ∷ []) = refl
 changed_kinds q u c (x ∷ y ∷ xs) = refl
 
-pub changed_all : {frames : Frames} {xs : List S.Activation} {levels : List ℕ} {s : State} {block : ℕ} {types : Types} {n : Values} (q : Bool) (u : OnUnit) (w : S.OnUnit) (c : Condition) → NewestKnown frames.known u w s.activations xs → AllHold frames xs levels s block types n → AllHold frames (newest_served q w c xs) levels (changed_state q u c s) block types n
-changed_all {frames = frames} {xs = xs} {s = s} q u w c new all =
+pub changed_all : {frames : Frames} {serials : Serials} {xs : Storage} {levels : List ℕ} {s : State} {block : Names} {types : Types} {n : Values} (q : Bool) (u : OnUnit) (w : S.OnUnit) (c : Condition) → NewestKnown frames.known u w s.activations xs.activations → AllHold frames serials xs levels s block types n → AllHold frames serials (record xs { activations = newest_served q w c xs.activations }) levels (changed_state q u c s) block types n
+changed_all {frames = frames} {xs = xs} {s = s} {block = block} q u w c new all =
     record {
       numbers = λ j b numeric.
           let h = all.numbers j b numeric in
-          record { values = h.values; stands = binding_kept q u c s.activations j ∙ h.stands; lives = h.lives; value = h.value; fits = h.fits };
+          record { values = h.values; stands = binding_kept q u c s.activations (block.at j).level (block.at j).index ∙ h.stands; lives = h.lives; value = h.value; fits = h.fits };
       texts = λ j varying most at.
           let h = all.texts j varying most at in
-          record { values = h.values; stands = binding_kept q u c s.activations j ∙ h.stands; lives = h.lives; value = h.value; short = h.short };
+          record { values = h.values; stands = binding_kept q u c s.activations (block.at j).level (block.at j).index ∙ h.stands; lives = h.lives; value = h.value; short = h.short };
       arrays = λ j type b bs at.
           let h = all.arrays j type b bs at in
-          record { values = h.values; numeric = h.numeric; stands = binding_kept q u c s.activations j ∙ h.stands; lives = h.lives; value = h.value; fits = h.fits };
+          record { values = h.values; numeric = h.numeric; stands = binding_kept q u c s.activations (block.at j).level (block.at j).index ∙ h.stands; lives = h.lives; value = h.value; fits = h.fits };
       entered = changed_levels q u c s.activations ∙ all.entered;
-      framed = changed_frames q w c xs ∙ all.framed;
-      kinds = changed_kinds q w c xs ∙ all.kinds;
-      units = changed_units frames.known q u w c s.activations xs new all.units;
-      owned = all.owned;
+      framed = changed_frames q w c xs.activations ∙ all.framed;
+      kinds = changed_kinds q w c xs.activations ∙ all.kinds;
+      units = changed_units frames.known q u w c s.activations xs.activations new all.units;
+      stored = all.stored;
     }
 
 -- they are what the meaning makes of the activations
@@ -219,7 +220,7 @@ some_served level levels [] xs nested entered = absurd (cc entered)
 some_served level levels (a ∷ as') [] nested entered = absurd nested
 some_served level levels (a ∷ as') (x ∷ xs) nested entered = omega arith
 
-pub on_system_does : {e : Environment} {block : ℕ} {types : Types} (bl : Block e block types) (links : Links) (code : List Instr) (around : Around) (c : Condition) (line : ℕ) → line < 2 ^ 31 → Does bl links code around.turns (stmt_code e bl.taken (Y.OnSystem c line)) (M.statement around (Y.OnSystem c line))
+pub on_system_does : {e : Environment} {block : Names} {types : Types} (bl : Block e block types) (links : Links) (code : List Instr) (around : Around) (c : Condition) (line : ℕ) → line < 2 ^ 31 → Does bl links code around.turns (stmt_code e bl.taken (Y.OnSystem c line)) (M.statement around (Y.OnSystem c line))
 unfolding M.statement M.established_by stored ◌>>◌
 on_system_does {e} {block} {types} bl links code around c line fits =
     record {
@@ -237,7 +238,7 @@ on_system_does {e} {block} {types} bl links code around c line fits =
           let s1 = with_world (counted s.world) s in
           let v1 = acted line v in
           let v2 = changed_services true S.SystemUnit c v1 in
-          let all1 : AllHold bl.frames v1.activations (e.level ∷ bl.depths) s1 block types n = counted_all _ all in
+          let all1 : AllHold bl.frames bl.serials (storage v1) (e.level ∷ bl.depths) s1 block types n = counted_all _ all in
           let some = some_served e.level bl.depths s1.activations v1.activations serving1.nested all1.entered in
           let z : Base → ℕ = λ b. (f1 b).machine.registers 12 in
           onward closed (straight (i + size_of a) f1 v1 v1 (λ b. Known (bl.ground n) v1 h t (three (λ b'. condition_number c) (λ b'. 0) z) b) (front_of front call l1) (omega arith) (λ b. (at1 b).pc)
@@ -249,7 +250,7 @@ on_system_does {e} {block} {types} bl links code around c line fits =
           asking_piece closed f2 v2 28 (λ b. condition_number c) (λ b. 0) z (λ b. condition_number c) (λ b. 0) (λ q x0 x1 x2 x3 x4. U.on_served q x0 x1) (lit< tt) (λ q r. refl) (omega arith)
           (λ b m x3 x4. on_answer code v1 m c some) (back_of front call l1) at2
           (λ f3 at3.
-          let T : List Activation → Type 0 = λ as'. Serving k (with_world s1.world (with_activations as' s1)) v2 line × AllHold bl.frames v2.activations (e.level ∷ bl.depths) (with_world s1.world (with_activations as' s1)) block types n in
+          let T : List Activation → Type 0 = λ as'. Serving k (with_world s1.world (with_activations as' s1)) v2 line × AllHold bl.frames bl.serials (storage v2) (e.level ∷ bl.depths) (with_world s1.world (with_activations as' s1)) block types n in
           let both : T (newest_changed true SystemUnit c s1.activations) = (changed_serving true SystemUnit S.SystemUnit c (system_new c) serving1, changed_all true SystemUnit S.SystemUnit c (system_known bl.frames.known s1.activations v1.activations) all1) in
           let o = subst T (established_is SystemUnit c s1.activations) both in
           record {
@@ -260,7 +261,7 @@ on_system_does {e} {block} {types} bl links code around c line fits =
           }))));
     }
 
-pub revert_does : {e : Environment} {block : ℕ} {types : Types} (bl : Block e block types) (links : Links) (code : List Instr) (around : Around) (c : Condition) (line : ℕ) → line < 2 ^ 31 → Does bl links code around.turns (stmt_code e bl.taken (Y.Revert c line)) (M.statement around (Y.Revert c line))
+pub revert_does : {e : Environment} {block : Names} {types : Types} (bl : Block e block types) (links : Links) (code : List Instr) (around : Around) (c : Condition) (line : ℕ) → line < 2 ^ 31 → Does bl links code around.turns (stmt_code e bl.taken (Y.Revert c line)) (M.statement around (Y.Revert c line))
 unfolding M.statement M.established_by stored ◌>>◌
 revert_does {e} {block} {types} bl links code around c line fits =
     record {
@@ -278,7 +279,7 @@ revert_does {e} {block} {types} bl links code around c line fits =
           let s1 = with_world (counted s.world) s in
           let v1 = acted line v in
           let v2 = changed_services false S.SystemUnit c v1 in
-          let all1 : AllHold bl.frames v1.activations (e.level ∷ bl.depths) s1 block types n = counted_all _ all in
+          let all1 : AllHold bl.frames bl.serials (storage v1) (e.level ∷ bl.depths) s1 block types n = counted_all _ all in
           let some = some_served e.level bl.depths s1.activations v1.activations serving1.nested all1.entered in
           let y : Base → ℕ = λ b. (f1 b).machine.registers 11 in
           let z : Base → ℕ = λ b. (f1 b).machine.registers 12 in
@@ -291,7 +292,7 @@ revert_does {e} {block} {types} bl links code around c line fits =
           asking_piece closed f2 v2 29 (λ b. condition_number c) y z (λ b. condition_number c) y (λ q x0 x1 x2 x3 x4. U.revert_served q x0 x1) (lit< tt) (λ q r. refl) (omega arith)
           (λ b m x3 x4. revert_answer code v1 m c (y b) some) (back_of front call l1) at2
           (λ f3 at3.
-          let T : List Activation → Type 0 = λ as'. Serving k (with_world s1.world (with_activations as' s1)) v2 line × AllHold bl.frames v2.activations (e.level ∷ bl.depths) (with_world s1.world (with_activations as' s1)) block types n in
+          let T : List Activation → Type 0 = λ as'. Serving k (with_world s1.world (with_activations as' s1)) v2 line × AllHold bl.frames bl.serials (storage v2) (e.level ∷ bl.depths) (with_world s1.world (with_activations as' s1)) block types n in
           let both : T (newest_changed false SystemUnit c s1.activations) = (changed_serving false SystemUnit S.SystemUnit c (system_new c) serving1, changed_all false SystemUnit S.SystemUnit c (system_known bl.frames.known s1.activations v1.activations) all1) in
           let o = subst T (reverted_is c s1.activations) both in
           record {

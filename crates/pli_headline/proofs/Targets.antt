@@ -12,14 +12,15 @@ use Rattle.pli_meaning.specs.StorageState.{State}
 use Rattle.pli_meaning.specs.Raising.{Around}
 use Rattle.pli_meaning.specs.Streaming as P
 use Rattle.pli_meaning.specs.Executing as M
-use Rattle.pli_serving.specs.ServiceState.{Services, Activation}
+use Rattle.pli_serving.specs.ServiceState.{Services}
 use Rattle.pli_coding.specs.Assembly.{size_of}
 use Rattle.pli_coding.specs.Environments.{Environment}
 use Rattle.pli_coding.specs.Expressions.{given_in, type_in}
 use Rattle.pli_coding.specs.Storing.{word_stored}
 use Rattle.pli_coding.specs.Temporaries.{subscripts_words}
 use Rattle.pli_coding.specs.Linking.{Links}
-use Rattle.pli_headline.specs.ProvedSoFar.{Types, Kind, alone, IsOwn, IsElement, IsElementType, IsAssigned, IsProvedNumber, AreProvedNumbers}
+use Rattle.pli_headline.specs.ProvedSoFar.{Names, Types, Kind, alone, IsOwn, IsElement, IsElementType, IsAssigned, IsProvedNumber, AreProvedNumbers}
+use Rattle.pli_headline.proofs.Storages.{storage, Storage}
 use Rattle.pli_headline.proofs.Engine.{Base}
 use Rattle.pli_headline.proofs.Items.{Linked, At}
 use Rattle.pli_headline.proofs.Bodies.{Known}
@@ -43,13 +44,13 @@ use Rattle.pli_headline.proofs.Reach.{Family, Aims, Comes, Closed}
 -- ---- its type
 
 -- in the code
-pub own_type : (e : Environment) (block j : ℕ) (type : Y.LeafType) → IsDeclared e block j type → type_in e (whole (own block j)) ≡ type
+pub own_type : (e : Environment) (block : Names) (j : ℕ) (type : Y.LeafType) → IsDeclared e block j type → type_in e (whole (own block j)) ≡ type
 own_type e block j type declared = ap type_by declared.1
 
-pub element_type : (e : Environment) (block j : ℕ) (type : Y.LeafType) (bs : List Bounds) (first : Y.Number) (rest : Y.Numbers) → IsDeclaredArray e block j type bs → type_in e (element block j first rest) ≡ type
+pub element_type : (e : Environment) (block : Names) (j : ℕ) (type : Y.LeafType) (bs : List Bounds) (first : Y.Number) (rest : Y.Numbers) → IsDeclaredArray e block j type bs → type_in e (element block j first rest) ≡ type
 element_type e block j type bs first rest declared = ap type_by declared.1
 
-pub part_type : (e : Environment) (block : ℕ) (types : Types) (type : Y.LeafType) (r : Y.Reference) → HasTypes e block types → IsOwn block types type r ⊎ (IsElement block types type r × IsElementType type) → type_in e r ≡ type
+pub part_type : (e : Environment) (block : Names) (types : Types) (type : Y.LeafType) (r : Y.Reference) → HasTypes e block types → IsOwn block types type r ⊎ (IsElement block types type r × IsElementType type) → type_in e r ≡ type
 part_type e block types type r has (inl o) =
     ap (type_in e) o.is ∙ own_type e block o.index type (has o.index (alone type) o.declared)
 part_type e block types type r has (inr (o, is)) =
@@ -57,27 +58,27 @@ part_type e block types type r has (inr (o, is)) =
     ap (type_in e) o.is ∙ element_type e block o.index type (o.bound ∷ o.bounds) o.first o.rest (has o.index kind o.declared)
 
 -- and in the meaning
-pub element_target : (e : Environment) (around : Around) (block j : ℕ) (type : Y.LeafType) (bs : List Bounds) (first : Y.Number) (rest : Y.Numbers) → around.program ≡ e.program → IsDeclaredArray e block j type bs → P.target_type around (element block j first rest) ≡ Some type
+pub element_target : (e : Environment) (around : Around) (block : Names) (j : ℕ) (type : Y.LeafType) (bs : List Bounds) (first : Y.Number) (rest : Y.Numbers) → around.program ≡ e.program → IsDeclaredArray e block j type bs → P.target_type around (element block j first rest) ≡ Some type
 element_target e around block j type bs first rest same declared =
-    ap (λ q. P.type_of_first whole_part (slice_get (variables_of_block q block) j)) same
+    ap (λ q. P.type_of_first whole_part (slice_get (variables_of_block q (block.at j).number) (block.at j).index)) same
     ∙ ap (P.type_of_first whole_part) declared.1
 
 -- ---- it is read
 
-pub assigned_read : (block : ℕ) (types : Types) (p : ℕ) (r : Y.Reference) → IsAssigned block types (Y.FixedLeaf p) r → IsProvedNumber block types (Y.NumberIn r)
+pub assigned_read : (block : Names) (types : Types) (p : ℕ) (r : Y.Reference) → IsAssigned block types (Y.FixedLeaf p) r → IsProvedNumber block types (Y.NumberIn r)
 assigned_read block types p (Y.Referring v locator part subscripts) is = (record { precision = p; part = is.0 }, is.1)
 
 -- ---- it takes a value
 
-pub record Takes {e : Environment} {block : ℕ} {types : Types} (bl : Block e block types) (links : Links) (code : List Instr) (r : Y.Reference) (type : Y.LeafType) : Type 1 where
-  pub old : (s : State) (xs : List Activation) (n : Values) → AllHold bl.frames xs (e.level ∷ bl.depths) s block types n → (z : ℤ) × Fits type z
-  pub does : {i : ℕ} {v : Services} {h t : ℕ → ℕ} {s : State} {aims : Aims (Unit {0})} (closed : Closed code aims) (f : Family) (around : Around) (z : ℤ) (n : Values) (k : ℕ) → Fits type z → Linked links code i (word_stored e bl.taken r) → Serving k s v around.line → AllHold bl.frames v.activations (e.level ∷ bl.depths) s block types n → ((b : Base) → At b i (Known (bl.ground n) v h t (valued (word z)) b) (f b)) → ((s' : State) (n' : Values) (h' t' : ℕ → ℕ) (f' : Family) → Serving k s' v around.line → AllHold bl.frames v.activations (e.level ∷ bl.depths) s' block types n' → Stays bl.taken h t h' t' → ((b : Base) → At b (i + size_of (word_stored e bl.taken r)) (Known (bl.ground n') v h' t' nothing b) (f' b)) → aims.done (i + size_of (word_stored e bl.taken r)) f' v tt s') → Comes code i f v aims (M.assigned around r (value_as type z) k s)
+pub record Takes {e : Environment} {block : Names} {types : Types} (bl : Block e block types) (links : Links) (code : List Instr) (r : Y.Reference) (type : Y.LeafType) : Type 1 where
+  pub old : (s : State) (xs : Storage) (n : Values) → AllHold bl.frames bl.serials xs (e.level ∷ bl.depths) s block types n → (z : ℤ) × Fits type z
+  pub does : {i : ℕ} {v : Services} {h t : ℕ → ℕ} {s : State} {aims : Aims (Unit {0})} (closed : Closed code aims) (f : Family) (around : Around) (z : ℤ) (n : Values) (k : ℕ) → Fits type z → Linked links code i (word_stored e bl.taken r) → Serving k s v around.line → AllHold bl.frames bl.serials (storage v) (e.level ∷ bl.depths) s block types n → ((b : Base) → At b i (Known (bl.ground n) v h t (valued (word z)) b) (f b)) → ((s' : State) (n' : Values) (h' t' : ℕ → ℕ) (f' : Family) → Serving k s' v around.line → AllHold bl.frames bl.serials (storage v) (e.level ∷ bl.depths) s' block types n' → Stays bl.taken h t h' t' → ((b : Base) → At b (i + size_of (word_stored e bl.taken r)) (Known (bl.ground n') v h' t' nothing b) (f' b)) → aims.done (i + size_of (word_stored e bl.taken r)) f' v tt s') → Comes code i f v aims (M.assigned around r (value_as type z) k s)
 
-scalar_serving : {k : ℕ} {s : State} {v : Services} {line : ℕ} (type : Y.LeafType) (j : ℕ) (values : ℕ → List ℤ → BasicValue) (z : ℤ) → Serving k s v line → Serving k (assigned_state s type (suc j) values z) v line
+scalar_serving : {k : ℕ} {s : State} {v : Services} {line : ℕ} (type : Y.LeafType) (j : ℕ) (values : ℕ → List ℤ → BasicValue) (z : ℤ) → Serving k s v line → Serving k (assigned_state s type j values z) v line
 scalar_serving type j values z o =
     record { world = o.world; running = o.running; line_is = o.line_is; input = o.input; allowed = o.allowed; fits = o.fits; nested = o.nested; waiting = o.waiting }
 
-pub scalar_takes : {e : Environment} {block : ℕ} {types : Types} (bl : Block e block types) (links : Links) (code : List Instr) (j : ℕ) {type : Y.LeafType} (below : slice_get types j ≡ Some (alone type)) → IsNumeric type → bl.taken.words + 1 ≤ bl.words → Takes bl links code (whole (own block j)) type
+pub scalar_takes : {e : Environment} {block : Names} {types : Types} (bl : Block e block types) (links : Links) (code : List Instr) (j : ℕ) {type : Y.LeafType} (below : slice_get types j ≡ Some (alone type)) → IsNumeric type → bl.taken.words + 1 ≤ bl.words → Takes bl links code (whole (own block j)) type
 scalar_takes {e} {block} {types} bl links code j {type} below numeric room =
     record {
       old = λ s xs n hold. (n.numbers j, (hold.numbers j (type, below) numeric).fits);
@@ -86,14 +87,14 @@ scalar_takes {e} {block} {types} bl links code j {type} below numeric room =
           let mine = hold.numbers j (type, below) (fits_numeric type z fits) in
           stored_piece (bl.ground (with_number_at n j z)) closed (bl.temps n) i e block types n f around bl.taken j z k below fits (λ none. omega (arith, room, w)) (scope_of bl n hold)
           (λ b h'. bl.same n (with_number_at n j z) b h') (λ t' b m len o. bl.writes n j z below mine.fits fits t' b m len o) l at
-          (λ f1 h1 t1 stays1 at1. goal (assigned_state s type (suc j) mine.values z) (with_number_at n j z) h1 t1 f1 (scalar_serving type j mine.values z serving) (assigned_all j z below fits hold) stays1 at1);
+          (λ f1 h1 t1 stays1 at1. goal (assigned_state s type (bl.serials.of j) mine.values z) (with_number_at n j z) h1 t1 f1 (scalar_serving type (bl.serials.of j) mine.values z serving) (assigned_all j z below fits hold) stays1 at1);
     }
 
 element_serving : {k : ℕ} {s : State} {v : Services} {line : ℕ} (type : Y.LeafType) (bs : List Bounds) (serial : ℕ) (values : ℕ → List ℤ → BasicValue) (is : List ℤ) (z : ℤ) → Serving k s v line → Serving k (element_state s type bs serial values is z) v line
 element_serving type bs serial values is z o =
     record { world = o.world; running = o.running; line_is = o.line_is; input = o.input; allowed = o.allowed; fits = o.fits; nested = o.nested; waiting = o.waiting }
 
-pub element_takes : {e : Environment} {block : ℕ} {types : Types} (bl : Block e block types) (links : Links) (code : List Instr) (routines : Standing bl links code) (j : ℕ) {type : Y.LeafType} (b : Bounds) (bs : List Bounds) (first : Y.Number) (rest : Y.Numbers) (below : IsArrayAt types j type b bs) → given_in rest ≡ length bs → AreProvedNumbers block types (Y.NumberThen first rest) → bl.taken.words + suc (subscripts_words (Y.NumberThen first rest)) ≤ bl.words → Takes bl links code (element block j first rest) type
+pub element_takes : {e : Environment} {block : Names} {types : Types} (bl : Block e block types) (links : Links) (code : List Instr) (routines : Standing bl links code) (j : ℕ) {type : Y.LeafType} (b : Bounds) (bs : List Bounds) (first : Y.Number) (rest : Y.Numbers) (below : IsArrayAt types j type b bs) → given_in rest ≡ length bs → AreProvedNumbers block types (Y.NumberThen first rest) → bl.taken.words + suc (subscripts_words (Y.NumberThen first rest)) ≤ bl.words → Takes bl links code (element block j first rest) type
 element_takes {e} {block} {types} bl links code routines j {type} b bs first rest below many are room =
     let xs = Y.NumberThen first rest in
     let on = bl.arrays j type b bs below in
@@ -102,10 +103,10 @@ element_takes {e} {block} {types} bl links code routines j {type} b bs first res
       does = λ {i} {v} {h} {t} {s} {aims} closed f around z n k fits l serving hold at goal.
           let w = bl.words_are n in
           let mine = hold.arrays j type b bs below in
-          element_stored_piece (λ p. bl.ground (with_element_of n j p z)) closed routines.raises (bl.temps n) (array_scope on n mine (bl.reach n)) f around bl.taken z k (subscripts_words xs) first rest
+          element_stored_piece (λ p. bl.ground (with_element_of n j p z)) closed routines.raises (bl.temps n) (array_scope on n mine (bl.reaches n j below)) f around bl.taken z k (subscripts_words xs) first rest
           (subscripts_do xs (setting_at bl routines around n hold serving) are) (ap (λ m. suc m) many) (subscripts_many xs) fits (omega (arith, room, w)) serving
           (λ p base h'. bl.same n (with_element_of n j p z) base h')
           (λ p inside t' base m len o. on.writes n p z inside (mine.fits p inside) fits t' base m len o) l at
           (λ is f1 h1 t1 inside stays1 at1.
-          goal (element_state s type (b ∷ bs) (suc j) mine.values is z) (with_element_of n j (element_place (b ∷ bs) is) z) h1 t1 f1 (element_serving type (b ∷ bs) (suc j) mine.values is z serving) (element_all j is z below inside fits hold) stays1 at1);
+          goal (element_state s type (b ∷ bs) (bl.serials.of j) mine.values is z) (with_element_of n j (element_place (b ∷ bs) is) z) h1 t1 f1 (element_serving type (b ∷ bs) (bl.serials.of j) mine.values is z serving) (element_all j is z below inside fits hold) stays1 at1);
     }

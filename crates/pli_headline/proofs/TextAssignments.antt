@@ -1,7 +1,8 @@
 -- Assignments of texts to variables of the block that hold texts: cut, and padded where they don't vary.
-use Rattle.std.proofs.Common.{◌≡◌, ℕ, suc, ◌+◌, ◌^◌, ◌<◌, ◌≤◌, List, ◌∷◌, ◌++◌, Bool, sym, ap, ◌∙◌, subst, arith}
+use Rattle.std.proofs.Common.{refl, ◌≡◌, ℕ, ◌+◌, ◌^◌, ◌<◌, ◌≤◌, List, ◌∷◌, ◌++◌, Bool, sym, ap, ◌∙◌, subst, arith}
 use Rattle.rv_meaning.specs.declared.instr.Instr.{Instr}
 use Rattle.pli_typing.specs.TypedTree as Y
+use Rattle.pli_meaning.specs.Placing as P
 use Rattle.pli_meaning.specs.World.{counted}
 use Rattle.pli_meaning.specs.BasicValues.{BasicValue, BasicText}
 use Rattle.pli_meaning.specs.StorageState.{State, with_world}
@@ -9,7 +10,7 @@ use Rattle.pli_meaning.specs.Control.{Meaning, act, give, ◌>>=◌, ◌>>◌}
 use Rattle.pli_meaning.specs.Raising.{Around, at_line}
 use Rattle.pli_meaning.specs.Evaluating as V
 use Rattle.pli_meaning.specs.Executing as M
-use Rattle.pli_serving.specs.ServiceState.{Services, Activation, TextEntry}
+use Rattle.pli_serving.specs.ServiceState.{Services, TextEntry}
 use Rattle.pli_serving.specs.Outcomes.{pushed}
 use Rattle.pli_serving.specs.Stored.{kept_bytes}
 use Rattle.pli_coding.specs.Assembly.{size_of}
@@ -19,7 +20,8 @@ use Rattle.pli_coding.specs.Expressions.{text_code}
 use Rattle.pli_coding.specs.Storing.{top_stored, assigned_code}
 use Rattle.pli_coding.specs.Temporaries.{text_words}
 use Rattle.pli_coding.specs.Linking.{Links}
-use Rattle.pli_headline.specs.ProvedSoFar.{Types, IsProvedText, text_leaf, IsOwnText}
+use Rattle.pli_headline.specs.ProvedSoFar.{Names, Types, IsProvedText, text_leaf, IsOwnText}
+use Rattle.pli_headline.proofs.Storages.{storage, Storage, Serials, stored_changed}
 use Rattle.pli_headline.proofs.Engine.{Base, address}
 use Rattle.pli_headline.proofs.Linking.{size_append}
 use Rattle.pli_headline.proofs.Scalars.{Values}
@@ -29,14 +31,14 @@ use Rattle.pli_headline.proofs.Temporaries.{nothing}
 use Rattle.pli_headline.proofs.Jumps.{front_of, back_of}
 use Rattle.pli_headline.proofs.WrittenBytes.{length-with_bytes}
 use Rattle.pli_headline.proofs.Acts.{acted, act_piece}
-use Rattle.pli_headline.proofs.Variables.{whole, own, data_place}
-use Rattle.pli_headline.proofs.States.{none_owned_changed, with_text_at}
+use Rattle.pli_headline.proofs.Variables.{whole, own, data_place, designated_scalar}
+use Rattle.pli_headline.proofs.States.{with_text_at}
 use Rattle.pli_headline.proofs.Expressions.{text_does}
 use Rattle.pli_headline.proofs.TextPlaces.{text_kind_of}
 use Rattle.pli_headline.proofs.TextVariables.{text_state, text_stored_piece}
 use Rattle.pli_headline.proofs.TextsKept.{text_kept_as, kept_length}
 use Rattle.pli_headline.proofs.TextScopes.{IsTextAt}
-use Rattle.pli_headline.proofs.TextStates.{holds_text, holds_beside, keeps_all}
+use Rattle.pli_headline.proofs.TextStates.{holds_text, holds_other, number_apart, keeps_all}
 use Rattle.pli_headline.proofs.Entered.{Frames}
 use Rattle.pli_headline.proofs.Statements.{Block, Standing, AllHold, Does, counted_all}
 use Rattle.pli_headline.proofs.Ifs.{setting}
@@ -44,36 +46,36 @@ use Rattle.pli_headline.proofs.Reach.{Family, Aims, Comes, Closed, before_closed
 use Rattle.pli_headline.proofs.ArrayStates.{array_apart, arrays_beside_text}
 
 -- what the variables hold when one is assigned a text
-pub text_assigned_all : {frames : Frames} {xs : List Activation} {levels : List ℕ} {s : State} {block : ℕ} {types : Types} {n : Values} (j : ℕ) (varying : Bool) (most : ℕ) (text : List ℕ) (below : IsTextAt types j varying most) → most ≤ 1024 → (all : AllHold frames xs levels s block types n) → AllHold frames xs levels (text_state s (text_leaf varying most) (suc j) (all.texts j varying most below).values text) block types (with_text_at n j (text_kept_as varying most text))
-text_assigned_all {s = s} {types = types} {n = n} j varying most text below few all =
+pub text_assigned_all : {frames : Frames} {serials : Serials} {xs : Storage} {levels : List ℕ} {s : State} {block : Names} {types : Types} {n : Values} (j : ℕ) (varying : Bool) (most : ℕ) (text : List ℕ) (below : IsTextAt types j varying most) → most ≤ 1024 → (all : AllHold frames serials xs levels s block types n) → AllHold frames serials xs levels (text_state s (text_leaf varying most) (serials.of j) (all.texts j varying most below).values text) block types (with_text_at n j (text_kept_as varying most text))
+text_assigned_all {serials = serials} {s = s} {types = types} {n = n} j varying most text below few all =
     let h = all.texts j varying most below in
     record {
-      numbers = λ i b numeric. holds_beside types text below h i b numeric (all.numbers i b numeric);
-      texts = λ i other most' at. keeps_all types n text below few h i other most' at (all.texts i other most' at);
-      arrays = λ i type b bs at. arrays_beside_text (text_leaf varying most) j h.values text (array_apart types i j (text_leaf varying most) type b bs below at) (all.arrays i type b bs at);
+      numbers = λ i b numeric. holds_other text (all.stored.apart i j b.1 below (number_apart types i j b.0 varying most below b.1 numeric)) h (all.numbers i b numeric);
+      texts = λ i other most' at. keeps_all serials.of types n text below few h i other most' at (λ e. all.stored.apart i j at below e) (all.texts i other most' at);
+      arrays = λ i type b bs at. arrays_beside_text (text_leaf varying most) (serials.of j) h.values text (all.stored.apart i j at below (array_apart types i j (text_leaf varying most) type b bs below at)) (all.arrays i type b bs at);
       entered = all.entered;
       framed = all.framed;
       kinds = all.kinds;
       units = all.units;
-      owned = λ height' above. none_owned_changed height' (suc j) _ s.living (all.owned height' above);
+      stored = stored_changed (serials.of j) (P.with_element (designated_scalar (text_leaf varying most) (serials.of j) h.values) (BasicText text)) (λ g. refl) all.stored;
     }
 
 -- the top text is assigned to a variable of the block
-pub assigned_piece : {e : Environment} {block : ℕ} {types : Types} (bl : Block e block types) {links : Links} {code : List Instr} {i : ℕ} {v : Services} {h t : ℕ → ℕ} {s : State} {aims : Aims (Unit {0})} (closed : Closed code aims) (f : Family) (around : Around) (j : ℕ) (varying : Bool) (most : ℕ) (text : List ℕ) (n : Values) (k : ℕ) (below : IsTextAt types j varying most) → Linked links code i (top_stored e bl.taken (whole (own block j))) → (all : AllHold bl.frames v.activations (e.level ∷ bl.depths) s block types n) → ((b : Base) → At b i (Known (bl.ground n) (pushed (TextEntry text) v) h t nothing b) (f b)) → ((f' : Family) → ((b : Base) → At b (i + size_of (top_stored e bl.taken (whole (own block j)))) (Known (bl.ground (with_text_at n j (text_kept_as varying most text))) v h t nothing b) (f' b)) → aims.done (i + size_of (top_stored e bl.taken (whole (own block j)))) f' v tt (text_state s (text_leaf varying most) (suc j) (all.texts j varying most below).values text)) → Comes code i f (pushed (TextEntry text) v) aims (M.assigned around (whole (own block j)) (BasicText text) k s)
+pub assigned_piece : {e : Environment} {block : Names} {types : Types} (bl : Block e block types) {links : Links} {code : List Instr} {i : ℕ} {v : Services} {h t : ℕ → ℕ} {s : State} {aims : Aims (Unit {0})} (closed : Closed code aims) (f : Family) (around : Around) (j : ℕ) (varying : Bool) (most : ℕ) (text : List ℕ) (n : Values) (k : ℕ) (below : IsTextAt types j varying most) → Linked links code i (top_stored e bl.taken (whole (own block j))) → (all : AllHold bl.frames bl.serials (storage v) (e.level ∷ bl.depths) s block types n) → ((b : Base) → At b i (Known (bl.ground n) (pushed (TextEntry text) v) h t nothing b) (f b)) → ((f' : Family) → ((b : Base) → At b (i + size_of (top_stored e bl.taken (whole (own block j)))) (Known (bl.ground (with_text_at n j (text_kept_as varying most text))) v h t nothing b) (f' b)) → aims.done (i + size_of (top_stored e bl.taken (whole (own block j)))) f' v tt (text_state s (text_leaf varying most) (bl.serials.of j) (all.texts j varying most below).values text)) → Comes code i f (pushed (TextEntry text) v) aims (M.assigned around (whole (own block j)) (BasicText text) k s)
 assigned_piece {e} {block} {types} bl {t = t} closed f around j varying most text n k below l all at goal =
     let mine = all.texts j varying most below in
     let kept = text_kept_as varying most text in
     let bytes = kept_bytes (text_kind_of varying most) (BasicText text) in
     let long = kept_length varying most text in
-    let o = bl.base + data_place e block j in
+    let o = bl.bases j + data_place e block j in
     let inside = bl.texts.room.inside j varying most below in
     let above = (bl.places j below).inside in
-    text_stored_piece (bl.ground (with_text_at n j kept)) closed f varying e around bl.taken block j most bl.base (n.texts j) text k (bl.texts.room.short j varying most below) (bl.declared j below) (holds_text mine) (bl.reach n) bl.texts.room.high inside (omega (arith, above))
+    text_stored_piece (bl.ground (with_text_at n j kept)) closed f varying e around bl.taken block j most (bl.bases j) (n.texts j) text k (bl.texts.room.short j varying most below) (bl.declared j below) (holds_text mine) (bl.reaches n j below) (bl.texts.room.high j varying most below) inside (omega (arith, above))
     (λ b h'. bl.same n (with_text_at n j kept) b h')
     (λ b m len held. (length-with_bytes bytes m o (omega (arith, inside, long, len)) ∙ len, bl.texts.writes n j varying most text below t b m len held))
     l at goal
 
-text_assigned_does : {e : Environment} {block : ℕ} {types : Types} (bl : Block e block types) (links : Links) (code : List Instr) (routines : Standing bl links code) (around : Around) (j : ℕ) (varying : Bool) (most : ℕ) (x : Y.Text) (line : ℕ) → IsTextAt types j varying most → IsProvedText block types x → bl.taken.words + text_words x ≤ bl.words → line < 2 ^ 31 → Does bl links code around.turns (act_code line ++ assigned_code e bl.taken (whole (own block j)) (Y.StoredText x)) (M.statement around (Y.Assign (whole (own block j)) (Y.StoredText x) line))
+text_assigned_does : {e : Environment} {block : Names} {types : Types} (bl : Block e block types) (links : Links) (code : List Instr) (routines : Standing bl links code) (around : Around) (j : ℕ) (varying : Bool) (most : ℕ) (x : Y.Text) (line : ℕ) → IsTextAt types j varying most → IsProvedText block types x → bl.taken.words + text_words x ≤ bl.words → line < 2 ^ 31 → Does bl links code around.turns (act_code line ++ assigned_code e bl.taken (whole (own block j)) (Y.StoredText x)) (M.statement around (Y.Assign (whole (own block j)) (Y.StoredText x) line))
 unfolding M.statement V.stored_value give ◌>>=◌ ◌>>◌
 text_assigned_does {e} {block} {types} bl links code routines around j varying most x line below is room fits =
     record {
@@ -97,7 +99,7 @@ text_assigned_does {e} {block} {types} bl links code routines around j varying m
           (act_piece (before_closed k next' closed) f line old k fits (front_of front rest l) serving at
           (λ f1 serving1 at1.
           let s1 = with_world (counted s.world) s in
-          let all1 : AllHold bl.frames v.activations (e.level ∷ bl.depths) s1 block types n = counted_all _ all in
+          let all1 : AllHold bl.frames bl.serials (storage v) (e.level ∷ bl.depths) s1 block types n = counted_all _ all in
           let mine = all1.texts j varying most below in
           comes_on k (V.stored_value here (Y.StoredText x) k s1) store
           (comes_on k (V.text here x k s1) as_value
@@ -105,7 +107,7 @@ text_assigned_does {e} {block} {types} bl links code routines around j varying m
           (λ text f2 h2 t2 short stays2 at2. record {
             to =
                 let kept = text_kept_as varying most text in
-                let s2 = text_state s1 (text_leaf varying most) (suc j) mine.values text in
+                let s2 = text_state s1 (text_leaf varying most) (bl.serials.of j) mine.values text in
                 assigned_piece bl closed f2 here j varying most text n k below (back_of valued' last l1) all1 at2
                 (λ f3 at3.
                 subst (λ u. aims.done u f3 (acted line v) tt s2) (sym place)
@@ -117,7 +119,7 @@ text_assigned_does {e} {block} {types} bl links code routines around j varying m
           })))));
     }
 
-pub assign_text_does : {e : Environment} {block : ℕ} {types : Types} (bl : Block e block types) (links : Links) (code : List Instr) (routines : Standing bl links code) (around : Around) (r : Y.Reference) (x : Y.Text) (line : ℕ) → IsOwnText block types r → IsProvedText block types x → bl.taken.words + text_words x ≤ bl.words → line < 2 ^ 31 → Does bl links code around.turns (act_code line ++ assigned_code e bl.taken r (Y.StoredText x)) (M.statement around (Y.Assign r (Y.StoredText x) line))
+pub assign_text_does : {e : Environment} {block : Names} {types : Types} (bl : Block e block types) (links : Links) (code : List Instr) (routines : Standing bl links code) (around : Around) (r : Y.Reference) (x : Y.Text) (line : ℕ) → IsOwnText block types r → IsProvedText block types x → bl.taken.words + text_words x ≤ bl.words → line < 2 ^ 31 → Does bl links code around.turns (act_code line ++ assigned_code e bl.taken r (Y.StoredText x)) (M.statement around (Y.Assign r (Y.StoredText x) line))
 assign_text_does {e} bl links code routines around r x line own' is room fits =
     subst (λ q. Does bl links code around.turns (act_code line ++ assigned_code e bl.taken q (Y.StoredText x)) (M.statement around (Y.Assign q (Y.StoredText x) line))) (sym own'.own.is)
     (text_assigned_does bl links code routines around own'.own.index own'.varying own'.most x line own'.own.declared is room fits)

@@ -12,7 +12,7 @@ use Rattle.pli_serving.specs.ServiceState.{Services}
 use Rattle.pli_serving.specs.Answers.{Answer, Done}
 use Rattle.pli_serving.specs.Finding.{Call}
 use Rattle.pli_serving.specs.Outcomes.{or_status}
-use Rattle.pli_serving.specs.Serving as V
+use Rattle.pli_headline.proofs.Unlimited as V
 use Rattle.pli_coding.specs.Registers.{zero_register, a1, a7}
 use Rattle.pli_coding.specs.Assembly.{Plain, JumpTo, RaiseError}
 use Rattle.pli_coding.specs.Instructions.{small, service, status_tested, tested_service}

@@ -15,7 +15,7 @@ use Rattle.pli_meaning.specs.Control.{Flow}
 use Rattle.pli_serving.specs.Bytes.{bytes_at, with_bytes}
 use Rattle.pli_serving.specs.Stored.{kept_bytes}
 use Rattle.pli_serving.specs.Finding.{Call}
-use Rattle.pli_serving.specs.Serving as S
+use Rattle.pli_headline.proofs.Unlimited as S
 use Rattle.pli_serving.specs.ServiceState.{Services, TextEntry}
 use Rattle.pli_serving.specs.Answers.{Answer, Done}
 use Rattle.pli_serving.specs.Outcomes.{or_bad, bad_unless, pushed}
@@ -49,16 +49,16 @@ text_kind_of false most = Character most
 text_kind_of true most = Varying most
 
 -- the offset of a place of the frame that holds the variables
-abbrev pub based_offset : Bool → (place : ℕ) → Code
-based_offset q place = found_by q ++ address_offset (record { register = register_by q; displacement = pos place })
+abbrev pub based_offset : Bool → (level place : ℕ) → Code
+based_offset q level place = found_by q level ++ address_offset (record { register = register_by q; displacement = pos place })
 
 -- what asks a service about the text at a place of it
 abbrev pub kind_asked : (n : ℕ) → (varying : Bool) → (most : ℕ) → Code
 kind_asked n varying most = (number a1 most ++ small a2 (text_mode varying) ∷ []) ++ service n
 
-abbrev pub text_asked : Bool → (n : ℕ) → (varying : Bool) → (most place : ℕ) → Code
-text_asked q n varying most place =
-    found_by q ++ (address_offset (record { register = register_by q; displacement = pos place }) ++ kind_asked n varying most)
+abbrev pub text_asked : Bool → (level n : ℕ) → (varying : Bool) → (most place : ℕ) → Code
+text_asked q level n varying most place =
+    found_by q level ++ (address_offset (record { register = register_by q; displacement = pos place }) ++ kind_asked n varying most)
 
 -- ---- what service 20 answers
 
@@ -108,8 +108,8 @@ summed : (x y z : ℕ) → y ≡ z → x + z < 2 ^ 32 → sum x y ≡ x + z
 summed x y z e h = omega (arith, e, h)
 
 -- the offset of that frame comes into a0
-base_piece : {links : Links} {code : List Instr} {i : ℕ} {g : Ground} {v : Services} {h t : ℕ → ℕ} (q : Bool) (c : ℕ) (f : Family) (base : ℕ) → Reaches q g base → base < memory_size → Linked links code i (found_by q ++ (BaseIn u0 ∷ subtract a0 (register_by q) u0 ∷ [])) → ((b : Base) → At b i (Known g v h t nothing b) (f b)) → Reach code c f v (c + size_of (found_by q ++ (BaseIn u0 ∷ subtract a0 (register_by q) u0 ∷ []))) v (λ b w. At b (i + size_of (found_by q ++ (BaseIn u0 ∷ subtract a0 (register_by q) u0 ∷ []))) (Known g v h t (valued base) b) w)
-base_piece {g = g} {v = v} {h = h} {t = t} true c f base reaches within l at =
+base_piece : {links : Links} {code : List Instr} {i : ℕ} {g : Ground} {v : Services} {h t : ℕ → ℕ} (q : Bool) (level : ℕ) (c : ℕ) (f : Family) (base : ℕ) → Reaches q level g base → base < memory_size → Linked links code i (found_by q level ++ (BaseIn u0 ∷ subtract a0 (register_by q) u0 ∷ [])) → ((b : Base) → At b i (Known g v h t nothing b) (f b)) → Reach code c f v (c + size_of (found_by q level ++ (BaseIn u0 ∷ subtract a0 (register_by q) u0 ∷ []))) v (λ b w. At b (i + size_of (found_by q level ++ (BaseIn u0 ∷ subtract a0 (register_by q) u0 ∷ []))) (Known g v h t (valued base) b) w)
+base_piece {g = g} {v = v} {h = h} {t = t} true level c f base reaches within l at =
     straight c f v v (λ b. Known g v h t (valued base) b) l (omega arith) (λ b. (at b).pc)
     (λ b. let o = (at b).holds in let valid = b.valid.1 in (
       refl,
@@ -118,14 +118,16 @@ base_piece {g = g} {v = v} {h = h} {t = t} true c f base reaches within l at =
         regs = (offset_is _ b.at base (frame_is o.body ∙ ap (λ u. b.at + u) reaches) (omega (arith, within, valid)), tt);
       },
     ))
-base_piece {i = i} {g = g} {v = v} {h = h} {t = t} false c f base reaches within l at =
-    let first = load_word u3 frame_register (display 0) in
+base_piece {i = i} {g = g} {v = v} {h = h} {t = t} false level c f base reaches within l at =
+    let word' = load_word u3 frame_register (display level) in
+    let first = word' ++ [] in
+    let size' = size_append word' [] in
     let second = BaseIn u0 ∷ subtract a0 u3 u0 ∷ [] in
     let size = size_append first second in
-    let r1 = load_piece c f u3 (display 0) (g.frame + 144) (λ b. b.at + base) reaches.0 (λ b m k. reaches.1 t b m k)
+    let r1 = reach_moved {c'' = c + size_of first} {i'' = i + size_of first} (omega (arith, size')) (omega (arith, size')) (load_piece c f u3 (display level) (g.frame + (144 + 4 * level)) (λ b. b.at + base) reaches.0 (λ b m k. reaches.1 t b m k)
     (record { reserved_stay = λ y u. refl; known_stay = λ b y u k. k; set = λ y u. refl })
     (record { reserved_stay = λ y u. refl; known_stay = λ b y u k. k; set = λ y u. refl })
-    (front_of first second l) at in
+    (front_of word' [] (front_of first second l)) at) in
     let r2 = straight (c + size_of first) (reached r1) v v (λ b. Known g v h t (valued base) b) (back_of first second l) (omega arith) (λ b. (reached_holds r1 b).pc)
     (λ b. let o = (reached_holds r1 b).holds in let valid = b.valid.1 in (
       refl,
@@ -137,19 +139,19 @@ base_piece {i = i} {g = g} {v = v} {h = h} {t = t} false c f base reaches within
     reach_moved (omega (arith, size)) (omega (arith, size)) (reach_then r1 r2)
 
 -- that of a place of it
-pub offset_piece : {X : Type 0} {links : Links} {code : List Instr} {i : ℕ} {g : Ground} {v : Services} {h t : ℕ → ℕ} {aims : Aims X} {flow : Flow X} (q : Bool) (closed : Closed code aims) (f : Family) (base place : ℕ) → Reaches q g base → base + place < memory_size → Linked links code i (based_offset q place) → ((b : Base) → At b i (Known g v h t nothing b) (f b)) → ((f' : Family) → ((b : Base) → At b (i + size_of (based_offset q place)) (Known g v h t (valued (base + place)) b) (f' b)) → Comes code (i + size_of (based_offset q place)) f' v aims flow) → Comes code i f v aims flow
-offset_piece {links = links} {code = code} {i = i} {g = g} {v = v} {h = h} {t = t} {aims = aims} {flow = flow} q closed f base place reaches inside l at next' =
-    let front = found_by q ++ (BaseIn u0 ∷ subtract a0 (register_by q) u0 ∷ []) in
+pub offset_piece : {X : Type 0} {links : Links} {code : List Instr} {i : ℕ} {g : Ground} {v : Services} {h t : ℕ → ℕ} {aims : Aims X} {flow : Flow X} (q : Bool) (level : ℕ) (closed : Closed code aims) (f : Family) (base place : ℕ) → Reaches q level g base → base + place < memory_size → Linked links code i (based_offset q level place) → ((b : Base) → At b i (Known g v h t nothing b) (f b)) → ((f' : Family) → ((b : Base) → At b (i + size_of (based_offset q level place)) (Known g v h t (valued (base + place)) b) (f' b)) → Comes code (i + size_of (based_offset q level place)) f' v aims flow) → Comes code i f v aims flow
+offset_piece {links = links} {code = code} {i = i} {g = g} {v = v} {h = h} {t = t} {aims = aims} {flow = flow} q level closed f base place reaches inside l at next' =
+    let front = found_by q level ++ (BaseIn u0 ∷ subtract a0 (register_by q) u0 ∷ []) in
     let last = plus a0 a0 (pos place) in
-    let nested = append_assoc (found_by q) (BaseIn u0 ∷ subtract a0 (register_by q) u0 ∷ []) last in
+    let nested = append_assoc (found_by q level) (BaseIn u0 ∷ subtract a0 (register_by q) u0 ∷ []) last in
     let l' = subst (Linked links code i) (sym nested) l in
     let e1 = size_append front last in
     let e2 = ap size_of nested in
-    let there : i + size_of front + size_of last ≡ i + size_of (based_offset q place) = omega (arith, e1, e2) in
+    let there : i + size_of front + size_of last ≡ i + size_of (based_offset q level place) = omega (arith, e1, e2) in
     let few : place < 2 ^ 31 = omega (arith, inside) in
     let free_a0 : Free nothing 10 = record { reserved_stay = λ y u. refl; known_stay = λ b y u k. k; set = λ y u. refl } in
     let free_far : Free (valued base) 31 = record { reserved_stay = λ y u. refl; known_stay = λ b y u k. k; set = λ y u. refl } in
-    onward closed (base_piece q i f base reaches (omega (arith, inside)) (front_of front last l') at) (λ f1 at1.
+    onward closed (base_piece q level i f base reaches (omega (arith, inside)) (front_of front last l') at) (λ f1 at1.
     onward closed (displaced_by (is_immediate (pos place)) (i + size_of front) f1 (λ s d. I.Immediate Imm.Add a0 s d) a0 (pos place) (λ b. base) (λ b. Known g v h t (valued base) b) (λ b. Known g v h t (valued (base + place)) b) (word_fits place few) (λ b. omega (arith, inside)) (λ y u. refl) (λ b. (at1 b).holds.regs.0) (omega arith)
     (record {
       does = λ b j w s d o e. set_known w 10 (sum (w.machine.registers s.index) (word d)) _ (λ b'. base + place) free_a0 (e ∙ summed base (word (pos place)) place (word_is place few) (omega (arith, inside))) (record { body = o.body; regs = tt });
@@ -165,16 +167,16 @@ mode_small false = omega arith
 mode_small true = omega arith
 
 -- a service is asked about it, which may change memory
-pub asked_piece : {R : Type 0} {links : Links} {code : List Instr} {i : ℕ} {g : Ground} (g' : Ground) {v : Services} (v' : Services) {h t : ℕ → ℕ} {aims : Aims R} {flow : Flow R} (q : Bool) (closed : Closed code aims) (f : Family) (n : ℕ) (G : Call → ℕ → ℕ → ℕ → ℕ → ℕ → Answer) (varying : Bool) (most base place : ℕ) (change : List ℕ → List ℕ) (x y : ℕ) → n < 2 ^ 31 → ((c : Call) (r : ℕ → ℕ) → S.served n c r ≡ G c (r 10) (r 11) (r 12) (r 13) (r 14)) → v.world.acts ≤ v'.world.acts → most ≤ 1024 → Reaches q g base → base + place < memory_size → ((b : Base) (h' : ℕ → ℕ) → reserved_are b g h' ≡ reserved_are b g' h') → ((b : Base) (m : List ℕ) (x3 x4 : ℕ) → g.memory t b m → G (call_at code v m) (base + place) most (text_mode varying) x3 x4 ≡ Done v' (change m) x y) → ((b : Base) (m : List ℕ) → length m ≡ memory_size → g.memory t b m → (length (change m) ≡ memory_size) × g'.memory t b (change m)) → Linked links code i (text_asked q n varying most place) → ((b : Base) → At b i (Known g v h t nothing b) (f b)) → ((f' : Family) → ((b : Base) → At b (i + size_of (text_asked q n varying most place)) (Known g' v' h t nothing b) (f' b)) → Comes code (i + size_of (text_asked q n varying most place)) f' v' aims flow) → Comes code i f v aims flow
-asked_piece {links = links} {code = code} {i = i} {g = g} g' {v = v} v' {h = h} {t = t} {aims = aims} {flow = flow} q closed f n G varying most base place change x y fits is more short reaches inside same answers changed l at next' =
+pub asked_piece : {R : Type 0} {links : Links} {code : List Instr} {i : ℕ} {g : Ground} (g' : Ground) {v : Services} (v' : Services) {h t : ℕ → ℕ} {aims : Aims R} {flow : Flow R} (q : Bool) (level : ℕ) (closed : Closed code aims) (f : Family) (n : ℕ) (G : Call → ℕ → ℕ → ℕ → ℕ → ℕ → Answer) (varying : Bool) (most base place : ℕ) (change : List ℕ → List ℕ) (x y : ℕ) → n < 2 ^ 31 → ((c : Call) (r : ℕ → ℕ) → S.served n c r ≡ G c (r 10) (r 11) (r 12) (r 13) (r 14)) → v.world.acts ≤ v'.world.acts → most ≤ 1024 → Reaches q level g base → base + place < memory_size → ((b : Base) (h' : ℕ → ℕ) → reserved_are b g h' ≡ reserved_are b g' h') → ((b : Base) (m : List ℕ) (x3 x4 : ℕ) → g.memory t b m → G (call_at code v m) (base + place) most (text_mode varying) x3 x4 ≡ Done v' (change m) x y) → ((b : Base) (m : List ℕ) → length m ≡ memory_size → g.memory t b m → (length (change m) ≡ memory_size) × g'.memory t b (change m)) → Linked links code i (text_asked q level n varying most place) → ((b : Base) → At b i (Known g v h t nothing b) (f b)) → ((f' : Family) → ((b : Base) → At b (i + size_of (text_asked q level n varying most place)) (Known g' v' h t nothing b) (f' b)) → Comes code (i + size_of (text_asked q level n varying most place)) f' v' aims flow) → Comes code i f v aims flow
+asked_piece {links = links} {code = code} {i = i} {g = g} g' {v = v} v' {h = h} {t = t} {aims = aims} {flow = flow} q level closed f n G varying most base place change x y fits is more short reaches inside same answers changed l at next' =
     let o = base + place in
     let mode = text_mode varying in
-    let first = based_offset q place in
+    let first = based_offset q level place in
     let second = number a1 most in
     let third = small a2 mode ∷ small a7 n ∷ [] in
     let last = Plain I.Ecall ∷ [] in
     let rest = kind_asked n varying most in
-    let joined = append_assoc (found_by q) (address_offset (record { register = register_by q; displacement = pos place })) rest in
+    let joined = append_assoc (found_by q level) (address_offset (record { register = register_by q; displacement = pos place })) rest in
     let nested = append_assoc second (small a2 mode ∷ []) (service n) in
     let j = i + size_of first in
     let l0 = subst (Linked links code i) (sym joined) l in
@@ -185,7 +187,7 @@ asked_piece {links = links} {code = code} {i = i} {g = g} g' {v = v} v' {h = h} 
     let e2 = size_append second (third ++ last) in
     let e3 = ap size_of nested in
     let few : most < 2 ^ 31 = omega (arith, short) in
-    offset_piece q closed f base place reaches inside (front_of first rest l0) at
+    offset_piece q level closed f base place reaches inside (front_of first rest l0) at
     (λ f1 at1.
     onward closed (constant_piece j f1 a1 (pos most) (word_fits most few) (record { reserved_stay = λ z u. refl; known_stay = λ b z u k. k; set = λ z u. refl }) (front_of second (third ++ last) l1) at1)
     (λ f2 at2.
@@ -206,6 +208,6 @@ asked_piece {links = links} {code = code} {i = i} {g = g} g' {v = v} v' {h = h} 
     let done = call_done (j + size_of second + 2) f3 v v' (λ b. change (f3 b).machine.memory) (λ b. x) (λ b. y) (λ b. Known g' v' h t nothing b) more calling
     (λ b. let p = (at3 b).holds.body in let c = changed b (f3 b).machine.memory p.bytes p.memory in record { body = record { services = refl; registers = p.registers ∙ same b h; bytes = c.0; memory = c.1 }; regs = tt }) in
     onward closed done (λ f4 at4.
-    let there : j + size_of second + 2 + 1 ≡ i + size_of (text_asked q n varying most place) = omega (arith, e0, e1, e2, e3) in
+    let there : j + size_of second + 2 + 1 ≡ i + size_of (text_asked q level n varying most place) = omega (arith, e0, e1, e2, e3) in
     subst (λ u. Comes code u f4 v' aims flow) (sym there)
     (next' f4 (λ b. record { pc = (at4 b).pc ∙ ap (address b) there; holds = (at4 b).holds }))))))

@@ -1,8 +1,7 @@
 -- Variables of a block that hold texts, and what they hold after a text is assigned to one of them.
-use Rattle.std.proofs.Common.{◌≡◌, ℕ, suc, ◌≤◌, List, [], None, Some, Bool, true, false, refl, sym, ap, ◌∙◌, subst, arith}
+use Rattle.std.proofs.Common.{◌≡◌, ℕ, ◌≤◌, List, [], None, Some, Bool, true, false, refl, sym, ap, ◌∙◌, subst}
 use Rattle.std.specs.Prelude.{ℤ, pos, cond, ◌==◌, ◌&&◌, slice_get}
 use Rattle.std.proofs.lemmas.Bool.{eq-eqb, eqb-true}
-use Rattle.std.proofs.lemmas.Bool.Decides.{nat_tests}
 use Rattle.pli_typing.specs.TypedTree as Y
 use Rattle.pli_meaning.specs.StorageState.{State, generation_of, living_of, standing_for, if_same_shape}
 use Rattle.pli_meaning.specs.Placing as P
@@ -12,8 +11,8 @@ use Rattle.pli_meaning.specs.BasicValues.{BasicText}
 use Rattle.pli_meaning.specs.Contents.{Generation}
 use Rattle.pli_meaning.specs.Contents.{seen, same_shape}
 use Rattle.pli_headline.proofs.TextLengths.{IsShort}
-use Rattle.pli_headline.specs.ProvedSoFar.{Types, alone, text_leaf}
-use Rattle.pli_headline.proofs.Scalars.{IsNumeric, Values, Typed, value_as}
+use Rattle.pli_headline.specs.ProvedSoFar.{Names, Types, alone, text_leaf}
+use Rattle.pli_headline.proofs.Scalars.{IsNumeric, Values, value_as}
 use Rattle.pli_headline.proofs.Assignments.{assigned_state}
 use Rattle.pli_headline.proofs.TextPlaces.{text_kind_of}
 use Rattle.pli_headline.proofs.TextScopes.{IsTextAt}
@@ -28,18 +27,18 @@ same_text false most = ap (λ t. (t && true) && true) (eq-eqb most most refl)
 same_text true most = ap (λ t. (t && true) && true) (eq-eqb most most refl)
 
 -- a variable of the block holds a text, and its generation has its serial
-pub record KeepsText (s : State) (block j : ℕ) (varying : Bool) (most : ℕ) (text : List ℕ) : Type 0 where
+pub record KeepsText (s : State) (block : Names) (j serial : ℕ) (varying : Bool) (most : ℕ) (text : List ℕ) : Type 0 where
   pub values : ℕ → List ℤ → BasicValue
-  pub stands : standing_for s (own block j) ≡ Some (scalar_binding (text_leaf varying most) j (suc j))
-  pub lives : generation_of (living_of s.living (suc j)) ≡ Some (scalar_generation (text_leaf varying most) values)
+  pub stands : standing_for s (own block j) ≡ Some (scalar_binding (text_leaf varying most) (block.at j).index serial)
+  pub lives : generation_of (living_of s.living serial) ≡ Some (scalar_generation (text_leaf varying most) values)
   pub value : seen (text_kind_of varying most) (values 0 []) ≡ BasicText text
   pub short : IsShort text
 
-abbrev pub holds_text : {s : State} {block j : ℕ} {varying : Bool} {most : ℕ} {text : List ℕ} → KeepsText s block j varying most text → HoldsText s (own block j) varying most text
-holds_text {j = j} {varying = varying} {most = most} h =
+abbrev pub holds_text : {s : State} {block : Names} {j serial : ℕ} {varying : Bool} {most : ℕ} {text : List ℕ} → KeepsText s block j serial varying most text → HoldsText s (own block j) varying most text
+holds_text {serial = serial} {varying = varying} {most = most} h =
     let type = text_leaf varying most in
     record {
-      serial = suc j;
+      serial = serial;
       values = h.values;
       stands = h.stands;
       lives = ap (if_same_shape (scalar_shape type)) h.lives ∙ ap (λ t. cond t (Some (scalar_generation type h.values)) None) (same_text varying most);
@@ -58,32 +57,29 @@ element_seen false most serial values text = kept_seen false most (values 0 []) 
 element_seen true most serial values text = kept_seen true most (values 0 []) text
 
 -- the variable itself
-pub keeps_assigned : {s : State} {block j : ℕ} {varying : Bool} {most : ℕ} {old : List ℕ} (text : List ℕ) → most ≤ 1024 → (h : KeepsText s block j varying most old) → KeepsText (text_state s (text_leaf varying most) (suc j) h.values text) block j varying most (text_kept_as varying most text)
-keeps_assigned {s} {block} {j} {varying} {most} text few h =
+pub keeps_assigned : {s : State} {block : Names} {j serial : ℕ} {varying : Bool} {most : ℕ} {old : List ℕ} (text : List ℕ) → most ≤ 1024 → (h : KeepsText s block j serial varying most old) → KeepsText (text_state s (text_leaf varying most) serial h.values text) block j serial varying most (text_kept_as varying most text)
+keeps_assigned {s} {block} {j} {serial} {varying} {most} text few h =
     let type = text_leaf varying most in
-    let change = assigned_to varying most (suc j) h.values text in
+    let change = assigned_to varying most serial h.values text in
     record {
       values = (change (scalar_generation type h.values)).values;
       stands = h.stands;
-      lives = changed_same s.living (suc j) change (scalar_generation type h.values) h.lives;
-      value = element_seen varying most (suc j) h.values text;
+      lives = changed_same s.living serial change (scalar_generation type h.values) h.lives;
+      value = element_seen varying most serial h.values text;
       short = kept_short varying most text few;
     }
 
-serials_apart : (i j : ℕ) → (i == j) ≡ false → (suc j == suc i) ≡ false
-serials_apart i j e = grind (arith, nat_tests)
-
 -- another one that holds a text
-pub keeps_other : {s : State} {block i j : ℕ} {varying other : Bool} {most most' : ℕ} {old text' : List ℕ} (text : List ℕ) → (i == j) ≡ false → (h : KeepsText s block j varying most old) → KeepsText s block i other most' text' → KeepsText (text_state s (text_leaf varying most) (suc j) h.values text) block i other most' text'
-keeps_other {s} {i = i} {j} {varying} {most = most} text e h o =
-    let change = assigned_to varying most (suc j) h.values text in
-    record { values = o.values; stands = o.stands; lives = changed_other s.living (suc j) (suc i) change (serials_apart i j e) ∙ o.lives; value = o.value; short = o.short }
+pub keeps_other : {s : State} {block : Names} {i j serial other' : ℕ} {varying other : Bool} {most most' : ℕ} {old text' : List ℕ} (text : List ℕ) → (serial == other') ≡ false → (h : KeepsText s block j serial varying most old) → KeepsText s block i other' other most' text' → KeepsText (text_state s (text_leaf varying most) serial h.values text) block i other' other most' text'
+keeps_other {s} {serial = serial} {other' = other'} {varying} {most = most} text e h o =
+    let change = assigned_to varying most serial h.values text in
+    record { values = o.values; stands = o.stands; lives = changed_other s.living serial other' change e ∙ o.lives; value = o.value; short = o.short }
 
 -- one that holds a number
-pub holds_other : {s : State} {block i j : ℕ} {varying : Bool} {most : ℕ} {old : List ℕ} {type : Y.LeafType} {z : ℤ} (text : List ℕ) → (i == j) ≡ false → (h : KeepsText s block j varying most old) → Holds s block i type z → Holds (text_state s (text_leaf varying most) (suc j) h.values text) block i type z
-holds_other {s} {i = i} {j} {varying} {most} text e h o =
-    let change = assigned_to varying most (suc j) h.values text in
-    record { values = o.values; stands = o.stands; lives = changed_other s.living (suc j) (suc i) change (serials_apart i j e) ∙ o.lives; value = o.value; fits = o.fits }
+pub holds_other : {s : State} {block : Names} {i j serial other' : ℕ} {varying : Bool} {most : ℕ} {old : List ℕ} {type : Y.LeafType} {z : ℤ} (text : List ℕ) → (serial == other') ≡ false → (h : KeepsText s block j serial varying most old) → Holds s block i other' type z → Holds (text_state s (text_leaf varying most) serial h.values text) block i other' type z
+holds_other {s} {serial = serial} {other' = other'} {varying} {most} text e h o =
+    let change = assigned_to varying most serial h.values text in
+    record { values = o.values; stands = o.stands; lives = changed_other s.living serial other' change e ∙ o.lives; value = o.value; fits = o.fits }
 
 -- ---- among the variables of a block
 
@@ -97,25 +93,19 @@ apart_by true types i j type other e h k never =
 apart_by false types i j type other e h k never = refl
 
 -- no variable holds a number and a text
-number_apart : (types : Types) (i j : ℕ) (type : Y.LeafType) (varying : Bool) (most : ℕ) → IsTextAt types j varying most → slice_get types i ≡ Some (alone type) → IsNumeric type → (i == j) ≡ false
+pub number_apart : (types : Types) (i j : ℕ) (type : Y.LeafType) (varying : Bool) (most : ℕ) → IsTextAt types j varying most → slice_get types i ≡ Some (alone type) → IsNumeric type → (i == j) ≡ false
 number_apart types i j type varying most h k numeric =
     apart_by (i == j) types i j (text_leaf varying most) type refl h k (λ e. not_numeric varying most (subst IsNumeric e numeric))
 
-text_apart : (types : Types) (i j : ℕ) (type : Y.LeafType) (varying : Bool) (most : ℕ) → slice_get types j ≡ Some (alone type) → IsNumeric type → IsTextAt types i varying most → (i == j) ≡ false
+pub text_apart : (types : Types) (i j : ℕ) (type : Y.LeafType) (varying : Bool) (most : ℕ) → slice_get types j ≡ Some (alone type) → IsNumeric type → IsTextAt types i varying most → (i == j) ≡ false
 text_apart types i j type varying most h numeric k =
     apart_by (i == j) types i j type (text_leaf varying most) refl h k (λ e. not_numeric varying most (subst IsNumeric (sym e) numeric))
 
 -- texts stay where a number is assigned
-pub keeps_beside : {s : State} {block i j : ℕ} {type : Y.LeafType} {x : ℤ} {varying : Bool} {most : ℕ} {text : List ℕ} (types : Types) (z : ℤ) → slice_get types j ≡ Some (alone type) → IsNumeric type → (h : Holds s block j type x) → IsTextAt types i varying most → KeepsText s block i varying most text → KeepsText (assigned_state s type (suc j) h.values z) block i varying most text
-keeps_beside {s} {i = i} {j} {type} {varying = varying} {most} types z below numeric h at o =
-    let change = P.with_element (designated_scalar type (suc j) h.values) (value_as type z) in
-    let e = text_apart types i j type varying most below numeric at in
-    record { values = o.values; stands = o.stands; lives = changed_other s.living (suc j) (suc i) change (serials_apart i j e) ∙ o.lives; value = o.value; short = o.short }
-
--- numbers stay where a text is assigned
-pub holds_beside : {s : State} {block j : ℕ} {varying : Bool} {most : ℕ} {old : List ℕ} (types : Types) (text : List ℕ) → IsTextAt types j varying most → (h : KeepsText s block j varying most old) → (i : ℕ) (b : Typed types i) {z : ℤ} → IsNumeric b.0 → Holds s block i b.0 z → Holds (text_state s (text_leaf varying most) (suc j) h.values text) block i b.0 z
-holds_beside {j = j} {varying} {most} types text at h i b numeric o =
-    holds_other text (number_apart types i j b.0 varying most at b.1 numeric) h o
+pub keeps_beside : {s : State} {block : Names} {i j serial other' : ℕ} {type : Y.LeafType} {x : ℤ} {varying : Bool} {most : ℕ} {text : List ℕ} (z : ℤ) → (serial == other') ≡ false → (h : Holds s block j serial type x) → KeepsText s block i other' varying most text → KeepsText (assigned_state s type serial h.values z) block i other' varying most text
+keeps_beside {s} {serial = serial} {other' = other'} {type} z apart h o =
+    let change = P.with_element (designated_scalar type serial h.values) (value_as type z) in
+    record { values = o.values; stands = o.stands; lives = changed_other s.living serial other' change apart ∙ o.lives; value = o.value; short = o.short }
 
 leaf_same : (varying other : Bool) (most most' : ℕ) → text_leaf varying most ≡ text_leaf other most' → (varying ≡ other) × (most ≡ most')
 leaf_same false false most most' e =
@@ -131,18 +121,19 @@ leaf_same true true most most' e =
     let f : Y.VaryingLeaf (Y.ConstantExtent (pos most)) ≡ Y.VaryingLeaf (Y.ConstantExtent (pos most')) = e in
     (refl, cc f)
 
-keeps_by : {s : State} {block j : ℕ} {varying : Bool} {most : ℕ} {old : List ℕ} (q : Bool) (i : ℕ) (other : Bool) (most' : ℕ) (text text' : List ℕ) → (i == j) ≡ q → (i ≡ j → text_leaf other most' ≡ text_leaf varying most) → most ≤ 1024 → (h : KeepsText s block j varying most old) → KeepsText s block i other most' text' → KeepsText (text_state s (text_leaf varying most) (suc j) h.values text) block i other most' (cond q (text_kept_as varying most text) text')
-keeps_by {s} {block} {j} {varying} {most} true i other most' text text' e alike few h o =
+keeps_by : {s : State} {block : Names} {j serial : ℕ} {varying : Bool} {most : ℕ} {old : List ℕ} (q : Bool) (i other' : ℕ) (other : Bool) (most' : ℕ) (text text' : List ℕ) → (i == j) ≡ q → (i ≡ j → text_leaf other most' ≡ text_leaf varying most) → (i ≡ j → other' ≡ serial) → ((i == j) ≡ false → (serial == other') ≡ false) → most ≤ 1024 → (h : KeepsText s block j serial varying most old) → KeepsText s block i other' other most' text' → KeepsText (text_state s (text_leaf varying most) serial h.values text) block i other' other most' (cond q (text_kept_as varying most text) text')
+keeps_by {s} {block} {j} {serial} {varying} {most} true i other' other most' text text' e alike same' apart few h o =
     let same : i ≡ j = eqb-true i j e in
     let leaf = leaf_same other varying most' most (alike same) in
-    let s' = text_state s (text_leaf varying most) (suc j) h.values text in
+    let s' = text_state s (text_leaf varying most) serial h.values text in
     let kept = text_kept_as varying most text in
-    subst (λ u. KeepsText s' block u other most' kept) (sym same)
-    (subst (λ u. KeepsText s' block j u most' kept) (sym leaf.0)
-    (subst (λ u. KeepsText s' block j varying u kept) (sym leaf.1) (keeps_assigned text few h)))
-keeps_by false i other most' text text' e alike few h o = keeps_other text e h o
+    subst (λ u. KeepsText s' block u other' other most' kept) (sym same)
+    (subst (λ m. KeepsText s' block j m other most' kept) (sym (same' same))
+    (subst (λ u. KeepsText s' block j serial u most' kept) (sym leaf.0)
+    (subst (λ u. KeepsText s' block j serial varying u kept) (sym leaf.1) (keeps_assigned text few h))))
+keeps_by false i other' other most' text text' e alike same' apart few h o = keeps_other text (apart e) h o
 
 -- the texts after one is assigned
-pub keeps_all : {s : State} {block j : ℕ} {varying : Bool} {most : ℕ} (types : Types) (n : Values) (text : List ℕ) → IsTextAt types j varying most → most ≤ 1024 → (h : KeepsText s block j varying most (n.texts j)) → (i : ℕ) (other : Bool) (most' : ℕ) → IsTextAt types i other most' → KeepsText s block i other most' (n.texts i) → KeepsText (text_state s (text_leaf varying most) (suc j) h.values text) block i other most' ((with_text_at n j (text_kept_as varying most text)).texts i)
-keeps_all {j = j} {varying} {most} types n text at few h i other most' there o =
-    keeps_by (i == j) i other most' text (n.texts i) refl (one_alone types i j (text_leaf varying most) (text_leaf other most') at there) few h o
+pub keeps_all : {s : State} {block : Names} {j : ℕ} {varying : Bool} {most : ℕ} (serials : ℕ → ℕ) (types : Types) (n : Values) (text : List ℕ) → IsTextAt types j varying most → most ≤ 1024 → (h : KeepsText s block j (serials j) varying most (n.texts j)) → (i : ℕ) (other : Bool) (most' : ℕ) → IsTextAt types i other most' → ((i == j) ≡ false → (serials j == serials i) ≡ false) → KeepsText s block i (serials i) other most' (n.texts i) → KeepsText (text_state s (text_leaf varying most) (serials j) h.values text) block i (serials i) other most' ((with_text_at n j (text_kept_as varying most text)).texts i)
+keeps_all {j = j} {varying} {most} serials types n text at few h i other most' there apart o =
+    keeps_by (i == j) i (serials i) other most' text (n.texts i) refl (one_alone types i j (text_leaf varying most) (text_leaf other most') at there) (λ e. ap serials e) apart few h o

@@ -21,7 +21,8 @@ use Rattle.pli_coding.specs.Expressions.{number_code, bit_code}
 use Rattle.pli_coding.specs.Statements.{limit_place, step_place, in_turns, counter_read, limit_tested, limit_kept, while_kept, bit_if}
 use Rattle.pli_coding.specs.Temporaries.{reference_words}
 use Rattle.pli_coding.specs.Linking.{Links}
-use Rattle.pli_headline.specs.ProvedSoFar.{Types, IsProvedBitIf, IsProvedNumber}
+use Rattle.pli_headline.specs.ProvedSoFar.{Names, Types, IsProvedBitIf, IsProvedNumber}
+use Rattle.pli_headline.proofs.Storages.{storage}
 use Rattle.pli_headline.proofs.Engine.{Base, address}
 use Rattle.pli_headline.proofs.Linking.{size_append}
 use Rattle.pli_headline.proofs.Items.{Linked, At}
@@ -39,7 +40,7 @@ use Rattle.pli_headline.proofs.Reach.{Family, Aims, Comes, Closed, before_closed
 use Rattle.pli_headline.proofs.Scalars.{Values}
 
 -- what a test comes to: it is met behind its code, or the turns are over at a place
-abbrev pub Met : {e : Environment} {block : ℕ} {types : Types} → Block e block types → Values → Services → State → (h t : ℕ → ℕ) → (met over : ℕ) → Aims Bool → Type 0
+abbrev pub Met : {e : Environment} {block : Names} {types : Types} → Block e block types → Values → Services → State → (h t : ℕ → ℕ) → (met over : ℕ) → Aims Bool → Type 0
 Met bl n v s h t met over aims =
     ((f : Family) (h' t' : ℕ → ℕ) → Stays (in_turns bl.taken) h t h' t' → ((b : Base) → At b met (Known (bl.ground n) v h' t' nothing b) (f b)) → aims.done met f v true s)
     × ((f : Family) (h' t' : ℕ → ℕ) → Stays (in_turns bl.taken) h t h' t' → ((b : Base) → At b over (Known (bl.ground n) v h' t' nothing b) (f b)) → aims.done over f v false s)
@@ -87,7 +88,7 @@ condition_size e taken (Some x) c d =
     size_append (bit_code e (in_turns taken) x) (skip_where Test.NotEqual a0 zero_register (JumpAhead c ∷ []))
     ∙ sym (size_append (bit_code e (in_turns taken) x) (skip_where Test.NotEqual a0 zero_register (JumpAhead d ∷ [])))
 
-pub within_piece : {links : Links} {code : List Instr} {i : ℕ} {v : Services} {h t : ℕ → ℕ} {s : State} {aims : Aims Bool} {e : Environment} {block : ℕ} {types : Types} (bl : Block e block types) (routines : Standing bl links code) (around : Around) (r : Y.Reference) (p : ℕ) (limit : Option Y.Number) (most : Option ℤ) (step : ℤ) (behind : ℕ) (closed : Closed code aims) (n : Values) (f : Family) (k : ℕ) → IsProvedNumber block types (Y.NumberIn r) → LimitWaits limit most t bl.taken.words → IsWide step → t (bl.taken.words + 1) ≡ word step → bl.taken.words + 2 + reference_words r ≤ bl.words → i + size_of (limit_kept e bl.taken (Y.NumberCounter p r) limit behind) + behind ≤ length code → Linked links code i (limit_kept e bl.taken (Y.NumberCounter p r) limit behind) → Serving k s v around.line → AllHold bl.frames v.activations (e.level ∷ bl.depths) s block types n → ((b : Base) → At b i (Known (bl.ground n) v h t nothing b) (f b)) → Met bl n v s h t (i + size_of (limit_kept e bl.taken (Y.NumberCounter p r) limit behind)) (i + size_of (limit_kept e bl.taken (Y.NumberCounter p r) limit behind) + behind) aims → Comes code i f v aims (M.within_limit around (Y.NumberCounter p r) most step k s)
+pub within_piece : {links : Links} {code : List Instr} {i : ℕ} {v : Services} {h t : ℕ → ℕ} {s : State} {aims : Aims Bool} {e : Environment} {block : Names} {types : Types} (bl : Block e block types) (routines : Standing bl links code) (around : Around) (r : Y.Reference) (p : ℕ) (limit : Option Y.Number) (most : Option ℤ) (step : ℤ) (behind : ℕ) (closed : Closed code aims) (n : Values) (f : Family) (k : ℕ) → IsProvedNumber block types (Y.NumberIn r) → LimitWaits limit most t bl.taken.words → IsWide step → t (bl.taken.words + 1) ≡ word step → bl.taken.words + 2 + reference_words r ≤ bl.words → i + size_of (limit_kept e bl.taken (Y.NumberCounter p r) limit behind) + behind ≤ length code → Linked links code i (limit_kept e bl.taken (Y.NumberCounter p r) limit behind) → Serving k s v around.line → AllHold bl.frames bl.serials (storage v) (e.level ∷ bl.depths) s block types n → ((b : Base) → At b i (Known (bl.ground n) v h t nothing b) (f b)) → Met bl n v s h t (i + size_of (limit_kept e bl.taken (Y.NumberCounter p r) limit behind)) (i + size_of (limit_kept e bl.taken (Y.NumberCounter p r) limit behind) + behind) aims → Comes code i f v aims (M.within_limit around (Y.NumberCounter p r) most step k s)
 unfolding M.within_limit M.counter_number V.number ◌>>=◌ give
 within_piece {i = i} {v = v} {h = h} {t = t} {s = s} {aims = aims} bl routines around r p None None step behind closed n f k mine waits ws at_step room inside l serving all at met =
     let same : i ≡ i + 0 = omega arith in
@@ -125,7 +126,7 @@ kept_by {i = i} {v = v} {aims = aims} s false closed f behind inside l at met ov
     let there : i + 1 + (2 + behind) ≡ i + 3 + behind = omega arith in
     closed.done r false s (closed.done q false s (subst (λ u. aims.done u (reached q) v false s) (sym there) (over (reached q) (λ b. let o = reached_holds q b in record { pc = o.pc ∙ ap (address b) there; holds = o.holds }))))
 
-pub condition_piece : {links : Links} {code : List Instr} {i : ℕ} {v : Services} {h t : ℕ → ℕ} {s : State} {aims : Aims Bool} {e : Environment} {block : ℕ} {types : Types} (bl : Block e block types) (routines : Standing bl links code) (around : Around) (condition : Option Y.Bit) (behind : ℕ) (closed : Closed code aims) (n : Values) (f : Family) (k : ℕ) → IsProvedBitIf block types condition → bl.taken.words + 2 + bit_if condition ≤ bl.words → i + size_of (while_kept e bl.taken condition behind) + behind ≤ length code → Linked links code i (while_kept e bl.taken condition behind) → Serving k s v around.line → AllHold bl.frames v.activations (e.level ∷ bl.depths) s block types n → ((b : Base) → At b i (Known (bl.ground n) v h t nothing b) (f b)) → Met bl n v s h t (i + size_of (while_kept e bl.taken condition behind)) (i + size_of (while_kept e bl.taken condition behind) + behind) aims → Comes code i f v aims (M.condition_met around condition k s)
+pub condition_piece : {links : Links} {code : List Instr} {i : ℕ} {v : Services} {h t : ℕ → ℕ} {s : State} {aims : Aims Bool} {e : Environment} {block : Names} {types : Types} (bl : Block e block types) (routines : Standing bl links code) (around : Around) (condition : Option Y.Bit) (behind : ℕ) (closed : Closed code aims) (n : Values) (f : Family) (k : ℕ) → IsProvedBitIf block types condition → bl.taken.words + 2 + bit_if condition ≤ bl.words → i + size_of (while_kept e bl.taken condition behind) + behind ≤ length code → Linked links code i (while_kept e bl.taken condition behind) → Serving k s v around.line → AllHold bl.frames bl.serials (storage v) (e.level ∷ bl.depths) s block types n → ((b : Base) → At b i (Known (bl.ground n) v h t nothing b) (f b)) → Met bl n v s h t (i + size_of (while_kept e bl.taken condition behind)) (i + size_of (while_kept e bl.taken condition behind) + behind) aims → Comes code i f v aims (M.condition_met around condition k s)
 unfolding M.condition_met give
 condition_piece {i = i} {v = v} {h = h} {t = t} {s = s} {aims = aims} bl routines around None behind closed n f k is room inside l serving all at met =
     let same : i ≡ i + 0 = omega arith in

@@ -22,7 +22,7 @@ use Rattle.pli_coding.specs.Frames.{own_offset}
 use Rattle.pli_coding.specs.Entries.{entered_without_texts}
 use Rattle.pli_coding.specs.Environments.{Environment}
 use Rattle.pli_coding.specs.Linking.{Links}
-use Rattle.pli_headline.specs.ProvedSoFar.{Types}
+use Rattle.pli_headline.specs.ProvedSoFar.{Types, Names}
 use Rattle.pli_headline.proofs.Engine.{Base, call_at}
 use Rattle.pli_headline.proofs.Linking.{size_append}
 use Rattle.pli_headline.proofs.Items.{Linked, At, straight}
@@ -71,7 +71,7 @@ abbrev enter_regs : (at : ℕ) → Base → List (ℕ × ℕ)
 enter_regs at b = (10, 2) ∷ (11, at) ∷ (13, 0) ∷ []
 
 -- up to the call
-asked_call : {e : Environment} {block : ℕ} {types : Types} (bl : Block e block types) (callee : Callee bl) (back : Base → ℕ) (texts : ℕ) (n : Values) {links : Links} {code : List Instr} {i : ℕ} {v : Services} {h0 h t0 t : ℕ → ℕ} (c : ℕ) (f : Family) (line : ℕ) → line < 2 ^ 31 → Linked links code i (entered_without_texts 2 line) → ((b : Base) → At b i (Known (called_ground bl callee back h0 t0 n) v h t (with_texts texts) b) (f b)) → Reach code c f v (c + 3 + size_of (number a2 line) + 1) v (λ b w. At b (i + 3 + size_of (number a2 line) + 1) (Known (called_ground bl callee back h0 t0 n) v h t (λ b'. (17, 4) ∷ (12, line) ∷ enter_regs callee.at b') b) w)
+asked_call : {e : Environment} {block : Names} {types : Types} (bl : Block e block types) (callee : Callee bl) (back : Base → ℕ) (texts : ℕ) (n : Values) {links : Links} {code : List Instr} {i : ℕ} {v : Services} {h0 h t0 t : ℕ → ℕ} (c : ℕ) (f : Family) (line : ℕ) → line < 2 ^ 31 → Linked links code i (entered_without_texts 2 line) → ((b : Base) → At b i (Known (called_ground bl callee back h0 t0 n) v h t (with_texts texts) b) (f b)) → Reach code c f v (c + 3 + size_of (number a2 line) + 1) v (λ b w. At b (i + 3 + size_of (number a2 line) + 1) (Known (called_ground bl callee back h0 t0 n) v h t (λ b'. (17, 4) ∷ (12, line) ∷ enter_regs callee.at b') b) w)
 asked_call bl callee back texts n {links} {code} {i} {v} {h0} {h} {t0} {t} c f line fits l there =
     let ground = called_ground bl callee back h0 t0 n in
     let m = number a2 line in
@@ -96,7 +96,7 @@ asked_call bl callee back texts n {links} {code} {i} {v} {h0} {h} {t0} {t} c f l
     }) in
     reach_then r1 (reach_then r2 r3)
 
-pub unit_entered : {e : Environment} {block : ℕ} {types : Types} (bl : Block e block types) (callee : Callee bl) (back : Base → ℕ) (texts : ℕ) (n : Values) {links : Links} {code : List Instr} {i : ℕ} {v : Services} {h0 h t0 t : ℕ → ℕ} (c : ℕ) (f : Family) (w : S.Waiting) (line : ℕ) → line < 2 ^ 31 → v.waiting ≡ Some w → nat_lt (length v.activations) most_activations ≡ true → Linked links code i (entered_without_texts 2 line) → ((b : Base) → At b i (Known (called_ground bl callee back h0 t0 n) v h t (with_texts texts) b) (f b)) → Reach code c f v (c + size_of (entered_without_texts 2 line)) (unit_services v w callee.at line) (λ b u. At b (i + size_of (entered_without_texts 2 line)) (Known (called_ground bl callee back h0 t0 n) (unit_services v w callee.at line) h t nothing b) u)
+pub unit_entered : {e : Environment} {block : Names} {types : Types} (bl : Block e block types) (callee : Callee bl) (back : Base → ℕ) (texts : ℕ) (n : Values) {links : Links} {code : List Instr} {i : ℕ} {v : Services} {h0 h t0 t : ℕ → ℕ} (c : ℕ) (f : Family) (w : S.Waiting) (line : ℕ) → line < 2 ^ 31 → v.waiting ≡ Some w → nat_lt (length v.activations) most_activations ≡ true → Linked links code i (entered_without_texts 2 line) → ((b : Base) → At b i (Known (called_ground bl callee back h0 t0 n) v h t (with_texts texts) b) (f b)) → Reach code c f v (c + size_of (entered_without_texts 2 line)) (unit_services v w callee.at line) (λ b u. At b (i + size_of (entered_without_texts 2 line)) (Known (called_ground bl callee back h0 t0 n) (unit_services v w callee.at line) h t nothing b) u)
 unit_entered bl callee back texts n {links} {code} {i} {v} {h0} {h} {t0} {t} c f w line fits waits few l there =
     let ground = called_ground bl callee back h0 t0 n in
     let v' = unit_services v w callee.at line in
@@ -127,7 +127,7 @@ enter_limited code v m w at line waits many =
     ap (λ o. or_bad (K.entered_of 2 v.line o) (entry_answer v m at line)) waits
     ∙ ap (λ q. cond q (Done (unit_services v w at line) m 2 at) (run_ended (E.Limit L.Depth) v)) many
 
-pub entry_limited : {e : Environment} {block : ℕ} {types : Types} (bl : Block e block types) (callee : Callee bl) (back : Base → ℕ) (texts : ℕ) (n : Values) {X : Type 0} {links : Links} {code : List Instr} {i : ℕ} {v : Services} {h0 h t0 t : ℕ → ℕ} {aims : Aims X} (c : ℕ) (f : Family) (closed : Closed code aims) (s : State) (k line : ℕ) (w : S.Waiting) → line < 2 ^ 31 → c + 3 + size_of (number a2 line) + 1 < cost code → nat_lt (length v.activations) most_activations ≡ false → Linked links code i (entered_without_texts 2 line) → v.waiting ≡ Some w → v.world ≡ s.world → v.world.end ≡ E.Running → v.world.acts ≤ k → k + 1 < 2 ^ 64 → ((b : Base) → At b i (Known (called_ground bl callee back h0 t0 n) v h t (with_texts texts) b) (f b)) → Comes code c f v aims (finish {R = X} (E.Limit L.Depth) k s)
+pub entry_limited : {e : Environment} {block : Names} {types : Types} (bl : Block e block types) (callee : Callee bl) (back : Base → ℕ) (texts : ℕ) (n : Values) {X : Type 0} {links : Links} {code : List Instr} {i : ℕ} {v : Services} {h0 h t0 t : ℕ → ℕ} {aims : Aims X} (c : ℕ) (f : Family) (closed : Closed code aims) (s : State) (k line : ℕ) (w : S.Waiting) → line < 2 ^ 31 → c + 3 + size_of (number a2 line) + 1 < cost code → nat_lt (length v.activations) most_activations ≡ false → Linked links code i (entered_without_texts 2 line) → v.waiting ≡ Some w → v.world ≡ s.world → v.world.end ≡ E.Running → v.world.acts ≤ k → k + 1 < 2 ^ 64 → ((b : Base) → At b i (Known (called_ground bl callee back h0 t0 n) v h t (with_texts texts) b) (f b)) → Comes code c f v aims (finish {R = X} (E.Limit L.Depth) k s)
 entry_limited bl callee back texts n {code = code} {i = i} {v = v} c f closed s k line w fits few many l waits world running allowed room at =
     let m = number a2 line in
     let last = small a7 4 ∷ Plain I.Ecall ∷ [] in

@@ -20,7 +20,7 @@ use Rattle.pli_coding.specs.Environments.{Environment}
 use Rattle.pli_coding.specs.Statements.{unit_left}
 use Rattle.pli_coding.specs.Linking.{Links}
 use Rattle.image_runs.specs.Runs.{Whole}
-use Rattle.pli_headline.specs.ProvedSoFar.{Types}
+use Rattle.pli_headline.specs.ProvedSoFar.{Types, Names}
 use Rattle.pli_headline.proofs.Engine.{Base, address, most_code, call_at}
 use Rattle.pli_headline.proofs.Linking.{size_append}
 use Rattle.pli_headline.proofs.Items.{Linked, At, straight}
@@ -47,7 +47,7 @@ return_answer code v m a rest n resume e kind =
     ∙ ap (λ q. K.unit_left (call_at code v m) q (K.newest_ended v 0 a rest)) kind
 
 -- service 31
-asked_piece : {e : Environment} {block : ℕ} {types : Types} (bl : Block e block types) (callee : Callee bl) (back : Base → ℕ) (n : Values) (free : ℕ) {links : Links} {code : List Instr} {i : ℕ} {v : Services} {h0 h t0 t : ℕ → ℕ} (c : ℕ) (f : Family) (a : S.Activation) (rest : List S.Activation) (number resume : ℕ) → v.activations ≡ a ∷ rest → a.kind ≡ S.OnUnitBlock number resume → Linked links code i (service 31) → ((b : Base) → At b i (Known (ending_ground bl callee back h0 t0 n free) v h t nothing b) (f b)) → Reach code c f v (c + 2) (ended_services v a rest) (λ b w. At b (i + 2) (Known (ending_ground bl callee back h0 t0 n free) (ended_services v a rest) h t (with' 10 (λ b'. resume) nothing) b) w)
+asked_piece : {e : Environment} {block : Names} {types : Types} (bl : Block e block types) (callee : Callee bl) (back : Base → ℕ) (n : Values) (free : ℕ) {links : Links} {code : List Instr} {i : ℕ} {v : Services} {h0 h t0 t : ℕ → ℕ} (c : ℕ) (f : Family) (a : S.Activation) (rest : List S.Activation) (number resume : ℕ) → v.activations ≡ a ∷ rest → a.kind ≡ S.OnUnitBlock number resume → Linked links code i (service 31) → ((b : Base) → At b i (Known (ending_ground bl callee back h0 t0 n free) v h t nothing b) (f b)) → Reach code c f v (c + 2) (ended_services v a rest) (λ b w. At b (i + 2) (Known (ending_ground bl callee back h0 t0 n free) (ended_services v a rest) h t (with' 10 (λ b'. resume) nothing) b) w)
 asked_piece bl callee back n free {links} {code} {i} {v} {h0} {h} {t0} {t} c f a rest number resume e kind l there =
     let ground = ending_ground bl callee back h0 t0 n free in
     let v' = ended_services v a rest in
@@ -121,7 +121,7 @@ more_restored {g} {t} to back saved s (suc left) n {v = v} h c f all l there =
     reach_moved (omega (arith, size)) (omega (arith, size)) (reach_then r1 r2)
 
 -- the frame of the block that raised the condition
-lowered_piece : {e : Environment} {block : ℕ} {types : Types} (bl : Block e block types) (callee : Callee bl) (to back : Base → ℕ) (n : Values) (free : ℕ) {links : Links} {code : List Instr} {i : ℕ} {v : Services} {h0 h t0 t : ℕ → ℕ} (c : ℕ) (f : Family) → Linked links code i (frame_ended callee.words) → ((b : Base) → At b i (Known (ending_ground bl callee back h0 t0 n free) v h t (with' 10 to nothing) b) (f b)) → Reach code c f v (c + size_of (frame_ended callee.words)) v (λ b w. At b (i + size_of (frame_ended callee.words)) (Known (bl.ground n) v h t0 (with' 10 to nothing) b) w)
+lowered_piece : {e : Environment} {block : Names} {types : Types} (bl : Block e block types) (callee : Callee bl) (to back : Base → ℕ) (n : Values) (free : ℕ) {links : Links} {code : List Instr} {i : ℕ} {v : Services} {h0 h t0 t : ℕ → ℕ} (c : ℕ) (f : Family) → Linked links code i (frame_ended callee.words) → ((b : Base) → At b i (Known (ending_ground bl callee back h0 t0 n free) v h t (with' 10 to nothing) b) (f b)) → Reach code c f v (c + size_of (frame_ended callee.words)) v (λ b w. At b (i + size_of (frame_ended callee.words)) (Known (bl.ground n) v h t0 (with' 10 to nothing) b) w)
 lowered_piece bl callee to back n free {links} {code} {i} {v} {h0} {h} {t0} {t} c f l there =
     let ground = ending_ground bl callee back h0 t0 n free in
     let outer = bl.ground n in
@@ -202,7 +202,7 @@ resumed_piece {code = code} {i = i} {g = g} {v = v} {h = h} {t = t} c f resume n
     reach_then r1 r2
 
 -- the registers hold again what they held where the condition was raised, as far as a word holds it, whatever the stack's register is
-pub unit_left_piece : {e : Environment} {block : ℕ} {types : Types} (bl : Block e block types) (callee : Callee bl) (back : Base → ℕ) (resume : ℕ) (n : Values) (free : ℕ) {links : Links} {code : List Instr} {i : ℕ} {v : Services} {h0 h t0 t : ℕ → ℕ} (c : ℕ) (f : Family) (a : S.Activation) (rest : List S.Activation) (number : ℕ) → resume ≤ most_code → v.activations ≡ a ∷ rest → a.kind ≡ S.OnUnitBlock number (4 * resume) → Linked links code i (unit_left callee.words) → ((b : Base) → At b i (Known (ending_ground bl callee back h0 t0 n free) v h t nothing b) (f b)) → Reach code c f v (c + 2 + size_of (registers_restored 0 7) + size_of (frame_ended callee.words) + 4) (ended_services v a rest) (λ b w. At b resume (Known (bl.ground n) (ended_services v a rest) (held_again h0 0 7 h) t0 nothing b) w)
+pub unit_left_piece : {e : Environment} {block : Names} {types : Types} (bl : Block e block types) (callee : Callee bl) (back : Base → ℕ) (resume : ℕ) (n : Values) (free : ℕ) {links : Links} {code : List Instr} {i : ℕ} {v : Services} {h0 h t0 t : ℕ → ℕ} (c : ℕ) (f : Family) (a : S.Activation) (rest : List S.Activation) (number : ℕ) → resume ≤ most_code → v.activations ≡ a ∷ rest → a.kind ≡ S.OnUnitBlock number (4 * resume) → Linked links code i (unit_left callee.words) → ((b : Base) → At b i (Known (ending_ground bl callee back h0 t0 n free) v h t nothing b) (f b)) → Reach code c f v (c + 2 + size_of (registers_restored 0 7) + size_of (frame_ended callee.words) + 4) (ended_services v a rest) (λ b w. At b resume (Known (bl.ground n) (ended_services v a rest) (held_again h0 0 7 h) t0 nothing b) w)
 unit_left_piece bl callee back resume n free {h0 = h0} {h = h} {t0 = t0} {t = t} c f a rest number near e kind l there =
     let to : Base → ℕ = λ b. 4 * resume in
     let asked = service 31 in

@@ -1,6 +1,6 @@
 -- SIGNAL of AREA while a unit of the program may be in force: the unit is entered, runs and goes back behind SIGNAL, or the limit on active
 -- blocks ends the run; where none is in force the system's action ends it.
-use Rattle.std.proofs.Common.{◌≡◌, ℕ, zero, suc, ◌+◌, ◌*◌, ◌^◌, ◌<◌, ◌≤◌, List, [], ◌∷◌, ◌++◌, length, None, Option, Some, true, false, refl, sym, ap, ◌∙◌, subst, arith, lit<}
+use Rattle.std.proofs.Common.{◌≡◌, ℕ, zero, suc, ◌+◌, ◌*◌, ◌^◌, ◌<◌, ◌≤◌, List, [], ◌∷◌, ◌++◌, length, None, Option, Some, true, false, refl, sym, ap, ◌∙◌, subst, arith, lit<, inl}
 use Rattle.std.proofs.lemmas.Bool.{eq-eqb, ltb-true}
 use Rattle.std.specs.Prelude.{cond, nat_lt, ◌==◌}
 use Rattle.pli_language.specs.declared.condition.Condition.TheVariants as C
@@ -27,10 +27,10 @@ use Rattle.pli_coding.specs.Arithmetic.{raised}
 use Rattle.pli_coding.specs.Allocating.{act_code}
 use Rattle.pli_coding.specs.Entries.{registers_restored, frame_begun, frame_ended, entered_without_texts}
 use Rattle.pli_coding.specs.Environments.{BlockOwner, Environment, none_taken}
-use Rattle.pli_coding.specs.Frames.{fixed_size, frame_end}
+use Rattle.pli_coding.specs.Frames.{fixed_size}
 use Rattle.pli_coding.specs.Statements.{owner_of_unit, unit_environment, unit_mark, unit_left, stmt_code, stmts_code}
 use Rattle.pli_coding.specs.Linking.{Links, place_of}
-use Rattle.pli_headline.specs.ProvedSoFar.{Types}
+use Rattle.pli_headline.specs.ProvedSoFar.{Types, Names}
 use Rattle.pli_headline.proofs.Engine.{Base, address, most_code}
 use Rattle.pli_headline.proofs.Linking.{size_append}
 use Rattle.pli_headline.proofs.Items.{Linked, At}
@@ -43,7 +43,7 @@ use Rattle.pli_headline.proofs.Calls.{Serving}
 use Rattle.pli_headline.proofs.Raising.{Routines, with_act}
 use Rattle.pli_headline.proofs.Operators.{raised_alone}
 use Rattle.pli_headline.proofs.Acts.{acted, act_to, act_piece}
-use Rattle.pli_headline.proofs.Statements.{owner_level, IsOwned, Block, AllHold, counted_all, IsEndMarkedOnce, Enough, Does}
+use Rattle.pli_headline.proofs.Statements.{owner_level, Block, AllHold, counted_all, IsEndMarkedOnce, Enough, Does}
 use Rattle.pli_headline.proofs.CalledJumps.{ending_closed, comes_called}
 use Rattle.pli_headline.proofs.Owing.{owing, owing_closed, comes_owing, done_owing}
 use Rattle.pli_headline.proofs.MainOutlets.{HasMain, main_of, main_enclosing, main_outlet, owed_outlet}
@@ -62,6 +62,7 @@ use Rattle.pli_headline.proofs.UnitEntered.{unit_activation, unit_services, unit
 use Rattle.pli_headline.proofs.UnitLeft.{jump_on, unit_left_piece}
 use Rattle.pli_headline.proofs.Reach.{Family, Aims, Comes, Closed, before_closed, comes_on, onward}
 use Rattle.pli_headline.proofs.Scalars.{Values}
+use Rattle.pli_headline.proofs.Storages.{storage}
 
 -- ---- units that may be raised
 
@@ -92,7 +93,7 @@ end_placed head Y.ProcedureBlock l owned once = l.has.0 (eq-eqb head.number head
 end_placed head Y.BeginBlock l owned once = l.has.0 (eq-eqb head.number head.number refl) once
 
 -- its code stands at an offset, there is room for its frame, and its statements do what they mean
-pub record Raisable {e : Environment} {block : ℕ} {types : Types} (bl : Block e block types) (main : ℕ) (mains : List Label) (has : HasMain main mains e.level e.block bl.labels bl.outer) (links : Links) (code : List Instr) (more frame : ℕ) (u : Y.Block) (at : ℕ) : Type 1 where
+pub record Raisable {e : Environment} {block : Names} {types : Types} (bl : Block e block types) (main : ℕ) (mains : List Label) (has : HasMain main mains e.level e.block bl.labels bl.outer) (links : Links) (code : List Instr) (more frame : ℕ) (u : Y.Block) (at : ℕ) : Type 1 where
   pub lowest : frame ≡ bl.base
   pub head : Y.BlockHead
   pub body : Y.Stmts
@@ -104,16 +105,15 @@ pub record Raisable {e : Environment} {block : ℕ} {types : Types} (bl : Block 
   pub index : ℕ
   pub at_is : at ≡ 4 * index
   pub later : 10 ≤ index
-  pub sized : IsOwned (owner_of_unit head head.kind) → frame_end e.parts e.program head.number head.level ≡ fixed_size 1 0
   pub linked : Linked links code index (unit_with callee.words head.line (stmts_code (unit_environment head e) none_taken body) (unit_mark head head.kind))
-  pub does : (m : ℕ) → more ≡ suc m → suc (length bl.depths) < most_activations → (kind : S.BlockKind) (back : Base → ℕ) (h0 t0 : ℕ → ℕ) → Does (called_block_as bl callee back h0 t0 (owner_of_unit head head.kind) kind head level sized (main_of main mains) (main_enclosing bl callee back h0 t0 (owner_of_unit head head.kind) head level main mains has)) links code (suc m) (stmts_code (unit_environment head e) none_taken body) (M.list (inner_around e.program m head.line) body)
+  pub does : (m : ℕ) → more ≡ suc m → suc (length bl.depths) < most_activations → (kind : S.BlockKind) (back : Base → ℕ) (h0 t0 : ℕ → ℕ) → Does (called_block_as bl callee back h0 t0 (owner_of_unit head head.kind) kind head level (main_of main mains) (main_enclosing bl callee back h0 t0 (owner_of_unit head head.kind) head level main mains has)) links code (suc m) (stmts_code (unit_environment head e) none_taken body) (M.list (inner_around e.program m head.line) body)
 
 -- ---- behind the statements of the unit
 
 -- it is left, and the run goes on where its raise said with the credits of that place
-leave_piece : {e : Environment} {block : ℕ} {types : Types} (bl : Block e block types) {links : Links} {code : List Instr} {level : ℕ} (callee : Callee bl) (k i resume oncode : ℕ) (h t : ℕ → ℕ) {aims : Aims (Unit {0})} (closed : Closed code aims) → resume ≤ most_code → i + 2 + size_of (registers_restored 0 7) + size_of (frame_ended callee.words) + 4 ≤ resume + length code → Linked links code i (unit_left callee.words) → ((s' : State) (v' : Services) (line' : ℕ) (n' : Values) (h' : ℕ → ℕ) (f' : Family) → Serving k s' v' line' → AllHold bl.frames v'.activations (e.level ∷ bl.depths) s' block types n' → ((b : Base) → At b resume (Known (bl.ground n') v' h' t nothing b) (f' b)) → aims.done resume f' v' tt s') → (s : State) (v : Services) (line : ℕ) (n : Values) (h1 t1 : ℕ → ℕ) (f : Family) (free : ℕ) → Serving k s v line → AllHold (atop callee.at (S.OnUnitBlock oncode (4 * resume)) bl.frames) v.activations (level ∷ e.level ∷ bl.depths) s block types n → ((b : Base) → At b i (Known (ending_ground bl callee (λ b'. address b' resume) h t n free) v h1 t1 nothing b) (f b)) → (owing code (length code) aims).done i f v tt (with_world s.world (newest_ended s))
+leave_piece : {e : Environment} {block : Names} {types : Types} (bl : Block e block types) {links : Links} {code : List Instr} {level : ℕ} (callee : Callee bl) (k i resume oncode : ℕ) (h t : ℕ → ℕ) {aims : Aims (Unit {0})} (closed : Closed code aims) → resume ≤ most_code → i + 2 + size_of (registers_restored 0 7) + size_of (frame_ended callee.words) + 4 ≤ resume + length code → Linked links code i (unit_left callee.words) → ((s' : State) (v' : Services) (line' : ℕ) (n' : Values) (h' : ℕ → ℕ) (f' : Family) → Serving k s' v' line' → AllHold bl.frames bl.serials (storage v') (e.level ∷ bl.depths) s' block types n' → ((b : Base) → At b resume (Known (bl.ground n') v' h' t nothing b) (f' b)) → aims.done resume f' v' tt s') → (s : State) (v : Services) (line : ℕ) (n : Values) (h1 t1 : ℕ → ℕ) (f : Family) (free : ℕ) → Serving k s v line → AllHold (atop callee.at (S.OnUnitBlock oncode (4 * resume)) bl.frames) bl.serials (storage v) (level ∷ e.level ∷ bl.depths) s block types n → ((b : Base) → At b i (Known (ending_ground bl callee (λ b'. address b' resume) h t n free) v h1 t1 nothing b) (f b)) → (owing code (length code) aims).done i f v tt (with_world s.world (newest_ended s))
 leave_piece {e} {block} {types} bl {code = code} callee k i resume oncode h t closed near few l goal s v line n h1 t1 f free serving all at =
-    let o = left_all s v.activations serving.nested all in
+    let o = left_all s (storage v) serving.nested (inl callee.outer) (λ j kind at'. bl.owners j at') all in
     let kind = newest_kind o.newest o.rest o.are o.some all in
     let v' = ended_services v o.newest o.rest in
     let s' = with_world s.world (newest_ended s) in
@@ -143,7 +143,7 @@ unfolding looked ◌>>=◌
 found_is around n k s a u found = ap (λ o. R.unit_run around n o k s) found
 
 -- the unit runs, from its first instruction on
-unit_piece : {e : Environment} {block : ℕ} {types : Types} (bl : Block e block types) {links : Links} {code : List Instr} (main : ℕ) (mains : List Label) (has : HasMain main mains e.level e.block bl.labels bl.outer) (around : Around) (more m : ℕ) {frame : ℕ} {u : Y.Block} {at' : ℕ} (can : Raisable bl main mains has links code more frame u at') → more ≡ suc m → around.enter ≡ M.entered e.program (suc m) → {s : State} {v : Services} {h t : ℕ → ℕ} {aims : Aims (Unit {0})} (closed : Closed code aims) (n : Values) (f : Family) (k line resume oncode : ℕ) (a : Activation) → oncode < 2 ^ 16 → (oncode == 0) ≡ false → k < suc m + v.world.acts → (turns0 start0 acts0 : ℕ) → Enough bl links k turns0 start0 h t acts0 aims.jumped aims.returned → acts0 ≤ v.world.acts → 19 ≤ length code → resume ≤ length code → a.height ≡ 1 → suc (length bl.depths) < most_activations → nat_lt (length s.activations) most_activations ≡ true → Serving k s v line → AllHold bl.frames v.activations (e.level ∷ bl.depths) s block types n → ((b : Base) → At b can.index (Known (bl.ground n) (record v { waiting = Some (record { code = oncode; resume = 4 * resume; line = v.line }) }) h t (entry_with bl.base (4 * resume) (λ b'. address b' resume)) b) (f b)) → ((s' : State) (v' : Services) (line' : ℕ) (n' : Values) (h' : ℕ → ℕ) (f' : Family) → Serving k s' v' line' → AllHold bl.frames v'.activations (e.level ∷ bl.depths) s' block types n' → ((b : Base) → At b resume (Known (bl.ground n') v' h' t nothing b) (f' b)) → aims.done resume f' v' tt s') → Comes code 19 f (record v { waiting = Some (record { code = oncode; resume = 4 * resume; line = v.line }) }) (owing code (length code) aims) (unit_part around oncode a can.head can.body k s)
+unit_piece : {e : Environment} {block : Names} {types : Types} (bl : Block e block types) {links : Links} {code : List Instr} (main : ℕ) (mains : List Label) (has : HasMain main mains e.level e.block bl.labels bl.outer) (around : Around) (more m : ℕ) {frame : ℕ} {u : Y.Block} {at' : ℕ} (can : Raisable bl main mains has links code more frame u at') → more ≡ suc m → around.enter ≡ M.entered e.program (suc m) → {s : State} {v : Services} {h t : ℕ → ℕ} {aims : Aims (Unit {0})} (closed : Closed code aims) (n : Values) (f : Family) (k line resume oncode : ℕ) (a : Activation) → oncode < 2 ^ 16 → (oncode == 0) ≡ false → k < suc m + v.world.acts → (turns0 start0 acts0 : ℕ) → Enough bl links k turns0 start0 h t acts0 aims.jumped aims.returned → acts0 ≤ v.world.acts → 19 ≤ length code → resume ≤ length code → a.height ≡ 1 → suc (length bl.depths) < most_activations → nat_lt (length s.activations) most_activations ≡ true → Serving k s v line → AllHold bl.frames bl.serials (storage v) (e.level ∷ bl.depths) s block types n → ((b : Base) → At b can.index (Known (bl.ground n) (record v { waiting = Some (record { code = oncode; resume = 4 * resume; line = v.line }) }) h t (entry_with bl.base (4 * resume) (λ b'. address b' resume)) b) (f b)) → ((s' : State) (v' : Services) (line' : ℕ) (n' : Values) (h' : ℕ → ℕ) (f' : Family) → Serving k s' v' line' → AllHold bl.frames bl.serials (storage v') (e.level ∷ bl.depths) s' block types n' → ((b : Base) → At b resume (Known (bl.ground n') v' h' t nothing b) (f' b)) → aims.done resume f' v' tt s') → Comes code 19 f (record v { waiting = Some (record { code = oncode; resume = 4 * resume; line = v.line }) }) (owing code (length code) aims) (unit_part around oncode a can.head can.body k s)
 unfolding M.end_reached give ◌>>◌
 unit_piece {e} {block} {types} bl {links} {code} main mains has around more m can next enter {s} {v} {h} {t} {aims} closed n f k line resume oncode a small' other enough turns0 start0 acts0 ready less long near parent deep few serving all at goal =
     let program = e.program in
@@ -225,7 +225,7 @@ unit_piece {e} {block} {types} bl {links} {code} main mains has around more m ca
     let s3 = with_world (counted s2.world) s2 in
     comes_on k (M.list here body k s3) behind'
     ((can.does m next deep (S.OnUnitBlock oncode (4 * resume)) back h t).does (before_closed k behind' closed1) head.line n f4 k ls serving4
-    (counted_all (counted s2.world) (raised_all head entry s v.activations x small' some (omega arith) (omega (arith, lengths)) direct ordinary refl serving.nested all))
+    (counted_all (counted s2.world) (raised_all head entry s (storage v) x small' some (omega arith) (omega (arith, lengths)) direct ordinary refl (inl callee.outer) serving.nested all))
     at4
     (λ s5 v5 line5 n5 h5 t5 f5 serving5 all5 stays5 at5. record { to = record { to = leave s5 v5 line5 n5 h5 t5 f5 (callee.at + fixed_size 1 0) serving5 all5 at5 } })
     (record {
@@ -245,7 +245,7 @@ unit_piece {e} {block} {types} bl {links} {code} main mains has around more m ca
     })))))))))
 
 -- where too many blocks are entered the run ends
-limited_piece : {e : Environment} {block : ℕ} {types : Types} (bl : Block e block types) {links : Links} {code : List Instr} (main : ℕ) (mains : List Label) (has : HasMain main mains e.level e.block bl.labels bl.outer) (around : Around) (more m : ℕ) {frame : ℕ} {u : Y.Block} {at' : ℕ} (can : Raisable bl main mains has links code more frame u at') → around.enter ≡ M.entered e.program (suc m) → {s : State} {v : Services} {h t : ℕ → ℕ} {aims : Aims (Unit {0})} (closed : Closed code aims) (n : Values) (f : Family) (k line resume oncode : ℕ) (a : Activation) → 19 ≤ length code → resume ≤ length code → nat_lt (length s.activations) most_activations ≡ false → Serving k s v line → ((b : Base) → At b can.index (Known (bl.ground n) (record v { waiting = Some (record { code = oncode; resume = 4 * resume; line = v.line }) }) h t (entry_with bl.base (4 * resume) (λ b'. address b' resume)) b) (f b)) → Comes code 19 f (record v { waiting = Some (record { code = oncode; resume = 4 * resume; line = v.line }) }) (owing code (length code) aims) (unit_part around oncode a can.head can.body k s)
+limited_piece : {e : Environment} {block : Names} {types : Types} (bl : Block e block types) {links : Links} {code : List Instr} (main : ℕ) (mains : List Label) (has : HasMain main mains e.level e.block bl.labels bl.outer) (around : Around) (more m : ℕ) {frame : ℕ} {u : Y.Block} {at' : ℕ} (can : Raisable bl main mains has links code more frame u at') → around.enter ≡ M.entered e.program (suc m) → {s : State} {v : Services} {h t : ℕ → ℕ} {aims : Aims (Unit {0})} (closed : Closed code aims) (n : Values) (f : Family) (k line resume oncode : ℕ) (a : Activation) → 19 ≤ length code → resume ≤ length code → nat_lt (length s.activations) most_activations ≡ false → Serving k s v line → ((b : Base) → At b can.index (Known (bl.ground n) (record v { waiting = Some (record { code = oncode; resume = 4 * resume; line = v.line }) }) h t (entry_with bl.base (4 * resume) (λ b'. address b' resume)) b) (f b)) → Comes code 19 f (record v { waiting = Some (record { code = oncode; resume = 4 * resume; line = v.line }) }) (owing code (length code) aims) (unit_part around oncode a can.head can.body k s)
 limited_piece {e} bl {code = code} main mains has around more m can enter {s} {v} {h} {t} {aims} closed n f k line resume oncode a long near many serving at =
     let head = can.head in
     let body = can.body in
@@ -277,7 +277,7 @@ limited_piece {e} bl {code = code} main mains has around more m can enter {s} {v
     (entry_limited bl callee back (4 * resume) n (19 + size_of fb) f2 (before_closed k last closed0) s k head.line w can.line (omega (arith, room, total, long)) many' le refl serving.world serving.running serving.allowed serving.fits at2)))
 
 -- the raise, with a unit in force
-raised_unit : {e : Environment} {block : ℕ} {types : Types} (bl : Block e block types) {links : Links} {code : List Instr} (routines : Routines links code) (main : ℕ) (mains : List Label) (has : HasMain main mains e.level e.block bl.labels bl.outer) (around : Around) (more m : ℕ) {frame : ℕ} {u : Y.Block} {at' : ℕ} (can : Raisable bl main mains has links code more frame u at') → more ≡ suc m → around.enter ≡ M.entered e.program (suc m) → {i : ℕ} {s : State} {v : Services} {h t : ℕ → ℕ} {aims : Aims (Unit {0})} (closed : Closed code aims) (n : Values) (f : Family) (k line oncode : ℕ) (a : Activation) (x : S.Activation) → oncode < 2 ^ 16 → (oncode == 0) ≡ false → k < suc m + v.world.acts → (turns0 start0 acts0 : ℕ) → Enough bl links k turns0 start0 h t acts0 aims.jumped aims.returned → acts0 ≤ v.world.acts → Linked links code i (raised C.Area oncode) → force s.activations C.Area ≡ Some (a, BlockUnit u) → U.force v.activations C.Area ≡ Some (x, S.CodeUnit at') → a.height ≡ 1 → x.frame ≡ frame → Serving k s v line → AllHold bl.frames v.activations (e.level ∷ bl.depths) s block types n → ((b : Base) → At b i (Known (bl.ground n) v h t nothing b) (f b)) → ((s' : State) (v' : Services) (line' : ℕ) (n' : Values) (h' : ℕ → ℕ) (f' : Family) → Serving k s' v' line' → AllHold bl.frames v'.activations (e.level ∷ bl.depths) s' block types n' → ((b : Base) → At b (i + 2 + 2) (Known (bl.ground n') v' h' t nothing b) (f' b)) → aims.done (i + 2 + 2) f' v' tt s') → Comes code 0 f v (owing code (length code) aims) (R.raised around C.Area oncode k s)
+raised_unit : {e : Environment} {block : Names} {types : Types} (bl : Block e block types) {links : Links} {code : List Instr} (routines : Routines links code) (main : ℕ) (mains : List Label) (has : HasMain main mains e.level e.block bl.labels bl.outer) (around : Around) (more m : ℕ) {frame : ℕ} {u : Y.Block} {at' : ℕ} (can : Raisable bl main mains has links code more frame u at') → more ≡ suc m → around.enter ≡ M.entered e.program (suc m) → {i : ℕ} {s : State} {v : Services} {h t : ℕ → ℕ} {aims : Aims (Unit {0})} (closed : Closed code aims) (n : Values) (f : Family) (k line oncode : ℕ) (a : Activation) (x : S.Activation) → oncode < 2 ^ 16 → (oncode == 0) ≡ false → k < suc m + v.world.acts → (turns0 start0 acts0 : ℕ) → Enough bl links k turns0 start0 h t acts0 aims.jumped aims.returned → acts0 ≤ v.world.acts → Linked links code i (raised C.Area oncode) → force s.activations C.Area ≡ Some (a, BlockUnit u) → U.force v.activations C.Area ≡ Some (x, S.CodeUnit at') → a.height ≡ 1 → x.frame ≡ frame → Serving k s v line → AllHold bl.frames bl.serials (storage v) (e.level ∷ bl.depths) s block types n → ((b : Base) → At b i (Known (bl.ground n) v h t nothing b) (f b)) → ((s' : State) (v' : Services) (line' : ℕ) (n' : Values) (h' : ℕ → ℕ) (f' : Family) → Serving k s' v' line' → AllHold bl.frames bl.serials (storage v') (e.level ∷ bl.depths) s' block types n' → ((b : Base) → At b (i + 2 + 2) (Known (bl.ground n') v' h' t nothing b) (f' b)) → aims.done (i + 2 + 2) f' v' tt s') → Comes code 0 f v (owing code (length code) aims) (R.raised around C.Area oncode k s)
 unfolding R.raised ◌>>◌
 raised_unit {e} {block} {types} bl {links} {code} routines main mains has around more m {frame} {u} can next enter {i} {s} {v} {h} {t} {aims} closed n f k line oncode a x small' other enough turns0 start0 acts0 ready less l found served parent framed serving all at goal =
     let resume = i + 2 + 2 in
@@ -301,7 +301,7 @@ raised_unit {e} {block} {types} bl {links} {code} routines main mains has around
     (unit_begins (before_closed k next' closed0) routines 0 f oncode k line can.index x small' (omega (arith, whole)) l served' (omega (arith, later)) (omega (arith, placed, total, some)) (omega (arith, lowest, within)) serving at
     (λ f1 below at1.
     let serving1 = with_act (raising C.Area oncode) (λ w. refl) (λ w. refl) serving below in
-    let all1 : AllHold bl.frames v.activations (e.level ∷ bl.depths) s1 block types n = counted_all _ all in
+    let all1 : AllHold bl.frames bl.serials (storage v) (e.level ∷ bl.depths) s1 block types n = counted_all _ all in
     let at2 = λ (b : Base). subst (λ fr. At b can.index (Known (bl.ground n) v1 h t (entry_with fr (4 * resume) (λ b'. address b' resume)) b) (f1 b)) lowest (at1 b) in
     subst (Comes code 19 f1 v1 (owing code (length code) aims)) (sym (found_is around oncode k s1 a u found ∙ ap (λ q. R.unit_run around oncode (Some (a, BlockUnit q)) k s1) can.is))
     (by_test (nat_lt (length s.activations) most_activations)
@@ -321,7 +321,7 @@ by_force known (Some (a, SystemUnit)) (Some (x, S.CodeUnit at)) both alone unit 
 by_force known (Some (a, BlockUnit u)) (Some (x, S.SystemUnit)) both alone unit = absurd both
 by_force known (Some (a, BlockUnit u)) (Some (x, S.CodeUnit at)) both alone unit = unit a u x at refl refl both.0 both.1
 
-pub signal_area_does : {e : Environment} {block : ℕ} {types : Types} (bl : Block e block types) (main : ℕ) (mains : List Label) (has : HasMain main mains e.level e.block bl.labels bl.outer) (links : Links) (code : List Instr) (routines : Routines links code) (around : Around) (more line : ℕ) → line < 2 ^ 31 → Entering e.program around more → ((frame : ℕ) (u : Y.Block) (at : ℕ) → bl.frames.known frame u at → Raisable bl main mains has links code more frame u at) → Does bl links code around.turns (stmt_code e bl.taken (Y.Signal C.Area line)) (M.statement around (Y.Signal C.Area line))
+pub signal_area_does : {e : Environment} {block : Names} {types : Types} (bl : Block e block types) (main : ℕ) (mains : List Label) (has : HasMain main mains e.level e.block bl.labels bl.outer) (links : Links) (code : List Instr) (routines : Routines links code) (around : Around) (more line : ℕ) → line < 2 ^ 31 → Entering e.program around more → ((frame : ℕ) (u : Y.Block) (at : ℕ) → bl.frames.known frame u at → Raisable bl main mains has links code more frame u at) → Does bl links code around.turns (stmt_code e bl.taken (Y.Signal C.Area line)) (M.statement around (Y.Signal C.Area line))
 unfolding M.statement M.signalled ◌>>◌
 signal_area_does {e} {block} {types} bl main mains has links code routines around zero line fits entering can =
     record {

@@ -13,7 +13,7 @@ use Rattle.pli_coding.specs.Environments.{BlockPlace, UnitOwner, Environment, in
 use Rattle.pli_coding.specs.Images.{blocks_among}
 use Rattle.pli_coding.specs.Statements.{unit_environment, unit_variables, unit_words, unit_mark, unit_left, stmts_words, stmts_code}
 use Rattle.pli_coding.specs.Linking.{Links}
-use Rattle.pli_headline.specs.ProvedSoFar.{Types, main_outer, times, IsLine, IsUnitBody, AreProvedStatements, AllJumpAround, AllCallAmong, DeclaresNothing, AreBare}
+use Rattle.pli_headline.specs.ProvedSoFar.{Types, main_outer, times, IsLine, IsUnitBody, AreProvedStatements, AllJumpAround, AllCallAmong, DeclaresNothing, AreBare, Names}
 use Rattle.pli_headline.specs.InnerWords.{all_inner_words}
 use Rattle.pli_headline.proofs.Items.{Linked}
 use Rattle.pli_headline.proofs.InnerLevels.{IsAmong}
@@ -31,7 +31,7 @@ abbrev pub words_of_unit : Y.BlockKind → (body : ℕ) → ℕ
 words_of_unit Y.SimpleUnit body = body
 words_of_unit _ body = max 0 body
 
-pub record UnitStands (e : Environment) (block : ℕ) (types : Types) (all : List (ℕ × Label)) (procedure : ℕ) (may : List ℕ) (links : Links) (code : List Instr) (u : Y.Block) (at : ℕ) : Type 0 where
+pub record UnitStands (e : Environment) (block : Names) (types : Types) (all : List (ℕ × Label)) (procedure : ℕ) (may : List ℕ) (links : Links) (code : List Instr) (u : Y.Block) (at : ℕ) : Type 0 where
   pub head : Y.BlockHead
   pub body : Y.Stmts
   pub is : u ≡ Y.BlockOf head body
@@ -39,9 +39,9 @@ pub record UnitStands (e : Environment) (block : ℕ) (types : Types) (all : Lis
   pub level : head.level ≡ 1
   pub line : IsLine head.line
   pub proved : AreProvedStatements block types body
-  pub jumps : AllJumpAround head.number head.level all e.blocks (main_outer block e.program.procedures) (main_outer block e.program.procedures ∷ []) (labels_in body) body
-  pub bare : DeclaresNothing e.program head head.kind × AreBare e.program body
-  pub calls : AllCallAmong may false body
+  pub jumps : AllJumpAround e.program head.number head.level all e.blocks (main_outer procedure e.program.procedures) (main_outer procedure e.program.procedures ∷ []) (labels_in body) body
+  pub bare : DeclaresNothing e.program head head.kind × AreBare e.program false body
+  pub calls : AllCallAmong e.program may false body
   pub few : stmts_words body + all_inner_words body ≤ 800
   pub once : (number : ℕ) (label : Label) → times number label all ≡ 1 → IsMarkedOnce links number label
   pub labels : head.kind ≡ Y.UnitBlock → LabelsStand (unit_environment head e) links all procedure false
@@ -52,7 +52,7 @@ pub record UnitStands (e : Environment) (block : ℕ) (types : Types) (all : Lis
   pub linked : Linked links code index (unit_with (words_of_unit head.kind (stmts_words body)) head.line (stmts_code (unit_environment head e) none_taken body) (unit_mark head head.kind))
 
 -- a block's units are such, in the frame of the main procedure
-abbrev pub Tells : (e : Environment) (block : ℕ) (types : Types) (all : List (ℕ × Label)) (procedure : ℕ) (may : List ℕ) (links : Links) (code : List Instr) (base : ℕ) (known : ℕ → Y.Block → ℕ → Type 0) → Type 0
+abbrev pub Tells : (e : Environment) (block : Names) (types : Types) (all : List (ℕ × Label)) (procedure : ℕ) (may : List ℕ) (links : Links) (code : List Instr) (base : ℕ) (known : ℕ → Y.Block → ℕ → Type 0) → Type 0
 Tells e block types all procedure may links code base known =
     (frame : ℕ) (u : Y.Block) (at : ℕ) → known frame u at → (frame ≡ base) × UnitStands (program_around e) block types all procedure may links code u at
 

@@ -34,9 +34,10 @@ use Rattle.pli_serving.specs.Finding.{Call}
 use Rattle.pli_serving.specs.Arguments.{capacity_of, data_bytes}
 use Rattle.pli_serving.specs.InitialValues.{initial_values}
 use Rattle.pli_serving.specs.Making as G
+use Rattle.pli_headline.proofs.Unlimited as U
 use Rattle.pli_headline.proofs.Engine.{Base, most_code, call_at}
 use Rattle.pli_headline.proofs.Calls.{acts}
-use Rattle.pli_headline.proofs.VariablePlaces.{Sizes, room_of, number_place, room_next, room_counts, data_size, data_fits, element_alone, sizes_of, scalar_data_size, data_size_for}
+use Rattle.pli_headline.proofs.VariablePlaces.{Sizes, room_of, number_place, room_next, data_size, data_fits, element_alone, sizes_of, scalar_data_size, data_size_for}
 use Rattle.pli_headline.proofs.MainGround.{Stands}
 use Rattle.pli_headline.proofs.MainFrame.{main_frame}
 use Rattle.pli_headline.proofs.Scalars.{Declared, by_type, is_numeric, by_held, value_as, bit_of, bit_word, Fits, fits_wide, constant_text, begin_text, begin_of, begin_fits, store_kind, IsLimited, by_shape, element_numeric}
@@ -74,20 +75,20 @@ start_at links s = start_of links (start_datum s.initial)
 abbrev pub KeepsFirst : (first m : List ℕ) → Type 0
 KeepsFirst first m = (k : ℕ) → k < 7 * 2 ^ 20 → slice_index m k ≡ slice_index first k
 
-make_limited : (links : Links) (code : List Instr) (first : List ℕ) (table : List TableSignature) (kind : ℕ → Declared) (input : List ℕ) (at line j name place : ℕ) (m : List ℕ) → Ready links code first table (kind j) → length m ≡ memory_size → KeepsFirst first m → G.make_served (call_at code (main_services table kind input at line j) m) name (number_for table (kind j).kind) (start_at links (kind j)) place 0 ≡ G.limited (call_at code (main_services table kind input at line j) m) name (number_for table (kind j).kind) place 1 (fresh_scalar (kind j))
+make_limited : (links : Links) (code : List Instr) (first : List ℕ) (table : List TableSignature) (kind : ℕ → Declared) (input : List ℕ) (at line j name place : ℕ) (m : List ℕ) → Ready links code first table (kind j) → length m ≡ memory_size → KeepsFirst first m → U.make_served (call_at code (main_services table kind input at line j) m) name (number_for table (kind j).kind) (start_at links (kind j)) place 0 ≡ U.limited (call_at code (main_services table kind input at line j) m) name (number_for table (kind j).kind) place 1 (fresh_scalar (kind j))
 make_limited links code first table kind input at line j name place m ready len keeps =
     let v = main_services table kind input at line j in
     let c = call_at code v m in
     let n = number_for table (kind j).kind in
     let shape = kind_shape (kind j).kind in
-    ap (λ o. or_bad o (λ s. or_bad (initial_values c s.signature.leaves (start_at links (kind j))) (λ values. G.limited c name n place 1 (fresh s (pos 0) values)))) (numbered_shape table (kind j).kind ready.numbered)
-    ∙ ap (λ o. or_bad o (λ values. G.limited c name n place 1 (fresh shape (pos 0) values))) (ready.reads.read v m len keeps)
+    ap (λ o. or_bad o (λ s. or_bad (initial_values c s.signature.leaves (start_at links (kind j))) (λ values. U.limited c name n place 1 (fresh s (pos 0) values)))) (numbered_shape table (kind j).kind ready.numbered)
+    ∙ ap (λ o. or_bad o (λ values. U.limited c name n place 1 (fresh shape (pos 0) values))) (ready.reads.read v m len keeps)
 
 -- past the limit the run ends
 abbrev pub past_limit : Services → Services
 past_limit v = N.with_world (ending (E.Limit L.Automatic) v.world) v
 
-pub make_ends : (links : Links) (code : List Instr) (first : List ℕ) (table : List TableSignature) (kind : ℕ → Declared) (input : List ℕ) (at line j name place k : ℕ) (m : List ℕ) → ((i : ℕ) → i < suc j → Ready links code first table (kind i)) → length m ≡ memory_size → KeepsFirst first m → 2 ^ 20 < room_of (sizes_of kind) (suc j) → k + 1 < 2 ^ 64 → G.make_served (call_at code (main_services table kind input at line j) m) name (number_for table (kind j).kind) (start_at links (kind j)) place 0 ≡ Ends (past_limit (main_services table kind input at line j))
+pub make_ends : (links : Links) (code : List Instr) (first : List ℕ) (table : List TableSignature) (kind : ℕ → Declared) (input : List ℕ) (at line j name place k : ℕ) (m : List ℕ) → ((i : ℕ) → i < suc j → Ready links code first table (kind i)) → length m ≡ memory_size → KeepsFirst first m → 2 ^ 20 < room_of (sizes_of kind) (suc j) → k + 1 < 2 ^ 64 → U.make_served (call_at code (main_services table kind input at line j) m) name (number_for table (kind j).kind) (start_at links (kind j)) place 0 ≡ Ends (past_limit (main_services table kind input at line j))
 make_ends links code first table kind input at line j name place k m signs len keeps over fits =
     let v = main_services table kind input at line j in
     let c = call_at code v m in
@@ -97,7 +98,7 @@ make_ends links code first table kind input at line j name place k m signs len k
     let print = scalar_print (kind j) mine.numbered.held in
     let t : nat_lt most_automatic (G.automatic_in_use (map template_of table) (scalars_served table kind at j) + footprint_of (fresh_scalar (kind j))) ≡ true = lt-ltb _ _ (omega (arith, use', over, print)) in
     make_limited links code first table kind input at line j name place m mine len keeps
-    ∙ ap (λ u. cond u (N.acting v (Ends (past_limit v))) (G.variable_made c name n place 1 (j + 1) (fresh_scalar (kind j)))) t
+    ∙ ap (λ u. cond u (N.acting v (Ends (past_limit v))) (U.variable_made c name n place 1 (j + 1) (fresh_scalar (kind j)))) t
     ∙ acts v k (Ends (past_limit v)) (omega arith) fits
 
 -- with which bytes a variable of a type begins, by its number or its text
@@ -198,20 +199,20 @@ kind_bytes_made c place type (b ∷ bs) items is begins =
     by_type (λ t. G.bytes_made c place (begun_array t (b ∷ bs) items) (capacity_of (array_shape t (b ∷ bs))) ≡ generation_bytes (begun_array t (b ∷ bs) items)) (λ p. refl) refl type (element_numeric type is.0)
     ∙ begun_bytes type (b ∷ bs) items is.0 (all_given type items is.0 begins).0
 
-abbrev made_bytes : Call → (name n place serial size : ℕ) → List ℕ → Answer
-made_bytes c name n place serial size bytes =
-    bad_unless (nat_lt serial (2 ^ 64) && (is_data c.layout place size && is_data c.layout name 16))
+abbrev pub made_bytes : Call → (name n place owner serial size : ℕ) → List ℕ → Answer
+made_bytes c name n place owner serial size bytes =
+    bad_unless (is_data c.layout place size && is_data c.layout name 16)
     (Done
-    (G.with_living (record { serial = serial; owner = 1; signature = n; at = place }) c.services)
+    (G.with_living (record { serial = serial; owner = owner; signature = n; at = place }) c.services)
     (with_bytes (name_bytes (VariableName serial)) name (with_bytes bytes place c.memory))
     name n)
 
-scalar_made : (c : Call) (name n place serial : ℕ) (s : Declared) → IsHeld s.kind.type s.kind.bounds → AreConstants s.kind.type s.initial → G.variable_made c name n place 1 serial (fresh_scalar s) ≡ made_bytes c name n place serial (data_size s.kind) (data_of s)
-scalar_made c name n place serial s is begins =
-    ap (λ size. made_bytes c name n place serial size (G.bytes_made c place (fresh_scalar s) (capacity_of (kind_shape s.kind)))) (kind_size c s.kind is)
-    ∙ ap (made_bytes c name n place serial (data_size s.kind)) (kind_bytes_made c place s.kind.type s.kind.bounds s.initial is begins)
+pub scalar_made : (c : Call) (name n place owner serial : ℕ) (s : Declared) → IsHeld s.kind.type s.kind.bounds → AreConstants s.kind.type s.initial → U.variable_made c name n place owner serial (fresh_scalar s) ≡ made_bytes c name n place owner serial (data_size s.kind) (data_of s)
+scalar_made c name n place owner serial s is begins =
+    ap (λ size. made_bytes c name n place owner serial size (G.bytes_made c place (fresh_scalar s) (capacity_of (kind_shape s.kind)))) (kind_size c s.kind is)
+    ∙ ap (made_bytes c name n place owner serial (data_size s.kind)) (kind_bytes_made c place s.kind.type s.kind.bounds s.initial is begins)
 
-pub make_made : (links : Links) (code : List Instr) (first : List ℕ) (table : List TableSignature) (kind : ℕ → Declared) (input : List ℕ) (at line j : ℕ) (m : List ℕ) → ((i : ℕ) → i < suc j → Ready links code first table (kind i)) → length m ≡ memory_size → KeepsFirst first m → room_of (sizes_of kind) (suc j) ≤ 2 ^ 20 → 4 * length code ≤ at → at + 200 + room_of (sizes_of kind) (suc j) ≤ memory_size → G.make_served (call_at code (main_services table kind input at line j) m) (at + (144 + room_of (sizes_of kind) j)) (number_for table (kind j).kind) (start_at links (kind j)) (at + (144 + room_of (sizes_of kind) j + 16)) 0 ≡ Done (main_services table kind input at line (suc j)) (with_number_made m at (room_of (sizes_of kind) j) j (data_of (kind j))) (at + (144 + room_of (sizes_of kind) j)) (number_for table (kind j).kind)
+pub make_made : (links : Links) (code : List Instr) (first : List ℕ) (table : List TableSignature) (kind : ℕ → Declared) (input : List ℕ) (at line j : ℕ) (m : List ℕ) → ((i : ℕ) → i < suc j → Ready links code first table (kind i)) → length m ≡ memory_size → KeepsFirst first m → room_of (sizes_of kind) (suc j) ≤ 2 ^ 20 → 4 * length code ≤ at → at + 200 + room_of (sizes_of kind) (suc j) ≤ memory_size → U.make_served (call_at code (main_services table kind input at line j) m) (at + (144 + room_of (sizes_of kind) j)) (number_for table (kind j).kind) (start_at links (kind j)) (at + (144 + room_of (sizes_of kind) j + 16)) 0 ≡ Done (main_services table kind input at line (suc j)) (with_number_made m at (room_of (sizes_of kind) j) j (data_of (kind j))) (at + (144 + room_of (sizes_of kind) j)) (number_for table (kind j).kind)
 make_made links code first table kind input at line j m signs len keeps few low high =
     let v = main_services table kind input at line j in
     let c = call_at code v m in
@@ -225,16 +226,15 @@ make_made links code first table kind input at line j m signs len keeps few low 
     let use' = served_in_use table kind at j (λ i h. (signs i (omega (arith, h))).numbered) in
     let print = scalar_print (kind j) held in
     let t : nat_lt most_automatic (G.automatic_in_use (map template_of table) (scalars_served table kind at j) + footprint_of (fresh_scalar (kind j))) ≡ false = le-ltb _ _ (omega (arith, use', few, print)) in
-    let t1 : nat_lt (j + 1) (2 ^ 64) ≡ true = (let n = room_counts (sizes_of kind) (suc j) in lt-ltb _ _ (omega (arith, few, n))) in
     let t2 : nat_le (4 * length code) place ≡ true = le-leb _ _ (omega (arith, low)) in
     let t3 : nat_le (place + size) memory_size ≡ true = le-leb _ _ (omega (arith, high, all)) in
     let t4 : nat_le (4 * length code) name ≡ true = le-leb _ _ (omega (arith, low)) in
     let t5 : nat_le (name + 16) memory_size ≡ true = le-leb _ _ (omega (arith, high)) in
     let here : place ≡ at + number_place (sizes_of kind) j = omega arith in
     make_limited links code first table kind input at line j name place m mine len keeps
-    ∙ ap (λ u. cond u (N.acting v (Ends (past_limit v))) (G.variable_made c name n place 1 (j + 1) (fresh_scalar (kind j)))) t
-    ∙ scalar_made c name n place (j + 1) (kind j) held mine.begins
-    ∙ rw (t1, t2, t3, t4, t5) refl
+    ∙ ap (λ u. cond u (N.acting v (Ends (past_limit v))) (U.variable_made c name n place 1 (j + 1) (fresh_scalar (kind j)))) t
+    ∙ scalar_made c name n place 1 (j + 1) (kind j) held mine.begins
+    ∙ rw (t2, t3, t4, t5) refl
     ∙ ap (λ p. Done (served_next table kind input at line j (j + 1) p) (with_number_made m at (room_of (sizes_of kind) j) j (data_of (kind j))) name n) here
     ∙ ap (λ q. Done (served_next table kind input at line j q (at + number_place (sizes_of kind) j)) (with_number_made m at (room_of (sizes_of kind) j) j (data_of (kind j))) name n) (add-one j)
 
@@ -284,7 +284,7 @@ made_cell m at o j type items is begins inside =
     subst (λ q. Cell (with_number_made m at o j bytes) q (word (content type z))) here
     (subst (Cell (with_number_made m at o j bytes) place) (sym (content_word type z wide)) there)
 
-scalar_data : (type : Y.LeafType) (z : ℤ) (text : List ℕ) → IsLimited type → data_by type z text ≡ kind_bytes (store_kind type) (word z)
+pub scalar_data : (type : Y.LeafType) (z : ℤ) (text : List ℕ) → IsLimited type → data_by type z text ≡ kind_bytes (store_kind type) (word z)
 scalar_data (Y.FixedLeaf p) z text is = refl
 scalar_data Y.BitLeaf z text is = refl
 scalar_data _ z text is = absurd is

@@ -1,4 +1,4 @@
--- Declared variables of the block of level 0: in the meaning, and the code that reaches them.
+-- Declared variables of blocks of any level: in the meaning, and the code that reaches them.
 use Rattle.std.proofs.Common.{◌≡◌, ℕ, ◌+◌, List, [], ◌++◌, Option, Some, true, refl, ap, ◌∙◌}
 use Rattle.std.specs.Prelude.{ℤ, pos, ◌&&◌, slice_get, take, unwrap_or, if◌then◌else◌}
 use Rattle.std.proofs.lemmas.Bool.{eq-eqb}
@@ -21,7 +21,7 @@ use Rattle.pli_coding.specs.Environments.{Environment, Taken, no_declaration}
 use Rattle.pli_coding.specs.Expressions.{number_code, bit_code, reference_code, type_in, address_in}
 use Rattle.pli_coding.specs.Locating.{Address, no_leaf, leaf_number, leaf_place, found_reached, frame_found, frame_in, loaded, stored}
 use Rattle.pli_coding.specs.Frames.{automatic_place, has_constant_size}
-use Rattle.pli_headline.specs.ProvedSoFar.{plain_variable, array_variable, Kind, Types}
+use Rattle.pli_headline.specs.ProvedSoFar.{Names, variable_at, plain_variable, array_variable, Kind, Types}
 use Rattle.pli_headline.proofs.Scalars.{IsNumeric, by_type, bit_of, value_as, Fits, load_kind, store_kind}
 
 -- ---- in the meaning
@@ -41,8 +41,12 @@ whole_part = record { first = 0; count = 1 }
 abbrev pub whole : Y.Variable → Y.Reference
 whole v = Y.Referring v Y.NotLocated whole_part Y.NoNumber
 
-abbrev pub own : (block index : ℕ) → Y.Variable
-own block index = record { class = Y.AutomaticClass; block = block; level = 0; index = index }
+abbrev pub own : (block : Names) (index : ℕ) → Y.Variable
+own block index = variable_at block index
+
+-- the level of its block
+abbrev pub level_of : (block : Names) (index : ℕ) → ℕ
+level_of block index = (block.at index).level
 
 abbrev pub subscripts_in : Y.Reference → Y.Numbers
 subscripts_in (Y.Referring v locator part subscripts) = subscripts
@@ -91,8 +95,9 @@ bit_gives around s v z k h =
 -- ---- in the code
 
 -- where the data of a variable stands, from the frame
-abbrev pub data_place : Environment → (block index : ℕ) → ℕ
-data_place e block index = automatic_place e.parts e.program block 0 index + 16 + 0
+abbrev pub data_place : Environment → (block : Names) (index : ℕ) → ℕ
+data_place e block index =
+    automatic_place e.parts e.program (block.at index).number (block.at index).level (block.at index).index + 16 + 0
 
 -- an environment in a frame of level 0
 abbrev pub outermost : Environment → Environment
@@ -104,65 +109,69 @@ declared_in o = unwrap_or o no_declaration
 abbrev pub type_by : Option Y.DeclaredVariable → Y.LeafType
 type_by o = (unwrap_or (slice_get (declared_in o).leaves 0) no_leaf).type
 
--- the frame of level 0 is found
-abbrev pub base_found : Environment → Code
-base_found e = frame_found e 0 u3 ++ []
+-- the frame of a level is found
+abbrev pub base_found : Environment → (level : ℕ) → Code
+base_found e level = frame_found e level u3 ++ []
 
-abbrev pub base_register : Environment → Register
-base_register e = frame_in e 0 u3
+abbrev pub base_register : Environment → (level : ℕ) → Register
+base_register e level = frame_in e level u3
 
-abbrev pub address_from : Environment → (block index : ℕ) → Option Y.DeclaredVariable → Address
+abbrev pub address_from : Environment → (block : Names) (index : ℕ) → Option Y.DeclaredVariable → Address
 address_from e block index o =
     record {
-      register = if has_constant_size (declared_in o) then base_register e else u3;
-      displacement = pos (if has_constant_size (declared_in o) then automatic_place e.parts e.program block 0 index + 16 + leaf_place (declared_in o) 0 else 0);
+      register = if has_constant_size (declared_in o) then base_register e (level_of block index) else u3;
+      displacement = pos (if has_constant_size (declared_in o) then automatic_place e.parts e.program (block.at index).number (block.at index).level (block.at index).index + 16 + leaf_place (declared_in o) 0 else 0);
     }
 
-abbrev pub reached_from : Environment → Taken → (block index : ℕ) → Option Y.DeclaredVariable → Code
+abbrev pub reached_from : Environment → Taken → (block : Names) (index : ℕ) → Option Y.DeclaredVariable → Code
 reached_from e t block index o =
     let v = own block index in
-    if has_constant_size (declared_in o) then base_found e else found_reached e t t v whole_part (leaf_number e v 0) 0
+    if has_constant_size (declared_in o) then base_found e (level_of block index) else found_reached e t t v whole_part (leaf_number e v 0) 0
 
 -- what loads and stores a variable of a type, from a frame of any level
-abbrev pub scalar_loaded : Y.LeafType → Environment → (place : ℕ) → Code
-scalar_loaded type e place =
-    base_found e ++ displaced (λ r z. I.Load (load_kind type) a0 r z) (base_register e) (pos place)
+abbrev pub scalar_loaded : Y.LeafType → Environment → (level place : ℕ) → Code
+scalar_loaded type e level place =
+    base_found e level ++ displaced (λ r z. I.Load (load_kind type) a0 r z) (base_register e level) (pos place)
 
-abbrev pub scalar_stored : Y.LeafType → Environment → (place : ℕ) → Code
-scalar_stored type e place = displaced (λ r z. I.Store (store_kind type) r a0 z) (base_register e) (pos place)
+abbrev pub scalar_stored : Y.LeafType → Environment → (level place : ℕ) → Code
+scalar_stored type e level place = displaced (λ r z. I.Store (store_kind type) r a0 z) (base_register e level) (pos place)
 
-abbrev pub IsDeclared : Environment → (block index : ℕ) → Y.LeafType → Type 0
+abbrev pub IsDeclared : Environment → (block : Names) (index : ℕ) → Y.LeafType → Type 0
 IsDeclared e block index type =
-    (initial : List T.InitialItem) × (slice_get (variables_of_block e.program block) index ≡ Some (plain_variable type initial))
+    (initial : List T.InitialItem) × (slice_get (variables_of_block e.program (block.at index).number) (block.at index).index ≡ Some (plain_variable type initial))
 
 -- a variable of a kind
-abbrev pub IsDeclaredAs : Environment → (block index : ℕ) → Kind → Type 0
+abbrev pub IsDeclaredAs : Environment → (block : Names) (index : ℕ) → Kind → Type 0
 IsDeclaredAs e block index k =
-    (initial : List T.InitialItem) × (slice_get (variables_of_block e.program block) index ≡ Some (array_variable k.type k.bounds initial))
+    (initial : List T.InitialItem) × (slice_get (variables_of_block e.program (block.at index).number) (block.at index).index ≡ Some (array_variable k.type k.bounds initial))
 
 -- all variables of a block
-abbrev pub HasTypes : Environment → (block : ℕ) → Types → Type 0
+abbrev pub HasTypes : Environment → (block : Names) → Types → Type 0
 HasTypes e block types = (j : ℕ) (kind : Kind) → slice_get types j ≡ Some kind → IsDeclaredAs e block j kind
 
-pub number_loaded : (e : Environment) (t : Taken) (block index p : ℕ) → IsDeclared e block index (Y.FixedLeaf p) → number_code e t (Y.NumberIn (whole (own block index))) ≡ scalar_loaded (Y.FixedLeaf p) e (data_place e block index)
+pub number_loaded : (e : Environment) (t : Taken) (block : Names) (index p : ℕ) → IsDeclared e block index (Y.FixedLeaf p) → number_code e t (Y.NumberIn (whole (own block index))) ≡ scalar_loaded (Y.FixedLeaf p) e (level_of block index) (data_place e block index)
 number_loaded e t block index p declared =
     ap (λ o. reached_from e t block index o ++ loaded (type_by o) a0 (address_from e block index o)) declared.1
 
-pub bit_loaded : (e : Environment) (t : Taken) (block index : ℕ) → IsDeclared e block index Y.BitLeaf → bit_code e t (Y.BitIn (whole (own block index))) ≡ scalar_loaded Y.BitLeaf e (data_place e block index)
+pub bit_loaded : (e : Environment) (t : Taken) (block : Names) (index : ℕ) → IsDeclared e block index Y.BitLeaf → bit_code e t (Y.BitIn (whole (own block index))) ≡ scalar_loaded Y.BitLeaf e (level_of block index) (data_place e block index)
 bit_loaded e t block index declared =
     ap (λ o. reached_from e t block index o ++ loaded (type_by o) a0 (address_from e block index o)) declared.1
 
 -- what is left to do before the store
-pub scalar_found : (e : Environment) (t : Taken) (block index : ℕ) (type : Y.LeafType) → IsNumeric type → IsDeclared e block index type → reference_code e t (whole (own block index)) ≡ base_found e
+pub scalar_found : (e : Environment) (t : Taken) (block : Names) (index : ℕ) (type : Y.LeafType) → IsNumeric type → IsDeclared e block index type → reference_code e t (whole (own block index)) ≡ base_found e (level_of block index)
 scalar_found e t block index type =
-    by_type (λ u. IsDeclared e block index u → reference_code e t (whole (own block index)) ≡ base_found e)
+    by_type (λ u. IsDeclared e block index u → reference_code e t (whole (own block index)) ≡ base_found e (level_of block index))
     (λ p declared. ap (reached_from e t block index) declared.1)
     (λ declared. ap (reached_from e t block index) declared.1)
     type
 
-pub scalar_kept : (e : Environment) (block index : ℕ) (type : Y.LeafType) → IsNumeric type → IsDeclared e block index type → stored (type_in e (whole (own block index))) a0 (address_in e (whole (own block index))) ≡ scalar_stored type e (data_place e block index)
+pub scalar_kept : (e : Environment) (block : Names) (index : ℕ) (type : Y.LeafType) → IsNumeric type → IsDeclared e block index type → stored (type_in e (whole (own block index))) a0 (address_in e (whole (own block index))) ≡ scalar_stored type e (level_of block index) (data_place e block index)
 scalar_kept e block index type =
-    by_type (λ u. IsDeclared e block index u → stored (type_in e (whole (own block index))) a0 (address_in e (whole (own block index))) ≡ scalar_stored u e (data_place e block index))
+    by_type (λ u. IsDeclared e block index u → stored (type_in e (whole (own block index))) a0 (address_in e (whole (own block index))) ≡ scalar_stored u e (level_of block index) (data_place e block index))
     (λ p declared. ap (λ o. stored (type_by o) a0 (address_from e block index o)) declared.1)
     (λ declared. ap (λ o. stored (type_by o) a0 (address_from e block index o)) declared.1)
     type
+
+-- variables of the main procedure alone
+abbrev pub AllOutermost : (block : Names) → Types → Type 0
+AllOutermost block types = (j : ℕ) (kind : Kind) → slice_get types j ≡ Some kind → level_of block j ≡ 0

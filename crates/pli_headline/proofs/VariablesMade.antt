@@ -19,7 +19,7 @@ use Rattle.pli_meaning.specs.Raising.{Around}
 use Rattle.pli_meaning.specs.Making as K
 use Rattle.pli_serving.specs.ServiceState.{Services}
 use Rattle.pli_serving.specs.Answers.{Done, Ends}
-use Rattle.pli_serving.specs.Making as G
+use Rattle.pli_headline.proofs.Unlimited as U
 use Rattle.pli_coding.specs.Registers.{stack_register, frame_register}
 use Rattle.pli_coding.specs.Assembly.{Plain, size_of}
 use Rattle.pli_coding.specs.Instructions.{plus, is_immediate}
@@ -122,7 +122,7 @@ stack_piece {v = v} {h = h} {t = t} c f first numbers free z g e l at =
 
 -- ---- one variable
 
-asking : {links : Links} {code : List Instr} {i : ℕ} (kind : ℕ → Declared) (words j : ℕ) (small' : words ≤ most_code) (few : room_of (sizes_of kind) j ≤ 2 ^ 20) (first input : List ℕ) (table : List TableSignature) (line : ℕ) (h t : ℕ → ℕ) (g : Family) → Linked links code i (Plain I.Ecall ∷ []) → ((b : Base) → At b i (Known (ground_of (main_frame words (sizes_of kind) j small' few) first (begin_contents kind)) (main_services table kind input (main_frame words (sizes_of kind) j small' few).at line j) h t (asked_regs ((main_frame words (sizes_of kind) j small' few).at + (144 + room_of (sizes_of kind) j)) (number_for table (kind j).kind) (start_at links (kind j)) ((main_frame words (sizes_of kind) j small' few).at + (144 + room_of (sizes_of kind) j + 16))) b) (g b)) → Calling links code i g (λ b. G.make_served (call_at code (main_services table kind input (main_frame words (sizes_of kind) j small' few).at line j) (g b).machine.memory) ((main_frame words (sizes_of kind) j small' few).at + (144 + room_of (sizes_of kind) j)) (number_for table (kind j).kind) (start_at links (kind j)) ((main_frame words (sizes_of kind) j small' few).at + (144 + room_of (sizes_of kind) j + 16)) 0)
+asking : {links : Links} {code : List Instr} {i : ℕ} (kind : ℕ → Declared) (words j : ℕ) (small' : words ≤ most_code) (few : room_of (sizes_of kind) j ≤ 2 ^ 20) (first input : List ℕ) (table : List TableSignature) (line : ℕ) (h t : ℕ → ℕ) (g : Family) → Linked links code i (Plain I.Ecall ∷ []) → ((b : Base) → At b i (Known (ground_of (main_frame words (sizes_of kind) j small' few) first (begin_contents kind)) (main_services table kind input (main_frame words (sizes_of kind) j small' few).at line j) h t (asked_regs ((main_frame words (sizes_of kind) j small' few).at + (144 + room_of (sizes_of kind) j)) (number_for table (kind j).kind) (start_at links (kind j)) ((main_frame words (sizes_of kind) j small' few).at + (144 + room_of (sizes_of kind) j + 16))) b) (g b)) → Calling links code i g (λ b. U.make_served (call_at code (main_services table kind input (main_frame words (sizes_of kind) j small' few).at line j) (g b).machine.memory) ((main_frame words (sizes_of kind) j small' few).at + (144 + room_of (sizes_of kind) j)) (number_for table (kind j).kind) (start_at links (kind j)) ((main_frame words (sizes_of kind) j small' few).at + (144 + room_of (sizes_of kind) j + 16)) 0)
 asking {links = links} {code = code} kind words j small' few first input table line h t g l at =
     let f = main_frame words (sizes_of kind) j small' few in
     let v = main_services table kind input f.at line j in
@@ -131,7 +131,7 @@ asking {links = links} {code = code} kind words j small' few first input table l
       pc = λ b. (at b).pc;
       answers = λ b.
           let o = (at b).holds in
-          called code (g b) v 7 (f.at + (144 + room_of (sizes_of kind) j)) (number_for table (kind j).kind) (start_at links (kind j)) (f.at + (144 + room_of (sizes_of kind) j + 16)) 0 (λ call x0 x1 x2 x3 x4. G.make_served call x0 x1 x2 x3 x4) o.body.services o.regs.0 o.regs.1.1.1.1.1.0 o.regs.1.1.1.1.0 o.regs.1.1.1.0 o.regs.1.1.0 o.regs.1.0 (λ call x. refl);
+          called code (g b) v 7 (f.at + (144 + room_of (sizes_of kind) j)) (number_for table (kind j).kind) (start_at links (kind j)) (f.at + (144 + room_of (sizes_of kind) j + 16)) 0 (λ call x0 x1 x2 x3 x4. U.make_served call x0 x1 x2 x3 x4) o.body.services o.regs.0 o.regs.1.1.1.1.1.0 o.regs.1.1.1.1.0 o.regs.1.1.1.0 o.regs.1.1.0 o.regs.1.0 (λ call x. refl);
     }
 
 -- a variable within the limit is made

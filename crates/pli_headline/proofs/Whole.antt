@@ -15,7 +15,7 @@ use Rattle.pli_coding.specs.Assembly.{size_of}
 use Rattle.pli_coding.specs.Procedures.{procedure_in}
 use Rattle.pli_coding.specs.Linking.{links_of}
 use Rattle.pli_coding.specs.Images.{code_of, linked_code, picture_of}
-use Rattle.pli_headline.specs.ProvedSoFar.{all_labels, procedure_labels, IsProvedSoFar}
+use Rattle.pli_headline.specs.ProvedSoFar.{all_labels, procedure_labels, IsProvedSoFar, main_names}
 use Rattle.pli_headline.specs.Headline.{parts, FitsMemory, HeadlineSoFar}
 use Rattle.pli_headline.proofs.Engine.{most_code}
 use Rattle.pli_headline.proofs.Items.{Linked}
@@ -61,7 +61,7 @@ few_words program is fits =
     let p = (placed_for program is fits).procedure in
     let inside = p.inside in
     let small' = p.small' in
-    let n = procedure_size (main_environment program (block_in is)) (main_head (block_in is) (line_in is)) (main_types program (block_in is)) is.body (λ j kind at. declared_at (variables_of_block program (block_in is)) j (main_plain program (block_in is) is.plain) at) (main_plain program (block_in is) is.plain) is.block.statements in
+    let n = procedure_size (main_environment program (block_in is)) (main_head (block_in is) (line_in is)) (main_names program (block_in is)) (main_types program (block_in is)) is.body (λ j kind at. declared_at (variables_of_block program (block_in is)) j (main_plain program (block_in is) is.plain) at) (main_plain program (block_in is) is.plain) is.block.statements in
     omega (arith, inside, small', n)
 
 -- there is some code
@@ -81,7 +81,7 @@ labels_of program is =
 -- the units of the main procedure
 abbrev units_of : (program : Y.Program) (is : IsProvedSoFar program) → ℕ → Y.Block → ℕ → Type 0
 units_of program is frame u at =
-    (frame ≡ frame_place (main_words program (block_in is) is.body)) × UnitStands (program_around (main_environment program (block_in is))) (block_in is) (main_types program (block_in is)) (all_labels (block_in is) is.body ++ procedure_labels is.others) (block_in is) is.called (links_of (code_of parts program)) (code_for program) u at
+    (frame ≡ frame_place (main_words program (block_in is) is.body)) × UnitStands (program_around (main_environment program (block_in is))) (main_names program (block_in is)) (main_types program (block_in is)) (all_labels (block_in is) is.body ++ procedure_labels is.others) (block_in is) is.called (links_of (code_of parts program)) (code_for program) u at
 
 -- where the other procedures stand
 abbrev others_at : (program : Y.Program) (is : IsProvedSoFar program) → FitsMemory (picture_of parts program) → ℕ
@@ -93,7 +93,7 @@ others_stand program is fits =
     subst (λ ps. Linked (links_of (code_of parts program)) (code_for program) (others_at program is fits) (others_code program (others_of ps))) (alone_of program is).are (placed_for program is fits).others
 
 -- calls in the main procedure
-calls_done : (program : Y.Program) (is : IsProvedSoFar program) (fits : FitsMemory (picture_of parts program)) (k : ℕ) → Done (main_environment program (block_in is)) (block_in is) (main_types program (block_in is)) (all_labels (block_in is) is.body ++ procedure_labels is.others) (block_in is) k (links_of (code_of parts program)) (code_for program) is.called
+calls_done : (program : Y.Program) (is : IsProvedSoFar program) (fits : FitsMemory (picture_of parts program)) (k : ℕ) → Done (main_environment program (block_in is)) (main_names program (block_in is)) (main_types program (block_in is)) (all_labels (block_in is) is.body ++ procedure_labels is.others) (block_in is) k (links_of (code_of parts program)) (code_for program) is.called
 calls_done program is fits k =
     let block = block_in is in
     let line = line_in is in
@@ -101,7 +101,7 @@ calls_done program is fits k =
     let behind = (placed_for program is fits).behind in
     inner_calls program block line is.body is.called alone is.inner is.once (others_at program is fits) (others_stand program is fits) (omega (arith, behind))
     (λ number apart once. entry_stands program block line is.body is.called is.plain alone is.block.statements is.block.inside is.inner number apart once)
-    (λ number among apart once. end_stands program block line is.body is.called is.plain alone is.block.statements is.block.inside is.inner number apart once among is.block.calls)
+    (λ number among apart once. end_stands program block line is.body is.called is.plain alone is.block.statements is.block.jumps is.block.inside is.inner number apart once among is.block.calls)
     (labels_of program is)
     (λ b h. others_known program block line is.body alone b h) k
 
@@ -110,7 +110,7 @@ room_for program is fits few =
     let p = (placed_for program is fits).procedure in
     let inside = p.inside in
     let small' = p.small' in
-    let n = procedure_inner (main_environment program (block_in is)) (main_head (block_in is) (line_in is)) (block_in is) (main_types program (block_in is)) is.body (λ j kind at. declared_at (variables_of_block program (block_in is)) j (main_plain program (block_in is) is.plain) at) (main_plain program (block_in is) is.plain) is.block.statements in
+    let n = procedure_inner (main_environment program (block_in is)) (main_head (block_in is) (line_in is)) (main_names program (block_in is)) (main_types program (block_in is)) is.body refl (λ j kind at. declared_at (variables_of_block program (block_in is)) j (main_plain program (block_in is) is.plain) at) (main_plain program (block_in is) is.plain) is.block.statements is.block.inside in
     omega (arith, inside, small', n, few)
 
 body_done : (program : Y.Program) (is : IsProvedSoFar program) (fits : FitsMemory (picture_of parts program)) (k : ℕ) → BodyDoes (units_of program is) program (block_in is) (line_in is) is.body (memory_for program) is.plain (alone_of program is) (few_words program is fits) (links_of (code_of parts program)) (code_for program) k

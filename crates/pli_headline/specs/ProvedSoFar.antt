@@ -6,7 +6,7 @@
 -- around it up to the procedure's own, or of the main procedure's own list, RETURN, STOP, SIGNAL, ON with SYSTEM, ON for AREA with a
 -- single statement or a BEGIN block in the main procedure's own block, REVERT, PUT EDIT of numbers, bits and texts, and GET EDIT of such
 -- scalars and elements, by lists of F, A, X, SKIP and COLUMN items. Each form that is proved takes a line off.
-use Rattle.std.specs.Prelude.{◌≡◌, ℕ, suc, int_le, ◌<◌, ◌≤◌, ◌^◌, List, [], ◌∷◌, ◌++◌, length, map, slice_get, Bool, Option, None, Some, true, false, if◌then◌else◌, ⊤, ◌==◌, ◌&&◌, ◌⊎◌, pos, ◌+◌}
+use Rattle.std.specs.Prelude.{◌≡◌, ℕ, suc, int_le, ◌<◌, ◌≤◌, ◌^◌, List, [], ◌∷◌, ◌++◌, length, map, max, nat_lt, ◌*◌, slice_get, Bool, Option, None, Some, true, false, if◌then◌else◌, ⊤, ◌==◌, ◌&&◌, ◌⊎◌, pos, ◌+◌}
 use Rattle.pli_language.specs.Keywords.{same_bytes}
 use Rattle.pli_language.specs.declared.condition.Condition.TheVariants as C
 use Rattle.pli_language.specs.Tree as T
@@ -137,16 +137,54 @@ declared_kind d = kind_in d.leaves
 abbrev pub types_of : List Y.DeclaredVariable → Types
 types_of ds = map declared_kind ds
 
--- ---- expressions, in a block whose variables have these types
+-- ---- names
+
+-- where a variable is declared: the number and the level of its block, and its place among that block's variables
+pub record Spot : Type 0 where
+  pub number : ℕ
+  pub level : ℕ
+  pub index : ℕ
+
+-- the variables that statements of a program name
+pub record Names : Type 0 where
+  pub program : Y.Program
+  pub at : ℕ → Spot
+
+-- those of the main procedure
+abbrev pub main_names : Y.Program → (block : ℕ) → Names
+main_names program block = record { program = program; at = λ j. record { number = block; level = 0; index = j } }
+
+abbrev pub variable_at : Names → ℕ → Y.Variable
+variable_at names j =
+    record { class = Y.AutomaticClass; block = (names.at j).number; level = (names.at j).level; index = (names.at j).index }
+
+-- with one more, behind so many
+abbrev pub names_with : Names → (count : ℕ) → Spot → Names
+names_with names count spot = record { program = names.program; at = λ j. if nat_lt j count then names.at j else spot }
+
+-- with those of a block inside, from one of its variables on
+abbrev pub names_from : Names → Types → (number level index : ℕ) → List Y.DeclaredVariable → Names
+names_from names types number level index [] = names
+names_from names types number level index (d ∷ ds) =
+    names_from (names_with names (length types) (record { number = number; level = level; index = index })) (types ++ (declared_kind d ∷ [])) number level (suc index) ds
+
+abbrev pub names_in : Names → Types → Y.BlockHead → List Y.DeclaredVariable → Names
+names_in names types head ds = names_from names types head.number head.level 0 ds
+
+abbrev pub types_in : Types → List Y.DeclaredVariable → Types
+types_in types [] = types
+types_in types (d ∷ ds) = types_in (types ++ (declared_kind d ∷ [])) ds
+
+-- ---- expressions, of variables with these names and types
 
 -- a variable of the block itself of a type, all of it
-pub record IsOwn (block : ℕ) (types : Types) (type : Y.LeafType) (r : Y.Reference) : Type 0 where
+pub record IsOwn (names : Names) (types : Types) (type : Y.LeafType) (r : Y.Reference) : Type 0 where
   pub index : ℕ
   pub declared : slice_get types index ≡ Some (alone type)
-  pub is : r ≡ Y.Referring (record { class = Y.AutomaticClass; block = block; level = 0; index = index }) Y.NotLocated (record { first = 0; count = 1 }) Y.NoNumber
+  pub is : r ≡ Y.Referring (variable_at names index) Y.NotLocated (record { first = 0; count = 1 }) Y.NoNumber
 
 -- an element of an array of the block, with as many subscripts as it has bounds
-pub record IsElement (block : ℕ) (types : Types) (type : Y.LeafType) (r : Y.Reference) : Type 0 where
+pub record IsElement (names : Names) (types : Types) (type : Y.LeafType) (r : Y.Reference) : Type 0 where
   pub index : ℕ
   pub bound : Bounds
   pub bounds : List Bounds
@@ -154,19 +192,19 @@ pub record IsElement (block : ℕ) (types : Types) (type : Y.LeafType) (r : Y.Re
   pub rest : Y.Numbers
   pub declared : slice_get types index ≡ Some (record { type = type; bounds = bound ∷ bounds })
   pub many : given_in rest ≡ length bounds
-  pub is : r ≡ Y.Referring (record { class = Y.AutomaticClass; block = block; level = 0; index = index }) Y.NotLocated (record { first = 0; count = 1 }) (Y.NumberThen first rest)
+  pub is : r ≡ Y.Referring (variable_at names index) Y.NotLocated (record { first = 0; count = 1 }) (Y.NumberThen first rest)
 
 -- a scalar, or an element
-abbrev pub IsPart : (block : ℕ) (types : Types) (type : Y.LeafType) (r : Y.Reference) → Type 0
-IsPart block types type r = IsOwn block types type r ⊎ IsElement block types type r
+abbrev pub IsPart : (names : Names) (types : Types) (type : Y.LeafType) (r : Y.Reference) → Type 0
+IsPart names types type r = IsOwn names types type r ⊎ IsElement names types type r
 
 -- one that holds a number
-pub record IsPartNumber (block : ℕ) (types : Types) (r : Y.Reference) : Type 0 where
+pub record IsPartNumber (names : Names) (types : Types) (r : Y.Reference) : Type 0 where
   pub precision : ℕ
-  pub part : IsPart block types (Y.FixedLeaf precision) r
+  pub part : IsPart names types (Y.FixedLeaf precision) r
 
 -- a dimension of an array of the block, of which a bound or the number of its subscripts is asked
-pub record IsDimension (block : ℕ) (types : Types) (r : Y.Reference) (dimension : ℕ) : Type 0 where
+pub record IsDimension (names : Names) (types : Types) (r : Y.Reference) (dimension : ℕ) : Type 0 where
   pub index : ℕ
   pub type : Y.LeafType
   pub element : IsElementType type
@@ -177,91 +215,91 @@ pub record IsDimension (block : ℕ) (types : Types) (r : Y.Reference) (dimensio
   pub asked : Bounds
   pub dimension_is : dimension ≡ suc place
   pub among : slice_get (bound ∷ bounds) place ≡ Some asked
-  pub is : r ≡ Y.Referring (record { class = Y.AutomaticClass; block = block; level = 0; index = index }) Y.NotLocated (record { first = 0; count = 1 }) Y.NoNumber
+  pub is : r ≡ Y.Referring (variable_at names index) Y.NotLocated (record { first = 0; count = 1 }) Y.NoNumber
 
 -- a variable that holds a text
-pub record IsOwnText (block : ℕ) (types : Types) (r : Y.Reference) : Type 0 where
+pub record IsOwnText (names : Names) (types : Types) (r : Y.Reference) : Type 0 where
   pub varying : Bool
   pub most : ℕ
-  pub own : IsOwn block types (text_leaf varying most) r
+  pub own : IsOwn names types (text_leaf varying most) r
 
 -- the places of a number as a text go by its precision
 abbrev pub IsPrecision : ℕ → Type 0
 IsPrecision precision = (1 ≤ precision) × (precision ≤ 31)
 
 abbrev mutual
-  pub IsProvedNumber : (block : ℕ) (types : Types) → Y.Number → Type 0
-  IsProvedNumber block types (Y.NumberConstant n) = n < 2 ^ 31
-  IsProvedNumber block types (Y.NumberIn (Y.Referring v locator part subscripts)) =
-      IsPartNumber block types (Y.Referring v locator part subscripts) × AreProvedNumbers block types subscripts
-  IsProvedNumber block types (Y.NumberOfBit x) = IsProvedBit block types x
-  IsProvedNumber block types (Y.NumberOfText x) = IsProvedText block types x
-  IsProvedNumber block types (Y.Signed sign x) = IsProvedNumber block types x
-  IsProvedNumber block types (Y.Calculated operator left right) = IsProvedNumber block types left × IsProvedNumber block types right
-  IsProvedNumber block types (Y.Absolute x) = IsProvedNumber block types x
-  IsProvedNumber block types (Y.SignOf x) = IsProvedNumber block types x
-  IsProvedNumber block types (Y.Extreme extremum first more) = IsProvedNumber block types first × AreProvedNumbers block types more
-  IsProvedNumber block types (Y.Modulo dividend divisor) = IsProvedNumber block types dividend × IsProvedNumber block types divisor
-  IsProvedNumber block types (Y.Divided precision dividend divisor) =
-      (precision ≤ 31) × (IsProvedNumber block types dividend × IsProvedNumber block types divisor)
-  IsProvedNumber block types (Y.LengthOf x) = IsProvedText block types x
-  IsProvedNumber block types (Y.IndexOf searched sought) = IsProvedText block types searched × IsProvedText block types sought
-  IsProvedNumber block types (Y.VerifyOf searched allowed) = IsProvedText block types searched × IsProvedText block types allowed
-  IsProvedNumber block types (Y.LowerBound r dimension) = IsDimension block types r dimension
-  IsProvedNumber block types (Y.UpperBound r dimension) = IsDimension block types r dimension
-  IsProvedNumber block types (Y.ElementsOf r dimension) = IsDimension block types r dimension
-  IsProvedNumber block types Y.OnCode = ⊤
-  IsProvedNumber block types _ = ⊥
+  pub IsProvedNumber : (names : Names) (types : Types) → Y.Number → Type 0
+  IsProvedNumber names types (Y.NumberConstant n) = n < 2 ^ 31
+  IsProvedNumber names types (Y.NumberIn (Y.Referring v locator part subscripts)) =
+      IsPartNumber names types (Y.Referring v locator part subscripts) × AreProvedNumbers names types subscripts
+  IsProvedNumber names types (Y.NumberOfBit x) = IsProvedBit names types x
+  IsProvedNumber names types (Y.NumberOfText x) = IsProvedText names types x
+  IsProvedNumber names types (Y.Signed sign x) = IsProvedNumber names types x
+  IsProvedNumber names types (Y.Calculated operator left right) = IsProvedNumber names types left × IsProvedNumber names types right
+  IsProvedNumber names types (Y.Absolute x) = IsProvedNumber names types x
+  IsProvedNumber names types (Y.SignOf x) = IsProvedNumber names types x
+  IsProvedNumber names types (Y.Extreme extremum first more) = IsProvedNumber names types first × AreProvedNumbers names types more
+  IsProvedNumber names types (Y.Modulo dividend divisor) = IsProvedNumber names types dividend × IsProvedNumber names types divisor
+  IsProvedNumber names types (Y.Divided precision dividend divisor) =
+      (precision ≤ 31) × (IsProvedNumber names types dividend × IsProvedNumber names types divisor)
+  IsProvedNumber names types (Y.LengthOf x) = IsProvedText names types x
+  IsProvedNumber names types (Y.IndexOf searched sought) = IsProvedText names types searched × IsProvedText names types sought
+  IsProvedNumber names types (Y.VerifyOf searched allowed) = IsProvedText names types searched × IsProvedText names types allowed
+  IsProvedNumber names types (Y.LowerBound r dimension) = IsDimension names types r dimension
+  IsProvedNumber names types (Y.UpperBound r dimension) = IsDimension names types r dimension
+  IsProvedNumber names types (Y.ElementsOf r dimension) = IsDimension names types r dimension
+  IsProvedNumber names types Y.OnCode = ⊤
+  IsProvedNumber names types _ = ⊥
 
-  pub AreProvedNumbers : (block : ℕ) (types : Types) → Y.Numbers → Type 0
-  AreProvedNumbers block types Y.NoNumber = ⊤
-  AreProvedNumbers block types (Y.NumberThen first rest) = IsProvedNumber block types first × AreProvedNumbers block types rest
+  pub AreProvedNumbers : (names : Names) (types : Types) → Y.Numbers → Type 0
+  AreProvedNumbers names types Y.NoNumber = ⊤
+  AreProvedNumbers names types (Y.NumberThen first rest) = IsProvedNumber names types first × AreProvedNumbers names types rest
 
-  pub IsProvedBit : (block : ℕ) (types : Types) → Y.Bit → Type 0
-  IsProvedBit block types (Y.BitConstant b) = ⊤
-  IsProvedBit block types (Y.BitIn (Y.Referring v locator part subscripts)) =
-      IsPart block types Y.BitLeaf (Y.Referring v locator part subscripts) × AreProvedNumbers block types subscripts
-  IsProvedBit block types (Y.Negated x) = IsProvedBit block types x
-  IsProvedBit block types (Y.Combined operator left right) = IsProvedBit block types left × IsProvedBit block types right
-  IsProvedBit block types (Y.NumbersCompared comparison left right) = IsProvedNumber block types left × IsProvedNumber block types right
-  IsProvedBit block types (Y.BitOfText x) = IsProvedText block types x
-  IsProvedBit block types (Y.TextsCompared comparison left right) = IsProvedText block types left × IsProvedText block types right
-  IsProvedBit block types (Y.BitsCompared comparison left right) = IsProvedBit block types left × IsProvedBit block types right
-  IsProvedBit block types _ = ⊥
+  pub IsProvedBit : (names : Names) (types : Types) → Y.Bit → Type 0
+  IsProvedBit names types (Y.BitConstant b) = ⊤
+  IsProvedBit names types (Y.BitIn (Y.Referring v locator part subscripts)) =
+      IsPart names types Y.BitLeaf (Y.Referring v locator part subscripts) × AreProvedNumbers names types subscripts
+  IsProvedBit names types (Y.Negated x) = IsProvedBit names types x
+  IsProvedBit names types (Y.Combined operator left right) = IsProvedBit names types left × IsProvedBit names types right
+  IsProvedBit names types (Y.NumbersCompared comparison left right) = IsProvedNumber names types left × IsProvedNumber names types right
+  IsProvedBit names types (Y.BitOfText x) = IsProvedText names types x
+  IsProvedBit names types (Y.TextsCompared comparison left right) = IsProvedText names types left × IsProvedText names types right
+  IsProvedBit names types (Y.BitsCompared comparison left right) = IsProvedBit names types left × IsProvedBit names types right
+  IsProvedBit names types _ = ⊥
 
   -- constants of 1,024 bytes at most, variables, numbers and bits as texts, texts that are joined, and their parts
-  pub IsProvedText : (block : ℕ) (types : Types) → Y.Text → Type 0
-  IsProvedText block types (Y.TextConstant bytes) = length bytes ≤ 1024
-  IsProvedText block types (Y.TextIn r) = IsOwnText block types r
-  IsProvedText block types (Y.TextOfNumber precision x) = IsPrecision precision × IsProvedNumber block types x
-  IsProvedText block types (Y.TextOfBit x) = IsProvedBit block types x
-  IsProvedText block types (Y.Joined left right) = IsProvedText block types left × IsProvedText block types right
-  IsProvedText block types (Y.SubstringFrom x start) = IsProvedText block types x × IsProvedNumber block types start
-  IsProvedText block types (Y.Substring x start many) =
-      IsProvedText block types x × (IsProvedNumber block types start × IsProvedNumber block types many)
-  IsProvedText block types _ = ⊥
+  pub IsProvedText : (names : Names) (types : Types) → Y.Text → Type 0
+  IsProvedText names types (Y.TextConstant bytes) = length bytes ≤ 1024
+  IsProvedText names types (Y.TextIn r) = IsOwnText names types r
+  IsProvedText names types (Y.TextOfNumber precision x) = IsPrecision precision × IsProvedNumber names types x
+  IsProvedText names types (Y.TextOfBit x) = IsProvedBit names types x
+  IsProvedText names types (Y.Joined left right) = IsProvedText names types left × IsProvedText names types right
+  IsProvedText names types (Y.SubstringFrom x start) = IsProvedText names types x × IsProvedNumber names types start
+  IsProvedText names types (Y.Substring x start many) =
+      IsProvedText names types x × (IsProvedNumber names types start × IsProvedNumber names types many)
+  IsProvedText names types _ = ⊥
 
 -- what is assigned to: a scalar, or an element with proved subscripts
-abbrev pub AreSubscripts : (block : ℕ) (types : Types) → Y.Reference → Type 0
-AreSubscripts block types (Y.Referring v locator part subscripts) = AreProvedNumbers block types subscripts
+abbrev pub AreSubscripts : (names : Names) (types : Types) → Y.Reference → Type 0
+AreSubscripts names types (Y.Referring v locator part subscripts) = AreProvedNumbers names types subscripts
 
-abbrev pub IsAssigned : (block : ℕ) (types : Types) → Y.LeafType → Y.Reference → Type 0
-IsAssigned block types type r = IsPart block types type r × AreSubscripts block types r
+abbrev pub IsAssigned : (names : Names) (types : Types) → Y.LeafType → Y.Reference → Type 0
+IsAssigned names types type r = IsPart names types type r × AreSubscripts names types r
 
-abbrev pub IsProvedNumberIf : (block : ℕ) (types : Types) → Option Y.Number → Type 0
-IsProvedNumberIf block types None = ⊤
-IsProvedNumberIf block types (Some x) = IsProvedNumber block types x
+abbrev pub IsProvedNumberIf : (names : Names) (types : Types) → Option Y.Number → Type 0
+IsProvedNumberIf names types None = ⊤
+IsProvedNumberIf names types (Some x) = IsProvedNumber names types x
 
-abbrev pub IsProvedBitIf : (block : ℕ) (types : Types) → Option Y.Bit → Type 0
-IsProvedBitIf block types None = ⊤
-IsProvedBitIf block types (Some x) = IsProvedBit block types x
+abbrev pub IsProvedBitIf : (names : Names) (types : Types) → Option Y.Bit → Type 0
+IsProvedBitIf names types None = ⊤
+IsProvedBitIf names types (Some x) = IsProvedBit names types x
 
 -- with what a variable that counts begins
-abbrev pub IsProvedStart : (block : ℕ) (types : Types) → Y.Value → Type 0
-IsProvedStart block types (Y.NumberValue precision x) = IsProvedNumber block types x
-IsProvedStart block types (Y.TextValue x) = IsProvedText block types x
-IsProvedStart block types (Y.BitValue x) = IsProvedBit block types x
-IsProvedStart block types _ = ⊥
+abbrev pub IsProvedStart : (names : Names) (types : Types) → Y.Value → Type 0
+IsProvedStart names types (Y.NumberValue precision x) = IsProvedNumber names types x
+IsProvedStart names types (Y.TextValue x) = IsProvedText names types x
+IsProvedStart names types (Y.BitValue x) = IsProvedBit names types x
+IsProvedStart names types _ = ⊥
 
 -- ---- PUT
 
@@ -299,15 +337,15 @@ abbrev mutual
 abbrev pub HasData : T.Formats → Type 0
 HasData formats = formats_move_data formats ≡ true
 
-abbrev pub IsProvedItem : (block : ℕ) (types : Types) → Y.PutItem → Type 0
-IsProvedItem block types (Y.PutValue (Y.NumberValue precision x)) = IsProvedNumber block types x
-IsProvedItem block types (Y.PutValue (Y.TextValue x)) = IsProvedText block types x
-IsProvedItem block types (Y.PutValue (Y.BitValue x)) = IsProvedBit block types x
-IsProvedItem block types _ = ⊥
+abbrev pub IsProvedItem : (names : Names) (types : Types) → Y.PutItem → Type 0
+IsProvedItem names types (Y.PutValue (Y.NumberValue precision x)) = IsProvedNumber names types x
+IsProvedItem names types (Y.PutValue (Y.TextValue x)) = IsProvedText names types x
+IsProvedItem names types (Y.PutValue (Y.BitValue x)) = IsProvedBit names types x
+IsProvedItem names types _ = ⊥
 
-abbrev pub AreProvedItems : (block : ℕ) (types : Types) → List Y.PutItem → Type 0
-AreProvedItems block types [] = ⊤
-AreProvedItems block types (i ∷ is) = IsProvedItem block types i × AreProvedItems block types is
+abbrev pub AreProvedItems : (names : Names) (types : Types) → List Y.PutItem → Type 0
+AreProvedItems names types [] = ⊤
+AreProvedItems names types (i ∷ is) = IsProvedItem names types i × AreProvedItems names types is
 
 -- a number that an A item may show
 abbrev pub HasPrecision : Y.PutItem → Type 0
@@ -318,12 +356,12 @@ abbrev pub HavePrecisions : List Y.PutItem → Type 0
 HavePrecisions [] = ⊤
 HavePrecisions (i ∷ is) = HasPrecision i × HavePrecisions is
 
-abbrev pub AreProvedPairs : (block : ℕ) (types : Types) → List Y.PutPair → Type 0
-AreProvedPairs block types [] = ⊤
-AreProvedPairs block types (p ∷ ps) =
-    AreProvedItems block types p.items
+abbrev pub AreProvedPairs : (names : Names) (types : Types) → List Y.PutPair → Type 0
+AreProvedPairs names types [] = ⊤
+AreProvedPairs names types (p ∷ ps) =
+    AreProvedItems names types p.items
     × ((AreProvedFormats p.formats × (HasData p.formats × (has_text p.formats ≡ true → HavePrecisions p.items)))
-    × AreProvedPairs block types ps)
+    × AreProvedPairs names types ps)
 
 -- ---- GET
 
@@ -347,26 +385,26 @@ IsReadBy fixed (Y.VaryingLeaf (Y.ConstantExtent (pos n))) = ⊤
 IsReadBy fixed _ = ⊥
 
 -- a variable of the block that is read by items of a list, or an element
-pub record IsTarget (block : ℕ) (types : Types) (fixed : Bool) (r : Y.Reference) : Type 0 where
+pub record IsTarget (names : Names) (types : Types) (fixed : Bool) (r : Y.Reference) : Type 0 where
   pub type : Y.LeafType
-  pub part : IsOwn block types type r ⊎ (IsElement block types type r × IsElementType type)
+  pub part : IsOwn names types type r ⊎ (IsElement names types type r × IsElementType type)
   pub read : IsReadBy fixed type
-  pub subscripts : AreSubscripts block types r
+  pub subscripts : AreSubscripts names types r
 
-abbrev pub IsProvedGetItem : (block : ℕ) (types : Types) (fixed : Bool) → Y.GetItem → Type 0
-IsProvedGetItem block types fixed (Y.GetScalar r) = IsTarget block types fixed r
-IsProvedGetItem block types fixed _ = ⊥
+abbrev pub IsProvedGetItem : (names : Names) (types : Types) (fixed : Bool) → Y.GetItem → Type 0
+IsProvedGetItem names types fixed (Y.GetScalar r) = IsTarget names types fixed r
+IsProvedGetItem names types fixed _ = ⊥
 
-abbrev pub AreProvedGetItems : (block : ℕ) (types : Types) (fixed : Bool) → List Y.GetItem → Type 0
-AreProvedGetItems block types fixed [] = ⊤
-AreProvedGetItems block types fixed (i ∷ is) =
-    IsProvedGetItem block types fixed i × AreProvedGetItems block types fixed is
+abbrev pub AreProvedGetItems : (names : Names) (types : Types) (fixed : Bool) → List Y.GetItem → Type 0
+AreProvedGetItems names types fixed [] = ⊤
+AreProvedGetItems names types fixed (i ∷ is) =
+    IsProvedGetItem names types fixed i × AreProvedGetItems names types fixed is
 
-abbrev pub AreProvedGetPairs : (block : ℕ) (types : Types) → List Y.GetPair → Type 0
-AreProvedGetPairs block types [] = ⊤
-AreProvedGetPairs block types (p ∷ ps) =
-    AreProvedGetItems block types (has_fixed p.formats) p.items
-    × ((AreProvedFormats p.formats × (HasData p.formats × HaveWidths p.formats)) × AreProvedGetPairs block types ps)
+abbrev pub AreProvedGetPairs : (names : Names) (types : Types) → List Y.GetPair → Type 0
+AreProvedGetPairs names types [] = ⊤
+AreProvedGetPairs names types (p ∷ ps) =
+    AreProvedGetItems names types (has_fixed p.formats) p.items
+    × ((AreProvedFormats p.formats × (HasData p.formats × HaveWidths p.formats)) × AreProvedGetPairs names types ps)
 
 -- ---- statements
 
@@ -395,51 +433,53 @@ IsUnitBody Y.UnitBlock body = ⊤
 IsUnitBody _ _ = ⊥
 
 abbrev mutual
-  pub IsProvedStatement : (block : ℕ) (types : Types) → Y.Stmt → Type 0
-  IsProvedStatement block types (Y.Null line) = IsLine line
-  IsProvedStatement block types (Y.Assign target (Y.StoredNumber precision x) line) =
-      IsAssigned block types (Y.FixedLeaf precision) target × (IsProvedNumber block types x × IsLine line)
-  IsProvedStatement block types (Y.Assign target (Y.StoredBit x) line) =
-      IsAssigned block types Y.BitLeaf target × (IsProvedBit block types x × IsLine line)
-  IsProvedStatement block types (Y.Assign target (Y.StoredText x) line) =
-      IsOwnText block types target × (IsProvedText block types x × IsLine line)
-  IsProvedStatement block types (Y.If condition unit line) =
-      IsProvedBit block types condition × (IsProvedStatement block types unit × IsLine line)
-  IsProvedStatement block types (Y.IfElse condition unit otherwise line) =
-      IsProvedBit block types condition × (IsProvedStatement block types unit × (IsProvedStatement block types otherwise × IsLine line))
-  IsProvedStatement block types (Y.Do body line) = AreProvedStatements block types body × IsLine line
-  IsProvedStatement block types (Y.DoWhile condition body line) =
-      IsProvedBit block types condition × (AreProvedStatements block types body × IsLine line)
-  IsProvedStatement block types (Y.DoOnce target (Y.StoredNumber precision x) condition body line) =
-      (IsAssigned block types (Y.FixedLeaf precision) target × IsProvedNumber block types x) × (IsProvedBitIf block types condition × (AreProvedStatements block types body × IsLine line))
-  IsProvedStatement block types (Y.DoOnce target (Y.StoredBit x) condition body line) =
-      (IsAssigned block types Y.BitLeaf target × IsProvedBit block types x) × (IsProvedBitIf block types condition × (AreProvedStatements block types body × IsLine line))
-  IsProvedStatement block types (Y.DoOnce target (Y.StoredText x) condition body line) =
-      (IsOwnText block types target × IsProvedText block types x) × (IsProvedBitIf block types condition × (AreProvedStatements block types body × IsLine line))
-  IsProvedStatement block types (Y.DoCount (Y.NumberCounter precision target) start limit step condition body line) =
-      (IsAssigned block types (Y.FixedLeaf precision) target × IsProvedStart block types start)
-      × ((IsProvedNumberIf block types limit × IsProvedNumber block types step) × (IsProvedBitIf block types condition × (AreProvedStatements block types body × IsLine line)))
-  IsProvedStatement block types (Y.Begin (Y.BlockOf head body)) =
-      (head.kind ≡ Y.BeginBlock) × (IsLine head.line × AreProvedStatements block types body)
-  IsProvedStatement block types (Y.CallProcedure (Y.Calling procedure level Y.NoArgument) line) = (level ≡ 0) × IsLine line
-  IsProvedStatement block types (Y.Return line) = IsLine line
-  IsProvedStatement block types (Y.Goto level label line) = IsLine line
-  IsProvedStatement block types (Y.Stop line) = IsLine line
-  IsProvedStatement block types (Y.Signal condition line) = IsLine line
-  IsProvedStatement block types (Y.OnSystem condition line) = IsLine line
-  IsProvedStatement block types (Y.Revert condition line) = IsLine line
-  IsProvedStatement block types (Y.OnUnit condition (Y.BlockOf head body) line) =
-      (condition ≡ C.Area) × (IsUnitBody head.kind body × (IsLine line × (IsLine head.line × AreProvedStatements block types body)))
-  IsProvedStatement block types (Y.Put None pairs line) = AreProvedPairs block types pairs × IsLine line
-  IsProvedStatement block types (Y.Put (Some n) pairs line) = IsTimes n × (AreProvedPairs block types pairs × IsLine line)
-  IsProvedStatement block types (Y.Get None pairs line) = AreProvedGetPairs block types pairs × IsLine line
-  IsProvedStatement block types (Y.Get (Some n) pairs line) = IsTimes n × (AreProvedGetPairs block types pairs × IsLine line)
-  IsProvedStatement block types _ = ⊥
+  pub IsProvedStatement : (names : Names) (types : Types) → Y.Stmt → Type 0
+  IsProvedStatement names types (Y.Null line) = IsLine line
+  IsProvedStatement names types (Y.Assign target (Y.StoredNumber precision x) line) =
+      IsAssigned names types (Y.FixedLeaf precision) target × (IsProvedNumber names types x × IsLine line)
+  IsProvedStatement names types (Y.Assign target (Y.StoredBit x) line) =
+      IsAssigned names types Y.BitLeaf target × (IsProvedBit names types x × IsLine line)
+  IsProvedStatement names types (Y.Assign target (Y.StoredText x) line) =
+      IsOwnText names types target × (IsProvedText names types x × IsLine line)
+  IsProvedStatement names types (Y.If condition unit line) =
+      IsProvedBit names types condition × (IsProvedStatement names types unit × IsLine line)
+  IsProvedStatement names types (Y.IfElse condition unit otherwise line) =
+      IsProvedBit names types condition × (IsProvedStatement names types unit × (IsProvedStatement names types otherwise × IsLine line))
+  IsProvedStatement names types (Y.Do body line) = AreProvedStatements names types body × IsLine line
+  IsProvedStatement names types (Y.DoWhile condition body line) =
+      IsProvedBit names types condition × (AreProvedStatements names types body × IsLine line)
+  IsProvedStatement names types (Y.DoOnce target (Y.StoredNumber precision x) condition body line) =
+      (IsAssigned names types (Y.FixedLeaf precision) target × IsProvedNumber names types x) × (IsProvedBitIf names types condition × (AreProvedStatements names types body × IsLine line))
+  IsProvedStatement names types (Y.DoOnce target (Y.StoredBit x) condition body line) =
+      (IsAssigned names types Y.BitLeaf target × IsProvedBit names types x) × (IsProvedBitIf names types condition × (AreProvedStatements names types body × IsLine line))
+  IsProvedStatement names types (Y.DoOnce target (Y.StoredText x) condition body line) =
+      (IsOwnText names types target × IsProvedText names types x) × (IsProvedBitIf names types condition × (AreProvedStatements names types body × IsLine line))
+  IsProvedStatement names types (Y.DoCount (Y.NumberCounter precision target) start limit step condition body line) =
+      (IsAssigned names types (Y.FixedLeaf precision) target × IsProvedStart names types start)
+      × ((IsProvedNumberIf names types limit × IsProvedNumber names types step) × (IsProvedBitIf names types condition × (AreProvedStatements names types body × IsLine line)))
+  IsProvedStatement names types (Y.Begin (Y.BlockOf head body)) =
+      (head.kind ≡ Y.BeginBlock)
+      × (IsLine head.line
+      × AreProvedStatements (names_in names types head (variables_of_block names.program head.number)) (types_in types (variables_of_block names.program head.number)) body)
+  IsProvedStatement names types (Y.CallProcedure (Y.Calling procedure level Y.NoArgument) line) = (level ≡ 0) × IsLine line
+  IsProvedStatement names types (Y.Return line) = IsLine line
+  IsProvedStatement names types (Y.Goto level label line) = IsLine line
+  IsProvedStatement names types (Y.Stop line) = IsLine line
+  IsProvedStatement names types (Y.Signal condition line) = IsLine line
+  IsProvedStatement names types (Y.OnSystem condition line) = IsLine line
+  IsProvedStatement names types (Y.Revert condition line) = IsLine line
+  IsProvedStatement names types (Y.OnUnit condition (Y.BlockOf head body) line) =
+      (condition ≡ C.Area) × (IsUnitBody head.kind body × (IsLine line × (IsLine head.line × AreProvedStatements names types body)))
+  IsProvedStatement names types (Y.Put None pairs line) = AreProvedPairs names types pairs × IsLine line
+  IsProvedStatement names types (Y.Put (Some n) pairs line) = IsTimes n × (AreProvedPairs names types pairs × IsLine line)
+  IsProvedStatement names types (Y.Get None pairs line) = AreProvedGetPairs names types pairs × IsLine line
+  IsProvedStatement names types (Y.Get (Some n) pairs line) = IsTimes n × (AreProvedGetPairs names types pairs × IsLine line)
+  IsProvedStatement names types _ = ⊥
 
-  pub AreProvedStatements : (block : ℕ) (types : Types) → Y.Stmts → Type 0
-  AreProvedStatements block types (Y.EndOfList labels) = ⊤
-  AreProvedStatements block types (Y.StmtThen labels first rest) =
-      IsProvedStatement block types first × AreProvedStatements block types rest
+  pub AreProvedStatements : (names : Names) (types : Types) → Y.Stmts → Type 0
+  AreProvedStatements names types (Y.EndOfList labels) = ⊤
+  AreProvedStatements names types (Y.StmtThen labels first rest) =
+      IsProvedStatement names types first × AreProvedStatements names types rest
 
 -- ---- jumps
 
@@ -469,6 +509,11 @@ abbrev mutual
   all_labels block (Y.EndOfList labels) = of_block block labels
   all_labels block (Y.StmtThen labels first rest) = of_block block labels ++ (inner_labels block first ++ all_labels block rest)
 
+-- what may be used in a block that declares nothing
+abbrev pub if_bare : {A : Type 0} → List Y.DeclaredVariable → List A → List A
+if_bare [] xs = xs
+if_bare (d ∷ ds) xs = []
+
 -- an on-unit that is a block has another number than the procedure
 abbrev pub IsUnitApart : (number : ℕ) → Y.BlockHead → Y.BlockKind → Type 0
 IsUnitApart number head Y.SimpleUnit = ⊤
@@ -489,27 +534,28 @@ IsOutward block to label all blocks (o ∷ os) =
 
 -- a GOTO names a label of a list around it in its block, which has a level, or in a block around it up to the procedure's own, or, in a
 -- procedure inside the main one or in an on-unit, of the main one's own list, and the label stands once in the program's blocks of that
--- number; begin blocks stand up to a hundred deep; on-units are given in the main procedure's own block
+-- number; none goes out of a block that declares variables; begin blocks stand up to a hundred deep; on-units are given in the main
+-- procedure's own block
 abbrev mutual
-  pub JumpsAround : (block level : ℕ) → (all : List (ℕ × Label)) → (blocks : List BlockPlace) → (main : OuterBlock) → (outer : List OuterBlock) → (around : List Label) → Y.Stmt → Type 0
-  JumpsAround block level all blocks main outer around (Y.If condition unit line) = JumpsAround block level all blocks main outer around unit
-  JumpsAround block level all blocks main outer around (Y.IfElse condition unit otherwise line) = JumpsAround block level all blocks main outer around unit × JumpsAround block level all blocks main outer around otherwise
-  JumpsAround block level all blocks main outer around (Y.Do body line) = AllJumpAround block level all blocks main outer (labels_in body ++ around) body
-  JumpsAround block level all blocks main outer around (Y.DoWhile condition body line) = AllJumpAround block level all blocks main outer (labels_in body ++ around) body
-  JumpsAround block level all blocks main outer around (Y.DoOnce target start condition body line) = AllJumpAround block level all blocks main outer (labels_in body ++ around) body
-  JumpsAround block level all blocks main outer around (Y.DoCount counter start limit step condition body line) = AllJumpAround block level all blocks main outer (labels_in body ++ around) body
-  JumpsAround block level all blocks main outer around (Y.Begin (Y.BlockOf head body)) =
+  pub JumpsAround : Y.Program → (block level : ℕ) → (all : List (ℕ × Label)) → (blocks : List BlockPlace) → (main : OuterBlock) → (outer : List OuterBlock) → (around : List Label) → Y.Stmt → Type 0
+  JumpsAround program block level all blocks main outer around (Y.If condition unit line) = JumpsAround program block level all blocks main outer around unit
+  JumpsAround program block level all blocks main outer around (Y.IfElse condition unit otherwise line) = JumpsAround program block level all blocks main outer around unit × JumpsAround program block level all blocks main outer around otherwise
+  JumpsAround program block level all blocks main outer around (Y.Do body line) = AllJumpAround program block level all blocks main outer (labels_in body ++ around) body
+  JumpsAround program block level all blocks main outer around (Y.DoWhile condition body line) = AllJumpAround program block level all blocks main outer (labels_in body ++ around) body
+  JumpsAround program block level all blocks main outer around (Y.DoOnce target start condition body line) = AllJumpAround program block level all blocks main outer (labels_in body ++ around) body
+  JumpsAround program block level all blocks main outer around (Y.DoCount counter start limit step condition body line) = AllJumpAround program block level all blocks main outer (labels_in body ++ around) body
+  JumpsAround program block level all blocks main outer around (Y.Begin (Y.BlockOf head body)) =
       ((head.level ≡ suc level) × (head.level ≤ 100))
-      × AllJumpAround head.number head.level all blocks main (record { level = level; number = block; labels = around } ∷ outer) (labels_in body) body
-  JumpsAround block level all blocks main outer around (Y.Goto to label line) =
+      × AllJumpAround program head.number head.level all blocks main (if_bare (variables_of_block program head.number) (record { level = level; number = block; labels = around } ∷ outer)) (labels_in body) body
+  JumpsAround program block level all blocks main outer around (Y.Goto to label line) =
       ((to ≡ level) × ((is_among label around ≡ true) × (times block label all ≡ 1))) ⊎ IsOutward block to label all blocks outer
-  JumpsAround block level all blocks main outer around (Y.OnUnit condition (Y.BlockOf head body) line) =
-      ((0 == level) ≡ true) × ((head.level ≡ 1) × (IsUnitApart block head head.kind × AllJumpAround head.number head.level all blocks main (main ∷ []) (labels_in body) body))
-  JumpsAround block level all blocks main outer around _ = ⊤
+  JumpsAround program block level all blocks main outer around (Y.OnUnit condition (Y.BlockOf head body) line) =
+      ((0 == level) ≡ true) × ((head.level ≡ 1) × (IsUnitApart block head head.kind × AllJumpAround program head.number head.level all blocks main (main ∷ []) (labels_in body) body))
+  JumpsAround program block level all blocks main outer around _ = ⊤
 
-  pub AllJumpAround : (block level : ℕ) → (all : List (ℕ × Label)) → (blocks : List BlockPlace) → (main : OuterBlock) → (outer : List OuterBlock) → (around : List Label) → Y.Stmts → Type 0
-  AllJumpAround block level all blocks main outer around (Y.EndOfList labels) = ⊤
-  AllJumpAround block level all blocks main outer around (Y.StmtThen labels first rest) = JumpsAround block level all blocks main outer around first × AllJumpAround block level all blocks main outer around rest
+  pub AllJumpAround : Y.Program → (block level : ℕ) → (all : List (ℕ × Label)) → (blocks : List BlockPlace) → (main : OuterBlock) → (outer : List OuterBlock) → (around : List Label) → Y.Stmts → Type 0
+  AllJumpAround program block level all blocks main outer around (Y.EndOfList labels) = ⊤
+  AllJumpAround program block level all blocks main outer around (Y.StmtThen labels first rest) = JumpsAround program block level all blocks main outer around first × AllJumpAround program block level all blocks main outer around rest
 
 -- ---- calls
 
@@ -522,25 +568,26 @@ abbrev pub IsUnitNew : (may : List ℕ) → Y.BlockHead → Y.BlockKind → Type
 IsUnitNew may head Y.SimpleUnit = ⊤
 IsUnitNew may head _ = is_number head.number may ≡ false
 
--- calls name one of some numbers; an on-unit has no RETURN and few words for temporaries, as a procedure that is called
+-- calls name one of some numbers, and stand in no block that declares variables; an on-unit has no RETURN and few words for temporaries, as a procedure that is called
 abbrev mutual
-  pub CallsAmong : (may : List ℕ) → (returns : Bool) → Y.Stmt → Type 0
-  CallsAmong may returns (Y.If condition unit line) = CallsAmong may returns unit
-  CallsAmong may returns (Y.IfElse condition unit otherwise line) = CallsAmong may returns unit × CallsAmong may returns otherwise
-  CallsAmong may returns (Y.Do body line) = AllCallAmong may returns body
-  CallsAmong may returns (Y.DoWhile condition body line) = AllCallAmong may returns body
-  CallsAmong may returns (Y.DoOnce target start condition body line) = AllCallAmong may returns body
-  CallsAmong may returns (Y.DoCount counter start limit step condition body line) = AllCallAmong may returns body
-  CallsAmong may returns (Y.Begin (Y.BlockOf head body)) = AllCallAmong may returns body
-  CallsAmong may returns (Y.CallProcedure (Y.Calling procedure level _) line) = is_number procedure may ≡ true
-  CallsAmong may returns (Y.Return line) = returns ≡ true
-  CallsAmong may returns (Y.OnUnit condition (Y.BlockOf head body) line) =
-      AllCallAmong may false body × ((stmts_words body + all_inner_words body ≤ 800) × IsUnitNew may head head.kind)
-  CallsAmong may returns _ = ⊤
+  pub CallsAmong : Y.Program → (may : List ℕ) → (returns : Bool) → Y.Stmt → Type 0
+  CallsAmong program may returns (Y.If condition unit line) = CallsAmong program may returns unit
+  CallsAmong program may returns (Y.IfElse condition unit otherwise line) = CallsAmong program may returns unit × CallsAmong program may returns otherwise
+  CallsAmong program may returns (Y.Do body line) = AllCallAmong program may returns body
+  CallsAmong program may returns (Y.DoWhile condition body line) = AllCallAmong program may returns body
+  CallsAmong program may returns (Y.DoOnce target start condition body line) = AllCallAmong program may returns body
+  CallsAmong program may returns (Y.DoCount counter start limit step condition body line) = AllCallAmong program may returns body
+  CallsAmong program may returns (Y.Begin (Y.BlockOf head body)) =
+      AllCallAmong program (if_bare (variables_of_block program head.number) may) returns body
+  CallsAmong program may returns (Y.CallProcedure (Y.Calling procedure level _) line) = is_number procedure may ≡ true
+  CallsAmong program may returns (Y.Return line) = returns ≡ true
+  CallsAmong program may returns (Y.OnUnit condition (Y.BlockOf head body) line) =
+      AllCallAmong program may false body × ((stmts_words body + all_inner_words body ≤ 800) × IsUnitNew may head head.kind)
+  CallsAmong program may returns _ = ⊤
 
-  pub AllCallAmong : (may : List ℕ) → (returns : Bool) → Y.Stmts → Type 0
-  AllCallAmong may returns (Y.EndOfList labels) = ⊤
-  AllCallAmong may returns (Y.StmtThen labels first rest) = CallsAmong may returns first × AllCallAmong may returns rest
+  pub AllCallAmong : Y.Program → (may : List ℕ) → (returns : Bool) → Y.Stmts → Type 0
+  AllCallAmong program may returns (Y.EndOfList labels) = ⊤
+  AllCallAmong program may returns (Y.StmtThen labels first rest) = CallsAmong program may returns first × AllCallAmong program may returns rest
 
 -- how many procedures have a number
 abbrev pub number_of_block : Y.Block → ℕ
@@ -557,28 +604,59 @@ AllOnce (n ∷ ns) others = (number_times n others ≡ 1) × AllOnce ns others
 
 -- ---- blocks inside the procedure
 
+-- AUTOMATIC scalars of numbers and bits, without INITIAL
+pub record IsDeclaring (d : Y.DeclaredVariable) : Type 0 where
+  pub type : Y.LeafType
+  pub element : IsElementType type
+  pub is : d ≡ plain_variable type []
+
+abbrev pub AreDeclaring : List Y.DeclaredVariable → Type 0
+AreDeclaring [] = ⊤
+AreDeclaring (d ∷ ds) = IsDeclaring d × AreDeclaring ds
+
+-- blocks declare such variables, if they may, or nothing
+abbrev pub DeclareIf : (may : Bool) → List Y.DeclaredVariable → Type 0
+DeclareIf true ds = AreDeclaring ds
+DeclareIf false ds = ds ≡ []
+
 -- a single statement declares nothing
 abbrev pub DeclaresNothing : Y.Program → Y.BlockHead → Y.BlockKind → Type 0
 DeclaresNothing program head Y.SimpleUnit = ⊤
 DeclaresNothing program head _ = variables_of_block program head.number ≡ []
 
--- they declare nothing
 abbrev mutual
-  pub IsBare : Y.Program → Y.Stmt → Type 0
-  IsBare program (Y.If condition unit line) = IsBare program unit
-  IsBare program (Y.IfElse condition unit otherwise line) = IsBare program unit × IsBare program otherwise
-  IsBare program (Y.Do body line) = AreBare program body
-  IsBare program (Y.DoWhile condition body line) = AreBare program body
-  IsBare program (Y.DoOnce target start condition body line) = AreBare program body
-  IsBare program (Y.DoCount counter start limit step condition body line) = AreBare program body
-  IsBare program (Y.Begin (Y.BlockOf head body)) =
-      (variables_of_block program head.number ≡ []) × AreBare program body
-  IsBare program (Y.OnUnit condition (Y.BlockOf head body) line) = DeclaresNothing program head head.kind × AreBare program body
-  IsBare program _ = ⊤
+  pub IsBare : Y.Program → (may : Bool) → Y.Stmt → Type 0
+  IsBare program may (Y.If condition unit line) = IsBare program may unit
+  IsBare program may (Y.IfElse condition unit otherwise line) = IsBare program may unit × IsBare program may otherwise
+  IsBare program may (Y.Do body line) = AreBare program may body
+  IsBare program may (Y.DoWhile condition body line) = AreBare program may body
+  IsBare program may (Y.DoOnce target start condition body line) = AreBare program may body
+  IsBare program may (Y.DoCount counter start limit step condition body line) = AreBare program may body
+  IsBare program may (Y.Begin (Y.BlockOf head body)) =
+      DeclareIf may (variables_of_block program head.number) × AreBare program may body
+  IsBare program may (Y.OnUnit condition (Y.BlockOf head body) line) = DeclaresNothing program head head.kind × AreBare program false body
+  IsBare program may _ = ⊤
 
-  pub AreBare : Y.Program → Y.Stmts → Type 0
-  AreBare program (Y.EndOfList labels) = ⊤
-  AreBare program (Y.StmtThen labels first rest) = IsBare program first × AreBare program rest
+  pub AreBare : Y.Program → (may : Bool) → Y.Stmts → Type 0
+  AreBare program may (Y.EndOfList labels) = ⊤
+  AreBare program may (Y.StmtThen labels first rest) = IsBare program may first × AreBare program may rest
+
+-- ---- what the variables of these blocks take in frames
+
+abbrev mutual
+  pub bytes_in : Y.Program → Y.Stmt → ℕ
+  bytes_in program (Y.If condition unit line) = bytes_in program unit
+  bytes_in program (Y.IfElse condition unit otherwise line) = max (bytes_in program unit) (bytes_in program otherwise)
+  bytes_in program (Y.Do body line) = inner_bytes program body
+  bytes_in program (Y.DoWhile condition body line) = inner_bytes program body
+  bytes_in program (Y.DoOnce target start condition body line) = inner_bytes program body
+  bytes_in program (Y.DoCount counter start limit step condition body line) = inner_bytes program body
+  bytes_in program (Y.Begin (Y.BlockOf head body)) = 32 * length (variables_of_block program head.number) + inner_bytes program body
+  bytes_in program _ = 0
+
+  pub inner_bytes : Y.Program → Y.Stmts → ℕ
+  inner_bytes program (Y.EndOfList labels) = 0
+  inner_bytes program (Y.StmtThen labels first rest) = max (bytes_in program first) (inner_bytes program rest)
 
 -- ---- programs
 
@@ -607,10 +685,10 @@ main_outer block procedures = record { level = 0; number = block; labels = main_
 
 -- a procedure that is called: it has few words for temporaries in its frame and those of BEGIN blocks in it, so that 500 frames fit the
 -- stacks
-pub record IsCallable (called : List ℕ) (head : Y.BlockHead) (body : Y.Stmts) : Type 0 where
+pub record IsCallable (program : Y.Program) (called : List ℕ) (head : Y.BlockHead) (body : Y.Stmts) : Type 0 where
   pub kind : head.kind ≡ Y.ProcedureBlock
   pub line : IsLine head.line
-  pub calls : AllCallAmong called true body
+  pub calls : AllCallAmong program called true body
   pub few : stmts_words body + all_inner_words body ≤ 800
 
 -- a procedure inside the main one, whose number is the given block's: it declares nothing, and has no parameters and no result
@@ -621,10 +699,10 @@ pub record IsInner (program : Y.Program) (block : ℕ) (all : List (ℕ × Label
   pub apart : (block == head.number) ≡ false
   pub level : head.level ≡ 1
   pub bare : variables_of_block program head.number ≡ []
-  pub statements : AreProvedStatements block (types_of (variables_of_block program block)) body
-  pub jumps : AllJumpAround head.number 1 all (blocks_of program.procedures) (main_outer block program.procedures) (main_outer block program.procedures ∷ []) (labels_in body) body
-  pub inside : AreBare program body
-  pub callable : is_number head.number called ≡ true → IsCallable called head body
+  pub statements : AreProvedStatements (main_names program block) (types_of (variables_of_block program block)) body
+  pub jumps : AllJumpAround program head.number 1 all (blocks_of program.procedures) (main_outer block program.procedures) (main_outer block program.procedures ∷ []) (labels_in body) body
+  pub inside : AreBare program false body
+  pub callable : is_number head.number called ≡ true → IsCallable program called head body
 
 abbrev pub AreInner : Y.Program → (block : ℕ) → (all : List (ℕ × Label)) → (called : List ℕ) → List Y.Procedure → Type 0
 AreInner program block all called [] = ⊤
@@ -634,10 +712,10 @@ pub record IsProvedBlock (program : Y.Program) (head : Y.BlockHead) (body : Y.St
   pub kind : head.kind ≡ Y.ProcedureBlock
   pub level : head.level ≡ 0
   pub line : IsLine head.line
-  pub statements : AreProvedStatements head.number (types_of (variables_of_block program head.number)) body
-  pub jumps : AllJumpAround head.number 0 (all_labels head.number body ++ procedure_labels others) (blocks_of program.procedures) (main_outer head.number program.procedures) [] (labels_in body) body
-  pub calls : AllCallAmong called true body
-  pub inside : AreBare program body
+  pub statements : AreProvedStatements (main_names program head.number) (types_of (variables_of_block program head.number)) body
+  pub jumps : AllJumpAround program head.number 0 (all_labels head.number body ++ procedure_labels others) (blocks_of program.procedures) (main_outer head.number program.procedures) [] (labels_in body) body
+  pub calls : AllCallAmong program called true body
+  pub inside : AreBare program false body
 
 -- the main procedure, without parameters and without a result, and procedures inside it, of which those of some numbers are called; the
 -- numbers of signatures fit what the code says

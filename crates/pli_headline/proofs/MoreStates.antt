@@ -1,0 +1,340 @@
+-- One more scalar is made, in the meaning: it begins with 0, and the others hold what they held.
+use Rattle.std.proofs.Common.{◌≡◌, ℕ, suc, ◌+◌, ◌<◌, ◌≤◌, ◌⊎◌, inl, inr, List, [], ◌∷◌, ◌++◌, length, Option, Some, Bool, true, false, refl, sym, ap, ◌∙◌, subst, arith, add-one}
+use Rattle.std.specs.Prelude.{ℤ, pos, cond, nat_le, slice_get, ◌==◌}
+use Rattle.std.proofs.lemmas.Bool.{eq-eqb}
+use Rattle.std.proofs.lemmas.Bool.Decides.{nat_tests}
+use Rattle.pli_typing.specs.Signatures.{Bounds}
+use Rattle.pli_typing.specs.TypedTree as Y
+use Rattle.pli_meaning.specs.declared.outcome.End.TheVariants as E
+use Rattle.pli_meaning.specs.declared.outcome.Limit.TheVariants as L
+use Rattle.pli_meaning.specs.Contents.{Generation, Shape, fresh}
+use Rattle.pli_meaning.specs.StorageState.{State, Activation, Binding, Living, newest_height, ancestor, binding_in, binding_of, generation_of, living_of, standing_for, most_automatic, automatic_in_use}
+use Rattle.pli_meaning.specs.Control.{Flow, Normal, Meaning, flow_on, give, looked, choose, stored, finish, ◌>>=◌, ◌>>◌}
+use Rattle.pli_meaning.specs.Raising.{Around}
+use Rattle.pli_meaning.specs.Making as K
+use Rattle.pli_meaning.specs.Making.{with_binding}
+use Rattle.pli_serving.specs.Templates.{shape_at}
+use Rattle.pli_serving.specs.ServiceState as S
+use Rattle.pli_serving.specs.Making as G
+use Rattle.pli_coding.specs.Environments.{Environment}
+use Rattle.pli_coding.specs.SignatureTable.{table_of}
+use Rattle.pli_headline.specs.ProvedSoFar.{Names, Spot, Kind, Types, alone, text_leaf, IsElementType, AreConstants, IsHeld, array_variable}
+use Rattle.pli_headline.proofs.Activations.{Nested, levels_of, newest_level, newest_of_levels, newest_is, entered_length, same_length}
+use Rattle.pli_headline.proofs.Scalars.{Values, Fits, zero_fits, IsNumeric, IsLimited, value_as, place_below}
+use Rattle.pli_headline.proofs.Variables.{level_of, own, scalar_binding}
+use Rattle.pli_headline.proofs.VariablePlaces.{frame_size}
+use Rattle.pli_headline.proofs.PlainNumbers.{number_for, Numbered, numbered_shape}
+use Rattle.pli_headline.proofs.MainStates.{kind_binding, fresh_scalar, scalar_print, shape_print, begins_as}
+use Rattle.pli_headline.proofs.ArrayMeant.{HoldsArray, array_binding, shape_is}
+use Rattle.pli_headline.proofs.TextStates.{KeepsText}
+use Rattle.pli_headline.proofs.States.{Holds}
+use Rattle.pli_headline.proofs.Storages.{Storage, Serials, Stored, owner_in}
+use Rattle.pli_headline.proofs.DeclaredNames.{by_element, by_last, kind_around, chosen_before, chosen_here}
+use Rattle.pli_headline.proofs.OneMore.{more_names, more_serials, spot_of, no_text}
+use Rattle.pli_headline.proofs.Statements.{AllHold, SameValues}
+use Rattle.pli_headline.proofs.Entered.{Frames, UnitsKnown}
+
+-- ---- in the meaning
+
+abbrev pub fresh_kind : Kind → Generation
+fresh_kind k = fresh_scalar (record { kind = k; initial = [] })
+
+abbrev pub more_state : State → (index : ℕ) → Kind → State
+more_state s index k = K.with_variable index (fresh_kind k) s
+
+-- one within the limit, or the end of the run
+abbrev pub made_or_ended : (s : State) (index c : ℕ) (k : Kind) → Bool → Flow (Unit {0})
+made_or_ended s index c k within = cond within (Normal tt (more_state s index k)) (finish {R = Unit {0}} (E.Limit L.Automatic) c s)
+
+pub step_meant : (around : Around) (s : State) (index c : ℕ) (k : Kind) (d : Y.DeclaredVariable) (ds : List Y.DeclaredVariable) → d ≡ array_variable k.type k.bounds [] → IsHeld k.type k.bounds → K.variables_made around index (d ∷ ds) c s ≡ flow_on c (made_or_ended s index c k (nat_le (automatic_in_use s.living + frame_size k) most_automatic)) (λ u. K.variables_made around (suc index) ds)
+unfolding K.variables_made K.automatic_made K.extents K.variable_made give looked choose stored ◌>>=◌ ◌>>◌
+step_meant around s index c k d ds is held =
+    let rest : ℕ → Unit {0} → Meaning (Unit {0}) = λ n u. K.variables_made around n ds in
+    let end = finish {R = Unit {0}} (E.Limit L.Automatic) c s in
+    ap (λ u. (K.automatic_made around index u u.class >> K.variables_made around (index + 1) ds) c s) is
+    ∙ ap (λ (g : Shape). flow_on c (K.variable_made index (fresh g (pos 0) ([] ∷ [])) c s) (rest (index + 1))) (shape_is k.type k.bounds [])
+    ∙ ap (λ n. flow_on c (cond (nat_le (automatic_in_use s.living + n) most_automatic) (Normal tt (more_state s index k)) end) (rest (index + 1))) (scalar_print (record { kind = k; initial = [] }) held)
+    ∙ ap (λ n. flow_on c (made_or_ended s index c k (nat_le (automatic_in_use s.living + frame_size k) most_automatic)) (rest n)) (add-one index)
+
+-- ---- activations
+
+beside_level : (q : Bool) (b : Binding) (a : Activation) (o : Option Activation) (i : ℕ) → (b.variable == i) ≡ false → binding_in (cond q (Some (record a { bindings = b ∷ a.bindings })) o) i ≡ binding_in (cond q (Some a) o) i
+beside_level true b a o i e = ap (λ t. cond t (Some b) (binding_of a.bindings i)) e
+beside_level false b a o i e = refl
+
+abbrev at_height : Activation → List Activation → (level i : ℕ) → Bool → Option Binding
+at_height a as' level i q =
+    binding_in (cond q (cond (a.level == level) (Some a) (ancestor as' a.parent level)) (ancestor as' a.height level)) i
+
+-- what other variables stand for stays
+seen_beside : (as' : List Activation) (b : Binding) (level i : ℕ) → ((newest_level as' == level) ≡ false) ⊎ ((b.variable == i) ≡ false) → binding_in (ancestor (with_binding b as') (newest_height (with_binding b as')) level) i ≡ binding_in (ancestor as' (newest_height as') level) i
+seen_beside [] b level i h = refl
+seen_beside (a ∷ as') b level i (inl other) =
+    let a' : Activation = record a { bindings = b ∷ a.bindings } in
+    let here = eq-eqb a.height a.height refl in
+    ap (at_height a' as' level i) here
+    ∙ ap (λ q. binding_in (cond q (Some a') (ancestor as' a.parent level)) i) other
+    ∙ sym (ap (λ q. binding_in (cond q (Some a) (ancestor as' a.parent level)) i) other)
+    ∙ sym (ap (at_height a as' level i) here)
+seen_beside (a ∷ as') b level i (inr apart) =
+    let a' : Activation = record a { bindings = b ∷ a.bindings } in
+    let here = eq-eqb a.height a.height refl in
+    ap (at_height a' as' level i) here ∙ beside_level (a.level == level) b a (ancestor as' a.parent level) i apart ∙ sym (ap (at_height a as' level i) here)
+
+-- and the new one stands for its binding
+seen_new : (as' : List Activation) (b : Binding) (level : ℕ) → 0 < length as' → newest_level as' ≡ level → binding_in (ancestor (with_binding b as') (newest_height (with_binding b as')) level) b.variable ≡ Some b
+seen_new [] b level some e = absurd (omega (arith, some))
+seen_new (a ∷ as') b level some e =
+    let a' : Activation = record a { bindings = b ∷ a.bindings } in
+    ap (at_height a' as' level b.variable) (eq-eqb a.height a.height refl)
+    ∙ ap (λ q. binding_in (cond q (Some a') (ancestor as' a.parent level)) b.variable) (eq-eqb a.level level e)
+    ∙ ap (λ t. cond t (Some b) (binding_of a.bindings b.variable)) (eq-eqb b.variable b.variable refl)
+
+levels_same : (as' : List Activation) (b : Binding) → levels_of (with_binding b as') ≡ levels_of as'
+levels_same [] b = refl
+levels_same (a ∷ as') b = refl
+
+pub nested_same : (as' : List Activation) (xs : List S.Activation) (b : Binding) → Nested as' xs → Nested (with_binding b as') xs
+nested_same [] xs b h = h
+nested_same (a ∷ as') [] b h = absurd h
+nested_same (a ∷ as') (x ∷ xs) b h =
+    (record { height = h.0.height; first = h.0.first; inside = h.0.inside; direct = h.0.direct; oncode = h.0.oncode; units = h.0.units }, h.1)
+
+units_same : (known : ℕ → Y.Block → ℕ → Type 0) (as' : List Activation) (xs : List S.Activation) (b : Binding) → UnitsKnown known as' xs → UnitsKnown known (with_binding b as') xs
+units_same known [] xs b h = h
+units_same known (a ∷ as') [] b h = absurd h
+units_same known (a ∷ as') (x ∷ xs) b h = h
+
+-- ---- what a variable holds, under another name
+
+holds_moved : {s s' : State} {block block' : Names} {j serial serial' : ℕ} {type : Y.LeafType} {z : ℤ} → block'.at j ≡ block.at j → serial' ≡ serial → standing_for s' (own block' j) ≡ standing_for s (own block j) → generation_of (living_of s'.living serial') ≡ generation_of (living_of s.living serial) → Holds s block j serial type z → Holds s' block' j serial' type z
+holds_moved {block' = block'} {j} {serial} {serial'} {type} spot same stands lives h =
+    record {
+      values = h.values;
+      stands = stands ∙ h.stands ∙ ap (λ (u : Spot). Some (scalar_binding type u.index serial)) (sym spot) ∙ ap (λ n. Some (scalar_binding type (block'.at j).index n)) (sym same);
+      lives = lives ∙ h.lives;
+      value = h.value;
+      fits = h.fits;
+    }
+
+keeps_moved : {s s' : State} {block block' : Names} {j serial serial' : ℕ} {varying : Bool} {most : ℕ} {text : List ℕ} → block'.at j ≡ block.at j → serial' ≡ serial → standing_for s' (own block' j) ≡ standing_for s (own block j) → generation_of (living_of s'.living serial') ≡ generation_of (living_of s.living serial) → KeepsText s block j serial varying most text → KeepsText s' block' j serial' varying most text
+keeps_moved {block' = block'} {j} {serial} {serial'} {varying} {most} spot same stands lives h =
+    record {
+      values = h.values;
+      stands = stands ∙ h.stands ∙ ap (λ (u : Spot). Some (scalar_binding (text_leaf varying most) u.index serial)) (sym spot) ∙ ap (λ n. Some (scalar_binding (text_leaf varying most) (block'.at j).index n)) (sym same);
+      lives = lives ∙ h.lives;
+      value = h.value;
+      short = h.short;
+    }
+
+array_moved : {s s' : State} {block block' : Names} {j serial serial' : ℕ} {type : Y.LeafType} {bs : List Bounds} {n : ℕ → ℤ} → block'.at j ≡ block.at j → serial' ≡ serial → standing_for s' (own block' j) ≡ standing_for s (own block j) → generation_of (living_of s'.living serial') ≡ generation_of (living_of s.living serial) → HoldsArray s block j serial type bs n → HoldsArray s' block' j serial' type bs n
+array_moved {block' = block'} {j} {serial} {serial'} {type} {bs} spot same stands lives h =
+    record {
+      values = h.values;
+      numeric = h.numeric;
+      stands = stands ∙ h.stands ∙ ap (λ (u : Spot). Some (array_binding type bs u.index serial)) (sym spot) ∙ ap (λ n. Some (array_binding type bs (block'.at j).index n)) (sym same);
+      lives = lives ∙ h.lives;
+      value = h.value;
+      fits = h.fits;
+    }
+
+-- ---- with one more
+
+pub limited_element : (type : Y.LeafType) → IsElementType type → IsLimited type
+limited_element type is = by_element IsLimited (λ p h. h) tt type is
+
+pub none_given : (type : Y.LeafType) → IsElementType type → AreConstants type []
+none_given type is = by_element (λ u. AreConstants u []) (λ p h. tt) tt type is
+
+abbrev pub more_storage : Storage → (signature at : ℕ) → Storage
+more_storage xs signature at =
+    record xs {
+      living = record { serial = xs.serials + 1; owner = length xs.activations; signature = signature; at = at } ∷ xs.living;
+      serials = xs.serials + 1;
+    }
+
+new_other : (l : Living) (ls : List Living) (n : ℕ) → (l.serial == n) ≡ false → living_of (l ∷ ls) n ≡ living_of ls n
+new_other l ls n e = ap (λ q. cond q (Some l) (living_of ls n)) e
+
+new_here : (l : Living) (ls : List Living) → living_of (l ∷ ls) l.serial ≡ Some l
+new_here l ls = ap (λ q. cond q (Some l) (living_of ls l.serial)) (eq-eqb l.serial l.serial refl)
+
+newer : (n m : ℕ) → n ≤ m → (m + 1 == n) ≡ false
+newer n m h = grind (arith, nat_tests)
+
+older_not : (n m : ℕ) → n ≤ m → (n == m + 1) ≡ false
+older_not n m h = grind (arith, nat_tests)
+
+level_apart : (l m n : ℕ) → n ≡ m → l < m → (n == l) ≡ false
+level_apart l m n e h = grind (arith, nat_tests)
+
+index_apart : (i index : ℕ) → i < index → (index == i) ≡ false
+index_apart i index h = grind (arith, nat_tests)
+
+-- a variable that is new in its block
+abbrev pub IsNew : Environment → Names → Types → (index : ℕ) → Type 0
+IsNew e block types index =
+    (j : ℕ) (kind : Kind) → slice_get types j ≡ Some kind → (level_of block j < e.level) ⊎ ((block.at j).index < index)
+
+-- the binding that others don't have
+apart_by : (e : Environment) (block : Names) (index j newest : ℕ) → newest ≡ e.level → (level_of block j < e.level) ⊎ ((block.at j).index < index) → ((newest == level_of block j) ≡ false) ⊎ ((index == (block.at j).index) ≡ false)
+apart_by e block index j newest same (inl low) = inl (level_apart (level_of block j) e.level newest same low)
+apart_by e block index j newest same (inr low) = inr (index_apart (block.at j).index index low)
+
+more_stored : {serials : Serials} {block : Names} {types : Types} (xs : Storage) (levels : List ℕ) (s : State) (e : Environment) (index : ℕ) (k : Kind) (at : ℕ) → Numbered (table_of block.program) k → newest_height s.activations ≡ suc (length levels) → length xs.activations ≡ suc (length levels) → Stored serials xs.signatures xs.living xs.serials (suc (length levels)) s.living s.serials block types → Stored (more_serials serials (length types) (s.serials + 1) (suc (length levels))) xs.signatures (more_storage xs (number_for (table_of block.program) k) at).living (xs.serials + 1) (suc (length levels)) (more_state s index k).living (s.serials + 1) (more_names e block types index) (types ++ (k ∷ []))
+more_stored {serials} {block} {types} xs levels s e index k at numbered high long h =
+    let count = length types in
+    let table = table_of block.program in
+    let serial = s.serials + 1 in
+    let o = more_serials serials count serial (suc (length levels)) in
+    let new : Living = record { serial = serial; owner = newest_height s.activations; generation = fresh_kind k; placed = [] } in
+    let of_before : (j : ℕ) → j < count → o.of j ≡ serials.of j = λ j below. chosen_before count j (serials.of j) serial below in
+    let of_here : o.of count ≡ serial = chosen_here count (serials.of count) serial in
+    record {
+      owned = λ j at'.
+          by_last types k (λ i kind. owner_in (living_of (new ∷ s.living) (o.of i)) ≡ Some (o.owner i))
+          (λ i kind below at''.
+          ap (λ n. owner_in (living_of (new ∷ s.living) n)) (of_before i below)
+          ∙ ap owner_in (new_other new s.living (serials.of i) (newer (serials.of i) s.serials (h.older i at'')))
+          ∙ h.owned i at''
+          ∙ ap (λ n. Some n) (sym (chosen_before count i (serials.owner i) (suc (length levels)) below)))
+          (ap (λ n. owner_in (living_of (new ∷ s.living) n)) of_here
+          ∙ ap owner_in (new_here new s.living)
+          ∙ ap (λ n. Some n) (high ∙ sym (chosen_here count (serials.owner count) (suc (length levels))))) j _ at';
+      apart = λ i j at1 at2 other.
+          by_last types k (λ i' kind. (i' == j) ≡ false → (o.of j == o.of i') ≡ false)
+          (λ i' kind below at3 other'.
+          by_last types k (λ j' kind'. (i' == j') ≡ false → (o.of j' == o.of i') ≡ false)
+          (λ j' kind' below' at4 other''.
+          ap (λ n. n == o.of i') (of_before j' below') ∙ ap (λ n. serials.of j' == n) (of_before i' below) ∙ h.apart i' j' at3 at4 other'')
+          (λ other''. ap (λ n. n == o.of i') of_here ∙ ap (λ n. serial == n) (of_before i' below) ∙ newer (serials.of i') s.serials (h.older i' at3))
+          j _ at2 other')
+          (λ other'.
+          by_last types k (λ j' kind'. (count == j') ≡ false → (o.of j' == o.of count) ≡ false)
+          (λ j' kind' below' at4 other''.
+          ap (λ n. n == o.of count) (of_before j' below') ∙ ap (λ n. serials.of j' == n) of_here ∙ older_not (serials.of j') s.serials (h.older j' at4))
+          (λ other''. let no : true ≡ false = sym (eq-eqb count count refl) ∙ other'' in absurd (cc no))
+          j _ at2 other')
+          i _ at1 other;
+      older = λ j at'.
+          by_last types k (λ i kind. o.of i ≤ serial)
+          (λ i kind below at''. let a = of_before i below in let old = h.older i at'' in omega (arith, a, old))
+          (let a = of_here in omega (arith, a)) j _ at';
+      alike = (
+        record {
+          owner = long ∙ sym high;
+          low = omega (arith, high);
+          size = ap (λ ts. G.footprint_of_shape (shape_at ts (number_for table k))) h.table
+              ∙ ap G.footprint_of_shape (numbered_shape table k numbered)
+              ∙ shape_print k numbered.held
+              ∙ sym (scalar_print (record { kind = k; initial = [] }) numbered.held);
+        },
+        h.alike,
+      );
+      counted = ap (λ n. n + 1) h.counted;
+      table = h.table;
+    }
+
+pub more_all : {frames : Frames} {serials : Serials} {xs : Storage} {levels : List ℕ} {s : State} {block : Names} {types : Types} {n : Values} (e : Environment) (index : ℕ) (k : Kind) (at : ℕ) → IsElementType k.type → k ≡ alone k.type → Numbered (table_of block.program) k → IsNew e block types index → Nested s.activations xs.activations → n.numbers (length types) ≡ pos 0 → AllHold frames serials xs (e.level ∷ levels) s block types n → AllHold frames (more_serials serials (length types) (s.serials + 1) (suc (length levels))) (more_storage xs (number_for (table_of block.program) k) at) (e.level ∷ levels) (more_state s index k) (more_names e block types index) (types ++ (k ∷ [])) n
+more_all {frames = frames} {serials = serials} {xs} {levels} {s} {block} {types} {n} e index k at element is numbered new nested zero' all =
+    let count = length types in
+    let serial = s.serials + 1 in
+    let s' = more_state s index k in
+    let names = more_names e block types index in
+    let b = kind_binding k index serial in
+    let o = more_serials serials count serial (suc (length levels)) in
+    let long = entered_length s.activations (e.level ∷ levels) all.entered in
+    let newest = newest_of_levels s.activations e.level levels all.entered in
+    let high = newest_is s.activations xs.activations (length levels) nested long in
+    let l : Living = record { serial = serial; owner = newest_height s.activations; generation = fresh_kind k; placed = [] } in
+    let spot : (j : ℕ) → j < count → names.at j ≡ block.at j = λ j below. chosen_before count j (block.at j) (spot_of e index) below in
+    let same : (j : ℕ) → j < count → o.of j ≡ serials.of j = λ j below. chosen_before count j (serials.of j) serial below in
+    let stands : (j : ℕ) (kind : Kind) → j < count → slice_get types j ≡ Some kind → standing_for s' (own names j) ≡ standing_for s (own block j) = λ j kind below at'.
+    ap (λ (u : Spot). binding_in (ancestor s'.activations (newest_height s'.activations) u.level) u.index) (spot j below)
+    ∙ seen_beside s.activations b (level_of block j) (block.at j).index (apart_by e block index j (newest_level s.activations) newest (new j kind at')) in
+    let lives : (j : ℕ) (kind : Kind) → j < count → slice_get types j ≡ Some kind → generation_of (living_of s'.living (o.of j)) ≡ generation_of (living_of s.living (serials.of j)) = λ j kind below at'.
+    ap (λ m. generation_of (living_of s'.living m)) (same j below) ∙ ap generation_of (new_other l s.living (serials.of j) (newer (serials.of j) s.serials (all.stored.older j at'))) in
+    record {
+      numbers = λ j t numeric.
+          by_last types k (λ i kind. (u : Y.LeafType) → kind ≡ alone u → IsNumeric u → Holds s' names i (o.of i) u (n.numbers i))
+          (λ i kind below at' u e' numeric'.
+          let here = at' ∙ ap (λ q. Some q) e' in
+          holds_moved (spot i below) (same i below) (stands i kind below at') (lives i kind below at') (all.numbers i (u, here) numeric'))
+          (λ u e' numeric'.
+          let type = ap (λ (q : Kind). q.type) e' in
+          let element' = subst IsElementType type element in
+          record {
+            values = (fresh_kind (alone u)).values;
+            stands = ap (λ (q : Spot). binding_in (ancestor s'.activations (newest_height s'.activations) q.level) q.index) (chosen_here count (block.at count) (spot_of e index))
+                ∙ seen_new s.activations b e.level (omega (arith, long)) newest
+                ∙ ap (λ q. Some (kind_binding q index serial)) e'
+                ∙ ap (λ (q : Spot). Some (scalar_binding u q.index serial)) (sym (chosen_here count (block.at count) (spot_of e index)))
+                ∙ ap (λ m. Some (scalar_binding u (names.at count).index m)) (sym (chosen_here count (serials.of count) serial));
+            lives = ap (λ m. generation_of (living_of s'.living m)) (chosen_here count (serials.of count) serial)
+                ∙ ap generation_of (new_here l s.living)
+                ∙ ap (λ q. Some (fresh_kind q)) e';
+            value = begins_as u [] numeric' (none_given u element') ∙ ap (value_as u) (sym zero');
+            fits = subst (Fits u) (sym zero') (zero_fits u (limited_element u element'));
+          }) j (alone t.0) t.1 t.0 refl numeric;
+      texts = λ j varying most at'.
+          by_last types k (λ i kind. kind ≡ alone (text_leaf varying most) → KeepsText s' names i (o.of i) varying most (n.texts i))
+          (λ i kind below at'' e'. keeps_moved (spot i below) (same i below) (stands i kind below at'') (lives i kind below at'') (all.texts i varying most (at'' ∙ ap (λ q. Some q) e')))
+          (λ e'. absurd (no_text varying most (subst IsElementType (ap (λ (q : Kind). q.type) e') element))) j (alone (text_leaf varying most)) at' refl;
+      arrays = λ j type c cs at'.
+          by_last types k (λ i kind. kind ≡ record { type = type; bounds = c ∷ cs } → HoldsArray s' names i (o.of i) type (c ∷ cs) (n.arrays i))
+          (λ i kind below at'' e'. array_moved (spot i below) (same i below) (stands i kind below at'') (lives i kind below at'') (all.arrays i type c cs (at'' ∙ ap (λ q. Some q) e')))
+          (λ e'. let no : [] ≡ c ∷ cs = sym (ap (λ (q : Kind). q.bounds) is) ∙ ap (λ (q : Kind). q.bounds) e' in absurd (cc no)) j (record { type = type; bounds = c ∷ cs }) at' refl;
+      entered = levels_same s.activations b ∙ all.entered;
+      framed = all.framed;
+      kinds = all.kinds;
+      units = units_same frames.known s.activations xs.activations b all.units;
+      stored = more_stored xs levels s e index k at numbered high (same_length s.activations xs.activations nested ∙ long) all.stored;
+    }
+
+-- ---- without it
+
+pub fewer_all : {frames : Frames} {serials : Serials} {xs : Storage} {levels : List ℕ} {s : State} {block : Names} {types : Types} {n : Values} (e : Environment) (index : ℕ) (k : Kind) (serial owner : ℕ) → AllHold frames (more_serials serials (length types) serial owner) xs levels s (more_names e block types index) (types ++ (k ∷ [])) n → AllHold frames serials xs levels s block types n
+fewer_all {serials = serials} {xs} {levels} {s} {block} {types} {n} e index k serial owner all =
+    let count = length types in
+    let names = more_names e block types index in
+    let o = more_serials serials count serial owner in
+    let front : (j : ℕ) (kind : Kind) → slice_get types j ≡ Some kind → slice_get (types ++ (k ∷ [])) j ≡ Some kind = λ j kind at. kind_around types (k ∷ []) j at in
+    let spot : (j : ℕ) (kind : Kind) → slice_get types j ≡ Some kind → block.at j ≡ names.at j = λ j kind at. sym (chosen_before count j (block.at j) (spot_of e index) (place_below types j kind at)) in
+    let same : (j : ℕ) (kind : Kind) → slice_get types j ≡ Some kind → serials.of j ≡ o.of j = λ j kind at. sym (chosen_before count j (serials.of j) serial (place_below types j kind at)) in
+    let stands : (j : ℕ) (kind : Kind) → slice_get types j ≡ Some kind → standing_for s (own block j) ≡ standing_for s (own names j) = λ j kind at.
+    ap (λ (u : Spot). binding_in (ancestor s.activations (newest_height s.activations) u.level) u.index) (spot j kind at) in
+    let lives : (j : ℕ) (kind : Kind) → slice_get types j ≡ Some kind → generation_of (living_of s.living (serials.of j)) ≡ generation_of (living_of s.living (o.of j)) = λ j kind at. ap (λ m. generation_of (living_of s.living m)) (same j kind at) in
+    record {
+      numbers = λ j t numeric. holds_moved (spot j _ t.1) (same j _ t.1) (stands j _ t.1) (lives j _ t.1) (all.numbers j (t.0, front j _ t.1) numeric);
+      texts = λ j varying most at. keeps_moved (spot j _ at) (same j _ at) (stands j _ at) (lives j _ at) (all.texts j varying most (front j _ at));
+      arrays = λ j type c cs at. array_moved (spot j _ at) (same j _ at) (stands j _ at) (lives j _ at) (all.arrays j type c cs (front j _ at));
+      entered = all.entered;
+      framed = all.framed;
+      kinds = all.kinds;
+      units = all.units;
+      stored = record {
+        owned = λ j at.
+            ap (λ m. owner_in (living_of s.living m)) (same j _ at) ∙ all.stored.owned j (front j _ at) ∙ ap (λ m. Some m) (chosen_before count j (serials.owner j) owner (place_below types j _ at));
+        apart = λ i j at at' other. ap (λ m. m == serials.of i) (same j _ at') ∙ ap (λ m. o.of j == m) (same i _ at) ∙ all.stored.apart i j (front i _ at) (front j _ at') other;
+        older = λ j at. let a = same j _ at in let old = all.stored.older j (front j _ at) in omega (arith, a, old);
+        alike = all.stored.alike;
+        counted = all.stored.counted;
+        table = all.stored.table;
+      };
+    }
+
+-- ---- other values
+
+-- what isn't held may be said otherwise
+pub all_same : {frames : Frames} {serials : Serials} {xs : Storage} {levels : List ℕ} {s : State} {block : Names} {types : Types} {n : Values} (n' : Values) → SameValues types n n' → AllHold frames serials xs levels s block types n → AllHold frames serials xs levels s block types n'
+all_same {serials = serials} {s = s} {block = block} n' same all =
+    record {
+      numbers = λ j t numeric. subst (λ z. Holds s block j (serials.of j) t.0 z) (same j _ t.1).0 (all.numbers j t numeric);
+      texts = λ j varying most at. subst (λ z. KeepsText s block j (serials.of j) varying most z) (same j _ at).1.0 (all.texts j varying most at);
+      arrays = λ j type b bs at. subst (λ z. HoldsArray s block j (serials.of j) type (b ∷ bs) z) (same j _ at).1.1 (all.arrays j type b bs at);
+      entered = all.entered;
+      framed = all.framed;
+      kinds = all.kinds;
+      units = all.units;
+      stored = all.stored;
+    }
