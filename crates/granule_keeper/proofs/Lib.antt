@@ -1,1 +1,5 @@
+mod Tests
+mod Order
+mod Runs
+mod Placing
 mod GranuleRows

@@ -37,10 +37,10 @@ begun (suc m ∷ ms) = 1 ∷ ms
 
 -- so many granules from a place on become a generation, or free
 abbrev pub with_run : (place number : ℕ) → List ℕ → List ℕ
-with_run i n ms = take i ms ++ (run n ++ begun (drop (i + n) ms))
+with_run i n ms = take i ms ++ (run n ++ begun (drop n (drop i ms)))
 
 abbrev pub without_run : (place number : ℕ) → List ℕ → List ℕ
-without_run i n ms = take i ms ++ (replicate n 0 ++ drop (i + n) ms)
+without_run i n ms = take i ms ++ (replicate n 0 ++ drop n (drop i ms))
 
 -- ---- where the last generation ends
 
