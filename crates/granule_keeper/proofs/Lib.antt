@@ -2,4 +2,5 @@ mod Tests
 mod Order
 mod Runs
 mod Placing
+mod Rooms
 mod GranuleRows
