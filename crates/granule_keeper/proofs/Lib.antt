@@ -3,4 +3,6 @@ mod Order
 mod Runs
 mod Placing
 mod Rooms
+mod Moving
+mod Standing
 mod GranuleRows
