@@ -5,4 +5,7 @@ mod Placing
 mod Rooms
 mod Moving
 mod Standing
+mod Headers
+mod Apartness
+mod GranuleStands
 mod GranuleRows

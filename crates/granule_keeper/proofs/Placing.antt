@@ -180,7 +180,7 @@ some_free : (n : ℕ) (xs : List ℕ) → 1 ≤ n → insides (replicate n 0 ++ 
 some_free zero xs h = absurd (omega (arith, h))
 some_free (suc n) xs h = refl
 
-some_granules : (size : ℕ) → 1 ≤ granules_of size
+pub some_granules : (size : ℕ) → 1 ≤ granules_of size
 some_granules size = omega arith
 
 -- a place among marks that begin at an offset, and the offset there
