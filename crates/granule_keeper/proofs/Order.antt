@@ -60,3 +60,13 @@ pub with_front :
 with_front n start capacity [] i h = refl
 with_front n start capacity (g ∷ gs) i h =
     ap (λ t. cond t (n ∷ g ∷ gs) (g ∷ with_kept n gs)) (lt_true n.offset g.offset (omega (arith, i.0, h)))
+
+pub order_freed : (start capacity o : ℕ) (gs : List Kept) → InOrder start capacity gs → InOrder start capacity (without_kept o gs)
+order_freed start capacity o [] i = i
+order_freed start capacity o (g ∷ gs) i = by_test (g.offset == o) (order_freed (kept_end g) capacity o gs i.3)
+  where
+    by_test :
+        (t : Bool) → InOrder (kept_end g) capacity (without_kept o gs) →
+        InOrder start capacity (cond t gs (g ∷ without_kept o gs))
+    by_test true rest = earlier start (kept_end g) capacity gs (omega (arith, i.0)) i.3
+    by_test false rest = (i.0, i.1, i.2, rest)
