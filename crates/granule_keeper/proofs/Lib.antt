@@ -8,4 +8,6 @@ mod Standing
 mod Headers
 mod Apartness
 mod GranuleStands
+mod GranuleBytes
+mod GranuleKeeps
 mod GranuleRows
