@@ -1,10 +1,10 @@
 mod Tests
-mod Order
-mod Runs
-mod Placing
-mod Rooms
+pub mod Order
+pub mod Runs
+pub mod Placing
+pub mod Rooms
 mod Moving
-mod Standing
+pub mod Standing
 mod Headers
 mod Apartness
 mod GranuleStands
