@@ -61,7 +61,11 @@ fn put_bounds_above(
     ensures { OnOk result (map bounds_typed out.new.items ≡ map bounds_typed out.old.items ++ map (bounds_of (extent_of (all_shown written.now))) (flat_map dimensions_of (levels_of (variable_of outermost.entry) levels.now))) }
 {
     match levels {
-        Levels::Inside { structure, above, .. } => {
+        Levels::Inside {
+            structure,
+            above,
+            ..
+        } => {
             put_bounds_above(out, written, outermost, above)?;
             put_own_bounds(out, written, *structure)
         }
