@@ -85,7 +85,7 @@ fn shape_found<'a>(
 fn shape_among<'a>(alloc: Global, home: &Home<'_, 'a>, held: &Held) -> Result<Shape<'a>, AllocError>
     ensures { IfOk result (λ s. shape_of s ≡ shape_among (home_of home.now) (held_of held.now)) }
 {
-    let variable = variable_among(home.block, home.number, &home.groups, held);
+    let variable = variable_among(home.block, home.number, &home.groups, home.in_order, held);
     shape_found(alloc, variable, &home.groups, &home.leaves, held)
 }
 
