@@ -2,7 +2,7 @@
 use Rattle.std.proofs.Common.{◌≡◌, ℕ, List, ◌++◌, drop, take, length, Result, Ok, Err, refl, sym, subst, ap, ◌∙◌, arith}
 use Rattle.std.specs.Prelude.{slice_index}
 use Rattle.std.specs.List.{refill}
-use Rattle.area_keeper.specs.Chain.{chain}
+use Rattle.granule_keeper.specs.Granules.{granules}
 use Rattle.pli_serving.specs.Serving.{serves}
 use Rattle.pli_runtime.specs.declared.runtime.Runtime.{Runtime}
 use Rattle.std.proofs.lemmas.Grind.{common_steps}
@@ -50,7 +50,7 @@ told_as reply reply' old registers served x' e same t =
 pub serves_lent :
     (r inside r' : Runtime) (x x' : ℕ → ℕ) (m lent after m' : List ℕ) (reply : Result Reply Refusal) (served : Served) →
     inside ≡ r → lent ≡ m → m' ≡ after →
-    runtime.IsServed chain (λ c. serves c x) inside lent reply r' after → r'.held.layout ≡ inside.held.layout → Tells reply x served x' →
+    runtime.IsServed granules (λ c. serves c x) inside lent reply r' after → r'.held.layout ≡ inside.held.layout → Tells reply x served x' →
     Serves r x m served r' x' m'
 serves_lent r inside r' x x' m lent after m' reply served kept as_lent left done same told =
     subst (λ (it : List ℕ). Serves r x m served r' x' it) (sym left)

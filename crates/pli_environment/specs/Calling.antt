@@ -2,7 +2,7 @@
 use Rattle.std.specs.Prelude.{◌≡◌, ℕ, List}
 use Rattle.rv_meaning.specs.Machine.{written}
 use Rattle.rv_machine.specs.declared.services.Served.{Served}
-use Rattle.area_keeper.specs.Chain.{chain}
+use Rattle.granule_keeper.specs.Granules.{granules}
 use Rattle.pli_serving.specs.Answers.{Answer, Done, Ends, Bad}
 use Rattle.pli_serving.specs.ServiceState.{Services}
 use Rattle.pli_serving.specs.Serving.{serves}
@@ -21,5 +21,5 @@ IsAnswered answer v x m Served.Memory v' x' m' = (v'.world ≡ v.world) × (x' �
 
 -- a call of these services: from themselves, the registers and the bytes, by how it came out, to these after it
 pub record Serves (r : Runtime) (x : ℕ → ℕ) (m : List ℕ) (served : Served) (r' : Runtime) (x' : ℕ → ℕ) (m' : List ℕ) : Type 0 where
-  pub answered : IsAnswered (serves (call_of chain r m) x) (running r) x m served (running r') x' m'
+  pub answered : IsAnswered (serves (call_of granules r m) x) (running r) x m served (running r') x' m'
   pub layout_kept : r'.held.layout ≡ r.held.layout

@@ -7,7 +7,7 @@ ghost use Rattle.pli_serving.specs.ServiceState.{first_services};
 ghost use Rattle.pli_environment.specs.Places.{image_layout};
 ghost use Rattle.pli_runtime.specs.Running.{running, world_told};
 
-use area_heap::chain::Chain;
+use granule_heap::granules::Granules;
 use pli_answering::reply::{Refusal, Reply};
 use pli_language::condition::Condition;
 use pli_meaning::outcome::{End, Outcome};
@@ -27,7 +27,7 @@ const HEAP_CAPACITY: u32 = 1 << 20;
 /// The bytes of an image's memory.
 const MEMORY_SIZE: u32 = 16 << 20;
 
-/// All 41 services over one run's state, with the areas' headers in chains. Contracts see that state.
+/// All 41 services over one run's state, with the areas by granules. Contracts see that state.
 #[derive(Drop)]
 pub struct Environment {
     runtime: Runtime,
@@ -115,7 +115,7 @@ impl Services for Environment {
 
     fn call(&mut self, registers: &mut [u32; 32], storage: &mut Storage) -> Served {
         let memory = storage.as_mut_slice();
-        match self.runtime.serve::<Chain>(memory, registers) {
+        match self.runtime.serve::<Granules>(memory, registers) {
             Ok(Reply::Done(first, second)) => {
                 set_results(registers, first, second);
                 Served::Done

@@ -1,3 +1,4 @@
+pub mod Areas
 mod Bodies
 mod Framing
 mod Most

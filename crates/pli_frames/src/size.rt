@@ -115,12 +115,20 @@ fn leaves_size(leaves: &[Leaf]) -> u64
     size
 }
 
-/// An area with the 16 bytes that its keeper adds.
+/// An area of a capacity, with what its keeper adds.
+#[tactic(auto, using(crate::proofs::Areas::area_stopped))]
+fn area_bytes(size: i128) -> u64
+    ensures { result ≡ stopped (parts.area_bytes (form.capacity_of size)) }
+{
+    let capacity = natural(size) / 16 * 16;
+    stopped((8 + capacity / 16 + 15) / 16 * 16 + capacity)
+}
+
 fn area_size(size: Extent) -> u64
     ensures { result ≡ stopped (form.area_size parts (extent_of size)) }
 {
     match size {
-        Extent::Constant(number) => stopped(16 + natural(number) / 16 * 16),
+        Extent::Constant(number) => area_bytes(number),
         Extent::Star => 0,
         Extent::Refer => 0,
         Extent::Evaluated(_) => 0,

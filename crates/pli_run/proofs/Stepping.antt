@@ -6,7 +6,7 @@ use Rattle.rv_machine.specs.declared.services.Served.{Served}
 use Rattle.rv_machine.specs.declared.machine.Step.{Step}
 use Rattle.rv_machine.specs.declared.machine.Step.TheVariants.{Ran, Ended, Fault as Faulted, Refused}
 use Rattle.rv_machine.specs.Steps.{Moment, Makes, RanFor, RunsFor, Answers, start, then}
-use Rattle.area_keeper.specs.Chain.{chain}
+use Rattle.granule_keeper.specs.Granules.{granules}
 use Rattle.pli_meaning.specs.World.{World}
 use Rattle.pli_meaning.specs.declared.outcome.Outcome.{Outcome}
 use Rattle.pli_serving.specs.Answers.{Answer}
@@ -65,10 +65,10 @@ called_faulted from to f Served.Memory a h (ran, pc) = absurd (cc)
 abbrev pub OfCode : Loaded → Moment Runtime → Type 0
 OfCode p m = m.services.held.layout ≡ image_layout (4 * length p.code)
 
-serves_here : (p : Loaded) (from : Moment Runtime) → OfCode p from → called p (whole from) ≡ serves (call_of chain from.services from.state.memory) from.state.registers
+serves_here : (p : Loaded) (from : Moment Runtime) → OfCode p from → called p (whole from) ≡ serves (call_of granules from.services from.state.memory) from.state.registers
 serves_here p from h =
     ap
-    (λ (l : Layout). serves (record { keeper = chain; layout = View.layout_of l; services = running from.services; memory = from.state.memory }) from.state.registers)
+    (λ (l : Layout). serves (record { keeper = granules; layout = View.layout_of l; services = running from.services; memory = from.state.memory }) from.state.registers)
     (sym h)
 
 makes_ran : (p : Loaded) (from to : Moment Runtime) (e : Effect) → OfCode p from → Makes Serves e from Ran to → (of_effect p (whole from) e ≡ Runs (whole to)) × OfCode p to

@@ -1,8 +1,8 @@
 -- Leaves by their counts: the part that a member with its own members is, and the leaves of that part.
 use Rattle.std.proofs.Common.{◌≡◌, ◌<◌, ◌≤◌, ◌+◌, ◌-◌, ℕ, zero, suc, Bool, true, false, List, [], ◌∷◌, ◌++◌, length, take, drop, map, min, refl, sym, ap, ◌∙◌, arith, append_assoc, append-nil, length-append, add-zero}
-use Rattle.std.specs.Prelude.{if◌then◌else◌, not, nat_lt, slice_get, unwrap_or}
+use Rattle.std.specs.Prelude.{if◌then◌else◌}
 use Rattle.std.proofs.lemmas.Bool.Decides.{nat_tests}
-use Rattle.std.proofs.lemmas.List.{drop_all, take-map, drop-map, take_min, take_all}
+use Rattle.std.proofs.lemmas.List.{drop_all, take-map, drop-map, drop_min, length-drop, take_min, take_all}
 use Rattle.std.proofs.Math.Seq.{take-append_seam}
 use Rattle.pli_declare.proofs.Chains.{drop_here}
 use Rattle.pli_language.specs.declared.expr.Place.{Place}
@@ -11,7 +11,7 @@ use Rattle.pli_language.specs.Declaring.{is_deeper}
 use Rattle.pli_typing.specs.TypedTree as Y
 use Rattle.pli_typing.specs.Variables.{from_place, is_at, leaves_in, part_from, while_deeper, with_members}
 use Rattle.pli_variables.specs.Counts.{count_at, counts_in, leaves_at, part_behind}
-use Rattle.pli_variables.specs.Held.{is_leaf, leaf_first}
+use Rattle.pli_variables.specs.Held.{leaf_first}
 use Rattle.pli_variables.proofs.Grouping.{leaves_before, leaves_on}
 
 -- ---- the loop that counts
@@ -188,17 +188,21 @@ leaves_are f place all =
 
 -- ---- a slice of leaves
 
-pub drop_min : {X : Type 0} (n : ℕ) (xs : List X) → drop (min n (length xs)) xs ≡ drop n xs
-drop_min n xs = go (nat_lt (length xs) n) refl
-  where
-    go : (t : Bool) → nat_lt (length xs) n ≡ t → drop (min n (length xs)) xs ≡ drop n xs
-    go true e =
-        let least : min n (length xs) ≡ length xs = grind (arith, nat_tests, e) in
-        let past : length xs ≤ n = grind (arith, nat_tests, e) in
-        let end : length xs ≤ length xs = omega arith in
-        ap (λ k. drop k xs) least ∙ drop_all (length xs) xs end ∙ sym (drop_all n xs past)
-    go false e = let least : min n (length xs) ≡ n = grind (arith, nat_tests, e) in ap (λ k. drop k xs) least
+-- what stands from a place on, all that is there
+slice_on : {X : Type 0} (n : ℕ) (xs : List X) → take (length xs - n) (drop n xs) ≡ drop n xs
+slice_on n xs =
+    let many : length (drop n xs) ≡ length xs - n = length-drop n xs in
+    let within : length (drop n xs) ≤ length xs - n = omega (arith, many) in
+    take_all (length xs - n) (drop n xs) within
 
-pub ruleset leaves_taken = (drop_min, take_min, take-map, drop-map)
+-- the leaves of a part, where each of its ends is cut to what is there
+pub part_cut : {H X : Type 0} (f : H → X) (part : Y.Part) (all : List H) (n k : ℕ) → n ≡ min part.first (length all) → k ≡ min part.count (length (take (length all - n) (drop n all))) → map f (take k (take (length all - n) (drop n all))) ≡ leaves_at part (map f all)
+part_cut f part all n k e g =
+    let from : take (length all - n) (drop n all) ≡ drop part.first all = slice_on n all ∙ ap (λ m. drop m all) e ∙ drop_min part.first all in
+    ap (λ m. map f (take m (take (length all - n) (drop n all)))) g
+    ∙ ap (λ u. map f (take (min part.count (length u)) u)) from
+    ∙ ap (map f) (take_min part.count (drop part.first all))
+    ∙ sym (take-map f part.count (drop part.first all))
+    ∙ ap (take part.count) (sym (drop-map f part.first all))
 
 pub ruleset counts = (drop_here, drop_all, append_assoc, append-nil, leaves_on, length_if)

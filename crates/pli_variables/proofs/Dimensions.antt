@@ -1,11 +1,12 @@
 -- How many dimensions an element of a variable has.
-use Rattle.std.proofs.Common.{◌≡◌, ◌≢◌, ◌+◌, ℕ, List, [], ◌∷◌, length, refl, sym, ap, ◌∙◌, arith}
+use Rattle.std.proofs.Common.{◌≡◌, ◌≢◌, ◌+◌, ℕ, List, [], ◌∷◌, ◌++◌, length, refl, sym, ap, ◌∙◌, arith, append-nil}
 use Rattle.std.specs.Prelude.{min}
 use Rattle.std.specs.List.{flat_map, sum_by}
 use Rattle.std.proofs.lemmas.List.{length-append}
 use Rattle.std.proofs.lemmas.List.Sums.{sum_by-cons}
-use Rattle.pli_language.specs.Declarations.{Held, dimensions_of}
+use Rattle.pli_language.specs.Declarations.{Held, Variable, dimensions_of}
 use Rattle.pli_language.specs.Declaring.{own_dimensions, inherited_dimensions}
+use Rattle.pli_declare.specs.Levels.{dimensions_in}
 use Rattle.pli_typing.specs.Variables.{all_dimensions}
 
 length_of_all : {X Y : Type 0} (f : X → List Y) (xs : List X) → length (flat_map f xs) ≡ sum_by (λ x. length (f x)) xs
@@ -19,3 +20,13 @@ counted h n is other =
     let all = length-append (flat_map dimensions_of h.above) (dimensions_of h.variable) in
     let above = length_of_all dimensions_of h.above in
     grind (arith, is, other, all, above)
+
+none_of_none : {X : Type 0} (xs : List X) → length xs ≡ 0 → xs ≡ []
+none_of_none [] h = refl
+none_of_none (x ∷ xs) h = absurd (omega (arith, h))
+
+-- structures that have no dimensions together have none each
+pub none_inherited : (vs : List Variable) → dimensions_in vs ≡ 0 → flat_map dimensions_of vs ≡ []
+none_inherited vs h = none_of_none (flat_map dimensions_of vs) (length_of_all dimensions_of vs ∙ h)
+
+pub ruleset inherited = (none_inherited, append-nil)

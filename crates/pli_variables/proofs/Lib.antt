@@ -8,3 +8,4 @@ pub mod Shaped
 pub mod Procedures
 pub mod Keeping
 pub mod Counts
+pub mod Ordered

@@ -1,5 +1,5 @@
 -- Shapes are made of what a block declares.
-use Rattle.std.proofs.Common.{◌≡◌, ℕ, List, [], ◌∷◌, length, map, Option, Some, None, refl, sym, ap, ◌∙◌}
+use Rattle.std.proofs.Common.{◌≡◌, ◌≤◌, ℕ, List, [], ◌∷◌, length, map, get_or, Option, Some, None, refl, sym, ap, ◌∙◌, arith}
 use Rattle.std.specs.Prelude.{slice_get, unwrap_or}
 use Rattle.std.specs.Option.{option_map}
 use Rattle.std.proofs.lemmas.Option.{slice_get-map}
@@ -7,6 +7,8 @@ use Rattle.std.proofs.Math.Logic.{∥∥₁_elim}
 use Rattle.std.proofs.Props.{props}
 use mathlib.Core.Sum.{⊎_set}
 use Rattle.pli_language.specs.declared.scope.DeclarationAt.{DeclarationAt}
+use Rattle.pli_declare.specs.declared.scope.Held.{Held as HeldHeld}
+use Rattle.pli_declare.specs.Shown.{held_of}
 use Rattle.pli_typing.specs.Calls.{begins_named}
 use Rattle.pli_language.specs.Declarations.{Held, What, Variable', Label, ProcedureName, Declaration, Block}
 use Rattle.pli_language.specs.Declaring.{names_of, stands_alone}
@@ -18,7 +20,7 @@ use Rattle.pli_variables.specs.Counts.{counts_in, part_behind}
 use Rattle.pli_variables.specs.Procedures.{procedure_at, procedure_in, procedure_of_what, procedure_row}
 use Rattle.pli_variables.specs.Rows.{variable_among}
 use Rattle.pli_variables.specs.Shapes.{Shape, shape, shape_at, shape_in, shape_of_first, shape_of_what}
-use Rattle.pli_variables.specs.ShownShapes.{home_in, shape_among, shape_given, shape_row, shape_with, whole_given, whole_row}
+use Rattle.pli_variables.specs.ShownShapes.{Home, home_in, shape_among, shape_given, shape_row, shape_with, whole_given, whole_row}
 use Rattle.pli_variables.proofs.Counts.{leaves_are, part_is}
 use Rattle.pli_variables.proofs.Tabled.{map_same, meant_in}
 
@@ -71,6 +73,11 @@ same_given blocks b block e (ProcedureName head) = refl
 same_whole : (blocks : List Block) (b : ℕ) (block : Block) → slice_get blocks b ≡ Some block → (g : List Held) → whole_given (home_in blocks block b) g ≡ shape_of_first blocks b (Some g)
 same_whole blocks b block e [] = refl
 same_whole blocks b block e (h ∷ members) = ap Some (same_shape blocks b block e h)
+
+-- the first of these is the variable of level 1
+pub whole_first : (home : Home) (members : List HeldHeld) (h : HeldHeld) → 1 ≤ length members → h ≡ get_or members 0 h → Some (shape_among home (held_of h)) ≡ whole_given home (map held_of members)
+whole_first home [] h l e = absurd (omega (arith, l))
+whole_first home (m ∷ members) h l e = ap (λ u. Some (shape_among home (held_of u))) e
 
 -- what is kept of a block, if there is one
 abbrev table_meant : List Block → Option Block → ℕ → BlockTable

@@ -7,3 +7,4 @@ pub mod BlockTables
 pub mod Procedures
 pub mod Kept
 pub mod Counts
+pub mod Order

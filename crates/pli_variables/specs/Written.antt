@@ -1,6 +1,5 @@
 -- Extents as they are written, shown as the definitions have them.
-use Rattle.std.specs.Prelude.{ℕ, Bool, List, [], ◌∷◌, ◌++◌, take, drop, map, Option, Some, None, if◌then◌else◌, Vec}
-use Rattle.std.specs.declared.alloc.Global.{Global}
+use Rattle.std.specs.Prelude.{ℕ, Bool, List, [], ◌∷◌, ◌++◌, take, drop, map, Option, Some, None, if◌then◌else◌}
 use Rattle.pli_language.specs.declared.expr.Place.{Place}
 use Rattle.pli_language.specs.Tree.{Name, Expr, Bound, Attribute, Character, Area, Offset, Size, StarSize, Given}
 use Rattle.pli_language.specs.View.{expr_of, bound_of}

@@ -6,7 +6,7 @@ ghost use Rattle.pli_language.specs.Declarations.{dimensions_of};
 ghost use Rattle.pli_typing.specs.TypedView.{bounds_of as bounds_typed, leaf_of as leaf_typed};
 ghost use Rattle.pli_typing.specs.Variables.{all_dimensions, bounds_of, extent_of, initial_items, leaf_of, leaves_in};
 ghost use Rattle.pli_language.specs.View.{attribute_of, bound_of, initial_item_of};
-ghost use Rattle.pli_declare.specs.Shown.{held_of, levels_of, variable_of};
+ghost use Rattle.pli_declare.specs.Shown.{above_of, held_of, levels_of, variable_of};
 ghost use Rattle.pli_variables.specs.Held.{leaf_first};
 ghost use Rattle.pli_variables.specs.Rows.{blocks_shown};
 ghost use Rattle.pli_variables.specs.Written.{all_shown};
@@ -15,7 +15,7 @@ use crate::amount::bounds_of;
 use crate::extent::WrittenExtent;
 use crate::meant::Meant;
 use crate::members::is_leaf;
-use pli_declare::above::Levels;
+use pli_declare::above::{Above, Levels};
 use pli_declare::scope::{Held, Variable};
 use pli_declaring::held::{all_dimensions, own_attributes};
 use pli_language::declaration::{Attribute, Bound, InitialItem};
@@ -61,11 +61,33 @@ fn put_bounds_above(
     ensures { OnOk result (map bounds_typed out.new.items ≡ map bounds_typed out.old.items ++ map (bounds_of (extent_of (all_shown written.now))) (flat_map dimensions_of (levels_of (variable_of outermost.entry) levels.now))) }
 {
     match levels {
-        Levels::Inside { structure, above, .. } => {
+        Levels::Inside {
+            structure,
+            above,
+            ..
+        } => {
             put_bounds_above(out, written, outermost, above)?;
             put_own_bounds(out, written, *structure)
         }
         Levels::Outermost => put_own_bounds(out, written, outermost),
+    }
+}
+
+/// The bounds of the structures that hold a variable.
+#[tactic(auto, using(crate::proofs::Dimensions::inherited))]
+fn put_inherited_bounds(
+    out: &mut Vec<Bounds>,
+    written: &[WrittenExtent],
+    above: &Above,
+) -> Result<(), AllocError>
+    ensures { OnOk result (map bounds_typed out.new.items ≡ map bounds_typed out.old.items ++ map (bounds_of (extent_of (all_shown written.now))) (flat_map dimensions_of (above_of above.now))) }
+{
+    if above.dimensions() == 0 {
+        return Ok(());
+    }
+    match above.outermost {
+        Some(outermost) => put_bounds_above(out, written, outermost, &above.levels),
+        None => Ok(()),
     }
 }
 
@@ -79,9 +101,7 @@ fn all_bounds(
     ensures { IfOk result (λ v. map bounds_typed v.items ≡ map (bounds_of (extent_of (all_shown written.now))) (all_dimensions (held_of held.now))) }
 {
     let mut out = Vec::new(alloc);
-    if let Some(outermost) = held.above.outermost {
-        put_bounds_above(&mut out, written, outermost, &held.above.levels)?;
-    }
+    put_inherited_bounds(&mut out, written, &held.above)?;
     put_own_bounds(&mut out, written, held.variable)?;
     Ok(out)
 }

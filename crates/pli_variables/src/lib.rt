@@ -10,6 +10,7 @@ mod leaf;
 mod leaves;
 mod meant;
 mod members;
+mod order;
 mod parameter;
 mod procedure;
 mod refer;

@@ -22,7 +22,6 @@ impl<'a> Shape<'a> {
     ghost use Rattle.pli_variables.specs.ShownShapes.{shape_of};
 
     /// Its leaves.
-    #[tactic(auto, using(crate::proofs::Counts::leaves_taken))]
     pub fn leaves(&self) -> &[Leaf<'a>]
         ensures { map leaf_typed result.now ≡ (shape_of self.now).leaves }
     {

@@ -82,14 +82,10 @@ fn shape_found<'a>(
 }
 
 /// The shape of a variable of this block.
-fn shape_among<'a>(
-    alloc: Global,
-    home: &Home<'_, 'a>,
-    held: &Held,
-) -> Result<Shape<'a>, AllocError>
+fn shape_among<'a>(alloc: Global, home: &Home<'_, 'a>, held: &Held) -> Result<Shape<'a>, AllocError>
     ensures { IfOk result (λ s. shape_of s ≡ shape_among (home_of home.now) (held_of held.now)) }
 {
-    let variable = variable_among(home.block, home.number, &home.groups, held);
+    let variable = variable_among(home.block, home.number, &home.groups, home.in_order, held);
     shape_found(alloc, variable, &home.groups, &home.leaves, held)
 }
 
@@ -116,9 +112,9 @@ fn whole_given<'a>(
 ) -> Result<Option<Shape<'a>>, AllocError>
     ensures { IfOk result (λ s. option_of shape_of s ≡ whole_given (home_of home.now) (map held_of members.now)) }
 {
-    match members.first() {
-        Some(held) => Ok(Some(shape_among(alloc, home, held)?)),
-        None => Ok(None),
+    match members {
+        [held, ..] => Ok(Some(shape_among(alloc, home, held)?)),
+        [] => Ok(None),
     }
 }
 

@@ -8,9 +8,11 @@ ghost use Rattle.pli_language.specs.View.{attribute_of, name_of, option_of};
 ghost use Rattle.pli_declare.specs.Shown.{held_of, what_of};
 ghost use Rattle.pli_declare.specs.ShownBlocks.{block_of};
 ghost use Rattle.pli_variables.specs.Held.{groups_held};
+ghost use Rattle.pli_variables.specs.Order.{are_in_order};
 ghost use Rattle.pli_variables.specs.Rows.{row_shown, variable_among, variable_in};
 
 use crate::members::is_at;
+use crate::order::{are_in_order, likely};
 use pli_declare::scope::{Block, Held, What};
 use pli_declaring::attribute::{Row, has};
 use pli_declaring::held::{is_parameter, root_of};
@@ -29,18 +31,33 @@ fn begins_at(place: Place, members: &[Held]) -> bool
     }
 }
 
-/// Which of these variables of level 1 a variable is or belongs to.
+/// Which of these variables of level 1 is declared at a place.
 #[tactic(auto, using(crate::proofs::Amounts::found))]
-pub fn index_of_variable(groups: &[Vec<Held>], held: &Held) -> usize
-    ensures { result ≡ index_where (begins_at (root_place (held_of held.now))) (groups_held groups.now) }
+fn index_at(groups: &[Vec<Held>], place: Place) -> usize
+    ensures { result ≡ index_where (begins_at place) (groups_held groups.now) }
 {
-    let place = root_of(held).declared.name.place;
     for (i, members) in groups.iter().enumerate() {
         if begins_at(place, members) {
             return i;
         }
     }
     groups.len()
+}
+
+/// Which of these variables of level 1 a variable is or belongs to.
+#[tactic(auto, using(crate::proofs::Ordered::found_in_order))]
+fn index_of_variable(groups: &[Vec<Held>], in_order: bool, held: &Held) -> usize
+    requires { in_order ≡ are_in_order (groups_held groups.now) }
+    ensures { result ≡ index_where (begins_at (root_place (held_of held.now))) (groups_held groups.now) }
+{
+    let place = root_of(held).declared.name.place;
+    if in_order {
+        let index = likely(place, groups);
+        if begins_at(place, members_at(groups, index)) {
+            return index;
+        }
+    }
+    index_at(groups, place)
 }
 
 /// The storage class of a variable of level 1 with these attributes, or of its members.
@@ -71,23 +88,37 @@ pub fn parameters_of<'a>(block: &Block<'a>) -> &'a [Name]
 }
 
 /// The variable of level 1 that a variable is or belongs to, where its block has this number and declares these.
-pub fn variable_among(block: &Block, number: usize, groups: &[Vec<Held>], held: &Held) -> Variable
+pub fn variable_among(
+    block: &Block,
+    number: usize,
+    groups: &[Vec<Held>],
+    in_order: bool,
+    held: &Held,
+) -> Variable
+    requires { in_order ≡ are_in_order (groups_held groups.now) }
     ensures { variable_typed result ≡ variable_among (block_of block.now) number (groups_held groups.now) (held_of held.now) }
 {
     Variable {
         class: class_of(parameters_of(block), held, &root_of(held).item.attributes),
         block: number,
         level: block.around.len().saturating_sub(2),
-        index: index_of_variable(groups, held),
+        index: index_of_variable(groups, in_order, held),
     }
 }
 
 /// The same, of what is declared.
-fn variable_in(block: &Block, number: usize, groups: &[Vec<Held>], what: &What) -> Option<Variable>
+fn variable_in(
+    block: &Block,
+    number: usize,
+    groups: &[Vec<Held>],
+    in_order: bool,
+    what: &What,
+) -> Option<Variable>
+    requires { in_order ≡ are_in_order (groups_held groups.now) }
     ensures { option_of variable_typed result ≡ variable_in (block_of block.now) number (groups_held groups.now) (what_of what.now) }
 {
     match what {
-        What::Variable(held) => Some(variable_among(block, number, groups, held)),
+        What::Variable(held) => Some(variable_among(block, number, groups, in_order, held)),
         What::Label => None,
         What::Procedure(_) => None,
     }
@@ -103,9 +134,10 @@ pub fn variables_among(
 ) -> Result<Vec<Option<Variable>>, AllocError>
     ensures { IfOk result (λ v. row_shown v.items ≡ map (λ d. variable_in (block_of block.now) number (groups_held groups.now) d.what) (block_of block.now).declarations) }
 {
+    let in_order = are_in_order(groups);
     let mut out = Vec::new(alloc);
     for declaration in &block.names.declarations {
-        out.push(variable_in(block, number, groups, &declaration.what))?;
+        out.push(variable_in(block, number, groups, in_order, &declaration.what))?;
     }
     Ok(out)
 }

@@ -1,0 +1,22 @@
+// Words of four bytes in a run of bytes, the lowest byte first.
+
+ghost use Rattle.std.specs.Prelude.{◌≡◌, ◌+◌, ◌≤◌, length};
+ghost use Rattle.area_keeper.specs.Chain.{word_at, with_word};
+
+pub fn word_at(bytes: &[u8], at: usize) -> u32
+    requires { at + 4 ≤ length bytes.now }
+    ensures { result ≡ word_at at bytes.now }
+{
+    u32::from_le_bytes([bytes[at], bytes[at + 1], bytes[at + 2], bytes[at + 3]])
+}
+
+pub fn set_word(bytes: &mut [u8], at: usize, value: u32)
+    requires { at + 4 ≤ length bytes.old }
+    ensures { bytes.new ≡ with_word at value bytes.old }
+{
+    let [first, second, third, fourth] = value.to_le_bytes();
+    bytes[at] = first;
+    bytes[at + 1] = second;
+    bytes[at + 2] = third;
+    bytes[at + 3] = fourth;
+}
