@@ -1,10 +1,9 @@
 -- Elements by the kinds that there are.
-use Rattle.std.proofs.Common.{◌≡◌, Bool, true, false, ◌||◌, ◌++◌, refl, sym, ap, ◌∙◌}
+use Rattle.std.proofs.Common.{◌≡◌, Bool, true, false, ◌++◌, refl, ap, ◌∙◌}
 use Rattle.rv_meaning.specs.declared.image.TableKind.TheVariants as K
 use Rattle.rv_meaning.specs.Tables.{kind_number}
 use Rattle.pli_language.specs.Tree.{Formats}
 use Rattle.pli_typing.specs.TypedTree as Y
-use Rattle.pli_coding.specs.Assembly.{Code}
 use Rattle.pli_coding.specs.Environments.{Environment, Taken}
 use Rattle.pli_coding.specs.Streams.{by_kind, element_field_taken, element_written, has_kind, has_texts, kind_if}
 use Rattle.rv_item.specs.declared.kinds.Kinds.{Kinds}

@@ -76,11 +76,7 @@ fn text_stored(code: &mut Code) -> Result<(), AllocError>
 // ---- each of them
 
 #[tactic(auto, unfolding(crate::specs::Moved::fixed_moved))]
-fn fixed_moved(
-    code: &mut Code,
-    taken: Taken,
-    motion: Motion,
-) -> Result<(), AllocError>
+fn fixed_moved(code: &mut Code, taken: Taken, motion: Motion) -> Result<(), AllocError>
     ensures { OnOk result (code.new ≡ code.old ++ fixed_moved motion (taken_of taken)) }
 {
     match motion {
@@ -91,11 +87,7 @@ fn fixed_moved(
 }
 
 #[tactic(auto, unfolding(crate::specs::Moved::bit_moved))]
-fn bit_moved(
-    code: &mut Code,
-    taken: Taken,
-    motion: Motion,
-) -> Result<(), AllocError>
+fn bit_moved(code: &mut Code, taken: Taken, motion: Motion) -> Result<(), AllocError>
     ensures { OnOk result (code.new ≡ code.old ++ bit_moved motion (taken_of taken)) }
 {
     match motion {
@@ -127,11 +119,7 @@ fn kind_tested(code: &mut Code, kind: u32) -> Result<(), AllocError>
 }
 
 #[tactic(auto, using(rv_assembly::proofs::Patching::patching))]
-fn bit_or_text(
-    code: &mut Code,
-    taken: Taken,
-    motion: Motion,
-) -> Result<(), AllocError>
+fn bit_or_text(code: &mut Code, taken: Taken, motion: Motion) -> Result<(), AllocError>
     ensures { OnOk result (code.new ≡ code.old ++ choice Test.Equal u0 u1 (bit_moved motion (taken_of taken)) (text_moved motion)) }
 {
     let branch = code.keep_branch()?;

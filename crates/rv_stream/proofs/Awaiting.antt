@@ -1,5 +1,5 @@
 -- One jump that leads to an exit.
-use Rattle.std.proofs.Common.{◌≡◌, ℕ, ◌+◌, ◌-◌, ◌*◌, pos, List, [], ◌∷◌, ◌++◌, length, refl, sym, ap, ◌∙◌, subst, arith, append_assoc}
+use Rattle.std.proofs.Common.{◌≡◌, ℕ, ◌+◌, ◌-◌, [], ◌∷◌, ◌++◌, refl, sym, ap, ◌∙◌, subst, arith, append_assoc}
 use Rattle.rv_meaning.specs.declared.instr.BranchTest.TheVariants as Test
 use Rattle.pli_language.specs.declared.condition.Condition.TheVariants as C
 use Rattle.pli_language.specs.Tree.{Formats}
@@ -12,15 +12,14 @@ use Rattle.pli_coding.specs.Environments.{Environment, Taken}
 use Rattle.pli_coding.specs.Arithmetic.{raised}
 use Rattle.pli_coding.specs.Expressions.{type_in}
 use Rattle.pli_coding.specs.Storing.{record_code}
-use Rattle.pli_coding.specs.Streams.{Elements, controls_carried_out, element_got, elements_begun, elements_got, elements_of, field_awaited, field_stored, item_got, next_asked, next_counted, turns}
-use Rattle.rv_assembly.specs.declared.place.Place.{Place}
+use Rattle.pli_coding.specs.Streams.{Elements, controls_carried_out, element_got, elements_begun, elements_of, field_awaited, field_stored, item_got, next_asked, next_counted, turns}
 use Rattle.rv_assembly.specs.Places.{IsPlace, branch, jump_kept, jump_place, patched}
 use Rattle.rv_assembly.proofs.Growing.{size_append}
 use Rattle.rv_assembly.proofs.Places.{is_jump, patched_jump}
 use Rattle.rv_item.specs.Ends.{end_first, exit_behind}
 use Rattle.rv_stream.specs.Exits.{elements_exit, elements_kept, item_exit, item_kept, scalar_kept}
 use Rattle.rv_item.specs.Turns.{turn_begun}
-use Rattle.rv_stream.proofs.Shapes.{Alike, alike_behind, same_exit, same_jump}
+use Rattle.rv_stream.proofs.Shapes.{alike_behind, same_exit, same_jump}
 
 -- what stands before the jump
 abbrev first : Code

@@ -1,19 +1,15 @@
 -- Code that differs in the distances of its jumps alone has the same length and size.
-use Rattle.std.proofs.Common.{◌≡◌, ℕ, ◌+◌, ◌*◌, pos, List, [], ◌∷◌, ◌++◌, length, refl, sym, ap, ◌∙◌, length-append}
-use Rattle.rv_meaning.specs.declared.instr.BranchTest.TheVariants as Test
-use Rattle.pli_language.specs.declared.condition.Condition.TheVariants as C
+use Rattle.std.proofs.Common.{◌≡◌, ℕ, ◌+◌, List, [], ◌∷◌, ◌++◌, length, refl, sym, ap, ◌∙◌, length-append}
 use Rattle.pli_language.specs.Tree.{Formats}
 use Rattle.pli_typing.specs.TypedTree as Y
-use Rattle.pli_meaning.specs.Codes.{endfile_code}
-use Rattle.pli_coding.specs.Registers.{a0, u1}
+use Rattle.pli_coding.specs.Registers.{u1}
 use Rattle.pli_coding.specs.Assembly.{Code, size_of}
 use Rattle.pli_coding.specs.Instructions.{small}
 use Rattle.pli_coding.specs.Environments.{Environment, Taken}
-use Rattle.pli_coding.specs.Arithmetic.{raised}
 use Rattle.pli_coding.specs.Storing.{record_code}
 use Rattle.pli_coding.specs.Streams.{Elements, controls_carried_out, element_got, elements_begun, elements_got, elements_of, field_awaited, item_got, items_got, next_asked, turns}
 use Rattle.rv_assembly.specs.declared.place.Place.{Place}
-use Rattle.rv_assembly.specs.Places.{branch, jump_place}
+use Rattle.rv_assembly.specs.Places.{jump_place}
 use Rattle.rv_assembly.proofs.Growing.{size_append}
 use Rattle.rv_item.specs.Ends.{end_first, exit_behind}
 use Rattle.rv_stream.specs.Exits.{elements_exit, elements_kept, item_exit, item_kept, items_exits, items_kept, scalar_kept}
