@@ -1,5 +1,5 @@
 -- The parameters of procedures by the shapes of variables.
-use Rattle.std.proofs.Common.{◌≡◌, ◌∙◌, ◌++◌, ℕ, List, [], ◌∷◌, Option, Some, None, map, refl, sym, ap}
+use Rattle.std.proofs.Common.{◌≡◌, ◌∙◌, ℕ, List, [], ◌∷◌, Option, Some, None, refl, sym, ap}
 use Rattle.std.specs.Prelude.{unwrap_or}
 use Rattle.pli_language.specs.Declarations.{Held, Block}
 use Rattle.pli_typing.specs.Calls.{whole_of}

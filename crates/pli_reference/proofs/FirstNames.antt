@@ -1,10 +1,10 @@
 -- What names mean, by the first of them.
-use Rattle.std.proofs.Common.{◌≡◌, ◌∙◌, List, [], ◌∷◌, Option, Some, None, map, refl, sym, ap, true≢false}
+use Rattle.std.proofs.Common.{◌≡◌, List, [], ◌∷◌, Some, None, map, refl, sym, ap, true≢false}
 use Rattle.std.specs.Prelude.{is_some, unwrap_or}
-use Rattle.pli_typing.specs.Judging.{Scope, Judged, fine}
+use Rattle.pli_typing.specs.Judging.{Scope, fine}
 use Rattle.pli_language.specs.Means.{names_mean}
 use Rattle.pli_typing.specs.References.{Named, found_referent, names_referent}
-use Rattle.pli_typing.specs.Converting.{Referent, NotKnown}
+use Rattle.pli_typing.specs.Converting.{NotKnown}
 use Rattle.pli_language.specs.Tree.{Name}
 use Rattle.pli_typing.specs.TypedTree as Y
 use Rattle.pli_reference.specs.Firsts.{first_name}

@@ -11,7 +11,7 @@ use Rattle.pli_language.specs.declared.expr.Reference.{Reference as ReferenceHel
 use Rattle.pli_language.specs.declared.expr.Reference as R
 use Rattle.pli_language.specs.declared.expr.Qualified.{Qualified as QualifiedHeld}
 use Rattle.pli_language.specs.View.{arguments_of, expr_of, exprs_of, reference_of, qualified_of}
-use Rattle.pli_typing.specs.Judging.{Scope, ◌>>=◌}
+use Rattle.pli_typing.specs.Judging.{Scope}
 use Rattle.pli_typing.specs.References.{Named, arguments, expression, expressions, names_referent, operand, qualified, reference, referred, written_locator}
 use Rattle.pli_language.specs.Tree.{Expr, Plain, Qualified, Reference}
 use Rattle.pli_operand.specs.Notes.{Noted, noted, with_lists}

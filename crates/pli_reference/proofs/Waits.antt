@@ -1,5 +1,5 @@
 -- A chain of operators or of locators, judged from its innermost operand out, is judged as the tree says.
-use Rattle.std.proofs.Common.{◌≡◌, ◌∙◌, ◌++◌, List, [], ◌∷◌, None, refl, sym, ap, ap₂}
+use Rattle.std.proofs.Common.{◌≡◌, ◌∙◌, ◌++◌, List, [], ◌∷◌, None, sym, ap, ap₂}
 use Rattle.std.proofs.Common.{append_assoc, append-nil}
 use Rattle.pli_language.specs.declared.expr.InfixOp.{InfixOp}
 use Rattle.pli_language.specs.declared.expr.Place.{Place}

@@ -1,4 +1,4 @@
-use Rattle.std.proofs.Common.{◌≡◌, ◌∙◌, List, ◌∷◌, [], ◌++◌, map, slice_get, ap, sym}
+use Rattle.std.proofs.Common.{◌∙◌, ◌∷◌, [], ◌++◌, map, slice_get, ap, sym}
 use Rattle.std.proofs.lemmas.List.{map_push}
 use Rattle.pli_typing.specs.Variables.{declarations_at, variables_in}
 use Rattle.pli_declare.specs.ShownBlocks.{block_of}

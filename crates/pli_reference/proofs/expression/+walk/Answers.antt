@@ -1,4 +1,4 @@
-use Rattle.std.proofs.Common.{◌≡◌, ◌∙◌, ◌++◌, ◌+◌, [], ◌∷◌, None, ap, map, refl, sym, arith}
+use Rattle.std.proofs.Common.{◌∙◌, None, ap, map, refl, arith}
 use Rattle.pli_language.specs.Tree.{Plain}
 use Rattle.pli_language.specs.View.{expr_of, qualified_of, reference_of}
 use Rattle.pli_operand.specs.Notes.{noted}

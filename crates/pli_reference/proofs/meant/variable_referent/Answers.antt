@@ -1,4 +1,4 @@
-use Rattle.std.proofs.Common.{◌≡◌, ◌∙◌, map, ap, ap₂}
+use Rattle.std.proofs.Common.{◌∙◌, map, ap, ap₂}
 use Rattle.std.specs.List.{list_any}
 use Rattle.pli_typing.specs.Builtins.{number_list}
 use Rattle.pli_typing.specs.Converting.{Designates}
