@@ -1,20 +1,17 @@
 -- The elements of a shape, by the notes of its parts.
-use Rattle.std.proofs.Common.{zero, suc, ◌≡◌, ◌<◌, ℕ, ℤ, ◌+◌, ◌-◌, ◌^◌, get_or, slice_get, length, map, Option, List, [], ◌∷◌, ◌++◌, refl, sym, ap, subst, ◌∙◌}
+use Rattle.std.proofs.Common.{zero, suc, ◌≡◌, ◌<◌, ℕ, ℤ, ◌+◌, ◌-◌, ◌^◌, slice_get, length, map, Option, List, [], ◌∷◌, ◌++◌, refl, sym, ap, subst, ◌∙◌}
 use Rattle.std.specs.List.{flat_map}
 use Rattle.std.proofs.lemmas.List.{length-map}
-use Rattle.pli_typing.specs.Signatures.{Leaf, capped}
+use Rattle.pli_typing.specs.Signatures.{Leaf}
 use Rattle.pli_meaning.specs.StreamOrder.{Nest, NoNest, NestOf, Element, bounds_of_leaf, elements_inside, leaves_inside, with_more}
 use Rattle.pli_shapes.specs.declared.part.Part.{Part}
 use Rattle.pli_shapes.specs.Nests.{nest_from, nest_in}
-use Rattle.pli_order.specs.Counted.{counted}
-use Rattle.pli_order.specs.Counts.{count_in}
-use Rattle.pli_order.specs.Notes.{AreNoted, noted, parts_of}
+use Rattle.pli_order.specs.Notes.{noted, parts_of}
 use Rattle.pli_order.specs.Orders.{IsOrder}
 use Rattle.pli_order.specs.Walks.{IsAt, IsWalkAt}
 use Rattle.pli_order.specs.declared.note.Note.{Note}
 use Rattle.pli_order.specs.declared.notes.Order.{Order}
 use Rattle.pli_order.specs.declared.walk.Walk.{Walk}
-use Rattle.pli_order.proofs.Elements.{length_elements}
 use Rattle.pli_order.proofs.RowLists.{flat_same}
 
 -- ---- depths don't matter
