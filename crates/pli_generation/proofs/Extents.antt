@@ -1,10 +1,10 @@
 -- Parts that are judged one after the other, by what they break.
 use Rattle.std.proofs.Common.{◌≡◌, ◌∙◌, ◌<◌, ℕ, zero, suc, get_or, arith, Bool, false, List, [], ◌∷◌, ◌++◌, Option, Some, None, map, length, slice_get, append_assoc, append-nil, refl, sym, ap, ap₂}
-use Rattle.std.specs.Prelude.{not, ◌||◌, drop}
+use Rattle.std.specs.Prelude.{not}
 use Rattle.std.specs.List.{list_any}
 use Rattle.pli_language.specs.declared.fault.SourceFault.{SourceFault}
 use Rattle.pli_language.specs.declared.fault.SourceKind.TheVariants.{BadExtent}
-use Rattle.pli_language.specs.Declarations.{Block, Held}
+use Rattle.pli_language.specs.Declarations.{Held}
 use Rattle.pli_language.specs.Declaring.{own_attributes, place_of_expr}
 use Rattle.pli_typing.specs.Generations.{declared_variable, declared_with, extent_demanded, is_forbidden, names_demanded}
 use Rattle.pli_typing.specs.Judging.{Judged, Scope, demand, each}

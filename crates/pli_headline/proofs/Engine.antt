@@ -20,7 +20,7 @@ use Rattle.rv_meaning.specs.Machine.{Loaded, State, Effect, Goes, Faults, memory
 use Rattle.pli_serving.specs.ServiceState.{Services}
 use Rattle.pli_serving.specs.Answers.{Answer, Done}
 use Rattle.pli_serving.specs.Finding.{Call}
-use Rattle.area_keeper.specs.Chain.{chain}
+use Rattle.granule_keeper.specs.Granules.{granules}
 use Rattle.image_runs.specs.Runs.{Whole, Run, Runs, Ended, Stopped, layout_of, answered}
 use Rattle.pli_headline.proofs.Unlimited.{serves, next, of_effect, run_on}
 
@@ -69,7 +69,7 @@ most_code = 2 ^ 20
 -- a call, by its services and memory
 abbrev pub call_at : List Instr → Services → List ℕ → Call
 call_at code v m =
-    record { keeper = chain; layout = layout_of (4 * length code); services = v; memory = m }
+    record { keeper = granules; layout = layout_of (4 * length code); services = v; memory = m }
 
 -- what the service answers that a machine calls
 unfoldable pub served : List Instr → Whole → Answer

@@ -8,7 +8,7 @@ use Rattle.pli_meaning.specs.BasicValues.{VariableName}
 use Rattle.pli_meaning.specs.Contents.{Generation, fresh}
 use Rattle.pli_meaning.specs.declared.outcome.End.TheVariants as E
 use Rattle.pli_meaning.specs.declared.outcome.Limit.TheVariants as L
-use Rattle.area_keeper.specs.Chain.{chain}
+use Rattle.granule_keeper.specs.Granules.{granules}
 use Rattle.pli_serving.specs.Bytes.{is_data, with_bytes, name_size, name_bytes}
 use Rattle.pli_serving.specs.ServiceState.{height}
 use Rattle.pli_serving.specs.Answers.{Answer, Done, Ends, Bad}
@@ -61,7 +61,7 @@ of_effect p w (Faults fault) = Stopped fault
 of_effect p w Calls =
     answered w.machine
     (serves
-    (record { keeper = chain; layout = layout_of (4 * length p.code); services = w.services; memory = w.machine.memory })
+    (record { keeper = granules; layout = layout_of (4 * length p.code); services = w.services; memory = w.machine.memory })
     w.machine.registers)
 
 abbrev pub next : Loaded → Whole → Run
@@ -114,7 +114,7 @@ of_effect_same : (p : Loaded) (w : Whole) (e : Effect) → w.services.serials + 
 of_effect_same p w (Goes s) few = refl
 of_effect_same p w (Faults fault) few = refl
 of_effect_same p w Calls few =
-    let c : Call = record { keeper = chain; layout = layout_of (4 * length p.code); services = w.services; memory = w.machine.memory } in
+    let c : Call = record { keeper = granules; layout = layout_of (4 * length p.code); services = w.services; memory = w.machine.memory } in
     ap (answered w.machine) (served_by (w.machine.registers 17 == 7) (w.machine.registers 17) c w.machine.registers refl few)
 
 -- what an instruction leaves of serial numbers
@@ -132,7 +132,7 @@ of_effect_serials : (p : Loaded) (w : Whole) (e : Effect) → Serials (suc w.ser
 of_effect_serials p w (Goes s) = omega arith
 of_effect_serials p w (Faults fault) = tt
 of_effect_serials p w Calls =
-    let c : Call = record { keeper = chain; layout = layout_of (4 * length p.code); services = w.services; memory = w.machine.memory } in
+    let c : Call = record { keeper = granules; layout = layout_of (4 * length p.code); services = w.services; memory = w.machine.memory } in
     answered_serials w (serves c w.machine.registers) (unlimited_shows c w.machine.registers)
 
 -- so runs are

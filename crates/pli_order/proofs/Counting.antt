@@ -73,16 +73,16 @@ both_capped a b =
 sums_capped : (a b : ℕ) → capped (capped a + capped b) ≡ capped (a + b)
 sums_capped a b = omega arith
 
-pub small_capped : (p number : ℕ) → number < 2 ^ 32 → number < capped p → number < p
+pub small_capped : (p number : ℕ) → number < 2 ^ 64 - 1 → number < capped p → number < p
 small_capped p number s h = omega (arith, h)
 
-pub small_past : (p number rest : ℕ) → number < 2 ^ 32 → capped p ≤ number → capped p + rest ≡ number → p ≤ number
+pub small_past : (p number rest : ℕ) → number < 2 ^ 64 - 1 → capped p ≤ number → capped p + rest ≡ number → p ≤ number
 small_past p number rest s h e = omega (arith, s, h, e)
 
-pub small_rest : (p number rest : ℕ) → number < 2 ^ 32 → capped p ≤ number → capped p + rest ≡ number → rest ≡ number - p
+pub small_rest : (p number rest : ℕ) → number < 2 ^ 64 - 1 → capped p ≤ number → capped p + rest ≡ number → rest ≡ number - p
 small_rest p number rest s h e = omega (arith, s, h, e)
 
-pub same_row : (number each : ℕ) → number < 2 ^ 32 → number / capped each ≡ number / each
+pub same_row : (number each : ℕ) → number < 2 ^ 64 - 1 → number / capped each ≡ number / each
 same_row number each s = elim (few_or_many each) [
   | inl few ↦ ap (λ k. number / k) (capped_few each few)
   | inr many ↦
@@ -91,7 +91,7 @@ same_row number each s = elim (few_or_many each) [
       div-eq_of_lt much ∙ sym (div-eq_of_lt more)
 ]
 
-pub same_rest : (number each : ℕ) → number < 2 ^ 32 → number % capped each ≡ number % each
+pub same_rest : (number each : ℕ) → number < 2 ^ 64 - 1 → number % capped each ≡ number % each
 same_rest number each s = elim (few_or_many each) [
   | inl few ↦ ap (λ k. number % k) (capped_few each few)
   | inr many ↦
@@ -162,13 +162,6 @@ counts_so (n ∷ ns) zero (suc size) before leaf leaves h =
 
 pub each_right : (ns : List Note) (i before leaf : ℕ) (leaves : List Leaf) → AreNoted ns 0 i before leaf → each_by i (counted ns leaves) ≡ capped (count_each (noted ns 0 i) leaf leaves before)
 each_right ns i before leaf leaves h = each_so i ns leaf leaves before h (counts_so ns 0 i before leaf leaves h)
-
-pub total_right : (ns : List Note) (before : ℕ) (leaves : List Leaf) → AreNoted ns 0 (length ns) before 0 → get_or (counted ns leaves) 0 0 ≡ capped (count_in (noted ns 0 (length ns)) 0 leaves before)
-total_right [] before leaves h = none
-  where
-    none : 0 ≡ capped 0
-    none = omega arith
-total_right (n ∷ ns) before leaves h = counts_so (n ∷ ns) 0 (length (n ∷ ns)) before 0 leaves h
 
 -- counts that were put into others
 pub put_back : (new old items : List ℕ) (size : ℕ) (ns : List Note) (leaves : List Leaf) → new ≡ counted ns leaves → old ≡ items → length old ≡ length ns → size ≡ length items → take size (new ++ drop (length new) items) ≡ counted ns leaves

@@ -1,21 +1,17 @@
 -- The elements of a shape, by the notes of its parts.
-use Rattle.std.proofs.Common.{zero, suc, ◌≡◌, ◌<◌, ℕ, ℤ, ◌+◌, ◌-◌, ◌^◌, get_or, slice_get, length, map, Option, List, [], ◌∷◌, ◌++◌, refl, sym, ap, subst, ◌∙◌}
+use Rattle.std.proofs.Common.{zero, suc, ◌≡◌, ◌<◌, ℕ, ℤ, ◌+◌, ◌-◌, ◌^◌, slice_get, length, map, Option, List, [], ◌∷◌, ◌++◌, refl, sym, ap, subst, ◌∙◌}
 use Rattle.std.specs.List.{flat_map}
 use Rattle.std.proofs.lemmas.List.{length-map}
-use Rattle.pli_typing.specs.Signatures.{Leaf, capped}
+use Rattle.pli_typing.specs.Signatures.{Leaf}
 use Rattle.pli_meaning.specs.StreamOrder.{Nest, NoNest, NestOf, Element, bounds_of_leaf, elements_inside, leaves_inside, with_more}
 use Rattle.pli_shapes.specs.declared.part.Part.{Part}
 use Rattle.pli_shapes.specs.Nests.{nest_from, nest_in}
-use Rattle.pli_order.specs.Counted.{counted}
-use Rattle.pli_order.specs.Counts.{count_in}
-use Rattle.pli_order.specs.Notes.{AreNoted, noted, parts_of}
+use Rattle.pli_order.specs.Notes.{noted, parts_of}
 use Rattle.pli_order.specs.Orders.{IsOrder}
 use Rattle.pli_order.specs.Walks.{IsAt, IsWalkAt}
 use Rattle.pli_order.specs.declared.note.Note.{Note}
 use Rattle.pli_order.specs.declared.notes.Order.{Order}
 use Rattle.pli_order.specs.declared.walk.Walk.{Walk}
-use Rattle.pli_order.proofs.Counting.{total_right}
-use Rattle.pli_order.proofs.Elements.{length_elements}
 use Rattle.pli_order.proofs.RowLists.{flat_same}
 
 -- ---- depths don't matter
@@ -68,16 +64,6 @@ leaves_of_parts parts given o h =
     ∙ ap (λ ps. leaves_inside (level (nest_from 0 ps 0 (length parts)))) h.same
     ∙ level_leaves (nest_in parts)
 
-pub total_so : (parts : List Part) (o : Order) (leaves : List Leaf) (is : List ℤ) (counts : List ℕ) (total : ℕ) → IsOrder parts (length is) o → counts ≡ counted o.notes.items leaves → total ≡ get_or counts 0 0 → total ≡ capped (length (elements_inside (nest_in parts) 0 leaves is))
-total_so parts o leaves is counts total h e f =
-    let size = many parts (length is) o h in
-    let are : AreNoted o.notes.items 0 (length o.notes.items) (length is) 0 = subst (λ k. AreNoted o.notes.items 0 k (length is) 0) (sym size) h.are in
-    f ∙ ap (λ cs. get_or cs 0 0) e
-    ∙ total_right o.notes.items (length is) leaves are
-    ∙ ap (λ k. capped (count_in (noted o.notes.items 0 k) 0 leaves (length is))) size
-    ∙ ap capped (sym (length_elements (noted o.notes.items 0 (length parts)) 0 leaves is))
-    ∙ ap (λ es. capped (length es)) (sym (elements_of_parts parts (length is) o leaves is h))
-
 -- ---- the walk from the first part on
 
 -- a walk is at what it began at
@@ -91,7 +77,7 @@ leads_first ns leaves given number left w p l m n s = λ target at.
     (subst (λ k. IsAt ns leaves w.subscripts.items k (length ns) number target) (sym p)
     (subst (λ ks. IsAt ns leaves ks 0 (length ns) number target) (sym s) at)))
 
-pub found_so : (parts : List Part) (o : Order) (ns : List Note) (leaves : List Leaf) (given : List ℤ) (number : ℕ) (found : Option Element) → number < 2 ^ 32 → ns ≡ o.notes.items → ((target : Option Element) → IsAt ns leaves given 0 (length ns) number target → target ≡ found) → IsOrder parts (length given) o
+pub found_so : (parts : List Part) (o : Order) (ns : List Note) (leaves : List Leaf) (given : List ℤ) (number : ℕ) (found : Option Element) → number < 2 ^ 64 - 1 → ns ≡ o.notes.items → ((target : Option Element) → IsAt ns leaves given 0 (length ns) number target → target ≡ found) → IsOrder parts (length given) o
     → found ≡ slice_get (elements_inside (nest_in parts) 0 leaves given) number
 found_so parts o ns leaves given number found small e h order =
     let size = many parts (length given) o order in

@@ -51,7 +51,7 @@ too_few ns rest leaves is place (suc s) number n target e h a =
 
 pub record Before (ns rest : List Note) (leaves : List Leaf) (is : List ℤ) (n : Note) (s number rows each : ℕ) (target : Option Element) : Type 0 where
   pub leaf : ℕ
-  pub small : number < 2 ^ 32
+  pub small : number < 2 ^ 64 - 1
   pub are : AreNoted (n ∷ rest) 0 (suc s) (length is) leaf
   pub same : slice_get (elements_inside (noted (n ∷ rest) 0 (suc s)) leaf leaves is) number ≡ target
   pub counts : capped (rows * each) ≡ capped (own_count n.part.dimensions (noted rest 0 n.part.inside) leaf leaves (length is))
@@ -138,7 +138,7 @@ leaf_row nest d s behind leaf leaves is number each e c h =
     by_one n = omega arith
 
 -- a row of a part with others inside
-part_row : (nest : Nest) (d : ℕ) (behind : Nest) (leaf : ℕ) (leaves : List Leaf) (is : List ℤ) (number each : ℕ) → (nest ≡ NoNest → ⊥) → number < 2 ^ 32 → each ≡ capped (count_each nest leaf leaves (d + length is)) → number < own_count d nest leaf leaves (length is)
+part_row : (nest : Nest) (d : ℕ) (behind : Nest) (leaf : ℕ) (leaves : List Leaf) (is : List ℤ) (number each : ℕ) → (nest ≡ NoNest → ⊥) → number < 2 ^ 64 - 1 → each ≡ capped (count_each nest leaf leaves (d + length is)) → number < own_count d nest leaf leaves (length is)
     → slice_get (elements_inside (NestOf 0 d nest behind) leaf leaves is) number ≡ got (slice_get (with_more d (bounds_of_leaf leaves leaf) is) (number / each)) (λ js. slice_get (elements_inside nest leaf leaves js) (number % each))
 part_row NoNest d behind leaf leaves is number each some small c h = absurd (some refl)
 part_row (NestOf f m i b) d behind leaf leaves is number each some small c h =

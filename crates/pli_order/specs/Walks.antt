@@ -1,5 +1,5 @@
 -- The walk to the element of a number.
-use Rattle.std.specs.Prelude.{◌≡◌, ℕ, ◌+◌, ◌*◌, ◌/◌, ◌%◌, ◌^◌, ◌≤◌, ◌<◌, ℤ, List, length, drop, Option, Some, None, slice_get}
+use Rattle.std.specs.Prelude.{◌≡◌, ℕ, ◌+◌, ◌-◌, ◌*◌, ◌/◌, ◌%◌, ◌^◌, ◌≤◌, ◌<◌, ℤ, List, length, drop, Option, Some, None, slice_get}
 use Rattle.pli_typing.specs.Signatures.{Leaf, capped}
 use Rattle.pli_meaning.specs.StreamOrder.{Element, bounds_of_leaf, elements_inside, with_more}
 use Rattle.pli_order.specs.Notes.{AreNoted, noted}
@@ -19,7 +19,7 @@ IsTurn rows each number (T.Into row rest) = (number < capped (rows * each)) × (
 -- what is looked for is the element of a number among so many parts from a place on, behind these subscripts
 pub record IsAt (ns : List Note) (leaves : List Leaf) (is : List ℤ) (place left number : ℕ) (target : Option Element) : Type 0 where
   pub leaf : ℕ
-  pub small : number < 2 ^ 32
+  pub small : number < 2 ^ 64 - 1
   pub are : AreNoted (drop place ns) 0 left (length is) leaf
   pub same : slice_get (elements_inside (noted (drop place ns) 0 left) leaf leaves is) number ≡ target
 

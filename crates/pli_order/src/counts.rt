@@ -13,7 +13,7 @@ use std::alloc::{AllocError, Global};
 
 /// The count at a place, 0 behind the last.
 #[tactic(auto, using(crate::proofs::Counting::count_past))]
-pub fn count_at(counts: &[u64], place: usize) -> u64
+fn count_at(counts: &[u64], place: usize) -> u64
     ensures { result ≡ slice_index_or counts.now place 0 }
 {
     if place < counts.len() {

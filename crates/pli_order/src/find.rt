@@ -1,32 +1,18 @@
-// The elements of a shape: how many there are, and the one of a number.
+// The element of a shape that has a number.
 
-ghost use Rattle.std.specs.Prelude.{◌≡◌, ℤ, List, IfOk, length, map, option_map, slice_get};
-ghost use Rattle.pli_typing.specs.Signatures.{capped};
+ghost use Rattle.std.specs.Prelude.{◌≡◌, List, IfOk, length, map, option_map, slice_get};
 ghost use Rattle.pli_meaning.specs.StreamOrder.{elements_inside};
 ghost use Rattle.pli_shapes.specs.Nests.{nest_in};
 ghost use Rattle.pli_shapes.specs.declared.part.Part.{Part};
 ghost use Rattle.pli_signatures.specs.View.{leaf_in_force};
 ghost use Rattle.pli_order.specs.Orders.{IsOrder, element_shown};
 
-use crate::counts::{count_at, counts};
+use crate::counts::counts;
 use crate::notes::Order;
 use crate::walk::{Element, Step, Walk};
 use pli_signatures::element::LeafInForce;
 use smallvec::SmallVec;
 use std::alloc::{AllocError, Global};
-
-/// How many elements there are; `u64::MAX` where there are more. The leaves are those of the shape.
-pub fn element_total(
-    alloc: Global,
-    order: &Order,
-    leaves: &[LeafInForce],
-) -> Result<u64, AllocError>
-    ensures { (parts : List Part) → (given : List ℤ) → IsOrder parts (length given) order.now →
-        IfOk result (λ total. total ≡ capped (length (elements_inside (nest_in parts) 0 (map leaf_in_force leaves.now) given))) }
-{
-    let counts = counts(alloc, order.notes.as_slice(), leaves)?;
-    Ok(count_at(counts.as_slice(), 0))
-}
 
 /// A walk before all parts.
 fn begun(alloc: Global, given: &[i32], left: usize, number: u64) -> Result<Walk, AllocError>
@@ -45,7 +31,7 @@ fn begun(alloc: Global, given: &[i32], left: usize, number: u64) -> Result<Walk,
 }
 
 /// The element of a number, counted from 0, behind the subscripts given; none where there are fewer. The leaves are those of the shape.
-/// No element before it is looked at.
+/// No element before it is looked at. The greatest number is want of memory, since as many elements aren't told from more.
 pub fn element_at(
     alloc: Global,
     order: &Order,
@@ -56,6 +42,9 @@ pub fn element_at(
     ensures { (parts : List Part) → IsOrder parts (length given.now) order.now →
         IfOk result (λ o. option_map element_shown o ≡ slice_get (elements_inside (nest_in parts) 0 (map leaf_in_force leaves.now) given.now) number) }
 {
+    if number == u64::MAX {
+        return Err(AllocError);
+    }
     let notes = order.notes.as_slice();
     let counts = counts(alloc, notes, leaves)?;
     let mut walk = begun(alloc, given, notes.len(), number)?;

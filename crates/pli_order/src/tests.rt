@@ -1,6 +1,6 @@
 // Each call once.
 
-use crate::find::{element_at, element_total};
+use crate::find::element_at;
 use crate::notes::order_of;
 use pli_shapes::part::Part;
 use pli_signatures::element::{ElementKind, LeafInForce};
@@ -51,7 +51,6 @@ fn elements_are_found_by_their_numbers(rt: HostRuntime) -> Result<(), Fail> {
     let mut leaves = Vec::new(rt.alloc());
     leaves.push(leaf(rt.alloc(), &[2])?)?;
     leaves.push(leaf(rt.alloc(), &[2, 3])?)?;
-    assert!(rt; element_total(rt.alloc(), &order, &leaves)? == 8);
     let Some(found) = element_at(rt.alloc(), &order, &leaves, &[], 6)? else {
         assert!(rt; false);
         return Ok(());

@@ -1,4 +1,4 @@
-use Rattle.std.proofs.Common.{◌≡◌, ◌+◌, ◌∙◌, ◌∷◌, map, drop, ap}
+use Rattle.std.proofs.Common.{◌+◌, ◌∙◌, map, drop, ap}
 use Rattle.pli_typing.specs.Generations.{evaluation}
 use Rattle.pli_typing.specs.TypedStatementView.{evaluation_of}
 use Rattle.pli_typing.specs.TypedView.{variable_of}

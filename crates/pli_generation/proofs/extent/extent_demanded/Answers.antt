@@ -1,4 +1,4 @@
-use Rattle.std.proofs.Common.{◌≡◌, ◌∙◌, ap}
+use Rattle.std.proofs.Common.{◌∙◌, ap}
 use Rattle.std.specs.Prelude.{not}
 use Rattle.pli_language.specs.declared.fault.SourceKind.TheVariants.{BadExtent}
 use Rattle.pli_typing.specs.Generations.{extent_number}

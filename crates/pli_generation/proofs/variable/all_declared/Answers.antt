@@ -1,4 +1,4 @@
-use Rattle.std.proofs.Common.{◌≡◌, ◌+◌, ◌∙◌, ◌∷◌, Some, map, drop, slice_get, sym, ap}
+use Rattle.std.proofs.Common.{◌+◌, ◌∙◌, map, drop, slice_get, sym, ap}
 use Rattle.pli_typing.specs.Generations.{declared_variable, declared_with}
 use Rattle.pli_language.specs.Refusals.{soonest}
 use Rattle.pli_typing.specs.TypedStatementView.{declared_variable_of}

@@ -1,4 +1,4 @@
-use Rattle.std.proofs.Common.{◌≡◌, ◌+◌, ◌∙◌, ◌∷◌, map, drop, ap}
+use Rattle.std.proofs.Common.{◌+◌, ◌∙◌, map, drop, ap}
 use Rattle.pli_language.specs.Declaring.{own_attributes}
 use Rattle.pli_typing.specs.Generations.{names_demanded}
 use Rattle.pli_declare.proofs.Chains.{drop_here}
