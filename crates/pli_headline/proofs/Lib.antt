@@ -160,6 +160,7 @@ pub mod UnitStanding
 pub mod SystemUnits
 pub mod Onces
 pub mod Begins
+pub mod DeclaredBegins
 pub mod ProvedStatements
 pub mod InnerUnits
 pub mod Finishing
