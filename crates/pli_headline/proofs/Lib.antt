@@ -203,6 +203,7 @@ pub mod ProcedurePlaces
 pub mod LabelMarks
 pub mod Whole
 mod Rows
+mod DeclaredRows
 pub mod FirstPathDeclared
 pub mod FirstPathNames
 pub mod FirstPathExpressions
