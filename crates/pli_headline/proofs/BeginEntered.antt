@@ -36,7 +36,7 @@ use Rattle.pli_headline.proofs.Reaching.{reach_moved}
 use Rattle.pli_headline.proofs.Calls.{called, Calling, call_done, Serving, comes_finish, end_pauses, call_ends, acts}
 use Rattle.pli_headline.proofs.Raising.{small_is}
 use Rattle.pli_headline.proofs.Acts.{word_is, word_fits}
-use Rattle.pli_headline.proofs.Statements.{Block}
+use Rattle.pli_headline.proofs.Statements.{Block, lower_ground}
 use Rattle.pli_headline.proofs.InnerFrames.{Inner, inner_whole, inner_ground}
 use Rattle.pli_headline.proofs.BeginDisplays.{frame_word, moved_reserved, without_two}
 use Rattle.pli_headline.proofs.Reach.{Family, Reach, reach_then, reached, reached_holds, Aims, Comes, Closed, cost, onward}
@@ -170,9 +170,9 @@ leave_answer code v m a rest y e = ap (λ u. K.left_by (call_at code v m) 0 y u)
 abbrev pub inner_ended : (words : ℕ) → Code
 inner_ended words = block_left 0 ++ frame_ended words
 
-pub inner_left : {e : Environment} {block : Names} {types : Types} (bl : Block e block types) (inner : Inner bl) (n : Values) {links : Links} {code : List Instr} {i : ℕ} {v : Services} {h t0 t : ℕ → ℕ} (c : ℕ) (f : Family) (a : S.Activation) (rest : List S.Activation) → v.activations ≡ a ∷ rest → Linked links code i (inner_ended inner.words) → ((b : Base) → At b i (Known (inner_ground bl inner t0 n) v h t nothing b) (f b)) → Reach code c f v (c + size_of (inner_ended inner.words)) (ended_services v a rest) (λ b w. At b (i + size_of (inner_ended inner.words)) (Known (bl.ground n) (ended_services v a rest) h t0 nothing b) w)
-inner_left bl inner n {links} {code} {i} {v} {h} {t0} {t} c f a rest e l at =
-    let ground = inner_ground bl inner t0 n in
+pub inner_left : {e : Environment} {block : Names} {types : Types} (bl : Block e block types) (inner : Inner bl) (n : Values) (free : ℕ) {links : Links} {code : List Instr} {i : ℕ} {v : Services} {h t0 t : ℕ → ℕ} (c : ℕ) (f : Family) (a : S.Activation) (rest : List S.Activation) → v.activations ≡ a ∷ rest → Linked links code i (inner_ended inner.words) → ((b : Base) → At b i (Known (lower_ground (inner_ground bl inner t0 n) free) v h t nothing b) (f b)) → Reach code c f v (c + size_of (inner_ended inner.words)) (ended_services v a rest) (λ b w. At b (i + size_of (inner_ended inner.words)) (Known (bl.ground n) (ended_services v a rest) h t0 nothing b) w)
+inner_left bl inner n free' {links} {code} {i} {v} {h} {t0} {t} c f a rest e l at =
+    let ground = lower_ground (inner_ground bl inner t0 n) free' in
     let outer = bl.ground n in
     let v' = ended_services v a rest in
     let size = temporary_bytes inner.words in

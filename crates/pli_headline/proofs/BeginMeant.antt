@@ -68,9 +68,10 @@ begin_limited around program more head body k s enter many =
     ap (λ enters. flow_on k (enters entry k s) last) enter
     ∙ ap (λ q. flow_on k (cond q (left (M.is_own_return head.kind) newest_ended (M.block_body here head body entry k s1)) (finish (E.Limit L.Depth) k s)) last) many
 
-pub begin_meant : (program : Y.Program) (around : Around) (more : ℕ) (head : Y.BlockHead) (body : Y.Stmts) (k : ℕ) (s : State) → around.enter ≡ M.entered program (suc more) → head.kind ≡ Y.BeginBlock → variables_of_block program head.number ≡ [] → nat_lt (length s.activations) most_activations ≡ true → begin_part around head body k s ≡ flow_on k (left false newest_ended (inner_part program more head body k (entered_state head body s))) (λ u. give tt)
-unfolding M.entered M.block_run M.block_body M.block_variables_made M.entry_act K.parameters_bound K.variables_made leaving stored looked choose give ◌>>=◌ ◌>>◌
-begin_meant program around more head body k s enter kind none few =
+-- its variables are made one behind the other
+pub begin_declares : (program : Y.Program) (around : Around) (more : ℕ) (head : Y.BlockHead) (body : Y.Stmts) (k : ℕ) (s : State) → around.enter ≡ M.entered program (suc more) → head.kind ≡ Y.BeginBlock → nat_lt (length s.activations) most_activations ≡ true → begin_part around head body k s ≡ flow_on k (left false newest_ended (flow_on k (K.variables_made (inner_around program more head.line) 0 (variables_of_block program head.number) k (entered_state head body s)) (λ u. inner_part program more head body))) (λ u. give tt)
+unfolding M.entered M.block_run M.block_body M.block_variables_made M.entry_act K.parameters_bound leaving stored looked choose give ◌>>=◌ ◌>>◌
+begin_declares program around more head body k s enter kind few =
     let here = inner_around program more head.line in
     let entry = begun_in head body s in
     let s1 = entered_state head body s in
@@ -79,7 +80,15 @@ begin_meant program around more head body k s enter kind none few =
     ap (λ enters. flow_on k (enters entry k s) last) enter
     ∙ ap (λ q. flow_on k (cond q (left (M.is_own_return head.kind) newest_ended (M.block_body here head body entry k s1)) (finish (E.Limit L.Depth) k s)) last) few
     ∙ ap (λ kind'. flow_on k (left (M.is_own_return kind') newest_ended (flow_on k (M.block_variables_made here head kind' k s1) (λ u. M.entry_act kind' >> statements))) last) kind
-    ∙ ap (λ ds. flow_on k (left false newest_ended (flow_on k (K.variables_made here 0 ds k s1) (λ u. give {R = Unit {0}} tt >> statements))) last) none
+
+pub begin_meant : (program : Y.Program) (around : Around) (more : ℕ) (head : Y.BlockHead) (body : Y.Stmts) (k : ℕ) (s : State) → around.enter ≡ M.entered program (suc more) → head.kind ≡ Y.BeginBlock → variables_of_block program head.number ≡ [] → nat_lt (length s.activations) most_activations ≡ true → begin_part around head body k s ≡ flow_on k (left false newest_ended (inner_part program more head body k (entered_state head body s))) (λ u. give tt)
+unfolding K.variables_made give
+begin_meant program around more head body k s enter kind none few =
+    let here = inner_around program more head.line in
+    let s1 = entered_state head body s in
+    let last : Option BasicValue → Meaning (Unit {0}) = λ u. give tt in
+    begin_declares program around more head body k s enter kind few
+    ∙ ap (λ ds. flow_on k (left false newest_ended (flow_on k (K.variables_made here 0 ds k s1) (λ u. inner_part program more head body))) last) none
 
 -- ---- the state in which it is entered
 

@@ -49,7 +49,7 @@ use Rattle.pli_headline.proofs.Scalars.{Values}
 -- ---- the end of the block
 
 -- a jump or a return goes on outside, once the block's activation ended
-abbrev ending_block : Aims (Option BasicValue) → (State → State) → Aims (Unit {0})
+abbrev pub ending_block : Aims (Option BasicValue) → (State → State) → Aims (Unit {0})
 ending_block aims close =
     record {
       done = λ i f v x s. aims.done i f v None (with_world s.world (close s));
@@ -57,7 +57,7 @@ ending_block aims close =
       returned = λ i f v x s. aims.returned i f v x (with_world s.world (close s));
     }
 
-ending_closed : {code : List Instr} {aims : Aims (Option BasicValue)} (close : State → State) → Closed code aims → Closed code (ending_block aims close)
+pub ending_closed : {code : List Instr} {aims : Aims (Option BasicValue)} (close : State → State) → Closed code aims → Closed code (ending_block aims close)
 ending_closed close closed =
     record {
       done = λ r x s a. closed.done r None (with_world s.world (close s)) a;
@@ -65,7 +65,7 @@ ending_closed close closed =
       returned = λ r x s a. closed.returned r x (with_world s.world (close s)) a;
     }
 
-comes_ended : {code : List Instr} {i : ℕ} {f : Family} {v : Services} {aims : Aims (Option BasicValue)} (close : State → State) (flow : Flow (Unit {0})) → Comes code i f v (ending_block aims close) flow → Comes code i f v aims (left false close flow)
+pub comes_ended : {code : List Instr} {i : ℕ} {f : Family} {v : Services} {aims : Aims (Option BasicValue)} (close : State → State) (flow : Flow (Unit {0})) → Comes code i f v (ending_block aims close) flow → Comes code i f v aims (left false close flow)
 comes_ended close (Normal x s) c = record { to = c.to }
 comes_ended close (Jump height label s) c = record { to = c.to }
 comes_ended close (Return x s) c = record { to = c.to }
@@ -110,7 +110,7 @@ inner_of {e} bl words few room =
 abbrev pub ended_jump : (ℕ → Family → Services → ℕ → Label → State → Type 0) → ℕ → Family → Services → ℕ → Label → State → Type 0
 ended_jump jumped i f v height label s = jumped i f v height label (with_world s.world (newest_ended s))
 
-abbrev ended_return : (ℕ → Family → Services → Option BasicValue → State → Type 0) → ℕ → Family → Services → Option BasicValue → State → Type 0
+abbrev pub ended_return : (ℕ → Family → Services → Option BasicValue → State → Type 0) → ℕ → Family → Services → Option BasicValue → State → Type 0
 ended_return returned i f v x s = returned i f v x (with_world s.world (newest_ended s))
 
 -- to a label of the block in which it stands
@@ -235,7 +235,7 @@ inner_piece {e} {block} {types} bl {links} {code} around more head body inner lo
     let v4 = ended_services v3 o.newest o.rest in
     record {
       to =
-          onward closed (inner_left bl inner n3' i4 f3 o.newest o.rest o.are (back_of c3 c4 l3) at3)
+          onward closed (inner_left bl inner n3' (inner.at + fixed_size (suc e.level) 0) i4 f3 o.newest o.rest o.are (back_of c3 c4 l3) at3)
           (λ f4 at4.
           record {
             to =
@@ -274,19 +274,17 @@ inner_piece {e} {block} {types} bl {links} {code} around more head body inner lo
     })))))))
 
 -- where too many blocks are entered the run ends
-limited_piece : {e : Environment} {block : Names} {types : Types} (bl : Block e block types) {links : Links} {code : List Instr} (head : Y.BlockHead) (words : ℕ) (body : Y.Stmts) (inner : Inner bl) → inner.words ≡ words → e.level < 100 → head.line < 2 ^ 31 → {X : Type 0} {i : ℕ} {s : State} {v : Services} {h t : ℕ → ℕ} {aims : Aims X} (closed : Closed code aims) (n : Values) (f : Family) (k line : ℕ) → 0 < i → Linked links code i (inner_code e head words body) → nat_lt (length s.activations) most_activations ≡ false → Serving k s v line → ((b : Base) → At b i (Known (bl.ground n) v h t nothing b) (f b)) → Comes code i f v aims (finish {R = X} (E.Limit L.Depth) k s)
-limited_piece {e} bl {links} {code} head words body inner same shallow fits {i = i} {s = s} {v = v} {h = h} {t = t} {aims = aims} closed n f k line later l many serving at =
+pub limited_piece : {e : Environment} {block : Names} {types : Types} (bl : Block e block types) {links : Links} {code : List Instr} (head : Y.BlockHead) (rest : Code) (inner : Inner bl) → e.level < 100 → head.line < 2 ^ 31 → {X : Type 0} {i : ℕ} {s : State} {v : Services} {h t : ℕ → ℕ} {aims : Aims X} (closed : Closed code aims) (n : Values) (f : Family) (k line : ℕ) → 0 < i → Linked links code i (inner_begun inner.words (suc e.level) ++ (entered_without_texts 1 head.line ++ rest)) → nat_lt (length s.activations) most_activations ≡ false → Serving k s v line → ((b : Base) → At b i (Known (bl.ground n) v h t nothing b) (f b)) → Comes code i f v aims (finish {R = X} (E.Limit L.Depth) k s)
+limited_piece {e} bl {links} {code} head rest inner shallow fits {i = i} {s = s} {v = v} {h = h} {t = t} {aims = aims} closed n f k line later l many serving at =
     let c1 = inner_begun inner.words (suc e.level) in
     let c2 = entered_without_texts 1 head.line in
-    let c3 = stmts_code (begin_environment head e) none_taken body ++ inner_ended inner.words in
-    let l' : Linked links code i (c1 ++ (c2 ++ c3)) = subst (λ w. Linked links code i (inner_code e head w body)) (sym same) l in
-    let l2 = front_of c2 c3 (back_of c1 (c2 ++ c3) l') in
+    let l2 = front_of c2 rest (back_of c1 (c2 ++ rest) l) in
     let inside = l2.inside in
     let m = number a2 head.line in
     let last = small a7 4 ∷ Plain I.Ecall ∷ [] in
     let size = size_append m last in
     let many' : nat_lt (length v.activations) most_activations ≡ false = ap (λ u. nat_lt u most_activations) (same_length s.activations v.activations serving.nested) ∙ many in
-    onward closed (inner_frame bl inner n i f shallow later (front_of c1 (c2 ++ c3) l') at)
+    onward closed (inner_frame bl inner n i f shallow later (front_of c1 (c2 ++ rest) l) at)
     (λ f1 at1.
     inner_limited bl inner n (i + size_of c1) f1 closed k head.line line fits (omega (arith, inside, size)) many' l2 serving at1)
 
@@ -321,7 +319,7 @@ own_begin_does {e} {block} {types} bl links code around (suc more) head body inn
           let last : Option BasicValue → Meaning (Unit {0}) = λ u. give tt in
           subst (Comes code (i + size_of a) f1 (acted head.line v) aims) (sym (begin_limited around e.program more head body k s1 entering.enter many))
           (comes_on k (finish {R = Option BasicValue} (E.Limit L.Depth) k s1) last
-          (limited_piece bl head inner.words body inner refl shallow fits (before_closed k last closed) n f1 k head.line (omega (arith, later)) (back_of a c l) many serving1 at1)))
+          (limited_piece bl head (stmts_code (begin_environment head e) none_taken body ++ inner_ended inner.words) inner shallow fits (before_closed k last closed) n f1 k head.line (omega (arith, later)) (back_of a c l) many serving1 at1)))
           (λ few.
           let deep : suc (length bl.depths) < most_activations = (let below = ltb-true (length s.activations) most_activations few in let long = entered_length s.activations (e.level ∷ bl.depths) all.entered in omega (arith, below, long)) in
           inner_piece bl around more head body inner lower shallow next filled kind fits none entering.enter (does' more refl deep) closed n f1 k head.line (omega (arith, e1, e2)) (omega (arith, later)) more' (omega arith) (back_of a c l) few serving1

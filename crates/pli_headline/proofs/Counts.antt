@@ -108,7 +108,7 @@ turning bl =
     }
 
 pub standing_turning : {e : Environment} {block : Names} {types : Types} {bl : Block e block types} {links : Links} {code : List Instr} → Standing bl links code → Standing (turning bl) links code
-standing_turning s = record { raises = s.raises; constants = s.constants; filled = s.filled }
+standing_turning s = record { raises = s.raises; constants = s.constants; filled = s.filled; known = s.known }
 
 -- a jump out of it leaves fewer words that wait
 turning_enough : {e : Environment} {block : Names} {types : Types} (bl : Block e block types) {links : Links} {k turns i : ℕ} {h t : ℕ → ℕ} {acts : ℕ} {jumped : ℕ → Family → Services → ℕ → Label → State → Type 0} {returned : ℕ → Family → Services → Option BasicValue → State → Type 0} → Enough bl links k turns i h t acts jumped returned → Enough (turning bl) links k turns i h t acts jumped returned

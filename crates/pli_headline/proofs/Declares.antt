@@ -150,7 +150,7 @@ first_made e line index d ds is same =
     ∙ ap (λ c. c ++ rest) (own_made e line p is.type is.element same)
     ∙ ap (λ k. made_code 32 p (number_for e.table k) None ++ rest) (sym (ap declared_kind is.is))
 
-code_joined : (xs ys zs : Code) → (xs ++ ys) ++ zs ≡ xs ++ (ys ++ zs)
+pub code_joined : (xs ys zs : Code) → (xs ++ ys) ++ zs ≡ xs ++ (ys ++ zs)
 code_joined [] ys zs = refl
 code_joined (x ∷ xs) ys zs = ap (λ us. x ∷ us) (code_joined xs ys zs)
 

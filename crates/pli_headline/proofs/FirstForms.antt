@@ -120,25 +120,25 @@ statements_stay program block count number level all blocks main outer around (Y
     (statement_stays program block count number level all blocks main outer around first h.0, statements_stay program block count number level all blocks main outer around rest h.1)
 
 -- nor calls
-statement_calls : (program : Y.Program) (block count : ℕ) (may : List ℕ) (x : Y.Stmt) → IsFirstStatement block count x → CallsAmong program may true x
+statement_calls : (program : Y.Program) (block count : ℕ) (may : List ℕ) (x : Y.Stmt) → IsFirstStatement block count x → CallsAmong program may true true x
 statement_calls program block count may (Y.Null line) h = tt
 statement_calls program block count may (Y.Assign target (Y.StoredNumber precision x) line) h = tt
 statement_calls program block count may (Y.Put None pairs line) h = tt
 statement_calls program block count may _ h = absurd h
 
-pub statements_call : (program : Y.Program) (block count : ℕ) (may : List ℕ) (body : Y.Stmts) → AreFirstStatements block count body → AllCallAmong program may true body
+pub statements_call : (program : Y.Program) (block count : ℕ) (may : List ℕ) (body : Y.Stmts) → AreFirstStatements block count body → AllCallAmong program may true true body
 statements_call program block count may (Y.EndOfList labels) h = tt
 statements_call program block count may (Y.StmtThen labels first rest) h =
     (statement_calls program block count may first h.0, statements_call program block count may rest h.1)
 
 -- and none is a block
-statement_bare : (block count : ℕ) (program : Y.Program) (x : Y.Stmt) → IsFirstStatement block count x → IsBare program false x
+statement_bare : (block count : ℕ) (program : Y.Program) (x : Y.Stmt) → IsFirstStatement block count x → IsBare program true x
 statement_bare block count program (Y.Null line) h = tt
 statement_bare block count program (Y.Assign target (Y.StoredNumber precision x) line) h = tt
 statement_bare block count program (Y.Put None pairs line) h = tt
 statement_bare block count program _ h = absurd h
 
-pub statements_bare : (block count : ℕ) (program : Y.Program) (body : Y.Stmts) → AreFirstStatements block count body → AreBare program false body
+pub statements_bare : (block count : ℕ) (program : Y.Program) (body : Y.Stmts) → AreFirstStatements block count body → AreBare program true body
 statements_bare block count program (Y.EndOfList labels) h = tt
 statements_bare block count program (Y.StmtThen labels first rest) h =
     (statement_bare block count program first h.0, statements_bare block count program rest h.1)
@@ -173,6 +173,7 @@ program_wider program is =
         jumps = statements_stay program _ _ _ _ _ _ _ _ _ is.body is.block.statements;
         calls = statements_call program _ _ [] is.body is.block.statements;
         inside = statements_bare _ _ program is.body is.block.statements;
+        few = (let none = statements_few _ _ program is.body is.block.statements in omega (arith, none));
       };
       inner = tt;
       once = tt;

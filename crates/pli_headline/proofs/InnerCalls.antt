@@ -13,7 +13,7 @@ use Rattle.pli_meaning.specs.Raising.{Around}
 use Rattle.pli_meaning.specs.Executing as M
 use Rattle.pli_meaning.specs.Executing.{labels_in}
 use Rattle.pli_coding.specs.Assembly.{ProcedureEntry}
-use Rattle.pli_coding.specs.Environments.{BlockPlace, none_taken, Owner, Environment, in_frame, owned_by}
+use Rattle.pli_coding.specs.Environments.{BlockPlace, none_taken, Owner, Environment, in_frame, owned_by, BlockOwner}
 use Rattle.pli_meaning.specs.StorageState.{most_activations}
 use Rattle.pli_coding.specs.Frames.{temporary_bytes, words_place, fixed_size, frame_end}
 use Rattle.pli_coding.specs.Images.{blocks_among, blocks_of, place_of_head, environment_of}
@@ -27,7 +27,7 @@ use Rattle.pli_headline.proofs.Numbers.{below_small}
 use Rattle.pli_headline.proofs.Linking.{times_marked}
 use Rattle.pli_headline.proofs.Items.{Linked}
 use Rattle.pli_headline.proofs.Sizes.{most}
-use Rattle.pli_headline.proofs.Statements.{Block, Standing, IsEndMarkedOnce, Does}
+use Rattle.pli_headline.proofs.Statements.{Block, Standing, IsEndMarkedOnce, Does, known_in}
 use Rattle.pli_headline.proofs.InnerLevels.{IsAmong}
 use Rattle.pli_headline.proofs.InnerFrames.{other_level}
 use Rattle.pli_headline.proofs.BeginMeant.{Entering, inner_around, inner_entering}
@@ -39,7 +39,7 @@ use Rattle.pli_headline.proofs.CalledFrames.{Callee, called_block}
 use Rattle.pli_headline.proofs.CallRuns.{StandsAt, called_code_is, own_call_does}
 use Rattle.pli_headline.proofs.ProcedurePlaces.{called_once, inner_at}
 use Rattle.pli_headline.proofs.MainOutlets.{procedure_owner, HasMain, main_of, main_enclosing}
-use Rattle.pli_headline.proofs.ProvedStatements.{Calls, Signals, body_does}
+use Rattle.pli_headline.proofs.ProvedStatements.{Calls, Signals, body_does, bare_bytes}
 use Rattle.pli_headline.proofs.UnitStanding.{Tells}
 use Rattle.pli_headline.proofs.InnerUnits.{Done, fewer_signals, signals_with}
 
@@ -51,6 +51,7 @@ standing_called block callee back h0 t0 head next sized main mains has s =
       raises = s.raises;
       constants = λ n. record { stand = λ bytes placed t b m o. (s.constants n).stand bytes placed t0 b m o.kept.0 };
       filled = λ owned. ap (λ u. callee.at + u) sized;
+      known = known_in (BlockOwner (record { number = head.number; level = head.level })) head.number head.level s.known;
     }
 
 labels_called : {program : Y.Program} {block : ℕ} {links : Links} {all : List (ℕ × Label)} (head : Y.BlockHead) → head.level ≡ 1 → LabelsStand (main_environment program block) links all block true → IsAmong (place_of_head head) (blocks_of program.procedures) → LabelsStand (procedure_environment head (main_environment program block)) links all block false
@@ -84,9 +85,9 @@ called_does {program} {block} {all} q can {links} {code} bl callee words deep de
     let jumps : AllJumpAround program q.head.number q.head.level all (blocks_of program.procedures) (main_outer block program.procedures) (main_outer block program.procedures ∷ []) (labels_in q.body ++ []) q.body = subst (λ n. AllJumpAround program q.head.number n all (blocks_of program.procedures) (main_outer block program.procedures) (main_outer block program.procedures ∷ []) (labels_in q.body ++ []) q.body) (sym next) (subst (λ ls. AllJumpAround program q.head.number 1 all (blocks_of program.procedures) (main_outer block program.procedures) (main_outer block program.procedures ∷ []) ls q.body) (sym (append-nil (labels_in q.body))) q.jumps) in
     body_does cb links code (standing_called block callee back h0 t0 q.head next sized block mains has standing) (inner_around program bound q.head.line) refl {small = true}
     (labels_called q.head next named (known (place_of_head q.head) (inl refl))) q.body q.statements jumps (omega (arith, most', words))
-    ((omega (arith, place, words, low, space, deeper), omega (arith, few)), deeper) q.inside
+    ((omega (arith, place, words, low, space, deeper), (let none = bare_bytes program q.body q.inside in omega (arith, few, none))), deeper) q.inside
     (inner_entering program bound q.head.line) (omega arith) (λ b h. known b (inr h)) can.calls
-    (record { calls = calls; signals = signals; tells = tells; outermost = λ j kind at. refl; makes = λ same' u at k. let no : true ≡ false = sym same' ∙ other_level q.head.level 0 next in absurd (cc no); narrow = omega (arith, words, low); ends = λ may called'. inl (other_level q.head.level 0 next, (refl, ended)); mains = inr (inl (refl, (refl, λ label among. among))) })
+    (record { calls = λ bare. calls; signals = λ bare. signals; tells = λ bare. tells; makes = λ same' u at k. let no : true ≡ false = sym same' ∙ other_level q.head.level 0 next in absurd (cc no); narrow = omega (arith, words, low); ends = λ may called'. inl (other_level q.head.level 0 next, (refl, ended)); mains = λ bare. inr (inl (refl, (refl, λ label among. among))) })
 
 -- ---- the call
 

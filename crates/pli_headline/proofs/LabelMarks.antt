@@ -10,7 +10,7 @@ use Rattle.pli_meaning.specs.Executing.{labels_in}
 use Rattle.pli_coding.specs.Registers.{frame_register, stack_register, a0, a1, a2, a3, a4, u0, u5}
 use Rattle.pli_coding.specs.Assembly.{Datum, Symbol, ProcedureEntry, ReturnPlace, LabelPlace, RaiseCondition, RaiseError, ErrorEnd}
 use Rattle.pli_coding.specs.Instructions.{move, small, number, plus, load_word, service}
-use Rattle.pli_coding.specs.Frames.{own_offset, temporary_bytes, name_bytes, frame_bytes, last_place, automatic_place, variable_place, parameters_in, first_variable, fixed_size, frame_end}
+use Rattle.pli_coding.specs.Frames.{own_offset, temporary_bytes, name_bytes, frame_bytes, last_place, automatic_place, variable_place, parameters_in, first_variable, fixed_size, frame_end, parameters_of_block}
 use Rattle.pli_coding.specs.Environments.{BlockPlace, Environment, none_taken, last_of_level}
 use Rattle.pli_coding.specs.Locating.{own_place, table_number}
 use Rattle.pli_coding.specs.StaticForms.{initial_datum}
@@ -96,7 +96,7 @@ program_symbols block labels others =
     ∷ ProcedureEntry block
     ∷ ((places_of labels ++ ReturnPlace block ∷ []) ++ procedure_symbols others)
 
-program_marks : (program : Y.Program) (block line : ℕ) (body : Y.Stmts) → AllPlain program.variables → (all : List (ℕ × Label)) (called : List ℕ) (alone : IsAlone program block line body) → AreProvedStatements (main_names program block) (types_of (variables_of_block program block)) body → AreBare program false body → AreInner program block all called alone.others → Marks (code_of parts program) (program_symbols block (all_stands block body) alone.others)
+program_marks : (program : Y.Program) (block line : ℕ) (body : Y.Stmts) → AllPlain program.variables → (all : List (ℕ × Label)) (called : List ℕ) (alone : IsAlone program block line body) → AreProvedStatements (main_names program block) (types_of (variables_of_block program block)) body → AreBare program true body → AreInner program block all called alone.others → Marks (code_of parts program) (program_symbols block (all_stands block body) alone.others)
 program_marks program block line body plain all called alone are bare others =
     let e = main_environment program block in
     let words = block_words e block (stmts_words body) in
@@ -109,7 +109,7 @@ program_marks program block line body plain all called alone are bare others =
     let ss = places_of (all_stands block body) ++ ReturnPlace block ∷ [] in
     let inside : Marks (begun ++ (code ++ ended)) ss =
     behind begun (code ++ ended) ss (prologue_none e block line words (main_plain program block plain))
-    (both_mark code ended (places_of (all_stands block body)) (ReturnPlace block ∷ []) (statements_mark e none_taken (main_names program block) (types_of (variables_of_block program block)) body refl has are bare) (ended_marks e (main_head block line) words)) in
+    (both_mark code ended (places_of (all_stands block body)) (ReturnPlace block ∷ []) (statements_mark e none_taken true (main_names program block) (types_of (variables_of_block program block)) body refl has are bare) (ended_marks e (main_head block line) words)) in
     ap symbols_marked (code_is program block line body plain alone)
     ∙ behind (start_of block) (raise_code ++ (main ++ rest)) (program_symbols block (all_stands block body) alone.others) refl
     (both_mark raise_code (main ++ rest) (RaiseCondition ∷ RaiseError ∷ ErrorEnd ∷ []) (ProcedureEntry block ∷ (ss ++ procedure_symbols alone.others)) refl
@@ -168,15 +168,18 @@ others_none program block all called [] inner = tt
 others_none program block all called (p ∷ ps) inner =
     (ap (λ (q : Y.Procedure). q.parameters) inner.0.is, others_none program block all called ps inner.1)
 
+pub none_known : (program : Y.Program) (block line : ℕ) (body : Y.Stmts) (all : List (ℕ × Label)) (called : List ℕ) (alone : IsAlone program block line body) → AreInner program block all called alone.others → (number : ℕ) → parameters_of_block program number ≡ []
+none_known program block line body all called alone inner number =
+    none_found number program.procedures (subst NoParameters (sym alone.are) (refl, others_none program block all called alone.others inner))
+
 bare_sized : (program : Y.Program) (block line : ℕ) (body : Y.Stmts) (all : List (ℕ × Label)) (called : List ℕ) (alone : IsAlone program block line body) → AreInner program block all called alone.others → (number level : ℕ) → variables_of_block program number ≡ [] → frame_end parts program number level ≡ fixed_size level 0
 bare_sized program block line body all called alone inner number level none =
     ap (λ (ds : List Y.DeclaredVariable). variable_place parts (first_variable program number level) ds (length ds)) none
-    ∙ ap (λ (ns : List ℕ). fixed_size level (length ns))
-    (none_found number program.procedures (subst NoParameters (sym alone.are) (refl, others_none program block all called alone.others inner)))
+    ∙ ap (λ (ns : List ℕ). fixed_size level (length ns)) (none_known program block line body all called alone inner number)
 
 -- ---- the labels
 
-pub labels_stand : (program : Y.Program) (block line : ℕ) (body : Y.Stmts) (called : List ℕ) → AllPlain program.variables → (alone : IsAlone program block line body) → AreProvedStatements (main_names program block) (types_of (variables_of_block program block)) body → AreBare program false body → AllJumpAround program block 0 (all_labels block body ++ procedure_labels alone.others) (blocks_of program.procedures) (main_outer block program.procedures) [] (labels_in body) body → AreInner program block (all_labels block body ++ procedure_labels alone.others) called alone.others → LabelsStand (main_environment program block) (links_of (code_of parts program)) (all_labels block body ++ procedure_labels alone.others) block true
+pub labels_stand : (program : Y.Program) (block line : ℕ) (body : Y.Stmts) (called : List ℕ) → AllPlain program.variables → (alone : IsAlone program block line body) → AreProvedStatements (main_names program block) (types_of (variables_of_block program block)) body → AreBare program true body → AllJumpAround program block 0 (all_labels block body ++ procedure_labels alone.others) (blocks_of program.procedures) (main_outer block program.procedures) [] (labels_in body) body → AreInner program block (all_labels block body ++ procedure_labels alone.others) called alone.others → LabelsStand (main_environment program block) (links_of (code_of parts program)) (all_labels block body ++ procedure_labels alone.others) block true
 labels_stand program block line body called plain alone are bare jumps inner =
     record {
       own = own_block program block line body alone;
@@ -199,7 +202,7 @@ labels_stand program block line body called plain alone are bare jumps inner =
     }
 
 -- the entry of a procedure inside it is marked once
-pub entry_stands : (program : Y.Program) (block line : ℕ) (body : Y.Stmts) (called : List ℕ) → AllPlain program.variables → (alone : IsAlone program block line body) → AreProvedStatements (main_names program block) (types_of (variables_of_block program block)) body → AreBare program false body → AreInner program block (all_labels block body ++ procedure_labels alone.others) called alone.others → (number : ℕ) → (number == block) ≡ false → number_times number alone.others ≡ 1 → times_marked (ProcedureEntry number) (links_of (code_of parts program)).marks ≡ 1
+pub entry_stands : (program : Y.Program) (block line : ℕ) (body : Y.Stmts) (called : List ℕ) → AllPlain program.variables → (alone : IsAlone program block line body) → AreProvedStatements (main_names program block) (types_of (variables_of_block program block)) body → AreBare program true body → AreInner program block (all_labels block body ++ procedure_labels alone.others) called alone.others → (number : ℕ) → (number == block) ≡ false → number_times number alone.others ≡ 1 → times_marked (ProcedureEntry number) (links_of (code_of parts program)).marks ≡ 1
 entry_stands program block line body called plain alone are bare inner number apart once =
     let rest = symbol_times (ProcedureEntry number) ((places_of (all_stands block body) ++ ReturnPlace block ∷ []) ++ procedure_symbols alone.others) in
     times_are (ProcedureEntry number) 0 (code_of parts program)
@@ -210,12 +213,12 @@ entry_stands program block line body called plain alone are bare inner number ap
     ∙ once
 
 -- and its end
-pub end_stands : (program : Y.Program) (block line : ℕ) (body : Y.Stmts) (called : List ℕ) → AllPlain program.variables → (alone : IsAlone program block line body) → AreProvedStatements (main_names program block) (types_of (variables_of_block program block)) body → AllJumpAround program block 0 (all_labels block body ++ procedure_labels alone.others) (blocks_of program.procedures) (main_outer block program.procedures) [] (labels_in body) body → AreBare program false body → AreInner program block (all_labels block body ++ procedure_labels alone.others) called alone.others → (number : ℕ) → (number == block) ≡ false → number_times number alone.others ≡ 1 → is_number number called ≡ true → AllCallAmong program called true body → times_marked (ReturnPlace number) (links_of (code_of parts program)).marks ≡ 1
+pub end_stands : (program : Y.Program) (block line : ℕ) (body : Y.Stmts) (called : List ℕ) → AllPlain program.variables → (alone : IsAlone program block line body) → AreProvedStatements (main_names program block) (types_of (variables_of_block program block)) body → AllJumpAround program block 0 (all_labels block body ++ procedure_labels alone.others) (blocks_of program.procedures) (main_outer block program.procedures) [] (labels_in body) body → AreBare program true body → AreInner program block (all_labels block body ++ procedure_labels alone.others) called alone.others → (number : ℕ) → (number == block) ≡ false → number_times number alone.others ≡ 1 → is_number number called ≡ true → AllCallAmong program called true true body → times_marked (ReturnPlace number) (links_of (code_of parts program)).marks ≡ 1
 end_stands program block line body called plain alone are jumps bare inner number apart once among calls =
     let rest = symbol_times (ReturnPlace number) (procedure_symbols alone.others) in
     times_are (ReturnPlace number) 0 (code_of parts program)
     ∙ ap (symbol_times (ReturnPlace number)) (program_marks program block line body plain _ _ alone are bare inner)
-    ∙ ends_behind number block (all_stands block body) (procedure_symbols alone.others) (ends_apart number block body (called_units program number block 0 _ _ _ [] (labels_in body) called true body among jumps calls))
+    ∙ ends_behind number block (all_stands block body) (procedure_symbols alone.others) (ends_apart number block body (called_units program number block 0 _ _ _ [] (labels_in body) called true true body among jumps calls))
     ∙ ap (λ q. cond q (suc rest) rest) apart
     ∙ ends_times number program block _ called alone.others inner
     ∙ once

@@ -160,6 +160,7 @@ pub mod UnitStanding
 pub mod SystemUnits
 pub mod Onces
 pub mod Begins
+pub mod DeclaredBegins
 pub mod ProvedStatements
 pub mod InnerUnits
 pub mod Finishing
@@ -202,6 +203,7 @@ pub mod ProcedurePlaces
 pub mod LabelMarks
 pub mod Whole
 mod Rows
+mod DeclaredRows
 pub mod FirstPathDeclared
 pub mod FirstPathNames
 pub mod FirstPathExpressions

@@ -63,7 +63,7 @@ procedure_marks e block types head body named has none are bare =
     let ss = places_of (all_stands head.number body) in
     ap (λ us. ProcedureEntry head.number ∷ us)
     (behind begun (code ++ ended) (ss ++ ReturnPlace head.number ∷ []) (begun_none e' head words none)
-    (both_mark code ended ss (ReturnPlace head.number ∷ []) (statements_mark e' none_taken block types body named has are bare) (ended_marks e' head words)))
+    (both_mark code ended ss (ReturnPlace head.number ∷ []) (statements_mark e' none_taken false block types body named has are bare) (ended_marks e' head words)))
 
 pub procedures_mark : (e : Environment) (block : ℕ) (all : List (ℕ × Label)) (called : List ℕ) (ps : List Y.Procedure) → HasTypes e (main_names e.program block) (types_of (variables_of_block e.program block)) → AreInner e.program block all called ps → Marks (procedures_code e ps) (procedure_symbols ps)
 procedures_mark e block all called [] has inner = refl

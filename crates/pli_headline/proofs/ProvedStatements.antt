@@ -1,7 +1,7 @@
 -- The statements that are proved so far: each list of them does what it means, where the constant bytes that its code names stand in
 -- memory.
 use Rattle.std.proofs.Common.{◌∷◌, ◌≡◌, ℕ, suc, ◌+◌, ◌-◌, ◌*◌, ◌^◌, ◌<◌, ◌≤◌, List, [], ◌++◌, None, Some, inl, inr, Bool, true, false, refl, sym, ap, ◌∙◌, subst, arith, append-nil, length}
-use Rattle.std.specs.Prelude.{max, ◌==◌}
+use Rattle.std.specs.Prelude.{max, ◌==◌, ◌&&◌}
 use Rattle.std.proofs.Math.Nat.{le-max_left, le-max_right}
 use Rattle.rv_meaning.specs.declared.instr.Instr.{Instr}
 use Rattle.pli_language.specs.declared.condition.Condition.TheVariants as C
@@ -10,7 +10,7 @@ use Rattle.pli_meaning.specs.Control.{Label}
 use Rattle.pli_meaning.specs.Raising.{Around}
 use Rattle.pli_meaning.specs.Executing as M
 use Rattle.pli_meaning.specs.Executing.{labels_in}
-use Rattle.pli_coding.specs.Environments.{BlockOwner, BlockPlace, Environment, in_frame, Owner, owned_by}
+use Rattle.pli_coding.specs.Environments.{BlockOwner, BlockPlace, Environment, Taken, in_frame, Owner, owned_by}
 use Rattle.pli_coding.specs.Frames.{fixed_size, frame_end, temporary_bytes}
 use Rattle.pli_meaning.specs.StorageState.{most_activations}
 use Rattle.pli_coding.specs.Storing.{assigned_words}
@@ -18,10 +18,10 @@ use Rattle.pli_coding.specs.Statements.{owner_of_unit, unit_environment, number_
 use Rattle.pli_coding.specs.Temporaries.{number_words, bit_words, reference_words, text_words}
 use Rattle.pli_coding.specs.Images.{place_of_head, place_of_unit, blocks_in, blocks_among}
 use Rattle.pli_coding.specs.Linking.{Links}
-use Rattle.pli_headline.specs.ProvedSoFar.{Names, names_in, types_in, if_bare, Types, OuterBlock, main_labels, main_outer, IsProvedStatement, AreProvedStatements, JumpsAround, AllJumpAround, IsBare, AreBare, is_number, CallsAmong, AllCallAmong}
+use Rattle.pli_headline.specs.ProvedSoFar.{Names, names_in, types_in, if_bare, is_bare, AreDeclaring, DeclareIf, bytes_in, inner_bytes, Types, OuterBlock, main_labels, main_outer, IsProvedStatement, AreProvedStatements, JumpsAround, AllJumpAround, IsBare, AreBare, is_number, CallsAmong, AllCallAmong}
 use Rattle.pli_meaning.specs.DeclaredShapes.{variables_of_block}
 use Rattle.pli_headline.proofs.Variables.{AllOutermost}
-use Rattle.pli_headline.proofs.Statements.{owner_level, IsOwned, Standing, Block, Does, EachDoes, null_does, IsEndMarkedOnce}
+use Rattle.pli_headline.proofs.Statements.{owner_level, IsOwned, known_in, Standing, Block, Does, EachDoes, null_does, IsEndMarkedOnce}
 use Rattle.pli_headline.proofs.TextAssignments.{assign_text_does}
 use Rattle.pli_headline.proofs.Ifs.{if_does, if_else_does}
 use Rattle.pli_headline.proofs.Catching.{within, listed}
@@ -30,6 +30,11 @@ use Rattle.pli_headline.specs.InnerWords.{inner_words, all_inner_words}
 use Rattle.pli_headline.proofs.InnerFrames.{Inner, other_level, inner_block}
 use Rattle.pli_headline.proofs.BeginMeant.{Entering, inner_around, inner_entering}
 use Rattle.pli_headline.proofs.Begins.{inner_of, begin_does}
+use Rattle.pli_headline.proofs.Declares.{made_block}
+use Rattle.pli_headline.proofs.DeclaredNames.{declare_if}
+use Rattle.pli_headline.proofs.DeclaredBegins.{is_made, made_alone, made_constants, inner_makes, made_filled, declares_does}
+use Rattle.pli_headline.proofs.StandingBytes.{ConstantsStand}
+use Rattle.pli_headline.proofs.Scalars.{Values}
 use Rattle.pli_headline.proofs.JumpsOut.{out_does}
 use Rattle.pli_headline.proofs.Returns.{return_does}
 use Rattle.pli_headline.proofs.HomeReturns.{IsHome, home_does}
@@ -52,16 +57,22 @@ use Rattle.pli_headline.proofs.ElementAssignments.{assign_number_part_does, assi
 use Rattle.pli_headline.proofs.CountStarts.{counted_does}
 use Rattle.pli_coding.specs.Streams.{value_words}
 
+-- constant bytes stand in a block inside it
+standing_inner : {e : Environment} {block : Names} {types : Types} {bl : Block e block types} {links : Links} {code : List Instr} (inner : Inner bl) (t0 : ℕ → ℕ) (number level : ℕ) (next : level ≡ suc e.level) (s : Standing bl links code) → (n : Values) → ConstantsStand links code ((inner_block bl inner t0 number level next s.filled).ground n)
+standing_inner inner t0 number level next s n =
+    record { stand = λ bytes placed t b m o. (s.constants n).stand bytes placed t0 b m o.kept }
+
 pub standing_within : {e : Environment} {block : Names} {types : Types} {bl : Block e block types} {links : Links} {code : List Instr} (labels : List Label) → Standing bl links code → Standing (within labels bl) links code
-standing_within labels s = record { raises = s.raises; constants = s.constants; filled = s.filled }
+standing_within labels s = record { raises = s.raises; constants = s.constants; filled = s.filled; known = s.known }
 
 -- in a block inside it
 standing_inside : {e : Environment} {block : Names} {types : Types} {bl : Block e block types} {links : Links} {code : List Instr} (inner : Inner bl) (t0 : ℕ → ℕ) (number level : ℕ) (next : level ≡ suc e.level) → frame_end e.parts e.program number level ≡ fixed_size (suc e.level) 0 → (s : Standing bl links code) → Standing (inner_block bl inner t0 number level next s.filled) links code
-standing_inside inner t0 number level next sized s =
+standing_inside {e} inner t0 number level next sized s =
     record {
       raises = s.raises;
-      constants = λ n. record { stand = λ bytes placed t b m o. (s.constants n).stand bytes placed t0 b m o.kept };
+      constants = standing_inner inner t0 number level next s;
       filled = λ owned. ap (λ u. inner.at + u) sized;
+      known = known_in e.owner number level s.known;
     }
 
 inner_labels_stand : {e : Environment} {links : Links} {all : List (ℕ × Label)} {procedure : ℕ} {main : Bool} → LabelsStand e links all procedure main → (number level : ℕ) → level ≡ suc e.level → level ≤ 100 → IsAmong (record { number = number; level = level }) e.blocks → LabelsStand (in_frame number level e) links all procedure main
@@ -111,17 +122,16 @@ Signals e block types all procedure bound links code may =
 
 -- they do; the units that may be in force are known, and the main procedure's own block may get one; a return in a called procedure goes
 -- to its end
-pub record Ways (e : Environment) (block : Names) (types : Types) (words bound : ℕ) (small : Bool) (labels : List Label) (outer : List OuterBlock) (base : ℕ) (units : ℕ → Y.Block → ℕ → Type 0) (all : List (ℕ × Label)) (procedure : ℕ) (links : Links) (code : List Instr) (main returns : Bool) (may : List ℕ) : Type 1 where
-  pub calls : (o : Owner) (number level : ℕ) (b : Block (owned_by o (in_frame number level e)) block types) → length b.depths < most_activations → b.stack.free + 4000 * (500 - length b.depths) ≤ 14 * 2 ^ 20 → b.words < 2 ^ 22 → Standing b links code → Tells e block types all procedure may links code b.base b.frames.known → b.taken.words ≤ b.words → HasMain procedure (main_labels e.program.procedures) level number b.labels b.outer → (around : Around) → around.program ≡ e.program → (more : ℕ) → Entering e.program around more → more ≤ bound → (procedure : ℕ) → is_number procedure may ≡ true → (line : ℕ) → line < 2 ^ 31 → Does b links code around.turns (stmt_code (owned_by o (in_frame number level e)) b.taken (Y.CallProcedure (Y.Calling procedure 0 Y.NoArgument) line)) (M.statement around (Y.CallProcedure (Y.Calling procedure 0 Y.NoArgument) line))
-  pub signals : (o : Owner) (number level : ℕ) (b : Block (owned_by o (in_frame number level e)) block types) → length b.depths < most_activations → b.stack.free + 4000 * (500 - length b.depths) ≤ 14 * 2 ^ 20 → b.words < 2 ^ 22 → Standing b links code → Tells e block types all procedure may links code b.base b.frames.known → HasMain procedure (main_labels e.program.procedures) level number b.labels b.outer → (around : Around) → around.program ≡ e.program → (more : ℕ) → Entering e.program around more → more ≤ bound → (line : ℕ) → line < 2 ^ 31 → Does b links code around.turns (stmt_code (owned_by o (in_frame number level e)) b.taken (Y.Signal C.Area line)) (M.statement around (Y.Signal C.Area line))
-  pub tells : Tells e block types all procedure may links code base units
+pub record Ways (e : Environment) (block : Names) (types : Types) (words bound : ℕ) (small : Bool) (labels : List Label) (outer : List OuterBlock) (base : ℕ) (units : ℕ → Y.Block → ℕ → Type 0) (all : List (ℕ × Label)) (procedure : ℕ) (links : Links) (code : List Instr) (main returns bare : Bool) (may : List ℕ) : Type 1 where
+  pub calls : bare ≡ true → Calls e block types all procedure bound links code may
+  pub signals : bare ≡ true → Signals e block types all procedure bound links code may
+  pub tells : bare ≡ true → Tells e block types all procedure may links code base units
   pub makes : (0 == e.level) ≡ true → (u : Y.Block) (at : ℕ) → UnitStands (program_around e) block types all procedure may links code u at → units base u at
   pub narrow : words < 2 ^ 22
-  pub outermost : AllOutermost block types
   pub ends : returns ≡ true → main ≡ false → IsHome e links outer
-  pub mains : HasMain procedure (main_labels e.program.procedures) e.level e.block labels outer
+  pub mains : bare ≡ true → HasMain procedure (main_labels e.program.procedures) e.level e.block labels outer
 
-ways_within : {e : Environment} {block : Names} {types : Types} {words bound : ℕ} {small : Bool} {labels : List Label} {outer : List OuterBlock} {base : ℕ} {units : ℕ → Y.Block → ℕ → Type 0} {all : List (ℕ × Label)} {procedure : ℕ} {links : Links} {code : List Instr} {main returns : Bool} {may : List ℕ} (more : List Label) → Ways e block types words bound small labels outer base units all procedure links code main returns may → Ways e block types words bound small (more ++ labels) outer base units all procedure links code main returns may
+ways_within : {e : Environment} {block : Names} {types : Types} {words bound : ℕ} {small : Bool} {labels : List Label} {outer : List OuterBlock} {base : ℕ} {units : ℕ → Y.Block → ℕ → Type 0} {all : List (ℕ × Label)} {procedure : ℕ} {links : Links} {code : List Instr} {main returns bare : Bool} {may : List ℕ} (more : List Label) → Ways e block types words bound small labels outer base units all procedure links code main returns bare may → Ways e block types words bound small (more ++ labels) outer base units all procedure links code main returns bare may
 ways_within {e} {labels = labels} {outer = outer} {procedure = procedure} more ways =
     record {
       calls = ways.calls;
@@ -129,44 +139,109 @@ ways_within {e} {labels = labels} {outer = outer} {procedure = procedure} more w
       tells = ways.tells;
       makes = ways.makes;
       narrow = ways.narrow;
-      outermost = ways.outermost;
       ends = ways.ends;
-      mains = more_main procedure (main_labels e.program.procedures) e.level e.block more labels outer ways.mains;
+      mains = λ free. more_main procedure (main_labels e.program.procedures) e.level e.block more labels outer (ways.mains free);
     }
 
 -- ---- room
 
--- above a block, for the frames of BEGIN blocks in a part: each is small, or with those of 500 small frames they fit
-abbrev pub Room : (small : Bool) → (free depth words level : ℕ) → Type 0
-Room false free depth words level =
-    (free + 4 * words + 700 * (101 - level) + 2000000 ≤ 14 * 2 ^ 20) × (depth < most_activations)
-Room true free depth words level =
-    ((free + 4000 * (500 - depth) ≤ 14 * 2 ^ 20) × (words ≤ 800)) × (depth < most_activations)
+-- above a block, for so many words and bytes of variables in the frames of BEGIN blocks in a part: each is small, or with those of 500
+-- small frames they fit; in a block that declares variables, where no calls stand, the variables take the place of these
+abbrev pub Room : (small bare : Bool) → (free depth words own level : ℕ) → Type 0
+Room false true free depth words own level =
+    ((free + 4 * words + 700 * (101 - level) + 2000000 ≤ 14 * 2 ^ 20) × (own ≤ 1000000)) × (depth < most_activations)
+Room false false free depth words own level =
+    ((free + 4 * words + own + 700 * (101 - level) ≤ 14 * 2 ^ 20) × (own ≤ 1000000)) × (depth < most_activations)
+Room true bare free depth words own level =
+    ((free + 4000 * (500 - depth) ≤ 14 * 2 ^ 20) × (4 * words + own ≤ 3200)) × (depth < most_activations)
 
-room_less : (small : Bool) (free depth words words' level : ℕ) → words' ≤ words → Room small free depth words level → Room small free depth words' level
-room_less false free depth words words' level less room = (let r = room.0 in omega (arith, r, less), room.1)
-room_less true free depth words words' level less room = ((room.0.0, let r = room.0.1 in omega (arith, r, less)), room.1)
+room_less : (small bare : Bool) (free depth words words' own own' level : ℕ) → words' ≤ words → own' ≤ own → Room small bare free depth words own level → Room small bare free depth words' own' level
+room_less false true free depth words words' own own' level less fewer room =
+    let r = room.0.0 in let few = room.0.1 in ((omega (arith, r, less), omega (arith, few, fewer)), room.1)
+room_less false false free depth words words' own own' level less fewer room =
+    let r = room.0.0 in let few = room.0.1 in ((omega (arith, r, less, fewer), omega (arith, few, fewer)), room.1)
+room_less true bare free depth words words' own own' level less fewer room =
+    ((room.0.0, let r = room.0.1 in omega (arith, r, less, fewer)), room.1)
 
--- for a frame
-room_frame : (small : Bool) (free depth words more level : ℕ) → level < 100 → Room small free depth (words + more) level → free + 4 * words + 700 ≤ 14 * 2 ^ 20
-room_frame false free depth words more level shallow room = let r = room.0 in omega (arith, r, shallow)
-room_frame true free depth words more level shallow room =
+-- where no calls stand
+room_declared : (small bare : Bool) (free depth words own level : ℕ) → Room small bare free depth words own level → Room small false free depth words own level
+room_declared false true free depth words own level room =
+    let r = room.0.0 in let few = room.0.1 in ((omega (arith, r, few), few), room.1)
+room_declared false false free depth words own level room = room
+room_declared true bare free depth words own level room = room
+
+-- for a frame, with its variables
+room_frame : (small bare : Bool) (free depth words more own others level : ℕ) → level < 100 → Room small bare free depth (words + more) (own + others) level → free + 4 * words + own + 700 ≤ 14 * 2 ^ 20
+room_frame false true free depth words more own others level shallow room =
+    let r = room.0.0 in let few = room.0.1 in omega (arith, r, few, shallow)
+room_frame false false free depth words more own others level shallow room = let r = room.0.0 in omega (arith, r, shallow)
+room_frame true bare free depth words more own others level shallow room =
     let r = room.0.0 in let few = room.0.1 in let d = room.1 in omega (arith, r, few, d)
 
 -- above it
-room_inner : (small : Bool) (free depth words more level level' : ℕ) → level < 100 → level' ≡ suc level → suc depth < most_activations → Room small free depth (words + more) level → Room small (free + temporary_bytes words + fixed_size (suc level) 0) (suc depth) more level'
-room_inner false free depth words more level level' shallow next deep room = (let r = room.0 in omega (arith, r, shallow, next), deep)
-room_inner true free depth words more level level' shallow next deep room =
+room_inner : (small bare : Bool) (free depth words more own level level' : ℕ) → level < 100 → level' ≡ suc level → suc depth < most_activations → Room small bare free depth (words + more) own level → Room small bare (free + temporary_bytes words + fixed_size (suc level) 0) (suc depth) more own level'
+room_inner false true free depth words more own level level' shallow next deep room =
+    let r = room.0.0 in let few = room.0.1 in ((omega (arith, r, shallow, next), few), deep)
+room_inner false false free depth words more own level level' shallow next deep room =
+    let r = room.0.0 in let few = room.0.1 in ((omega (arith, r, shallow, next), few), deep)
+room_inner true bare free depth words more own level level' shallow next deep room =
     let r = room.0.0 in let few = room.0.1 in ((omega (arith, r, few, deep, shallow), omega (arith, few)), deep)
 
--- for calls
-room_calls : (small : Bool) (free depth words level : ℕ) → Room small free depth words level → free + 4000 * (500 - depth) ≤ 14 * 2 ^ 20
-room_calls false free depth words level room = let r = room.0 in omega (arith, r)
-room_calls true free depth words level room = room.0.0
+-- above it and its variables
+room_made : (small : Bool) (free depth words more own others level level' : ℕ) → level < 100 → level' ≡ suc level → suc depth < most_activations → Room small false free depth (words + more) (own + others) level → Room small false (free + temporary_bytes words + fixed_size (suc level) 0 + own) (suc depth) more others level'
+room_made false free depth words more own others level level' shallow next deep room =
+    let r = room.0.0 in let few = room.0.1 in ((omega (arith, r, shallow, next), omega (arith, few)), deep)
+room_made true free depth words more own others level level' shallow next deep room =
+    let r = room.0.0 in let few = room.0.1 in ((omega (arith, r, few, deep, shallow), omega (arith, few)), deep)
 
-room_deep : (small : Bool) (free depth words level : ℕ) → Room small free depth words level → depth < most_activations
-room_deep false free depth words level room = room.1
-room_deep true free depth words level room = room.1
+-- for its variables
+room_few : (small bare : Bool) (free depth words own level : ℕ) → Room small bare free depth words own level → own ≤ 1000000
+room_few false true free depth words own level room = room.0.1
+room_few false false free depth words own level room = room.0.1
+room_few true bare free depth words own level room = let r = room.0.1 in omega (arith, r)
+
+-- for calls
+room_calls : (small bare : Bool) (free depth words own level : ℕ) → bare ≡ true → Room small bare free depth words own level → free + 4000 * (500 - depth) ≤ 14 * 2 ^ 20
+room_calls false true free depth words own level free' room = let r = room.0.0 in omega (arith, r)
+room_calls false false free depth words own level apart room = absurd (cc apart)
+room_calls true bare free depth words own level free' room = room.0.0
+
+room_deep : (small bare : Bool) (free depth words own level : ℕ) → Room small bare free depth words own level → depth < most_activations
+room_deep false true free depth words own level room = room.1
+room_deep false false free depth words own level room = room.1
+room_deep true bare free depth words own level room = room.1
+
+-- a block declares nothing, or something
+by_declared : {A : Type 1} (ds : List Y.DeclaredVariable) → (ds ≡ [] → A) → ((ds ≡ [] → ⊥) → is_bare ds ≡ false → A) → A
+by_declared [] none some' = none refl
+by_declared (d ∷ ds) none some' = some' (λ e. absurd (cc e)) refl
+
+not_bare : {A : Type 0} (ds : List Y.DeclaredVariable) (xs : List A) → (ds ≡ [] → ⊥) → if_bare ds xs ≡ []
+not_bare [] xs some' = absurd (some' refl)
+not_bare (d ∷ ds) xs some' = refl
+
+main_declares : (main : Bool) (ds : List Y.DeclaredVariable) → DeclareIf main ds → (ds ≡ [] → ⊥) → main ≡ true
+main_declares true ds declares some' = refl
+main_declares false ds declares some' = absurd (some' declares)
+
+-- nothing is declared in blocks that may not
+mutual
+  statement_bytes : (program : Y.Program) (x : Y.Stmt) → IsBare program false x → bytes_in program x ≡ 0
+  statement_bytes program (Y.If condition unit line) bare = statement_bytes program unit bare
+  statement_bytes program (Y.IfElse condition unit otherwise line) bare =
+      ap (λ n. max n (bytes_in program otherwise)) (statement_bytes program unit bare.0) ∙ ap (λ n. max 0 n) (statement_bytes program otherwise bare.1)
+  statement_bytes program (Y.Do body line) bare = bare_bytes program body bare
+  statement_bytes program (Y.DoWhile condition body line) bare = bare_bytes program body bare
+  statement_bytes program (Y.DoOnce target start condition body line) bare = bare_bytes program body bare
+  statement_bytes program (Y.DoCount counter start limit step condition body line) bare = bare_bytes program body bare
+  statement_bytes program (Y.Begin (Y.BlockOf head body)) bare =
+      ap (λ (ds : List Y.DeclaredVariable). 32 * length ds + inner_bytes program body) bare.0 ∙ ap (λ n. 0 + n) (bare_bytes program body bare.1)
+  statement_bytes program _ bare = refl
+
+  pub bare_bytes : (program : Y.Program) (body : Y.Stmts) → AreBare program false body → inner_bytes program body ≡ 0
+  bare_bytes program (Y.EndOfList labels) bare = refl
+  bare_bytes program (Y.StmtThen labels first rest) bare =
+      ap (λ n. max n (inner_bytes program rest)) (statement_bytes program first bare.0) ∙ ap (λ n. max 0 n) (bare_bytes program rest bare.1)
 
 return_by : {e : Environment} {block : Names} {types : Types} (main : Bool) (bl : Block e block types) (links : Links) (code : List Instr) (around : Around) (line number : ℕ) → line < 2 ^ 31 → e.level ≤ 100 → (main ≡ true → e.owner ≡ BlockOwner (record { number = number; level = 0 })) → (main ≡ true → IsEndMarkedOnce links number) → (main ≡ false → IsHome e links bl.outer) → Does bl links code around.turns (stmt_code e bl.taken (Y.Return line)) (M.statement around (Y.Return line))
 return_by true bl links code around line number fits few owner ended home =
@@ -175,7 +250,7 @@ return_by false bl links code around line number fits few owner ended home =
     home_does bl links code around line few fits (home refl)
 
 mutual
-  pub statement_does : {e : Environment} {block : Names} {types : Types} (bl : Block e block types) (links : Links) (code : List Instr) (routines : Standing bl links code) (around : Around) (same : around.program ≡ e.program) {all : List (ℕ × Label)} {procedure : ℕ} {main returns small : Bool} {may : List ℕ} {bound : ℕ} (named : LabelsStand e links all procedure main) (x : Y.Stmt) → IsProvedStatement block types x → JumpsAround e.program e.block e.level all e.blocks (main_outer procedure e.program.procedures) bl.outer bl.labels x → bl.taken.words + stmt_words x ≤ bl.words → Room small bl.stack.free (length bl.depths) (inner_words x) e.level → IsBare e.program false x → {more : ℕ} → Entering e.program around more → more ≤ bound → ((b : BlockPlace) → IsAmong b (blocks_in x) → IsAmong b e.blocks) → CallsAmong e.program may returns x → Ways e block types bl.words bound small bl.labels bl.outer bl.base bl.frames.known all procedure links code main returns may → Does bl links code around.turns (stmt_code e bl.taken x) (M.statement around x)
+  pub statement_does : {e : Environment} {block : Names} {types : Types} (bl : Block e block types) (links : Links) (code : List Instr) (routines : Standing bl links code) (around : Around) (same : around.program ≡ e.program) {all : List (ℕ × Label)} {procedure : ℕ} {main returns bare small : Bool} {may : List ℕ} {bound : ℕ} (named : LabelsStand e links all procedure main) (x : Y.Stmt) → IsProvedStatement block types x → JumpsAround e.program e.block e.level all e.blocks (main_outer procedure e.program.procedures) bl.outer bl.labels x → bl.taken.words + stmt_words x ≤ bl.words → Room small bare bl.stack.free (length bl.depths) (inner_words x) (bytes_in e.program x) e.level → IsBare e.program main x → {more : ℕ} → Entering e.program around more → more ≤ bound → ((b : BlockPlace) → IsAmong b (blocks_in x) → IsAmong b e.blocks) → CallsAmong e.program may returns bare x → Ways e block types bl.words bound small bl.labels bl.outer bl.base bl.frames.known all procedure links code main returns bare may → Does bl links code around.turns (stmt_code e bl.taken x) (M.statement around x)
   statement_does bl links code routines around same named (Y.Null line) is jumps room space bare entering least known calls ways = null_does bl links code around line is
   statement_does bl links code routines around same named (Y.Assign target (Y.StoredNumber precision x) line) is jumps room space bare entering least known calls ways =
       let a = le-max_left (max 1 (number_words x)) (4 + reference_words target) in
@@ -193,7 +268,7 @@ mutual
       let d = le-max_right (bit_words condition) (stmt_words unit) in
       if_does bl links code routines around condition unit line is.0 (omega (arith, a, room)) is.1.1
       (statement_does bl links code routines around same named unit is.1.0 jumps (omega (arith, d, room)) space bare entering least known calls ways)
-  statement_does {e} bl links code routines around same {all} {procedure} {main} {small} named (Y.IfElse condition unit otherwise line) is jumps room space bare entering least known calls ways =
+  statement_does {e} bl links code routines around same {all} {procedure} {main} {bare = free} {small} named (Y.IfElse condition unit otherwise line) is jumps room space bare entering least known calls ways =
       let most = max (stmt_words unit) (stmt_words otherwise) in
       let a = le-max_left (bit_words condition) most in
       let d = le-max_right (bit_words condition) most in
@@ -201,11 +276,13 @@ mutual
       let d2 = le-max_right (stmt_words unit) (stmt_words otherwise) in
       let i1 = le-max_left (inner_words unit) (inner_words otherwise) in
       let i2 = le-max_right (inner_words unit) (inner_words otherwise) in
+      let b1 = le-max_left (bytes_in e.program unit) (bytes_in e.program otherwise) in
+      let b2 = le-max_right (bytes_in e.program unit) (bytes_in e.program otherwise) in
       if_else_does bl links code routines around condition unit otherwise line is.0 (omega (arith, a, room)) is.1.1.1
       (statement_does bl links code routines around same named unit is.1.0 jumps.0 (omega (arith, d, d1, room))
-      (room_less small bl.stack.free (length bl.depths) (max (inner_words unit) (inner_words otherwise)) (inner_words unit) e.level i1 space) bare.0 entering least (λ b h. known b (among_front b (blocks_in unit) (blocks_in otherwise) h)) calls.0 ways)
+      (room_less small free bl.stack.free (length bl.depths) (max (inner_words unit) (inner_words otherwise)) (inner_words unit) (max (bytes_in e.program unit) (bytes_in e.program otherwise)) (bytes_in e.program unit) e.level i1 b1 space) bare.0 entering least (λ b h. known b (among_front b (blocks_in unit) (blocks_in otherwise) h)) calls.0 ways)
       (statement_does bl links code routines around same named otherwise is.1.1.0 jumps.1 (omega (arith, d, d2, room))
-      (room_less small bl.stack.free (length bl.depths) (max (inner_words unit) (inner_words otherwise)) (inner_words otherwise) e.level i2 space) bare.1 entering least (λ b h. known b (among_back b (blocks_in unit) (blocks_in otherwise) h)) calls.1 ways)
+      (room_less small free bl.stack.free (length bl.depths) (max (inner_words unit) (inner_words otherwise)) (inner_words otherwise) (max (bytes_in e.program unit) (bytes_in e.program otherwise)) (bytes_in e.program otherwise) e.level i2 b2 space) bare.1 entering least (λ b h. known b (among_back b (blocks_in unit) (blocks_in otherwise) h)) calls.1 ways)
   statement_does bl links code routines around same named (Y.Do body line) is jumps room space bare entering least known calls ways =
       do_does bl links code around body line is.1
       (listed bl around body (each_does (within (labels_in body) bl) links code (standing_within (labels_in body) routines) around same named body is.0 jumps room space bare entering least known calls (ways_within (labels_in body) ways)))
@@ -262,32 +339,77 @@ mutual
       counted_does bl links code routines around target precision start limit step condition body line is.0.0 (omega (arith, room, m2, d0)) is.0.1 is.1.0.0 is.1.0.1 is.1.1.0
       (omega (arith, room, m1, a1)) (omega (arith, room, m1, a2, a4)) (omega (arith, room, m1, a2, a5)) (omega (arith, room, m2, d1, d2)) is.1.1.1.1
       (listed (turning bl) around body (each_does (within (labels_in body) (turning bl)) links code (standing_within (labels_in body) (standing_turning routines)) around same named body is.1.1.1.0 jumps (omega (arith, room, m2, d1, d3)) space bare entering least known calls (ways_within (labels_in body) ways)))
-  statement_does {e} {block} {types} bl links code routines around same {all} {procedure} {main} {returns} {small} {may} named (Y.Begin (Y.BlockOf head body)) is jumps room space bare {more} entering least known calls ways =
+  statement_does {e} {block} {types} bl links code routines around same {all} {procedure} {main} {returns} {bare = free} {small} {may} {bound} named (Y.Begin (Y.BlockOf head body)) is jumps room space bare {more} entering least known calls ways =
+      let vars = variables_of_block e.program head.number in
       let next = jumps.0.0 in
       let deep = jumps.0.1 in
       let shallow : e.level < 100 = omega (arith, next, deep) in
-      let none : variables_of_block e.program head.number ≡ [] = bare.0 in
+      let own' : OuterBlock = record { level = e.level; number = e.block; labels = bl.labels } in
+      let words = max 0 (stmts_words body) in
+      let fits = room_frame small free bl.stack.free (length bl.depths) words (all_inner_words body) (32 * length vars) (inner_bytes e.program body) e.level shallow space in
+      let inner = inner_of bl words shallow (omega (arith, fits)) in
+      let here : (more' : ℕ) → Around = λ more'. inner_around e.program more' head.line in
+      let most = le-max_right 0 (stmts_words body) in
+      by_declared vars
+      (λ none.
       let here' : variables_of_block block.program head.number ≡ [] = ap (λ p. variables_of_block p head.number) bl.named ∙ none in
       let are : AreProvedStatements block types body = subst (λ ds. AreProvedStatements (names_in block types head ds) (types_in types ds) body) here' is.1.1 in
-      let own' : OuterBlock = record { level = e.level; number = e.block; labels = bl.labels } in
       let around' : AllJumpAround e.program head.number head.level all e.blocks (main_outer procedure e.program.procedures) (own' ∷ bl.outer) (labels_in body) body = subst (λ ds. AllJumpAround e.program head.number head.level all e.blocks (main_outer procedure e.program.procedures) (if_bare ds (own' ∷ bl.outer)) (labels_in body) body) none jumps.1 in
-      let calls' : AllCallAmong e.program may returns body = subst (λ ds. AllCallAmong e.program (if_bare ds may) returns body) none calls in
+      let calls' : AllCallAmong e.program may returns free body = subst (λ ds. AllCallAmong e.program may returns (is_bare ds && free) body) none calls in
       let sized : frame_end e.parts e.program head.number head.level ≡ fixed_size (suc e.level) 0 = named.bare head.number head.level none ∙ ap (λ l. fixed_size l 0) next in
-      let inner = inner_of bl (max 0 (stmts_words body)) shallow (room_frame small bl.stack.free (length bl.depths) (max 0 (stmts_words body)) (all_inner_words body) e.level shallow space) in
       begin_does bl links code around more head body inner named.lower refl shallow next routines.filled is.0 is.1.0 none entering
       (λ more' step deeper t0.
       let ib = inner_block bl inner t0 head.number head.level next routines.filled in
-      let here = inner_around e.program more' head.line in
       let high : AllJumpAround e.program head.number head.level all e.blocks (main_outer procedure e.program.procedures) ib.outer (labels_in body ++ []) body = subst (λ ls. AllJumpAround e.program head.number head.level all e.blocks (main_outer procedure e.program.procedures) ib.outer ls body) (sym (append-nil (labels_in body))) around' in
-      let most = le-max_right 0 (stmts_words body) in
-      listed ib here body
-      (each_does (within (labels_in body) ib) links code (standing_within (labels_in body) (standing_inside inner t0 head.number head.level next sized routines)) here refl (inner_labels_stand named head.number head.level next deep (known (place_of_head head) (inl refl))) body are high (omega (arith, most))
-      (room_inner small bl.stack.free (length bl.depths) (max 0 (stmts_words body)) (all_inner_words body) e.level head.level shallow next deeper space)
+      listed ib (here more') body
+      (each_does (within (labels_in body) ib) links code (standing_within (labels_in body) (standing_inside inner t0 head.number head.level next sized routines)) (here more') refl (inner_labels_stand named head.number head.level next deep (known (place_of_head head) (inl refl))) body are high (omega (arith, most))
+      (room_inner small free bl.stack.free (length bl.depths) words (all_inner_words body) (inner_bytes e.program body) e.level head.level shallow next deeper (room_less small free bl.stack.free (length bl.depths) (words + all_inner_words body) (words + all_inner_words body) (32 * length vars + inner_bytes e.program body) (inner_bytes e.program body) e.level (omega arith) (omega arith) space))
       bare.1 (inner_entering e.program more' head.line) (omega (arith, least, step)) (λ b h. known b (inr h)) calls'
-      (record { calls = ways.calls; signals = ways.signals; tells = ways.tells; outermost = ways.outermost; makes = λ same' u at k. let no : true ≡ false = sym same' ∙ other_level head.level e.level next in absurd (cc no); narrow = (let fits = room_frame small bl.stack.free (length bl.depths) (max 0 (stmts_words body)) (all_inner_words body) e.level shallow space in omega (arith, fits)); ends = λ may other. inr (ways.ends may other); mains = more_main procedure (main_labels e.program.procedures) head.level head.number (labels_in body) [] ib.outer (inr ways.mains) })))
-  statement_does {e} bl links code routines around same {all} {procedure} {main} {small} named (Y.CallProcedure (Y.Calling number level Y.NoArgument) line) is jumps room space bare {more} entering least known calls ways =
+      (record { calls = ways.calls; signals = ways.signals; tells = ways.tells; makes = λ same' u at k. let no : true ≡ false = sym same' ∙ other_level head.level e.level next in absurd (cc no); narrow = omega (arith, fits); ends = λ may' other. inr (ways.ends may' other); mains = λ free'. more_main procedure (main_labels e.program.procedures) head.level head.number (labels_in body) [] ib.outer (inr (ways.mains free')) }))))
+      (λ some' other.
+      let are' : AreDeclaring vars = declare_if main vars bare.0 in
+      let few = room_few small free bl.stack.free (length bl.depths) (words + all_inner_words body) (32 * length vars + inner_bytes e.program body) e.level space in
+      let own'' = main_declares main vars bare.0 some' in
+      let are : AreProvedStatements (names_in block types head vars) (types_in types vars) body = subst (λ p. AreProvedStatements (names_in block types head (variables_of_block p head.number)) (types_in types (variables_of_block p head.number)) body) bl.named is.1.1 in
+      let around' : AllJumpAround e.program head.number head.level all e.blocks (main_outer procedure e.program.procedures) [] (labels_in body) body = subst (λ os. AllJumpAround e.program head.number head.level all e.blocks (main_outer procedure e.program.procedures) os (labels_in body) body) (not_bare vars (own' ∷ bl.outer) some') jumps.1 in
+      let calls' : AllCallAmong e.program may returns false body = subst (λ q. AllCallAmong e.program may returns (q && free) body) other calls in
+      let makes = λ (t0 : ℕ → ℕ). inner_makes bl inner t0 head next routines.filled routines.known are' deep (let place = inner.place in omega (arith, fits, shallow)) (omega (arith, few)) in
+      declares_does bl links code around more head body inner named.lower refl shallow next routines.filled (known_in e.owner head.number head.level routines.known) are' some' makes is.0 is.1.0 entering
+      (λ more' step deeper t0 serial.
+      let ib = inner_block bl inner t0 head.number head.level next routines.filled in
+      let mb = made_block ib vars (makes t0) serial in
+      let made = is_made vars ib (makes t0) serial in
+      let none' = made_alone vars ib (makes t0) serial (λ none. absurd (some' none)) in
+      let w = made.words in
+      let taken = made.taken in
+      let depths = made.depths in
+      let free' = made.free in
+      let high : AllJumpAround e.program head.number head.level all e.blocks (main_outer procedure e.program.procedures) mb.outer (labels_in body ++ mb.labels) body = subst (λ os. AllJumpAround e.program head.number head.level all e.blocks (main_outer procedure e.program.procedures) os (labels_in body ++ mb.labels) body) (sym none') (subst (λ ls. AllJumpAround e.program head.number head.level all e.blocks (main_outer procedure e.program.procedures) [] ls body) (sym (ap (λ ls. labels_in body ++ ls) made.labels ∙ append-nil (labels_in body))) around') in
+      let standing : Standing mb links code = record {
+        raises = routines.raises;
+        constants = made_constants vars ib (makes t0) serial (standing_inner inner t0 head.number head.level next routines);
+        filled = made_filled bl inner t0 head next routines.filled routines.known are' deep (omega (arith, few)) (makes t0) serial;
+        known = known_in e.owner head.number head.level routines.known;
+      } in
+      subst (λ tk. Does mb links code (suc more') (stmts_code (in_frame head.number head.level e) tk body) (M.list (here more') body)) taken
+      (listed mb (here more') body
+      (each_does (within (labels_in body) mb) links code (standing_within (labels_in body) standing) (here more') refl {bound = bound} (inner_labels_stand named head.number head.level next deep (known (place_of_head head) (inl refl))) body are high (omega (arith, most, w, ap (λ (tk : Taken). tk.words) taken))
+      (subst (λ d. Room small false mb.stack.free d (all_inner_words body) (inner_bytes e.program body) head.level) (sym (ap (λ (ds : List ℕ). length ds) depths))
+      (subst (λ fr. Room small false fr (suc (length bl.depths)) (all_inner_words body) (inner_bytes e.program body) head.level) (sym free')
+      (room_made small bl.stack.free (length bl.depths) words (all_inner_words body) (32 * length vars) (inner_bytes e.program body) e.level head.level shallow next deeper (room_declared small free bl.stack.free (length bl.depths) (words + all_inner_words body) (32 * length vars + inner_bytes e.program body) e.level space))))
+      bare.1 (inner_entering e.program more' head.line) (omega (arith, least, step)) (λ b h. known b (inr h)) calls'
+      (record {
+        calls = λ no. let apart : false ≡ true = no in absurd (cc apart);
+        signals = λ no. let apart : false ≡ true = no in absurd (cc apart);
+        tells = λ no. let apart : false ≡ true = no in absurd (cc apart);
+        makes = λ same' u at k. let no : true ≡ false = sym same' ∙ other_level head.level e.level next in absurd (cc no);
+        narrow = omega (arith, fits, w);
+        ends = λ may' other'. let no : true ≡ false = sym own'' ∙ other' in absurd (cc no);
+        mains = λ no. let apart : false ≡ true = no in absurd (cc apart);
+      })))))
+  statement_does {e} bl links code routines around same {all} {procedure} {main} {bare = free} {small} named (Y.CallProcedure (Y.Calling number level Y.NoArgument) line) is jumps room space bare {more} entering least known calls ways =
       subst (λ n. Does bl links code around.turns (stmt_code e bl.taken (Y.CallProcedure (Y.Calling number n Y.NoArgument) line)) (M.statement around (Y.CallProcedure (Y.Calling number n Y.NoArgument) line))) (sym is.0)
-      (ways.calls e.owner e.block e.level bl (room_deep small bl.stack.free (length bl.depths) 0 e.level space) (room_calls small bl.stack.free (length bl.depths) 0 e.level space) ways.narrow routines ways.tells (omega (arith, room)) ways.mains around same more entering least number calls line is.1)
+      (ways.calls calls.0 e.owner e.block e.level bl (room_deep small free bl.stack.free (length bl.depths) 0 0 e.level space) (room_calls small free bl.stack.free (length bl.depths) 0 0 e.level calls.0 space) ways.narrow routines (ways.tells calls.0) (omega (arith, room)) (ways.mains calls.0) around same more entering least number calls.1 line is.1)
   statement_does bl links code routines around same {main = main} named (Y.Return line) is jumps room space bare entering least known calls ways =
       return_by main bl links code around line _ is named.shallow named.owner named.ended (ways.ends calls)
   statement_does {e} bl links code routines around same named (Y.Goto level label line) is (inl jumps) room space bare entering least known calls ways =
@@ -295,8 +417,8 @@ mutual
   statement_does bl links code routines around same {all} named (Y.Goto level label line) is (inr jumps) room space bare entering least known calls ways =
       out_does bl links code around all level label line (λ number h. named.once number label h) (inr named.owned) named.shallow is jumps
   statement_does bl links code routines around same named (Y.Stop line) is jumps room space bare entering least known calls ways = stop_does bl links code around line is
-  statement_does {e} bl links code routines around same {main = main} {small = small} named (Y.Signal C.Area line) is jumps room space bare {more} entering least known calls ways =
-      ways.signals e.owner e.block e.level bl (room_deep small bl.stack.free (length bl.depths) 0 e.level space) (room_calls small bl.stack.free (length bl.depths) 0 e.level space) ways.narrow routines ways.tells ways.mains around same more entering least line is
+  statement_does {e} bl links code routines around same {bare = free} {small = small} named (Y.Signal C.Area line) is jumps room space bare {more} entering least known calls ways =
+      ways.signals calls e.owner e.block e.level bl (room_deep small free bl.stack.free (length bl.depths) 0 0 e.level space) (room_calls small free bl.stack.free (length bl.depths) 0 0 e.level calls space) ways.narrow routines (ways.tells calls) (ways.mains calls) around same more entering least line is
   statement_does bl links code routines around same named (Y.Signal C.FixedOverflow line) is jumps room space bare entering least known calls ways = signal_does bl links code routines.raises around C.FixedOverflow line refl is
   statement_does bl links code routines around same named (Y.Signal C.ZeroDivide line) is jumps room space bare entering least known calls ways = signal_does bl links code routines.raises around C.ZeroDivide line refl is
   statement_does bl links code routines around same named (Y.Signal C.Endfile line) is jumps room space bare entering least known calls ways = signal_does bl links code routines.raises around C.Endfile line refl is
@@ -335,19 +457,23 @@ mutual
       get_skip_does bl links code routines around same n pairs line is.0.0 is.0.1 is.1.0 is.1.1 room
   statement_does bl links code routines around same named _ is jumps room space bare entering least known calls ways = absurd is
 
-  pub each_does : {e : Environment} {block : Names} {types : Types} (bl : Block e block types) (links : Links) (code : List Instr) (routines : Standing bl links code) (around : Around) (same : around.program ≡ e.program) {all : List (ℕ × Label)} {procedure : ℕ} {main returns small : Bool} {may : List ℕ} {bound : ℕ} (named : LabelsStand e links all procedure main) (body : Y.Stmts) → AreProvedStatements block types body → AllJumpAround e.program e.block e.level all e.blocks (main_outer procedure e.program.procedures) bl.outer bl.labels body → bl.taken.words + stmts_words body ≤ bl.words → Room small bl.stack.free (length bl.depths) (all_inner_words body) e.level → AreBare e.program false body → {more : ℕ} → Entering e.program around more → more ≤ bound → ((b : BlockPlace) → IsAmong b (blocks_among body) → IsAmong b e.blocks) → AllCallAmong e.program may returns body → Ways e block types bl.words bound small bl.labels bl.outer bl.base bl.frames.known all procedure links code main returns may → EachDoes bl links code around body
+  pub each_does : {e : Environment} {block : Names} {types : Types} (bl : Block e block types) (links : Links) (code : List Instr) (routines : Standing bl links code) (around : Around) (same : around.program ≡ e.program) {all : List (ℕ × Label)} {procedure : ℕ} {main returns bare small : Bool} {may : List ℕ} {bound : ℕ} (named : LabelsStand e links all procedure main) (body : Y.Stmts) → AreProvedStatements block types body → AllJumpAround e.program e.block e.level all e.blocks (main_outer procedure e.program.procedures) bl.outer bl.labels body → bl.taken.words + stmts_words body ≤ bl.words → Room small bare bl.stack.free (length bl.depths) (all_inner_words body) (inner_bytes e.program body) e.level → AreBare e.program main body → {more : ℕ} → Entering e.program around more → more ≤ bound → ((b : BlockPlace) → IsAmong b (blocks_among body) → IsAmong b e.blocks) → AllCallAmong e.program may returns bare body → Ways e block types bl.words bound small bl.labels bl.outer bl.base bl.frames.known all procedure links code main returns bare may → EachDoes bl links code around body
   each_does bl links code routines around same named (Y.EndOfList labels) are jumps room space bare entering least known calls ways = tt
-  each_does {e} bl links code routines around same {all} {procedure} {main} {small} named (Y.StmtThen labels first rest) are jumps room space bare entering least known calls ways =
+  each_does {e} bl links code routines around same {all} {procedure} {main} {bare = free} {small} named (Y.StmtThen labels first rest) are jumps room space bare entering least known calls ways =
       let a = le-max_left (stmt_words first) (stmts_words rest) in
       let c = le-max_right (stmt_words first) (stmts_words rest) in
       let i1 = le-max_left (inner_words first) (all_inner_words rest) in
-      let i2 = le-max_right (inner_words first) (all_inner_words rest) in (
-        statement_does bl links code routines around same named first are.0 jumps.0 (omega (arith, a, room)) (room_less small bl.stack.free (length bl.depths) (max (inner_words first) (all_inner_words rest)) (inner_words first) e.level i1 space) bare.0 entering least (λ b h. known b (among_front b (blocks_in first) (blocks_among rest) h)) calls.0 ways,
-        each_does bl links code routines around same named rest are.1 jumps.1 (omega (arith, c, room)) (room_less small bl.stack.free (length bl.depths) (max (inner_words first) (all_inner_words rest)) (all_inner_words rest) e.level i2 space) bare.1 entering least (λ b h. known b (among_back b (blocks_in first) (blocks_among rest) h)) calls.1 ways,
+      let i2 = le-max_right (inner_words first) (all_inner_words rest) in
+      let b1 = le-max_left (bytes_in e.program first) (inner_bytes e.program rest) in
+      let b2 = le-max_right (bytes_in e.program first) (inner_bytes e.program rest) in
+      let words = max (inner_words first) (all_inner_words rest) in
+      let bytes = max (bytes_in e.program first) (inner_bytes e.program rest) in (
+        statement_does bl links code routines around same named first are.0 jumps.0 (omega (arith, a, room)) (room_less small free bl.stack.free (length bl.depths) words (inner_words first) bytes (bytes_in e.program first) e.level i1 b1 space) bare.0 entering least (λ b h. known b (among_front b (blocks_in first) (blocks_among rest) h)) calls.0 ways,
+        each_does bl links code routines around same named rest are.1 jumps.1 (omega (arith, c, room)) (room_less small free bl.stack.free (length bl.depths) words (all_inner_words rest) bytes (inner_bytes e.program rest) e.level i2 b2 space) bare.1 entering least (λ b h. known b (among_back b (blocks_in first) (blocks_among rest) h)) calls.1 ways,
       )
 
 -- the statements of a block
-pub body_does : {e : Environment} {block : Names} {types : Types} (bl : Block e block types) (links : Links) (code : List Instr) (routines : Standing bl links code) (around : Around) (same : around.program ≡ e.program) {all : List (ℕ × Label)} {procedure : ℕ} {main returns small : Bool} {may : List ℕ} {bound : ℕ} (named : LabelsStand e links all procedure main) (body : Y.Stmts) → AreProvedStatements block types body → AllJumpAround e.program e.block e.level all e.blocks (main_outer procedure e.program.procedures) bl.outer (labels_in body ++ bl.labels) body → bl.taken.words + stmts_words body ≤ bl.words → Room small bl.stack.free (length bl.depths) (all_inner_words body) e.level → AreBare e.program false body → {more : ℕ} → Entering e.program around more → more ≤ bound → ((b : BlockPlace) → IsAmong b (blocks_among body) → IsAmong b e.blocks) → AllCallAmong e.program may returns body → Ways e block types bl.words bound small (labels_in body ++ bl.labels) bl.outer bl.base bl.frames.known all procedure links code main returns may → Does bl links code around.turns (stmts_code e bl.taken body) (M.list around body)
+pub body_does : {e : Environment} {block : Names} {types : Types} (bl : Block e block types) (links : Links) (code : List Instr) (routines : Standing bl links code) (around : Around) (same : around.program ≡ e.program) {all : List (ℕ × Label)} {procedure : ℕ} {main returns bare small : Bool} {may : List ℕ} {bound : ℕ} (named : LabelsStand e links all procedure main) (body : Y.Stmts) → AreProvedStatements block types body → AllJumpAround e.program e.block e.level all e.blocks (main_outer procedure e.program.procedures) bl.outer (labels_in body ++ bl.labels) body → bl.taken.words + stmts_words body ≤ bl.words → Room small bare bl.stack.free (length bl.depths) (all_inner_words body) (inner_bytes e.program body) e.level → AreBare e.program main body → {more : ℕ} → Entering e.program around more → more ≤ bound → ((b : BlockPlace) → IsAmong b (blocks_among body) → IsAmong b e.blocks) → AllCallAmong e.program may returns bare body → Ways e block types bl.words bound small (labels_in body ++ bl.labels) bl.outer bl.base bl.frames.known all procedure links code main returns bare may → Does bl links code around.turns (stmts_code e bl.taken body) (M.list around body)
 body_does bl links code routines around same named body are jumps room space bare entering least known calls ways =
     listed bl around body
     (each_does (within (labels_in body) bl) links code (standing_within (labels_in body) routines) around same named body are jumps room space bare entering least known calls ways)

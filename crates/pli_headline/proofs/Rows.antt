@@ -416,6 +416,7 @@ small_program =
         jumps = (tt, (tt, tt));
         calls = (tt, (tt, tt));
         inside = (tt, (tt, tt));
+        few = omega arith;
       };
       inner = tt;
       once = tt;
@@ -470,7 +471,8 @@ block_program =
         );
         jumps = (((refl, omega arith), (tt, (((refl, omega arith), (inl (refl, (refl, refl)), (inr (inr (inl (refl, (refl, (refl, refl))))), (tt, tt)))), tt))), tt);
         calls = ((tt, ((tt, (tt, (refl, tt))), tt)), tt);
-        inside = ((refl, (tt, ((refl, (tt, (tt, (tt, tt)))), tt))), tt);
+        inside = ((tt, (tt, ((tt, (tt, (tt, (tt, tt)))), tt))), tt);
+        few = omega arith;
       };
       inner = tt;
       once = tt;
@@ -516,6 +518,7 @@ procedure_program =
         jumps = (inl (refl, (refl, refl)), tt);
         calls = (tt, tt);
         inside = (tt, tt);
+        few = omega arith;
       };
       inner = (
         record {
@@ -570,8 +573,9 @@ call_program =
         line = lit< tt;
         statements = ((refl, lit< tt), tt);
         jumps = (tt, tt);
-        calls = (refl, tt);
+        calls = ((refl, refl), tt);
         inside = (tt, tt);
+        few = omega arith;
       };
       inner = (
         record {
@@ -584,7 +588,7 @@ call_program =
           statements = ((refl, (lit< tt, ((refl, lit< tt), (lit< tt, tt)))), (lit< tt, tt));
           jumps = (((refl, omega arith), (tt, (tt, tt))), (tt, tt));
           inside = ((refl, (tt, (tt, tt))), (tt, tt));
-          callable = λ h. record { kind = refl; line = lit< tt; calls = ((refl, (refl, tt)), (refl, tt)); few = omega arith };
+          callable = λ h. record { kind = refl; line = lit< tt; calls = (((refl, refl), (refl, tt)), (refl, tt)); few = omega arith };
         },
         tt,
       );
@@ -638,8 +642,9 @@ unit_program =
           (lit< tt, ((refl, (tt, (lit< tt, (lit< tt, (((inl i, tt), (lit< tt, lit< tt)), (lit< tt, tt)))))), (lit< tt, tt))),
         );
         jumps = ((refl, (refl, (tt, (tt, tt)))), (tt, ((refl, (refl, (refl, (tt, (tt, tt))))), (tt, tt))));
-        calls = (((tt, tt), (omega arith, tt)), (tt, (((tt, (tt, tt)), (omega arith, refl)), (tt, tt))));
+        calls = (((tt, tt), (omega arith, tt)), (refl, (((tt, (tt, tt)), (omega arith, refl)), (refl, tt))));
         inside = ((tt, (tt, tt)), (tt, ((refl, (tt, (tt, tt))), (tt, tt))));
+        few = omega arith;
       };
       inner = tt;
       once = tt;
@@ -683,8 +688,9 @@ leaving_program =
         line = lit< tt;
         statements = ((refl, (tt, (lit< tt, (lit< tt, ((refl, lit< tt), tt))))), (lit< tt, (lit< tt, tt)));
         jumps = ((refl, (refl, (refl, (tt, tt)))), (tt, (tt, tt)));
-        calls = (((refl, tt), (omega arith, refl)), (tt, (tt, tt)));
+        calls = ((((refl, refl), tt), (omega arith, refl)), (refl, (tt, tt)));
         inside = ((refl, (tt, tt)), (tt, (tt, tt)));
+        few = omega arith;
       };
       inner = (
         record {
@@ -742,8 +748,9 @@ away_program =
           (refl, (refl, (tt, (inr (inl (refl, (refl, (refl, refl)))), tt)))),
           (tt, ((refl, (refl, (refl, (inr (inl (refl, (refl, (refl, refl)))), tt)))), (tt, tt))),
         );
-        calls = (((tt, tt), (omega arith, tt)), (tt, (((tt, tt), (omega arith, refl)), (tt, tt))));
+        calls = (((tt, tt), (omega arith, tt)), (refl, (((tt, tt), (omega arith, refl)), (refl, tt))));
         inside = ((tt, (tt, tt)), (tt, ((refl, (tt, tt)), (tt, tt))));
+        few = omega arith;
       };
       inner = tt;
       once = tt;

@@ -21,7 +21,7 @@ use Rattle.pli_serving.specs.Bytes.{with_bytes}
 use Rattle.pli_coding.specs.Assembly.{LabelPlace, ReturnPlace, Code, size_of}
 use Rattle.pli_coding.specs.Frames.{frame_end, parameters_of_block}
 use Rattle.pli_coding.specs.Allocating.{act_code}
-use Rattle.pli_coding.specs.Environments.{Owner, BlockOwner, UnitOwner, Environment, Taken}
+use Rattle.pli_coding.specs.Environments.{Owner, BlockOwner, UnitOwner, Environment, Taken, in_frame, owned_by}
 use Rattle.pli_coding.specs.Expressions.{stored_code}
 use Rattle.pli_coding.specs.Storing.{word_stored, stored_into, assigned_code}
 use Rattle.pli_coding.specs.Statements.{stmt_code, stmts_code, marked}
@@ -218,15 +218,21 @@ pub record IsKnown (e : Environment) : Type 0 where
   pub numbered : (number j : ℕ) {kind : Kind} → slice_get (types_of (variables_of_block e.program number)) j ≡ Some kind → Numbered (table_of e.program) kind
   pub none : (number : ℕ) → parameters_of_block e.program number ≡ []
 
+-- of any block of the program
+pub known_in : {e : Environment} (owner : Owner) (number level : ℕ) → IsKnown e → IsKnown (owned_by owner (in_frame number level e))
+known_in owner number level known =
+    record { table = known.table; parts_are = known.parts_are; numbered = known.numbered; none = known.none }
+
 -- all variables of its own stand in its frame
 abbrev pub IsFilled : {e : Environment} {block : Names} {types : Types} → Block e block types → Type 0
 IsFilled {e} bl = IsSized e.owner e.level → bl.stack.frame + frame_end e.parts e.program e.block e.level ≡ bl.stack.free
 
--- what stands beside it: the routines of raises, and constant bytes; and its frame has its end
+-- what stands beside it: the routines of raises, and constant bytes; its frame has its end, and its program is known
 pub record Standing {e : Environment} {block : Names} {types : Types} (bl : Block e block types) (links : Links) (code : List Instr) : Type 0 where
   pub raises : Routines links code
   pub constants : (n : Values) → ConstantsStand links code (bl.ground n)
   pub filled : IsFilled bl
+  pub known : IsKnown e
 
 -- blocks of these levels are entered, which have these frames and units, variables hold these numbers and texts and arrays theirs, and
 -- what lives in the meaning lives among the services

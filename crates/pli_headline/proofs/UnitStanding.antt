@@ -41,7 +41,7 @@ pub record UnitStands (e : Environment) (block : Names) (types : Types) (all : L
   pub proved : AreProvedStatements block types body
   pub jumps : AllJumpAround e.program head.number head.level all e.blocks (main_outer procedure e.program.procedures) (main_outer procedure e.program.procedures ∷ []) (labels_in body) body
   pub bare : DeclaresNothing e.program head head.kind × AreBare e.program false body
-  pub calls : AllCallAmong e.program may false body
+  pub calls : AllCallAmong e.program may false true body
   pub few : stmts_words body + all_inner_words body ≤ 800
   pub once : (number : ℕ) (label : Label) → times number label all ≡ 1 → IsMarkedOnce links number label
   pub labels : head.kind ≡ Y.UnitBlock → LabelsStand (unit_environment head e) links all procedure false

@@ -15,7 +15,7 @@ use Rattle.pli_coding.specs.Assembly.{size_of}
 use Rattle.pli_coding.specs.Procedures.{procedure_in}
 use Rattle.pli_coding.specs.Linking.{links_of}
 use Rattle.pli_coding.specs.Images.{code_of, linked_code, picture_of}
-use Rattle.pli_headline.specs.ProvedSoFar.{all_labels, procedure_labels, IsProvedSoFar, main_names}
+use Rattle.pli_headline.specs.ProvedSoFar.{all_labels, procedure_labels, IsProvedSoFar, main_names, inner_bytes}
 use Rattle.pli_headline.specs.Headline.{parts, FitsMemory, HeadlineSoFar}
 use Rattle.pli_headline.proofs.Engine.{most_code}
 use Rattle.pli_headline.proofs.Items.{Linked}
@@ -29,7 +29,7 @@ use Rattle.pli_headline.proofs.MainProcedure.{main_head, alone_of, main_environm
 use Rattle.pli_headline.proofs.PlainNumbers.{length_types}
 use Rattle.pli_headline.proofs.FirstFrame.{first_step_of}
 use Rattle.pli_headline.proofs.MainFrame.{frame_place, main_frame}
-use Rattle.pli_headline.proofs.LabelMarks.{blocks_known, others_known, labels_stand, entry_stands, end_stands}
+use Rattle.pli_headline.proofs.LabelMarks.{none_known, blocks_known, others_known, labels_stand, entry_stands, end_stands}
 use Rattle.pli_headline.proofs.Gotos.{LabelsStand}
 use Rattle.pli_headline.proofs.UnitStanding.{program_around, UnitStands}
 use Rattle.pli_headline.proofs.InnerUnits.{Done}
@@ -37,6 +37,8 @@ use Rattle.pli_headline.proofs.InnerCalls.{inner_calls}
 use Rattle.pli_headline.proofs.MainBody.{main_body_does}
 use Rattle.pli_headline.proofs.InitialNamed.{all_ready}
 use Rattle.pli_headline.proofs.MainRuns.{main_around, main_count, main_room, main_types, main_data, main_sized, BodyDoes, main_runs, main_fit}
+use Rattle.pli_headline.proofs.Statements.{IsKnown}
+use Rattle.pli_headline.proofs.PlainNumbers.{main_numbered}
 
 -- ---- the procedure of a program
 
@@ -78,6 +80,16 @@ labels_of : (program : Y.Program) (is : IsProvedSoFar program) → LabelsStand (
 labels_of program is =
     labels_stand program (block_in is) (line_in is) is.body is.called is.plain (alone_of program is) is.block.statements is.block.inside is.block.jumps is.inner
 
+-- the program of its environment
+known_of : (program : Y.Program) (is : IsProvedSoFar program) → IsKnown (main_environment program (block_in is))
+known_of program is =
+    record {
+      table = refl;
+      parts_are = refl;
+      numbered = λ number j at. main_numbered program number j is.plain is.few at;
+      none = λ number. none_known program (block_in is) (line_in is) is.body _ is.called (alone_of program is) is.inner number;
+    }
+
 -- the units of the main procedure
 abbrev units_of : (program : Y.Program) (is : IsProvedSoFar program) → ℕ → Y.Block → ℕ → Type 0
 units_of program is frame u at =
@@ -110,7 +122,7 @@ room_for program is fits few =
     let p = (placed_for program is fits).procedure in
     let inside = p.inside in
     let small' = p.small' in
-    let n = procedure_inner (main_environment program (block_in is)) (main_head (block_in is) (line_in is)) (main_names program (block_in is)) (main_types program (block_in is)) is.body refl (λ j kind at. declared_at (variables_of_block program (block_in is)) j (main_plain program (block_in is) is.plain) at) (main_plain program (block_in is) is.plain) is.block.statements is.block.inside in
+    let n = procedure_inner (main_environment program (block_in is)) true (main_head (block_in is) (line_in is)) (main_names program (block_in is)) (main_types program (block_in is)) is.body refl (λ j kind at. declared_at (variables_of_block program (block_in is)) j (main_plain program (block_in is) is.plain) at) (main_plain program (block_in is) is.plain) is.block.statements is.block.inside in
     omega (arith, inside, small', n, few)
 
 body_done : (program : Y.Program) (is : IsProvedSoFar program) (fits : FitsMemory (picture_of parts program)) (k : ℕ) → BodyDoes (units_of program is) program (block_in is) (line_in is) is.body (memory_for program) is.plain (alone_of program is) (few_words program is fits) (links_of (code_of parts program)) (code_for program) k
@@ -127,10 +139,10 @@ body_done program is fits k few =
     (λ j below. main_data program block line is.body j is.plain alone below few)
     (main_sized program block line is.body is.plain alone few) (main_fit program block is.body is.plain small' few)
     (links_of (code_of parts program)) (code_for program)
-    (placed_for program is fits).routines (main_around program k line) refl is.called k
+    (placed_for program is fits).routines (known_of program is) (main_around program k line) refl is.called k
     (labels_of program is) is.block.statements is.block.jumps
     (le-max_right (variables_words (variables_of_block program block)) (stmts_words is.body))
-    (room_for program is fits few) is.block.inside (record { enter = refl; turns = refl }) (omega arith) (blocks_known program block line is.body alone) is.block.calls (calls_done program is fits k) (λ frame u at k'. k') (λ u at k'. (refl, k'))
+    (room_for program is fits few) is.block.few is.block.inside (record { enter = refl; turns = refl }) (omega arith) (blocks_known program block line is.body alone) is.block.calls (calls_done program is fits k) (λ frame u at k'. k') (λ u at k'. (refl, k'))
     (constant_stands (code_of parts program) fits)
 
 -- ---- its runs

@@ -568,26 +568,33 @@ abbrev pub IsUnitNew : (may : List ℕ) → Y.BlockHead → Y.BlockKind → Type
 IsUnitNew may head Y.SimpleUnit = ⊤
 IsUnitNew may head _ = is_number head.number may ≡ false
 
--- calls name one of some numbers, and stand in no block that declares variables; an on-unit has no RETURN and few words for temporaries, as a procedure that is called
-abbrev mutual
-  pub CallsAmong : Y.Program → (may : List ℕ) → (returns : Bool) → Y.Stmt → Type 0
-  CallsAmong program may returns (Y.If condition unit line) = CallsAmong program may returns unit
-  CallsAmong program may returns (Y.IfElse condition unit otherwise line) = CallsAmong program may returns unit × CallsAmong program may returns otherwise
-  CallsAmong program may returns (Y.Do body line) = AllCallAmong program may returns body
-  CallsAmong program may returns (Y.DoWhile condition body line) = AllCallAmong program may returns body
-  CallsAmong program may returns (Y.DoOnce target start condition body line) = AllCallAmong program may returns body
-  CallsAmong program may returns (Y.DoCount counter start limit step condition body line) = AllCallAmong program may returns body
-  CallsAmong program may returns (Y.Begin (Y.BlockOf head body)) =
-      AllCallAmong program (if_bare (variables_of_block program head.number) may) returns body
-  CallsAmong program may returns (Y.CallProcedure (Y.Calling procedure level _) line) = is_number procedure may ≡ true
-  CallsAmong program may returns (Y.Return line) = returns ≡ true
-  CallsAmong program may returns (Y.OnUnit condition (Y.BlockOf head body) line) =
-      AllCallAmong program may false body × ((stmts_words body + all_inner_words body ≤ 800) × IsUnitNew may head head.kind)
-  CallsAmong program may returns _ = ⊤
+-- none are declared
+abbrev pub is_bare : List Y.DeclaredVariable → Bool
+is_bare [] = true
+is_bare (d ∷ ds) = false
 
-  pub AllCallAmong : Y.Program → (may : List ℕ) → (returns : Bool) → Y.Stmts → Type 0
-  AllCallAmong program may returns (Y.EndOfList labels) = ⊤
-  AllCallAmong program may returns (Y.StmtThen labels first rest) = CallsAmong program may returns first × AllCallAmong program may returns rest
+-- calls name one of some numbers, and they and SIGNAL of AREA stand in no block that declares variables; an on-unit has no RETURN and few
+-- words for temporaries, as a procedure that is called
+abbrev mutual
+  pub CallsAmong : Y.Program → (may : List ℕ) → (returns bare : Bool) → Y.Stmt → Type 0
+  CallsAmong program may returns bare (Y.If condition unit line) = CallsAmong program may returns bare unit
+  CallsAmong program may returns bare (Y.IfElse condition unit otherwise line) = CallsAmong program may returns bare unit × CallsAmong program may returns bare otherwise
+  CallsAmong program may returns bare (Y.Do body line) = AllCallAmong program may returns bare body
+  CallsAmong program may returns bare (Y.DoWhile condition body line) = AllCallAmong program may returns bare body
+  CallsAmong program may returns bare (Y.DoOnce target start condition body line) = AllCallAmong program may returns bare body
+  CallsAmong program may returns bare (Y.DoCount counter start limit step condition body line) = AllCallAmong program may returns bare body
+  CallsAmong program may returns bare (Y.Begin (Y.BlockOf head body)) =
+      AllCallAmong program may returns (is_bare (variables_of_block program head.number) && bare) body
+  CallsAmong program may returns bare (Y.CallProcedure (Y.Calling procedure level _) line) = (bare ≡ true) × (is_number procedure may ≡ true)
+  CallsAmong program may returns bare (Y.Return line) = returns ≡ true
+  CallsAmong program may returns bare (Y.Signal C.Area line) = bare ≡ true
+  CallsAmong program may returns bare (Y.OnUnit condition (Y.BlockOf head body) line) =
+      AllCallAmong program may false true body × ((stmts_words body + all_inner_words body ≤ 800) × IsUnitNew may head head.kind)
+  CallsAmong program may returns bare _ = ⊤
+
+  pub AllCallAmong : Y.Program → (may : List ℕ) → (returns bare : Bool) → Y.Stmts → Type 0
+  AllCallAmong program may returns bare (Y.EndOfList labels) = ⊤
+  AllCallAmong program may returns bare (Y.StmtThen labels first rest) = CallsAmong program may returns bare first × AllCallAmong program may returns bare rest
 
 -- how many procedures have a number
 abbrev pub number_of_block : Y.Block → ℕ
@@ -688,7 +695,7 @@ main_outer block procedures = record { level = 0; number = block; labels = main_
 pub record IsCallable (program : Y.Program) (called : List ℕ) (head : Y.BlockHead) (body : Y.Stmts) : Type 0 where
   pub kind : head.kind ≡ Y.ProcedureBlock
   pub line : IsLine head.line
-  pub calls : AllCallAmong program called true body
+  pub calls : AllCallAmong program called true true body
   pub few : stmts_words body + all_inner_words body ≤ 800
 
 -- a procedure inside the main one, whose number is the given block's: it declares nothing, and has no parameters and no result
@@ -714,8 +721,9 @@ pub record IsProvedBlock (program : Y.Program) (head : Y.BlockHead) (body : Y.St
   pub line : IsLine head.line
   pub statements : AreProvedStatements (main_names program head.number) (types_of (variables_of_block program head.number)) body
   pub jumps : AllJumpAround program head.number 0 (all_labels head.number body ++ procedure_labels others) (blocks_of program.procedures) (main_outer head.number program.procedures) [] (labels_in body) body
-  pub calls : AllCallAmong program called true body
-  pub inside : AreBare program false body
+  pub calls : AllCallAmong program called true true body
+  pub inside : AreBare program true body
+  pub few : inner_bytes program body ≤ 1000000
 
 -- the main procedure, without parameters and without a result, and procedures inside it, of which those of some numbers are called; the
 -- numbers of signatures fit what the code says

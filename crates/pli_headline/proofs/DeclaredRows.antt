@@ -1,0 +1,101 @@
+-- A program with blocks that declare scalars, one in the other, is one of those that are proved.
+use Rattle.std.proofs.Common.{◌≡◌, ℕ, ◌^◌, List, [], ◌∷◌, None, refl, arith, lit<, inl}
+use Rattle.pli_typing.specs.TypedTree as Y
+use Rattle.pli_headline.specs.ProvedSoFar.{Names, Types, IsOwn, IsDeclaring, IsProvedNumber, IsPlain, IsProvedSoFar, main_names, names_in, alone, plain_variable}
+
+-- T: PROC OPTIONS(MAIN); DECLARE I FIXED BINARY(31); BEGIN; DECLARE J FIXED BINARY(15), B BIT(1); J = I;
+-- BEGIN; DECLARE K FIXED BINARY(31); K = J; I = K; END; END; END;
+abbrev whole_at : (block level index : ℕ) → Y.Reference
+whole_at block level index =
+    Y.Referring (record { class = Y.AutomaticClass; block = block; level = level; index = index }) Y.NotLocated (record { first = 0; count = 1 }) Y.NoNumber
+
+abbrev head : Y.BlockHead
+head = record { kind = Y.ProcedureBlock; number = 1; level = 0; line = 1 }
+
+abbrev inner_head : Y.BlockHead
+inner_head = record { kind = Y.BeginBlock; number = 2; level = 1; line = 2 }
+
+abbrev innermost_head : Y.BlockHead
+innermost_head = record { kind = Y.BeginBlock; number = 3; level = 2; line = 3 }
+
+abbrev innermost_body : Y.Stmts
+innermost_body =
+    Y.StmtThen [] (Y.Assign (whole_at 3 2 0) (Y.StoredNumber 31 (Y.NumberIn (whole_at 2 1 0))) 3)
+    (Y.StmtThen [] (Y.Assign (whole_at 1 0 0) (Y.StoredNumber 31 (Y.NumberIn (whole_at 3 2 0))) 4) (Y.EndOfList []))
+
+abbrev inner_body : Y.Stmts
+inner_body =
+    Y.StmtThen [] (Y.Assign (whole_at 2 1 0) (Y.StoredNumber 15 (Y.NumberIn (whole_at 1 0 0))) 2)
+    (Y.StmtThen [] (Y.Begin (Y.BlockOf innermost_head innermost_body)) (Y.EndOfList []))
+
+abbrev outer_body : Y.Stmts
+outer_body = Y.StmtThen [] (Y.Begin (Y.BlockOf inner_head inner_body)) (Y.EndOfList [])
+
+abbrev inner_variables : List Y.DeclaredVariable
+inner_variables = plain_variable (Y.FixedLeaf 15) [] ∷ plain_variable Y.BitLeaf [] ∷ []
+
+abbrev innermost_variables : List Y.DeclaredVariable
+innermost_variables = plain_variable (Y.FixedLeaf 31) [] ∷ []
+
+abbrev with_declarations : Y.Program
+with_declarations =
+    record {
+      variables = [] ∷ (plain_variable (Y.FixedLeaf 31) [] ∷ []) ∷ inner_variables ∷ innermost_variables ∷ [];
+      procedures = record { block = Y.BlockOf head outer_body; parameters = []; result = None } ∷ [];
+    }
+
+abbrev outer_types : Types
+outer_types = alone (Y.FixedLeaf 31) ∷ []
+
+abbrev inner_types : Types
+inner_types = alone (Y.FixedLeaf 31) ∷ alone (Y.FixedLeaf 15) ∷ alone Y.BitLeaf ∷ []
+
+abbrev innermost_types : Types
+innermost_types = alone (Y.FixedLeaf 31) ∷ alone (Y.FixedLeaf 15) ∷ alone Y.BitLeaf ∷ alone (Y.FixedLeaf 31) ∷ []
+
+abbrev inner_names : Names
+inner_names = names_in (main_names with_declarations 1) outer_types inner_head inner_variables
+
+abbrev innermost_names : Names
+innermost_names = names_in inner_names inner_types innermost_head innermost_variables
+
+declaring_program : IsProvedSoFar with_declarations
+declaring_program =
+    let i : IsOwn inner_names inner_types (Y.FixedLeaf 31) (whole_at 1 0 0) = record { index = 0; declared = refl; is = refl } in
+    let j : IsOwn inner_names inner_types (Y.FixedLeaf 15) (whole_at 2 1 0) = record { index = 1; declared = refl; is = refl } in
+    let i' : IsOwn innermost_names innermost_types (Y.FixedLeaf 31) (whole_at 1 0 0) = record { index = 0; declared = refl; is = refl } in
+    let j' : IsOwn innermost_names innermost_types (Y.FixedLeaf 15) (whole_at 2 1 0) = record { index = 1; declared = refl; is = refl } in
+    let k' : IsOwn innermost_names innermost_types (Y.FixedLeaf 31) (whole_at 3 2 0) = record { index = 3; declared = refl; is = refl } in
+    let ni : IsProvedNumber inner_names inner_types (Y.NumberIn (whole_at 1 0 0)) = (record { precision = 31; part = inl i }, tt) in
+    let nj : IsProvedNumber innermost_names innermost_types (Y.NumberIn (whole_at 2 1 0)) = (record { precision = 15; part = inl j' }, tt) in
+    let nk : IsProvedNumber innermost_names innermost_types (Y.NumberIn (whole_at 3 2 0)) = (record { precision = 31; part = inl k' }, tt) in
+    let long : IsPlain (plain_variable (Y.FixedLeaf 31) []) = record { type = Y.FixedLeaf 31; bounds = []; initial = []; held = (omega arith, omega arith); begins = tt; is = refl } in
+    let short : IsPlain (plain_variable (Y.FixedLeaf 15) []) = record { type = Y.FixedLeaf 15; bounds = []; initial = []; held = (omega arith, omega arith); begins = tt; is = refl } in
+    let bit : IsPlain (plain_variable Y.BitLeaf []) = record { type = Y.BitLeaf; bounds = []; initial = []; held = tt; begins = tt; is = refl } in
+    let declares_j : IsDeclaring (plain_variable (Y.FixedLeaf 15) []) = record { type = Y.FixedLeaf 15; element = (omega arith, omega arith); is = refl } in
+    let declares_b : IsDeclaring (plain_variable Y.BitLeaf []) = record { type = Y.BitLeaf; element = tt; is = refl } in
+    let declares_k : IsDeclaring (plain_variable (Y.FixedLeaf 31) []) = record { type = Y.FixedLeaf 31; element = (omega arith, omega arith); is = refl } in
+    record {
+      head = head;
+      body = outer_body;
+      others = [];
+      called = [];
+      procedures = refl;
+      plain = (tt, ((long, tt), ((short, (bit, tt)), ((long, tt), tt))));
+      few = lit< tt;
+      block = record {
+        kind = refl;
+        level = refl;
+        line = lit< tt;
+        statements = (
+          (refl, (lit< tt, (((inl j, tt), (ni, lit< tt)), ((refl, (lit< tt, (((inl k', tt), (nj, lit< tt)), (((inl i', tt), (nk, lit< tt)), tt)))), tt)))),
+          tt,
+        );
+        jumps = (((refl, omega arith), (tt, (((refl, omega arith), (tt, (tt, tt))), tt))), tt);
+        calls = ((tt, ((tt, (tt, tt)), tt)), tt);
+        inside = (((declares_j, (declares_b, tt)), (tt, (((declares_k, tt), (tt, (tt, tt))), tt))), tt);
+        few = omega arith;
+      };
+      inner = tt;
+      once = tt;
+    }
