@@ -3,3 +3,4 @@ pub mod Getting
 pub mod Leading
 pub mod Putting
 pub mod Shapes
+pub mod Storing

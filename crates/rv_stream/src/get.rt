@@ -134,7 +134,6 @@ fn scalar_got(
 
 // ---- an aggregate
 
-#[tactic(auto, unfolding(rv_item::specs::Moved::fixed_moved, rv_item::specs::Moved::bit_moved, rv_item::specs::Moved::text_moved, rv_item::specs::Moved::element_moved))]
 fn element_got(
     alloc: Global,
     code: &mut Code,
