@@ -1,6 +1,6 @@
 // Runs of marks: a byte for each granule, 0 where it is free, 1 where a generation begins.
 
-ghost use Rattle.std.specs.Prelude.{◌≡◌, ◌+◌, ◌-◌, ◌*◌, ◌<◌, ◌≤◌, ◌++◌, suc, min, length, take, drop, replicate, option_map};
+ghost use Rattle.std.specs.Prelude.{◌≡◌, ◌+◌, ◌-◌, ◌*◌, ◌<◌, ◌≤◌, ◌++◌, suc, min, length, take, drop, replicate, option_map, IfSome};
 ghost use Rattle.area_keeper.specs.KeptAreas.{with_part};
 ghost use Rattle.granule_keeper.specs.Marks.{insides, free_run, room_in, with_run, without_run, used};
 ghost use Rattle.granule_heap.specs.Places.{begins_at};
@@ -10,7 +10,8 @@ use memchr::memchr;
 /// The first place from which on so many granules are free.
 pub fn room(marks: &[u8], number: usize) -> Option<usize>
     requires { 1 ≤ number }
-    ensures { option_map (λ place. 16 * place) result ≡ room_in 0 number marks.now }
+    ensures room { option_map (λ place. 16 * place) result ≡ room_in 0 number marks.now }
+    ensures inside { IfSome result (λ place. place + number ≤ length marks.now) }
 {
     let mut place = 0;
     while let Some(skipped) = memchr(0, &marks[place..]) {
