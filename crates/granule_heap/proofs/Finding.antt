@@ -34,7 +34,7 @@ pub opened : (bytes : List ℕ) → IsSome (granules_area bytes) → Opened byte
 opened bytes s = by_area (granules_area bytes) refl s
   where
     by_area : (a : Option KeptArea) → granules_area bytes ≡ a → IsSome a → Opened bytes
-    by_area None e s = absurd s
+    by_area None e s = absurd (cc s)
     by_area (Some a) e s =
         let x = stands_from bytes a e in
         let c = capacity_in bytes in
