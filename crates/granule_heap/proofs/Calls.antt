@@ -7,6 +7,7 @@ use Rattle.rv_meaning.specs.Words.{word}
 use Rattle.pli_typing.specs.Signatures.{footprint}
 use Rattle.area_keeper.specs.Keeper.{Kept}
 use Rattle.area_keeper.specs.KeptAreas.{kept_as, kept_at, part, with_part}
+use Rattle.area_keeper.specs.KeeperLaws.{greatest_capacity}
 use Rattle.area_keeper.specs.Chain.{with_word, capacity_in}
 use Rattle.area_keeper.proofs.Agreement.{length_part, length_with_part, length_word}
 use Rattle.area_heap.specs.Answers.{of_signature, kept_of, offset_or_fault, placed_or, bytes_or}
@@ -186,3 +187,25 @@ copied_bytes from bytes marks marked new number capacity source front from_front
     ∙ (ap (λ x. with_part (part (front_for (capacity_in from)) (16 * number) from) x marked) (f ∙ ap front_for c)
     ∙ (ap (λ x. with_part (part (front_for (capacity_in from)) (16 * number) from) (front_for (capacity_in bytes)) x) w
     ∙ sym (ap (bytes_or bytes) (is_copied from bytes marks number capacity m n c h))))))
+
+-- ---- capacities
+
+pub capacity_inside :
+    (bytes : List ℕ) (capacity : ℕ) → IsSome (granules_area bytes) → capacity ≡ capacity_in bytes →
+    front_for capacity + capacity ≤ length bytes
+capacity_inside bytes capacity s e =
+    let x = opened bytes s in
+    subst (λ c. front_for c + c ≤ length bytes) (sym e) (omega (arith, x.as_many))
+
+pub capacity_marks :
+    (bytes : List ℕ) (capacity : ℕ) → IsSome (granules_area bytes) → capacity ≡ capacity_in bytes →
+    16 * length (marks_in bytes) ≡ capacity
+capacity_marks bytes capacity s e =
+    let x = opened bytes s in
+    omega (arith, x.marks, x.rounded, e)
+
+pub capacity_bounded :
+    (bytes : List ℕ) (capacity : ℕ) → IsSome (granules_area bytes) → capacity ≡ capacity_in bytes → capacity ≤ greatest_capacity
+capacity_bounded bytes capacity s e =
+    let x = opened bytes s in
+    omega (arith, x.bounded, e)
