@@ -1,0 +1,3 @@
+mod MarkSteps
+mod Finding
+mod Calls

@@ -7,8 +7,10 @@ use area_heap::fault::AreaFault;
 use area_heap::keeper::AreaKeeper;
 
 use crate::front::{CAPACITY, GRANULE, MARK, free_all, front_for, granules_of, has_front};
-use crate::marking::{Header, copy_part, header_of, mark_copied, mark_freed, mark_placed, marks_in};
-use crate::marks::{room, used};
+use crate::marking::{
+    Header, capacity_of, copy_part, header_of, mark_copied, mark_freed, mark_placed, room_for,
+    used_in,
+};
 use crate::words::{set_word, word_at};
 
 /// The keeper that has a mark for each granule of 16 bytes.
@@ -50,15 +52,16 @@ impl AreaKeeper for Granules {
         signature: u32,
         extent: i32,
     ) -> Result<u32, AreaFault> {
-        let capacity = word_at(bytes, CAPACITY);
+        let capacity = capacity_of(bytes);
         if size > u64::from(capacity) {
             return Err(AreaFault::NoGap);
         }
         let size = size as u32;
-        let Some(place) = room(marks_in(bytes), granules_of(size)) else {
+        let number = granules_of(size);
+        let Some(place) = room_for(bytes, number) else {
             return Err(AreaFault::NoGap);
         };
-        mark_placed(bytes, place, granules_of(size));
+        mark_placed(bytes, place, number);
         let offset = place * GRANULE;
         let header = Header {
             size,
@@ -86,13 +89,14 @@ impl AreaKeeper for Granules {
     }
 
     fn copy_from(bytes: &mut [u8], from: &[u8]) -> Result<(), AreaFault> {
-        let number = used(marks_in(from));
-        let capacity = word_at(bytes, CAPACITY);
+        let number = used_in(from);
+        let source = capacity_of(from);
+        let capacity = capacity_of(bytes);
         if number * GRANULE > capacity as usize {
             return Err(AreaFault::TooSmall);
         }
         mark_copied(bytes, from, number);
-        let from_front = front_for(word_at(from, CAPACITY));
+        let from_front = front_for(source);
         copy_part(bytes, front_for(capacity), from, from_front, number * GRANULE);
         Ok(())
     }

@@ -1,17 +1,18 @@
 // The marks and the headers in an area's bytes.
 
-ghost use Rattle.std.specs.Prelude.{◌≡◌, ◌+◌, ◌-◌, ◌*◌, ◌/◌, ◌≤◌, ◌<◌, ◌++◌, length, take, drop, replicate, suc, Some, None, IsSome, MatchResult};
+ghost use Rattle.std.specs.Prelude.{◌≡◌, ◌+◌, ◌-◌, ◌*◌, ◌/◌, ◌≤◌, ◌<◌, ◌++◌, length, take, drop, replicate, suc, Some, None, IsSome, IfSome, MatchResult, option_map};
 ghost use Rattle.area_keeper.specs.KeptAreas.{with_part, part};
+ghost use Rattle.area_keeper.specs.KeeperLaws.{greatest_capacity};
 ghost use Rattle.area_keeper.specs.Chain.{capacity_in, with_word};
 ghost use Rattle.area_heap.specs.Answers.{kept_of};
-ghost use Rattle.granule_keeper.specs.Marks.{insides, with_run, without_run};
-ghost use Rattle.granule_keeper.specs.Granules.{granules_area, marks_in, with_marks};
+ghost use Rattle.granule_keeper.specs.Marks.{insides, room_in, with_run, without_run, used};
+ghost use Rattle.granule_keeper.specs.Granules.{front_for, granules_area, marks_in, with_marks};
 ghost use Rattle.granule_heap.specs.Places.{IsFound};
 
 use area_heap::fault::AreaFault;
 
 use crate::front::{CAPACITY, GRANULE, MARKS, front_for, granules_in};
-use crate::marks::{begins, copy_marks, free_run, place_run};
+use crate::marks::{begins, copy_marks, free_run, place_run, room, used};
 use crate::words::{set_word, word_at};
 
 /// A generation's header: its data size in bytes, its signature, and its extent as a word.
@@ -33,6 +34,17 @@ impl Header {
     }
 }
 
+/// An area's capacity.
+pub fn capacity_of(bytes: &[u8]) -> u32
+    requires { IsSome (granules_area bytes.now) }
+    ensures value { result ≡ capacity_in bytes.now }
+    ensures inside { front_for result + result ≤ length bytes.now }
+    ensures marks { 16 * length (marks_in bytes.now) ≡ result }
+    ensures bounded { result ≤ greatest_capacity }
+{
+    word_at(bytes, CAPACITY)
+}
+
 /// An area's marks.
 pub fn marks_in(bytes: &[u8]) -> &[u8]
     requires { IsSome (granules_area bytes.now) }
@@ -48,6 +60,25 @@ fn marks_end(bytes: &[u8]) -> usize
     ensures inside { result ≤ length bytes.now }
 {
     MARKS + granules_in(word_at(bytes, CAPACITY))
+}
+
+/// The first place from which on so many granules are free.
+pub fn room_for(bytes: &[u8], number: usize) -> Option<usize>
+    requires area { IsSome (granules_area bytes.now) }
+    requires some { 1 ≤ number }
+    ensures room { option_map (λ place. 16 * place) result ≡ room_in 0 number (marks_in bytes.now) }
+    ensures inside { IfSome result (λ place. place + number ≤ length (marks_in bytes.now)) }
+{
+    room(marks_in(bytes), number)
+}
+
+/// How many granules an area has as far as the last one that isn't free.
+pub fn used_in(bytes: &[u8]) -> usize
+    requires { IsSome (granules_area bytes.now) }
+    ensures used { result ≡ used (marks_in bytes.now) }
+    ensures inside { result ≤ length (marks_in bytes.now) }
+{
+    used(marks_in(bytes))
 }
 
 /// Marks a generation of so many granules, which are free.

@@ -1,6 +1,7 @@
 // Runs of marks: a byte for each granule, 0 where it is free, 1 where a generation begins.
 
-ghost use Rattle.std.specs.Prelude.{◌≡◌, ◌+◌, ◌-◌, ◌*◌, ◌<◌, ◌≤◌, ◌++◌, suc, min, length, take, drop, replicate, option_map};
+ghost use Rattle.std.specs.Prelude.{◌≡◌, ◌+◌, ◌-◌, ◌*◌, ◌<◌, ◌≤◌, ◌++◌, suc, min, length, take, drop, replicate, option_map, IfSome};
+ghost use Rattle.area_keeper.specs.KeptAreas.{with_part};
 ghost use Rattle.granule_keeper.specs.Marks.{insides, free_run, room_in, with_run, without_run, used};
 ghost use Rattle.granule_heap.specs.Places.{begins_at};
 
@@ -9,7 +10,8 @@ use memchr::memchr;
 /// The first place from which on so many granules are free.
 pub fn room(marks: &[u8], number: usize) -> Option<usize>
     requires { 1 ≤ number }
-    ensures { option_map (λ place. 16 * place) result ≡ room_in 0 number marks.now }
+    ensures room { option_map (λ place. 16 * place) result ≡ room_in 0 number marks.now }
+    ensures inside { IfSome result (λ place. place + number ≤ length marks.now) }
 {
     let mut place = 0;
     while let Some(skipped) = memchr(0, &marks[place..]) {
@@ -26,7 +28,8 @@ pub fn room(marks: &[u8], number: usize) -> Option<usize>
 /// How many granules are free from a place on, up to a number.
 fn free_at(marks: &[u8], place: usize, most: usize) -> usize
     requires { place ≤ length marks.now }
-    ensures { result ≡ min most (free_run (drop place marks.now)) }
+    ensures free { result ≡ min most (free_run (drop place marks.now)) }
+    ensures inside { place + result ≤ length marks.now }
 {
     let mut free = 0;
     while free < most && place + free < marks.len() && marks[place + free] == 0 {
@@ -52,9 +55,9 @@ pub fn place_run(marks: &mut [u8], place: usize, number: usize)
     requires inside { place + number ≤ length marks.old }
     ensures { marks.new ≡ with_run place number marks.old }
 {
-    let end = place + number;
     marks[place] = 1;
-    marks[place + 1..end].fill(2);
+    fill(marks, place + 1, number - 1, 2);
+    let end = place + number;
     if end < marks.len() && marks[end] != 0 {
         marks[end] = 1;
     }
@@ -66,13 +69,22 @@ pub fn free_run(marks: &mut [u8], place: usize)
     ensures { marks.new ≡ without_run place (suc (insides (drop (suc place) marks.old))) marks.old }
 {
     let end = end_of_run(marks, place);
-    marks[place..end].fill(0);
+    fill(marks, place, end - place, 0);
+}
+
+/// Writes one mark so many times.
+fn fill(marks: &mut [u8], place: usize, number: usize, mark: u8)
+    requires { place + number ≤ length marks.old }
+    ensures { marks.new ≡ with_part (replicate number mark) place marks.old }
+{
+    marks[place..place + number].fill(mark);
 }
 
 /// Where the generation ends that begins at a place.
 fn end_of_run(marks: &[u8], place: usize) -> usize
     requires { place < length marks.now }
-    ensures { result ≡ suc place + insides (drop (suc place) marks.now) }
+    ensures end { result ≡ suc place + insides (drop (suc place) marks.now) }
+    ensures inside { place < result × result ≤ length marks.now }
 {
     let mut end = place + 1;
     while end < marks.len() && marks[end] > 1 {
