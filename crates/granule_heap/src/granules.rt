@@ -3,15 +3,14 @@
 ghost use Rattle.area_keeper.specs.Keeper.{Keeper};
 ghost use Rattle.granule_keeper.specs.Granules.{granules};
 
-use area_heap::fault::AreaFault;
-use area_heap::keeper::AreaKeeper;
-
 use crate::front::{CAPACITY, GRANULE, MARK, free_all, front_for, granules_of, has_front};
 use crate::marking::{
     Header, capacity_of, copy_part, header_of, mark_copied, mark_freed, mark_placed, room_for,
     used_in,
 };
 use crate::words::{set_word, word_at};
+use area_heap::fault::AreaFault;
+use area_heap::keeper::AreaKeeper;
 
 /// The keeper that has a mark for each granule of 16 bytes.
 ///
@@ -97,7 +96,13 @@ impl AreaKeeper for Granules {
         }
         mark_copied(bytes, from, number);
         let from_front = front_for(source);
-        copy_part(bytes, front_for(capacity), from, from_front, number * GRANULE);
+        copy_part(
+            bytes,
+            front_for(capacity),
+            from,
+            from_front,
+            number * GRANULE,
+        );
         Ok(())
     }
 

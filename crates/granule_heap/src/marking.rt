@@ -9,11 +9,10 @@ ghost use Rattle.granule_keeper.specs.Marks.{insides, room_in, with_run, without
 ghost use Rattle.granule_keeper.specs.Granules.{front_for, granules_area, marks_in, with_marks};
 ghost use Rattle.granule_heap.specs.Places.{IsFound};
 
-use area_heap::fault::AreaFault;
-
 use crate::front::{CAPACITY, GRANULE, MARKS, front_for, granules_in};
 use crate::marks::{begins, copy_marks, free_run, place_run, room, used};
 use crate::words::{set_word, word_at};
+use area_heap::fault::AreaFault;
 
 /// A generation's header: its data size in bytes, its signature, and its extent as a word.
 #[derive(Clone, Copy)]

@@ -16,11 +16,10 @@ loop-skipped-preserved c =
     let ms = c.args.marks.now in
     let p = c.loop-skipped.place in
     let s = c.in-Some.skipped in
-    let f = c.in-Some.ensures in
-    (
+    let f = c.in-Some.ensures in (
       c.free_at-free.ensures.inside,
       room_on ms (p + s) c.args.number c.free_at-free.result c.free_at-free.ensures.free c.if-free-number.false
-      (room_skips ms p s c.args.number c.requires f.0.high f.0.before c.loop-skipped.invariant.1),
+          (room_skips ms p s c.args.number c.requires f.0.high f.0.before c.loop-skipped.invariant.1),
     )
 
 pub loop-skipped-smaller : goal.loop-skipped-smaller
