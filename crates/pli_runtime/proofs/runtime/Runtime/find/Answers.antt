@@ -1,4 +1,8 @@
-use Rattle.std.proofs.Common.{arith, refl, slice_index}
+use Rattle.std.proofs.Common.{ℕ, arith, refl, slice_index, subst}
+use Rattle.pli_serving.specs.ElementService.{element_served, of_two_words}
+use Rattle.pli_serving.specs.Finding.{Call}
+use Rattle.pli_answering.specs.Answering.{Answers}
+use Rattle.pli_storage.specs.Held.{with_held}
 use Rattle.pli_runtime.proofs.Carried.{by_memory, by_none}
 use Rattle.pli_runtime.proofs.Passing.{found_none}
 use Rattle.pli_runtime.specs.Running.{call_of}
@@ -8,7 +12,12 @@ pub returns-in-0 : goal.returns-in-0
 returns-in-0 g c = rw c.in-0.is (by_memory _ _ _ _ _ _ c.requires c.resolve.ensures c.resolve.auto.memory)
 
 pub returns-in-1 : goal.returns-in-1
-returns-in-1 g c = rw c.in-1.is (by_memory _ _ _ _ _ _ c.requires c.element.ensures c.element.auto.memory)
+returns-in-1 g c =
+    let r = slice_index c.args.registers.now in
+    let old = c.args.self.now.held in
+    let answers : (t : Call) → Answers (λ u. element_served u (r 10) (r 11) (of_two_words (r 12) (r 15)) (r 13)) (with_held g.K.AreaKeeper.keeper old c.args.memory.now t) c.element.result (with_held g.K.AreaKeeper.keeper old c.element.new.memory t) =
+    subst (λ (n : ℕ). (t : Call) → Answers (λ u. element_served u (r 10) (r 11) n (r 13)) (with_held g.K.AreaKeeper.keeper old c.args.memory.now t) c.element.result (with_held g.K.AreaKeeper.keeper old c.element.new.memory t)) c.of_two_words-number.ensures c.element.ensures in
+    rw c.in-1.is (by_memory _ _ _ _ _ _ c.requires answers c.element.auto.memory)
 
 pub returns-in_default : goal.returns-in_default
 returns-in_default g c =
