@@ -1,9 +1,11 @@
-// Each public call on its happy path, and the refusals of a small area.
+// Each public call on its happy path, the refusals of a small area, and many calls that both keepers answer alike.
 
 ghost use Rattle.std.specs.Prelude.{IsSome};
+ghost use Rattle.area_keeper.specs.Chain.{chain_area};
 ghost use Rattle.granule_keeper.specs.Granules.{granules_area};
 
 use crate::granules::Granules;
+use area_heap::chain::Chain;
 use area_heap::fault::AreaFault;
 use area_heap::keeper::AreaKeeper;
 use std::process::Abort;
@@ -79,4 +81,82 @@ fn a_small_area_is_filled_freed_copied_and_emptied(rt: HostRuntime) {
         Granules::find(same, 32, SIGNATURE),
         Err(AreaFault::NoGeneration)
     );
+}
+
+/// Places so many bytes in both areas.
+fn allocate_both<R: Abort>(rt: &R, chained: &mut [u8], marked: &mut [u8], size: u64, extent: i32)
+    requires chained { IsSome (chain_area chained.old) }
+    requires marked { IsSome (granules_area marked.old) }
+    ensures chained { IsSome (chain_area chained.new) }
+    ensures marked { IsSome (granules_area marked.new) }
+{
+    let answer = Chain::allocate(chained, size, SIGNATURE, extent);
+    assert_eq!(rt; Granules::allocate(marked, size, SIGNATURE, extent), answer);
+    assert!(rt; Chain::open(chained).is_ok());
+    assert!(rt; Granules::open(marked).is_ok());
+}
+
+/// Looks for the generation at an offset of both areas, and frees it.
+fn free_both<R: Abort>(rt: &R, chained: &mut [u8], marked: &mut [u8], offset: u32)
+    requires chained { IsSome (chain_area chained.old) }
+    requires marked { IsSome (granules_area marked.old) }
+    ensures chained { IsSome (chain_area chained.new) }
+    ensures marked { IsSome (granules_area marked.new) }
+{
+    let found = Chain::find(chained, offset, SIGNATURE).is_ok();
+    assert_eq!(rt; Granules::find(marked, offset, SIGNATURE).is_ok(), found);
+    let extent = Chain::extent(chained, offset, SIGNATURE);
+    assert_eq!(rt; Granules::extent(marked, offset, SIGNATURE), extent);
+    let freed = Chain::free(chained, offset, SIGNATURE);
+    assert_eq!(rt; Granules::free(marked, offset, SIGNATURE), freed);
+    assert!(rt; Chain::open(chained).is_ok());
+    assert!(rt; Granules::open(marked).is_ok());
+}
+
+/// Some hundred calls with each: three allocations of several sizes for each free at an offset.
+fn call_both<R: Abort>(rt: &R, chained: &mut [u8], marked: &mut [u8])
+    requires chained { IsSome (chain_area chained.old) }
+    requires marked { IsSome (granules_area marked.old) }
+    ensures chained { IsSome (chain_area chained.new) }
+    ensures marked { IsSome (granules_area marked.new) }
+{
+    'steps: for step in 0..400_u32 {
+        if step % 4 == 3 {
+            free_both(rt, chained, marked, step * 80 % 2048);
+        } else {
+            let size = u64::from(step * 7 % 60);
+            allocate_both(rt, chained, marked, size, step.cast_signed());
+        }
+    }
+}
+
+#[test]
+fn both_keepers_answer_alike(rt: HostRuntime) {
+    let mut chained = [0; 2064];
+    let chained = chained.as_mut_slice();
+    Chain::make(chained, 2048);
+    assert!(rt; Chain::open(chained).is_ok());
+    let mut marked = [0; 2192];
+    let marked = marked.as_mut_slice();
+    assert_eq!(rt; Granules::bytes_for(2048), marked.len());
+    Granules::make(marked, 2048);
+    assert!(rt; Granules::open(marked).is_ok());
+    assert!(rt; Granules::open(chained).is_err());
+    call_both(&rt, chained, marked);
+
+    let mut other_chained = [0; 4112];
+    let other_chained = other_chained.as_mut_slice();
+    Chain::make(other_chained, 4096);
+    assert!(rt; Chain::open(other_chained).is_ok());
+    let mut other_marked = [0; 4368];
+    let other_marked = other_marked.as_mut_slice();
+    Granules::make(other_marked, 4096);
+    assert!(rt; Granules::open(other_marked).is_ok());
+    let copied = Chain::copy_from(other_chained, chained);
+    assert_eq!(rt; Granules::copy_from(other_marked, marked), copied);
+    assert!(rt; Chain::open(other_chained).is_ok());
+    assert!(rt; Granules::open(other_marked).is_ok());
+    call_both(&rt, other_chained, other_marked);
+    let copied = Chain::copy_from(chained, other_chained);
+    assert_eq!(rt; Granules::copy_from(marked, other_marked), copied);
 }

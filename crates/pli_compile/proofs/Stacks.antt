@@ -4,7 +4,7 @@ use Rattle.std.specs.Prelude.{◌&&◌, nat_le, Some, None, Option}
 use Rattle.std.specs.List.{list_all, sum}
 use Rattle.std.proofs.lemmas.List.Sums.{sum_by-cons}
 use Rattle.std.proofs.lemmas.Bool.Decides.{nat_tests}
-use Rattle.area_keeper.specs.Chain.{chain}
+use Rattle.granule_keeper.specs.Granules.{bytes_for, granules}
 use Rattle.pli_typing.specs.Signatures.{footprint, data_size, rounded_up, leaf_bytes, leaves_size, element_count, LeafKind, Fixed, Character, Varying, Bit, Pointer, Offset, Area, Bounds, Leaf}
 use Rattle.pli_meaning.specs.Contents.{Shape}
 use Rattle.pli_frames.specs.Plans.{BlockFrame}
@@ -38,8 +38,8 @@ routines_few (n ∷ ns) small =
     let all = sum_by-cons (λ x. x) n ns in
     omega (arith, here, rest, all)
 
--- an area with its header
-area_twice : (n : ℕ) → 16 + rounded_up 16 (16 + n) ≤ 2 * (16 + rounded_up 16 (rounded_up 4 n * 1 + 0))
+-- an area with what stands in front of it
+area_twice : (n : ℕ) → 16 + rounded_up 16 (bytes_for n) ≤ 2 * (16 + rounded_up 16 (rounded_up 4 n * 1 + 0))
 area_twice n = omega arith
 
 -- what takes as much as it counts for
@@ -49,15 +49,15 @@ plain_twice n = omega arith
 -- what data take, by the capacity of an area
 abbrev taken : (capacity : Option ℕ) (size : ℕ) → ℕ
 taken None size = size
-taken (Some capacity) size = 16 + capacity
+taken (Some capacity) size = bytes_for capacity
 
-data_taken : (s : Shape) (o : Option ℕ) → data_taken_by chain s o ≡ taken o (data_size s.signature)
+data_taken : (s : Shape) (o : Option ℕ) → data_taken_by granules s o ≡ taken o (data_size s.signature)
 data_taken s None = refl
 data_taken s (Some capacity) = refl
 
 by_kind : (k : LeafKind) (bs : List Bounds) → IsOneArea k bs
     → 16 + rounded_up 16 (taken (capacity_of_kind k) (rounded_up 4 (leaf_bytes k) * element_count bs + 0)) ≤ 2 * (16 + rounded_up 16 (rounded_up 4 (leaf_bytes k) * element_count bs + 0))
-by_kind (Area n) bs one = subst (λ cs. 16 + rounded_up 16 (16 + n) ≤ 2 * (16 + rounded_up 16 (rounded_up 4 n * element_count cs + 0))) (sym one) (area_twice n)
+by_kind (Area n) bs one = subst (λ cs. 16 + rounded_up 16 (bytes_for n) ≤ 2 * (16 + rounded_up 16 (rounded_up 4 n * element_count cs + 0))) (sym one) (area_twice n)
 by_kind (Fixed p) bs one = plain_twice (rounded_up 16 (rounded_up 4 (leaf_bytes (Fixed p)) * element_count bs + 0))
 by_kind (Character n) bs one = plain_twice (rounded_up 16 (rounded_up 4 n * element_count bs + 0))
 by_kind (Varying n) bs one = plain_twice (rounded_up 16 (rounded_up 4 (2 + n) * element_count bs + 0))

@@ -1,7 +1,7 @@
 -- How frames lie: what stands in one is apart, and as many as may be active fit memory's part for the stacks, with all AUTOMATIC data.
 use Rattle.std.specs.Prelude.{◌≡◌, ℕ, suc, ◌+◌, ◌<◌, ◌≤◌, Bool, true, ◌&&◌, nat_le, List, [], ◌∷◌, length, slice_get, Some, ⊤}
 use Rattle.std.specs.List.{list_all, sum}
-use Rattle.area_keeper.specs.Chain.{chain}
+use Rattle.granule_keeper.specs.Granules.{granules}
 use Rattle.pli_typing.specs.Signatures.{footprint, data_size, rounded_up, LeafKind, Area, Bounds, Leaf}
 use Rattle.pli_typing.specs.TypedTree as Y
 use Rattle.pli_meaning.specs.Contents.{Shape}
@@ -60,9 +60,9 @@ abbrev pub HaveOneArea : List Shape → Type 0
 HaveOneArea [] = ⊤
 HaveOneArea (s ∷ ss) = HasOneArea s.signature.leaves × HaveOneArea ss
 
--- what a generation of an AUTOMATIC variable takes: its name, and its data, an area's with its header
+-- what a generation of an AUTOMATIC variable takes: its name, and its data, an area's with its front
 abbrev pub bytes_taken : Shape → ℕ
-bytes_taken s = name_bytes + rounded_up 16 (data_bytes chain s)
+bytes_taken s = name_bytes + rounded_up 16 (data_bytes granules s)
 
 abbrev pub all_taken : List Shape → ℕ
 all_taken [] = 0
