@@ -114,7 +114,7 @@ abbrev pub ended_return : (ℕ → Family → Services → Option BasicValue →
 ended_return returned i f v x s = returned i f v x (with_world s.world (newest_ended s))
 
 -- to a label of the block in which it stands
-own_outlet : {e : Environment} {block : Names} {types : Types} (bl : Block e block types) (inner : Inner bl) (number level : ℕ) (next : level ≡ suc e.level) (filled : IsFilled bl) {links : Links} {k turns i : ℕ} {h : ℕ → ℕ} (t : ℕ → ℕ) {acts acts' : ℕ} {jumped : ℕ → Family → Services → ℕ → Label → State → Type 0} {returned : ℕ → Family → Services → Option BasicValue → State → Type 0} → Enough bl links k turns i h t acts jumped returned → (label : Label) → is_among label bl.labels ≡ true → IsMarkedOnce links e.block label → acts ≤ acts' → OutletOf (atop inner.at S.BeginBlock bl.frames) (inner_own bl inner t number level next filled) bl.serials block types links k acts' (ended_jump jumped) label
+pub own_outlet : {e : Environment} {block : Names} {types : Types} (bl : Block e block types) (inner : Inner bl) (number level : ℕ) (next : level ≡ suc e.level) (filled : IsFilled bl) {links : Links} {k turns i : ℕ} {h : ℕ → ℕ} (t : ℕ → ℕ) {acts acts' : ℕ} {jumped : ℕ → Family → Services → ℕ → Label → State → Type 0} {returned : ℕ → Family → Services → Option BasicValue → State → Type 0} → Enough bl links k turns i h t acts jumped returned → (label : Label) → is_among label bl.labels ≡ true → IsMarkedOnce links e.block label → acts ≤ acts' → OutletOf (atop inner.at S.BeginBlock bl.frames) (inner_own bl inner t number level next filled) links k acts' (ended_jump jumped) label
 own_outlet {e} {block} {types} bl inner number level next filled {k = k} {h = h} t ready label among once less =
     let o = ready.jumps label among once in
     record {
@@ -130,7 +130,7 @@ own_outlet {e} {block} {types} bl inner number level next filled {k = k} {h = h}
           (omega (arith, less, acted')) at';
     }
 
-outer_outlets : {e : Environment} {block : Names} {types : Types} (bl : Block e block types) (inner : Inner bl) (t : ℕ → ℕ) (number level : ℕ) (next : level ≡ suc e.level) (links : Links) (k acts acts' : ℕ) (jumped : ℕ → Family → Services → ℕ → Label → State → Type 0) → acts ≤ acts' → (os : List OuterBlock) (cs : Enclosures e bl.ground bl.levels bl.frames.list (e.level ∷ bl.depths) os) → Outlets e bl.ground bl.levels bl.frames (e.level ∷ bl.depths) os cs bl.serials block types links k acts jumped → Outlets (in_frame number level e) (inner_ground bl inner t) (inner_levels bl) (atop inner.at S.BeginBlock bl.frames) (level ∷ e.level ∷ bl.depths) os (inner_outers bl inner t number level next os cs) bl.serials block types links k acts' (ended_jump jumped)
+pub outer_outlets : {e : Environment} {block : Names} {types : Types} (bl : Block e block types) (inner : Inner bl) (t : ℕ → ℕ) (number level : ℕ) (next : level ≡ suc e.level) (links : Links) (k acts acts' : ℕ) (jumped : ℕ → Family → Services → ℕ → Label → State → Type 0) → acts ≤ acts' → (os : List OuterBlock) (cs : Enclosures e bl.ground bl.levels bl.frames.list (e.level ∷ bl.depths) os) → Outlets e bl.ground bl.levels bl.frames (e.level ∷ bl.depths) os cs links k acts jumped → Outlets (in_frame number level e) (inner_ground bl inner t) (inner_levels bl) (atop inner.at S.BeginBlock bl.frames) (level ∷ e.level ∷ bl.depths) os (inner_outers bl inner t number level next os cs) links k acts' (ended_jump jumped)
 outer_outlets bl inner t number level next links k acts acts' jumped less [] cs outs = tt
 outer_outlets bl inner t number level next links k acts acts' jumped less (o ∷ os) cs outs = (
   λ label among once.
@@ -146,7 +146,7 @@ outer_outlets bl inner t number level next links k acts acts' jumped less (o ∷
 )
 
 -- a return goes on at the end of the block in which it stands, or further out
-own_home : {e : Environment} {block : Names} {types : Types} (bl : Block e block types) (inner : Inner bl) (number level : ℕ) (next : level ≡ suc e.level) (filled : IsFilled bl) {links : Links} {k : ℕ} (t : ℕ → ℕ) {returned : ℕ → Family → Services → Option BasicValue → State → Type 0} → OwnExit e block types bl.ground bl.frames bl.serials bl.depths links k returned → HomeOf (atop inner.at S.BeginBlock bl.frames) (inner_own bl inner t number level next filled) bl.serials block types links k (ended_return returned)
+pub own_home : {e : Environment} {block : Names} {types : Types} (bl : Block e block types) (inner : Inner bl) (number level : ℕ) (next : level ≡ suc e.level) (filled : IsFilled bl) {links : Links} {k : ℕ} (t : ℕ → ℕ) {returned : ℕ → Family → Services → Option BasicValue → State → Type 0} → OwnExit e block types bl.ground bl.frames bl.serials bl.depths links k returned → HomeOf (atop inner.at S.BeginBlock bl.frames) (inner_own bl inner t number level next filled) links k (ended_return returned)
 own_home {e} {block} {types} bl inner number level next filled t o =
     record {
       at = o.at;
@@ -160,7 +160,7 @@ own_home {e} {block} {types} bl inner number level next filled t o =
           at';
     }
 
-outer_homes : {e : Environment} {block : Names} {types : Types} (bl : Block e block types) (inner : Inner bl) (t : ℕ → ℕ) (number level : ℕ) (next : level ≡ suc e.level) (links : Links) (k : ℕ) (returned : ℕ → Family → Services → Option BasicValue → State → Type 0) (os : List OuterBlock) (cs : Enclosures e bl.ground bl.levels bl.frames.list (e.level ∷ bl.depths) os) → Homes e bl.ground bl.levels bl.frames (e.level ∷ bl.depths) os cs bl.serials block types links k returned → Homes (in_frame number level e) (inner_ground bl inner t) (inner_levels bl) (atop inner.at S.BeginBlock bl.frames) (level ∷ e.level ∷ bl.depths) os (inner_outers bl inner t number level next os cs) bl.serials block types links k (ended_return returned)
+pub outer_homes : {e : Environment} {block : Names} {types : Types} (bl : Block e block types) (inner : Inner bl) (t : ℕ → ℕ) (number level : ℕ) (next : level ≡ suc e.level) (links : Links) (k : ℕ) (returned : ℕ → Family → Services → Option BasicValue → State → Type 0) (os : List OuterBlock) (cs : Enclosures e bl.ground bl.levels bl.frames.list (e.level ∷ bl.depths) os) → Homes e bl.ground bl.levels bl.frames (e.level ∷ bl.depths) os cs links k returned → Homes (in_frame number level e) (inner_ground bl inner t) (inner_levels bl) (atop inner.at S.BeginBlock bl.frames) (level ∷ e.level ∷ bl.depths) os (inner_outers bl inner t number level next os cs) links k (ended_return returned)
 outer_homes bl inner t number level next links k returned [] cs homes = tt
 outer_homes bl inner t number level next links k returned (o ∷ os) cs homes = (
   λ deep owned once.

@@ -46,7 +46,7 @@ use Rattle.pli_headline.proofs.Entered.{atop}
 use Rattle.pli_headline.proofs.Statements.{owner_level, Block, AllHold, counted_all, Enough, Does}
 use Rattle.pli_headline.proofs.CalledJumps.{ending_closed, comes_called}
 use Rattle.pli_headline.proofs.Owing.{owing, owing_closed, comes_owing, done_owing}
-use Rattle.pli_headline.proofs.MainOutlets.{procedure_owner, HasMain, main_of, main_enclosing, main_outlet, owed_outlet}
+use Rattle.pli_headline.proofs.MainOutlets.{procedure_owner, HasMain, main_of, main_enclosing, main_seen, main_outlet, owed_outlet}
 use Rattle.pli_headline.proofs.SavedRegisters.{held_again}
 use Rattle.pli_headline.proofs.BeginEntered.{ended_services}
 use Rattle.pli_headline.proofs.BeginMeant.{Entering, inner_around, inner_part, entered_nested, entered_all, ended_input, left_all, entered_at}
@@ -147,7 +147,7 @@ leave_piece {e} {block} {types} bl {code = code} callee k i resume h t closed ne
 
 -- ---- behind its act
 
-call_piece : {e : Environment} {block : Names} {types : Types} (bl : Block e block types) {links : Links} {code : List Instr} (around : Around) (more : ℕ) (head : Y.BlockHead) (body : Y.Stmts) (callee : Callee bl) (stands : StandsAt links code e head callee.words body) (list : ℤ) → (next : head.level ≡ 1) (main : ℕ) (mains : List Label) (has : HasMain main mains e.level e.block bl.labels bl.outer) → head.kind ≡ Y.ProcedureBlock → head.line < 2 ^ 31 → variables_of_block e.program head.number ≡ [] → around.program ≡ e.program → around.enter ≡ M.entered e.program (suc more) → procedure_numbered head.number e.program.procedures ≡ Some (plain_procedure head body) → word list < 2 ^ 32 → ((back : Base → ℕ) (h0 t0 : ℕ → ℕ) → Does (called_block bl callee back h0 t0 head next (main_of main mains) (main_enclosing bl callee back h0 t0 (procedure_owner head) head next main mains has)) links code (suc more) (stmts_code (procedure_environment head e) none_taken body) (M.list (inner_around e.program more head.line) body)) → {i : ℕ} {s : State} {v : Services} {h t : ℕ → ℕ} {aims : Aims (Unit {0})} (closed : Closed code aims) (n : Values) (f : Family) (k line : ℕ) → k < suc more + v.world.acts → (turns0 i0 acts0 : ℕ) → Enough bl links k turns0 i0 h t acts0 aims.jumped aims.returned → acts0 ≤ v.world.acts → Linked links code i (call_of e list head.number) → nat_lt (length s.activations) most_activations ≡ true → Serving k s v line → AllHold bl.frames bl.serials (storage v) (e.level ∷ bl.depths) s block types n → ((b : Base) → At b i (Known (bl.ground n) v h t nothing b) (f b)) → ((s' : State) (v' : Services) (line' : ℕ) (n' : Values) (h' : ℕ → ℕ) (f' : Family) → Serving k s' v' line' → AllHold bl.frames bl.serials (storage v') (e.level ∷ bl.depths) s' block types n' → ((b : Base) → At b (call_back i e list head.number) (Known (bl.ground n') v' h' t nothing b) (f' b)) → aims.done (call_back i e list head.number) f' v' tt s') → Comes code 0 f v (owing code (length code) aims) (call_part around head.number k s)
+call_piece : {e : Environment} {block : Names} {types : Types} (bl : Block e block types) {links : Links} {code : List Instr} (around : Around) (more : ℕ) (head : Y.BlockHead) (body : Y.Stmts) (callee : Callee bl) (stands : StandsAt links code e head callee.words body) (list : ℤ) → (next : head.level ≡ 1) (main : ℕ) (mains : List Label) (has : HasMain main mains e.level e.block bl.labels bl.outer) → head.kind ≡ Y.ProcedureBlock → head.line < 2 ^ 31 → variables_of_block e.program head.number ≡ [] → around.program ≡ e.program → around.enter ≡ M.entered e.program (suc more) → procedure_numbered head.number e.program.procedures ≡ Some (plain_procedure head body) → word list < 2 ^ 32 → ((back : Base → ℕ) (h0 t0 : ℕ → ℕ) → Does (called_block bl callee back h0 t0 head next (main_of main mains) (main_enclosing bl callee back h0 t0 (procedure_owner head) head next main mains has) (main_seen bl callee back h0 t0 (procedure_owner head) head next main mains has)) links code (suc more) (stmts_code (procedure_environment head e) none_taken body) (M.list (inner_around e.program more head.line) body)) → {i : ℕ} {s : State} {v : Services} {h t : ℕ → ℕ} {aims : Aims (Unit {0})} (closed : Closed code aims) (n : Values) (f : Family) (k line : ℕ) → k < suc more + v.world.acts → (turns0 i0 acts0 : ℕ) → Enough bl links k turns0 i0 h t acts0 aims.jumped aims.returned → acts0 ≤ v.world.acts → Linked links code i (call_of e list head.number) → nat_lt (length s.activations) most_activations ≡ true → Serving k s v line → AllHold bl.frames bl.serials (storage v) (e.level ∷ bl.depths) s block types n → ((b : Base) → At b i (Known (bl.ground n) v h t nothing b) (f b)) → ((s' : State) (v' : Services) (line' : ℕ) (n' : Values) (h' : ℕ → ℕ) (f' : Family) → Serving k s' v' line' → AllHold bl.frames bl.serials (storage v') (e.level ∷ bl.depths) s' block types n' → ((b : Base) → At b (call_back i e list head.number) (Known (bl.ground n') v' h' t nothing b) (f' b)) → aims.done (call_back i e list head.number) f' v' tt s') → Comes code 0 f v (owing code (length code) aims) (call_part around head.number k s)
 unfolding M.end_reached give ◌>>◌
 call_piece {e} {block} {types} bl {links} {code} around more head body callee stands list next main mains has kind fits none same enter found short does' {i} {s} {v} {h} {t} {aims} closed n f k line enough turns0 start0 acts0 ready less l few serving all at goal =
     let program = e.program in
@@ -284,7 +284,7 @@ limited_call {e} bl {code = code} around more head body callee stands list fits 
 
 -- ---- the statement
 
-pub own_call_does : {e : Environment} {block : Names} {types : Types} (bl : Block e block types) (links : Links) (code : List Instr) (around : Around) (more : ℕ) (head : Y.BlockHead) (body : Y.Stmts) (callee : Callee bl) (stands : StandsAt links code e head callee.words body) (list : ℤ) (line : ℕ) → (next : head.level ≡ 1) (main : ℕ) (mains : List Label) (has : HasMain main mains e.level e.block bl.labels bl.outer) → head.kind ≡ Y.ProcedureBlock → head.line < 2 ^ 31 → variables_of_block e.program head.number ≡ [] → around.program ≡ e.program → Entering e.program around more → procedure_numbered head.number e.program.procedures ≡ Some (plain_procedure head body) → word list < 2 ^ 32 → line < 2 ^ 31 → ((more' : ℕ) → more ≡ suc more' → suc (length bl.depths) < most_activations → (back : Base → ℕ) (h0 t0 : ℕ → ℕ) → Does (called_block bl callee back h0 t0 head next (main_of main mains) (main_enclosing bl callee back h0 t0 (procedure_owner head) head next main mains has)) links code (suc more') (stmts_code (procedure_environment head e) none_taken body) (M.list (inner_around e.program more' head.line) body)) → Does bl links code around.turns (act_code line ++ call_of e list head.number) (M.statement around (Y.CallProcedure (Y.Calling head.number 0 Y.NoArgument) line))
+pub own_call_does : {e : Environment} {block : Names} {types : Types} (bl : Block e block types) (links : Links) (code : List Instr) (around : Around) (more : ℕ) (head : Y.BlockHead) (body : Y.Stmts) (callee : Callee bl) (stands : StandsAt links code e head callee.words body) (list : ℤ) (line : ℕ) → (next : head.level ≡ 1) (main : ℕ) (mains : List Label) (has : HasMain main mains e.level e.block bl.labels bl.outer) → head.kind ≡ Y.ProcedureBlock → head.line < 2 ^ 31 → variables_of_block e.program head.number ≡ [] → around.program ≡ e.program → Entering e.program around more → procedure_numbered head.number e.program.procedures ≡ Some (plain_procedure head body) → word list < 2 ^ 32 → line < 2 ^ 31 → ((more' : ℕ) → more ≡ suc more' → suc (length bl.depths) < most_activations → (back : Base → ℕ) (h0 t0 : ℕ → ℕ) → Does (called_block bl callee back h0 t0 head next (main_of main mains) (main_enclosing bl callee back h0 t0 (procedure_owner head) head next main mains has) (main_seen bl callee back h0 t0 (procedure_owner head) head next main mains has)) links code (suc more') (stmts_code (procedure_environment head e) none_taken body) (M.list (inner_around e.program more' head.line) body)) → Does bl links code around.turns (act_code line ++ call_of e list head.number) (M.statement around (Y.CallProcedure (Y.Calling head.number 0 Y.NoArgument) line))
 unfolding M.statement ◌>>◌
 own_call_does {e} {block} {types} bl links code around zero head body callee stands list line next main mains has kind fits none same entering found short low does' =
     record {

@@ -22,7 +22,7 @@ use Rattle.pli_headline.proofs.MainGround.{width_few}
 use Rattle.pli_headline.proofs.Activations.{rest_more}
 use Rattle.pli_serving.specs.ServiceState as S
 use Rattle.pli_headline.proofs.Entered.{atop}
-use Rattle.pli_headline.proofs.Statements.{Enclosing, Block}
+use Rattle.pli_headline.proofs.Statements.{Restricts, Enclosing, Block}
 use Rattle.pli_headline.proofs.InnerFrames.{Inside, inner_whole, inner_above, inner_put, inner_place, other_level, outermost_inner}
 use Rattle.pli_meaning.specs.BasicValues.{BasicText}
 use Rattle.pli_serving.specs.Bytes.{with_bytes}
@@ -206,8 +206,8 @@ called_leveled {block = block} bl callee level next j kind at =
     ap (λ l. cond (l == level) callee.at bl.base) outer ∙ ap (λ q. cond q callee.at bl.base) (other_level level 0 next) ∙ outermost_base bl j at outer
 
 -- the block of a procedure or an on-unit, whatever block calls or raises it, with the main procedure's around it
-abbrev pub called_block_as : {e : Environment} {block : Names} {types : Types} (bl : Block e block types) (callee : Callee bl) (back : Base → ℕ) (h0 t0 : ℕ → ℕ) (owner : Owner) (kind : S.BlockKind) (head : Y.BlockHead) → head.level ≡ 1 → (o : OuterBlock) → Enclosing (owned_by owner (in_frame head.number head.level e)) o (called_ground bl callee back h0 t0) (λ j. bl.base) (callee.at ∷ bl.frames.list) (head.level ∷ e.level ∷ bl.depths) → Block (owned_by owner (in_frame head.number head.level e)) block types
-called_block_as {e} bl callee back h0 t0 owner kind head next o c =
+abbrev pub called_block_as : {e : Environment} {block : Names} {types : Types} (bl : Block e block types) (callee : Callee bl) (back : Base → ℕ) (h0 t0 : ℕ → ℕ) (owner : Owner) (kind : S.BlockKind) (head : Y.BlockHead) → head.level ≡ 1 → (o : OuterBlock) → (c : Enclosing (owned_by owner (in_frame head.number head.level e)) o (called_ground bl callee back h0 t0) (λ j. bl.base) (callee.at ∷ bl.frames.list) (head.level ∷ e.level ∷ bl.depths)) → Restricts bl.serials block types c.serials c.names c.types → Block (owned_by owner (in_frame head.number head.level e)) block types
+called_block_as {e} bl callee back h0 t0 owner kind head next o c seen =
     let above = inner_above callee.at bl.stack.free callee.words callee.place in
     let high = bl.stack.high in
     let lowest = bl.stack.over in
@@ -296,10 +296,10 @@ called_block_as {e} bl callee back h0 t0 owner kind head next o c =
       arrays = λ j type b bs at. called_array bl callee back h0 t0 owner head (callee.at + fixed_size 1 0) (omega arith) (bl.arrays j type b bs at);
       outer = o ∷ [];
       enclosing = (c, tt);
-      beneath = (λ j kind at. (let outer = callee.outer j kind at in omega (arith, outer), (let first = bl.first_owner j at (callee.outer j kind at) in omega (arith, first))), tt);
+      seen = (seen, tt);
     }
 
 -- the block of a procedure
-abbrev pub called_block : {e : Environment} {block : Names} {types : Types} (bl : Block e block types) (callee : Callee bl) (back : Base → ℕ) (h0 t0 : ℕ → ℕ) (head : Y.BlockHead) → head.level ≡ 1 → (o : OuterBlock) → Enclosing (procedure_environment head e) o (called_ground bl callee back h0 t0) (λ j. bl.base) (callee.at ∷ bl.frames.list) (head.level ∷ e.level ∷ bl.depths) → Block (procedure_environment head e) block types
-called_block bl callee back h0 t0 head next o c =
-    called_block_as bl callee back h0 t0 (BlockOwner (record { number = head.number; level = head.level })) S.ProcedureBlock head next o c
+abbrev pub called_block : {e : Environment} {block : Names} {types : Types} (bl : Block e block types) (callee : Callee bl) (back : Base → ℕ) (h0 t0 : ℕ → ℕ) (head : Y.BlockHead) → head.level ≡ 1 → (o : OuterBlock) → (c : Enclosing (procedure_environment head e) o (called_ground bl callee back h0 t0) (λ j. bl.base) (callee.at ∷ bl.frames.list) (head.level ∷ e.level ∷ bl.depths)) → Restricts bl.serials block types c.serials c.names c.types → Block (procedure_environment head e) block types
+called_block bl callee back h0 t0 head next o c seen =
+    called_block_as bl callee back h0 t0 (BlockOwner (record { number = head.number; level = head.level })) S.ProcedureBlock head next o c seen

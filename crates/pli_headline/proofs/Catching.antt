@@ -82,7 +82,7 @@ within labels bl =
       arrays = bl.arrays;
       outer = bl.outer;
       enclosing = bl.enclosing;
-      beneath = bl.beneath;
+      seen = bl.seen;
     }
 
 -- ---- where a label stands
@@ -245,7 +245,7 @@ catch_piece {e} {block} {types} bl {links} {code} around body every start behind
                         later = p.later;
                         lands = λ s3 v3 line3 n3 h3 t3 f3 serving3 all3 stays3 acted3 at3. p.lands s3 v3 line3 n3 h3 t3 f3 serving3 all3 (stays_then stays2 stays3) (omega (arith, grown, acted3)) at3;
                       };
-                  outs = outlets_by e bl.ground bl.levels bl.frames (e.level ∷ bl.depths) bl.outer bl.enclosing bl.serials block types links k v.world.acts v2.world.acts aims.jumped aims.jumped
+                  outs = outlets_by e bl.ground bl.levels bl.frames (e.level ∷ bl.depths) bl.outer bl.enclosing links k v.world.acts v2.world.acts aims.jumped aims.jumped
                       (λ o3 c3 label3 p. record {
                         at = p.at;
                         place = p.place;
@@ -262,7 +262,7 @@ catch_piece {e} {block} {types} bl {links} {code} around body every start behind
           (λ none.
           let o = more.jumps label (sym (ap (λ q. q || is_among label bl.labels) none) ∙ sym (list_any-append (same_bytes label) labels bl.labels) ∙ among) once in
           record { at = o.at; place = o.place; near = o.near; later = o.later; lands = o.lands });
-      outs = outlets_by e bl.ground bl.levels bl.frames (e.level ∷ bl.depths) bl.outer bl.enclosing bl.serials block types links k v.world.acts v.world.acts aims.jumped (catching code k (suc (length bl.depths)) labels next' aims).jumped
+      outs = outlets_by e bl.ground bl.levels bl.frames (e.level ∷ bl.depths) bl.outer bl.enclosing links k v.world.acts v.world.acts aims.jumped (catching code k (suc (length bl.depths)) labels next' aims).jumped
           (λ outer c label o.
           let long = risen_length (suc c.count) c.frame outer.level bl.frames.list (e.level ∷ bl.depths) c.behind c.depths c.rises in
           let other : (suc (length c.depths) == suc (length bl.depths)) ≡ false = grind (arith, nat_tests) in

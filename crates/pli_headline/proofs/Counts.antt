@@ -104,7 +104,7 @@ turning bl =
       arrays = bl.arrays;
       outer = bl.outer;
       enclosing = bl.enclosing;
-      beneath = bl.beneath;
+      seen = bl.seen;
     }
 
 pub standing_turning : {e : Environment} {block : Names} {types : Types} {bl : Block e block types} {links : Links} {code : List Instr} → Standing bl links code → Standing (turning bl) links code

@@ -49,7 +49,7 @@ use Rattle.pli_headline.proofs.InnerFrames.{Inner, inner_block}
 use Rattle.pli_headline.proofs.BeginFrames.{inner_begun, inner_frame}
 use Rattle.pli_headline.proofs.BeginEntered.{entered_activation, entered_services, ended_services, inner_ended, inner_entered, inner_left}
 use Rattle.pli_headline.proofs.BeginMeant.{Entering, inner_around, begin_part, inner_part, begin_declares, begin_limited, entered_state, entered_nested, entered_all, ended_input, left_all, Outside}
-use Rattle.pli_headline.proofs.Begins.{by_test, ending_closed, comes_ended, limited_piece}
+use Rattle.pli_headline.proofs.Begins.{by_test, ending_closed, comes_ended, own_outlet, outer_outlets, own_home, outer_homes, limited_piece}
 use Rattle.pli_headline.proofs.Reach.{Family, Aims, Comes, Closed, before_closed, comes_on, onward}
 
 -- ---- what a block has once its variables are made
@@ -59,23 +59,18 @@ pub record IsMade {e : Environment} {block block' : Names} {types types' : Types
   pub words : mb.words ≡ ib.words
   pub taken : mb.taken ≡ ib.taken
   pub labels : mb.labels ≡ ib.labels
+  pub outer : mb.outer ≡ ib.outer
   pub depths : mb.depths ≡ ib.depths
   pub frame : mb.stack.frame ≡ ib.stack.frame
   pub free : mb.stack.free ≡ ib.stack.free + bytes
 
 pub is_made : (ds : List Y.DeclaredVariable) {e : Environment} {block : Names} {types : Types} (ib : Block e block types) {index : ℕ} (m : Makes ib index ds) (serial : ℕ) → IsMade ib (made_block ib ds m serial) (32 * length ds)
 is_made [] ib m serial =
-    record { words = refl; taken = refl; labels = refl; depths = refl; frame = refl; free = omega arith }
+    record { words = refl; taken = refl; labels = refl; outer = refl; depths = refl; frame = refl; free = omega arith }
 is_made (d ∷ ds) ib m serial =
     let o = is_made ds (more_block ib (first_more ib d ds m) (serial + 1)) (next_makes ib d ds m (serial + 1)) (serial + 1) in
     let free = o.free in
-    record { words = o.words; taken = o.taken; labels = o.labels; depths = o.depths; frame = o.frame; free = omega (arith, free) }
-
--- no block around may be gone to from there
-pub made_alone : (ds : List Y.DeclaredVariable) {e : Environment} {block : Names} {types : Types} (ib : Block e block types) {index : ℕ} (m : Makes ib index ds) (serial : ℕ) → (ds ≡ [] → ib.outer ≡ []) → (made_block ib ds m serial).outer ≡ []
-made_alone [] ib m serial out = out refl
-made_alone (d ∷ ds) ib m serial out =
-    made_alone ds (more_block ib (first_more ib d ds m) (serial + 1)) (next_makes ib d ds m (serial + 1)) (serial + 1) (λ last. refl)
+    record { words = o.words; taken = o.taken; labels = o.labels; outer = o.outer; depths = o.depths; frame = o.frame; free = omega (arith, free) }
 
 -- constant bytes stand as before
 pub made_constants : (ds : List Y.DeclaredVariable) {e : Environment} {block : Names} {types : Types} (ib : Block e block types) {index : ℕ} (m : Makes ib index ds) (serial : ℕ) {links : Links} {code : List Instr} → ((n : Values) → ConstantsStand links code (ib.ground n)) → (n : Values) → ConstantsStand links code ((made_block ib ds m serial).ground n)
@@ -189,9 +184,9 @@ abbrev pub MadeDoes : {e : Environment} {block : Names} {types : Types} (bl : Bl
 MadeDoes {e} bl inner head next filled makes links code more body =
     (t0 : ℕ → ℕ) (serial : ℕ) → Does (made_block (inner_block bl inner t0 head.number head.level next filled) (vars_of e head) (makes t0) serial) links code (suc more) (stmts_code (begin_environment head e) none_taken body) (M.list (inner_around e.program more head.line) body)
 
-declaring_piece : {e : Environment} {block : Names} {types : Types} (bl : Block e block types) {links : Links} {code : List Instr} (around : Around) (more : ℕ) (head : Y.BlockHead) (body : Y.Stmts) (inner : Inner bl) → owner_level e.owner ≤ e.level → e.level < 100 → (next : head.level ≡ suc e.level) (filled : IsFilled bl) → IsKnown (begin_environment head e) → ((vars_of e head ≡ []) → ⊥) → (makes : (t0 : ℕ → ℕ) → Makes (inner_block bl inner t0 head.number head.level next filled) 0 (vars_of e head)) → head.kind ≡ Y.BeginBlock → head.line < 2 ^ 31 → around.enter ≡ M.entered e.program (suc more) → MadeDoes bl inner head next filled makes links code more body → {i : ℕ} {s : State} {v : Services} {h t : ℕ → ℕ} {aims : Aims (Unit {0})} (closed : Closed code aims) (n : Values) (f : Family) (k line : ℕ) → k < suc more + v.world.acts → 10 ≤ i → {turns0 i0 acts0 : ℕ} → Enough bl links k turns0 i0 h t acts0 aims.jumped aims.returned → Linked links code i (declaring_code e head inner.words body) → nat_lt (length s.activations) most_activations ≡ true → Serving k s v line → AllHold bl.frames bl.serials (storage v) (e.level ∷ bl.depths) s block types n → ((b : Base) → At b i (Known (bl.ground n) v h t nothing b) (f b)) → ((s' : State) (v' : Services) (line' : ℕ) (n' : Values) (h' : ℕ → ℕ) (f' : Family) → Serving k s' v' line' → AllHold bl.frames bl.serials (storage v') (e.level ∷ bl.depths) s' block types n' → ((b : Base) → At b (i + size_of (declaring_code e head inner.words body)) (Known (bl.ground n') v' h' t nothing b) (f' b)) → aims.done (i + size_of (declaring_code e head inner.words body)) f' v' tt s') → Comes code i f v aims (begin_part around head body k s)
+declaring_piece : {e : Environment} {block : Names} {types : Types} (bl : Block e block types) {links : Links} {code : List Instr} (around : Around) (more : ℕ) (head : Y.BlockHead) (body : Y.Stmts) (inner : Inner bl) → owner_level e.owner ≤ e.level → e.level < 100 → (next : head.level ≡ suc e.level) (filled : IsFilled bl) → IsKnown (begin_environment head e) → (makes : (t0 : ℕ → ℕ) → Makes (inner_block bl inner t0 head.number head.level next filled) 0 (vars_of e head)) → head.kind ≡ Y.BeginBlock → head.line < 2 ^ 31 → around.enter ≡ M.entered e.program (suc more) → MadeDoes bl inner head next filled makes links code more body → {i : ℕ} {s : State} {v : Services} {h t : ℕ → ℕ} {aims : Aims (Unit {0})} (closed : Closed code aims) (n : Values) (f : Family) (k line : ℕ) → k < suc more + v.world.acts → 10 ≤ i → {turns0 i0 acts0 : ℕ} → Enough bl links k turns0 i0 h t acts0 aims.jumped aims.returned → acts0 ≤ v.world.acts → Linked links code i (declaring_code e head inner.words body) → nat_lt (length s.activations) most_activations ≡ true → Serving k s v line → AllHold bl.frames bl.serials (storage v) (e.level ∷ bl.depths) s block types n → ((b : Base) → At b i (Known (bl.ground n) v h t nothing b) (f b)) → ((s' : State) (v' : Services) (line' : ℕ) (n' : Values) (h' : ℕ → ℕ) (f' : Family) → Serving k s' v' line' → AllHold bl.frames bl.serials (storage v') (e.level ∷ bl.depths) s' block types n' → ((b : Base) → At b (i + size_of (declaring_code e head inner.words body)) (Known (bl.ground n') v' h' t nothing b) (f' b)) → aims.done (i + size_of (declaring_code e head inner.words body)) f' v' tt s') → Comes code i f v aims (begin_part around head body k s)
 unfolding give
-declaring_piece {e} {block} {types} bl {links} {code} around more head body inner lower shallow next filled known some' makes kind fits enter does' {i} {s} {v} {h} {t} {aims} closed n f k line enough later ready l few serving all at goal =
+declaring_piece {e} {block} {types} bl {links} {code} around more head body inner lower shallow next filled known makes kind fits enter does' {i} {s} {v} {h} {t} {aims} closed n f k line enough later {turns0} {i0} {acts0} ready less l few serving all at goal =
     let program = e.program in
     let here = inner_around program more head.line in
     let e' = begin_environment head e in
@@ -231,7 +226,10 @@ declaring_piece {e} {block} {types} bl {links} {code} around more head body inne
     (λ f2 at2.
     comes_on k (left false newest_ended (flow_on k (K.variables_made here 0 vars k s2) (λ u. part))) last
     (comes_ended newest_ended (flow_on k (K.variables_made here 0 vars k s2) (λ u. part))
-    (declares_from closed2 here head.line (suc more) k stmts part vars ib known (makes t) n f2 head.line refl (λ none. absurd (some' none)) (omega (arith, lower, next)) (omega (arith, enough)) (omega (arith, later))
+    (declares_from closed2 here head.line (suc more) k stmts part vars ib known (makes t) n f2 head.line refl
+    (λ label among once. own_outlet bl inner head.number head.level next filled t ready label among once (omega (arith, less)), outer_outlets bl inner t head.number head.level next links k acts0 v.world.acts aims.jumped less bl.outer bl.enclosing ready.outs)
+    (λ deep owned once. own_home bl inner head.number head.level next filled t (ready.own deep owned once), outer_homes bl inner t head.number head.level next links k aims.returned bl.outer bl.enclosing ready.homes)
+    (omega (arith, lower, next)) (omega (arith, enough)) (omega (arith, later))
     (λ number owned once.
     let o = ready.returns number owned once in
     record {
@@ -278,9 +276,9 @@ declaring_piece {e} {block} {types} bl {links} {code} around more head body inne
           (λ b. record { pc = (at4 b).pc ∙ ap (address b) place; holds = (at4 b).holds }));
     })))))))
 
-own_declares_does : {e : Environment} {block : Names} {types : Types} (bl : Block e block types) (links : Links) (code : List Instr) (around : Around) (more : ℕ) (head : Y.BlockHead) (body : Y.Stmts) (inner : Inner bl) → owner_level e.owner ≤ e.level → e.level < 100 → (next : head.level ≡ suc e.level) (filled : IsFilled bl) → IsKnown (begin_environment head e) → ((vars_of e head ≡ []) → ⊥) → (makes : (t0 : ℕ → ℕ) → Makes (inner_block bl inner t0 head.number head.level next filled) 0 (vars_of e head)) → head.kind ≡ Y.BeginBlock → head.line < 2 ^ 31 → Entering e.program around more → ((more' : ℕ) → more ≡ suc more' → suc (length bl.depths) < most_activations → MadeDoes bl inner head next filled makes links code more' body) → Does bl links code around.turns (act_code head.line ++ declaring_code e head inner.words body) (M.statement around (Y.Begin (Y.BlockOf head body)))
+own_declares_does : {e : Environment} {block : Names} {types : Types} (bl : Block e block types) (links : Links) (code : List Instr) (around : Around) (more : ℕ) (head : Y.BlockHead) (body : Y.Stmts) (inner : Inner bl) → owner_level e.owner ≤ e.level → e.level < 100 → (next : head.level ≡ suc e.level) (filled : IsFilled bl) → IsKnown (begin_environment head e) → (makes : (t0 : ℕ → ℕ) → Makes (inner_block bl inner t0 head.number head.level next filled) 0 (vars_of e head)) → head.kind ≡ Y.BeginBlock → head.line < 2 ^ 31 → Entering e.program around more → ((more' : ℕ) → more ≡ suc more' → suc (length bl.depths) < most_activations → MadeDoes bl inner head next filled makes links code more' body) → Does bl links code around.turns (act_code head.line ++ declaring_code e head inner.words body) (M.statement around (Y.Begin (Y.BlockOf head body)))
 unfolding M.statement ◌>>◌
-own_declares_does {e} bl links code around zero head body inner lower shallow next filled known some' makes kind fits entering does' =
+own_declares_does {e} bl links code around zero head body inner lower shallow next filled known makes kind fits entering does' =
     record {
       does = λ {i} {s} {v} {h} {t} {aims} closed old n f k l serving all at goal more'.
           let next' : Unit {0} → Meaning (Unit {0}) = λ u. begin_part around head body in
@@ -289,7 +287,7 @@ own_declares_does {e} bl links code around zero head body inner lower shallow ne
           (λ f1 serving1 at1.
           absurd (let e1 = more'.enough in let e2 = entering.turns in let e3 = serving1.allowed in omega (arith, e1, e2, e3))));
     }
-own_declares_does {e} bl links code around (suc more) head body inner lower shallow next filled known some' makes kind fits entering does' =
+own_declares_does {e} bl links code around (suc more) head body inner lower shallow next filled known makes kind fits entering does' =
     record {
       does = λ {i} {s} {v} {h} {t} {aims} closed old n f k l serving all at goal more'.
           let a = act_code head.line in
@@ -312,7 +310,7 @@ own_declares_does {e} bl links code around (suc more) head body inner lower shal
           (limited_piece bl head ((variables_made (begin_environment head e) head.line 0 (vars_of e head) ++ stmts_code (begin_environment head e) none_taken body) ++ inner_ended inner.words) inner shallow fits (before_closed k last closed) n f1 k head.line (omega (arith, later)) (back_of a c l) many serving1 at1)))
           (λ few.
           let deep : suc (length bl.depths) < most_activations = (let below = ltb-true (length s.activations) most_activations few in let long = entered_length s.activations (e.level ∷ bl.depths) all.entered in omega (arith, below, long)) in
-          declaring_piece bl around more head body inner lower shallow next filled known some' makes kind fits entering.enter (does' more refl deep) closed n f1 k head.line (omega (arith, e1, e2)) (omega (arith, later)) more' (back_of a c l) few serving1
+          declaring_piece bl around more head body inner lower shallow next filled known makes kind fits entering.enter (does' more refl deep) closed n f1 k head.line (omega (arith, e1, e2)) (omega (arith, later)) more' (omega arith) (back_of a c l) few serving1
           (counted_all (counted s.world) all)
           at1
           (λ s4 v4 line4 n4 h4 f4 serving4 all4 at4.
@@ -323,7 +321,7 @@ own_declares_does {e} bl links code around (suc more) head body inner lower shal
           (λ b. record { pc = (at4 b).pc ∙ ap (address b) place; holds = (at4 b).holds }))))));
     }
 
-pub declares_does : {e : Environment} {block : Names} {types : Types} (bl : Block e block types) (links : Links) (code : List Instr) (around : Around) (more : ℕ) (head : Y.BlockHead) (body : Y.Stmts) (inner : Inner bl) → owner_level e.owner ≤ e.level → inner.words ≡ max 0 (stmts_words body) → e.level < 100 → (next : head.level ≡ suc e.level) (filled : IsFilled bl) → IsKnown (begin_environment head e) → AreDeclaring (vars_of e head) → ((vars_of e head ≡ []) → ⊥) → (makes : (t0 : ℕ → ℕ) → Makes (inner_block bl inner t0 head.number head.level next filled) 0 (vars_of e head)) → head.kind ≡ Y.BeginBlock → head.line < 2 ^ 31 → Entering e.program around more → ((more' : ℕ) → more ≡ suc more' → suc (length bl.depths) < most_activations → MadeDoes bl inner head next filled makes links code more' body) → Does bl links code around.turns (stmt_code e bl.taken (Y.Begin (Y.BlockOf head body))) (M.statement around (Y.Begin (Y.BlockOf head body)))
-declares_does {e} bl links code around more head body inner lower same shallow next filled known are some' makes kind fits entering does' =
+pub declares_does : {e : Environment} {block : Names} {types : Types} (bl : Block e block types) (links : Links) (code : List Instr) (around : Around) (more : ℕ) (head : Y.BlockHead) (body : Y.Stmts) (inner : Inner bl) → owner_level e.owner ≤ e.level → inner.words ≡ max 0 (stmts_words body) → e.level < 100 → (next : head.level ≡ suc e.level) (filled : IsFilled bl) → IsKnown (begin_environment head e) → AreDeclaring (vars_of e head) → (makes : (t0 : ℕ → ℕ) → Makes (inner_block bl inner t0 head.number head.level next filled) 0 (vars_of e head)) → head.kind ≡ Y.BeginBlock → head.line < 2 ^ 31 → Entering e.program around more → ((more' : ℕ) → more ≡ suc more' → suc (length bl.depths) < most_activations → MadeDoes bl inner head next filled makes links code more' body) → Does bl links code around.turns (stmt_code e bl.taken (Y.Begin (Y.BlockOf head body))) (M.statement around (Y.Begin (Y.BlockOf head body)))
+declares_does {e} bl links code around more head body inner lower same shallow next filled known are makes kind fits entering does' =
     subst (λ c. Does bl links code around.turns (act_code head.line ++ c) (M.statement around (Y.Begin (Y.BlockOf head body)))) (ap (λ w. declaring_code e head w body) same ∙ sym (declaring_code_is e head body next are))
-    (own_declares_does bl links code around more head body inner lower shallow next filled known some' makes kind fits entering does')
+    (own_declares_does bl links code around more head body inner lower shallow next filled known makes kind fits entering does')

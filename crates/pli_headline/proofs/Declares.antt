@@ -43,7 +43,8 @@ use Rattle.pli_headline.proofs.PlainNumbers.{number_for, Numbered}
 use Rattle.pli_headline.proofs.NamesMade.{made_code, make_asked}
 use Rattle.pli_headline.proofs.DeclaredNames.{by_element, by_last, chosen_before, chosen_here}
 use Rattle.pli_headline.proofs.Variables.{level_of}
-use Rattle.pli_headline.proofs.OneMore.{More, more_block, more_names, spot_of, around_level, not_last}
+use Rattle.pli_headline.proofs.OneMore.{More, more_block, more_ground, more_enclosures, around_level, not_last}
+use Rattle.pli_headline.proofs.MoreNames.{more_names, spot_of}
 use Rattle.pli_headline.proofs.MoreStates.{IsNew, step_meant, made_or_ended, nested_same, more_all, fewer_all, all_same}
 use Rattle.pli_headline.proofs.MoreServed.{OwnStands, place_for, more_piece, past_piece}
 use Rattle.pli_headline.proofs.MainStates.{kind_binding}
@@ -174,30 +175,32 @@ other_number : (q : Bool) (x y : ℤ) → q ≡ false → y ≡ cond q x y
 other_number true x y e = absurd (cc e)
 other_number false x y e = refl
 
--- where no block around may be gone to
-no_outlets : (e : Environment) (ground : Values → Ground) (shows : ℕ → ℕ) (frames : Frames) (levels : List ℕ) (os : List OuterBlock) (cs : Enclosures e ground shows frames.list levels os) (serials : Serials) (block : Names) (types : Types) (links : Links) (k acts : ℕ) (jumped : ℕ → Family → Services → ℕ → Label → State → Type 0) → os ≡ [] → Outlets e ground shows frames levels os cs serials block types links k acts jumped
-no_outlets e ground shows frames levels [] cs serials block types links k acts jumped none = tt
-no_outlets e ground shows frames levels (o ∷ os) cs serials block types links k acts jumped none = absurd (cc none)
+-- a jump or a return out goes on as it does from the block with fewer variables
+more_outlets : {e : Environment} {block : Names} {types : Types} (ib : Block e block types) (k' : Kind) (links : Links) (k acts : ℕ) (jumped : ℕ → Family → Services → ℕ → Label → State → Type 0) (os : List OuterBlock) (cs : Enclosures e ib.ground ib.levels ib.frames.list (e.level ∷ ib.depths) os) → Outlets e ib.ground ib.levels ib.frames (e.level ∷ ib.depths) os cs links k acts jumped → Outlets e (more_ground ib k') ib.levels ib.frames (e.level ∷ ib.depths) os (more_enclosures ib k' os cs) links k acts jumped
+more_outlets ib k' links k acts jumped [] cs outs = tt
+more_outlets ib k' links k acts jumped (o ∷ os) cs outs =
+    (λ label among once. let p = outs.0 label among once in record { at = p.at; place = p.place; near = p.near; later = p.later; lands = p.lands }, more_outlets ib k' links k acts jumped os cs.1 outs.1)
 
-no_homes : (e : Environment) (ground : Values → Ground) (shows : ℕ → ℕ) (frames : Frames) (levels : List ℕ) (os : List OuterBlock) (cs : Enclosures e ground shows frames.list levels os) (serials : Serials) (block : Names) (types : Types) (links : Links) (k : ℕ) (returned : ℕ → Family → Services → Option BasicValue → State → Type 0) → os ≡ [] → Homes e ground shows frames levels os cs serials block types links k returned
-no_homes e ground shows frames levels [] cs serials block types links k returned none = tt
-no_homes e ground shows frames levels (o ∷ os) cs serials block types links k returned none = absurd (cc none)
+more_homes : {e : Environment} {block : Names} {types : Types} (ib : Block e block types) (k' : Kind) (links : Links) (k : ℕ) (returned : ℕ → Family → Services → Option BasicValue → State → Type 0) (os : List OuterBlock) (cs : Enclosures e ib.ground ib.levels ib.frames.list (e.level ∷ ib.depths) os) → Homes e ib.ground ib.levels ib.frames (e.level ∷ ib.depths) os cs links k returned → Homes e (more_ground ib k') ib.levels ib.frames (e.level ∷ ib.depths) os (more_enclosures ib k' os cs) links k returned
+more_homes ib k' links k returned [] cs homes = tt
+more_homes ib k' links k returned (o ∷ os) cs homes =
+    (λ deep owned once. let p = homes.0 deep owned once in record { at = p.at; place = p.place; near = p.near; later = p.later; leaves = p.leaves }, more_homes ib k' links k returned os cs.1 homes.1)
 
-pub declares_from : {links : Links} {code : List Instr} {aims : Aims (Unit {0})} (closed : Closed code aims) (around : Around) (line turns k : ℕ) (c : Code) (meaning : Meaning (Unit {0})) (ds : List Y.DeclaredVariable) {e : Environment} {block : Names} {types : Types} (ib : Block e block types) (known : IsKnown e) {index : ℕ} (m : Makes ib index ds) {i : ℕ} {s : State} {v : Services} {h t : ℕ → ℕ} (n : Values) (f : Family) (old : ℕ) → ib.labels ≡ [] → (ds ≡ [] → ib.outer ≡ []) → owner_level e.owner < e.level → k < turns + v.world.acts → 10 ≤ i → ((number : ℕ) → e.owner ≡ BlockOwner (record { number = number; level = 0 }) → IsEndMarkedOnce links number → Exit number ib.base ib.bottom.holds links k aims.returned) → Does (made_block ib ds m s.serials) links code turns c meaning → Linked links code i (variables_made e line index ds ++ c) → Serving k s v old → AllHold ib.frames ib.serials (storage v) (e.level ∷ ib.depths) s block types n → ((b : Base) → At b i (Known (ib.ground n) v h t nothing b) (f b)) → GoesOn ib k (i + size_of (variables_made e line index ds ++ c)) aims → Comes code i f v aims (flow_on k (K.variables_made around index ds k s) (λ u. meaning))
+pub declares_from : {links : Links} {code : List Instr} {aims : Aims (Unit {0})} (closed : Closed code aims) (around : Around) (line turns k : ℕ) (c : Code) (meaning : Meaning (Unit {0})) (ds : List Y.DeclaredVariable) {e : Environment} {block : Names} {types : Types} (ib : Block e block types) (known : IsKnown e) {index : ℕ} (m : Makes ib index ds) {i : ℕ} {s : State} {v : Services} {h t : ℕ → ℕ} (n : Values) (f : Family) (old : ℕ) → ib.labels ≡ [] → Outlets e ib.ground ib.levels ib.frames (e.level ∷ ib.depths) ib.outer ib.enclosing links k v.world.acts aims.jumped → Homes e ib.ground ib.levels ib.frames (e.level ∷ ib.depths) ib.outer ib.enclosing links k aims.returned → owner_level e.owner < e.level → k < turns + v.world.acts → 10 ≤ i → ((number : ℕ) → e.owner ≡ BlockOwner (record { number = number; level = 0 }) → IsEndMarkedOnce links number → Exit number ib.base ib.bottom.holds links k aims.returned) → Does (made_block ib ds m s.serials) links code turns c meaning → Linked links code i (variables_made e line index ds ++ c) → Serving k s v old → AllHold ib.frames ib.serials (storage v) (e.level ∷ ib.depths) s block types n → ((b : Base) → At b i (Known (ib.ground n) v h t nothing b) (f b)) → GoesOn ib k (i + size_of (variables_made e line index ds ++ c)) aims → Comes code i f v aims (flow_on k (K.variables_made around index ds k s) (λ u. meaning))
 unfolding K.variables_made give
-declares_from {links} {code} {aims} closed around line turns k c meaning [] {e} ib known m n f old none out low enough later returns does' l serving all at goal =
+declares_from {links} {code} {aims} closed around line turns k c meaning [] {e} ib known m n f old none outs homes low enough later returns does' l serving all at goal =
     does'.does closed old n f k l serving all at
     (λ s' v' line' n' h' t' f' serving' all' stays at'. goal s' v' line' n' h' t' f' (ib.ground n').free serving' all' at')
     (record {
       enough = enough;
       later = later;
       jumps = λ label among once. let no : false ≡ true = sym (ap (is_among label) none) ∙ among in absurd (cc no);
-      outs = no_outlets e ib.ground ib.levels ib.frames (e.level ∷ ib.depths) ib.outer ib.enclosing ib.serials _ _ links k _ aims.jumped (out refl);
+      outs = outs;
       returns = returns;
       own = λ deep owned once. let no : owner_level e.owner ≡ e.level = ap owner_level owned in absurd (omega (arith, no, low));
-      homes = no_homes e ib.ground ib.levels ib.frames (e.level ∷ ib.depths) ib.outer ib.enclosing ib.serials _ _ links k aims.returned (out refl);
+      homes = homes;
     })
-declares_from {links} {code} {aims} closed around line turns k c meaning (d ∷ ds) {e} {block} {types} ib known {index} m {i} {s} {v} {h} {t} n f old none out low enough later returns does' l serving all at goal =
+declares_from {links} {code} {aims} closed around line turns k c meaning (d ∷ ds) {e} {block} {types} ib known {index} m {i} {s} {v} {h} {t} n f old none outs homes low enough later returns does' l serving all at goal =
     let count = length types in
     let kind = declared_kind d in
     let o = first_more ib d ds m in
@@ -248,7 +251,7 @@ declares_from {links} {code} {aims} closed around line turns k c meaning (d ∷ 
       | inr within ↦
           subst T (sym (le-leb (automatic_in_use s.living + frame_size kind) (2 ^ 20) within))
           (onward closed (more_piece ib o m.own i n1 v h t f table numbered size all.stored.table some (omega (arith, within, use')) zero' l1 at1) (λ f' at'.
-          declares_from closed around line turns k c meaning ds (more_block ib o (s.serials + 1)) known (next_makes ib d ds m (s.serials + 1)) n1 f' old none (λ last. refl) low enough (omega (arith, later)) returns does' l2
+          declares_from closed around line turns k c meaning ds (more_block ib o (s.serials + 1)) known (next_makes ib d ds m (s.serials + 1)) n1 f' old none (more_outlets ib kind links k v.world.acts aims.jumped ib.outer ib.enclosing outs) (more_homes ib kind links k aims.returned ib.outer ib.enclosing homes) low enough (omega (arith, later)) returns does' l2
           (record {
             world = serving.world;
             running = serving.running;

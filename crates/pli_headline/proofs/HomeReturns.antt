@@ -22,7 +22,7 @@ use Rattle.pli_headline.proofs.Linking.{size_append}
 use Rattle.pli_headline.proofs.Jumps.{front_of, back_of, jump_piece}
 use Rattle.pli_headline.proofs.Acts.{acted, act_to}
 use Rattle.pli_headline.proofs.Ifs.{free_far}
-use Rattle.pli_headline.proofs.Statements.{Beneath, AllBeneath, Enclosing, Enclosures, Block, counted_all, IsEndMarkedOnce, HomeOf, Homes, Enough, Does}
+use Rattle.pli_headline.proofs.Statements.{Restricts, AllSeen, Enclosing, Enclosures, Block, counted_all, IsEndMarkedOnce, HomeOf, Homes, Enough, Does}
 use Rattle.pli_headline.proofs.EndedBlocks.{all_ended}
 use Rattle.pli_headline.proofs.Returns.{unwound_services, own_end_does}
 use Rattle.pli_headline.proofs.JumpsOut.{unwound_size, unwound_piece}
@@ -35,9 +35,9 @@ abbrev home_code : OuterBlock → Code
 home_code o = unwound_to o.level 0 ++ JumpTo (ReturnPlace o.number) ∷ []
 
 -- the act leaves no credits to count, so the end may stand anywhere
-own_home_does : {e : Environment} {block : Names} {types : Types} (bl : Block e block types) (links : Links) (code : List Instr) (around : Around) {o : OuterBlock} (d : Enclosing e o bl.ground bl.levels bl.frames.list (e.level ∷ bl.depths)) (below : Beneath o.level (suc (length d.depths)) bl.serials block types) (line : ℕ) → ((i k : ℕ) (h t : ℕ → ℕ) (acts : ℕ) (jumped : ℕ → Family → Services → ℕ → Label → State → Type 0) (returned : ℕ → Family → Services → Option BasicValue → State → Type 0) → Enough bl links k around.turns i h t acts jumped returned → HomeOf bl.frames d bl.serials block types links k returned) → e.level ≤ 100 → line < 2 ^ 31 → Does bl links code around.turns (act_code line ++ home_code o) (M.statement around (Y.Return line))
+own_home_does : {e : Environment} {block : Names} {types : Types} (bl : Block e block types) (links : Links) (code : List Instr) (around : Around) {o : OuterBlock} (d : Enclosing e o bl.ground bl.levels bl.frames.list (e.level ∷ bl.depths)) (seen : Restricts bl.serials block types d.serials d.names d.types) (line : ℕ) → ((i k : ℕ) (h t : ℕ → ℕ) (acts : ℕ) (jumped : ℕ → Family → Services → ℕ → Label → State → Type 0) (returned : ℕ → Family → Services → Option BasicValue → State → Type 0) → Enough bl links k around.turns i h t acts jumped returned → HomeOf bl.frames d links k returned) → e.level ≤ 100 → line < 2 ^ 31 → Does bl links code around.turns (act_code line ++ home_code o) (M.statement around (Y.Return line))
 unfolding M.statement returns ◌>>◌
-own_home_does {e} bl links code around {o} d below line homes few fits =
+own_home_does {e} bl links code around {o} d seen line homes few fits =
     record {
       does = λ {i} {s} {v} {h} {t} {aims} closed old n f k l serving all at goal more.
           let a = act_code line in
@@ -54,7 +54,7 @@ own_home_does {e} bl links code around {o} d below line homes few fits =
           let next' : Unit {0} → Meaning (Unit {0}) = λ u. returns None in
           let l1 = back_of a c l in
           let s1 = with_world (counted s.world) s in
-          let left' = all_ended (suc d.count) d.frame o.level bl.frames bl.frames.list (e.level ∷ bl.depths) d.behind d.depths s1 (storage v) refl d.rises below serving.nested (counted_all (counted s.world) all) in
+          let left' = all_ended (suc d.count) d.frame o.level bl.frames bl.frames.list (e.level ∷ bl.depths) d.behind d.depths s1 (storage v) refl d.rises d.beneath serving.nested (seen bl.frames (storage v) (e.level ∷ bl.depths) s1 n (counted_all (counted s.world) all)) in
           let v2 = unwound_services (acted line v) left'.activation left'.rest in
           comes_on k (act counted k s) next'
           (act_to (before_closed k next' closed) i 0 f line old k fits (omega (arith, inside, total)) (front_of a c l) serving at
@@ -80,13 +80,13 @@ own_home_does {e} bl links code around {o} d below line homes few fits =
           }))));
     }
 
-outer_home_does : {e : Environment} {block : Names} {types : Types} (bl : Block e block types) (links : Links) (code : List Instr) (around : Around) {o : OuterBlock} (d : Enclosing e o bl.ground bl.levels bl.frames.list (e.level ∷ bl.depths)) (below : Beneath o.level (suc (length d.depths)) bl.serials block types) (line : ℕ) → ((i k : ℕ) (h t : ℕ → ℕ) (acts : ℕ) (jumped : ℕ → Family → Services → ℕ → Label → State → Type 0) (returned : ℕ → Family → Services → Option BasicValue → State → Type 0) → Enough bl links k around.turns i h t acts jumped returned → HomeOf bl.frames d bl.serials block types links k returned) → e.owner ≡ BlockOwner (record { number = o.number; level = o.level }) → e.level ≤ 100 → line < 2 ^ 31 → Does bl links code around.turns (stmt_code e bl.taken (Y.Return line)) (M.statement around (Y.Return line))
-outer_home_does {e} bl links code around {o} d below line homes owned few fits =
+outer_home_does : {e : Environment} {block : Names} {types : Types} (bl : Block e block types) (links : Links) (code : List Instr) (around : Around) {o : OuterBlock} (d : Enclosing e o bl.ground bl.levels bl.frames.list (e.level ∷ bl.depths)) (seen : Restricts bl.serials block types d.serials d.names d.types) (line : ℕ) → ((i k : ℕ) (h t : ℕ → ℕ) (acts : ℕ) (jumped : ℕ → Family → Services → ℕ → Label → State → Type 0) (returned : ℕ → Family → Services → Option BasicValue → State → Type 0) → Enough bl links k around.turns i h t acts jumped returned → HomeOf bl.frames d links k returned) → e.owner ≡ BlockOwner (record { number = o.number; level = o.level }) → e.level ≤ 100 → line < 2 ^ 31 → Does bl links code around.turns (stmt_code e bl.taken (Y.Return line)) (M.statement around (Y.Return line))
+outer_home_does {e} bl links code around {o} d seen line homes owned few fits =
     let deeper = d.deeper in
     let apart : (o.level == e.level) ≡ false = grind (arith, nat_tests) in
     subst (λ (w : Owner). Does bl links code around.turns (act_code line ++ returned_by e 0 w) (M.statement around (Y.Return line))) (sym owned)
     (subst (λ q. Does bl links code around.turns (act_code line ++ (cond q [] (unwound_to o.level 0) ++ JumpTo (ReturnPlace o.number) ∷ [])) (M.statement around (Y.Return line))) (sym apart)
-    (own_home_does bl links code around d below line homes few fits))
+    (own_home_does bl links code around d seen line homes few fits))
 
 -- ---- where a called procedure's RETURN goes
 
@@ -104,14 +104,14 @@ OuterHome owner links (o ∷ os) =
 abbrev pub IsHome : Environment → Links → List OuterBlock → Type 0
 IsHome e links os = IsOwnHome e links ⊎ OuterHome e.owner links os
 
-home_among : {e : Environment} {block : Names} {types : Types} (bl : Block e block types) (links : Links) (code : List Instr) (around : Around) (line : ℕ) → e.level ≤ 100 → line < 2 ^ 31 → (os : List OuterBlock) (ds : Enclosures e bl.ground bl.levels bl.frames.list (e.level ∷ bl.depths) os) → AllBeneath e bl.ground bl.levels bl.frames.list (e.level ∷ bl.depths) os ds bl.serials block types → ((i k : ℕ) (h t : ℕ → ℕ) (acts : ℕ) (jumped : ℕ → Family → Services → ℕ → Label → State → Type 0) (returned : ℕ → Family → Services → Option BasicValue → State → Type 0) → Enough bl links k around.turns i h t acts jumped returned → Homes e bl.ground bl.levels bl.frames (e.level ∷ bl.depths) os ds bl.serials block types links k returned) → OuterHome e.owner links os → Does bl links code around.turns (stmt_code e bl.taken (Y.Return line)) (M.statement around (Y.Return line))
-home_among bl links code around line few fits [] ds below homes home = absurd home
-home_among bl links code around line few fits (o ∷ os) ds below homes (inl h) =
-    outer_home_does bl links code around ds.0 below.0 line (λ i k h' t acts jumped returned more. (homes i k h' t acts jumped returned more).0 h.0 h.1.0 h.1.1) h.1.0 few fits
-home_among bl links code around line few fits (o ∷ os) ds below homes (inr h) =
-    home_among bl links code around line few fits os ds.1 below.1 (λ i k h' t acts jumped returned more. (homes i k h' t acts jumped returned more).1) h
+home_among : {e : Environment} {block : Names} {types : Types} (bl : Block e block types) (links : Links) (code : List Instr) (around : Around) (line : ℕ) → e.level ≤ 100 → line < 2 ^ 31 → (os : List OuterBlock) (ds : Enclosures e bl.ground bl.levels bl.frames.list (e.level ∷ bl.depths) os) → AllSeen e bl.ground bl.levels bl.frames.list (e.level ∷ bl.depths) os ds bl.serials block types → ((i k : ℕ) (h t : ℕ → ℕ) (acts : ℕ) (jumped : ℕ → Family → Services → ℕ → Label → State → Type 0) (returned : ℕ → Family → Services → Option BasicValue → State → Type 0) → Enough bl links k around.turns i h t acts jumped returned → Homes e bl.ground bl.levels bl.frames (e.level ∷ bl.depths) os ds links k returned) → OuterHome e.owner links os → Does bl links code around.turns (stmt_code e bl.taken (Y.Return line)) (M.statement around (Y.Return line))
+home_among bl links code around line few fits [] ds seen homes home = absurd home
+home_among bl links code around line few fits (o ∷ os) ds seen homes (inl h) =
+    outer_home_does bl links code around ds.0 seen.0 line (λ i k h' t acts jumped returned more. (homes i k h' t acts jumped returned more).0 h.0 h.1.0 h.1.1) h.1.0 few fits
+home_among bl links code around line few fits (o ∷ os) ds seen homes (inr h) =
+    home_among bl links code around line few fits os ds.1 seen.1 (λ i k h' t acts jumped returned more. (homes i k h' t acts jumped returned more).1) h
 
 pub home_does : {e : Environment} {block : Names} {types : Types} (bl : Block e block types) (links : Links) (code : List Instr) (around : Around) (line : ℕ) → e.level ≤ 100 → line < 2 ^ 31 → IsHome e links bl.outer → Does bl links code around.turns (stmt_code e bl.taken (Y.Return line)) (M.statement around (Y.Return line))
 home_does bl links code around line few fits (inl h) = own_end_does bl links code around line h.0 fits h.1.0 h.1.1
 home_does bl links code around line few fits (inr h) =
-    home_among bl links code around line few fits bl.outer bl.enclosing bl.beneath (λ i k h' t acts jumped returned more. more.homes) h
+    home_among bl links code around line few fits bl.outer bl.enclosing bl.seen (λ i k h' t acts jumped returned more. more.homes) h

@@ -38,14 +38,14 @@ use Rattle.pli_headline.proofs.CallMeant.{plain_procedure}
 use Rattle.pli_headline.proofs.CalledFrames.{Callee, called_block}
 use Rattle.pli_headline.proofs.CallRuns.{StandsAt, called_code_is, own_call_does}
 use Rattle.pli_headline.proofs.ProcedurePlaces.{called_once, inner_at}
-use Rattle.pli_headline.proofs.MainOutlets.{procedure_owner, HasMain, main_of, main_enclosing}
+use Rattle.pli_headline.proofs.MainOutlets.{procedure_owner, HasMain, main_of, main_enclosing, main_seen}
 use Rattle.pli_headline.proofs.ProvedStatements.{Calls, Signals, body_does, bare_bytes}
 use Rattle.pli_headline.proofs.UnitStanding.{Tells}
 use Rattle.pli_headline.proofs.InnerUnits.{Done, fewer_signals, signals_with}
 
 -- ---- the statements of a procedure that is called
 
-standing_called : {program : Y.Program} (block : ℕ) {block' : Names} {types : Types} {o : Owner} {number level : ℕ} {bl : Block (owned_by o (in_frame number level (main_environment program block))) block' types} {links : Links} {code : List Instr} (callee : Callee bl) (back : Base → ℕ) (h0 t0 : ℕ → ℕ) (head : Y.BlockHead) (next : head.level ≡ 1) (sized : frame_end parts program head.number head.level ≡ fixed_size 1 0) (main : ℕ) (mains : List Label) (has : HasMain main mains level number bl.labels bl.outer) → Standing bl links code → Standing (called_block bl callee back h0 t0 head next (main_of main mains) (main_enclosing bl callee back h0 t0 (procedure_owner head) head next main mains has)) links code
+standing_called : {program : Y.Program} (block : ℕ) {block' : Names} {types : Types} {o : Owner} {number level : ℕ} {bl : Block (owned_by o (in_frame number level (main_environment program block))) block' types} {links : Links} {code : List Instr} (callee : Callee bl) (back : Base → ℕ) (h0 t0 : ℕ → ℕ) (head : Y.BlockHead) (next : head.level ≡ 1) (sized : frame_end parts program head.number head.level ≡ fixed_size 1 0) (main : ℕ) (mains : List Label) (has : HasMain main mains level number bl.labels bl.outer) → Standing bl links code → Standing (called_block bl callee back h0 t0 head next (main_of main mains) (main_enclosing bl callee back h0 t0 (procedure_owner head) head next main mains has) (main_seen bl callee back h0 t0 (procedure_owner head) head next main mains has)) links code
 standing_called block callee back h0 t0 head next sized main mains has s =
     record {
       raises = s.raises;
@@ -72,11 +72,11 @@ labels_called head next named among =
 abbrev called_sized : {program : Y.Program} {block : ℕ} {all : List (ℕ × Label)} {called : List ℕ} {procedure : Y.Procedure} (q : IsInner program block all called procedure) {links : Links} → LabelsStand (main_environment program block) links all block true → frame_end parts program q.head.number q.head.level ≡ fixed_size 1 0
 called_sized q named = named.bare q.head.number q.head.level q.bare ∙ ap (λ l. fixed_size l 0) q.level
 
-called_does : {program : Y.Program} {block : ℕ} {all : List (ℕ × Label)} {called : List ℕ} {procedure : Y.Procedure} (q : IsInner program block all called procedure) (can : IsCallable program called q.head q.body) {links : Links} {code : List Instr} {o : Owner} {number level : ℕ} (bl : Block (owned_by o (in_frame number level (main_environment program block))) (main_names program block) (types_of (variables_of_block program block))) (callee : Callee bl) → callee.words ≡ max 0 (stmts_words q.body) → length bl.depths < most_activations → suc (length bl.depths) < most_activations → bl.stack.free + 4000 * (500 - length bl.depths) ≤ 14 * 2 ^ 20 → Standing bl links code → (named : LabelsStand (main_environment program block) links all block true) → ((b : BlockPlace) → IsAmong b (place_of_head q.head ∷ blocks_among q.body) → IsAmong b (blocks_of program.procedures)) → IsEndMarkedOnce links q.head.number → (bound : ℕ) → Calls (main_environment program block) (main_names program block) (types_of (variables_of_block program block)) all block bound links code called → Signals (main_environment program block) (main_names program block) (types_of (variables_of_block program block)) all block bound links code called → Tells (main_environment program block) (main_names program block) (types_of (variables_of_block program block)) all block called links code bl.base bl.frames.known → (has : HasMain block (main_labels program.procedures) level number bl.labels bl.outer) → (back : Base → ℕ) (h0 t0 : ℕ → ℕ) → Does (called_block bl callee back h0 t0 q.head q.level (main_of block (main_labels program.procedures)) (main_enclosing bl callee back h0 t0 (procedure_owner q.head) q.head q.level block (main_labels program.procedures) has)) links code (suc bound) (stmts_code (procedure_environment q.head (main_environment program block)) none_taken q.body) (M.list (inner_around program bound q.head.line) q.body)
+called_does : {program : Y.Program} {block : ℕ} {all : List (ℕ × Label)} {called : List ℕ} {procedure : Y.Procedure} (q : IsInner program block all called procedure) (can : IsCallable program called q.head q.body) {links : Links} {code : List Instr} {o : Owner} {number level : ℕ} (bl : Block (owned_by o (in_frame number level (main_environment program block))) (main_names program block) (types_of (variables_of_block program block))) (callee : Callee bl) → callee.words ≡ max 0 (stmts_words q.body) → length bl.depths < most_activations → suc (length bl.depths) < most_activations → bl.stack.free + 4000 * (500 - length bl.depths) ≤ 14 * 2 ^ 20 → Standing bl links code → (named : LabelsStand (main_environment program block) links all block true) → ((b : BlockPlace) → IsAmong b (place_of_head q.head ∷ blocks_among q.body) → IsAmong b (blocks_of program.procedures)) → IsEndMarkedOnce links q.head.number → (bound : ℕ) → Calls (main_environment program block) (main_names program block) (types_of (variables_of_block program block)) all block bound links code called → Signals (main_environment program block) (main_names program block) (types_of (variables_of_block program block)) all block bound links code called → Tells (main_environment program block) (main_names program block) (types_of (variables_of_block program block)) all block called links code bl.base bl.frames.known → (has : HasMain block (main_labels program.procedures) level number bl.labels bl.outer) → (back : Base → ℕ) (h0 t0 : ℕ → ℕ) → Does (called_block bl callee back h0 t0 q.head q.level (main_of block (main_labels program.procedures)) (main_enclosing bl callee back h0 t0 (procedure_owner q.head) q.head q.level block (main_labels program.procedures) has) (main_seen bl callee back h0 t0 (procedure_owner q.head) q.head q.level block (main_labels program.procedures) has)) links code (suc bound) (stmts_code (procedure_environment q.head (main_environment program block)) none_taken q.body) (M.list (inner_around program bound q.head.line) q.body)
 called_does {program} {block} {all} q can {links} {code} bl callee words deep deeper space standing named known ended bound calls signals tells has back h0 t0 =
     let sized = called_sized q named in
     let mains = main_labels program.procedures in
-    let cb = called_block bl callee back h0 t0 q.head q.level (main_of block mains) (main_enclosing bl callee back h0 t0 (procedure_owner q.head) q.head q.level block mains has) in
+    let cb = called_block bl callee back h0 t0 q.head q.level (main_of block mains) (main_enclosing bl callee back h0 t0 (procedure_owner q.head) q.head q.level block mains has) (main_seen bl callee back h0 t0 (procedure_owner q.head) q.head q.level block mains has) in
     let next = q.level in
     let place = callee.place in
     let few = can.few in

@@ -30,7 +30,7 @@ use Rattle.pli_headline.proofs.TextsKept.{kept_length, text_kept_as}
 use Rattle.pli_serving.specs.ServiceState as S
 use Rattle.pli_headline.proofs.Entered.{atop}
 use Rattle.pli_headline.proofs.OuterBlocks.{risen_over}
-use Rattle.pli_headline.proofs.Statements.{Block, IsFilled, Enclosing, Enclosures, AllBeneath}
+use Rattle.pli_headline.proofs.Statements.{Block, IsFilled, Enclosing, Enclosures, AllSeen}
 use Rattle.pli_headline.proofs.TextScopes.{IsTextAt}
 use Rattle.pli_typing.specs.Signatures.{Bounds, element_count}
 use Rattle.pli_headline.proofs.ArrayScopes.{with_element_of, ArrayOn}
@@ -202,7 +202,7 @@ other_shown false x y frame other e = e
 
 -- the block in which it stands
 abbrev pub inner_own : {e : Environment} {block : Names} {types : Types} (bl : Block e block types) (inner : Inner bl) (t0 : ℕ → ℕ) (number level : ℕ) → level ≡ suc e.level → IsFilled bl → Enclosing (in_frame number level e) (record { level = e.level; number = e.block; labels = bl.labels }) (inner_ground bl inner t0) (inner_levels bl) (inner.at ∷ bl.frames.list) (level ∷ e.level ∷ bl.depths)
-inner_own {e} bl inner t0 number level next filled =
+inner_own {e} {block} {types} bl inner t0 number level next filled =
     let above = inner_above inner.at bl.stack.free inner.words inner.place in
     let over = bl.stack.above in
     record {
@@ -224,6 +224,10 @@ inner_own {e} bl inner t0 number level next filled =
       depths = bl.depths;
       lowest = λ same. bl.shallow (level_first e.level same);
       rises = ((omega (arith, above, over), inl next), (bl.leads, refl));
+      serials = bl.serials;
+      names = block;
+      types = types;
+      beneath = λ j kind at. (bl.lower j at, bl.owners j at);
     }
 
 -- those around that one
@@ -252,6 +256,10 @@ inner_outer {e} bl inner t0 number level next o c =
       depths = c.depths;
       lowest = c.lowest;
       rises = ((omega (arith, above, over, high), inl next), c.rises);
+      serials = c.serials;
+      names = c.names;
+      types = c.types;
+      beneath = c.beneath;
     }
 
 abbrev pub inner_outers : {e : Environment} {block : Names} {types : Types} (bl : Block e block types) (inner : Inner bl) (t0 : ℕ → ℕ) (number level : ℕ) → level ≡ suc e.level → (os : List OuterBlock) → Enclosures e bl.ground bl.levels bl.frames.list (e.level ∷ bl.depths) os → Enclosures (in_frame number level e) (inner_ground bl inner t0) (inner_levels bl) (inner.at ∷ bl.frames.list) (level ∷ e.level ∷ bl.depths) os
@@ -259,11 +267,11 @@ inner_outers bl inner t0 number level next [] cs = tt
 inner_outers bl inner t0 number level next (o ∷ os) cs =
     (inner_outer bl inner t0 number level next o cs.0, inner_outers bl inner t0 number level next os cs.1)
 
--- variables stand in the blocks around
-pub inner_beneath : {e : Environment} {block : Names} {types : Types} (bl : Block e block types) (inner : Inner bl) (t0 : ℕ → ℕ) (number level : ℕ) (next : level ≡ suc e.level) (os : List OuterBlock) (cs : Enclosures e bl.ground bl.levels bl.frames.list (e.level ∷ bl.depths) os) → AllBeneath e bl.ground bl.levels bl.frames.list (e.level ∷ bl.depths) os cs bl.serials block types → AllBeneath (in_frame number level e) (inner_ground bl inner t0) (inner_levels bl) (inner.at ∷ bl.frames.list) (level ∷ e.level ∷ bl.depths) os (inner_outers bl inner t0 number level next os cs) bl.serials block types
-inner_beneath bl inner t0 number level next [] cs below = tt
-inner_beneath bl inner t0 number level next (o ∷ os) cs below =
-    (below.0, inner_beneath bl inner t0 number level next os cs.1 below.1)
+-- what holds of its variables holds of theirs
+pub inner_seen : {e : Environment} {block : Names} {types : Types} (bl : Block e block types) (inner : Inner bl) (t0 : ℕ → ℕ) (number level : ℕ) (next : level ≡ suc e.level) (os : List OuterBlock) (cs : Enclosures e bl.ground bl.levels bl.frames.list (e.level ∷ bl.depths) os) → AllSeen e bl.ground bl.levels bl.frames.list (e.level ∷ bl.depths) os cs bl.serials block types → AllSeen (in_frame number level e) (inner_ground bl inner t0) (inner_levels bl) (inner.at ∷ bl.frames.list) (level ∷ e.level ∷ bl.depths) os (inner_outers bl inner t0 number level next os cs) bl.serials block types
+inner_seen bl inner t0 number level next [] cs seen = tt
+inner_seen bl inner t0 number level next (o ∷ os) cs seen =
+    (seen.0, inner_seen bl inner t0 number level next os cs.1 seen.1)
 
 -- a variable of a block around is known
 pub inner_reaches : {e : Environment} {block : Names} {types : Types} (bl : Block e block types) (inner : Inner bl) (t0 : ℕ → ℕ) (level : ℕ) → level ≡ suc e.level → (n : Values) (j : ℕ) (kind : Kind) → slice_get types j ≡ Some kind → Reaches (level_of block j == level) (level_of block j) (inner_ground bl inner t0 n) (bl.bases j)
@@ -375,5 +383,5 @@ inner_block {e} bl inner t0 number level next filled =
       arrays = λ j type b bs at. inner_array bl inner t0 number level (inner.at + fixed_size (suc e.level) 0) (omega arith) (bl.arrays j type b bs at);
       outer = record { level = e.level; number = e.block; labels = bl.labels } ∷ bl.outer;
       enclosing = (inner_own bl inner t0 number level next filled, inner_outers bl inner t0 number level next bl.outer bl.enclosing);
-      beneath = (λ j kind at. (bl.lower j at, bl.owners j at), inner_beneath bl inner t0 number level next bl.outer bl.enclosing bl.beneath);
+      seen = (λ frames xs levels s n all. all, inner_seen bl inner t0 number level next bl.outer bl.enclosing bl.seen);
     }

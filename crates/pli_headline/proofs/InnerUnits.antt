@@ -40,7 +40,7 @@ use Rattle.pli_headline.proofs.Signals.{signal_does}
 use Rattle.pli_headline.proofs.SystemUnits.{on_system_does, revert_does}
 use Rattle.pli_headline.proofs.Putting.{put_does}
 use Rattle.pli_headline.proofs.Getting.{get_does, get_skip_does}
-use Rattle.pli_headline.proofs.MainOutlets.{HasMain, main_of, main_enclosing}
+use Rattle.pli_headline.proofs.MainOutlets.{HasMain, main_of, main_enclosing, main_seen}
 use Rattle.pli_headline.proofs.UnitRuns.{Raisable, signal_area_does}
 use Rattle.pli_headline.proofs.UnitStanding.{program_around, words_of_unit, Tells}
 use Rattle.pli_headline.proofs.ProvedStatements.{standing_within, Calls, Signals, body_does, bare_bytes}
@@ -99,7 +99,7 @@ main_level : (block : ℕ) (all : List (ℕ × Label)) (blocks : List BlockPlace
 main_level block all blocks main lowest level label (inl jumps) = sym jumps.0 ∙ lowest
 main_level block all blocks main lowest level label (inr jumps) = absurd jumps
 
-standing_raised : {e : Environment} {block : Names} {types : Types} {bl : Block e block types} {links : Links} {code : List Instr} (callee : Callee bl) (kind : S.BlockKind) (back : Base → ℕ) (h0 t0 : ℕ → ℕ) (head : Y.BlockHead) (next : head.level ≡ 1) (sized : IsOwned (owner_of_unit head head.kind) → frame_end e.parts e.program head.number head.level ≡ fixed_size 1 0) (main : ℕ) (mains : List Label) (has : HasMain main mains e.level e.block bl.labels bl.outer) → Standing bl links code → Standing (called_block_as bl callee back h0 t0 (owner_of_unit head head.kind) kind head next (main_of main mains) (main_enclosing bl callee back h0 t0 (owner_of_unit head head.kind) head next main mains has)) links code
+standing_raised : {e : Environment} {block : Names} {types : Types} {bl : Block e block types} {links : Links} {code : List Instr} (callee : Callee bl) (kind : S.BlockKind) (back : Base → ℕ) (h0 t0 : ℕ → ℕ) (head : Y.BlockHead) (next : head.level ≡ 1) (sized : IsOwned (owner_of_unit head head.kind) → frame_end e.parts e.program head.number head.level ≡ fixed_size 1 0) (main : ℕ) (mains : List Label) (has : HasMain main mains e.level e.block bl.labels bl.outer) → Standing bl links code → Standing (called_block_as bl callee back h0 t0 (owner_of_unit head head.kind) kind head next (main_of main mains) (main_enclosing bl callee back h0 t0 (owner_of_unit head head.kind) head next main mains has) (main_seen bl callee back h0 t0 (owner_of_unit head head.kind) head next main mains has)) links code
 standing_raised callee kind back h0 t0 head next sized main mains has s =
     record {
       raises = s.raises;
@@ -120,17 +120,17 @@ bare_unit program head Y.UnitBlock is body what none = inr (is, none)
 bare_unit program head _ is body what none = absurd what
 
 -- its statements, where calls and signals in it do what they mean
-body_by : {e : Environment} {block : Names} {types : Types} (bl : Block e block types) {links : Links} {code : List Instr} (standing : Standing bl links code) {all : List (ℕ × Label)} {procedure : ℕ} {may : List ℕ} (m : ℕ) → Done e block types all procedure m links code may → Tells e block types all procedure may links code bl.base bl.frames.known → (has : HasMain procedure (main_labels e.program.procedures) e.level e.block bl.labels bl.outer) → suc (length bl.depths) < most_activations → bl.stack.free + 4000 * (500 - length bl.depths) ≤ 14 * 2 ^ 20 → (head : Y.BlockHead) (next : head.level ≡ 1) (sized : IsOwned (owner_of_unit head head.kind) → frame_end e.parts e.program head.number head.level ≡ fixed_size 1 0) (kind : Y.BlockKind) → head.kind ≡ kind → (body : Y.Stmts) → IsUnitBody kind body → AreProvedStatements block types body → AllJumpAround e.program head.number head.level all e.blocks (main_outer procedure e.program.procedures) (main_outer procedure e.program.procedures ∷ []) (labels_in body) body → AreBare e.program false body → AllCallAmong e.program may false true body → stmts_words body + all_inner_words body ≤ 800 → ((number : ℕ) (label : Label) → times number label all ≡ 1 → IsMarkedOnce links number label) → (head.kind ≡ Y.UnitBlock → LabelsStand (unit_environment head (program_around e)) links all procedure false) → ((b : BlockPlace) → IsAmong b (blocks_among body) → IsAmong b e.blocks) → (callee : Callee bl) → callee.words ≡ words_of_unit kind (stmts_words body) → (entered : S.BlockKind) (back : Base → ℕ) (h0 t0 : ℕ → ℕ) → Does (called_block_as bl callee back h0 t0 (owner_of_unit head head.kind) entered head next (main_of procedure (main_labels e.program.procedures)) (main_enclosing bl callee back h0 t0 (owner_of_unit head head.kind) head next procedure (main_labels e.program.procedures) has)) links code (suc m) (stmts_code (unit_environment head e) none_taken body) (M.list (inner_around e.program m head.line) body)
+body_by : {e : Environment} {block : Names} {types : Types} (bl : Block e block types) {links : Links} {code : List Instr} (standing : Standing bl links code) {all : List (ℕ × Label)} {procedure : ℕ} {may : List ℕ} (m : ℕ) → Done e block types all procedure m links code may → Tells e block types all procedure may links code bl.base bl.frames.known → (has : HasMain procedure (main_labels e.program.procedures) e.level e.block bl.labels bl.outer) → suc (length bl.depths) < most_activations → bl.stack.free + 4000 * (500 - length bl.depths) ≤ 14 * 2 ^ 20 → (head : Y.BlockHead) (next : head.level ≡ 1) (sized : IsOwned (owner_of_unit head head.kind) → frame_end e.parts e.program head.number head.level ≡ fixed_size 1 0) (kind : Y.BlockKind) → head.kind ≡ kind → (body : Y.Stmts) → IsUnitBody kind body → AreProvedStatements block types body → AllJumpAround e.program head.number head.level all e.blocks (main_outer procedure e.program.procedures) (main_outer procedure e.program.procedures ∷ []) (labels_in body) body → AreBare e.program false body → AllCallAmong e.program may false true body → stmts_words body + all_inner_words body ≤ 800 → ((number : ℕ) (label : Label) → times number label all ≡ 1 → IsMarkedOnce links number label) → (head.kind ≡ Y.UnitBlock → LabelsStand (unit_environment head (program_around e)) links all procedure false) → ((b : BlockPlace) → IsAmong b (blocks_among body) → IsAmong b e.blocks) → (callee : Callee bl) → callee.words ≡ words_of_unit kind (stmts_words body) → (entered : S.BlockKind) (back : Base → ℕ) (h0 t0 : ℕ → ℕ) → Does (called_block_as bl callee back h0 t0 (owner_of_unit head head.kind) entered head next (main_of procedure (main_labels e.program.procedures)) (main_enclosing bl callee back h0 t0 (owner_of_unit head head.kind) head next procedure (main_labels e.program.procedures) has) (main_seen bl callee back h0 t0 (owner_of_unit head head.kind) head next procedure (main_labels e.program.procedures) has)) links code (suc m) (stmts_code (unit_environment head e) none_taken body) (M.list (inner_around e.program m head.line) body)
 body_by {e} bl {links} {code} standing {all} {procedure} m can tells has deeper space head next sized Y.SimpleUnit kind (Y.StmtThen [] x (Y.EndOfList [])) what proved jumps bare calls few once labels blocks callee words entered back h0 t0 =
     let mains = main_labels e.program.procedures in
-    let cb = called_block_as bl callee back h0 t0 (owner_of_unit head head.kind) entered head next (main_of procedure mains) (main_enclosing bl callee back h0 t0 (owner_of_unit head head.kind) head next procedure mains has) in
+    let cb = called_block_as bl callee back h0 t0 (owner_of_unit head head.kind) entered head next (main_of procedure mains) (main_enclosing bl callee back h0 t0 (owner_of_unit head head.kind) head next procedure mains has) (main_seen bl callee back h0 t0 (owner_of_unit head head.kind) head next procedure mains has) in
     let first = le-max_left (stmt_words x) 0 in
     let place = callee.place in
     listed cb (inner_around e.program m head.line) (Y.StmtThen [] x (Y.EndOfList []))
     (simple_does (within [] cb) links code (standing_within [] (standing_raised callee entered back h0 t0 head next sized procedure mains has standing)) (inner_around e.program m head.line) refl can tells (inr (inl (refl, (refl, λ label among. among)))) deeper (omega (arith, place, words, few, space, deeper)) (omega (arith, words, few)) (inner_entering e.program m head.line) (omega arith) x what proved.0 (omega (arith, words, first)) calls.0 once (omega (arith, next)) jumps.0 (main_level head.number all e.blocks (main_of procedure mains) refl), tt)
 body_by {e} bl {links} {code} standing {all} {procedure} m can tells has deeper space head next sized Y.UnitBlock kind body what proved jumps bare calls few once labels blocks callee words entered back h0 t0 =
     let mains = main_labels e.program.procedures in
-    let cb = called_block_as bl callee back h0 t0 (owner_of_unit head head.kind) entered head next (main_of procedure mains) (main_enclosing bl callee back h0 t0 (owner_of_unit head head.kind) head next procedure mains has) in
+    let cb = called_block_as bl callee back h0 t0 (owner_of_unit head head.kind) entered head next (main_of procedure mains) (main_enclosing bl callee back h0 t0 (owner_of_unit head head.kind) head next procedure mains has) (main_seen bl callee back h0 t0 (owner_of_unit head head.kind) head next procedure mains has) in
     let place = callee.place in
     let most' = le-max_right 0 (stmts_words body) in
     let low = most 0 (stmts_words body) 800 (omega arith) (omega (arith, few)) in

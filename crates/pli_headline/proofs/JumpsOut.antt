@@ -41,7 +41,7 @@ use Rattle.pli_headline.proofs.Calls.{called, Calling, call_done}
 use Rattle.pli_headline.proofs.Raising.{small_is}
 use Rattle.pli_headline.proofs.Acts.{acted, act_to}
 use Rattle.pli_headline.proofs.Ifs.{free_far}
-use Rattle.pli_headline.proofs.Statements.{IsSized, lower_ground, Beneath, AllBeneath, Enclosing, Enclosures, Block, counted_all, IsMarkedOnce, OutletOf, Outlets, Enough, Does}
+use Rattle.pli_headline.proofs.Statements.{IsSized, lower_ground, Restricts, AllSeen, Enclosing, Enclosures, Block, counted_all, IsMarkedOnce, OutletOf, Outlets, Enough, Does}
 use Rattle.pli_headline.proofs.BeginDisplays.{frame_word, moved_reserved, without_two, outer_place}
 use Rattle.pli_headline.proofs.EndedBlocks.{all_ended}
 use Rattle.pli_headline.proofs.Returns.{unwound_services, unwind_answer}
@@ -98,13 +98,13 @@ ended_piece bl d {code = code} {i = i} {v = v} {h = h} n free c f a rest found l
     let last = Plain I.Ecall ∷ [] in
     let same = d.frame_is n in
     let whole = its.whole in
-    let below = d.above in
+    let seen = d.above in
     let ends = d.ends in
     let r1 = straight c f v v (λ b w. Known lower v h d.waits (λ b'. (17, 6) ∷ (11, 0) ∷ (10, frame) ∷ []) b w) (front_of rest_asked last l) (omega arith) (λ b. (at b).pc)
     (λ b.
     let p = (at b).holds in
     let z = zero_is p.body in (
-      frame_word b frame ((f b).machine.registers 8) 36 (omega (arith, below, ends)) (omega (arith, whole, same)) refl (omega arith) (frame_is p.body ∙ ap (λ u. b.at + u) same),
+      frame_word b frame ((f b).machine.registers 8) 36 (omega (arith, seen, ends)) (omega (arith, whole, same)) refl (omega arith) (frame_is p.body ∙ ap (λ u. b.at + u) same),
       record {
         body = record { services = p.body.services; registers = p.body.registers; bytes = p.body.bytes; memory = p.body.memory };
         regs = (small_is _ 6 z (lit< tt), (small_is _ 0 z (lit< tt), (d.own n d.waits b _ p.body.memory, tt)));
@@ -176,9 +176,9 @@ unwound_size level few = by_near (is_immediate (display level)) (near_display le
     by_near false near = absurd (cc near)
 
 -- the act leaves no credits to count, so the label may stand anywhere
-own_out_does : {e : Environment} {block : Names} {types : Types} (bl : Block e block types) (links : Links) (code : List Instr) (around : Around) {o : OuterBlock} (d : Enclosing e o bl.ground bl.levels bl.frames.list (e.level ∷ bl.depths)) (below : Beneath o.level (suc (length d.depths)) bl.serials block types) (label : Label) (line : ℕ) → ((i k : ℕ) (h t : ℕ → ℕ) (acts : ℕ) (jumped : ℕ → Family → Services → ℕ → Label → State → Type 0) (returned : ℕ → Family → Services → Option BasicValue → State → Type 0) → Enough bl links k around.turns i h t acts jumped returned → OutletOf bl.frames d bl.serials block types links k acts jumped label) → IsSized e.owner o.level → e.level ≤ 100 → line < 2 ^ 31 → Does bl links code around.turns (act_code line ++ out_code o (frame_end e.parts e.program o.number o.level) label) (M.statement around (Y.Goto o.level label line))
+own_out_does : {e : Environment} {block : Names} {types : Types} (bl : Block e block types) (links : Links) (code : List Instr) (around : Around) {o : OuterBlock} (d : Enclosing e o bl.ground bl.levels bl.frames.list (e.level ∷ bl.depths)) (seen : Restricts bl.serials block types d.serials d.names d.types) (label : Label) (line : ℕ) → ((i k : ℕ) (h t : ℕ → ℕ) (acts : ℕ) (jumped : ℕ → Family → Services → ℕ → Label → State → Type 0) (returned : ℕ → Family → Services → Option BasicValue → State → Type 0) → Enough bl links k around.turns i h t acts jumped returned → OutletOf bl.frames d links k acts jumped label) → IsSized e.owner o.level → e.level ≤ 100 → line < 2 ^ 31 → Does bl links code around.turns (act_code line ++ out_code o (frame_end e.parts e.program o.number o.level) label) (M.statement around (Y.Goto o.level label line))
 unfolding M.statement looked jumps ◌>>=◌ ◌>>◌
-own_out_does {e} {block} {types} bl links code around {o} d below label line outs owned few fits =
+own_out_does {e} {block} {types} bl links code around {o} d seen label line outs owned few fits =
     record {
       does = λ {i} {s} {v} {h} {t} {aims} closed old n f k l serving all at goal more.
           let a = act_code line in
@@ -206,7 +206,7 @@ own_out_does {e} {block} {types} bl links code around {o} d below label line out
           let frame = d.frame_is n in
           let free = d.free_is n in
           let s1 = with_world (counted s.world) s in
-          let left' = all_ended (suc d.count) d.frame o.level bl.frames bl.frames.list (e.level ∷ bl.depths) d.behind d.depths s1 (storage v) refl d.rises below serving.nested (counted_all (counted s.world) all) in
+          let left' = all_ended (suc d.count) d.frame o.level bl.frames bl.frames.list (e.level ∷ bl.depths) d.behind d.depths s1 (storage v) refl d.rises d.beneath serving.nested (seen bl.frames (storage v) (e.level ∷ bl.depths) s1 n (counted_all (counted s.world) all)) in
           let v2 = unwound_services (acted line v) left'.activation left'.rest in
           comes_on k (act counted k s) next'
           (act_to (before_closed k next' closed) i 0 f line old k fits (omega (arith, inside, total)) (front_of a c l) serving at
@@ -241,23 +241,23 @@ deep_code e o label deep around =
     ap (λ u. (unwound_to o.level 0 ++ plus stack_register frame_register (pos (frame_end e.parts e.program u o.level))) ++ JumpTo (LabelPlace u label) ∷ []) (sym around)
     ∙ ap (λ q. cond q [] (goto_outer e o.level) ++ JumpTo (LabelPlace (block_around e o.level) label) ∷ []) (sym deep)
 
-outer_does : {e : Environment} {block : Names} {types : Types} (bl : Block e block types) (links : Links) (code : List Instr) (around : Around) {o : OuterBlock} (d : Enclosing e o bl.ground bl.levels bl.frames.list (e.level ∷ bl.depths)) (below : Beneath o.level (suc (length d.depths)) bl.serials block types) (level : ℕ) (label : Label) (line : ℕ) → ((i k : ℕ) (h t : ℕ → ℕ) (acts : ℕ) (jumped : ℕ → Family → Services → ℕ → Label → State → Type 0) (returned : ℕ → Family → Services → Option BasicValue → State → Type 0) → Enough bl links k around.turns i h t acts jumped returned → OutletOf bl.frames d bl.serials block types links k acts jumped label) → o.level ≡ level → block_around e level ≡ o.number → IsSized e.owner level → e.level ≤ 100 → line < 2 ^ 31 → Does bl links code around.turns (stmt_code e bl.taken (Y.Goto level label line)) (M.statement around (Y.Goto level label line))
-outer_does {e} bl links code around {o} d below level label line outs same found owned few fits =
+outer_does : {e : Environment} {block : Names} {types : Types} (bl : Block e block types) (links : Links) (code : List Instr) (around : Around) {o : OuterBlock} (d : Enclosing e o bl.ground bl.levels bl.frames.list (e.level ∷ bl.depths)) (seen : Restricts bl.serials block types d.serials d.names d.types) (level : ℕ) (label : Label) (line : ℕ) → ((i k : ℕ) (h t : ℕ → ℕ) (acts : ℕ) (jumped : ℕ → Family → Services → ℕ → Label → State → Type 0) (returned : ℕ → Family → Services → Option BasicValue → State → Type 0) → Enough bl links k around.turns i h t acts jumped returned → OutletOf bl.frames d links k acts jumped label) → o.level ≡ level → block_around e level ≡ o.number → IsSized e.owner level → e.level ≤ 100 → line < 2 ^ 31 → Does bl links code around.turns (stmt_code e bl.taken (Y.Goto level label line)) (M.statement around (Y.Goto level label line))
+outer_does {e} bl links code around {o} d seen level label line outs same found owned few fits =
     let deeper = d.deeper in
     let apart : (o.level == e.level) ≡ false = grind (arith, nat_tests) in
     subst (λ n. Does bl links code around.turns (stmt_code e bl.taken (Y.Goto n label line)) (M.statement around (Y.Goto n label line))) same
     (subst (λ c. Does bl links code around.turns (act_code line ++ c) (M.statement around (Y.Goto o.level label line))) (deep_code e o label apart (ap (block_around e) same ∙ found))
-    (own_out_does bl links code around d below label line outs (subst (λ n. IsSized e.owner n) (sym same) owned) few fits))
+    (own_out_does bl links code around d seen label line outs (subst (λ n. IsSized e.owner n) (sym same) owned) few fits))
 
 -- ---- to any of the blocks around
 
-out_among : {e : Environment} {block : Names} {types : Types} (bl : Block e block types) (links : Links) (code : List Instr) (around : Around) (all : List (ℕ × Label)) (level : ℕ) (label : Label) (line : ℕ) → ((number : ℕ) → times number label all ≡ 1 → IsMarkedOnce links number label) → IsSized e.owner level → e.level ≤ 100 → line < 2 ^ 31 → (os : List OuterBlock) (ds : Enclosures e bl.ground bl.levels bl.frames.list (e.level ∷ bl.depths) os) → AllBeneath e bl.ground bl.levels bl.frames.list (e.level ∷ bl.depths) os ds bl.serials block types → ((i k : ℕ) (h t : ℕ → ℕ) (acts : ℕ) (jumped : ℕ → Family → Services → ℕ → Label → State → Type 0) (returned : ℕ → Family → Services → Option BasicValue → State → Type 0) → Enough bl links k around.turns i h t acts jumped returned → Outlets e bl.ground bl.levels bl.frames (e.level ∷ bl.depths) os ds bl.serials block types links k acts jumped) → IsOutward e.block level label all e.blocks os → Does bl links code around.turns (stmt_code e bl.taken (Y.Goto level label line)) (M.statement around (Y.Goto level label line))
-out_among bl links code around all level label line once owned few fits [] ds below outs outward = absurd outward
-out_among bl links code around all level label line once owned few fits (o ∷ os) ds below outs (inl h) =
-    outer_does bl links code around ds.0 below.0 level label line (λ i k h' t acts jumped returned more. (outs i k h' t acts jumped returned more).0 label h.1.0 (once o.number h.1.1.0)) h.0 h.1.1.1 owned few fits
-out_among bl links code around all level label line once owned few fits (o ∷ os) ds below outs (inr h) =
-    out_among bl links code around all level label line once owned few fits os ds.1 below.1 (λ i k h' t acts jumped returned more. (outs i k h' t acts jumped returned more).1) h
+out_among : {e : Environment} {block : Names} {types : Types} (bl : Block e block types) (links : Links) (code : List Instr) (around : Around) (all : List (ℕ × Label)) (level : ℕ) (label : Label) (line : ℕ) → ((number : ℕ) → times number label all ≡ 1 → IsMarkedOnce links number label) → IsSized e.owner level → e.level ≤ 100 → line < 2 ^ 31 → (os : List OuterBlock) (ds : Enclosures e bl.ground bl.levels bl.frames.list (e.level ∷ bl.depths) os) → AllSeen e bl.ground bl.levels bl.frames.list (e.level ∷ bl.depths) os ds bl.serials block types → ((i k : ℕ) (h t : ℕ → ℕ) (acts : ℕ) (jumped : ℕ → Family → Services → ℕ → Label → State → Type 0) (returned : ℕ → Family → Services → Option BasicValue → State → Type 0) → Enough bl links k around.turns i h t acts jumped returned → Outlets e bl.ground bl.levels bl.frames (e.level ∷ bl.depths) os ds links k acts jumped) → IsOutward e.block level label all e.blocks os → Does bl links code around.turns (stmt_code e bl.taken (Y.Goto level label line)) (M.statement around (Y.Goto level label line))
+out_among bl links code around all level label line once owned few fits [] ds seen outs outward = absurd outward
+out_among bl links code around all level label line once owned few fits (o ∷ os) ds seen outs (inl h) =
+    outer_does bl links code around ds.0 seen.0 level label line (λ i k h' t acts jumped returned more. (outs i k h' t acts jumped returned more).0 label h.1.0 (once o.number h.1.1.0)) h.0 h.1.1.1 owned few fits
+out_among bl links code around all level label line once owned few fits (o ∷ os) ds seen outs (inr h) =
+    out_among bl links code around all level label line once owned few fits os ds.1 seen.1 (λ i k h' t acts jumped returned more. (outs i k h' t acts jumped returned more).1) h
 
 pub out_does : {e : Environment} {block : Names} {types : Types} (bl : Block e block types) (links : Links) (code : List Instr) (around : Around) (all : List (ℕ × Label)) (level : ℕ) (label : Label) (line : ℕ) → ((number : ℕ) → times number label all ≡ 1 → IsMarkedOnce links number label) → IsSized e.owner level → e.level ≤ 100 → line < 2 ^ 31 → IsOutward e.block level label all e.blocks bl.outer → Does bl links code around.turns (stmt_code e bl.taken (Y.Goto level label line)) (M.statement around (Y.Goto level label line))
 out_does bl links code around all level label line once owned few fits outward =
-    out_among bl links code around all level label line once owned few fits bl.outer bl.enclosing bl.beneath (λ i k h t acts jumped returned more. more.outs) outward
+    out_among bl links code around all level label line once owned few fits bl.outer bl.enclosing bl.seen (λ i k h t acts jumped returned more. more.outs) outward

@@ -89,8 +89,9 @@ pub mod TextAssignments
 pub mod Since
 pub mod MainFlow
 pub mod Statements
-pub mod OneMore
+pub mod MoreNames
 pub mod MoreStates
+pub mod OneMore
 pub mod MoreServed
 pub mod Declares
 pub mod MainGround

@@ -191,5 +191,5 @@ main_block f first e block types known named outer outermost count declared plac
       arrays = main_arrays f first e block types inside declared placed texts;
       outer = [];
       enclosing = tt;
-      beneath = tt;
+      seen = tt;
     }

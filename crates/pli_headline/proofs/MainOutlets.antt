@@ -25,7 +25,7 @@ use Rattle.pli_headline.proofs.Temporaries.{nothing}
 use Rattle.pli_headline.proofs.Owing.{owing, jumped_owing}
 use Rattle.pli_headline.proofs.Entered.{Frames, atop, frames_left}
 use Rattle.pli_headline.proofs.OuterBlocks.{Rises, risen_over}
-use Rattle.pli_headline.proofs.Statements.{Enclosing, Enclosures, Block, AllHold, listed_of, IsMarkedOnce, ended_times, OutletOf, Outlets, Enough}
+use Rattle.pli_headline.proofs.Statements.{Restricts, AllSeen, Enclosing, Enclosures, Block, AllHold, listed_of, IsMarkedOnce, ended_times, OutletOf, Outlets, Enough}
 use Rattle.pli_headline.proofs.InnerFrames.{level_first, inner_above}
 use Rattle.pli_headline.proofs.CalledFrames.{Callee, called_ground}
 use Rattle.pli_headline.proofs.Begins.{ended_jump}
@@ -71,7 +71,7 @@ pub level_later : (level outer : ℕ) → outer < level → (0 == level) ≡ fal
 level_later level outer below = grind (arith, nat_tests)
 
 abbrev pub own_main : {e : Environment} {block : Names} {types : Types} (bl : Block e block types) (callee : Callee bl) (back : Base → ℕ) (h0 t0 : ℕ → ℕ) (owner : Owner) (head : Y.BlockHead) → head.level ≡ 1 → (place : ℕ) (mains : List Label) → (e.level ≡ 0) → (e.block ≡ place) → Enclosing (owned_by owner (in_frame head.number head.level e)) (main_of place mains) (called_ground bl callee back h0 t0) (λ j. bl.base) (callee.at ∷ bl.frames.list) (head.level ∷ e.level ∷ bl.depths)
-own_main {e} bl callee back h0 t0 owner head next place mains lowest same =
+own_main {e} {block} {types} bl callee back h0 t0 owner head next place mains lowest same =
     let above = inner_above callee.at bl.stack.free callee.words callee.place in
     let over = bl.stack.above in
     record {
@@ -93,6 +93,10 @@ own_main {e} bl callee back h0 t0 owner head next place mains lowest same =
       behind = bl.lead;
       depths = bl.depths;
       rises = ((omega (arith, above, over), inr (refl, bl.shallow (level_first e.level lowest))), (bl.leads, ap (λ l. l ∷ bl.depths) lowest));
+      serials = bl.serials;
+      names = block;
+      types = types;
+      beneath = λ j kind at. (let outer = callee.outer j kind at in omega (arith, outer), bl.owners j at);
     }
 
 abbrev pub outer_main : {e : Environment} {block : Names} {types : Types} (bl : Block e block types) (callee : Callee bl) (back : Base → ℕ) (h0 t0 : ℕ → ℕ) (owner : Owner) (head : Y.BlockHead) → head.level ≡ 1 → (place : ℕ) (mains : List Label) (o : OuterBlock) (c : Enclosing e o bl.ground bl.levels bl.frames.list (e.level ∷ bl.depths)) → o.level ≡ 0 → o.number ≡ place → Enclosing (owned_by owner (in_frame head.number head.level e)) (main_of place mains) (called_ground bl callee back h0 t0) (λ j. bl.base) (callee.at ∷ bl.frames.list) (head.level ∷ e.level ∷ bl.depths)
@@ -119,6 +123,10 @@ outer_main {e} bl callee back h0 t0 owner head next place mains o c lowest same 
       behind = c.behind;
       depths = c.depths;
       rises = ((omega (arith, above, over, high), inr (refl, c.lowest lowest)), subst (λ n. Rises (suc c.count) c.frame n bl.frames.list (e.level ∷ bl.depths) c.behind c.depths) lowest c.rises);
+      serials = c.serials;
+      names = c.names;
+      types = c.types;
+      beneath = λ j kind at. (let low = (c.beneath j kind at).0 in omega (arith, low, lowest), (c.beneath j kind at).1);
     }
 
 abbrev pub main_among : {e : Environment} {block : Names} {types : Types} (bl : Block e block types) (callee : Callee bl) (back : Base → ℕ) (h0 t0 : ℕ → ℕ) (owner : Owner) (head : Y.BlockHead) → head.level ≡ 1 → (place : ℕ) (mains : List Label) (os : List OuterBlock) → Enclosures e bl.ground bl.levels bl.frames.list (e.level ∷ bl.depths) os → MainAround place mains os → Enclosing (owned_by owner (in_frame head.number head.level e)) (main_of place mains) (called_ground bl callee back h0 t0) (λ j. bl.base) (callee.at ∷ bl.frames.list) (head.level ∷ e.level ∷ bl.depths)
@@ -134,9 +142,21 @@ main_enclosing bl callee back h0 t0 owner head next place mains (inl h) =
 main_enclosing bl callee back h0 t0 owner head next place mains (inr h) =
     main_among bl callee back h0 t0 owner head next place mains bl.outer bl.enclosing h
 
+-- what holds of a block's variables holds of the main procedure's
+abbrev pub among_seen : {e : Environment} {block : Names} {types : Types} (bl : Block e block types) (callee : Callee bl) (back : Base → ℕ) (h0 t0 : ℕ → ℕ) (owner : Owner) (head : Y.BlockHead) (next : head.level ≡ 1) (place : ℕ) (mains : List Label) (os : List OuterBlock) (cs : Enclosures e bl.ground bl.levels bl.frames.list (e.level ∷ bl.depths) os) (has : MainAround place mains os) → AllSeen e bl.ground bl.levels bl.frames.list (e.level ∷ bl.depths) os cs bl.serials block types → Restricts bl.serials block types (main_among bl callee back h0 t0 owner head next place mains os cs has).serials (main_among bl callee back h0 t0 owner head next place mains os cs has).names (main_among bl callee back h0 t0 owner head next place mains os cs has).types
+among_seen bl callee back h0 t0 owner head next place mains [] cs has seen = absurd has
+among_seen bl callee back h0 t0 owner head next place mains (o ∷ os) cs (inl h) seen = seen.0
+among_seen bl callee back h0 t0 owner head next place mains (o ∷ os) cs (inr h) seen =
+    among_seen bl callee back h0 t0 owner head next place mains os cs.1 h seen.1
+
+abbrev pub main_seen : {e : Environment} {block : Names} {types : Types} (bl : Block e block types) (callee : Callee bl) (back : Base → ℕ) (h0 t0 : ℕ → ℕ) (owner : Owner) (head : Y.BlockHead) (next : head.level ≡ 1) (place : ℕ) (mains : List Label) (has : HasMain place mains e.level e.block bl.labels bl.outer) → Restricts bl.serials block types (main_enclosing bl callee back h0 t0 owner head next place mains has).serials (main_enclosing bl callee back h0 t0 owner head next place mains has).names (main_enclosing bl callee back h0 t0 owner head next place mains has).types
+main_seen bl callee back h0 t0 owner head next place mains (inl h) = λ frames xs levels s n all. all
+main_seen bl callee back h0 t0 owner head next place mains (inr h) =
+    among_seen bl callee back h0 t0 owner head next place mains bl.outer bl.enclosing h bl.seen
+
 -- ---- its labels
 
-own_main_outlet : {e : Environment} {block : Names} {types : Types} (bl : Block e block types) (callee : Callee bl) (back : Base → ℕ) (h0 : ℕ → ℕ) (owner : Owner) (kind : S.BlockKind) (head : Y.BlockHead) (next : head.level ≡ 1) (place : ℕ) (mains : List Label) (lowest : e.level ≡ 0) (same : e.block ≡ place) {links : Links} {k turns i : ℕ} {h : ℕ → ℕ} (t : ℕ → ℕ) {acts acts' : ℕ} {jumped : ℕ → Family → Services → ℕ → Label → State → Type 0} {returned : ℕ → Family → Services → Option BasicValue → State → Type 0} → Enough bl links k turns i h t acts jumped returned → (label : Label) → is_among label bl.labels ≡ true → IsMarkedOnce links place label → acts ≤ acts' → OutletOf (atop callee.at kind bl.frames) (own_main bl callee back h0 t owner head next place mains lowest same) bl.serials block types links k acts' (ended_jump jumped) label
+own_main_outlet : {e : Environment} {block : Names} {types : Types} (bl : Block e block types) (callee : Callee bl) (back : Base → ℕ) (h0 : ℕ → ℕ) (owner : Owner) (kind : S.BlockKind) (head : Y.BlockHead) (next : head.level ≡ 1) (place : ℕ) (mains : List Label) (lowest : e.level ≡ 0) (same : e.block ≡ place) {links : Links} {k turns i : ℕ} {h : ℕ → ℕ} (t : ℕ → ℕ) {acts acts' : ℕ} {jumped : ℕ → Family → Services → ℕ → Label → State → Type 0} {returned : ℕ → Family → Services → Option BasicValue → State → Type 0} → Enough bl links k turns i h t acts jumped returned → (label : Label) → is_among label bl.labels ≡ true → IsMarkedOnce links place label → acts ≤ acts' → OutletOf (atop callee.at kind bl.frames) (own_main bl callee back h0 t owner head next place mains lowest same) links k acts' (ended_jump jumped) label
 own_main_outlet {e} {block} {types} bl callee back h0 owner kind head next place mains lowest same {links = links} {k = k} {h = h} t ready label among once less =
     let o = ready.jumps label among (subst (λ u. IsMarkedOnce links u label) (sym same) once) in
     record {
@@ -153,7 +173,7 @@ own_main_outlet {e} {block} {types} bl callee back h0 owner kind head next place
           (omega (arith, less, acted')) at';
     }
 
-outer_main_outlet : {e : Environment} {block : Names} {types : Types} (bl : Block e block types) (callee : Callee bl) (back : Base → ℕ) (h0 t : ℕ → ℕ) (owner : Owner) (kind : S.BlockKind) (head : Y.BlockHead) (next : head.level ≡ 1) (place : ℕ) (mains : List Label) (links : Links) (k acts acts' : ℕ) (jumped : ℕ → Family → Services → ℕ → Label → State → Type 0) (label : Label) → acts ≤ acts' → IsMarkedOnce links place label → is_among label mains ≡ true → (os : List OuterBlock) (cs : Enclosures e bl.ground bl.levels bl.frames.list (e.level ∷ bl.depths) os) (has : MainAround place mains os) → Outlets e bl.ground bl.levels bl.frames (e.level ∷ bl.depths) os cs bl.serials block types links k acts jumped → OutletOf (atop callee.at kind bl.frames) (main_among bl callee back h0 t owner head next place mains os cs has) bl.serials block types links k acts' (ended_jump jumped) label
+outer_main_outlet : {e : Environment} {block : Names} {types : Types} (bl : Block e block types) (callee : Callee bl) (back : Base → ℕ) (h0 t : ℕ → ℕ) (owner : Owner) (kind : S.BlockKind) (head : Y.BlockHead) (next : head.level ≡ 1) (place : ℕ) (mains : List Label) (links : Links) (k acts acts' : ℕ) (jumped : ℕ → Family → Services → ℕ → Label → State → Type 0) (label : Label) → acts ≤ acts' → IsMarkedOnce links place label → is_among label mains ≡ true → (os : List OuterBlock) (cs : Enclosures e bl.ground bl.levels bl.frames.list (e.level ∷ bl.depths) os) (has : MainAround place mains os) → Outlets e bl.ground bl.levels bl.frames (e.level ∷ bl.depths) os cs links k acts jumped → OutletOf (atop callee.at kind bl.frames) (main_among bl callee back h0 t owner head next place mains os cs has) links k acts' (ended_jump jumped) label
 outer_main_outlet bl callee back h0 t owner kind head next place mains links k acts acts' jumped label less once among [] cs has outs = absurd has
 outer_main_outlet {e} {block} {types} bl callee back h0 t owner kind head next place mains links k acts acts' jumped label less once among (o ∷ os) cs (inl h) outs =
     let c = cs.0 in
@@ -165,20 +185,20 @@ outer_main_outlet {e} {block} {types} bl callee back h0 t owner kind head next p
       later = p.later;
       lands = λ s v line n h' f serving all acted' at'.
           p.lands (with_world s.world (newest_ended s)) v line n h' f serving
-          (subst (λ l. AllHold (frames_left (suc c.count) c.frame c.behind bl.frames) bl.serials (storage v) (l ∷ c.depths) (ended_times (suc c.count) (with_world s.world (newest_ended s))) block types n) (sym h.0) all)
+          (subst (λ l. AllHold (frames_left (suc c.count) c.frame c.behind bl.frames) c.serials (storage v) (l ∷ c.depths) (ended_times (suc c.count) (with_world s.world (newest_ended s))) c.names c.types n) (sym h.0) all)
           (omega (arith, less, acted')) at';
     }
 outer_main_outlet bl callee back h0 t owner kind head next place mains links k acts acts' jumped label less once among (o ∷ os) cs (inr h) outs =
     outer_main_outlet bl callee back h0 t owner kind head next place mains links k acts acts' jumped label less once among os cs.1 h outs.1
 
-pub main_outlet : {e : Environment} {block : Names} {types : Types} (bl : Block e block types) (callee : Callee bl) (back : Base → ℕ) (h0 : ℕ → ℕ) (owner : Owner) (kind : S.BlockKind) (head : Y.BlockHead) (next : head.level ≡ 1) (place : ℕ) (mains : List Label) (has : HasMain place mains e.level e.block bl.labels bl.outer) (links : Links) (k turns i : ℕ) (h t : ℕ → ℕ) (acts acts' : ℕ) (jumped : ℕ → Family → Services → ℕ → Label → State → Type 0) (returned : ℕ → Family → Services → Option BasicValue → State → Type 0) → Enough bl links k turns i h t acts jumped returned → (label : Label) → is_among label mains ≡ true → IsMarkedOnce links place label → acts ≤ acts' → OutletOf (atop callee.at kind bl.frames) (main_enclosing bl callee back h0 t owner head next place mains has) bl.serials block types links k acts' (ended_jump jumped) label
+pub main_outlet : {e : Environment} {block : Names} {types : Types} (bl : Block e block types) (callee : Callee bl) (back : Base → ℕ) (h0 : ℕ → ℕ) (owner : Owner) (kind : S.BlockKind) (head : Y.BlockHead) (next : head.level ≡ 1) (place : ℕ) (mains : List Label) (has : HasMain place mains e.level e.block bl.labels bl.outer) (links : Links) (k turns i : ℕ) (h t : ℕ → ℕ) (acts acts' : ℕ) (jumped : ℕ → Family → Services → ℕ → Label → State → Type 0) (returned : ℕ → Family → Services → Option BasicValue → State → Type 0) → Enough bl links k turns i h t acts jumped returned → (label : Label) → is_among label mains ≡ true → IsMarkedOnce links place label → acts ≤ acts' → OutletOf (atop callee.at kind bl.frames) (main_enclosing bl callee back h0 t owner head next place mains has) links k acts' (ended_jump jumped) label
 main_outlet bl callee back h0 owner kind head next place mains (inl m) links k turns i h t acts acts' jumped returned ready label among once less =
     own_main_outlet bl callee back h0 owner kind head next place mains m.0 m.1.0 t ready label (m.1.1 label among) once less
 main_outlet bl callee back h0 owner kind head next place mains (inr m) links k turns i h t acts acts' jumped returned ready label among once less =
     outer_main_outlet bl callee back h0 t owner kind head next place mains links k acts acts' jumped label less once among bl.outer bl.enclosing m ready.outs
 
 -- where it comes to pays back what the call or the raise owes
-pub owed_outlet : {code : List Instr} {aims : Aims (Unit {0})} (closed : Closed code aims) {e : Environment} {o : OuterBlock} {ground : Values → Ground} {shows : ℕ → ℕ} (frames : Frames) {levels : List ℕ} (c : Enclosing e o ground shows frames.list levels) {serials : Serials} {block : Names} {types : Types} {links : Links} {k acts : ℕ} (label : Label) → OutletOf frames c serials block types links k acts (ended_jump aims.jumped) label → OutletOf frames c serials block types links k acts (ended_jump (owing code (length code) aims).jumped) label
+pub owed_outlet : {code : List Instr} {aims : Aims (Unit {0})} (closed : Closed code aims) {e : Environment} {o : OuterBlock} {ground : Values → Ground} {shows : ℕ → ℕ} (frames : Frames) {levels : List ℕ} (c : Enclosing e o ground shows frames.list levels) {links : Links} {k acts : ℕ} (label : Label) → OutletOf frames c links k acts (ended_jump aims.jumped) label → OutletOf frames c links k acts (ended_jump (owing code (length code) aims).jumped) label
 owed_outlet {code} {aims} closed frames c label p =
     record {
       at = p.at;

@@ -30,7 +30,7 @@ use Rattle.pli_headline.proofs.TextStates.{KeepsText}
 use Rattle.pli_headline.proofs.States.{Holds}
 use Rattle.pli_headline.proofs.Storages.{Storage, Serials, Stored, owner_in}
 use Rattle.pli_headline.proofs.DeclaredNames.{by_element, by_last, kind_around, chosen_before, chosen_here}
-use Rattle.pli_headline.proofs.OneMore.{more_names, more_serials, spot_of, no_text}
+use Rattle.pli_headline.proofs.MoreNames.{more_names, more_serials, spot_of, no_text}
 use Rattle.pli_headline.proofs.Statements.{AllHold, SameValues}
 use Rattle.pli_headline.proofs.Entered.{Frames, UnitsKnown}
 

@@ -14,7 +14,7 @@ use Rattle.pli_serving.specs.Bytes.{with_bytes}
 use Rattle.pli_serving.specs.Stored.{kept_bytes}
 use Rattle.pli_coding.specs.Environments.{Environment}
 use Rattle.pli_coding.specs.Frames.{last_place, automatic_place}
-use Rattle.pli_headline.specs.ProvedSoFar.{Names, Spot, Kind, Types, alone, text_leaf, IsElementType, names_with, plain_variable}
+use Rattle.pli_headline.specs.ProvedSoFar.{OuterBlock, Names, Spot, Kind, Types, alone, text_leaf, IsElementType, names_with, plain_variable}
 use Rattle.pli_headline.proofs.Engine.{Base, most_code}
 use Rattle.pli_headline.proofs.Numbers.{above_sum, above_small, word_small}
 use Rattle.pli_headline.proofs.Scalars.{Values, Fits, fits_wide, load_kind, store_kind, place_below}
@@ -32,7 +32,9 @@ use Rattle.pli_headline.proofs.TextsKept.{text_kept_as, kept_length}
 use Rattle.pli_headline.proofs.TextScopes.{IsTextAt}
 use Rattle.pli_headline.proofs.ArrayScopes.{IsArrayAt, ArrayOn, with_element_of}
 use Rattle.pli_headline.proofs.MainGround.{width_few}
-use Rattle.pli_headline.proofs.Statements.{Block, SameValues}
+use Rattle.pli_headline.proofs.Statements.{AllSeen, Enclosing, Enclosures, Block, SameValues}
+use Rattle.pli_headline.proofs.MoreNames.{spot_of, more_names, more_serials, no_text}
+use Rattle.pli_headline.proofs.MoreStates.{fewer_all}
 
 -- ---- places
 
@@ -48,9 +50,6 @@ other_kept false x y e = refl
 
 -- ---- the variable
 
-abbrev pub spot_of : Environment → (index : ℕ) → Spot
-spot_of e index = record { number = e.block; level = e.level; index = index }
-
 -- a variable of a block of its own level, behind so many others
 pub record More {e : Environment} {block : Names} {types : Types} (ib : Block e block types) (index : ℕ) (k : Kind) : Type 0 where
   pub element : IsElementType k.type
@@ -61,15 +60,8 @@ pub record More {e : Environment} {block : Names} {types : Types} (ib : Block e 
   pub room : ib.stack.free + 36 ≤ 14 * 2 ^ 20
   pub near : automatic_place e.parts e.program e.block e.level index + 32 ≤ last_place
 
-abbrev pub more_names : (e : Environment) (block : Names) (types : Types) → (index : ℕ) → Names
-more_names e block types index = names_with block (length types) (spot_of e index)
-
 abbrev pub more_bases : {e : Environment} {block : Names} {types : Types} → Block e block types → ℕ → ℕ
 more_bases {types = types} ib j = cond (nat_lt j (length types)) (ib.bases j) ib.stack.frame
-
-abbrev pub more_serials : Serials → (count serial owner : ℕ) → Serials
-more_serials o count serial owner =
-    record { of = λ j. cond (nat_lt j count) (o.of j) serial; owner = λ j. cond (nat_lt j count) (o.owner j) owner }
 
 abbrev pub more_ground : {e : Environment} {block : Names} {types : Types} (ib : Block e block types) (k : Kind) → Values → Ground
 more_ground {types = types} ib k n =
@@ -238,10 +230,6 @@ more_under {e} {block} {types} ib {index} {k} o j type at =
 
 -- ---- texts and arrays are those around
 
-pub no_text : (varying : Bool) (most : ℕ) → IsElementType (text_leaf varying most) → ⊥
-no_text true most is = is
-no_text false most is = is
-
 pub text_place : {e : Environment} {block : Names} {types : Types} (ib : Block e block types) {index : ℕ} {k : Kind} (o : More ib index k) (P : ℕ → Type 0) (j : ℕ) (varying : Bool) (most : ℕ) → ((i : ℕ) → i < length types → IsTextAt types i varying most → P i) → IsTextAt (types ++ (k ∷ [])) j varying most → P j
 text_place {types = types} ib {k = k} o P j varying most around at =
     by_last types k (λ i kind. kind ≡ alone (text_leaf varying most) → P i) (λ i kind below at' e'. around i below (at' ∙ ap (λ q. Some q) e'))
@@ -311,6 +299,45 @@ more_temporaries {types = types} ib k n =
       );
       found = λ t b m j below known o. (ib.temps n).found t b m j below known o.0;
     }
+
+-- the blocks around stay around it
+abbrev pub more_enclosing : {e : Environment} {block : Names} {types : Types} (ib : Block e block types) (k : Kind) (o : OuterBlock) → Enclosing e o ib.ground ib.levels ib.frames.list (e.level ∷ ib.depths) → Enclosing e o (more_ground ib k) ib.levels ib.frames.list (e.level ∷ ib.depths)
+more_enclosing ib k o c =
+    record {
+      its = c.its;
+      waits = c.waits;
+      frame = c.frame;
+      free = c.free;
+      frame_is = c.frame_is;
+      free_is = c.free_is;
+      above = c.above;
+      ends = c.ends;
+      sized = c.sized;
+      kept = λ n t b m held. c.kept n t b m held.0;
+      own = c.own;
+      deeper = c.deeper;
+      shown = c.shown;
+      count = c.count;
+      behind = c.behind;
+      depths = c.depths;
+      lowest = c.lowest;
+      rises = c.rises;
+      serials = c.serials;
+      names = c.names;
+      types = c.types;
+      beneath = c.beneath;
+    }
+
+abbrev pub more_enclosures : {e : Environment} {block : Names} {types : Types} (ib : Block e block types) (k : Kind) (os : List OuterBlock) → Enclosures e ib.ground ib.levels ib.frames.list (e.level ∷ ib.depths) os → Enclosures e (more_ground ib k) ib.levels ib.frames.list (e.level ∷ ib.depths) os
+more_enclosures ib k [] cs = tt
+more_enclosures ib k (o ∷ os) cs = (more_enclosing ib k o cs.0, more_enclosures ib k os cs.1)
+
+abbrev pub more_seen : {e : Environment} {block : Names} {types : Types} (ib : Block e block types) (k : Kind) (index serial : ℕ) (os : List OuterBlock) (cs : Enclosures e ib.ground ib.levels ib.frames.list (e.level ∷ ib.depths) os) → AllSeen e ib.ground ib.levels ib.frames.list (e.level ∷ ib.depths) os cs ib.serials block types → AllSeen e (more_ground ib k) ib.levels ib.frames.list (e.level ∷ ib.depths) os (more_enclosures ib k os cs) (more_serials ib.serials (length types) serial (suc (length ib.depths))) (more_names e block types index) (types ++ (k ∷ []))
+more_seen ib k index serial [] cs seen = tt
+more_seen {e} ib k index serial (o ∷ os) cs seen = (
+  λ frames xs levels s n all. seen.0 frames xs levels s n (fewer_all e index k serial (suc (length ib.depths)) all),
+  more_seen ib k index serial os cs.1 seen.1,
+)
 
 abbrev pub more_block : {e : Environment} {block : Names} {types : Types} (ib : Block e block types) {index : ℕ} {k : Kind} (o : More ib index k) (serial : ℕ) → Block e (more_names e block types index) (types ++ (k ∷ []))
 more_block {e} {block} {types} ib {index} {k} o serial =
@@ -421,7 +448,7 @@ more_block {e} {block} {types} ib {index} {k} o serial =
         writes = λ n j varying most text at t b m len held. text_place ib o (λ i. (more_ground ib k (with_text_at n i (text_kept_as varying most text))).memory t b (with_bytes (kept_bytes (text_kind_of varying most) (BasicText text)) (more_bases ib i + data_place e names i) m)) j varying most (λ i below at'. text_writes ib index k n i varying most text below at' t b m len held) at;
       };
       arrays = λ j type b bs at. array_place ib o j type b bs at;
-      outer = [];
-      enclosing = tt;
-      beneath = tt;
+      outer = ib.outer;
+      enclosing = more_enclosures ib k ib.outer ib.enclosing;
+      seen = more_seen ib k index serial ib.outer ib.enclosing ib.seen;
     }

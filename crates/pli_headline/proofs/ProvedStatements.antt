@@ -18,7 +18,7 @@ use Rattle.pli_coding.specs.Statements.{owner_of_unit, unit_environment, number_
 use Rattle.pli_coding.specs.Temporaries.{number_words, bit_words, reference_words, text_words}
 use Rattle.pli_coding.specs.Images.{place_of_head, place_of_unit, blocks_in, blocks_among}
 use Rattle.pli_coding.specs.Linking.{Links}
-use Rattle.pli_headline.specs.ProvedSoFar.{Names, names_in, types_in, if_bare, is_bare, AreDeclaring, DeclareIf, bytes_in, inner_bytes, Types, OuterBlock, main_labels, main_outer, IsProvedStatement, AreProvedStatements, JumpsAround, AllJumpAround, IsBare, AreBare, is_number, CallsAmong, AllCallAmong}
+use Rattle.pli_headline.specs.ProvedSoFar.{Names, names_in, types_in, is_bare, AreDeclaring, DeclareIf, bytes_in, inner_bytes, Types, OuterBlock, main_labels, main_outer, IsProvedStatement, AreProvedStatements, JumpsAround, AllJumpAround, IsBare, AreBare, is_number, CallsAmong, AllCallAmong}
 use Rattle.pli_meaning.specs.DeclaredShapes.{variables_of_block}
 use Rattle.pli_headline.proofs.Variables.{AllOutermost}
 use Rattle.pli_headline.proofs.Statements.{owner_level, IsOwned, known_in, Standing, Block, Does, EachDoes, null_does, IsEndMarkedOnce}
@@ -32,7 +32,7 @@ use Rattle.pli_headline.proofs.BeginMeant.{Entering, inner_around, inner_enterin
 use Rattle.pli_headline.proofs.Begins.{inner_of, begin_does}
 use Rattle.pli_headline.proofs.Declares.{made_block}
 use Rattle.pli_headline.proofs.DeclaredNames.{declare_if}
-use Rattle.pli_headline.proofs.DeclaredBegins.{is_made, made_alone, made_constants, inner_makes, made_filled, declares_does}
+use Rattle.pli_headline.proofs.DeclaredBegins.{is_made, made_constants, inner_makes, made_filled, declares_does}
 use Rattle.pli_headline.proofs.StandingBytes.{ConstantsStand}
 use Rattle.pli_headline.proofs.Scalars.{Values}
 use Rattle.pli_headline.proofs.JumpsOut.{out_does}
@@ -212,17 +212,9 @@ room_deep false false free depth words own level room = room.1
 room_deep true bare free depth words own level room = room.1
 
 -- a block declares nothing, or something
-by_declared : {A : Type 1} (ds : List Y.DeclaredVariable) → (ds ≡ [] → A) → ((ds ≡ [] → ⊥) → is_bare ds ≡ false → A) → A
+by_declared : {A : Type 1} (ds : List Y.DeclaredVariable) → (ds ≡ [] → A) → (is_bare ds ≡ false → A) → A
 by_declared [] none some' = none refl
-by_declared (d ∷ ds) none some' = some' (λ e. absurd (cc e)) refl
-
-not_bare : {A : Type 0} (ds : List Y.DeclaredVariable) (xs : List A) → (ds ≡ [] → ⊥) → if_bare ds xs ≡ []
-not_bare [] xs some' = absurd (some' refl)
-not_bare (d ∷ ds) xs some' = refl
-
-main_declares : (main : Bool) (ds : List Y.DeclaredVariable) → DeclareIf main ds → (ds ≡ [] → ⊥) → main ≡ true
-main_declares true ds declares some' = refl
-main_declares false ds declares some' = absurd (some' declares)
+by_declared (d ∷ ds) none some' = some' refl
 
 -- nothing is declared in blocks that may not
 mutual
@@ -354,7 +346,7 @@ mutual
       (λ none.
       let here' : variables_of_block block.program head.number ≡ [] = ap (λ p. variables_of_block p head.number) bl.named ∙ none in
       let are : AreProvedStatements block types body = subst (λ ds. AreProvedStatements (names_in block types head ds) (types_in types ds) body) here' is.1.1 in
-      let around' : AllJumpAround e.program head.number head.level all e.blocks (main_outer procedure e.program.procedures) (own' ∷ bl.outer) (labels_in body) body = subst (λ ds. AllJumpAround e.program head.number head.level all e.blocks (main_outer procedure e.program.procedures) (if_bare ds (own' ∷ bl.outer)) (labels_in body) body) none jumps.1 in
+      let around' : AllJumpAround e.program head.number head.level all e.blocks (main_outer procedure e.program.procedures) (own' ∷ bl.outer) (labels_in body) body = jumps.1 in
       let calls' : AllCallAmong e.program may returns free body = subst (λ ds. AllCallAmong e.program may returns (is_bare ds && free) body) none calls in
       let sized : frame_end e.parts e.program head.number head.level ≡ fixed_size (suc e.level) 0 = named.bare head.number head.level none ∙ ap (λ l. fixed_size l 0) next in
       begin_does bl links code around more head body inner named.lower refl shallow next routines.filled is.0 is.1.0 none entering
@@ -366,25 +358,23 @@ mutual
       (room_inner small free bl.stack.free (length bl.depths) words (all_inner_words body) (inner_bytes e.program body) e.level head.level shallow next deeper (room_less small free bl.stack.free (length bl.depths) (words + all_inner_words body) (words + all_inner_words body) (32 * length vars + inner_bytes e.program body) (inner_bytes e.program body) e.level (omega arith) (omega arith) space))
       bare.1 (inner_entering e.program more' head.line) (omega (arith, least, step)) (λ b h. known b (inr h)) calls'
       (record { calls = ways.calls; signals = ways.signals; tells = ways.tells; makes = λ same' u at k. let no : true ≡ false = sym same' ∙ other_level head.level e.level next in absurd (cc no); narrow = omega (arith, fits); ends = λ may' other. inr (ways.ends may' other); mains = λ free'. more_main procedure (main_labels e.program.procedures) head.level head.number (labels_in body) [] ib.outer (inr (ways.mains free')) }))))
-      (λ some' other.
+      (λ other.
       let are' : AreDeclaring vars = declare_if main vars bare.0 in
       let few = room_few small free bl.stack.free (length bl.depths) (words + all_inner_words body) (32 * length vars + inner_bytes e.program body) e.level space in
-      let own'' = main_declares main vars bare.0 some' in
       let are : AreProvedStatements (names_in block types head vars) (types_in types vars) body = subst (λ p. AreProvedStatements (names_in block types head (variables_of_block p head.number)) (types_in types (variables_of_block p head.number)) body) bl.named is.1.1 in
-      let around' : AllJumpAround e.program head.number head.level all e.blocks (main_outer procedure e.program.procedures) [] (labels_in body) body = subst (λ os. AllJumpAround e.program head.number head.level all e.blocks (main_outer procedure e.program.procedures) os (labels_in body) body) (not_bare vars (own' ∷ bl.outer) some') jumps.1 in
+      let around' : AllJumpAround e.program head.number head.level all e.blocks (main_outer procedure e.program.procedures) (own' ∷ bl.outer) (labels_in body) body = jumps.1 in
       let calls' : AllCallAmong e.program may returns false body = subst (λ q. AllCallAmong e.program may returns (q && free) body) other calls in
       let makes = λ (t0 : ℕ → ℕ). inner_makes bl inner t0 head next routines.filled routines.known are' deep (let place = inner.place in omega (arith, fits, shallow)) (omega (arith, few)) in
-      declares_does bl links code around more head body inner named.lower refl shallow next routines.filled (known_in e.owner head.number head.level routines.known) are' some' makes is.0 is.1.0 entering
+      declares_does bl links code around more head body inner named.lower refl shallow next routines.filled (known_in e.owner head.number head.level routines.known) are' makes is.0 is.1.0 entering
       (λ more' step deeper t0 serial.
       let ib = inner_block bl inner t0 head.number head.level next routines.filled in
       let mb = made_block ib vars (makes t0) serial in
       let made = is_made vars ib (makes t0) serial in
-      let none' = made_alone vars ib (makes t0) serial (λ none. absurd (some' none)) in
       let w = made.words in
       let taken = made.taken in
       let depths = made.depths in
       let free' = made.free in
-      let high : AllJumpAround e.program head.number head.level all e.blocks (main_outer procedure e.program.procedures) mb.outer (labels_in body ++ mb.labels) body = subst (λ os. AllJumpAround e.program head.number head.level all e.blocks (main_outer procedure e.program.procedures) os (labels_in body ++ mb.labels) body) (sym none') (subst (λ ls. AllJumpAround e.program head.number head.level all e.blocks (main_outer procedure e.program.procedures) [] ls body) (sym (ap (λ ls. labels_in body ++ ls) made.labels ∙ append-nil (labels_in body))) around') in
+      let high : AllJumpAround e.program head.number head.level all e.blocks (main_outer procedure e.program.procedures) mb.outer (labels_in body ++ mb.labels) body = subst (λ os. AllJumpAround e.program head.number head.level all e.blocks (main_outer procedure e.program.procedures) os (labels_in body ++ mb.labels) body) (sym made.outer) (subst (λ ls. AllJumpAround e.program head.number head.level all e.blocks (main_outer procedure e.program.procedures) (own' ∷ bl.outer) ls body) (sym (ap (λ ls. labels_in body ++ ls) made.labels ∙ append-nil (labels_in body))) around') in
       let standing : Standing mb links code = record {
         raises = routines.raises;
         constants = made_constants vars ib (makes t0) serial (standing_inner inner t0 head.number head.level next routines);
@@ -404,7 +394,7 @@ mutual
         tells = λ no. let apart : false ≡ true = no in absurd (cc apart);
         makes = λ same' u at k. let no : true ≡ false = sym same' ∙ other_level head.level e.level next in absurd (cc no);
         narrow = omega (arith, fits, w);
-        ends = λ may' other'. let no : true ≡ false = sym own'' ∙ other' in absurd (cc no);
+        ends = λ may' other'. subst (IsHome (in_frame head.number head.level e) links) (sym made.outer) (inr (ways.ends may' other'));
         mains = λ no. let apart : false ≡ true = no in absurd (cc apart);
       })))))
   statement_does {e} bl links code routines around same {all} {procedure} {main} {bare = free} {small} named (Y.CallProcedure (Y.Calling number level Y.NoArgument) line) is jumps room space bare {more} entering least known calls ways =

@@ -7,7 +7,7 @@ use Rattle.pli_meaning.specs.Control.{Label}
 use Rattle.pli_meaning.specs.Executing.{labels_in}
 use Rattle.pli_meaning.specs.DeclaredShapes.{variables_of_block}
 use Rattle.pli_coding.specs.Environments.{BlockPlace}
-use Rattle.pli_headline.specs.ProvedSoFar.{OuterBlock, if_bare, of_block, inner_labels, all_labels, JumpsAround, AllJumpAround, is_number, CallsAmong, AllCallAmong, IsUnitApart, IsUnitNew}
+use Rattle.pli_headline.specs.ProvedSoFar.{OuterBlock, of_block, inner_labels, all_labels, JumpsAround, AllJumpAround, is_number, CallsAmong, AllCallAmong, IsUnitApart, IsUnitNew}
 use Rattle.pli_headline.proofs.InnerFrames.{other_level}
 
 -- a label of a block, or the end of one
@@ -165,7 +165,7 @@ mutual
   no_unit program number block level all blocks main outer around (Y.DoOnce target start condition body line) deep jumps = no_units program number block level all blocks main outer (labels_in body ++ around) body deep jumps
   no_unit program number block level all blocks main outer around (Y.DoCount counter start limit step condition body line) deep jumps = no_units program number block level all blocks main outer (labels_in body ++ around) body deep jumps
   no_unit program number block level all blocks main outer around (Y.Begin (Y.BlockOf head body)) deep jumps =
-      no_units program number head.number head.level all blocks main (if_bare (variables_of_block program head.number) (record { level = level; number = block; labels = around } ∷ outer)) (labels_in body) body (other_level head.level level jumps.0.0) jumps.1
+      no_units program number head.number head.level all blocks main (record { level = level; number = block; labels = around } ∷ outer) (labels_in body) body (other_level head.level level jumps.0.0) jumps.1
   no_unit program number block level all blocks main outer around (Y.OnUnit condition (Y.BlockOf head body) line) deep jumps =
       let no : true ≡ false = sym jumps.0 ∙ deep in absurd (cc no)
   no_unit program number block level all blocks main outer around _ deep jumps = tt
@@ -190,7 +190,7 @@ mutual
   own_unit program block level all blocks main outer around (Y.DoOnce target start condition body line) jumps = own_units program block level all blocks main outer (labels_in body ++ around) body jumps
   own_unit program block level all blocks main outer around (Y.DoCount counter start limit step condition body line) jumps = own_units program block level all blocks main outer (labels_in body ++ around) body jumps
   own_unit program block level all blocks main outer around (Y.Begin (Y.BlockOf head body)) jumps =
-      no_units program block head.number head.level all blocks main (if_bare (variables_of_block program head.number) (record { level = level; number = block; labels = around } ∷ outer)) (labels_in body) body (other_level head.level level jumps.0.0) jumps.1
+      no_units program block head.number head.level all blocks main (record { level = level; number = block; labels = around } ∷ outer) (labels_in body) body (other_level head.level level jumps.0.0) jumps.1
   own_unit program block level all blocks main outer around (Y.OnUnit condition (Y.BlockOf head body) line) jumps = (
     jumps.1.1.0,
     no_units program block head.number head.level all blocks main (main ∷ []) (labels_in body) body (other_level head.level 0 jumps.1.0) jumps.1.1.1,
@@ -228,7 +228,7 @@ mutual
   called_unit program number block level all blocks main outer around may returns bare (Y.DoOnce target start condition body line) among jumps calls = called_units program number block level all blocks main outer (labels_in body ++ around) may returns bare body among jumps calls
   called_unit program number block level all blocks main outer around may returns bare (Y.DoCount counter start limit step condition body line) among jumps calls = called_units program number block level all blocks main outer (labels_in body ++ around) may returns bare body among jumps calls
   called_unit program number block level all blocks main outer around may returns bare (Y.Begin (Y.BlockOf head body)) among jumps calls =
-      no_units program number head.number head.level all blocks main (if_bare (variables_of_block program head.number) (record { level = level; number = block; labels = around } ∷ outer)) (labels_in body) body (other_level head.level level jumps.0.0) jumps.1
+      no_units program number head.number head.level all blocks main (record { level = level; number = block; labels = around } ∷ outer) (labels_in body) body (other_level head.level level jumps.0.0) jumps.1
   called_unit program number block level all blocks main outer around may returns bare (Y.OnUnit condition (Y.BlockOf head body) line) among jumps calls = (
     apart_of number may head head.kind among calls.1.1,
     called_units program number head.number head.level all blocks main (main ∷ []) (labels_in body) may false true body among jumps.1.1.1 calls.0,

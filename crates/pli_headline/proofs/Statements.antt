@@ -123,7 +123,30 @@ lower_ground g free =
       inside = g.inside;
     }
 
--- the ground of a block around another, with the words that wait there, the frame's own place, and how many blocks stand above it
+-- blocks of these levels are entered, which have these frames and units, variables hold these numbers and texts and arrays theirs, and
+-- what lives in the meaning lives among the services
+pub record AllHold (frames : Frames) (serials : Serials) (xs : Storage) (levels : List ℕ) (s : State) (block : Names) (types : Types) (n : Values) : Type 0 where
+  pub numbers : (j : ℕ) (b : Typed types j) → IsNumeric b.0 → Holds s block j (serials.of j) b.0 (n.numbers j)
+  pub texts : (j : ℕ) (varying : Bool) (most : ℕ) → IsTextAt types j varying most → KeepsText s block j (serials.of j) varying most (n.texts j)
+  pub arrays : (j : ℕ) (type : Y.LeafType) (b : Bounds) (bs : List Bounds) → IsArrayAt types j type b bs → HoldsArray s block j (serials.of j) type (b ∷ bs) (n.arrays j)
+  pub entered : levels_of s.activations ≡ levels
+  pub framed : frames_of xs.activations ≡ frames.list
+  pub kinds : kinds_of xs.activations ≡ frames.kinds
+  pub units : UnitsKnown frames.known s.activations xs.activations
+  pub stored : Stored serials xs.signatures xs.living xs.serials (length levels) s.living s.serials block types
+
+-- what holds of some variables holds of others
+abbrev pub Restricts : Serials → Names → Types → Serials → Names → Types → Type 1
+Restricts serials block types serials' block' types' =
+    (frames : Frames) (xs : Storage) (levels : List ℕ) (s : State) (n : Values) → AllHold frames serials xs levels s block types n → AllHold frames serials' xs levels s block' types' n
+
+-- variables of blocks of these levels at most, whose activations are no higher
+abbrev pub Beneath : (level height : ℕ) → Serials → Names → Types → Type 0
+Beneath level height serials block types =
+    (j : ℕ) (kind : Kind) → slice_get types j ≡ Some kind → (level_of block j ≤ level) × (serials.owner j ≤ height)
+
+-- the ground of a block around another, with the words that wait there, the frame's own place, how many blocks stand above it, and the
+-- variables that it names
 pub record Enclosing (e : Environment) (o : OuterBlock) (ground : Values → Ground) (shows : ℕ → ℕ) (frames levels : List ℕ) : Type 1 where
   pub its : Values → Ground
   pub waits : ℕ → ℕ
@@ -143,22 +166,21 @@ pub record Enclosing (e : Environment) (o : OuterBlock) (ground : Values → Gro
   pub depths : List ℕ
   pub lowest : o.level ≡ 0 → depths ≡ []
   pub rises : Rises (suc count) frame o.level frames levels behind depths
+  pub serials : Serials
+  pub names : Names
+  pub types : Types
+  pub beneath : Beneath o.level (suc (length depths)) serials names types
 
 abbrev pub Enclosures : Environment → (ground : Values → Ground) → (shows : ℕ → ℕ) → (frames levels : List ℕ) → List OuterBlock → Type 1
 Enclosures e ground shows frames levels [] = Unit {1}
 Enclosures e ground shows frames levels (o ∷ os) =
     Enclosing e o ground shows frames levels × Enclosures e ground shows frames levels os
 
--- variables of blocks of these levels at most, whose activations are no higher
-abbrev pub Beneath : (level height : ℕ) → Serials → Names → Types → Type 0
-Beneath level height serials block types =
-    (j : ℕ) (kind : Kind) → slice_get types j ≡ Some kind → (level_of block j ≤ level) × (serials.owner j ≤ height)
-
--- all variables stand in the blocks around
-abbrev pub AllBeneath : (e : Environment) (ground : Values → Ground) (shows : ℕ → ℕ) (frames levels : List ℕ) (os : List OuterBlock) → Enclosures e ground shows frames levels os → Serials → Names → Types → Type 0
-AllBeneath e ground shows frames levels [] cs serials block types = Unit {0}
-AllBeneath e ground shows frames levels (o ∷ os) cs serials block types =
-    Beneath o.level (suc (length cs.0.depths)) serials block types × AllBeneath e ground shows frames levels os cs.1 serials block types
+-- what holds of the variables of a block holds of those of the blocks around
+abbrev pub AllSeen : (e : Environment) (ground : Values → Ground) (shows : ℕ → ℕ) (frames levels : List ℕ) (os : List OuterBlock) → Enclosures e ground shows frames levels os → Serials → Names → Types → Type 1
+AllSeen e ground shows frames levels [] cs serials block types = Unit {1}
+AllSeen e ground shows frames levels (o ∷ os) cs serials block types =
+    Restricts serials block types cs.0.serials cs.0.names cs.0.types × AllSeen e ground shows frames levels os cs.1 serials block types
 
 -- the ground of a block by what variables hold, which stand in the main procedure's frame, the temporaries that are taken
 -- while its statements run, the labels that a GOTO there may name: those of the lists that are carried out around, the frames of the
@@ -209,7 +231,7 @@ pub record Block (e : Environment) (block : Names) (types : Types) : Type 1 wher
   pub arrays : ArraysOn e block types bases stack.free ground
   pub outer : List OuterBlock
   pub enclosing : Enclosures e ground levels frames.list (e.level ∷ depths) outer
-  pub beneath : AllBeneath e ground levels frames.list (e.level ∷ depths) outer enclosing serials block types
+  pub seen : AllSeen e ground levels frames.list (e.level ∷ depths) outer enclosing serials block types
 
 -- all variables of the program have numbers in its table, and no block has parameters
 pub record IsKnown (e : Environment) : Type 0 where
@@ -233,18 +255,6 @@ pub record Standing {e : Environment} {block : Names} {types : Types} (bl : Bloc
   pub constants : (n : Values) → ConstantsStand links code (bl.ground n)
   pub filled : IsFilled bl
   pub known : IsKnown e
-
--- blocks of these levels are entered, which have these frames and units, variables hold these numbers and texts and arrays theirs, and
--- what lives in the meaning lives among the services
-pub record AllHold (frames : Frames) (serials : Serials) (xs : Storage) (levels : List ℕ) (s : State) (block : Names) (types : Types) (n : Values) : Type 0 where
-  pub numbers : (j : ℕ) (b : Typed types j) → IsNumeric b.0 → Holds s block j (serials.of j) b.0 (n.numbers j)
-  pub texts : (j : ℕ) (varying : Bool) (most : ℕ) → IsTextAt types j varying most → KeepsText s block j (serials.of j) varying most (n.texts j)
-  pub arrays : (j : ℕ) (type : Y.LeafType) (b : Bounds) (bs : List Bounds) → IsArrayAt types j type b bs → HoldsArray s block j (serials.of j) type (b ∷ bs) (n.arrays j)
-  pub entered : levels_of s.activations ≡ levels
-  pub framed : frames_of xs.activations ≡ frames.list
-  pub kinds : kinds_of xs.activations ≡ frames.kinds
-  pub units : UnitsKnown frames.known s.activations xs.activations
-  pub stored : Stored serials xs.signatures xs.living xs.serials (length levels) s.living s.serials block types
 
 abbrev pub scope_of : {e : Environment} {block : Names} {types : Types} (b : Block e block types) {s : State} {xs : Storage} (n : Values) → AllHold b.frames b.serials xs (e.level ∷ b.depths) s block types n → Scope (b.ground n) e block types s n
 scope_of b n all =
@@ -300,21 +310,21 @@ pub record Outlet (o : OuterBlock) (count frame : ℕ) (left : Frames) (depths :
   pub later : 10 ≤ at
   pub lands : (s : State) (v : Services) (line : ℕ) (n : Values) (h : ℕ → ℕ) (f : Family) → Serving k (ended_times count s) v line → AllHold left serials (storage v) (o.level ∷ depths) (ended_times count s) block types n → acts < v.world.acts → ((b : Base) → At b at (Known (its n) v h waits nothing b) (f b)) → jumped at f v (suc (length depths)) label s
 
-abbrev pub OutletOf : {e : Environment} {o : OuterBlock} {ground : Values → Ground} {shows : ℕ → ℕ} (frames : Frames) {levels : List ℕ} → Enclosing e o ground shows frames.list levels → Serials → (block : Names) → Types → Links → (k acts : ℕ) → (ℕ → Family → Services → ℕ → Label → State → Type 0) → Label → Type 0
-OutletOf {o = o} frames c serials block types links k acts jumped label =
-    Outlet o (suc c.count) c.frame (frames_left (suc c.count) c.frame c.behind frames) c.depths serials block types c.its c.waits links k acts jumped label
+abbrev pub OutletOf : {e : Environment} {o : OuterBlock} {ground : Values → Ground} {shows : ℕ → ℕ} (frames : Frames) {levels : List ℕ} → Enclosing e o ground shows frames.list levels → Links → (k acts : ℕ) → (ℕ → Family → Services → ℕ → Label → State → Type 0) → Label → Type 0
+OutletOf {o = o} frames c links k acts jumped label =
+    Outlet o (suc c.count) c.frame (frames_left (suc c.count) c.frame c.behind frames) c.depths c.serials c.names c.types c.its c.waits links k acts jumped label
 
-abbrev pub Outlets : (e : Environment) (ground : Values → Ground) (shows : ℕ → ℕ) (frames : Frames) (levels : List ℕ) (os : List OuterBlock) → Enclosures e ground shows frames.list levels os → Serials → (block : Names) → Types → Links → (k acts : ℕ) → (ℕ → Family → Services → ℕ → Label → State → Type 0) → Type 0
-Outlets e ground shows frames levels [] cs serials block types links k acts jumped = Unit {0}
-Outlets e ground shows frames levels (o ∷ os) cs serials block types links k acts jumped =
-    ((label : Label) → is_among label o.labels ≡ true → IsMarkedOnce links o.number label → OutletOf frames cs.0 serials block types links k acts jumped label)
-    × Outlets e ground shows frames levels os cs.1 serials block types links k acts jumped
+abbrev pub Outlets : (e : Environment) (ground : Values → Ground) (shows : ℕ → ℕ) (frames : Frames) (levels : List ℕ) (os : List OuterBlock) → Enclosures e ground shows frames.list levels os → Links → (k acts : ℕ) → (ℕ → Family → Services → ℕ → Label → State → Type 0) → Type 0
+Outlets e ground shows frames levels [] cs links k acts jumped = Unit {0}
+Outlets e ground shows frames levels (o ∷ os) cs links k acts jumped =
+    ((label : Label) → is_among label o.labels ≡ true → IsMarkedOnce links o.number label → OutletOf frames cs.0 links k acts jumped label)
+    × Outlets e ground shows frames levels os cs.1 links k acts jumped
 
 -- others
-pub outlets_by : (e : Environment) (ground : Values → Ground) (shows : ℕ → ℕ) (frames : Frames) (levels : List ℕ) (os : List OuterBlock) (cs : Enclosures e ground shows frames.list levels os) (serials : Serials) (block : Names) (types : Types) (links : Links) (k acts acts' : ℕ) (jumped jumped' : ℕ → Family → Services → ℕ → Label → State → Type 0) → ((o : OuterBlock) (c : Enclosing e o ground shows frames.list levels) (label : Label) → OutletOf frames c serials block types links k acts jumped label → OutletOf frames c serials block types links k acts' jumped' label) → Outlets e ground shows frames levels os cs serials block types links k acts jumped → Outlets e ground shows frames levels os cs serials block types links k acts' jumped'
-outlets_by e ground shows frames levels [] cs serials block types links k acts acts' jumped jumped' change outs = tt
-outlets_by e ground shows frames levels (o ∷ os) cs serials block types links k acts acts' jumped jumped' change outs =
-    (λ label among once. change o cs.0 label (outs.0 label among once), outlets_by e ground shows frames levels os cs.1 serials block types links k acts acts' jumped jumped' change outs.1)
+pub outlets_by : (e : Environment) (ground : Values → Ground) (shows : ℕ → ℕ) (frames : Frames) (levels : List ℕ) (os : List OuterBlock) (cs : Enclosures e ground shows frames.list levels os) (links : Links) (k acts acts' : ℕ) (jumped jumped' : ℕ → Family → Services → ℕ → Label → State → Type 0) → ((o : OuterBlock) (c : Enclosing e o ground shows frames.list levels) (label : Label) → OutletOf frames c links k acts jumped label → OutletOf frames c links k acts' jumped' label) → Outlets e ground shows frames levels os cs links k acts jumped → Outlets e ground shows frames levels os cs links k acts' jumped'
+outlets_by e ground shows frames levels [] cs links k acts acts' jumped jumped' change outs = tt
+outlets_by e ground shows frames levels (o ∷ os) cs links k acts acts' jumped jumped' change outs =
+    (λ label among once. change o cs.0 label (outs.0 label among once), outlets_by e ground shows frames levels os cs.1 links k acts acts' jumped jumped' change outs.1)
 
 -- a machine in the frame of the main procedure, of which the stack isn't asked
 pub record Unwound (base : ℕ) (holds : Base → List ℕ → Type 0) (v : Services) (b : Base) (w : Whole) : Type 0 where
@@ -347,16 +357,16 @@ pub record HomeExit (o : OuterBlock) (count frame : ℕ) (left : Frames) (depths
   pub later : 10 ≤ at
   pub leaves : (s : State) (v : Services) (line : ℕ) (n : Values) (h : ℕ → ℕ) (f : Family) (free : ℕ) → Serving k (ended_times count s) v line → AllHold left serials (storage v) (o.level ∷ depths) (ended_times count s) block types n → ((b : Base) → At b at (Known (lower_ground (its n) free) v h waits nothing b) (f b)) → returned at f v None s
 
-abbrev pub HomeOf : {e : Environment} {o : OuterBlock} {ground : Values → Ground} {shows : ℕ → ℕ} (frames : Frames) {levels : List ℕ} → Enclosing e o ground shows frames.list levels → Serials → (block : Names) → Types → Links → (k : ℕ) → (ℕ → Family → Services → Option BasicValue → State → Type 0) → Type 0
-HomeOf {o = o} frames c serials block types links k returned =
-    HomeExit o (suc c.count) c.frame (frames_left (suc c.count) c.frame c.behind frames) c.depths serials block types c.its c.waits links k returned
+abbrev pub HomeOf : {e : Environment} {o : OuterBlock} {ground : Values → Ground} {shows : ℕ → ℕ} (frames : Frames) {levels : List ℕ} → Enclosing e o ground shows frames.list levels → Links → (k : ℕ) → (ℕ → Family → Services → Option BasicValue → State → Type 0) → Type 0
+HomeOf {o = o} frames c links k returned =
+    HomeExit o (suc c.count) c.frame (frames_left (suc c.count) c.frame c.behind frames) c.depths c.serials c.names c.types c.its c.waits links k returned
 
 -- of the block around that owns this one, where it isn't the main procedure
-abbrev pub Homes : (e : Environment) (ground : Values → Ground) (shows : ℕ → ℕ) (frames : Frames) (levels : List ℕ) (os : List OuterBlock) → Enclosures e ground shows frames.list levels os → Serials → (block : Names) → Types → Links → (k : ℕ) → (ℕ → Family → Services → Option BasicValue → State → Type 0) → Type 0
-Homes e ground shows frames levels [] cs serials block types links k returned = Unit {0}
-Homes e ground shows frames levels (o ∷ os) cs serials block types links k returned =
-    ((0 == o.level) ≡ false → e.owner ≡ BlockOwner (record { number = o.number; level = o.level }) → IsEndMarkedOnce links o.number → HomeOf frames cs.0 serials block types links k returned)
-    × Homes e ground shows frames levels os cs.1 serials block types links k returned
+abbrev pub Homes : (e : Environment) (ground : Values → Ground) (shows : ℕ → ℕ) (frames : Frames) (levels : List ℕ) (os : List OuterBlock) → Enclosures e ground shows frames.list levels os → Links → (k : ℕ) → (ℕ → Family → Services → Option BasicValue → State → Type 0) → Type 0
+Homes e ground shows frames levels [] cs links k returned = Unit {0}
+Homes e ground shows frames levels (o ∷ os) cs links k returned =
+    ((0 == o.level) ≡ false → e.owner ≡ BlockOwner (record { number = o.number; level = o.level }) → IsEndMarkedOnce links o.number → HomeOf frames cs.0 links k returned)
+    × Homes e ground shows frames levels os cs.1 links k returned
 
 -- what a part may count on where it begins: loops and jumps may make more turns than acts are allowed, the code stands behind the
 -- start, and jumps to the block's labels and to those of blocks around go on, and so does a return
@@ -364,14 +374,14 @@ pub record Enough {e : Environment} {block : Names} {types : Types} (bl : Block 
   pub enough : k < turns + acts
   pub later : 10 ≤ i
   pub jumps : (label : Label) → is_among label bl.labels ≡ true → IsMarkedOnce links e.block label → Landing bl links k h t acts jumped label
-  pub outs : Outlets e bl.ground bl.levels bl.frames (e.level ∷ bl.depths) bl.outer bl.enclosing bl.serials block types links k acts jumped
+  pub outs : Outlets e bl.ground bl.levels bl.frames (e.level ∷ bl.depths) bl.outer bl.enclosing links k acts jumped
   pub returns : (number : ℕ) → e.owner ≡ BlockOwner (record { number = number; level = 0 }) → IsEndMarkedOnce links number → Exit number bl.base bl.bottom.holds links k returned
   pub own : (0 == e.level) ≡ false → e.owner ≡ BlockOwner (record { number = e.block; level = e.level }) → IsEndMarkedOnce links e.block → OwnExit e block types bl.ground bl.frames bl.serials bl.depths links k returned
-  pub homes : Homes e bl.ground bl.levels bl.frames (e.level ∷ bl.depths) bl.outer bl.enclosing bl.serials block types links k returned
+  pub homes : Homes e bl.ground bl.levels bl.frames (e.level ∷ bl.depths) bl.outer bl.enclosing links k returned
 
 -- the same further on
 pub further : {e : Environment} {block : Names} {types : Types} {bl : Block e block types} {links : Links} {k turns i : ℕ} {h t : ℕ → ℕ} {acts : ℕ} {jumped : ℕ → Family → Services → ℕ → Label → State → Type 0} {returned : ℕ → Family → Services → Option BasicValue → State → Type 0} {i' : ℕ} {h' t' : ℕ → ℕ} {acts' : ℕ} → Enough bl links k turns i h t acts jumped returned → i ≤ i' → acts ≤ acts' → Stays bl.taken h t h' t' → Enough bl links k turns i' h' t' acts' jumped returned
-further {e = e} {block = block} {types = types} {bl = bl} {links = links} {k = k} {acts = acts} {jumped = jumped} {acts' = acts'} more behind grown stays =
+further {e = e} {bl = bl} {links = links} {k = k} {acts = acts} {jumped = jumped} {acts' = acts'} more behind grown stays =
     record {
       enough = let u = more.enough in omega (arith, u, grown);
       later = let l = more.later in omega (arith, l, behind);
@@ -384,7 +394,7 @@ further {e = e} {block = block} {types = types} {bl = bl} {links = links} {k = k
             later = o.later;
             lands = λ s v line n h'' t'' f serving all stays' acted' at'. o.lands s v line n h'' t'' f serving all (stays_then stays stays') (omega (arith, grown, acted')) at';
           };
-      outs = outlets_by e bl.ground bl.levels bl.frames (e.level ∷ bl.depths) bl.outer bl.enclosing bl.serials block types links k acts acts' jumped jumped
+      outs = outlets_by e bl.ground bl.levels bl.frames (e.level ∷ bl.depths) bl.outer bl.enclosing links k acts acts' jumped jumped
           (λ o c label out. record {
             at = out.at;
             place = out.place;

@@ -46,7 +46,7 @@ use Rattle.pli_headline.proofs.Acts.{acted, act_to, act_piece}
 use Rattle.pli_headline.proofs.Statements.{owner_level, Block, AllHold, counted_all, IsEndMarkedOnce, Enough, Does}
 use Rattle.pli_headline.proofs.CalledJumps.{ending_closed, comes_called}
 use Rattle.pli_headline.proofs.Owing.{owing, owing_closed, comes_owing, done_owing}
-use Rattle.pli_headline.proofs.MainOutlets.{HasMain, main_of, main_enclosing, main_outlet, owed_outlet}
+use Rattle.pli_headline.proofs.MainOutlets.{HasMain, main_of, main_enclosing, main_seen, main_outlet, owed_outlet}
 use Rattle.pli_headline.proofs.SavedRegisters.{held_again}
 use Rattle.pli_headline.proofs.BeginEntered.{ended_services}
 use Rattle.pli_headline.proofs.BeginMeant.{Entering, inner_around, inner_part, entered_by, raised_nested, raised_all, ended_input, left_all, newest_kind}
@@ -106,7 +106,7 @@ pub record Raisable {e : Environment} {block : Names} {types : Types} (bl : Bloc
   pub at_is : at ≡ 4 * index
   pub later : 10 ≤ index
   pub linked : Linked links code index (unit_with callee.words head.line (stmts_code (unit_environment head e) none_taken body) (unit_mark head head.kind))
-  pub does : (m : ℕ) → more ≡ suc m → suc (length bl.depths) < most_activations → (kind : S.BlockKind) (back : Base → ℕ) (h0 t0 : ℕ → ℕ) → Does (called_block_as bl callee back h0 t0 (owner_of_unit head head.kind) kind head level (main_of main mains) (main_enclosing bl callee back h0 t0 (owner_of_unit head head.kind) head level main mains has)) links code (suc m) (stmts_code (unit_environment head e) none_taken body) (M.list (inner_around e.program m head.line) body)
+  pub does : (m : ℕ) → more ≡ suc m → suc (length bl.depths) < most_activations → (kind : S.BlockKind) (back : Base → ℕ) (h0 t0 : ℕ → ℕ) → Does (called_block_as bl callee back h0 t0 (owner_of_unit head head.kind) kind head level (main_of main mains) (main_enclosing bl callee back h0 t0 (owner_of_unit head head.kind) head level main mains has) (main_seen bl callee back h0 t0 (owner_of_unit head head.kind) head level main mains has)) links code (suc m) (stmts_code (unit_environment head e) none_taken body) (M.list (inner_around e.program m head.line) body)
 
 -- ---- behind the statements of the unit
 

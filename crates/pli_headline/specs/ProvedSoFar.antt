@@ -510,11 +510,6 @@ abbrev mutual
   all_labels block (Y.EndOfList labels) = of_block block labels
   all_labels block (Y.StmtThen labels first rest) = of_block block labels ++ (inner_labels block first ++ all_labels block rest)
 
--- what may be used in a block that declares nothing
-abbrev pub if_bare : {A : Type 0} → List Y.DeclaredVariable → List A → List A
-if_bare [] xs = xs
-if_bare (d ∷ ds) xs = []
-
 -- an on-unit that is a block has another number than the procedure
 abbrev pub IsUnitApart : (number : ℕ) → Y.BlockHead → Y.BlockKind → Type 0
 IsUnitApart number head Y.SimpleUnit = ⊤
@@ -535,8 +530,7 @@ IsOutward block to label all blocks (o ∷ os) =
 
 -- a GOTO names a label of a list around it in its block, which has a level, or in a block around it up to the procedure's own, or, in a
 -- procedure inside the main one or in an on-unit, of the main one's own list, and the label stands once in the program's blocks of that
--- number; none goes out of a block that declares variables; begin blocks stand up to a hundred deep; on-units are given in the main
--- procedure's own block
+-- number; begin blocks stand up to a hundred deep; on-units are given in the main procedure's own block
 abbrev mutual
   pub JumpsAround : Y.Program → (block level : ℕ) → (all : List (ℕ × Label)) → (blocks : List BlockPlace) → (main : OuterBlock) → (outer : List OuterBlock) → (around : List Label) → Y.Stmt → Type 0
   JumpsAround program block level all blocks main outer around (Y.If condition unit line) = JumpsAround program block level all blocks main outer around unit
@@ -547,7 +541,7 @@ abbrev mutual
   JumpsAround program block level all blocks main outer around (Y.DoCount counter start limit step condition body line) = AllJumpAround program block level all blocks main outer (labels_in body ++ around) body
   JumpsAround program block level all blocks main outer around (Y.Begin (Y.BlockOf head body)) =
       ((head.level ≡ suc level) × (head.level ≤ 100))
-      × AllJumpAround program head.number head.level all blocks main (if_bare (variables_of_block program head.number) (record { level = level; number = block; labels = around } ∷ outer)) (labels_in body) body
+      × AllJumpAround program head.number head.level all blocks main (record { level = level; number = block; labels = around } ∷ outer) (labels_in body) body
   JumpsAround program block level all blocks main outer around (Y.Goto to label line) =
       ((to ≡ level) × ((is_among label around ≡ true) × (times block label all ≡ 1))) ⊎ IsOutward block to label all blocks outer
   JumpsAround program block level all blocks main outer around (Y.OnUnit condition (Y.BlockOf head body) line) =
