@@ -8,7 +8,7 @@ use Rattle.std.specs.List.{flat_map}
 use Rattle.pli_coding.specs.Environments.{BlockPlace}
 use Rattle.pli_coding.specs.SignatureTable.{signature_of, with_signature, with_signatures}
 use Rattle.pli_coding.specs.Streams.{has_text}
-use Rattle.pli_headline.specs.ProvedSoFar.{IsPlain, ArePlain, AllPlain, Types, types_of, IsOwn, HavePrecisions, IsProvedNumber, IsProvedItem, AreProvedItems, AreProvedPairs, IsProvedStatement, AreProvedStatements, OuterBlock, JumpsAround, AllJumpAround, IsBare, AreBare, IsProvedSoFar, alone, AreSubscripts, declared_kind, CallsAmong, AllCallAmong, main_names, bytes_in, inner_bytes}
+use Rattle.pli_headline.specs.ProvedSoFar.{IsPlain, ArePlain, AllPlain, Types, types_of, IsOwn, HavePrecisions, IsProvedNumber, IsProvedItem, AreProvedItems, AreProvedPairs, IsProvedStatement, AreProvedStatements, OuterBlock, JumpsAround, AllJumpAround, DeclaresScalars, DeclareScalars, IsProvedSoFar, alone, AreSubscripts, declared_kind, CallsAmong, AllCallAmong, main_names, bytes_in, inner_bytes}
 use Rattle.pli_headline.proofs.FormatData.{true_false}
 use Rattle.pli_headline.specs.FirstForms.{plain_number, AreNumbers, AllNumbers, IsFirstReference, IsFirstNumber, IsFirstItem, AreFirstItems, AreFirstPairs, IsFirstStatement, AreFirstStatements, IsFirstProgram}
 
@@ -132,13 +132,13 @@ statements_call program block count may (Y.StmtThen labels first rest) h =
     (statement_calls program block count may first h.0, statements_call program block count may rest h.1)
 
 -- and none is a block
-statement_bare : (block count : ℕ) (program : Y.Program) (x : Y.Stmt) → IsFirstStatement block count x → IsBare program true x
+statement_bare : (block count : ℕ) (program : Y.Program) (x : Y.Stmt) → IsFirstStatement block count x → DeclaresScalars program x
 statement_bare block count program (Y.Null line) h = tt
 statement_bare block count program (Y.Assign target (Y.StoredNumber precision x) line) h = tt
 statement_bare block count program (Y.Put None pairs line) h = tt
 statement_bare block count program _ h = absurd h
 
-pub statements_bare : (block count : ℕ) (program : Y.Program) (body : Y.Stmts) → AreFirstStatements block count body → AreBare program true body
+pub statements_bare : (block count : ℕ) (program : Y.Program) (body : Y.Stmts) → AreFirstStatements block count body → DeclareScalars program body
 statements_bare block count program (Y.EndOfList labels) h = tt
 statements_bare block count program (Y.StmtThen labels first rest) h =
     (statement_bare block count program first h.0, statements_bare block count program rest h.1)

@@ -587,7 +587,7 @@ call_program =
           bare = refl;
           statements = ((refl, (lit< tt, ((refl, lit< tt), (lit< tt, tt)))), (lit< tt, tt));
           jumps = (((refl, omega arith), (tt, (tt, tt))), (tt, tt));
-          inside = ((refl, (tt, (tt, tt))), (tt, tt));
+          inside = ((tt, (tt, (tt, tt))), (tt, tt));
           callable = λ h. record { kind = refl; line = lit< tt; calls = (((refl, refl), (refl, tt)), (refl, tt)); few = omega arith };
         },
         tt,
