@@ -82,7 +82,7 @@ called_does {program} {block} {all} q can {links} {code} bl callee words deep de
     let few = can.few in
     let most' = le-max_right 0 (stmts_words q.body) in
     let low = most 0 (stmts_words q.body) 800 (omega arith) (omega (arith, few)) in
-    let jumps : AllJumpAround program q.head.number q.head.level all (blocks_of program.procedures) (main_outer block program.procedures) (main_outer block program.procedures ∷ []) (labels_in q.body ++ []) q.body = subst (λ n. AllJumpAround program q.head.number n all (blocks_of program.procedures) (main_outer block program.procedures) (main_outer block program.procedures ∷ []) (labels_in q.body ++ []) q.body) (sym next) (subst (λ ls. AllJumpAround program q.head.number 1 all (blocks_of program.procedures) (main_outer block program.procedures) (main_outer block program.procedures ∷ []) ls q.body) (sym (append-nil (labels_in q.body))) q.jumps) in
+    let jumps : AllJumpAround q.head.number q.head.level all (blocks_of program.procedures) (main_outer block program.procedures) (main_outer block program.procedures ∷ []) (labels_in q.body ++ []) q.body = subst (λ n. AllJumpAround q.head.number n all (blocks_of program.procedures) (main_outer block program.procedures) (main_outer block program.procedures ∷ []) (labels_in q.body ++ []) q.body) (sym next) (subst (λ ls. AllJumpAround q.head.number 1 all (blocks_of program.procedures) (main_outer block program.procedures) (main_outer block program.procedures ∷ []) ls q.body) (sym (append-nil (labels_in q.body))) q.jumps) in
     body_does cb links code (standing_called block callee back h0 t0 q.head next sized block mains has standing) (inner_around program bound q.head.line) refl {small = true}
     (labels_called q.head next named (known (place_of_head q.head) (inl refl))) q.body q.statements jumps (omega (arith, most', words))
     ((omega (arith, place, words, low, space, deeper), omega (arith, few)), deeper) q.inside

@@ -130,7 +130,7 @@ other_end block number ((m, None) ∷ ps) ss other apart none =
 -- those in a procedure's statements are none but its own
 pub inner_ends : (number : ℕ) {program : Y.Program} {block : ℕ} {all : List (ℕ × Label)} {called : List ℕ} {p : Y.Procedure} (q : IsInner program block all called p) → EndsApart number (all_stands q.head.number q.body)
 inner_ends number {program = program} {block = block} {all = all} q =
-    ends_apart number q.head.number q.body (no_units program number q.head.number 1 all (blocks_of program.procedures) (main_outer block program.procedures) (main_outer block program.procedures ∷ []) (labels_in q.body) q.body refl q.jumps)
+    ends_apart number q.head.number q.body (no_units number q.head.number 1 all (blocks_of program.procedures) (main_outer block program.procedures) (main_outer block program.procedures ∷ []) (labels_in q.body) q.body refl q.jumps)
 
 -- which isn't that of the others
 pub others_end : (program : Y.Program) (block : ℕ) (all : List (ℕ × Label)) (called : List ℕ) (ps : List Y.Procedure) → AreInner program block all called ps → symbol_times (ReturnPlace block) (procedure_symbols ps) ≡ 0

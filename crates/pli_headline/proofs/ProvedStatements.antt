@@ -222,7 +222,7 @@ return_by false bl links code around line number fits few owner ended home =
     home_does bl links code around line few fits (home refl)
 
 mutual
-  pub statement_does : {e : Environment} {block : Names} {types : Types} (bl : Block e block types) (links : Links) (code : List Instr) (routines : Standing bl links code) (around : Around) (same : around.program ≡ e.program) {all : List (ℕ × Label)} {procedure : ℕ} {main returns bare small : Bool} {may : List ℕ} {bound : ℕ} (named : LabelsStand e links all procedure main) (x : Y.Stmt) → IsProvedStatement block types x → JumpsAround e.program e.block e.level all e.blocks (main_outer procedure e.program.procedures) bl.outer bl.labels x → bl.taken.words + stmt_words x ≤ bl.words → Room small bare bl.stack.free (length bl.depths) (inner_words x) (bytes_in e.program x) e.level → DeclaresScalars e.program x → {more : ℕ} → Entering e.program around more → more ≤ bound → ((b : BlockPlace) → IsAmong b (blocks_in x) → IsAmong b e.blocks) → CallsAmong e.program may returns bare x → Ways e block types bl.words bound small bl.labels bl.outer bl.base bl.frames.known all procedure links code main returns bare may → Does bl links code around.turns (stmt_code e bl.taken x) (M.statement around x)
+  pub statement_does : {e : Environment} {block : Names} {types : Types} (bl : Block e block types) (links : Links) (code : List Instr) (routines : Standing bl links code) (around : Around) (same : around.program ≡ e.program) {all : List (ℕ × Label)} {procedure : ℕ} {main returns bare small : Bool} {may : List ℕ} {bound : ℕ} (named : LabelsStand e links all procedure main) (x : Y.Stmt) → IsProvedStatement block types x → JumpsAround e.block e.level all e.blocks (main_outer procedure e.program.procedures) bl.outer bl.labels x → bl.taken.words + stmt_words x ≤ bl.words → Room small bare bl.stack.free (length bl.depths) (inner_words x) (bytes_in e.program x) e.level → DeclaresScalars e.program x → {more : ℕ} → Entering e.program around more → more ≤ bound → ((b : BlockPlace) → IsAmong b (blocks_in x) → IsAmong b e.blocks) → CallsAmong e.program may returns bare x → Ways e block types bl.words bound small bl.labels bl.outer bl.base bl.frames.known all procedure links code main returns bare may → Does bl links code around.turns (stmt_code e bl.taken x) (M.statement around x)
   statement_does bl links code routines around same named (Y.Null line) is jumps room space bare entering least known calls ways = null_does bl links code around line is
   statement_does bl links code routines around same named (Y.Assign target (Y.StoredNumber precision x) line) is jumps room space bare entering least known calls ways =
       let a = le-max_left (max 1 (number_words x)) (4 + reference_words target) in
@@ -326,13 +326,13 @@ mutual
       (λ none.
       let here' : variables_of_block block.program head.number ≡ [] = ap (λ p. variables_of_block p head.number) bl.named ∙ none in
       let are : AreProvedStatements block types body = subst (λ ds. AreProvedStatements (names_in block types head ds) (types_in types ds) body) here' is.1.1 in
-      let around' : AllJumpAround e.program head.number head.level all e.blocks (main_outer procedure e.program.procedures) (own' ∷ bl.outer) (labels_in body) body = jumps.1 in
+      let around' : AllJumpAround head.number head.level all e.blocks (main_outer procedure e.program.procedures) (own' ∷ bl.outer) (labels_in body) body = jumps.1 in
       let calls' : AllCallAmong e.program may returns free body = subst (λ ds. AllCallAmong e.program may returns (is_bare ds && free) body) none calls in
       let sized : frame_end e.parts e.program head.number head.level ≡ fixed_size (suc e.level) 0 = named.bare head.number head.level none ∙ ap (λ l. fixed_size l 0) next in
       begin_does bl links code around more head body inner named.lower refl shallow next routines.filled is.0 is.1.0 none entering
       (λ more' step deeper t0.
       let ib = inner_block bl inner t0 head.number head.level next routines.filled in
-      let high : AllJumpAround e.program head.number head.level all e.blocks (main_outer procedure e.program.procedures) ib.outer (labels_in body ++ []) body = subst (λ ls. AllJumpAround e.program head.number head.level all e.blocks (main_outer procedure e.program.procedures) ib.outer ls body) (sym (append-nil (labels_in body))) around' in
+      let high : AllJumpAround head.number head.level all e.blocks (main_outer procedure e.program.procedures) ib.outer (labels_in body ++ []) body = subst (λ ls. AllJumpAround head.number head.level all e.blocks (main_outer procedure e.program.procedures) ib.outer ls body) (sym (append-nil (labels_in body))) around' in
       listed ib (here more') body
       (each_does (within (labels_in body) ib) links code (standing_within (labels_in body) (standing_inside inner t0 head.number head.level next sized routines)) (here more') refl (inner_labels_stand named head.number head.level next deep (known (place_of_head head) (inl refl))) body are high (omega (arith, most))
       (room_inner small free bl.stack.free (length bl.depths) words (all_inner_words body) (inner_bytes e.program body) e.level head.level shallow next deeper (room_less small free bl.stack.free (length bl.depths) (words + all_inner_words body) (words + all_inner_words body) (32 * length vars + inner_bytes e.program body) (inner_bytes e.program body) e.level (omega arith) (omega arith) space))
@@ -342,7 +342,7 @@ mutual
       let are' : AreDeclaring vars = bare.0 in
       let few = room_few small free bl.stack.free (length bl.depths) (words + all_inner_words body) (32 * length vars + inner_bytes e.program body) e.level space in
       let are : AreProvedStatements (names_in block types head vars) (types_in types vars) body = subst (λ p. AreProvedStatements (names_in block types head (variables_of_block p head.number)) (types_in types (variables_of_block p head.number)) body) bl.named is.1.1 in
-      let around' : AllJumpAround e.program head.number head.level all e.blocks (main_outer procedure e.program.procedures) (own' ∷ bl.outer) (labels_in body) body = jumps.1 in
+      let around' : AllJumpAround head.number head.level all e.blocks (main_outer procedure e.program.procedures) (own' ∷ bl.outer) (labels_in body) body = jumps.1 in
       let calls' : AllCallAmong e.program may returns false body = subst (λ q. AllCallAmong e.program may returns (q && free) body) other calls in
       let makes = λ (t0 : ℕ → ℕ). inner_makes bl inner t0 head next routines.filled routines.known are' deep (let place = inner.place in omega (arith, fits, shallow)) (omega (arith, few)) in
       declares_does bl links code around more head body inner named.lower refl shallow next routines.filled (known_in e.owner head.number head.level routines.known) are' makes is.0 is.1.0 entering
@@ -354,7 +354,7 @@ mutual
       let taken = made.taken in
       let depths = made.depths in
       let free' = made.free in
-      let high : AllJumpAround e.program head.number head.level all e.blocks (main_outer procedure e.program.procedures) mb.outer (labels_in body ++ mb.labels) body = subst (λ os. AllJumpAround e.program head.number head.level all e.blocks (main_outer procedure e.program.procedures) os (labels_in body ++ mb.labels) body) (sym made.outer) (subst (λ ls. AllJumpAround e.program head.number head.level all e.blocks (main_outer procedure e.program.procedures) (own' ∷ bl.outer) ls body) (sym (ap (λ ls. labels_in body ++ ls) made.labels ∙ append-nil (labels_in body))) around') in
+      let high : AllJumpAround head.number head.level all e.blocks (main_outer procedure e.program.procedures) mb.outer (labels_in body ++ mb.labels) body = subst (λ os. AllJumpAround head.number head.level all e.blocks (main_outer procedure e.program.procedures) os (labels_in body ++ mb.labels) body) (sym made.outer) (subst (λ ls. AllJumpAround head.number head.level all e.blocks (main_outer procedure e.program.procedures) (own' ∷ bl.outer) ls body) (sym (ap (λ ls. labels_in body ++ ls) made.labels ∙ append-nil (labels_in body))) around') in
       let standing : Standing mb links code = record {
         raises = routines.raises;
         constants = made_constants vars ib (makes t0) serial (standing_inner inner t0 head.number head.level next routines);
@@ -427,7 +427,7 @@ mutual
       get_skip_does bl links code routines around same n pairs line is.0.0 is.0.1 is.1.0 is.1.1 room
   statement_does bl links code routines around same named _ is jumps room space bare entering least known calls ways = absurd is
 
-  pub each_does : {e : Environment} {block : Names} {types : Types} (bl : Block e block types) (links : Links) (code : List Instr) (routines : Standing bl links code) (around : Around) (same : around.program ≡ e.program) {all : List (ℕ × Label)} {procedure : ℕ} {main returns bare small : Bool} {may : List ℕ} {bound : ℕ} (named : LabelsStand e links all procedure main) (body : Y.Stmts) → AreProvedStatements block types body → AllJumpAround e.program e.block e.level all e.blocks (main_outer procedure e.program.procedures) bl.outer bl.labels body → bl.taken.words + stmts_words body ≤ bl.words → Room small bare bl.stack.free (length bl.depths) (all_inner_words body) (inner_bytes e.program body) e.level → DeclareScalars e.program body → {more : ℕ} → Entering e.program around more → more ≤ bound → ((b : BlockPlace) → IsAmong b (blocks_among body) → IsAmong b e.blocks) → AllCallAmong e.program may returns bare body → Ways e block types bl.words bound small bl.labels bl.outer bl.base bl.frames.known all procedure links code main returns bare may → EachDoes bl links code around body
+  pub each_does : {e : Environment} {block : Names} {types : Types} (bl : Block e block types) (links : Links) (code : List Instr) (routines : Standing bl links code) (around : Around) (same : around.program ≡ e.program) {all : List (ℕ × Label)} {procedure : ℕ} {main returns bare small : Bool} {may : List ℕ} {bound : ℕ} (named : LabelsStand e links all procedure main) (body : Y.Stmts) → AreProvedStatements block types body → AllJumpAround e.block e.level all e.blocks (main_outer procedure e.program.procedures) bl.outer bl.labels body → bl.taken.words + stmts_words body ≤ bl.words → Room small bare bl.stack.free (length bl.depths) (all_inner_words body) (inner_bytes e.program body) e.level → DeclareScalars e.program body → {more : ℕ} → Entering e.program around more → more ≤ bound → ((b : BlockPlace) → IsAmong b (blocks_among body) → IsAmong b e.blocks) → AllCallAmong e.program may returns bare body → Ways e block types bl.words bound small bl.labels bl.outer bl.base bl.frames.known all procedure links code main returns bare may → EachDoes bl links code around body
   each_does bl links code routines around same named (Y.EndOfList labels) are jumps room space bare entering least known calls ways = tt
   each_does {e} bl links code routines around same {all} {procedure} {main} {bare = free} {small} named (Y.StmtThen labels first rest) are jumps room space bare entering least known calls ways =
       let a = le-max_left (stmt_words first) (stmts_words rest) in
@@ -443,7 +443,7 @@ mutual
       )
 
 -- the statements of a block
-pub body_does : {e : Environment} {block : Names} {types : Types} (bl : Block e block types) (links : Links) (code : List Instr) (routines : Standing bl links code) (around : Around) (same : around.program ≡ e.program) {all : List (ℕ × Label)} {procedure : ℕ} {main returns bare small : Bool} {may : List ℕ} {bound : ℕ} (named : LabelsStand e links all procedure main) (body : Y.Stmts) → AreProvedStatements block types body → AllJumpAround e.program e.block e.level all e.blocks (main_outer procedure e.program.procedures) bl.outer (labels_in body ++ bl.labels) body → bl.taken.words + stmts_words body ≤ bl.words → Room small bare bl.stack.free (length bl.depths) (all_inner_words body) (inner_bytes e.program body) e.level → DeclareScalars e.program body → {more : ℕ} → Entering e.program around more → more ≤ bound → ((b : BlockPlace) → IsAmong b (blocks_among body) → IsAmong b e.blocks) → AllCallAmong e.program may returns bare body → Ways e block types bl.words bound small (labels_in body ++ bl.labels) bl.outer bl.base bl.frames.known all procedure links code main returns bare may → Does bl links code around.turns (stmts_code e bl.taken body) (M.list around body)
+pub body_does : {e : Environment} {block : Names} {types : Types} (bl : Block e block types) (links : Links) (code : List Instr) (routines : Standing bl links code) (around : Around) (same : around.program ≡ e.program) {all : List (ℕ × Label)} {procedure : ℕ} {main returns bare small : Bool} {may : List ℕ} {bound : ℕ} (named : LabelsStand e links all procedure main) (body : Y.Stmts) → AreProvedStatements block types body → AllJumpAround e.block e.level all e.blocks (main_outer procedure e.program.procedures) bl.outer (labels_in body ++ bl.labels) body → bl.taken.words + stmts_words body ≤ bl.words → Room small bare bl.stack.free (length bl.depths) (all_inner_words body) (inner_bytes e.program body) e.level → DeclareScalars e.program body → {more : ℕ} → Entering e.program around more → more ≤ bound → ((b : BlockPlace) → IsAmong b (blocks_among body) → IsAmong b e.blocks) → AllCallAmong e.program may returns bare body → Ways e block types bl.words bound small (labels_in body ++ bl.labels) bl.outer bl.base bl.frames.known all procedure links code main returns bare may → Does bl links code around.turns (stmts_code e bl.taken body) (M.list around body)
 body_does bl links code routines around same named body are jumps room space bare entering least known calls ways =
     listed bl around body
     (each_does (within (labels_in body) bl) links code (standing_within (labels_in body) routines) around same named body are jumps room space bare entering least known calls ways)

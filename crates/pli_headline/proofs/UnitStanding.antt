@@ -39,7 +39,7 @@ pub record UnitStands (e : Environment) (block : Names) (types : Types) (all : L
   pub level : head.level ≡ 1
   pub line : IsLine head.line
   pub proved : AreProvedStatements block types body
-  pub jumps : AllJumpAround e.program head.number head.level all e.blocks (main_outer procedure e.program.procedures) (main_outer procedure e.program.procedures ∷ []) (labels_in body) body
+  pub jumps : AllJumpAround head.number head.level all e.blocks (main_outer procedure e.program.procedures) (main_outer procedure e.program.procedures ∷ []) (labels_in body) body
   pub bare : DeclaresNothing e.program head head.kind × DeclareScalars e.program body
   pub calls : AllCallAmong e.program may false true body
   pub few : 4 * (stmts_words body + all_inner_words body) + inner_bytes e.program body ≤ 3200

@@ -532,25 +532,25 @@ IsOutward block to label all blocks (o ∷ os) =
 -- procedure inside the main one or in an on-unit, of the main one's own list, and the label stands once in the program's blocks of that
 -- number; begin blocks stand up to a hundred deep; on-units are given in the main procedure's own block
 abbrev mutual
-  pub JumpsAround : Y.Program → (block level : ℕ) → (all : List (ℕ × Label)) → (blocks : List BlockPlace) → (main : OuterBlock) → (outer : List OuterBlock) → (around : List Label) → Y.Stmt → Type 0
-  JumpsAround program block level all blocks main outer around (Y.If condition unit line) = JumpsAround program block level all blocks main outer around unit
-  JumpsAround program block level all blocks main outer around (Y.IfElse condition unit otherwise line) = JumpsAround program block level all blocks main outer around unit × JumpsAround program block level all blocks main outer around otherwise
-  JumpsAround program block level all blocks main outer around (Y.Do body line) = AllJumpAround program block level all blocks main outer (labels_in body ++ around) body
-  JumpsAround program block level all blocks main outer around (Y.DoWhile condition body line) = AllJumpAround program block level all blocks main outer (labels_in body ++ around) body
-  JumpsAround program block level all blocks main outer around (Y.DoOnce target start condition body line) = AllJumpAround program block level all blocks main outer (labels_in body ++ around) body
-  JumpsAround program block level all blocks main outer around (Y.DoCount counter start limit step condition body line) = AllJumpAround program block level all blocks main outer (labels_in body ++ around) body
-  JumpsAround program block level all blocks main outer around (Y.Begin (Y.BlockOf head body)) =
+  pub JumpsAround : (block level : ℕ) → (all : List (ℕ × Label)) → (blocks : List BlockPlace) → (main : OuterBlock) → (outer : List OuterBlock) → (around : List Label) → Y.Stmt → Type 0
+  JumpsAround block level all blocks main outer around (Y.If condition unit line) = JumpsAround block level all blocks main outer around unit
+  JumpsAround block level all blocks main outer around (Y.IfElse condition unit otherwise line) = JumpsAround block level all blocks main outer around unit × JumpsAround block level all blocks main outer around otherwise
+  JumpsAround block level all blocks main outer around (Y.Do body line) = AllJumpAround block level all blocks main outer (labels_in body ++ around) body
+  JumpsAround block level all blocks main outer around (Y.DoWhile condition body line) = AllJumpAround block level all blocks main outer (labels_in body ++ around) body
+  JumpsAround block level all blocks main outer around (Y.DoOnce target start condition body line) = AllJumpAround block level all blocks main outer (labels_in body ++ around) body
+  JumpsAround block level all blocks main outer around (Y.DoCount counter start limit step condition body line) = AllJumpAround block level all blocks main outer (labels_in body ++ around) body
+  JumpsAround block level all blocks main outer around (Y.Begin (Y.BlockOf head body)) =
       ((head.level ≡ suc level) × (head.level ≤ 100))
-      × AllJumpAround program head.number head.level all blocks main (record { level = level; number = block; labels = around } ∷ outer) (labels_in body) body
-  JumpsAround program block level all blocks main outer around (Y.Goto to label line) =
+      × AllJumpAround head.number head.level all blocks main (record { level = level; number = block; labels = around } ∷ outer) (labels_in body) body
+  JumpsAround block level all blocks main outer around (Y.Goto to label line) =
       ((to ≡ level) × ((is_among label around ≡ true) × (times block label all ≡ 1))) ⊎ IsOutward block to label all blocks outer
-  JumpsAround program block level all blocks main outer around (Y.OnUnit condition (Y.BlockOf head body) line) =
-      ((0 == level) ≡ true) × ((head.level ≡ 1) × (IsUnitApart block head head.kind × AllJumpAround program head.number head.level all blocks main (main ∷ []) (labels_in body) body))
-  JumpsAround program block level all blocks main outer around _ = ⊤
+  JumpsAround block level all blocks main outer around (Y.OnUnit condition (Y.BlockOf head body) line) =
+      ((0 == level) ≡ true) × ((head.level ≡ 1) × (IsUnitApart block head head.kind × AllJumpAround head.number head.level all blocks main (main ∷ []) (labels_in body) body))
+  JumpsAround block level all blocks main outer around _ = ⊤
 
-  pub AllJumpAround : Y.Program → (block level : ℕ) → (all : List (ℕ × Label)) → (blocks : List BlockPlace) → (main : OuterBlock) → (outer : List OuterBlock) → (around : List Label) → Y.Stmts → Type 0
-  AllJumpAround program block level all blocks main outer around (Y.EndOfList labels) = ⊤
-  AllJumpAround program block level all blocks main outer around (Y.StmtThen labels first rest) = JumpsAround program block level all blocks main outer around first × AllJumpAround program block level all blocks main outer around rest
+  pub AllJumpAround : (block level : ℕ) → (all : List (ℕ × Label)) → (blocks : List BlockPlace) → (main : OuterBlock) → (outer : List OuterBlock) → (around : List Label) → Y.Stmts → Type 0
+  AllJumpAround block level all blocks main outer around (Y.EndOfList labels) = ⊤
+  AllJumpAround block level all blocks main outer around (Y.StmtThen labels first rest) = JumpsAround block level all blocks main outer around first × AllJumpAround block level all blocks main outer around rest
 
 -- ---- what the variables of blocks in a part take in frames
 
@@ -698,7 +698,7 @@ pub record IsInner (program : Y.Program) (block : ℕ) (all : List (ℕ × Label
   pub level : head.level ≡ 1
   pub bare : variables_of_block program head.number ≡ []
   pub statements : AreProvedStatements (main_names program block) (types_of (variables_of_block program block)) body
-  pub jumps : AllJumpAround program head.number 1 all (blocks_of program.procedures) (main_outer block program.procedures) (main_outer block program.procedures ∷ []) (labels_in body) body
+  pub jumps : AllJumpAround head.number 1 all (blocks_of program.procedures) (main_outer block program.procedures) (main_outer block program.procedures ∷ []) (labels_in body) body
   pub inside : DeclareScalars program body
   pub callable : is_number head.number called ≡ true → IsCallable program called head body
 
@@ -711,7 +711,7 @@ pub record IsProvedBlock (program : Y.Program) (head : Y.BlockHead) (body : Y.St
   pub level : head.level ≡ 0
   pub line : IsLine head.line
   pub statements : AreProvedStatements (main_names program head.number) (types_of (variables_of_block program head.number)) body
-  pub jumps : AllJumpAround program head.number 0 (all_labels head.number body ++ procedure_labels others) (blocks_of program.procedures) (main_outer head.number program.procedures) [] (labels_in body) body
+  pub jumps : AllJumpAround head.number 0 (all_labels head.number body ++ procedure_labels others) (blocks_of program.procedures) (main_outer head.number program.procedures) [] (labels_in body) body
   pub calls : AllCallAmong program called true true body
   pub inside : DeclareScalars program body
   pub few : inner_bytes program body ≤ 1000000
