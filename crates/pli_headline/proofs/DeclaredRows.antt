@@ -1,5 +1,5 @@
 -- A program with blocks that declare scalars, one in the other, is one of those that are proved.
-use Rattle.std.proofs.Common.{◌≡◌, ℕ, ◌^◌, List, [], ◌∷◌, None, refl, arith, lit<, inl, inr, false}
+use Rattle.std.proofs.Common.{ℕ, List, [], ◌∷◌, None, refl, arith, lit<, inl, inr, false}
 use Rattle.pli_typing.specs.TypedTree as Y
 use Rattle.pli_headline.specs.ProvedSoFar.{Names, Types, IsOwn, IsDeclaring, IsProvedNumber, IsPlain, IsProvedSoFar, main_names, names_in, alone, plain_variable}
 

@@ -1,5 +1,5 @@
 -- The forms of the first path's programs are among those for which the headline is proved.
-use Rattle.std.proofs.Common.{◌≡◌, ℕ, zero, suc, ◌<◌, List, [], ◌∷◌, length, Some, None, true, refl, sym, ap, ◌∙◌, subst, arith, unwrap_or, inl, ◌++◌, ◌≤◌, false}
+use Rattle.std.proofs.Common.{◌≡◌, ℕ, zero, suc, ◌<◌, List, [], ◌∷◌, length, Some, None, true, refl, sym, ap, ◌∙◌, subst, arith, unwrap_or, inl, ◌++◌, ◌≤◌}
 use Rattle.std.specs.Prelude.{max, slice_get}
 use Rattle.pli_typing.specs.TypedTree as Y
 use Rattle.pli_meaning.specs.Control.{Label}

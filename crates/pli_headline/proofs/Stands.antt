@@ -5,7 +5,6 @@ use Rattle.std.proofs.lemmas.Bool.{eqb-true}
 use Rattle.pli_typing.specs.TypedTree as Y
 use Rattle.pli_meaning.specs.Control.{Label}
 use Rattle.pli_meaning.specs.Executing.{labels_in}
-use Rattle.pli_meaning.specs.DeclaredShapes.{variables_of_block}
 use Rattle.pli_coding.specs.Environments.{BlockPlace}
 use Rattle.pli_headline.specs.ProvedSoFar.{OuterBlock, of_block, inner_labels, all_labels, JumpsAround, AllJumpAround, is_number, CallsAmong, AllCallAmong, IsUnitApart, IsUnitNew}
 use Rattle.pli_headline.proofs.InnerFrames.{other_level}

@@ -15,7 +15,7 @@ use Rattle.pli_coding.specs.Assembly.{size_of}
 use Rattle.pli_coding.specs.Procedures.{procedure_in}
 use Rattle.pli_coding.specs.Linking.{links_of}
 use Rattle.pli_coding.specs.Images.{code_of, linked_code, picture_of}
-use Rattle.pli_headline.specs.ProvedSoFar.{all_labels, procedure_labels, IsProvedSoFar, main_names, inner_bytes}
+use Rattle.pli_headline.specs.ProvedSoFar.{all_labels, procedure_labels, IsProvedSoFar, main_names}
 use Rattle.pli_headline.specs.Headline.{parts, FitsMemory, HeadlineSoFar}
 use Rattle.pli_headline.proofs.Engine.{most_code}
 use Rattle.pli_headline.proofs.Items.{Linked}
