@@ -1,32 +1,31 @@
 -- Begin blocks that declare scalars: they are entered, their variables are made one behind the other, their statements run, and they are left.
-use Rattle.std.proofs.Common.{◌≡◌, ℕ, zero, suc, ◌+◌, ◌*◌, ◌^◌, ◌<◌, ◌≤◌, inl, inr, List, [], ◌∷◌, ◌++◌, length, Option, Some, None, true, false, refl, sym, ap, ◌∙◌, subst, arith}
-use Rattle.std.specs.Prelude.{pos, max, min, nat_lt, slice_get, ◌==◌}
+use Rattle.std.proofs.Common.{◌≡◌, ℕ, zero, suc, ◌+◌, ◌*◌, ◌^◌, ◌<◌, ◌≤◌, inl, inr, List, [], ◌∷◌, ◌++◌, length, Option, true, false, refl, sym, ap, ◌∙◌, subst, arith}
+use Rattle.std.specs.Prelude.{max, min, nat_lt, slice_get}
 use Rattle.std.proofs.lemmas.Bool.{ltb-true}
 use Rattle.rv_meaning.specs.declared.instr.Instr.{Instr}
 use Rattle.pli_typing.specs.TypedTree as Y
 use Rattle.pli_meaning.specs.declared.outcome.End.TheVariants as E
 use Rattle.pli_meaning.specs.declared.outcome.Limit.TheVariants as L
-use Rattle.pli_meaning.specs.World.{World, counted}
+use Rattle.pli_meaning.specs.World.{counted}
 use Rattle.pli_meaning.specs.BasicValues.{BasicValue}
 use Rattle.pli_meaning.specs.StorageState.{State, with_world, newest_height, newest_ended, most_activations}
 use Rattle.pli_meaning.specs.DeclaredShapes.{variables_of_block}
-use Rattle.pli_meaning.specs.Control.{Label, Meaning, act, flow_on, left, finish, give, ◌>>=◌, ◌>>◌}
+use Rattle.pli_meaning.specs.Control.{Meaning, act, flow_on, left, finish, give, ◌>>◌}
 use Rattle.pli_meaning.specs.Raising.{Around}
 use Rattle.pli_meaning.specs.Executing as M
 use Rattle.pli_meaning.specs.Making as K
 use Rattle.pli_serving.specs.ServiceState.{Services}
-use Rattle.pli_serving.specs.ServiceState as S
 use Rattle.pli_coding.specs.Assembly.{Code, size_of}
 use Rattle.pli_coding.specs.Instructions.{move}
 use Rattle.pli_coding.specs.Registers.{frame_register, a0}
 use Rattle.pli_coding.specs.Allocating.{act_code}
 use Rattle.pli_coding.specs.Entries.{frame_begun, entered_without_texts, variables_made, variables_words}
-use Rattle.pli_coding.specs.Environments.{Environment, BlockOwner, none_taken, in_frame}
-use Rattle.pli_coding.specs.Frames.{fixed_size, frame_end, last_place, frame_bytes, variable_place, parameters_of_block}
+use Rattle.pli_coding.specs.Environments.{Environment, none_taken, in_frame}
+use Rattle.pli_coding.specs.Frames.{fixed_size, last_place, frame_bytes, variable_place, parameters_of_block}
 use Rattle.pli_coding.specs.Linking.{Links}
 use Rattle.pli_coding.specs.Statements.{begin_environment, begin_code, block_words, stmts_words, stmt_code, stmts_code}
 use Rattle.pli_headline.specs.Headline.{parts}
-use Rattle.pli_headline.specs.ProvedSoFar.{Names, Kind, Types, AreDeclaring, names_from, types_in, plain_variable, IsElementType}
+use Rattle.pli_headline.specs.ProvedSoFar.{Names, Types, AreDeclaring, plain_variable, IsElementType}
 use Rattle.pli_headline.proofs.Engine.{Base, address}
 use Rattle.pli_headline.proofs.Linking.{size_append}
 use Rattle.pli_headline.proofs.Items.{Linked, At}
@@ -41,9 +40,9 @@ use Rattle.pli_headline.proofs.Activations.{same_length, newest_is, entered_leng
 use Rattle.pli_headline.proofs.MainProcedure.{frame_fixed}
 use Rattle.pli_headline.proofs.DeclaredNames.{by_element}
 use Rattle.pli_headline.proofs.StandingBytes.{ConstantsStand}
-use Rattle.pli_headline.proofs.Statements.{owner_level, Block, IsFilled, IsKnown, Standing, AllHold, counted_all, Does, Enough}
+use Rattle.pli_headline.proofs.Statements.{owner_level, Block, IsFilled, IsKnown, AllHold, counted_all, Does, Enough}
 use Rattle.pli_headline.proofs.Declares.{Makes, made_block, first_more, next_makes, declares_from, code_joined}
-use Rattle.pli_headline.proofs.OneMore.{More, more_block}
+use Rattle.pli_headline.proofs.OneMore.{more_block}
 use Rattle.pli_headline.proofs.MoreServed.{place_for}
 use Rattle.pli_headline.proofs.InnerFrames.{Inner, inner_block}
 use Rattle.pli_headline.proofs.BeginFrames.{inner_begun, inner_frame}

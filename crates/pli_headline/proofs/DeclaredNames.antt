@@ -1,12 +1,12 @@
 -- The names and types of a block that declares scalars: those around it, and behind them its own.
-use Rattle.std.proofs.Common.{◌≡◌, ℕ, zero, suc, ◌+◌, ◌-◌, ◌<◌, ◌≤◌, ◌⊎◌, inl, inr, List, [], ◌∷◌, ◌++◌, length, Some, Bool, true, false, refl, sym, ap, ◌∙◌, subst, arith}
+use Rattle.std.proofs.Common.{◌≡◌, ℕ, zero, suc, ◌+◌, ◌-◌, ◌<◌, ◌≤◌, ◌⊎◌, inl, inr, List, [], ◌∷◌, ◌++◌, length, Some, refl, sym, ap, ◌∙◌, subst, arith}
 use Rattle.std.specs.Prelude.{cond, nat_lt, slice_get}
 use Rattle.std.proofs.lemmas.Bool.{lt-ltb, le-ltb, cases_lt}
 use Rattle.pli_typing.specs.TypedTree as Y
 use Rattle.pli_meaning.specs.DeclaredShapes.{variables_of_block}
 use Rattle.pli_coding.specs.Environments.{Environment}
 use Rattle.pli_coding.specs.Statements.{begin_environment}
-use Rattle.pli_headline.specs.ProvedSoFar.{Names, Spot, Kind, Types, alone, types_of, IsElementType, plain_variable, IsDeclaring, AreDeclaring, DeclareIf, names_with, names_from, names_in, types_in, declared_kind, array_variable}
+use Rattle.pli_headline.specs.ProvedSoFar.{Names, Spot, Kind, Types, alone, types_of, IsElementType, plain_variable, IsDeclaring, AreDeclaring, names_with, names_from, names_in, types_in, declared_kind, array_variable}
 use Rattle.pli_headline.proofs.Scalars.{place_below}
 use Rattle.pli_headline.proofs.Variables.{IsDeclaredAs, HasTypes}
 
@@ -17,10 +17,6 @@ pub by_element : (P : Y.LeafType → Type 0) → ((p : ℕ) → IsElementType (Y
 by_element P fixed bit (Y.FixedLeaf p) is = fixed p is
 by_element P fixed bit Y.BitLeaf is = bit
 by_element P fixed bit _ is = absurd is
-
-pub declare_if : (may : Bool) (ds : List Y.DeclaredVariable) → DeclareIf may ds → AreDeclaring ds
-declare_if true ds h = h
-declare_if false ds h = subst AreDeclaring (sym h) tt
 
 -- a variable by its place
 pub record DeclaredAt (ds : List Y.DeclaredVariable) (i : ℕ) (kind : Kind) : Type 0 where

@@ -1,10 +1,10 @@
 -- A program with blocks that declare scalars, one in the other, is one of those that are proved.
-use Rattle.std.proofs.Common.{◌≡◌, ℕ, ◌^◌, List, [], ◌∷◌, None, refl, arith, lit<, inl}
+use Rattle.std.proofs.Common.{ℕ, List, [], ◌∷◌, None, refl, arith, lit<, inl, inr, false}
 use Rattle.pli_typing.specs.TypedTree as Y
 use Rattle.pli_headline.specs.ProvedSoFar.{Names, Types, IsOwn, IsDeclaring, IsProvedNumber, IsPlain, IsProvedSoFar, main_names, names_in, alone, plain_variable}
 
 -- T: PROC OPTIONS(MAIN); DECLARE I FIXED BINARY(31); BEGIN; DECLARE J FIXED BINARY(15), B BIT(1); J = I;
--- BEGIN; DECLARE K FIXED BINARY(31); K = J; I = K; END; END; END;
+-- BEGIN; DECLARE K FIXED BINARY(31); K = J; I = K; IF '0'B THEN GOTO L; END; END; L: END;
 abbrev whole_at : (block level index : ℕ) → Y.Reference
 whole_at block level index =
     Y.Referring (record { class = Y.AutomaticClass; block = block; level = level; index = index }) Y.NotLocated (record { first = 0; count = 1 }) Y.NoNumber
@@ -21,7 +21,8 @@ innermost_head = record { kind = Y.BeginBlock; number = 3; level = 2; line = 3 }
 abbrev innermost_body : Y.Stmts
 innermost_body =
     Y.StmtThen [] (Y.Assign (whole_at 3 2 0) (Y.StoredNumber 31 (Y.NumberIn (whole_at 2 1 0))) 3)
-    (Y.StmtThen [] (Y.Assign (whole_at 1 0 0) (Y.StoredNumber 31 (Y.NumberIn (whole_at 3 2 0))) 4) (Y.EndOfList []))
+    (Y.StmtThen [] (Y.Assign (whole_at 1 0 0) (Y.StoredNumber 31 (Y.NumberIn (whole_at 3 2 0))) 4)
+    (Y.StmtThen [] (Y.If (Y.BitConstant false) (Y.Goto 0 (76 ∷ []) 5) 5) (Y.EndOfList [])))
 
 abbrev inner_body : Y.Stmts
 inner_body =
@@ -29,7 +30,7 @@ inner_body =
     (Y.StmtThen [] (Y.Begin (Y.BlockOf innermost_head innermost_body)) (Y.EndOfList []))
 
 abbrev outer_body : Y.Stmts
-outer_body = Y.StmtThen [] (Y.Begin (Y.BlockOf inner_head inner_body)) (Y.EndOfList [])
+outer_body = Y.StmtThen [] (Y.Begin (Y.BlockOf inner_head inner_body)) (Y.EndOfList ((76 ∷ []) ∷ []))
 
 abbrev inner_variables : List Y.DeclaredVariable
 inner_variables = plain_variable (Y.FixedLeaf 15) [] ∷ plain_variable Y.BitLeaf [] ∷ []
@@ -88,12 +89,12 @@ declaring_program =
         level = refl;
         line = lit< tt;
         statements = (
-          (refl, (lit< tt, (((inl j, tt), (ni, lit< tt)), ((refl, (lit< tt, (((inl k', tt), (nj, lit< tt)), (((inl i', tt), (nk, lit< tt)), tt)))), tt)))),
+          (refl, (lit< tt, (((inl j, tt), (ni, lit< tt)), ((refl, (lit< tt, (((inl k', tt), (nj, lit< tt)), (((inl i', tt), (nk, lit< tt)), ((tt, (lit< tt, lit< tt)), tt))))), tt)))),
           tt,
         );
-        jumps = (((refl, omega arith), (tt, (((refl, omega arith), (tt, (tt, tt))), tt))), tt);
-        calls = ((tt, ((tt, (tt, tt)), tt)), tt);
-        inside = (((declares_j, (declares_b, tt)), (tt, (((declares_k, tt), (tt, (tt, tt))), tt))), tt);
+        jumps = (((refl, omega arith), (tt, (((refl, omega arith), (tt, (tt, (inr (inr (inl (refl, (refl, (refl, refl))))), tt)))), tt))), tt);
+        calls = ((tt, ((tt, (tt, (tt, tt))), tt)), tt);
+        inside = (((declares_j, (declares_b, tt)), (tt, (((declares_k, tt), (tt, (tt, (tt, tt)))), tt))), tt);
         few = omega arith;
       };
       inner = tt;

@@ -25,11 +25,11 @@ use Rattle.pli_coding.specs.Entries.{automatic_made, variables_made}
 use Rattle.pli_coding.specs.Linking.{Links}
 use Rattle.pli_headline.specs.Headline.{parts}
 use Rattle.pli_headline.specs.ProvedSoFar.{Names, Spot, Kind, Types, alone, types_of, IsElementType, AreDeclaring, IsDeclaring, plain_variable, array_variable, declared_kind, names_from, types_in, OuterBlock}
-use Rattle.pli_headline.proofs.Storages.{storage, in_use_same, Serials}
+use Rattle.pli_headline.proofs.Storages.{storage, in_use_same}
 use Rattle.pli_headline.proofs.Engine.{Base, address}
 use Rattle.pli_headline.proofs.Linking.{size_append}
 use Rattle.pli_headline.proofs.Items.{Linked, At}
-use Rattle.pli_headline.proofs.Bodies.{Known, Ground}
+use Rattle.pli_headline.proofs.Bodies.{Known}
 use Rattle.pli_headline.proofs.Jumps.{front_of, back_of}
 use Rattle.pli_headline.proofs.Temporaries.{nothing}
 use Rattle.pli_headline.proofs.Activations.{entered_length, same_length}
@@ -49,7 +49,6 @@ use Rattle.pli_headline.proofs.MoreStates.{IsNew, step_meant, made_or_ended, nes
 use Rattle.pli_headline.proofs.MoreServed.{OwnStands, place_for, more_piece, past_piece}
 use Rattle.pli_headline.proofs.MainStates.{kind_binding}
 use Rattle.pli_headline.proofs.Statements.{Block, Enclosures, Outlets, Homes, lower_ground, AllHold, SameValues, IsKnown, IsEndMarkedOnce, Exit, Does, owner_level}
-use Rattle.pli_headline.proofs.Entered.{Frames}
 
 -- ---- the variables still to be made
 

@@ -1,5 +1,5 @@
 -- The forms of the first path's programs are among those for which the headline is proved.
-use Rattle.std.proofs.Common.{◌≡◌, ℕ, zero, suc, ◌<◌, List, [], ◌∷◌, length, Some, None, true, refl, sym, ap, ◌∙◌, subst, arith, unwrap_or, inl, ◌++◌, ◌≤◌, false}
+use Rattle.std.proofs.Common.{◌≡◌, ℕ, zero, suc, ◌<◌, List, [], ◌∷◌, length, Some, None, true, refl, sym, ap, ◌∙◌, subst, arith, unwrap_or, inl, ◌++◌, ◌≤◌}
 use Rattle.std.specs.Prelude.{max, slice_get}
 use Rattle.pli_typing.specs.TypedTree as Y
 use Rattle.pli_meaning.specs.Control.{Label}
@@ -8,7 +8,7 @@ use Rattle.std.specs.List.{flat_map}
 use Rattle.pli_coding.specs.Environments.{BlockPlace}
 use Rattle.pli_coding.specs.SignatureTable.{signature_of, with_signature, with_signatures}
 use Rattle.pli_coding.specs.Streams.{has_text}
-use Rattle.pli_headline.specs.ProvedSoFar.{IsPlain, ArePlain, AllPlain, Types, types_of, IsOwn, HavePrecisions, IsProvedNumber, IsProvedItem, AreProvedItems, AreProvedPairs, IsProvedStatement, AreProvedStatements, OuterBlock, JumpsAround, AllJumpAround, IsBare, AreBare, IsProvedSoFar, alone, AreSubscripts, declared_kind, CallsAmong, AllCallAmong, main_names, bytes_in, inner_bytes}
+use Rattle.pli_headline.specs.ProvedSoFar.{IsPlain, ArePlain, AllPlain, Types, types_of, IsOwn, HavePrecisions, IsProvedNumber, IsProvedItem, AreProvedItems, AreProvedPairs, IsProvedStatement, AreProvedStatements, OuterBlock, JumpsAround, AllJumpAround, DeclaresScalars, DeclareScalars, IsProvedSoFar, alone, AreSubscripts, declared_kind, CallsAmong, AllCallAmong, main_names, bytes_in, inner_bytes}
 use Rattle.pli_headline.proofs.FormatData.{true_false}
 use Rattle.pli_headline.specs.FirstForms.{plain_number, AreNumbers, AllNumbers, IsFirstReference, IsFirstNumber, IsFirstItem, AreFirstItems, AreFirstPairs, IsFirstStatement, AreFirstStatements, IsFirstProgram}
 
@@ -108,16 +108,16 @@ statements_wider program block count types (Y.EndOfList labels) all h = tt
 statements_wider program block count types (Y.StmtThen labels first rest) all h = (statement_wider program block count types first all h.0, statements_wider program block count types rest all h.1)
 
 -- none of them jumps
-statement_stays : (program : Y.Program) (block count number level : ℕ) (all : List (ℕ × Label)) (blocks : List BlockPlace) (main : OuterBlock) (outer : List OuterBlock) (around : List Label) (x : Y.Stmt) → IsFirstStatement block count x → JumpsAround program number level all blocks main outer around x
-statement_stays program block count number level all blocks main outer around (Y.Null line) h = tt
-statement_stays program block count number level all blocks main outer around (Y.Assign target (Y.StoredNumber precision x) line) h = tt
-statement_stays program block count number level all blocks main outer around (Y.Put None pairs line) h = tt
-statement_stays program block count number level all blocks main outer around _ h = absurd h
+statement_stays : (block count number level : ℕ) (all : List (ℕ × Label)) (blocks : List BlockPlace) (main : OuterBlock) (outer : List OuterBlock) (around : List Label) (x : Y.Stmt) → IsFirstStatement block count x → JumpsAround number level all blocks main outer around x
+statement_stays block count number level all blocks main outer around (Y.Null line) h = tt
+statement_stays block count number level all blocks main outer around (Y.Assign target (Y.StoredNumber precision x) line) h = tt
+statement_stays block count number level all blocks main outer around (Y.Put None pairs line) h = tt
+statement_stays block count number level all blocks main outer around _ h = absurd h
 
-pub statements_stay : (program : Y.Program) (block count number level : ℕ) (all : List (ℕ × Label)) (blocks : List BlockPlace) (main : OuterBlock) (outer : List OuterBlock) (around : List Label) (body : Y.Stmts) → AreFirstStatements block count body → AllJumpAround program number level all blocks main outer around body
-statements_stay program block count number level all blocks main outer around (Y.EndOfList labels) h = tt
-statements_stay program block count number level all blocks main outer around (Y.StmtThen labels first rest) h =
-    (statement_stays program block count number level all blocks main outer around first h.0, statements_stay program block count number level all blocks main outer around rest h.1)
+pub statements_stay : (block count number level : ℕ) (all : List (ℕ × Label)) (blocks : List BlockPlace) (main : OuterBlock) (outer : List OuterBlock) (around : List Label) (body : Y.Stmts) → AreFirstStatements block count body → AllJumpAround number level all blocks main outer around body
+statements_stay block count number level all blocks main outer around (Y.EndOfList labels) h = tt
+statements_stay block count number level all blocks main outer around (Y.StmtThen labels first rest) h =
+    (statement_stays block count number level all blocks main outer around first h.0, statements_stay block count number level all blocks main outer around rest h.1)
 
 -- nor calls
 statement_calls : (program : Y.Program) (block count : ℕ) (may : List ℕ) (x : Y.Stmt) → IsFirstStatement block count x → CallsAmong program may true true x
@@ -132,13 +132,13 @@ statements_call program block count may (Y.StmtThen labels first rest) h =
     (statement_calls program block count may first h.0, statements_call program block count may rest h.1)
 
 -- and none is a block
-statement_bare : (block count : ℕ) (program : Y.Program) (x : Y.Stmt) → IsFirstStatement block count x → IsBare program true x
+statement_bare : (block count : ℕ) (program : Y.Program) (x : Y.Stmt) → IsFirstStatement block count x → DeclaresScalars program x
 statement_bare block count program (Y.Null line) h = tt
 statement_bare block count program (Y.Assign target (Y.StoredNumber precision x) line) h = tt
 statement_bare block count program (Y.Put None pairs line) h = tt
 statement_bare block count program _ h = absurd h
 
-pub statements_bare : (block count : ℕ) (program : Y.Program) (body : Y.Stmts) → AreFirstStatements block count body → AreBare program true body
+pub statements_bare : (block count : ℕ) (program : Y.Program) (body : Y.Stmts) → AreFirstStatements block count body → DeclareScalars program body
 statements_bare block count program (Y.EndOfList labels) h = tt
 statements_bare block count program (Y.StmtThen labels first rest) h =
     (statement_bare block count program first h.0, statements_bare block count program rest h.1)
@@ -170,7 +170,7 @@ program_wider program is =
         level = is.block.level;
         line = is.block.line;
         statements = statements_wider program is.head.number (length (variables_of_block program is.head.number)) (types_of (variables_of_block program is.head.number)) is.body (numbers_typed (variables_of_block program is.head.number) (block_numbers program.variables is.head.number is.plain)) is.block.statements;
-        jumps = statements_stay program _ _ _ _ _ _ _ _ _ is.body is.block.statements;
+        jumps = statements_stay _ _ _ _ _ _ _ _ _ is.body is.block.statements;
         calls = statements_call program _ _ [] is.body is.block.statements;
         inside = statements_bare _ _ program is.body is.block.statements;
         few = (let none = statements_few _ _ program is.body is.block.statements in omega (arith, none));

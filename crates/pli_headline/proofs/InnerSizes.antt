@@ -1,5 +1,5 @@
 -- The words for temporaries of a procedure and of a block inside it are together fewer than the words of its code.
-use Rattle.std.proofs.Common.{◌≡◌, ℕ, suc, ◌+◌, ◌-◌, ◌≤◌, [], ◌∷◌, ◌++◌, None, false, arith, Option, Some, Bool}
+use Rattle.std.proofs.Common.{◌≡◌, ℕ, suc, ◌+◌, ◌-◌, ◌≤◌, [], ◌∷◌, ◌++◌, None, false, arith, Option, Some}
 use Rattle.std.specs.Prelude.{max}
 use Rattle.std.proofs.lemmas.Bool.Decides.{nat_tests}
 use Rattle.pli_typing.specs.TypedTree as Y
@@ -14,13 +14,13 @@ use Rattle.pli_coding.specs.Storing.{word_stored, stored_into}
 use Rattle.pli_coding.specs.Allocating.{act_code}
 use Rattle.pli_headline.specs.InnerWords.{inner_words, all_inner_words}
 use Rattle.pli_coding.specs.Temporaries.{number_words, bit_words, reference_words}
-use Rattle.pli_headline.specs.ProvedSoFar.{IsBare, AreBare, Names, Types, ArePlain, IsProvedStatement, AreProvedStatements, IsProvedBitIf, text_leaf, names_in, types_in}
+use Rattle.pli_headline.specs.ProvedSoFar.{DeclaresScalars, DeclareScalars, Names, Types, ArePlain, IsProvedStatement, AreProvedStatements, IsProvedBitIf, text_leaf, names_in, types_in}
 use Rattle.pli_coding.specs.Procedures.{procedure_begun, procedure_ended, procedure_in}
 use Rattle.pli_headline.proofs.Linking.{size_append}
 use Rattle.pli_coding.specs.Entries.{frame_begun, frame_ended, block_left, entered_without_texts, variables_code}
 use Rattle.pli_coding.specs.Statements.{begin_environment, begin_code, if_met, while_met, block_words, stmt_code, stmts_code, stmt_words, stmts_words, marked, once_code, bit_if, in_turns, before_turns, number_if, start_code, limit_code, step_code, started_code, step_place, turn_of, turns_code, words_back, words_behind_limit, words_behind_condition, limit_kept, while_kept, stepped_code}
 use Rattle.pli_headline.proofs.Variables.{HasTypes}
-use Rattle.pli_headline.proofs.DeclaredNames.{declare_if, named_in, has_in}
+use Rattle.pli_headline.proofs.DeclaredNames.{named_in, has_in}
 use Rattle.pli_headline.proofs.Sizes.{most, own_words, number_size, bit_size, text_size, act_size, met_size', once_size, limit_words_size, condition_words_size, statement_size, no_variable_words, target_size, start_words_size}
 use Rattle.pli_coding.specs.Streams.{value_words}
 
@@ -45,49 +45,49 @@ once_both e t block types (Some x) line c is =
 
 mutual
   -- the words of blocks inside alone
-  inside_size : (e : Environment) (t : Taken) (declares : Bool) (block : Names) (types : Types) (named : block.program ≡ e.program) (has : HasTypes e block types) (x : Y.Stmt) → IsProvedStatement block types x → IsBare e.program declares x → inner_words x ≤ size_of (stmt_code e t x)
-  inside_size e t declares block types named has (Y.Null line) is bare = omega arith
-  inside_size e t declares block types named has (Y.Assign target (Y.StoredNumber precision x) line) is bare = omega arith
-  inside_size e t declares block types named has (Y.Assign target (Y.StoredBit x) line) is bare = omega arith
-  inside_size e t declares block types named has (Y.Assign target (Y.StoredText x) line) is bare = omega arith
-  inside_size e t declares block types named has (Y.If condition unit line) is bare =
+  inside_size : (e : Environment) (t : Taken) (block : Names) (types : Types) (named : block.program ≡ e.program) (has : HasTypes e block types) (x : Y.Stmt) → IsProvedStatement block types x → DeclaresScalars e.program x → inner_words x ≤ size_of (stmt_code e t x)
+  inside_size e t block types named has (Y.Null line) is bare = omega arith
+  inside_size e t block types named has (Y.Assign target (Y.StoredNumber precision x) line) is bare = omega arith
+  inside_size e t block types named has (Y.Assign target (Y.StoredBit x) line) is bare = omega arith
+  inside_size e t block types named has (Y.Assign target (Y.StoredText x) line) is bare = omega arith
+  inside_size e t block types named has (Y.If condition unit line) is bare =
       let test = bit_code e t condition in
       let c = stmt_code e t unit in
-      let m = inside_size e t declares block types named has unit is.1.0 bare in
+      let m = inside_size e t block types named has unit is.1.0 bare in
       let s1 = size_append (act_code line) (test ++ if_met c) in
       let s2 = size_append test (if_met c) in
       let s3 = met_size' c in
       omega (arith, m, s1, s2, s3)
-  inside_size e t declares block types named has (Y.IfElse condition unit otherwise line) is bare =
+  inside_size e t block types named has (Y.IfElse condition unit otherwise line) is bare =
       let test = bit_code e t condition in
       let c = stmt_code e t unit in
       let d = stmt_code e t otherwise in
       let over = JumpAhead (size_of d) ∷ [] in
-      let m1 = inside_size e t declares block types named has unit is.1.0 bare.0 in
-      let m2 = inside_size e t declares block types named has otherwise is.1.1.0 bare.1 in
+      let m1 = inside_size e t block types named has unit is.1.0 bare.0 in
+      let m2 = inside_size e t block types named has otherwise is.1.1.0 bare.1 in
       let s1 = size_append (act_code line) (test ++ (if_met (c ++ over) ++ d)) in
       let s2 = size_append test (if_met (c ++ over) ++ d) in
       let s3 = size_append (if_met (c ++ over)) d in
       let s4 = met_size' (c ++ over) in
       let s5 = size_append c over in
       most _ _ _ (omega (arith, m1, s1, s2, s3, s4, s5)) (omega (arith, m2, s1, s2, s3))
-  inside_size e t declares block types named has (Y.Do body line) is bare =
-      let m = all_inside_size e t declares block types named has body is.0 bare in
+  inside_size e t block types named has (Y.Do body line) is bare =
+      let m = all_inside_size e t block types named has body is.0 bare in
       let s = size_append (act_code line) (stmts_code e t body) in
       omega (arith, m, s)
-  inside_size e t declares block types named has (Y.DoWhile condition body line) is bare =
+  inside_size e t block types named has (Y.DoWhile condition body line) is bare =
       let test = bit_code e t condition in
       let c = stmts_code e t body in
       let tested = act_code line ++ test in
       let back = JumpBack (size_of tested + (3 + size_of c)) ∷ [] in
-      let m = all_inside_size e t declares block types named has body is.1.0 bare in
+      let m = all_inside_size e t block types named has body is.1.0 bare in
       let s1 = size_append (act_code line) (while_met tested c) in
       let s2 = size_append tested (if_met (c ++ back)) in
       let s4 = met_size' (c ++ back) in
       let s5 = size_append c back in
       omega (arith, m, s1, s2, s4, s5)
-  inside_size e t declares block types named has (Y.DoOnce target (Y.StoredNumber precision x) condition body line) is bare =
-      let m = all_inside_size e t declares block types named has body is.1.1.0 bare in
+  inside_size e t block types named has (Y.DoOnce target (Y.StoredNumber precision x) condition body line) is bare =
+      let m = all_inside_size e t block types named has body is.1.1.0 bare in
       let both = once_both e t block types condition line (stmts_code e t body) is.1.0 in
       let code = number_code e t x in
       let fitted = fitted_code t precision in
@@ -96,8 +96,8 @@ mutual
       let s1 = size_append (act_code line) (((code ++ fitted) ++ into) ++ rest) in
       let s2 = size_append ((code ++ fitted) ++ into) rest in
       omega (arith, m, both, s1, s2)
-  inside_size e t declares block types named has (Y.DoOnce target (Y.StoredBit x) condition body line) is bare =
-      let m = all_inside_size e t declares block types named has body is.1.1.0 bare in
+  inside_size e t block types named has (Y.DoOnce target (Y.StoredBit x) condition body line) is bare =
+      let m = all_inside_size e t block types named has body is.1.1.0 bare in
       let both = once_both e t block types condition line (stmts_code e t body) is.1.0 in
       let code = bit_code e t x in
       let into = stored_into e t target (Y.StoredBit x) in
@@ -105,8 +105,8 @@ mutual
       let s1 = size_append (act_code line) ((code ++ into) ++ rest) in
       let s2 = size_append (code ++ into) rest in
       omega (arith, m, both, s1, s2)
-  inside_size e t declares block types named has (Y.DoOnce target (Y.StoredText x) condition body line) is bare =
-      let m = all_inside_size e t declares block types named has body is.1.1.0 bare in
+  inside_size e t block types named has (Y.DoOnce target (Y.StoredText x) condition body line) is bare =
+      let m = all_inside_size e t block types named has body is.1.1.0 bare in
       let both = once_both e t block types condition line (stmts_code e t body) is.1.0 in
       let code = text_code e t x in
       let into = stored_into e t target (Y.StoredText x) in
@@ -114,9 +114,9 @@ mutual
       let s1 = size_append (act_code line) ((code ++ into) ++ rest) in
       let s2 = size_append (code ++ into) rest in
       omega (arith, m, both, s1, s2)
-  inside_size e t declares block types named has (Y.DoCount (Y.NumberCounter precision target) start limit step condition body line) is bare =
+  inside_size e t block types named has (Y.DoCount (Y.NumberCounter precision target) start limit step condition body line) is bare =
       let counter = Y.NumberCounter precision target in
-      let m = all_inside_size e (in_turns t) declares block types named has body is.1.1.1.0 bare in
+      let m = all_inside_size e (in_turns t) block types named has body is.1.1.1.0 bare in
       let c = stmts_code e (in_turns t) body in
       let u = turn_of e t counter limit condition line c in
       let c0 = start_code e t start in
@@ -133,7 +133,7 @@ mutual
       let s10 = size_append con (c ++ rest) in
       let s11 = size_append c rest in
       omega (arith, m, s1, s2, s8, s9, s10, s11)
-  inside_size e t declares block types named has (Y.Begin (Y.BlockOf head body)) is bare =
+  inside_size e t block types named has (Y.Begin (Y.BlockOf head body)) is bare =
       let e' = begin_environment head e in
       let words = block_words e head.number (stmts_words body) in
       let c = stmts_code e' none_taken body in
@@ -141,7 +141,7 @@ mutual
       let made = variables_code e' head.line in
       let enter = entered_without_texts 1 head.line in
       let frame = frame_begun words head.level 0 false in
-      let m = statements_inner e' none_taken declares (names_in block types head (variables_of_block block.program head.number)) (types_in types (variables_of_block block.program head.number)) (named_in block types head (variables_of_block block.program head.number) named) (has_in e block types head named (declare_if declares (variables_of_block e.program head.number) bare.0) has) body is.1.1 bare.1 in
+      let m = statements_inner e' none_taken (names_in block types head (variables_of_block block.program head.number)) (types_in types (variables_of_block block.program head.number)) (named_in block types head (variables_of_block block.program head.number) named) (has_in e block types head named bare.0 has) body is.1.1 bare.1 in
       let s1 = size_append (act_code head.line) (begin_code e head words c) in
       let s2 = size_append frame (enter ++ (made ++ (c ++ ended))) in
       let s3 = size_append enter (made ++ (c ++ ended)) in
@@ -149,55 +149,55 @@ mutual
       let s5 = size_append c ended in
       let four = act_size head.line in
       most_more _ _ _ _ (omega (arith, m, four, s1, s2, s3, s4, s5)) (omega (arith, m, four, s1, s2, s3, s4, s5))
-  inside_size e t declares block types named has (Y.Goto level label line) is bare = omega arith
-  inside_size e t declares block types named has (Y.CallProcedure (Y.Calling procedure level Y.NoArgument) line) is bare = omega arith
-  inside_size e t declares block types named has (Y.Return line) is bare = omega arith
-  inside_size e t declares block types named has (Y.Stop line) is bare = omega arith
-  inside_size e t declares block types named has (Y.Signal condition line) is bare = omega arith
-  inside_size e t declares block types named has (Y.OnSystem condition line) is bare = omega arith
-  inside_size e t declares block types named has (Y.Revert condition line) is bare = omega arith
-  inside_size e t declares block types named has (Y.OnUnit condition (Y.BlockOf head body) line) is bare = omega arith
-  inside_size e t declares block types named has (Y.Put None pairs line) is bare = omega arith
-  inside_size e t declares block types named has (Y.Put (Some n) pairs line) is bare = omega arith
-  inside_size e t declares block types named has (Y.Get None pairs line) is bare = omega arith
-  inside_size e t declares block types named has (Y.Get (Some n) pairs line) is bare = omega arith
-  inside_size e t declares block types named has _ is bare = absurd is
+  inside_size e t block types named has (Y.Goto level label line) is bare = omega arith
+  inside_size e t block types named has (Y.CallProcedure (Y.Calling procedure level Y.NoArgument) line) is bare = omega arith
+  inside_size e t block types named has (Y.Return line) is bare = omega arith
+  inside_size e t block types named has (Y.Stop line) is bare = omega arith
+  inside_size e t block types named has (Y.Signal condition line) is bare = omega arith
+  inside_size e t block types named has (Y.OnSystem condition line) is bare = omega arith
+  inside_size e t block types named has (Y.Revert condition line) is bare = omega arith
+  inside_size e t block types named has (Y.OnUnit condition (Y.BlockOf head body) line) is bare = omega arith
+  inside_size e t block types named has (Y.Put None pairs line) is bare = omega arith
+  inside_size e t block types named has (Y.Put (Some n) pairs line) is bare = omega arith
+  inside_size e t block types named has (Y.Get None pairs line) is bare = omega arith
+  inside_size e t block types named has (Y.Get (Some n) pairs line) is bare = omega arith
+  inside_size e t block types named has _ is bare = absurd is
 
-  all_inside_size : (e : Environment) (t : Taken) (declares : Bool) (block : Names) (types : Types) (named : block.program ≡ e.program) (has : HasTypes e block types) (body : Y.Stmts) → AreProvedStatements block types body → AreBare e.program declares body → all_inner_words body ≤ size_of (stmts_code e t body)
-  all_inside_size e t declares block types named has (Y.EndOfList labels) are bare = omega arith
-  all_inside_size e t declares block types named has (Y.StmtThen labels first rest) are bare =
-      let a = inside_size e t declares block types named has first are.0 bare.0 in
-      let c = all_inside_size e t declares block types named has rest are.1 bare.1 in
+  all_inside_size : (e : Environment) (t : Taken) (block : Names) (types : Types) (named : block.program ≡ e.program) (has : HasTypes e block types) (body : Y.Stmts) → AreProvedStatements block types body → DeclareScalars e.program body → all_inner_words body ≤ size_of (stmts_code e t body)
+  all_inside_size e t block types named has (Y.EndOfList labels) are bare = omega arith
+  all_inside_size e t block types named has (Y.StmtThen labels first rest) are bare =
+      let a = inside_size e t block types named has first are.0 bare.0 in
+      let c = all_inside_size e t block types named has rest are.1 bare.1 in
       let s1 = size_append (marked e.block labels) (stmt_code e t first ++ stmts_code e t rest) in
       let s2 = size_append (stmt_code e t first) (stmts_code e t rest) in
       most _ _ _ (omega (arith, a, s1, s2)) (omega (arith, c, s1, s2))
 
   -- with those of the statements around it
-  statement_inner : (e : Environment) (t : Taken) (declares : Bool) (block : Names) (types : Types) (named : block.program ≡ e.program) (has : HasTypes e block types) (x : Y.Stmt) → IsProvedStatement block types x → IsBare e.program declares x → stmt_words x + inner_words x ≤ size_of (stmt_code e t x) + 1
-  statement_inner e t declares block types named has (Y.Null line) is bare = let m = statement_size e t block types has (Y.Null line) is in omega (arith, m)
-  statement_inner e t declares block types named has (Y.Assign target (Y.StoredNumber precision x) line) is bare =
+  statement_inner : (e : Environment) (t : Taken) (block : Names) (types : Types) (named : block.program ≡ e.program) (has : HasTypes e block types) (x : Y.Stmt) → IsProvedStatement block types x → DeclaresScalars e.program x → stmt_words x + inner_words x ≤ size_of (stmt_code e t x) + 1
+  statement_inner e t block types named has (Y.Null line) is bare = let m = statement_size e t block types has (Y.Null line) is in omega (arith, m)
+  statement_inner e t block types named has (Y.Assign target (Y.StoredNumber precision x) line) is bare =
       let m = statement_size e t block types has (Y.Assign target (Y.StoredNumber precision x) line) is in omega (arith, m)
-  statement_inner e t declares block types named has (Y.Assign target (Y.StoredBit x) line) is bare =
+  statement_inner e t block types named has (Y.Assign target (Y.StoredBit x) line) is bare =
       let m = statement_size e t block types has (Y.Assign target (Y.StoredBit x) line) is in omega (arith, m)
-  statement_inner e t declares block types named has (Y.Assign target (Y.StoredText x) line) is bare =
+  statement_inner e t block types named has (Y.Assign target (Y.StoredText x) line) is bare =
       let m = statement_size e t block types has (Y.Assign target (Y.StoredText x) line) is in omega (arith, m)
-  statement_inner e t declares block types named has (Y.If condition unit line) is bare =
+  statement_inner e t block types named has (Y.If condition unit line) is bare =
       let test = bit_code e t condition in
       let c = stmt_code e t unit in
       let n = bit_size e t block types condition is.0 in
-      let m = statement_inner e t declares block types named has unit is.1.0 bare in
+      let m = statement_inner e t block types named has unit is.1.0 bare in
       let s1 = size_append (act_code line) (test ++ if_met c) in
       let s2 = size_append test (if_met c) in
       let s3 = met_size' c in
       most_more _ _ _ _ (omega (arith, n, m, s1, s2, s3)) (omega (arith, m, s1, s2, s3))
-  statement_inner e t declares block types named has (Y.IfElse condition unit otherwise line) is bare =
+  statement_inner e t block types named has (Y.IfElse condition unit otherwise line) is bare =
       let test = bit_code e t condition in
       let c = stmt_code e t unit in
       let d = stmt_code e t otherwise in
       let over = JumpAhead (size_of d) ∷ [] in
       let n = bit_size e t block types condition is.0 in
-      let m1 = statement_inner e t declares block types named has unit is.1.0 bare.0 in
-      let m2 = statement_inner e t declares block types named has otherwise is.1.1.0 bare.1 in
+      let m1 = statement_inner e t block types named has unit is.1.0 bare.0 in
+      let m2 = statement_inner e t block types named has otherwise is.1.1.0 bare.1 in
       let s1 = size_append (act_code line) (test ++ (if_met (c ++ over) ++ d)) in
       let s2 = size_append test (if_met (c ++ over) ++ d) in
       let s3 = size_append (if_met (c ++ over)) d in
@@ -207,27 +207,27 @@ mutual
       with_most (bit_words condition) (inner_words unit) (inner_words otherwise) _ (omega (arith, n, m1, s1, s2, s3, s4, s5)) (omega (arith, n, m2, s1, s2, s3, s4, s5)) in
       most_more _ _ _ _ tested
       (both_most _ _ _ _ _ (omega (arith, m1, s1, s2, s3, s4, s5)) (omega (arith, m2, s1, s2, s3, s4, s5)) (omega (arith, m1, m2, s1, s2, s3, s4, s5)) (omega (arith, m1, m2, s1, s2, s3, s4, s5)))
-  statement_inner e t declares block types named has (Y.Do body line) is bare =
-      let m = statements_inner e t declares block types named has body is.0 bare in
+  statement_inner e t block types named has (Y.Do body line) is bare =
+      let m = statements_inner e t block types named has body is.0 bare in
       let s = size_append (act_code line) (stmts_code e t body) in
       omega (arith, m, s)
-  statement_inner e t declares block types named has (Y.DoWhile condition body line) is bare =
+  statement_inner e t block types named has (Y.DoWhile condition body line) is bare =
       let test = bit_code e t condition in
       let c = stmts_code e t body in
       let tested = act_code line ++ test in
       let back = JumpBack (size_of tested + (3 + size_of c)) ∷ [] in
       let n = bit_size e t block types condition is.0 in
-      let m = statements_inner e t declares block types named has body is.1.0 bare in
+      let m = statements_inner e t block types named has body is.1.0 bare in
       let s1 = size_append (act_code line) (while_met tested c) in
       let s2 = size_append tested (if_met (c ++ back)) in
       let s3 = size_append (act_code line) test in
       let s4 = met_size' (c ++ back) in
       let s5 = size_append c back in
       most_more _ _ _ _ (omega (arith, n, m, s1, s2, s3, s4, s5)) (omega (arith, m, s1, s2, s4, s5))
-  statement_inner e t declares block types named has (Y.DoOnce target (Y.StoredNumber precision x) condition body line) is bare =
+  statement_inner e t block types named has (Y.DoOnce target (Y.StoredNumber precision x) condition body line) is bare =
       let z : reference_words target ≤ size_of (stored_into e t target (Y.StoredNumber precision x)) = target_size e t block types (Y.FixedLeaf precision) target is.0.0 in
       let n = number_size e t block types x is.0.1 in
-      let m = statements_inner e t declares block types named has body is.1.1.0 bare in
+      let m = statements_inner e t block types named has body is.1.1.0 bare in
       let o = once_size e t block types condition line (stmts_code e t body) is.1.0 in
       let four = act_size line in
       let code = number_code e t x in
@@ -243,10 +243,10 @@ mutual
       most_more _ _ _ _
       (most_more _ _ _ _ (most_more _ _ _ _ (omega (arith, m, o1, four, s1, s2)) (omega (arith, n, m, o1, s1, s2, s3, s4))) (omega (arith, z, four, m, o1, s1, s2, s3)))
       (most_more _ _ _ _ (omega (arith, both, m, s1, s2)) (omega (arith, m, o1, s1, s2)))
-  statement_inner e t declares block types named has (Y.DoOnce target (Y.StoredBit x) condition body line) is bare =
+  statement_inner e t block types named has (Y.DoOnce target (Y.StoredBit x) condition body line) is bare =
       let z : reference_words target ≤ size_of (stored_into e t target (Y.StoredBit x)) = target_size e t block types Y.BitLeaf target is.0.0 in
       let n = bit_size e t block types x is.0.1 in
-      let m = statements_inner e t declares block types named has body is.1.1.0 bare in
+      let m = statements_inner e t block types named has body is.1.1.0 bare in
       let o = once_size e t block types condition line (stmts_code e t body) is.1.0 in
       let four = act_size line in
       let code = bit_code e t x in
@@ -260,10 +260,10 @@ mutual
       most_more _ _ _ _
       (most_more _ _ _ _ (omega (arith, n, m, o1, s1, s2, s3)) (omega (arith, z, four, m, o1, s1, s2, s3)))
       (most_more _ _ _ _ (omega (arith, both, m, s1, s2)) (omega (arith, m, o1, s1, s2)))
-  statement_inner e t declares block types named has (Y.DoOnce target (Y.StoredText x) condition body line) is bare =
+  statement_inner e t block types named has (Y.DoOnce target (Y.StoredText x) condition body line) is bare =
       let z = own_words block types (text_leaf is.0.0.varying is.0.0.most) target is.0.0.own in
       let n = text_size e t block types x is.0.1 in
-      let m = statements_inner e t declares block types named has body is.1.1.0 bare in
+      let m = statements_inner e t block types named has body is.1.1.0 bare in
       let o = once_size e t block types condition line (stmts_code e t body) is.1.0 in
       let four = act_size line in
       let code = text_code e t x in
@@ -277,7 +277,7 @@ mutual
       most_more _ _ _ _
       (most_more _ _ _ _ (omega (arith, n, m, o1, s1, s2, s3)) (omega (arith, z, four, m, o1, s1, s2)))
       (most_more _ _ _ _ (omega (arith, both, m, s1, s2)) (omega (arith, m, o1, s1, s2)))
-  statement_inner e t declares block types named has (Y.DoCount (Y.NumberCounter precision target) start limit step condition body line) is bare =
+  statement_inner e t block types named has (Y.DoCount (Y.NumberCounter precision target) start limit step condition body line) is bare =
       let counter = Y.NumberCounter precision target in
       let z = target_size e (in_turns t) block types (Y.FixedLeaf precision) target is.0.0 in
       let n0 = start_words_size e t block types start is.0.1 in
@@ -286,7 +286,7 @@ mutual
       let c = stmts_code e (in_turns t) body in
       let u = turn_of e t counter limit condition line c in
       let n3 = condition_words_size e t block types condition (words_behind_condition u) is.1.1.0 in
-      let n4 = statements_inner e (in_turns t) declares block types named has body is.1.1.1.0 bare in
+      let n4 = statements_inner e (in_turns t) block types named has body is.1.1.1.0 bare in
       let four = act_size line in
       let c0 = start_code e t start in
       let c1 = limit_code e t limit in
@@ -313,7 +313,7 @@ mutual
       (let a : max (suc (reference_words target)) (max (bit_if condition) (stmts_words body)) + all_inner_words body ≤ size_of (stmt_code e t (Y.DoCount counter start limit step condition body line)) - 1 =
       most_more _ _ _ _ (omega (arith, z, four, n4, s0, s1, s2, s8, s9, s10, s11)) (most_more _ _ _ _ (omega (arith, n3, n4, four, s1, s2, s8, s9, s10, s11)) (omega (arith, n4, four, s1, s2, s8, s9, s10, s11))) in
       omega (arith, a, four, s1))
-  statement_inner e t declares block types named has (Y.Begin (Y.BlockOf head body)) is bare =
+  statement_inner e t block types named has (Y.Begin (Y.BlockOf head body)) is bare =
       let e' = begin_environment head e in
       let words = block_words e head.number (stmts_words body) in
       let c = stmts_code e' none_taken body in
@@ -321,7 +321,7 @@ mutual
       let made = variables_code e' head.line in
       let enter = entered_without_texts 1 head.line in
       let frame = frame_begun words head.level 0 false in
-      let m = statements_inner e' none_taken declares (names_in block types head (variables_of_block block.program head.number)) (types_in types (variables_of_block block.program head.number)) (named_in block types head (variables_of_block block.program head.number) named) (has_in e block types head named (declare_if declares (variables_of_block e.program head.number) bare.0) has) body is.1.1 bare.1 in
+      let m = statements_inner e' none_taken (names_in block types head (variables_of_block block.program head.number)) (types_in types (variables_of_block block.program head.number)) (named_in block types head (variables_of_block block.program head.number) named) (has_in e block types head named bare.0 has) body is.1.1 bare.1 in
       let s1 = size_append (act_code head.line) (begin_code e head words c) in
       let s2 = size_append frame (enter ++ (made ++ (c ++ ended))) in
       let s3 = size_append enter (made ++ (c ++ ended)) in
@@ -330,44 +330,44 @@ mutual
       let four = act_size head.line in
       let a : max 0 (stmts_words body) + all_inner_words body ≤ size_of (stmt_code e t (Y.Begin (Y.BlockOf head body))) = most_more _ _ _ _ (omega (arith, m, four, s1, s2, s3, s4, s5)) (omega (arith, m, four, s1, s2, s3, s4, s5)) in
       omega (arith, a)
-  statement_inner e t declares block types named has (Y.Goto level label line) is bare = omega arith
-  statement_inner e t declares block types named has (Y.CallProcedure (Y.Calling procedure level Y.NoArgument) line) is bare = omega arith
-  statement_inner e t declares block types named has (Y.Return line) is bare = omega arith
-  statement_inner e t declares block types named has (Y.Stop line) is bare = omega arith
-  statement_inner e t declares block types named has (Y.Signal condition line) is bare = omega arith
-  statement_inner e t declares block types named has (Y.OnSystem condition line) is bare = omega arith
-  statement_inner e t declares block types named has (Y.Revert condition line) is bare = omega arith
-  statement_inner e t declares block types named has (Y.OnUnit condition (Y.BlockOf head body) line) is bare = omega arith
-  statement_inner e t declares block types named has (Y.Put None pairs line) is bare =
+  statement_inner e t block types named has (Y.Goto level label line) is bare = omega arith
+  statement_inner e t block types named has (Y.CallProcedure (Y.Calling procedure level Y.NoArgument) line) is bare = omega arith
+  statement_inner e t block types named has (Y.Return line) is bare = omega arith
+  statement_inner e t block types named has (Y.Stop line) is bare = omega arith
+  statement_inner e t block types named has (Y.Signal condition line) is bare = omega arith
+  statement_inner e t block types named has (Y.OnSystem condition line) is bare = omega arith
+  statement_inner e t block types named has (Y.Revert condition line) is bare = omega arith
+  statement_inner e t block types named has (Y.OnUnit condition (Y.BlockOf head body) line) is bare = omega arith
+  statement_inner e t block types named has (Y.Put None pairs line) is bare =
       let m = statement_size e t block types has (Y.Put None pairs line) is in omega (arith, m)
-  statement_inner e t declares block types named has (Y.Put (Some n) pairs line) is bare =
+  statement_inner e t block types named has (Y.Put (Some n) pairs line) is bare =
       let m = statement_size e t block types has (Y.Put (Some n) pairs line) is in omega (arith, m)
-  statement_inner e t declares block types named has (Y.Get None pairs line) is bare =
+  statement_inner e t block types named has (Y.Get None pairs line) is bare =
       let m = statement_size e t block types has (Y.Get None pairs line) is in omega (arith, m)
-  statement_inner e t declares block types named has (Y.Get (Some n) pairs line) is bare =
+  statement_inner e t block types named has (Y.Get (Some n) pairs line) is bare =
       let m = statement_size e t block types has (Y.Get (Some n) pairs line) is in omega (arith, m)
-  statement_inner e t declares block types named has _ is bare = absurd is
+  statement_inner e t block types named has _ is bare = absurd is
 
-  statements_inner : (e : Environment) (t : Taken) (declares : Bool) (block : Names) (types : Types) (named : block.program ≡ e.program) (has : HasTypes e block types) (body : Y.Stmts) → AreProvedStatements block types body → AreBare e.program declares body → stmts_words body + all_inner_words body ≤ size_of (stmts_code e t body) + 1
-  statements_inner e t declares block types named has (Y.EndOfList labels) are bare = omega arith
-  statements_inner e t declares block types named has (Y.StmtThen labels first rest) are bare =
-      let a = statement_inner e t declares block types named has first are.0 bare.0 in
-      let c = statements_inner e t declares block types named has rest are.1 bare.1 in
+  statements_inner : (e : Environment) (t : Taken) (block : Names) (types : Types) (named : block.program ≡ e.program) (has : HasTypes e block types) (body : Y.Stmts) → AreProvedStatements block types body → DeclareScalars e.program body → stmts_words body + all_inner_words body ≤ size_of (stmts_code e t body) + 1
+  statements_inner e t block types named has (Y.EndOfList labels) are bare = omega arith
+  statements_inner e t block types named has (Y.StmtThen labels first rest) are bare =
+      let a = statement_inner e t block types named has first are.0 bare.0 in
+      let c = statements_inner e t block types named has rest are.1 bare.1 in
       let s1 = size_append (marked e.block labels) (stmt_code e t first ++ stmts_code e t rest) in
       let s2 = size_append (stmt_code e t first) (stmts_code e t rest) in
-      let a' = inside_size e t declares block types named has first are.0 bare.0 in
-      let c' = all_inside_size e t declares block types named has rest are.1 bare.1 in
+      let a' = inside_size e t block types named has first are.0 bare.0 in
+      let c' = all_inside_size e t block types named has rest are.1 bare.1 in
       both_most _ _ _ _ _ (omega (arith, a, s1, s2)) (omega (arith, c, s1, s2)) (omega (arith, a, c', s1, s2)) (omega (arith, a', c, s1, s2))
 
 -- they are fewer than the words of the procedure's code
-pub procedure_inner : (e : Environment) (declares : Bool) (head : Y.BlockHead) (block : Names) (types : Types) (body : Y.Stmts) → block.program ≡ e.program → HasTypes e block types → ArePlain (variables_of_block e.program head.number) → AreProvedStatements block types body → AreBare e.program declares body → block_words e head.number (stmts_words body) + all_inner_words body ≤ size_of (procedure_in e head body [] None)
-procedure_inner e declares head block types body named has plain are bare =
+pub procedure_inner : (e : Environment) (head : Y.BlockHead) (block : Names) (types : Types) (body : Y.Stmts) → block.program ≡ e.program → HasTypes e block types → ArePlain (variables_of_block e.program head.number) → AreProvedStatements block types body → DeclareScalars e.program body → block_words e head.number (stmts_words body) + all_inner_words body ≤ size_of (procedure_in e head body [] None)
+procedure_inner e head block types body named has plain are bare =
     let words = block_words e head.number (stmts_words body) in
     let begun = procedure_begun e head words [] in
     let code = stmts_code e none_taken body in
     let ended = procedure_ended e head words None in
     let none = no_variable_words (variables_of_block e.program head.number) plain in
-    let n = statements_inner e none_taken declares block types named has body are bare in
+    let n = statements_inner e none_taken block types named has body are bare in
     let s1 = size_append begun (code ++ ended) in
     let s2 = size_append code ended in
     most_more _ _ _ _ (omega (arith, none, n, s1, s2)) (omega (arith, n, s1, s2))

@@ -22,7 +22,7 @@ use Rattle.pli_coding.specs.Procedures.{procedure_begun, procedure_ended, proced
 use Rattle.pli_coding.specs.Images.{blocks_among, blocks_of_procedure, with_blocks, blocks_of, environment_of, raise_code, code_of}
 use Rattle.pli_coding.specs.Linking.{links_of}
 use Rattle.pli_headline.specs.Headline.{parts}
-use Rattle.pli_headline.specs.ProvedSoFar.{plain_variable, ArePlain, AllPlain, types_of, AreProvedStatements, AreBare, all_labels, array_variable, AllJumpAround, main_outer, number_times, AreInner, procedure_labels, times, is_number, AllCallAmong, main_names}
+use Rattle.pli_headline.specs.ProvedSoFar.{plain_variable, ArePlain, AllPlain, types_of, AreProvedStatements, DeclareScalars, all_labels, array_variable, AllJumpAround, main_outer, number_times, AreInner, procedure_labels, times, is_number, AllCallAmong, main_names}
 use Rattle.pli_headline.proofs.Linking.{times_marked}
 use Rattle.pli_headline.proofs.FirstFrame.{start_of}
 use Rattle.pli_headline.proofs.Marks.{others_code, code_is}
@@ -96,7 +96,7 @@ program_symbols block labels others =
     ∷ ProcedureEntry block
     ∷ ((places_of labels ++ ReturnPlace block ∷ []) ++ procedure_symbols others)
 
-program_marks : (program : Y.Program) (block line : ℕ) (body : Y.Stmts) → AllPlain program.variables → (all : List (ℕ × Label)) (called : List ℕ) (alone : IsAlone program block line body) → AreProvedStatements (main_names program block) (types_of (variables_of_block program block)) body → AreBare program true body → AreInner program block all called alone.others → Marks (code_of parts program) (program_symbols block (all_stands block body) alone.others)
+program_marks : (program : Y.Program) (block line : ℕ) (body : Y.Stmts) → AllPlain program.variables → (all : List (ℕ × Label)) (called : List ℕ) (alone : IsAlone program block line body) → AreProvedStatements (main_names program block) (types_of (variables_of_block program block)) body → DeclareScalars program body → AreInner program block all called alone.others → Marks (code_of parts program) (program_symbols block (all_stands block body) alone.others)
 program_marks program block line body plain all called alone are bare others =
     let e = main_environment program block in
     let words = block_words e block (stmts_words body) in
@@ -109,7 +109,7 @@ program_marks program block line body plain all called alone are bare others =
     let ss = places_of (all_stands block body) ++ ReturnPlace block ∷ [] in
     let inside : Marks (begun ++ (code ++ ended)) ss =
     behind begun (code ++ ended) ss (prologue_none e block line words (main_plain program block plain))
-    (both_mark code ended (places_of (all_stands block body)) (ReturnPlace block ∷ []) (statements_mark e none_taken true (main_names program block) (types_of (variables_of_block program block)) body refl has are bare) (ended_marks e (main_head block line) words)) in
+    (both_mark code ended (places_of (all_stands block body)) (ReturnPlace block ∷ []) (statements_mark e none_taken (main_names program block) (types_of (variables_of_block program block)) body refl has are bare) (ended_marks e (main_head block line) words)) in
     ap symbols_marked (code_is program block line body plain alone)
     ∙ behind (start_of block) (raise_code ++ (main ++ rest)) (program_symbols block (all_stands block body) alone.others) refl
     (both_mark raise_code (main ++ rest) (RaiseCondition ∷ RaiseError ∷ ErrorEnd ∷ []) (ProcedureEntry block ∷ (ss ++ procedure_symbols alone.others)) refl
@@ -179,7 +179,7 @@ bare_sized program block line body all called alone inner number level none =
 
 -- ---- the labels
 
-pub labels_stand : (program : Y.Program) (block line : ℕ) (body : Y.Stmts) (called : List ℕ) → AllPlain program.variables → (alone : IsAlone program block line body) → AreProvedStatements (main_names program block) (types_of (variables_of_block program block)) body → AreBare program true body → AllJumpAround program block 0 (all_labels block body ++ procedure_labels alone.others) (blocks_of program.procedures) (main_outer block program.procedures) [] (labels_in body) body → AreInner program block (all_labels block body ++ procedure_labels alone.others) called alone.others → LabelsStand (main_environment program block) (links_of (code_of parts program)) (all_labels block body ++ procedure_labels alone.others) block true
+pub labels_stand : (program : Y.Program) (block line : ℕ) (body : Y.Stmts) (called : List ℕ) → AllPlain program.variables → (alone : IsAlone program block line body) → AreProvedStatements (main_names program block) (types_of (variables_of_block program block)) body → DeclareScalars program body → AllJumpAround block 0 (all_labels block body ++ procedure_labels alone.others) (blocks_of program.procedures) (main_outer block program.procedures) [] (labels_in body) body → AreInner program block (all_labels block body ++ procedure_labels alone.others) called alone.others → LabelsStand (main_environment program block) (links_of (code_of parts program)) (all_labels block body ++ procedure_labels alone.others) block true
 labels_stand program block line body called plain alone are bare jumps inner =
     record {
       own = own_block program block line body alone;
@@ -194,7 +194,7 @@ labels_stand program block line body called plain alone are bare jumps inner =
       ended = λ q.
           times_are (ReturnPlace block) 0 (code_of parts program)
           ∙ ap (symbol_times (ReturnPlace block)) (program_marks program block line body plain _ _ alone are bare inner)
-          ∙ end_times block (all_stands block body) (procedure_symbols alone.others) (eq-eqb block block refl) (ends_apart block block body (own_units program block 0 _ _ _ [] (labels_in body) body jumps)) (others_end program block _ _ alone.others inner);
+          ∙ end_times block (all_stands block body) (procedure_symbols alone.others) (eq-eqb block block refl) (ends_apart block block body (own_units block 0 _ _ _ [] (labels_in body) body jumps)) (others_end program block _ _ alone.others inner);
       lower = omega arith;
       owned = tt;
       shallow = omega arith;
@@ -202,7 +202,7 @@ labels_stand program block line body called plain alone are bare jumps inner =
     }
 
 -- the entry of a procedure inside it is marked once
-pub entry_stands : (program : Y.Program) (block line : ℕ) (body : Y.Stmts) (called : List ℕ) → AllPlain program.variables → (alone : IsAlone program block line body) → AreProvedStatements (main_names program block) (types_of (variables_of_block program block)) body → AreBare program true body → AreInner program block (all_labels block body ++ procedure_labels alone.others) called alone.others → (number : ℕ) → (number == block) ≡ false → number_times number alone.others ≡ 1 → times_marked (ProcedureEntry number) (links_of (code_of parts program)).marks ≡ 1
+pub entry_stands : (program : Y.Program) (block line : ℕ) (body : Y.Stmts) (called : List ℕ) → AllPlain program.variables → (alone : IsAlone program block line body) → AreProvedStatements (main_names program block) (types_of (variables_of_block program block)) body → DeclareScalars program body → AreInner program block (all_labels block body ++ procedure_labels alone.others) called alone.others → (number : ℕ) → (number == block) ≡ false → number_times number alone.others ≡ 1 → times_marked (ProcedureEntry number) (links_of (code_of parts program)).marks ≡ 1
 entry_stands program block line body called plain alone are bare inner number apart once =
     let rest = symbol_times (ProcedureEntry number) ((places_of (all_stands block body) ++ ReturnPlace block ∷ []) ++ procedure_symbols alone.others) in
     times_are (ProcedureEntry number) 0 (code_of parts program)
@@ -213,7 +213,7 @@ entry_stands program block line body called plain alone are bare inner number ap
     ∙ once
 
 -- and its end
-pub end_stands : (program : Y.Program) (block line : ℕ) (body : Y.Stmts) (called : List ℕ) → AllPlain program.variables → (alone : IsAlone program block line body) → AreProvedStatements (main_names program block) (types_of (variables_of_block program block)) body → AllJumpAround program block 0 (all_labels block body ++ procedure_labels alone.others) (blocks_of program.procedures) (main_outer block program.procedures) [] (labels_in body) body → AreBare program true body → AreInner program block (all_labels block body ++ procedure_labels alone.others) called alone.others → (number : ℕ) → (number == block) ≡ false → number_times number alone.others ≡ 1 → is_number number called ≡ true → AllCallAmong program called true true body → times_marked (ReturnPlace number) (links_of (code_of parts program)).marks ≡ 1
+pub end_stands : (program : Y.Program) (block line : ℕ) (body : Y.Stmts) (called : List ℕ) → AllPlain program.variables → (alone : IsAlone program block line body) → AreProvedStatements (main_names program block) (types_of (variables_of_block program block)) body → AllJumpAround block 0 (all_labels block body ++ procedure_labels alone.others) (blocks_of program.procedures) (main_outer block program.procedures) [] (labels_in body) body → DeclareScalars program body → AreInner program block (all_labels block body ++ procedure_labels alone.others) called alone.others → (number : ℕ) → (number == block) ≡ false → number_times number alone.others ≡ 1 → is_number number called ≡ true → AllCallAmong program called true true body → times_marked (ReturnPlace number) (links_of (code_of parts program)).marks ≡ 1
 end_stands program block line body called plain alone are jumps bare inner number apart once among calls =
     let rest = symbol_times (ReturnPlace number) (procedure_symbols alone.others) in
     times_are (ReturnPlace number) 0 (code_of parts program)

@@ -30,7 +30,7 @@ use Rattle.pli_headline.proofs.InnerFrames.{level_first, inner_above}
 use Rattle.pli_headline.proofs.CalledFrames.{Callee, called_ground}
 use Rattle.pli_headline.proofs.Begins.{ended_jump}
 use Rattle.pli_headline.proofs.Reach.{Family, Aims, Closed}
-use Rattle.pli_headline.proofs.Storages.{Serials, storage}
+use Rattle.pli_headline.proofs.Storages.{storage}
 
 -- ---- the way there
 

@@ -1,5 +1,5 @@
 -- The names of a block with one more scalar, and its serial numbers.
-use Rattle.std.proofs.Common.{ℕ, Bool, true, false, List, length}
+use Rattle.std.proofs.Common.{ℕ, Bool, true, false, length}
 use Rattle.std.specs.Prelude.{cond, nat_lt}
 use Rattle.pli_coding.specs.Environments.{Environment}
 use Rattle.pli_headline.specs.ProvedSoFar.{Names, Spot, Types, IsElementType, text_leaf, names_with}

@@ -14,7 +14,7 @@ use Rattle.pli_serving.specs.Bytes.{with_bytes}
 use Rattle.pli_serving.specs.Stored.{kept_bytes}
 use Rattle.pli_coding.specs.Environments.{Environment}
 use Rattle.pli_coding.specs.Frames.{last_place, automatic_place}
-use Rattle.pli_headline.specs.ProvedSoFar.{OuterBlock, Names, Spot, Kind, Types, alone, text_leaf, IsElementType, names_with, plain_variable}
+use Rattle.pli_headline.specs.ProvedSoFar.{OuterBlock, Names, Spot, Kind, Types, alone, text_leaf, IsElementType, plain_variable}
 use Rattle.pli_headline.proofs.Engine.{Base, most_code}
 use Rattle.pli_headline.proofs.Numbers.{above_sum, above_small, word_small}
 use Rattle.pli_headline.proofs.Scalars.{Values, Fits, fits_wide, load_kind, store_kind, place_below}
@@ -23,7 +23,6 @@ use Rattle.pli_headline.proofs.WrittenBytes.{load-with_other}
 use Rattle.pli_headline.proofs.Bodies.{Ground, PlaceFrom}
 use Rattle.pli_headline.proofs.Temporaries.{Temporaries}
 use Rattle.pli_headline.proofs.Reaching.{Reaches}
-use Rattle.pli_headline.proofs.Storages.{Serials}
 use Rattle.pli_headline.proofs.Variables.{IsDeclared, data_place, level_of}
 use Rattle.pli_headline.proofs.DeclaredNames.{kind_around, by_last, last_kind, chosen_before, chosen_here}
 use Rattle.pli_headline.proofs.States.{with_number_at, with_text_at}

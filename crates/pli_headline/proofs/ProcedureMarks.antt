@@ -18,7 +18,7 @@ use Rattle.pli_coding.specs.Statements.{stmts_code, stmts_words, block_words}
 use Rattle.pli_coding.specs.Procedures.{procedure_environment, procedure_begun, procedure_ended, procedure_in, procedures_code}
 use Rattle.pli_coding.specs.Images.{blocks_of}
 use Rattle.pli_coding.specs.Linking.{marks_from}
-use Rattle.pli_headline.specs.ProvedSoFar.{Names, Types, types_of, AreProvedStatements, AreBare, main_outer, IsInner, AreInner, times, block_labels, procedure_labels, main_names}
+use Rattle.pli_headline.specs.ProvedSoFar.{Names, Types, types_of, AreProvedStatements, DeclareScalars, main_outer, IsInner, AreInner, times, block_labels, procedure_labels, main_names}
 use Rattle.pli_headline.proofs.Linking.{times_marked}
 use Rattle.pli_headline.proofs.SymbolsMarked.{symbols_marked, Marks, both_mark, behind, constant_none, plus_none, act_none}
 use Rattle.pli_headline.proofs.Stands.{Stand, all_stands, labels_among, labels_are, EndsApart, ends_apart, no_units}
@@ -53,7 +53,7 @@ abbrev pub procedure_symbols : List Y.Procedure → List Symbol
 procedure_symbols [] = []
 procedure_symbols (p ∷ ps) = block_symbols p.block ++ procedure_symbols ps
 
-procedure_marks : (e : Environment) (block : Names) (types : Types) (head : Y.BlockHead) (body : Y.Stmts) → block.program ≡ e.program → HasTypes e block types → variables_of_block e.program head.number ≡ [] → AreProvedStatements block types body → AreBare e.program false body → Marks (procedure_in (procedure_environment head e) head body [] None) (block_symbols (Y.BlockOf head body))
+procedure_marks : (e : Environment) (block : Names) (types : Types) (head : Y.BlockHead) (body : Y.Stmts) → block.program ≡ e.program → HasTypes e block types → variables_of_block e.program head.number ≡ [] → AreProvedStatements block types body → DeclareScalars e.program body → Marks (procedure_in (procedure_environment head e) head body [] None) (block_symbols (Y.BlockOf head body))
 procedure_marks e block types head body named has none are bare =
     let e' = procedure_environment head e in
     let words = block_words e' head.number (stmts_words body) in
@@ -63,7 +63,7 @@ procedure_marks e block types head body named has none are bare =
     let ss = places_of (all_stands head.number body) in
     ap (λ us. ProcedureEntry head.number ∷ us)
     (behind begun (code ++ ended) (ss ++ ReturnPlace head.number ∷ []) (begun_none e' head words none)
-    (both_mark code ended ss (ReturnPlace head.number ∷ []) (statements_mark e' none_taken false block types body named has are bare) (ended_marks e' head words)))
+    (both_mark code ended ss (ReturnPlace head.number ∷ []) (statements_mark e' none_taken block types body named has are bare) (ended_marks e' head words)))
 
 pub procedures_mark : (e : Environment) (block : ℕ) (all : List (ℕ × Label)) (called : List ℕ) (ps : List Y.Procedure) → HasTypes e (main_names e.program block) (types_of (variables_of_block e.program block)) → AreInner e.program block all called ps → Marks (procedures_code e ps) (procedure_symbols ps)
 procedures_mark e block all called [] has inner = refl
@@ -130,7 +130,7 @@ other_end block number ((m, None) ∷ ps) ss other apart none =
 -- those in a procedure's statements are none but its own
 pub inner_ends : (number : ℕ) {program : Y.Program} {block : ℕ} {all : List (ℕ × Label)} {called : List ℕ} {p : Y.Procedure} (q : IsInner program block all called p) → EndsApart number (all_stands q.head.number q.body)
 inner_ends number {program = program} {block = block} {all = all} q =
-    ends_apart number q.head.number q.body (no_units program number q.head.number 1 all (blocks_of program.procedures) (main_outer block program.procedures) (main_outer block program.procedures ∷ []) (labels_in q.body) q.body refl q.jumps)
+    ends_apart number q.head.number q.body (no_units number q.head.number 1 all (blocks_of program.procedures) (main_outer block program.procedures) (main_outer block program.procedures ∷ []) (labels_in q.body) q.body refl q.jumps)
 
 -- which isn't that of the others
 pub others_end : (program : Y.Program) (block : ℕ) (all : List (ℕ × Label)) (called : List ℕ) (ps : List Y.Procedure) → AreInner program block all called ps → symbol_times (ReturnPlace block) (procedure_symbols ps) ≡ 0

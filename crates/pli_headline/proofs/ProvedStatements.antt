@@ -18,9 +18,8 @@ use Rattle.pli_coding.specs.Statements.{owner_of_unit, unit_environment, number_
 use Rattle.pli_coding.specs.Temporaries.{number_words, bit_words, reference_words, text_words}
 use Rattle.pli_coding.specs.Images.{place_of_head, place_of_unit, blocks_in, blocks_among}
 use Rattle.pli_coding.specs.Linking.{Links}
-use Rattle.pli_headline.specs.ProvedSoFar.{Names, names_in, types_in, is_bare, AreDeclaring, DeclareIf, bytes_in, inner_bytes, Types, OuterBlock, main_labels, main_outer, IsProvedStatement, AreProvedStatements, JumpsAround, AllJumpAround, IsBare, AreBare, is_number, CallsAmong, AllCallAmong}
+use Rattle.pli_headline.specs.ProvedSoFar.{Names, names_in, types_in, is_bare, AreDeclaring, bytes_in, inner_bytes, Types, OuterBlock, main_labels, main_outer, IsProvedStatement, AreProvedStatements, JumpsAround, AllJumpAround, DeclaresScalars, DeclareScalars, is_number, CallsAmong, AllCallAmong}
 use Rattle.pli_meaning.specs.DeclaredShapes.{variables_of_block}
-use Rattle.pli_headline.proofs.Variables.{AllOutermost}
 use Rattle.pli_headline.proofs.Statements.{owner_level, IsOwned, known_in, Standing, Block, Does, EachDoes, null_does, IsEndMarkedOnce}
 use Rattle.pli_headline.proofs.TextAssignments.{assign_text_does}
 use Rattle.pli_headline.proofs.Ifs.{if_does, if_else_does}
@@ -31,7 +30,6 @@ use Rattle.pli_headline.proofs.InnerFrames.{Inner, other_level, inner_block}
 use Rattle.pli_headline.proofs.BeginMeant.{Entering, inner_around, inner_entering}
 use Rattle.pli_headline.proofs.Begins.{inner_of, begin_does}
 use Rattle.pli_headline.proofs.Declares.{made_block}
-use Rattle.pli_headline.proofs.DeclaredNames.{declare_if}
 use Rattle.pli_headline.proofs.DeclaredBegins.{is_made, made_constants, inner_makes, made_filled, declares_does}
 use Rattle.pli_headline.proofs.StandingBytes.{ConstantsStand}
 use Rattle.pli_headline.proofs.Scalars.{Values}
@@ -216,25 +214,6 @@ by_declared : {A : Type 1} (ds : List Y.DeclaredVariable) → (ds ≡ [] → A) 
 by_declared [] none some' = none refl
 by_declared (d ∷ ds) none some' = some' refl
 
--- nothing is declared in blocks that may not
-mutual
-  statement_bytes : (program : Y.Program) (x : Y.Stmt) → IsBare program false x → bytes_in program x ≡ 0
-  statement_bytes program (Y.If condition unit line) bare = statement_bytes program unit bare
-  statement_bytes program (Y.IfElse condition unit otherwise line) bare =
-      ap (λ n. max n (bytes_in program otherwise)) (statement_bytes program unit bare.0) ∙ ap (λ n. max 0 n) (statement_bytes program otherwise bare.1)
-  statement_bytes program (Y.Do body line) bare = bare_bytes program body bare
-  statement_bytes program (Y.DoWhile condition body line) bare = bare_bytes program body bare
-  statement_bytes program (Y.DoOnce target start condition body line) bare = bare_bytes program body bare
-  statement_bytes program (Y.DoCount counter start limit step condition body line) bare = bare_bytes program body bare
-  statement_bytes program (Y.Begin (Y.BlockOf head body)) bare =
-      ap (λ (ds : List Y.DeclaredVariable). 32 * length ds + inner_bytes program body) bare.0 ∙ ap (λ n. 0 + n) (bare_bytes program body bare.1)
-  statement_bytes program _ bare = refl
-
-  pub bare_bytes : (program : Y.Program) (body : Y.Stmts) → AreBare program false body → inner_bytes program body ≡ 0
-  bare_bytes program (Y.EndOfList labels) bare = refl
-  bare_bytes program (Y.StmtThen labels first rest) bare =
-      ap (λ n. max n (inner_bytes program rest)) (statement_bytes program first bare.0) ∙ ap (λ n. max 0 n) (bare_bytes program rest bare.1)
-
 return_by : {e : Environment} {block : Names} {types : Types} (main : Bool) (bl : Block e block types) (links : Links) (code : List Instr) (around : Around) (line number : ℕ) → line < 2 ^ 31 → e.level ≤ 100 → (main ≡ true → e.owner ≡ BlockOwner (record { number = number; level = 0 })) → (main ≡ true → IsEndMarkedOnce links number) → (main ≡ false → IsHome e links bl.outer) → Does bl links code around.turns (stmt_code e bl.taken (Y.Return line)) (M.statement around (Y.Return line))
 return_by true bl links code around line number fits few owner ended home =
     return_does bl links code around line number fits (owner refl) (ended refl)
@@ -242,7 +221,7 @@ return_by false bl links code around line number fits few owner ended home =
     home_does bl links code around line few fits (home refl)
 
 mutual
-  pub statement_does : {e : Environment} {block : Names} {types : Types} (bl : Block e block types) (links : Links) (code : List Instr) (routines : Standing bl links code) (around : Around) (same : around.program ≡ e.program) {all : List (ℕ × Label)} {procedure : ℕ} {main returns bare small : Bool} {may : List ℕ} {bound : ℕ} (named : LabelsStand e links all procedure main) (x : Y.Stmt) → IsProvedStatement block types x → JumpsAround e.program e.block e.level all e.blocks (main_outer procedure e.program.procedures) bl.outer bl.labels x → bl.taken.words + stmt_words x ≤ bl.words → Room small bare bl.stack.free (length bl.depths) (inner_words x) (bytes_in e.program x) e.level → IsBare e.program main x → {more : ℕ} → Entering e.program around more → more ≤ bound → ((b : BlockPlace) → IsAmong b (blocks_in x) → IsAmong b e.blocks) → CallsAmong e.program may returns bare x → Ways e block types bl.words bound small bl.labels bl.outer bl.base bl.frames.known all procedure links code main returns bare may → Does bl links code around.turns (stmt_code e bl.taken x) (M.statement around x)
+  pub statement_does : {e : Environment} {block : Names} {types : Types} (bl : Block e block types) (links : Links) (code : List Instr) (routines : Standing bl links code) (around : Around) (same : around.program ≡ e.program) {all : List (ℕ × Label)} {procedure : ℕ} {main returns bare small : Bool} {may : List ℕ} {bound : ℕ} (named : LabelsStand e links all procedure main) (x : Y.Stmt) → IsProvedStatement block types x → JumpsAround e.block e.level all e.blocks (main_outer procedure e.program.procedures) bl.outer bl.labels x → bl.taken.words + stmt_words x ≤ bl.words → Room small bare bl.stack.free (length bl.depths) (inner_words x) (bytes_in e.program x) e.level → DeclaresScalars e.program x → {more : ℕ} → Entering e.program around more → more ≤ bound → ((b : BlockPlace) → IsAmong b (blocks_in x) → IsAmong b e.blocks) → CallsAmong e.program may returns bare x → Ways e block types bl.words bound small bl.labels bl.outer bl.base bl.frames.known all procedure links code main returns bare may → Does bl links code around.turns (stmt_code e bl.taken x) (M.statement around x)
   statement_does bl links code routines around same named (Y.Null line) is jumps room space bare entering least known calls ways = null_does bl links code around line is
   statement_does bl links code routines around same named (Y.Assign target (Y.StoredNumber precision x) line) is jumps room space bare entering least known calls ways =
       let a = le-max_left (max 1 (number_words x)) (4 + reference_words target) in
@@ -346,23 +325,23 @@ mutual
       (λ none.
       let here' : variables_of_block block.program head.number ≡ [] = ap (λ p. variables_of_block p head.number) bl.named ∙ none in
       let are : AreProvedStatements block types body = subst (λ ds. AreProvedStatements (names_in block types head ds) (types_in types ds) body) here' is.1.1 in
-      let around' : AllJumpAround e.program head.number head.level all e.blocks (main_outer procedure e.program.procedures) (own' ∷ bl.outer) (labels_in body) body = jumps.1 in
+      let around' : AllJumpAround head.number head.level all e.blocks (main_outer procedure e.program.procedures) (own' ∷ bl.outer) (labels_in body) body = jumps.1 in
       let calls' : AllCallAmong e.program may returns free body = subst (λ ds. AllCallAmong e.program may returns (is_bare ds && free) body) none calls in
       let sized : frame_end e.parts e.program head.number head.level ≡ fixed_size (suc e.level) 0 = named.bare head.number head.level none ∙ ap (λ l. fixed_size l 0) next in
       begin_does bl links code around more head body inner named.lower refl shallow next routines.filled is.0 is.1.0 none entering
       (λ more' step deeper t0.
       let ib = inner_block bl inner t0 head.number head.level next routines.filled in
-      let high : AllJumpAround e.program head.number head.level all e.blocks (main_outer procedure e.program.procedures) ib.outer (labels_in body ++ []) body = subst (λ ls. AllJumpAround e.program head.number head.level all e.blocks (main_outer procedure e.program.procedures) ib.outer ls body) (sym (append-nil (labels_in body))) around' in
+      let high : AllJumpAround head.number head.level all e.blocks (main_outer procedure e.program.procedures) ib.outer (labels_in body ++ []) body = subst (λ ls. AllJumpAround head.number head.level all e.blocks (main_outer procedure e.program.procedures) ib.outer ls body) (sym (append-nil (labels_in body))) around' in
       listed ib (here more') body
       (each_does (within (labels_in body) ib) links code (standing_within (labels_in body) (standing_inside inner t0 head.number head.level next sized routines)) (here more') refl (inner_labels_stand named head.number head.level next deep (known (place_of_head head) (inl refl))) body are high (omega (arith, most))
       (room_inner small free bl.stack.free (length bl.depths) words (all_inner_words body) (inner_bytes e.program body) e.level head.level shallow next deeper (room_less small free bl.stack.free (length bl.depths) (words + all_inner_words body) (words + all_inner_words body) (32 * length vars + inner_bytes e.program body) (inner_bytes e.program body) e.level (omega arith) (omega arith) space))
       bare.1 (inner_entering e.program more' head.line) (omega (arith, least, step)) (λ b h. known b (inr h)) calls'
       (record { calls = ways.calls; signals = ways.signals; tells = ways.tells; makes = λ same' u at k. let no : true ≡ false = sym same' ∙ other_level head.level e.level next in absurd (cc no); narrow = omega (arith, fits); ends = λ may' other. inr (ways.ends may' other); mains = λ free'. more_main procedure (main_labels e.program.procedures) head.level head.number (labels_in body) [] ib.outer (inr (ways.mains free')) }))))
       (λ other.
-      let are' : AreDeclaring vars = declare_if main vars bare.0 in
+      let are' : AreDeclaring vars = bare.0 in
       let few = room_few small free bl.stack.free (length bl.depths) (words + all_inner_words body) (32 * length vars + inner_bytes e.program body) e.level space in
       let are : AreProvedStatements (names_in block types head vars) (types_in types vars) body = subst (λ p. AreProvedStatements (names_in block types head (variables_of_block p head.number)) (types_in types (variables_of_block p head.number)) body) bl.named is.1.1 in
-      let around' : AllJumpAround e.program head.number head.level all e.blocks (main_outer procedure e.program.procedures) (own' ∷ bl.outer) (labels_in body) body = jumps.1 in
+      let around' : AllJumpAround head.number head.level all e.blocks (main_outer procedure e.program.procedures) (own' ∷ bl.outer) (labels_in body) body = jumps.1 in
       let calls' : AllCallAmong e.program may returns false body = subst (λ q. AllCallAmong e.program may returns (q && free) body) other calls in
       let makes = λ (t0 : ℕ → ℕ). inner_makes bl inner t0 head next routines.filled routines.known are' deep (let place = inner.place in omega (arith, fits, shallow)) (omega (arith, few)) in
       declares_does bl links code around more head body inner named.lower refl shallow next routines.filled (known_in e.owner head.number head.level routines.known) are' makes is.0 is.1.0 entering
@@ -374,7 +353,7 @@ mutual
       let taken = made.taken in
       let depths = made.depths in
       let free' = made.free in
-      let high : AllJumpAround e.program head.number head.level all e.blocks (main_outer procedure e.program.procedures) mb.outer (labels_in body ++ mb.labels) body = subst (λ os. AllJumpAround e.program head.number head.level all e.blocks (main_outer procedure e.program.procedures) os (labels_in body ++ mb.labels) body) (sym made.outer) (subst (λ ls. AllJumpAround e.program head.number head.level all e.blocks (main_outer procedure e.program.procedures) (own' ∷ bl.outer) ls body) (sym (ap (λ ls. labels_in body ++ ls) made.labels ∙ append-nil (labels_in body))) around') in
+      let high : AllJumpAround head.number head.level all e.blocks (main_outer procedure e.program.procedures) mb.outer (labels_in body ++ mb.labels) body = subst (λ os. AllJumpAround head.number head.level all e.blocks (main_outer procedure e.program.procedures) os (labels_in body ++ mb.labels) body) (sym made.outer) (subst (λ ls. AllJumpAround head.number head.level all e.blocks (main_outer procedure e.program.procedures) (own' ∷ bl.outer) ls body) (sym (ap (λ ls. labels_in body ++ ls) made.labels ∙ append-nil (labels_in body))) around') in
       let standing : Standing mb links code = record {
         raises = routines.raises;
         constants = made_constants vars ib (makes t0) serial (standing_inner inner t0 head.number head.level next routines);
@@ -447,7 +426,7 @@ mutual
       get_skip_does bl links code routines around same n pairs line is.0.0 is.0.1 is.1.0 is.1.1 room
   statement_does bl links code routines around same named _ is jumps room space bare entering least known calls ways = absurd is
 
-  pub each_does : {e : Environment} {block : Names} {types : Types} (bl : Block e block types) (links : Links) (code : List Instr) (routines : Standing bl links code) (around : Around) (same : around.program ≡ e.program) {all : List (ℕ × Label)} {procedure : ℕ} {main returns bare small : Bool} {may : List ℕ} {bound : ℕ} (named : LabelsStand e links all procedure main) (body : Y.Stmts) → AreProvedStatements block types body → AllJumpAround e.program e.block e.level all e.blocks (main_outer procedure e.program.procedures) bl.outer bl.labels body → bl.taken.words + stmts_words body ≤ bl.words → Room small bare bl.stack.free (length bl.depths) (all_inner_words body) (inner_bytes e.program body) e.level → AreBare e.program main body → {more : ℕ} → Entering e.program around more → more ≤ bound → ((b : BlockPlace) → IsAmong b (blocks_among body) → IsAmong b e.blocks) → AllCallAmong e.program may returns bare body → Ways e block types bl.words bound small bl.labels bl.outer bl.base bl.frames.known all procedure links code main returns bare may → EachDoes bl links code around body
+  pub each_does : {e : Environment} {block : Names} {types : Types} (bl : Block e block types) (links : Links) (code : List Instr) (routines : Standing bl links code) (around : Around) (same : around.program ≡ e.program) {all : List (ℕ × Label)} {procedure : ℕ} {main returns bare small : Bool} {may : List ℕ} {bound : ℕ} (named : LabelsStand e links all procedure main) (body : Y.Stmts) → AreProvedStatements block types body → AllJumpAround e.block e.level all e.blocks (main_outer procedure e.program.procedures) bl.outer bl.labels body → bl.taken.words + stmts_words body ≤ bl.words → Room small bare bl.stack.free (length bl.depths) (all_inner_words body) (inner_bytes e.program body) e.level → DeclareScalars e.program body → {more : ℕ} → Entering e.program around more → more ≤ bound → ((b : BlockPlace) → IsAmong b (blocks_among body) → IsAmong b e.blocks) → AllCallAmong e.program may returns bare body → Ways e block types bl.words bound small bl.labels bl.outer bl.base bl.frames.known all procedure links code main returns bare may → EachDoes bl links code around body
   each_does bl links code routines around same named (Y.EndOfList labels) are jumps room space bare entering least known calls ways = tt
   each_does {e} bl links code routines around same {all} {procedure} {main} {bare = free} {small} named (Y.StmtThen labels first rest) are jumps room space bare entering least known calls ways =
       let a = le-max_left (stmt_words first) (stmts_words rest) in
@@ -463,7 +442,7 @@ mutual
       )
 
 -- the statements of a block
-pub body_does : {e : Environment} {block : Names} {types : Types} (bl : Block e block types) (links : Links) (code : List Instr) (routines : Standing bl links code) (around : Around) (same : around.program ≡ e.program) {all : List (ℕ × Label)} {procedure : ℕ} {main returns bare small : Bool} {may : List ℕ} {bound : ℕ} (named : LabelsStand e links all procedure main) (body : Y.Stmts) → AreProvedStatements block types body → AllJumpAround e.program e.block e.level all e.blocks (main_outer procedure e.program.procedures) bl.outer (labels_in body ++ bl.labels) body → bl.taken.words + stmts_words body ≤ bl.words → Room small bare bl.stack.free (length bl.depths) (all_inner_words body) (inner_bytes e.program body) e.level → AreBare e.program main body → {more : ℕ} → Entering e.program around more → more ≤ bound → ((b : BlockPlace) → IsAmong b (blocks_among body) → IsAmong b e.blocks) → AllCallAmong e.program may returns bare body → Ways e block types bl.words bound small (labels_in body ++ bl.labels) bl.outer bl.base bl.frames.known all procedure links code main returns bare may → Does bl links code around.turns (stmts_code e bl.taken body) (M.list around body)
+pub body_does : {e : Environment} {block : Names} {types : Types} (bl : Block e block types) (links : Links) (code : List Instr) (routines : Standing bl links code) (around : Around) (same : around.program ≡ e.program) {all : List (ℕ × Label)} {procedure : ℕ} {main returns bare small : Bool} {may : List ℕ} {bound : ℕ} (named : LabelsStand e links all procedure main) (body : Y.Stmts) → AreProvedStatements block types body → AllJumpAround e.block e.level all e.blocks (main_outer procedure e.program.procedures) bl.outer (labels_in body ++ bl.labels) body → bl.taken.words + stmts_words body ≤ bl.words → Room small bare bl.stack.free (length bl.depths) (all_inner_words body) (inner_bytes e.program body) e.level → DeclareScalars e.program body → {more : ℕ} → Entering e.program around more → more ≤ bound → ((b : BlockPlace) → IsAmong b (blocks_among body) → IsAmong b e.blocks) → AllCallAmong e.program may returns bare body → Ways e block types bl.words bound small (labels_in body ++ bl.labels) bl.outer bl.base bl.frames.known all procedure links code main returns bare may → Does bl links code around.turns (stmts_code e bl.taken body) (M.list around body)
 body_does bl links code routines around same named body are jumps room space bare entering least known calls ways =
     listed bl around body
     (each_does (within (labels_in body) bl) links code (standing_within (labels_in body) routines) around same named body are jumps room space bare entering least known calls ways)

@@ -253,7 +253,7 @@ jumping =
 jumping_proved : AreProvedStatements names [] jumping
 jumping_proved = ((tt, (((tt, (lit< tt, lit< tt)), (lit< tt, tt)), lit< tt)), tt)
 
-jumps_around : AllJumpAround no_program 1 0 (all_labels 1 jumping) (record { number = 1; level = 0 } ∷ []) (main_outer 1 []) [] (labels_in jumping) jumping
+jumps_around : AllJumpAround 1 0 (all_labels 1 jumping) (record { number = 1; level = 0 } ∷ []) (main_outer 1 []) [] (labels_in jumping) jumping
 jumps_around = ((inl (refl, (refl, refl)), (inl (refl, (refl, refl)), tt)), tt)
 
 -- BEGIN; L: BEGIN; GOTO L; END; END;
@@ -266,7 +266,7 @@ jumping_out =
     (Y.EndOfList []))))
     (Y.EndOfList [])
 
-jumps_outward : AllJumpAround no_program 1 0 (all_labels 1 jumping_out) (record { number = 1; level = 0 } ∷ record { number = 2; level = 1 } ∷ record { number = 3; level = 2 } ∷ []) (main_outer 1 []) [] (labels_in jumping_out) jumping_out
+jumps_outward : AllJumpAround 1 0 (all_labels 1 jumping_out) (record { number = 1; level = 0 } ∷ record { number = 2; level = 1 } ∷ record { number = 3; level = 2 } ∷ []) (main_outer 1 []) [] (labels_in jumping_out) jumping_out
 jumps_outward =
     (((refl, omega arith), (((refl, omega arith), (inr (inl (refl, (refl, (refl, refl)))), tt)), tt)), tt)
 
@@ -274,7 +274,7 @@ jumps_outward =
 abbrev jumping_away : Y.Stmts
 jumping_away = Y.StmtThen [] (Y.Goto 0 (76 ∷ []) 3) (Y.EndOfList [])
 
-jumps_away : AllJumpAround no_program 2 1 ((1, 76 ∷ []) ∷ []) (record { number = 1; level = 0 } ∷ record { number = 2; level = 1 } ∷ []) (main_outer 1 []) (record { level = 0; number = 1; labels = (76 ∷ []) ∷ [] } ∷ []) [] jumping_away
+jumps_away : AllJumpAround 2 1 ((1, 76 ∷ []) ∷ []) (record { number = 1; level = 0 } ∷ record { number = 2; level = 1 } ∷ []) (main_outer 1 []) (record { level = 0; number = 1; labels = (76 ∷ []) ∷ [] } ∷ []) [] jumping_away
 jumps_away = (inr (inl (refl, (refl, (refl, refl)))), tt)
 
 -- (X(1), 2 (COLUMN(3), F(5)), A)
@@ -587,7 +587,7 @@ call_program =
           bare = refl;
           statements = ((refl, (lit< tt, ((refl, lit< tt), (lit< tt, tt)))), (lit< tt, tt));
           jumps = (((refl, omega arith), (tt, (tt, tt))), (tt, tt));
-          inside = ((refl, (tt, (tt, tt))), (tt, tt));
+          inside = ((tt, (tt, (tt, tt))), (tt, tt));
           callable = λ h. record { kind = refl; line = lit< tt; calls = (((refl, refl), (refl, tt)), (refl, tt)); few = omega arith };
         },
         tt,

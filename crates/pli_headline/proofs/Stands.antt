@@ -5,7 +5,6 @@ use Rattle.std.proofs.lemmas.Bool.{eqb-true}
 use Rattle.pli_typing.specs.TypedTree as Y
 use Rattle.pli_meaning.specs.Control.{Label}
 use Rattle.pli_meaning.specs.Executing.{labels_in}
-use Rattle.pli_meaning.specs.DeclaredShapes.{variables_of_block}
 use Rattle.pli_coding.specs.Environments.{BlockPlace}
 use Rattle.pli_headline.specs.ProvedSoFar.{OuterBlock, of_block, inner_labels, all_labels, JumpsAround, AllJumpAround, is_number, CallsAmong, AllCallAmong, IsUnitApart, IsUnitNew}
 use Rattle.pli_headline.proofs.InnerFrames.{other_level}
@@ -154,54 +153,54 @@ mutual
 
 -- blocks inside the main procedure have no units
 mutual
-  no_unit : (program : Y.Program) (number block level : ℕ) (all : List (ℕ × Label)) (blocks : List BlockPlace) (main : OuterBlock) (outer : List OuterBlock) (around : List Label) (x : Y.Stmt) → (0 == level) ≡ false → JumpsAround program block level all blocks main outer around x → UnitsApart number x
-  no_unit program number block level all blocks main outer around (Y.If condition unit line) deep jumps = no_unit program number block level all blocks main outer around unit deep jumps
-  no_unit program number block level all blocks main outer around (Y.IfElse condition unit otherwise line) deep jumps = (
-    no_unit program number block level all blocks main outer around unit deep jumps.0,
-    no_unit program number block level all blocks main outer around otherwise deep jumps.1,
+  no_unit : (number block level : ℕ) (all : List (ℕ × Label)) (blocks : List BlockPlace) (main : OuterBlock) (outer : List OuterBlock) (around : List Label) (x : Y.Stmt) → (0 == level) ≡ false → JumpsAround block level all blocks main outer around x → UnitsApart number x
+  no_unit number block level all blocks main outer around (Y.If condition unit line) deep jumps = no_unit number block level all blocks main outer around unit deep jumps
+  no_unit number block level all blocks main outer around (Y.IfElse condition unit otherwise line) deep jumps = (
+    no_unit number block level all blocks main outer around unit deep jumps.0,
+    no_unit number block level all blocks main outer around otherwise deep jumps.1,
   )
-  no_unit program number block level all blocks main outer around (Y.Do body line) deep jumps = no_units program number block level all blocks main outer (labels_in body ++ around) body deep jumps
-  no_unit program number block level all blocks main outer around (Y.DoWhile condition body line) deep jumps = no_units program number block level all blocks main outer (labels_in body ++ around) body deep jumps
-  no_unit program number block level all blocks main outer around (Y.DoOnce target start condition body line) deep jumps = no_units program number block level all blocks main outer (labels_in body ++ around) body deep jumps
-  no_unit program number block level all blocks main outer around (Y.DoCount counter start limit step condition body line) deep jumps = no_units program number block level all blocks main outer (labels_in body ++ around) body deep jumps
-  no_unit program number block level all blocks main outer around (Y.Begin (Y.BlockOf head body)) deep jumps =
-      no_units program number head.number head.level all blocks main (record { level = level; number = block; labels = around } ∷ outer) (labels_in body) body (other_level head.level level jumps.0.0) jumps.1
-  no_unit program number block level all blocks main outer around (Y.OnUnit condition (Y.BlockOf head body) line) deep jumps =
+  no_unit number block level all blocks main outer around (Y.Do body line) deep jumps = no_units number block level all blocks main outer (labels_in body ++ around) body deep jumps
+  no_unit number block level all blocks main outer around (Y.DoWhile condition body line) deep jumps = no_units number block level all blocks main outer (labels_in body ++ around) body deep jumps
+  no_unit number block level all blocks main outer around (Y.DoOnce target start condition body line) deep jumps = no_units number block level all blocks main outer (labels_in body ++ around) body deep jumps
+  no_unit number block level all blocks main outer around (Y.DoCount counter start limit step condition body line) deep jumps = no_units number block level all blocks main outer (labels_in body ++ around) body deep jumps
+  no_unit number block level all blocks main outer around (Y.Begin (Y.BlockOf head body)) deep jumps =
+      no_units number head.number head.level all blocks main (record { level = level; number = block; labels = around } ∷ outer) (labels_in body) body (other_level head.level level jumps.0.0) jumps.1
+  no_unit number block level all blocks main outer around (Y.OnUnit condition (Y.BlockOf head body) line) deep jumps =
       let no : true ≡ false = sym jumps.0 ∙ deep in absurd (cc no)
-  no_unit program number block level all blocks main outer around _ deep jumps = tt
+  no_unit number block level all blocks main outer around _ deep jumps = tt
 
-  pub no_units : (program : Y.Program) (number block level : ℕ) (all : List (ℕ × Label)) (blocks : List BlockPlace) (main : OuterBlock) (outer : List OuterBlock) (around : List Label) (body : Y.Stmts) → (0 == level) ≡ false → AllJumpAround program block level all blocks main outer around body → AllUnitsApart number body
-  no_units program number block level all blocks main outer around (Y.EndOfList labels) deep jumps = tt
-  no_units program number block level all blocks main outer around (Y.StmtThen labels first rest) deep jumps = (
-    no_unit program number block level all blocks main outer around first deep jumps.0,
-    no_units program number block level all blocks main outer around rest deep jumps.1,
+  pub no_units : (number block level : ℕ) (all : List (ℕ × Label)) (blocks : List BlockPlace) (main : OuterBlock) (outer : List OuterBlock) (around : List Label) (body : Y.Stmts) → (0 == level) ≡ false → AllJumpAround block level all blocks main outer around body → AllUnitsApart number body
+  no_units number block level all blocks main outer around (Y.EndOfList labels) deep jumps = tt
+  no_units number block level all blocks main outer around (Y.StmtThen labels first rest) deep jumps = (
+    no_unit number block level all blocks main outer around first deep jumps.0,
+    no_units number block level all blocks main outer around rest deep jumps.1,
   )
 
 -- they are in the main procedure other than its own, by its jumps
 mutual
-  own_unit : (program : Y.Program) (block level : ℕ) (all : List (ℕ × Label)) (blocks : List BlockPlace) (main : OuterBlock) (outer : List OuterBlock) (around : List Label) (x : Y.Stmt) → JumpsAround program block level all blocks main outer around x → UnitsApart block x
-  own_unit program block level all blocks main outer around (Y.If condition unit line) jumps = own_unit program block level all blocks main outer around unit jumps
-  own_unit program block level all blocks main outer around (Y.IfElse condition unit otherwise line) jumps = (
-    own_unit program block level all blocks main outer around unit jumps.0,
-    own_unit program block level all blocks main outer around otherwise jumps.1,
+  own_unit : (block level : ℕ) (all : List (ℕ × Label)) (blocks : List BlockPlace) (main : OuterBlock) (outer : List OuterBlock) (around : List Label) (x : Y.Stmt) → JumpsAround block level all blocks main outer around x → UnitsApart block x
+  own_unit block level all blocks main outer around (Y.If condition unit line) jumps = own_unit block level all blocks main outer around unit jumps
+  own_unit block level all blocks main outer around (Y.IfElse condition unit otherwise line) jumps = (
+    own_unit block level all blocks main outer around unit jumps.0,
+    own_unit block level all blocks main outer around otherwise jumps.1,
   )
-  own_unit program block level all blocks main outer around (Y.Do body line) jumps = own_units program block level all blocks main outer (labels_in body ++ around) body jumps
-  own_unit program block level all blocks main outer around (Y.DoWhile condition body line) jumps = own_units program block level all blocks main outer (labels_in body ++ around) body jumps
-  own_unit program block level all blocks main outer around (Y.DoOnce target start condition body line) jumps = own_units program block level all blocks main outer (labels_in body ++ around) body jumps
-  own_unit program block level all blocks main outer around (Y.DoCount counter start limit step condition body line) jumps = own_units program block level all blocks main outer (labels_in body ++ around) body jumps
-  own_unit program block level all blocks main outer around (Y.Begin (Y.BlockOf head body)) jumps =
-      no_units program block head.number head.level all blocks main (record { level = level; number = block; labels = around } ∷ outer) (labels_in body) body (other_level head.level level jumps.0.0) jumps.1
-  own_unit program block level all blocks main outer around (Y.OnUnit condition (Y.BlockOf head body) line) jumps = (
+  own_unit block level all blocks main outer around (Y.Do body line) jumps = own_units block level all blocks main outer (labels_in body ++ around) body jumps
+  own_unit block level all blocks main outer around (Y.DoWhile condition body line) jumps = own_units block level all blocks main outer (labels_in body ++ around) body jumps
+  own_unit block level all blocks main outer around (Y.DoOnce target start condition body line) jumps = own_units block level all blocks main outer (labels_in body ++ around) body jumps
+  own_unit block level all blocks main outer around (Y.DoCount counter start limit step condition body line) jumps = own_units block level all blocks main outer (labels_in body ++ around) body jumps
+  own_unit block level all blocks main outer around (Y.Begin (Y.BlockOf head body)) jumps =
+      no_units block head.number head.level all blocks main (record { level = level; number = block; labels = around } ∷ outer) (labels_in body) body (other_level head.level level jumps.0.0) jumps.1
+  own_unit block level all blocks main outer around (Y.OnUnit condition (Y.BlockOf head body) line) jumps = (
     jumps.1.1.0,
-    no_units program block head.number head.level all blocks main (main ∷ []) (labels_in body) body (other_level head.level 0 jumps.1.0) jumps.1.1.1,
+    no_units block head.number head.level all blocks main (main ∷ []) (labels_in body) body (other_level head.level 0 jumps.1.0) jumps.1.1.1,
   )
-  own_unit program block level all blocks main outer around _ jumps = tt
+  own_unit block level all blocks main outer around _ jumps = tt
 
-  pub own_units : (program : Y.Program) (block level : ℕ) (all : List (ℕ × Label)) (blocks : List BlockPlace) (main : OuterBlock) (outer : List OuterBlock) (around : List Label) (body : Y.Stmts) → AllJumpAround program block level all blocks main outer around body → AllUnitsApart block body
-  own_units program block level all blocks main outer around (Y.EndOfList labels) jumps = tt
-  own_units program block level all blocks main outer around (Y.StmtThen labels first rest) jumps = (
-    own_unit program block level all blocks main outer around first jumps.0,
-    own_units program block level all blocks main outer around rest jumps.1,
+  pub own_units : (block level : ℕ) (all : List (ℕ × Label)) (blocks : List BlockPlace) (main : OuterBlock) (outer : List OuterBlock) (around : List Label) (body : Y.Stmts) → AllJumpAround block level all blocks main outer around body → AllUnitsApart block body
+  own_units block level all blocks main outer around (Y.EndOfList labels) jumps = tt
+  own_units block level all blocks main outer around (Y.StmtThen labels first rest) jumps = (
+    own_unit block level all blocks main outer around first jumps.0,
+    own_units block level all blocks main outer around rest jumps.1,
   )
 
 -- and other than those of the procedures that are called
@@ -217,7 +216,7 @@ apart_of number may head Y.ProcedureBlock among new = new_by (number == head.num
 apart_of number may head Y.BeginBlock among new = new_by (number == head.number) number head.number may refl among new
 
 mutual
-  called_unit : (program : Y.Program) (number block level : ℕ) (all : List (ℕ × Label)) (blocks : List BlockPlace) (main : OuterBlock) (outer : List OuterBlock) (around : List Label) (may : List ℕ) (returns bare : Bool) (x : Y.Stmt) → is_number number may ≡ true → JumpsAround program block level all blocks main outer around x → CallsAmong program may returns bare x → UnitsApart number x
+  called_unit : (program : Y.Program) (number block level : ℕ) (all : List (ℕ × Label)) (blocks : List BlockPlace) (main : OuterBlock) (outer : List OuterBlock) (around : List Label) (may : List ℕ) (returns bare : Bool) (x : Y.Stmt) → is_number number may ≡ true → JumpsAround block level all blocks main outer around x → CallsAmong program may returns bare x → UnitsApart number x
   called_unit program number block level all blocks main outer around may returns bare (Y.If condition unit line) among jumps calls = called_unit program number block level all blocks main outer around may returns bare unit among jumps calls
   called_unit program number block level all blocks main outer around may returns bare (Y.IfElse condition unit otherwise line) among jumps calls = (
     called_unit program number block level all blocks main outer around may returns bare unit among jumps.0 calls.0,
@@ -228,14 +227,14 @@ mutual
   called_unit program number block level all blocks main outer around may returns bare (Y.DoOnce target start condition body line) among jumps calls = called_units program number block level all blocks main outer (labels_in body ++ around) may returns bare body among jumps calls
   called_unit program number block level all blocks main outer around may returns bare (Y.DoCount counter start limit step condition body line) among jumps calls = called_units program number block level all blocks main outer (labels_in body ++ around) may returns bare body among jumps calls
   called_unit program number block level all blocks main outer around may returns bare (Y.Begin (Y.BlockOf head body)) among jumps calls =
-      no_units program number head.number head.level all blocks main (record { level = level; number = block; labels = around } ∷ outer) (labels_in body) body (other_level head.level level jumps.0.0) jumps.1
+      no_units number head.number head.level all blocks main (record { level = level; number = block; labels = around } ∷ outer) (labels_in body) body (other_level head.level level jumps.0.0) jumps.1
   called_unit program number block level all blocks main outer around may returns bare (Y.OnUnit condition (Y.BlockOf head body) line) among jumps calls = (
     apart_of number may head head.kind among calls.1.1,
     called_units program number head.number head.level all blocks main (main ∷ []) (labels_in body) may false true body among jumps.1.1.1 calls.0,
   )
   called_unit program number block level all blocks main outer around may returns bare _ among jumps calls = tt
 
-  pub called_units : (program : Y.Program) (number block level : ℕ) (all : List (ℕ × Label)) (blocks : List BlockPlace) (main : OuterBlock) (outer : List OuterBlock) (around : List Label) (may : List ℕ) (returns bare : Bool) (body : Y.Stmts) → is_number number may ≡ true → AllJumpAround program block level all blocks main outer around body → AllCallAmong program may returns bare body → AllUnitsApart number body
+  pub called_units : (program : Y.Program) (number block level : ℕ) (all : List (ℕ × Label)) (blocks : List BlockPlace) (main : OuterBlock) (outer : List OuterBlock) (around : List Label) (may : List ℕ) (returns bare : Bool) (body : Y.Stmts) → is_number number may ≡ true → AllJumpAround block level all blocks main outer around body → AllCallAmong program may returns bare body → AllUnitsApart number body
   called_units program number block level all blocks main outer around may returns bare (Y.EndOfList labels) among jumps calls = tt
   called_units program number block level all blocks main outer around may returns bare (Y.StmtThen labels first rest) among jumps calls = (
     called_unit program number block level all blocks main outer around may returns bare first among jumps.0 calls.0,

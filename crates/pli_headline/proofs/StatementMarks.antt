@@ -22,8 +22,8 @@ use Rattle.pli_coding.specs.Allocating.{act_code}
 use Rattle.pli_coding.specs.Statements.{if_met, while_met, once_code, in_turns, before_turns, limit_place, step_place, start_place, start_code, limit_code, step_code, start_loaded, started_code, count_begun, limit_tested, limit_kept, while_kept, stepped_code, turn_of, turns_code, words_behind_limit, words_behind_condition, words_back, signal_code, unwound_to, returned_by, goto_outer, goto_code, marked, stmt_code, stmts_code, stmts_words, block_words, begin_environment, begin_code, condition_given, unit_established, unit_left, unit_variables, owner_of_unit, unit_words, unit_mark}
 use Rattle.pli_coding.specs.Locating.{own_place, frame_found, frame_in, table_number}
 use Rattle.rv_meaning.specs.declared.instr.Register.{Register}
-use Rattle.pli_headline.proofs.DeclaredNames.{declare_if, named_in, has_in, by_element}
-use Rattle.pli_headline.specs.ProvedSoFar.{Names, Types, IsAssigned, IsProvedNumber, IsProvedNumberIf, IsProvedBit, IsProvedBitIf, IsProvedStatement, AreProvedStatements, IsBare, AreBare, DeclaresNothing, IsProvedStart, names_in, types_in, AreDeclaring, IsElementType, plain_variable}
+use Rattle.pli_headline.proofs.DeclaredNames.{named_in, has_in, by_element}
+use Rattle.pli_headline.specs.ProvedSoFar.{Names, Types, IsAssigned, IsProvedNumber, IsProvedNumberIf, IsProvedBit, IsProvedBitIf, IsProvedStatement, AreProvedStatements, DeclaresScalars, DeclareScalars, DeclaresNothing, IsProvedStart, names_in, types_in, AreDeclaring, IsElementType, plain_variable}
 use Rattle.pli_headline.proofs.Stands.{Stand, stands_of, end_of, inner_stands, all_stands}
 use Rattle.pli_headline.proofs.SymbolsMarked.{symbols_marked, Marks, both_mark, behind, before, either, constant_none, load_none, store_none, plus_none, overflow_none, act_none, fitted_none}
 use Rattle.pli_headline.proofs.PutMarks.{pairs_none, skip_none}
@@ -297,60 +297,60 @@ unit_marks e head body none marks =
 -- ---- the statements
 
 mutual
-  pub statement_marks : (e : Environment) (t : Taken) (declares : Bool) (block : Names) (types : Types) (x : Y.Stmt) → block.program ≡ e.program → HasTypes e block types → IsProvedStatement block types x → IsBare e.program declares x → Marks (stmt_code e t x) (places_of (inner_stands e.block x))
-  statement_marks e t declares block types (Y.Null line) named has is bare = act_none line
-  statement_marks e t declares block types (Y.Assign target (Y.StoredNumber precision x) line) named has is bare =
+  pub statement_marks : (e : Environment) (t : Taken) (block : Names) (types : Types) (x : Y.Stmt) → block.program ≡ e.program → HasTypes e block types → IsProvedStatement block types x → DeclaresScalars e.program x → Marks (stmt_code e t x) (places_of (inner_stands e.block x))
+  statement_marks e t block types (Y.Null line) named has is bare = act_none line
+  statement_marks e t block types (Y.Assign target (Y.StoredNumber precision x) line) named has is bare =
       behind (act_code line) (assigned_code e t target (Y.StoredNumber precision x)) [] (act_none line) (number_assigned_none e t block types precision target x has is.0 is.1.0)
-  statement_marks e t declares block types (Y.Assign target (Y.StoredBit x) line) named has is bare =
+  statement_marks e t block types (Y.Assign target (Y.StoredBit x) line) named has is bare =
       behind (act_code line) (assigned_code e t target (Y.StoredBit x)) [] (act_none line) (bit_assigned_none e t block types target x has is.0 is.1.0)
-  statement_marks e t declares block types (Y.Assign target (Y.StoredText x) line) named has is bare =
+  statement_marks e t block types (Y.Assign target (Y.StoredText x) line) named has is bare =
       behind (act_code line) (assigned_code e t target (Y.StoredText x)) [] (act_none line) (text_stored_none e t block types target x has is.0 is.1.0)
-  statement_marks e t declares block types (Y.If condition unit line) named has is bare =
-      tested_marks e t block types condition line (if_met (stmt_code e t unit)) (places_of (inner_stands e.block unit)) has is.0 (statement_marks e t declares block types unit named has is.1.0 bare)
-  statement_marks e t declares block types (Y.IfElse condition unit otherwise line) named has is bare =
+  statement_marks e t block types (Y.If condition unit line) named has is bare =
+      tested_marks e t block types condition line (if_met (stmt_code e t unit)) (places_of (inner_stands e.block unit)) has is.0 (statement_marks e t block types unit named has is.1.0 bare)
+  statement_marks e t block types (Y.IfElse condition unit otherwise line) named has is bare =
       let c = stmt_code e t unit in
       let d = stmt_code e t otherwise in
       let over = JumpAhead (size_of d) ∷ [] in
       let ls = places_of (inner_stands e.block unit) in
       let ms = places_of (inner_stands e.block otherwise) in
       tested_marks e t block types condition line (if_met (c ++ over) ++ d) (places_of (inner_stands e.block unit ++ inner_stands e.block otherwise)) has is.0
-      (both_mark (c ++ over) d ls ms (before c over ls (statement_marks e t declares block types unit named has is.1.0 bare.0) refl) (statement_marks e t declares block types otherwise named has is.1.1.0 bare.1)
+      (both_mark (c ++ over) d ls ms (before c over ls (statement_marks e t block types unit named has is.1.0 bare.0) refl) (statement_marks e t block types otherwise named has is.1.1.0 bare.1)
       ∙ sym (places_append (inner_stands e.block unit) (inner_stands e.block otherwise)))
-  statement_marks e t declares block types (Y.Do body line) named has is bare =
-      behind (act_code line) (stmts_code e t body) (places_of (all_stands e.block body)) (act_none line) (statements_mark e t declares block types body named has is.0 bare)
-  statement_marks e t declares block types (Y.DoWhile condition body line) named has is bare =
+  statement_marks e t block types (Y.Do body line) named has is bare =
+      behind (act_code line) (stmts_code e t body) (places_of (all_stands e.block body)) (act_none line) (statements_mark e t block types body named has is.0 bare)
+  statement_marks e t block types (Y.DoWhile condition body line) named has is bare =
       let test = act_code line ++ bit_code e t condition in
       let c = stmts_code e t body in
       let jump = JumpBack (size_of test + (3 + size_of c)) ∷ [] in
       let ls = places_of (all_stands e.block body) in
       behind (act_code line) (while_met test c) ls (act_none line)
       (behind test (if_met (c ++ jump)) ls (behind (act_code line) (bit_code e t condition) [] (act_none line) (bit_none e t block types condition has is.0))
-      (before c jump ls (statements_mark e t declares block types body named has is.1.0 bare) refl))
-  statement_marks e t declares block types (Y.DoOnce target (Y.StoredNumber precision x) condition body line) named has is bare =
+      (before c jump ls (statements_mark e t block types body named has is.1.0 bare) refl))
+  statement_marks e t block types (Y.DoOnce target (Y.StoredNumber precision x) condition body line) named has is bare =
       let stored' = assigned_code e t target (Y.StoredNumber precision x) in
       let c = stmts_code e t body in
       let rest = once_code e t condition line c in
       let ls = places_of (all_stands e.block body) in
       behind (act_code line) (stored' ++ rest) ls (act_none line)
       (behind stored' rest ls (number_assigned_none e t block types precision target x has is.0.0 is.0.1)
-      (once_marks e t block types condition line c ls has is.1.0 (statements_mark e t declares block types body named has is.1.1.0 bare)))
-  statement_marks e t declares block types (Y.DoOnce target (Y.StoredBit x) condition body line) named has is bare =
+      (once_marks e t block types condition line c ls has is.1.0 (statements_mark e t block types body named has is.1.1.0 bare)))
+  statement_marks e t block types (Y.DoOnce target (Y.StoredBit x) condition body line) named has is bare =
       let stored' = assigned_code e t target (Y.StoredBit x) in
       let c = stmts_code e t body in
       let rest = once_code e t condition line c in
       let ls = places_of (all_stands e.block body) in
       behind (act_code line) (stored' ++ rest) ls (act_none line)
       (behind stored' rest ls (bit_assigned_none e t block types target x has is.0.0 is.0.1)
-      (once_marks e t block types condition line c ls has is.1.0 (statements_mark e t declares block types body named has is.1.1.0 bare)))
-  statement_marks e t declares block types (Y.DoOnce target (Y.StoredText x) condition body line) named has is bare =
+      (once_marks e t block types condition line c ls has is.1.0 (statements_mark e t block types body named has is.1.1.0 bare)))
+  statement_marks e t block types (Y.DoOnce target (Y.StoredText x) condition body line) named has is bare =
       let stored' = assigned_code e t target (Y.StoredText x) in
       let c = stmts_code e t body in
       let rest = once_code e t condition line c in
       let ls = places_of (all_stands e.block body) in
       behind (act_code line) (stored' ++ rest) ls (act_none line)
       (behind stored' rest ls (text_stored_none e t block types target x has is.0.0 is.0.1)
-      (once_marks e t block types condition line c ls has is.1.0 (statements_mark e t declares block types body named has is.1.1.0 bare)))
-  statement_marks e t declares block types (Y.DoCount (Y.NumberCounter precision target) start limit step condition body line) named has is bare =
+      (once_marks e t block types condition line c ls has is.1.0 (statements_mark e t block types body named has is.1.1.0 bare)))
+  statement_marks e t block types (Y.DoCount (Y.NumberCounter precision target) start limit step condition body line) named has is bare =
       let counter = Y.NumberCounter precision target in
       let ahead = count_begun e t counter start limit step in
       let c = stmts_code e (in_turns t) body in
@@ -358,53 +358,53 @@ mutual
       let ls = places_of (all_stands e.block body) in
       behind (act_code line) (ahead ++ turns') ls (act_none line)
       (behind ahead turns' ls (begun_none e t block types precision target start limit step has is.0.1 is.1.0.0 is.1.0.1)
-      (turns_mark e t block types precision target limit condition line c ls has is.0.0 is.1.1.0 (statements_mark e (in_turns t) declares block types body named has is.1.1.1.0 bare)))
-  statement_marks e t declares block types (Y.Begin (Y.BlockOf head body)) named has is bare =
+      (turns_mark e t block types precision target limit condition line c ls has is.0.0 is.1.1.0 (statements_mark e (in_turns t) block types body named has is.1.1.1.0 bare)))
+  statement_marks e t block types (Y.Begin (Y.BlockOf head body)) named has is bare =
       let e' = begin_environment head e in
       let c = stmts_code e' none_taken body in
       let words = block_words e head.number (stmts_words body) in
       let ss = places_of (all_stands head.number body) in
-      behind (act_code head.line) (begin_code e head words c) ss (act_none head.line) (begin_marks e head words c ss (declare_if declares (variables_of_block e.program head.number) bare.0) (statements_mark e' none_taken declares (names_in block types head (variables_of_block block.program head.number)) (types_in types (variables_of_block block.program head.number)) body (named_in block types head (variables_of_block block.program head.number) named) (has_in e block types head named (declare_if declares (variables_of_block e.program head.number) bare.0) has) is.1.1 bare.1))
-  statement_marks e t declares block types (Y.CallProcedure (Y.Calling procedure level Y.NoArgument) line) named has is bare =
+      behind (act_code head.line) (begin_code e head words c) ss (act_none head.line) (begin_marks e head words c ss bare.0 (statements_mark e' none_taken (names_in block types head (variables_of_block block.program head.number)) (types_in types (variables_of_block block.program head.number)) body (named_in block types head (variables_of_block block.program head.number) named) (has_in e block types head named bare.0 has) is.1.1 bare.1))
+  statement_marks e t block types (Y.CallProcedure (Y.Calling procedure level Y.NoArgument) line) named has is bare =
       behind (act_code line) (call_code e t (Y.Calling procedure level Y.NoArgument)) [] (act_none line) (call_none e (words_place t.words 0) procedure level)
-  statement_marks e t declares block types (Y.Return line) named has is bare =
+  statement_marks e t block types (Y.Return line) named has is bare =
       behind (act_code line) (returned_by e 0 e.owner) [] (act_none line) (return_none e e.owner)
-  statement_marks e t declares block types (Y.Goto level label line) named has is bare =
+  statement_marks e t block types (Y.Goto level label line) named has is bare =
       behind (act_code line) (goto_code e level label) [] (act_none line) (goto_none e level label)
-  statement_marks e t declares block types (Y.Stop line) named has is bare =
+  statement_marks e t block types (Y.Stop line) named has is bare =
       before (act_code line) (small a0 1 ∷ small a1 0 ∷ service 2) [] (act_none line) refl
-  statement_marks e t declares block types (Y.Signal condition line) named has is bare =
+  statement_marks e t block types (Y.Signal condition line) named has is bare =
       behind (act_code line) (signal_code condition) [] (act_none line) (signal_none condition)
-  statement_marks e t declares block types (Y.OnSystem condition line) named has is bare =
+  statement_marks e t block types (Y.OnSystem condition line) named has is bare =
       before (act_code line) (condition_given condition ∷ small a1 0 ∷ service 28) [] (act_none line) refl
-  statement_marks e t declares block types (Y.Revert condition line) named has is bare =
+  statement_marks e t block types (Y.Revert condition line) named has is bare =
       before (act_code line) (condition_given condition ∷ service 29) [] (act_none line) refl
-  statement_marks e t declares block types (Y.OnUnit condition (Y.BlockOf head body) line) named has is bare =
+  statement_marks e t block types (Y.OnUnit condition (Y.BlockOf head body) line) named has is bare =
       let e' = owned_by (owner_of_unit head head.kind) (in_frame head.number head.level e) in
       let unit = unit_by e head body head.kind head.level in
       behind (act_code line) (unit_established condition unit) (places_of (all_stands head.number body ++ end_of head head.kind)) (act_none line)
-      (unit_marks e head body bare.0 (statements_mark e' none_taken false block types body named has is.1.1.1.1 bare.1))
-  statement_marks e t declares block types (Y.Put None pairs line) named has is bare =
+      (unit_marks e head body bare.0 (statements_mark e' none_taken block types body named has is.1.1.1.1 bare.1))
+  statement_marks e t block types (Y.Put None pairs line) named has is bare =
       behind (act_code line) (put_pairs e t pairs) [] (act_none line) (pairs_none e t block types pairs has is.0)
-  statement_marks e t declares block types (Y.Put (Some n) pairs line) named has is bare =
+  statement_marks e t block types (Y.Put (Some n) pairs line) named has is bare =
       behind (act_code line) (skip_option 1 (Some n) ++ put_pairs e t pairs) [] (act_none line)
       (behind (skip_option 1 (Some n)) (put_pairs e t pairs) [] (skip_none n) (pairs_none e t block types pairs has is.1.0))
-  statement_marks e t declares block types (Y.Get None pairs line) named has is bare =
+  statement_marks e t block types (Y.Get None pairs line) named has is bare =
       behind (act_code line) (get_pairs e t pairs ++ edit_ended) [] (act_none line) (gets_none e t block types pairs has is.0)
-  statement_marks e t declares block types (Y.Get (Some n) pairs line) named has is bare =
+  statement_marks e t block types (Y.Get (Some n) pairs line) named has is bare =
       let got = get_pairs e t pairs ++ edit_ended in
       behind (act_code line) (skip_option 0 (Some n) ++ got) [] (act_none line) (behind (skip_option 0 (Some n)) got [] (get_skip_none n) (gets_none e t block types pairs has is.1.0))
-  statement_marks e t declares block types _ named has is bare = absurd is
+  statement_marks e t block types _ named has is bare = absurd is
 
-  pub statements_mark : (e : Environment) (t : Taken) (declares : Bool) (block : Names) (types : Types) (body : Y.Stmts) → block.program ≡ e.program → HasTypes e block types → AreProvedStatements block types body → AreBare e.program declares body → Marks (stmts_code e t body) (places_of (all_stands e.block body))
-  statements_mark e t declares block types (Y.EndOfList labels) named has are bare = marked_places e.block labels
-  statements_mark e t declares block types (Y.StmtThen labels first rest) named has are bare =
+  pub statements_mark : (e : Environment) (t : Taken) (block : Names) (types : Types) (body : Y.Stmts) → block.program ≡ e.program → HasTypes e block types → AreProvedStatements block types body → DeclareScalars e.program body → Marks (stmts_code e t body) (places_of (all_stands e.block body))
+  statements_mark e t block types (Y.EndOfList labels) named has are bare = marked_places e.block labels
+  statements_mark e t block types (Y.StmtThen labels first rest) named has are bare =
       let c = stmt_code e t first in
       let d = stmts_code e t rest in
       let marks = stands_of e.block labels in
       let ls = inner_stands e.block first in
       let ms = all_stands e.block rest in
       both_mark (marked e.block labels) (c ++ d) (places_of marks) (places_of ls ++ places_of ms) (marked_places e.block labels)
-      (both_mark c d (places_of ls) (places_of ms) (statement_marks e t declares block types first named has are.0 bare.0) (statements_mark e t declares block types rest named has are.1 bare.1))
+      (both_mark c d (places_of ls) (places_of ms) (statement_marks e t block types first named has are.0 bare.0) (statements_mark e t block types rest named has are.1 bare.1))
       ∙ ap (λ ss. places_of marks ++ ss) (sym (places_append ls ms))
       ∙ sym (places_append marks (ls ++ ms))

@@ -13,7 +13,7 @@ use Rattle.pli_coding.specs.Environments.{BlockPlace, UnitOwner, Environment, in
 use Rattle.pli_coding.specs.Images.{blocks_among}
 use Rattle.pli_coding.specs.Statements.{unit_environment, unit_variables, unit_words, unit_mark, unit_left, stmts_words, stmts_code}
 use Rattle.pli_coding.specs.Linking.{Links}
-use Rattle.pli_headline.specs.ProvedSoFar.{Types, main_outer, times, IsLine, IsUnitBody, AreProvedStatements, AllJumpAround, AllCallAmong, DeclaresNothing, AreBare, Names}
+use Rattle.pli_headline.specs.ProvedSoFar.{Types, main_outer, times, IsLine, IsUnitBody, AreProvedStatements, AllJumpAround, AllCallAmong, DeclaresNothing, DeclareScalars, Names, inner_bytes}
 use Rattle.pli_headline.specs.InnerWords.{all_inner_words}
 use Rattle.pli_headline.proofs.Items.{Linked}
 use Rattle.pli_headline.proofs.InnerLevels.{IsAmong}
@@ -39,10 +39,10 @@ pub record UnitStands (e : Environment) (block : Names) (types : Types) (all : L
   pub level : head.level ≡ 1
   pub line : IsLine head.line
   pub proved : AreProvedStatements block types body
-  pub jumps : AllJumpAround e.program head.number head.level all e.blocks (main_outer procedure e.program.procedures) (main_outer procedure e.program.procedures ∷ []) (labels_in body) body
-  pub bare : DeclaresNothing e.program head head.kind × AreBare e.program false body
+  pub jumps : AllJumpAround head.number head.level all e.blocks (main_outer procedure e.program.procedures) (main_outer procedure e.program.procedures ∷ []) (labels_in body) body
+  pub bare : DeclaresNothing e.program head head.kind × DeclareScalars e.program body
   pub calls : AllCallAmong e.program may false true body
-  pub few : stmts_words body + all_inner_words body ≤ 800
+  pub few : 4 * (stmts_words body + all_inner_words body) + inner_bytes e.program body ≤ 3200
   pub once : (number : ℕ) (label : Label) → times number label all ≡ 1 → IsMarkedOnce links number label
   pub labels : head.kind ≡ Y.UnitBlock → LabelsStand (unit_environment head e) links all procedure false
   pub blocks : (b : BlockPlace) → IsAmong b (blocks_among body) → IsAmong b e.blocks

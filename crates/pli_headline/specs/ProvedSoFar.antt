@@ -1,12 +1,12 @@
 -- The programs for which the headline is proved so far: a main procedure with scalars of FIXED BINARY, BIT(1) and CHARACTER of
 -- constant lengths, VARYING or not, with or without INITIAL, arrays of FIXED BINARY and BIT(1) with constant bounds, with or without
 -- INITIAL, procedures inside it that declare nothing, without parameters and results, and BEGIN blocks in these and in one another that
--- declare nothing, or in the main procedure scalars of FIXED BINARY and BIT(1) without INITIAL; expressions of numbers, bits and texts,
--- and elements of arrays in them; assignments of these, CALL of these procedures, also by themselves, IF, groups, DO WHILE, DO with a
--- variable, GOTO to a label of a list around it in its block, in a block around it up to the procedure's own, or of the main procedure's
--- own list, RETURN, STOP, SIGNAL, ON with SYSTEM, ON for AREA with a single statement or a BEGIN block in the main procedure's own block,
--- REVERT, PUT EDIT of numbers, bits and texts, and GET EDIT of such scalars and elements, by lists of F, A, X, SKIP and COLUMN items.
--- Each form that is proved takes a line off.
+-- declare nothing, or scalars of FIXED BINARY and BIT(1) without INITIAL; expressions of numbers, bits and texts, and elements of arrays
+-- in them; assignments of these, CALL of these procedures, also by themselves, IF, groups, DO WHILE, DO with a variable, GOTO to a label
+-- of a list around it in its block, in a block around it up to the procedure's own, or of the main procedure's own list, RETURN, STOP,
+-- SIGNAL, ON with SYSTEM, ON for AREA with a single statement or a BEGIN block in the main procedure's own block, REVERT, PUT EDIT of
+-- numbers, bits and texts, and GET EDIT of such scalars and elements, by lists of F, A, X, SKIP and COLUMN items. Each form that is
+-- proved takes a line off.
 use Rattle.std.specs.Prelude.{◌≡◌, ℕ, suc, int_le, ◌<◌, ◌≤◌, ◌^◌, List, [], ◌∷◌, ◌++◌, length, map, max, nat_lt, ◌*◌, slice_get, Bool, Option, None, Some, true, false, if◌then◌else◌, ⊤, ◌==◌, ◌&&◌, ◌⊎◌, pos, ◌+◌}
 use Rattle.pli_language.specs.Keywords.{same_bytes}
 use Rattle.pli_language.specs.declared.condition.Condition.TheVariants as C
@@ -532,25 +532,42 @@ IsOutward block to label all blocks (o ∷ os) =
 -- procedure inside the main one or in an on-unit, of the main one's own list, and the label stands once in the program's blocks of that
 -- number; begin blocks stand up to a hundred deep; on-units are given in the main procedure's own block
 abbrev mutual
-  pub JumpsAround : Y.Program → (block level : ℕ) → (all : List (ℕ × Label)) → (blocks : List BlockPlace) → (main : OuterBlock) → (outer : List OuterBlock) → (around : List Label) → Y.Stmt → Type 0
-  JumpsAround program block level all blocks main outer around (Y.If condition unit line) = JumpsAround program block level all blocks main outer around unit
-  JumpsAround program block level all blocks main outer around (Y.IfElse condition unit otherwise line) = JumpsAround program block level all blocks main outer around unit × JumpsAround program block level all blocks main outer around otherwise
-  JumpsAround program block level all blocks main outer around (Y.Do body line) = AllJumpAround program block level all blocks main outer (labels_in body ++ around) body
-  JumpsAround program block level all blocks main outer around (Y.DoWhile condition body line) = AllJumpAround program block level all blocks main outer (labels_in body ++ around) body
-  JumpsAround program block level all blocks main outer around (Y.DoOnce target start condition body line) = AllJumpAround program block level all blocks main outer (labels_in body ++ around) body
-  JumpsAround program block level all blocks main outer around (Y.DoCount counter start limit step condition body line) = AllJumpAround program block level all blocks main outer (labels_in body ++ around) body
-  JumpsAround program block level all blocks main outer around (Y.Begin (Y.BlockOf head body)) =
+  pub JumpsAround : (block level : ℕ) → (all : List (ℕ × Label)) → (blocks : List BlockPlace) → (main : OuterBlock) → (outer : List OuterBlock) → (around : List Label) → Y.Stmt → Type 0
+  JumpsAround block level all blocks main outer around (Y.If condition unit line) = JumpsAround block level all blocks main outer around unit
+  JumpsAround block level all blocks main outer around (Y.IfElse condition unit otherwise line) = JumpsAround block level all blocks main outer around unit × JumpsAround block level all blocks main outer around otherwise
+  JumpsAround block level all blocks main outer around (Y.Do body line) = AllJumpAround block level all blocks main outer (labels_in body ++ around) body
+  JumpsAround block level all blocks main outer around (Y.DoWhile condition body line) = AllJumpAround block level all blocks main outer (labels_in body ++ around) body
+  JumpsAround block level all blocks main outer around (Y.DoOnce target start condition body line) = AllJumpAround block level all blocks main outer (labels_in body ++ around) body
+  JumpsAround block level all blocks main outer around (Y.DoCount counter start limit step condition body line) = AllJumpAround block level all blocks main outer (labels_in body ++ around) body
+  JumpsAround block level all blocks main outer around (Y.Begin (Y.BlockOf head body)) =
       ((head.level ≡ suc level) × (head.level ≤ 100))
-      × AllJumpAround program head.number head.level all blocks main (record { level = level; number = block; labels = around } ∷ outer) (labels_in body) body
-  JumpsAround program block level all blocks main outer around (Y.Goto to label line) =
+      × AllJumpAround head.number head.level all blocks main (record { level = level; number = block; labels = around } ∷ outer) (labels_in body) body
+  JumpsAround block level all blocks main outer around (Y.Goto to label line) =
       ((to ≡ level) × ((is_among label around ≡ true) × (times block label all ≡ 1))) ⊎ IsOutward block to label all blocks outer
-  JumpsAround program block level all blocks main outer around (Y.OnUnit condition (Y.BlockOf head body) line) =
-      ((0 == level) ≡ true) × ((head.level ≡ 1) × (IsUnitApart block head head.kind × AllJumpAround program head.number head.level all blocks main (main ∷ []) (labels_in body) body))
-  JumpsAround program block level all blocks main outer around _ = ⊤
+  JumpsAround block level all blocks main outer around (Y.OnUnit condition (Y.BlockOf head body) line) =
+      ((0 == level) ≡ true) × ((head.level ≡ 1) × (IsUnitApart block head head.kind × AllJumpAround head.number head.level all blocks main (main ∷ []) (labels_in body) body))
+  JumpsAround block level all blocks main outer around _ = ⊤
 
-  pub AllJumpAround : Y.Program → (block level : ℕ) → (all : List (ℕ × Label)) → (blocks : List BlockPlace) → (main : OuterBlock) → (outer : List OuterBlock) → (around : List Label) → Y.Stmts → Type 0
-  AllJumpAround program block level all blocks main outer around (Y.EndOfList labels) = ⊤
-  AllJumpAround program block level all blocks main outer around (Y.StmtThen labels first rest) = JumpsAround program block level all blocks main outer around first × AllJumpAround program block level all blocks main outer around rest
+  pub AllJumpAround : (block level : ℕ) → (all : List (ℕ × Label)) → (blocks : List BlockPlace) → (main : OuterBlock) → (outer : List OuterBlock) → (around : List Label) → Y.Stmts → Type 0
+  AllJumpAround block level all blocks main outer around (Y.EndOfList labels) = ⊤
+  AllJumpAround block level all blocks main outer around (Y.StmtThen labels first rest) = JumpsAround block level all blocks main outer around first × AllJumpAround block level all blocks main outer around rest
+
+-- ---- what the variables of blocks in a part take in frames
+
+abbrev mutual
+  pub bytes_in : Y.Program → Y.Stmt → ℕ
+  bytes_in program (Y.If condition unit line) = bytes_in program unit
+  bytes_in program (Y.IfElse condition unit otherwise line) = max (bytes_in program unit) (bytes_in program otherwise)
+  bytes_in program (Y.Do body line) = inner_bytes program body
+  bytes_in program (Y.DoWhile condition body line) = inner_bytes program body
+  bytes_in program (Y.DoOnce target start condition body line) = inner_bytes program body
+  bytes_in program (Y.DoCount counter start limit step condition body line) = inner_bytes program body
+  bytes_in program (Y.Begin (Y.BlockOf head body)) = 32 * length (variables_of_block program head.number) + inner_bytes program body
+  bytes_in program _ = 0
+
+  pub inner_bytes : Y.Program → Y.Stmts → ℕ
+  inner_bytes program (Y.EndOfList labels) = 0
+  inner_bytes program (Y.StmtThen labels first rest) = max (bytes_in program first) (inner_bytes program rest)
 
 -- ---- calls
 
@@ -569,7 +586,7 @@ is_bare [] = true
 is_bare (d ∷ ds) = false
 
 -- calls name one of some numbers, and they and SIGNAL of AREA stand in no block that declares variables; an on-unit has no RETURN and few
--- words for temporaries, as a procedure that is called
+-- bytes for temporaries and variables, as a procedure that is called
 abbrev mutual
   pub CallsAmong : Y.Program → (may : List ℕ) → (returns bare : Bool) → Y.Stmt → Type 0
   CallsAmong program may returns bare (Y.If condition unit line) = CallsAmong program may returns bare unit
@@ -584,7 +601,7 @@ abbrev mutual
   CallsAmong program may returns bare (Y.Return line) = returns ≡ true
   CallsAmong program may returns bare (Y.Signal C.Area line) = bare ≡ true
   CallsAmong program may returns bare (Y.OnUnit condition (Y.BlockOf head body) line) =
-      AllCallAmong program may false true body × ((stmts_words body + all_inner_words body ≤ 800) × IsUnitNew may head head.kind)
+      AllCallAmong program may false true body × ((4 * (stmts_words body + all_inner_words body) + inner_bytes program body ≤ 3200) × IsUnitNew may head head.kind)
   CallsAmong program may returns bare _ = ⊤
 
   pub AllCallAmong : Y.Program → (may : List ℕ) → (returns bare : Bool) → Y.Stmts → Type 0
@@ -616,49 +633,28 @@ abbrev pub AreDeclaring : List Y.DeclaredVariable → Type 0
 AreDeclaring [] = ⊤
 AreDeclaring (d ∷ ds) = IsDeclaring d × AreDeclaring ds
 
--- blocks declare such variables, if they may, or nothing
-abbrev pub DeclareIf : (may : Bool) → List Y.DeclaredVariable → Type 0
-DeclareIf true ds = AreDeclaring ds
-DeclareIf false ds = ds ≡ []
-
 -- a single statement declares nothing
 abbrev pub DeclaresNothing : Y.Program → Y.BlockHead → Y.BlockKind → Type 0
 DeclaresNothing program head Y.SimpleUnit = ⊤
 DeclaresNothing program head _ = variables_of_block program head.number ≡ []
 
+-- blocks declare such variables alone
 abbrev mutual
-  pub IsBare : Y.Program → (may : Bool) → Y.Stmt → Type 0
-  IsBare program may (Y.If condition unit line) = IsBare program may unit
-  IsBare program may (Y.IfElse condition unit otherwise line) = IsBare program may unit × IsBare program may otherwise
-  IsBare program may (Y.Do body line) = AreBare program may body
-  IsBare program may (Y.DoWhile condition body line) = AreBare program may body
-  IsBare program may (Y.DoOnce target start condition body line) = AreBare program may body
-  IsBare program may (Y.DoCount counter start limit step condition body line) = AreBare program may body
-  IsBare program may (Y.Begin (Y.BlockOf head body)) =
-      DeclareIf may (variables_of_block program head.number) × AreBare program may body
-  IsBare program may (Y.OnUnit condition (Y.BlockOf head body) line) = DeclaresNothing program head head.kind × AreBare program false body
-  IsBare program may _ = ⊤
+  pub DeclaresScalars : Y.Program → Y.Stmt → Type 0
+  DeclaresScalars program (Y.If condition unit line) = DeclaresScalars program unit
+  DeclaresScalars program (Y.IfElse condition unit otherwise line) = DeclaresScalars program unit × DeclaresScalars program otherwise
+  DeclaresScalars program (Y.Do body line) = DeclareScalars program body
+  DeclaresScalars program (Y.DoWhile condition body line) = DeclareScalars program body
+  DeclaresScalars program (Y.DoOnce target start condition body line) = DeclareScalars program body
+  DeclaresScalars program (Y.DoCount counter start limit step condition body line) = DeclareScalars program body
+  DeclaresScalars program (Y.Begin (Y.BlockOf head body)) =
+      AreDeclaring (variables_of_block program head.number) × DeclareScalars program body
+  DeclaresScalars program (Y.OnUnit condition (Y.BlockOf head body) line) = DeclaresNothing program head head.kind × DeclareScalars program body
+  DeclaresScalars program _ = ⊤
 
-  pub AreBare : Y.Program → (may : Bool) → Y.Stmts → Type 0
-  AreBare program may (Y.EndOfList labels) = ⊤
-  AreBare program may (Y.StmtThen labels first rest) = IsBare program may first × AreBare program may rest
-
--- ---- what the variables of these blocks take in frames
-
-abbrev mutual
-  pub bytes_in : Y.Program → Y.Stmt → ℕ
-  bytes_in program (Y.If condition unit line) = bytes_in program unit
-  bytes_in program (Y.IfElse condition unit otherwise line) = max (bytes_in program unit) (bytes_in program otherwise)
-  bytes_in program (Y.Do body line) = inner_bytes program body
-  bytes_in program (Y.DoWhile condition body line) = inner_bytes program body
-  bytes_in program (Y.DoOnce target start condition body line) = inner_bytes program body
-  bytes_in program (Y.DoCount counter start limit step condition body line) = inner_bytes program body
-  bytes_in program (Y.Begin (Y.BlockOf head body)) = 32 * length (variables_of_block program head.number) + inner_bytes program body
-  bytes_in program _ = 0
-
-  pub inner_bytes : Y.Program → Y.Stmts → ℕ
-  inner_bytes program (Y.EndOfList labels) = 0
-  inner_bytes program (Y.StmtThen labels first rest) = max (bytes_in program first) (inner_bytes program rest)
+  pub DeclareScalars : Y.Program → Y.Stmts → Type 0
+  DeclareScalars program (Y.EndOfList labels) = ⊤
+  DeclareScalars program (Y.StmtThen labels first rest) = DeclaresScalars program first × DeclareScalars program rest
 
 -- ---- programs
 
@@ -685,13 +681,13 @@ main_labels (p ∷ ps) = labels_of_block p.block
 abbrev pub main_outer : (block : ℕ) → List Y.Procedure → OuterBlock
 main_outer block procedures = record { level = 0; number = block; labels = main_labels procedures }
 
--- a procedure that is called: it has few words for temporaries in its frame and those of BEGIN blocks in it, so that 500 frames fit the
--- stacks
+-- a procedure that is called: it has few bytes for temporaries and variables in its frame and those of BEGIN blocks in it, so that 500
+-- frames fit the stacks
 pub record IsCallable (program : Y.Program) (called : List ℕ) (head : Y.BlockHead) (body : Y.Stmts) : Type 0 where
   pub kind : head.kind ≡ Y.ProcedureBlock
   pub line : IsLine head.line
   pub calls : AllCallAmong program called true true body
-  pub few : stmts_words body + all_inner_words body ≤ 800
+  pub few : 4 * (stmts_words body + all_inner_words body) + inner_bytes program body ≤ 3200
 
 -- a procedure inside the main one, whose number is the given block's: it declares nothing, and has no parameters and no result
 pub record IsInner (program : Y.Program) (block : ℕ) (all : List (ℕ × Label)) (called : List ℕ) (p : Y.Procedure) : Type 0 where
@@ -702,8 +698,8 @@ pub record IsInner (program : Y.Program) (block : ℕ) (all : List (ℕ × Label
   pub level : head.level ≡ 1
   pub bare : variables_of_block program head.number ≡ []
   pub statements : AreProvedStatements (main_names program block) (types_of (variables_of_block program block)) body
-  pub jumps : AllJumpAround program head.number 1 all (blocks_of program.procedures) (main_outer block program.procedures) (main_outer block program.procedures ∷ []) (labels_in body) body
-  pub inside : AreBare program false body
+  pub jumps : AllJumpAround head.number 1 all (blocks_of program.procedures) (main_outer block program.procedures) (main_outer block program.procedures ∷ []) (labels_in body) body
+  pub inside : DeclareScalars program body
   pub callable : is_number head.number called ≡ true → IsCallable program called head body
 
 abbrev pub AreInner : Y.Program → (block : ℕ) → (all : List (ℕ × Label)) → (called : List ℕ) → List Y.Procedure → Type 0
@@ -715,9 +711,9 @@ pub record IsProvedBlock (program : Y.Program) (head : Y.BlockHead) (body : Y.St
   pub level : head.level ≡ 0
   pub line : IsLine head.line
   pub statements : AreProvedStatements (main_names program head.number) (types_of (variables_of_block program head.number)) body
-  pub jumps : AllJumpAround program head.number 0 (all_labels head.number body ++ procedure_labels others) (blocks_of program.procedures) (main_outer head.number program.procedures) [] (labels_in body) body
+  pub jumps : AllJumpAround head.number 0 (all_labels head.number body ++ procedure_labels others) (blocks_of program.procedures) (main_outer head.number program.procedures) [] (labels_in body) body
   pub calls : AllCallAmong program called true true body
-  pub inside : AreBare program true body
+  pub inside : DeclareScalars program body
   pub few : inner_bytes program body ≤ 1000000
 
 -- the main procedure, without parameters and without a result, and procedures inside it, of which those of some numbers are called; the
