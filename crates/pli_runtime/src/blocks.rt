@@ -67,7 +67,9 @@ impl Runtime {
                 .resolve::<K>(self.alloc, memory, first, second, third, fourth),
             1 => {
                 let number = of_two_words(third, registers[15]);
-                element::<K>(self.alloc, &self.held, memory, first, second, number, fourth)
+                element::<K>(
+                    self.alloc, &self.held, memory, first, second, number, fourth,
+                )
             }
             _ => Err(Refusal::Bad),
         }
