@@ -14,7 +14,7 @@ use Rattle.pli_declaring.specs.Bytes.{capped}
 use Rattle.pli_declaring.proofs.Bytes.{spans_in_two}
 
 -- the dimensions behind those of the outermost
-behind : LevelsHeld → List Bound
+abbrev behind : LevelsHeld → List Bound
 behind L.Outermost = []
 behind (L.Inside' v count dimensions a above) = behind above ++ dimensions_of (variable_of v)
 

@@ -119,7 +119,6 @@ fn elements_inside(first: Variable, levels: &Levels) -> u64
 
 /// How many elements the structures have that hold a variable. Mostly the outermost alone has dimensions: then the others aren't
 /// looked through.
-#[tactic(auto, using(crate::proofs::Alone::elements_alone))]
 fn elements_above(above: &Above) -> u64
     ensures { result ≡ capped (elements_above (above_of above.now)) }
 {

@@ -50,8 +50,9 @@ fn put_own_bounds(
     put_bounds(out, written, &variable.item.dimensions)
 }
 
-/// The bounds of these structures, the outermost first.
-#[tactic(auto, using(crate::proofs::Extents::gathered))]
+/// The bounds of these structures, the outermost first. Where one has no dimensions the call is the last thing that is done, so that
+/// many of these are a loop.
+#[tactic(auto, using(crate::proofs::Extents::gathered, crate::proofs::Dimensions::none_more))]
 fn put_bounds_above(
     out: &mut Vec<Bounds>,
     written: &[WrittenExtent],
@@ -66,6 +67,9 @@ fn put_bounds_above(
             above,
             ..
         } => {
+            if dimensions_of(*structure) == 0 {
+                return put_bounds_above(out, written, outermost, above);
+            }
             put_bounds_above(out, written, outermost, above)?;
             put_own_bounds(out, written, *structure)
         }
