@@ -218,7 +218,7 @@ end_stands program block line body called plain alone are jumps bare inner numbe
     let rest = symbol_times (ReturnPlace number) (procedure_symbols alone.others) in
     times_are (ReturnPlace number) 0 (code_of parts program)
     ∙ ap (symbol_times (ReturnPlace number)) (program_marks program block line body plain _ _ alone are bare inner)
-    ∙ ends_behind number block (all_stands block body) (procedure_symbols alone.others) (ends_apart number block body (called_units program number block 0 _ _ _ [] (labels_in body) called true true body among jumps calls))
+    ∙ ends_behind number block (all_stands block body) (procedure_symbols alone.others) (ends_apart number block body (called_units program number block 0 _ _ _ [] (labels_in body) called true 0 body among jumps calls))
     ∙ ap (λ q. cond q (suc rest) rest) apart
     ∙ ends_times number program block _ called alone.others inner
     ∙ once
