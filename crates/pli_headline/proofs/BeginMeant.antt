@@ -15,7 +15,7 @@ use Rattle.pli_meaning.specs.Executing as M
 use Rattle.pli_serving.specs.ServiceState as S
 use Rattle.pli_headline.specs.ProvedSoFar.{Names, Kind, Types}
 use Rattle.pli_headline.proofs.Activations.{IsNested, IsOrdinary, Nested, frames_of, ancestor_inside, ancestor_around, first_level, levels_of, behind_level, entered_length, same_length, newest_level, newest_of_levels, direct_parent}
-use Rattle.pli_headline.proofs.Asides.{AllAside, behind_aside, asides_left}
+use Rattle.pli_headline.proofs.Asides.{StandAside, behind_aside, asides_left}
 use Rattle.pli_headline.proofs.Entered.{Frames, atop, kinds_of, kinds_above, kinds_behind, behind_kind, first_kind, AreKnown, UnitsKnown}
 use Rattle.pli_headline.proofs.Variables.{level_of, AllOutermost}
 use Rattle.pli_headline.proofs.Storages.{Storage, Serials, Stored, stored_higher, stored_left, lives_left}
@@ -146,7 +146,7 @@ raised_all head entry s xs x {frames = frames} {serials = serials} {outer = oute
       framed = ap (λ fs. x.frame ∷ fs) all.framed;
       kinds = kinds_above x xs.activations (omega (arith, served, long)) ∙ ap (λ ks. x.kind ∷ ks) all.kinds;
       units = (subst (AreKnown frames.known (length s.activations + 1) x.frame []) (sym none) tt, all.units);
-      aside = (tt, all.aside);
+      aside = record { all = (tt, all.aside.all) };
       stored = stored_higher all.stored;
     }
 
@@ -219,7 +219,7 @@ left_by s (a ∷ as') xs (x ∷ ys) {top} {outer = outer} {levels = levels} from
         framed = ap behind_first (ap frames_of (sym are) ∙ all.framed) ∙ lists;
         kinds = kinds_behind x ys ∙ ap behind_kind (ap kinds_of (sym are) ∙ all.kinds) ∙ kinds;
         units = known as' ys (subst (λ us. UnitsKnown from.known us (x ∷ ys)) same (subst (UnitsKnown from.known s.activations) are all.units)).1;
-        aside = subst (λ xss. AllAside xss serials types as' (without_owner a.height s.living) s.serials) asides (asides_left from.asides a as' (omega (arith, high, long)) (subst (λ us. AllAside from.asides serials types us s.living s.serials) same all.aside));
+        aside = subst (λ xss. StandAside xss serials types as' (without_owner a.height s.living) s.serials) asides (asides_left a.height a as' (omega (arith, high, long)) (subst (λ us. StandAside from.asides serials types us s.living s.serials) same all.aside));
         stored = stored;
       },
     ) in

@@ -1,5 +1,5 @@
 -- A program with a block that declares a scalar, calls a procedure and raises AREA is one of those that are proved.
-use Rattle.std.proofs.Common.{ℕ, List, [], ◌∷◌, None, refl, arith, lit<, inl, inr}
+use Rattle.std.proofs.Common.{ℕ, [], ◌∷◌, None, refl, arith, lit<, inl}
 use Rattle.pli_language.specs.declared.condition.Condition.TheVariants as C
 use Rattle.pli_typing.specs.TypedTree as Y
 use Rattle.pli_headline.specs.ProvedSoFar.{Names, Types, IsOwn, IsDeclaring, IsProvedNumber, IsPlain, IsProvedSoFar, main_names, names_in, alone, plain_variable}

@@ -117,7 +117,7 @@ inner_makes {e} bl inner t0 head next filled known are shallow room few =
       stand = λ i. let z : 0 + i ≡ i = omega arith in ap (λ n. slice_get ds n) z;
       deep = omega (arith, next);
       new = λ j kind at. inl (let low = bl.lower j at in omega (arith, low, next));
-      fresh = refl;
+      fresh = tt;
       own = λ n t b m o. o.own;
       places = λ i h.
           let z : 0 + i ≡ i = omega arith in

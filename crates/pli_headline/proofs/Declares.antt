@@ -44,7 +44,7 @@ use Rattle.pli_headline.proofs.NamesMade.{made_code, make_asked}
 use Rattle.pli_headline.proofs.DeclaredNames.{by_element, by_last, chosen_before, chosen_here}
 use Rattle.pli_headline.proofs.Variables.{level_of}
 use Rattle.pli_headline.proofs.OneMore.{More, more_block, more_ground, more_enclosures, around_level, not_last}
-use Rattle.pli_headline.proofs.Asides.{first_aside}
+use Rattle.pli_headline.proofs.Asides.{IsFresh}
 use Rattle.pli_headline.proofs.MoreNames.{more_names, spot_of}
 use Rattle.pli_headline.proofs.MoreStates.{IsNew, step_meant, made_or_ended, nested_same, more_all, fewer_all, all_same}
 use Rattle.pli_headline.proofs.MoreServed.{OwnStands, place_for, more_piece, past_piece}
@@ -58,7 +58,7 @@ pub record Makes {e : Environment} {block : Names} {types : Types} (ib : Block e
   pub stand : (i : ℕ) → slice_get (variables_of_block e.program e.block) (index + i) ≡ slice_get ds i
   pub deep : 0 < e.level
   pub new : IsNew e block types index
-  pub fresh : first_aside ib.frames.asides ≡ []
+  pub fresh : IsFresh ib.frames.asides
   pub own : OwnStands ib
   pub places : (i : ℕ) → i ≤ length ds → ib.stack.frame + place_for e (index + i) ≡ ib.stack.free + 32 * i
   pub room : ib.stack.free + 32 * length ds + 4 ≤ 14 * 2 ^ 20

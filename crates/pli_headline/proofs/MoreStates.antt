@@ -31,7 +31,7 @@ use Rattle.pli_headline.proofs.States.{Holds}
 use Rattle.pli_headline.proofs.Storages.{Storage, Serials, Stored, owner_in}
 use Rattle.pli_headline.proofs.DeclaredNames.{by_element, by_last, kind_around, chosen_before, chosen_here}
 use Rattle.pli_headline.proofs.MoreNames.{more_names, more_serials, spot_of, no_text}
-use Rattle.pli_headline.proofs.Asides.{Aside, AllAside, first_aside, asides_by, asides_other, asides_fewer}
+use Rattle.pli_headline.proofs.Asides.{Aside, StandAside, IsFresh, asides_by, asides_other, asides_fewer}
 use Rattle.pli_headline.proofs.Statements.{AllHold, SameValues, Restricts, restricts_self}
 use Rattle.pli_headline.proofs.Entered.{Frames, UnitsKnown}
 
@@ -236,11 +236,10 @@ more_stored {serials} {block} {types} xs levels s e index k at numbered high lon
       table = h.table;
     }
 
-asides_newer : {serials : Serials} {types : Types} {living : List Living} {count owner : ℕ} (l : Living) (k : Kind) (xss : List (List Aside)) (as' : List Activation) → l.serial ≡ count + 1 → AllAside xss serials types as' living count → AllAside xss (more_serials serials (length types) (count + 1) owner) (types ++ (k ∷ [])) as' (l ∷ living) (count + 1)
-asides_newer {serials} {types} {living} {count} {owner} l k xss as' new all =
+asides_newer : {xss : List (List Aside)} {serials : Serials} {types : Types} {as' : List Activation} {living : List Living} {count : ℕ} (owner : ℕ) (l : Living) (k : Kind) → l.serial ≡ count + 1 → StandAside xss serials types as' living count → StandAside xss (more_serials serials (length types) (count + 1) owner) (types ++ (k ∷ [])) as' (l ∷ living) (count + 1)
+asides_newer {serials = serials} {types} {as'} {living} {count} owner l k new all =
     let o = more_serials serials (length types) (count + 1) owner in
-    asides_by (length as')
-    (λ x bs few h.
+    asides_by (λ x bs few h.
     let other : (i : ℕ) → x.among i → (l.serial == x.serials.of i) ≡ false = λ i among. ap (λ n. n == x.serials.of i) new ∙ newer (x.serials.of i) count (h.older i among) in
     record {
       stands = λ i among. h.stands i among;
@@ -253,17 +252,15 @@ asides_newer {serials} {types} {living} {count} {owner} l k xss as' new all =
           (λ j' kind below at'. ap (λ n. n == x.serials.of i) (chosen_before (length types) j' (serials.of j') (count + 1) below) ∙ h.apart i j' among at')
           (ap (λ n. n == x.serials.of i) (chosen_here (length types) (serials.of (length types)) (count + 1)) ∙ newer (x.serials.of i) count (h.older i among))
           j _ at;
-    })
-    xss as' (omega arith) all
+    }) all
 
--- what is put aside stays, where the block that makes it has put nothing aside
-asides_made : {serials : Serials} {types : Types} {living : List Living} {count owner : ℕ} (l : Living) (k : Kind) (b : Binding) (xss : List (List Aside)) (as' : List Activation) → l.serial ≡ count + 1 → first_aside xss ≡ [] → AllAside xss serials types as' living count → AllAside xss (more_serials serials (length types) (count + 1) owner) (types ++ (k ∷ [])) (with_binding b as') (l ∷ living) (count + 1)
-asides_made l k b xss [] new none all = asides_newer l k xss [] new all
-asides_made l k b xss (a ∷ as') new none all =
-    asides_newer l k xss (record a { bindings = b ∷ a.bindings } ∷ as') new (asides_other a (record a { bindings = b ∷ a.bindings }) as' xss none all)
+-- what is put aside stays, where the block that makes a variable has put nothing aside
+asides_bound : {xss : List (List Aside)} {serials : Serials} {types : Types} {living : List Living} {count : ℕ} (b : Binding) (as' : List Activation) → IsFresh xss → StandAside xss serials types as' living count → StandAside xss serials types (with_binding b as') living count
+asides_bound b [] fresh all = all
+asides_bound b (a ∷ as') fresh all = asides_other a (record a { bindings = b ∷ a.bindings }) as' fresh all
 
-pub more_all : {frames : Frames} {serials : Serials} {xs : Storage} {levels : List ℕ} {s : State} {block : Names} {types : Types} {n : Values} (e : Environment) (index : ℕ) (k : Kind) (at : ℕ) → IsElementType k.type → k ≡ alone k.type → Numbered (table_of block.program) k → IsNew e block types index → first_aside frames.asides ≡ [] → Nested s.activations xs.activations → n.numbers (length types) ≡ pos 0 → AllHold frames serials xs (e.level ∷ levels) s block types n → AllHold frames (more_serials serials (length types) (s.serials + 1) (suc (length levels))) (more_storage xs (number_for (table_of block.program) k) at) (e.level ∷ levels) (more_state s index k) (more_names e block types index) (types ++ (k ∷ [])) n
-more_all {frames = frames} {serials = serials} {xs} {levels} {s} {block} {types} {n} e index k at element is numbered new none nested zero' all =
+pub more_all : {frames : Frames} {serials : Serials} {xs : Storage} {levels : List ℕ} {s : State} {block : Names} {types : Types} {n : Values} (e : Environment) (index : ℕ) (k : Kind) (at : ℕ) → IsElementType k.type → k ≡ alone k.type → Numbered (table_of block.program) k → IsNew e block types index → IsFresh frames.asides → Nested s.activations xs.activations → n.numbers (length types) ≡ pos 0 → AllHold frames serials xs (e.level ∷ levels) s block types n → AllHold frames (more_serials serials (length types) (s.serials + 1) (suc (length levels))) (more_storage xs (number_for (table_of block.program) k) at) (e.level ∷ levels) (more_state s index k) (more_names e block types index) (types ++ (k ∷ [])) n
+more_all {frames = frames} {serials = serials} {xs} {levels} {s} {block} {types} {n} e index k at element is numbered new fresh nested zero' all =
     let count = length types in
     let serial = s.serials + 1 in
     let s' = more_state s index k in
@@ -315,7 +312,7 @@ more_all {frames = frames} {serials = serials} {xs} {levels} {s} {block} {types}
       framed = all.framed;
       kinds = all.kinds;
       units = units_same frames.known s.activations xs.activations b all.units;
-      aside = asides_made l k b frames.asides s.activations refl none all.aside;
+      aside = asides_newer (suc (length levels)) l k refl (asides_bound b s.activations fresh all.aside);
       stored = more_stored xs levels s e index k at numbered high (same_length s.activations xs.activations nested ∙ long) all.stored;
     }
 
@@ -335,7 +332,7 @@ restricts_all {frames = frames} {serials} {serials'} {xs} {levels} {s} {block} {
       framed = all.framed;
       kinds = all.kinds;
       units = all.units;
-      aside = asides_fewer frames.asides (λ j kind at. (r.among j at, r.of j at)) all.aside;
+      aside = asides_fewer (λ j kind at. (r.among j at, r.of j at)) all.aside;
       stored = record {
         owned = λ j at. ap (λ m. owner_in (living_of s.living m)) (r.of j at) ∙ all.stored.owned j (r.among j at) ∙ ap (λ m. Some m) (sym (r.owner j at));
         apart = λ i j at at' other. ap (λ m. m == serials'.of i) (r.of j at') ∙ ap (λ m. serials.of j == m) (r.of i at) ∙ all.stored.apart i j (r.among i at) (r.among j at') other;

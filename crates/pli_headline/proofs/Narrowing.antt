@@ -6,7 +6,7 @@ use Rattle.std.proofs.lemmas.Bool.{le-ltb, lt-ltb, eqb-true}
 use Rattle.rv_meaning.specs.Words.{word}
 use Rattle.rv_meaning.specs.Memory.{load, store}
 use Rattle.rv_meaning.specs.Machine.{memory_size, load_width, extended, store_width}
-use Rattle.pli_typing.specs.Signatures.{Bounds, element_count}
+use Rattle.pli_typing.specs.Signatures.{Bounds}
 use Rattle.pli_typing.specs.TypedTree as Y
 use Rattle.pli_meaning.specs.BasicValues.{BasicText}
 use Rattle.pli_meaning.specs.Control.{Label}
@@ -20,7 +20,7 @@ use Rattle.pli_headline.proofs.Engine.{Base}
 use Rattle.pli_headline.proofs.Scalars.{Values, Fits, load_kind, store_kind, place_below}
 use Rattle.pli_headline.proofs.Bodies.{Ground, PlaceFrom}
 use Rattle.pli_headline.proofs.Reaching.{Reaches}
-use Rattle.pli_headline.proofs.Variables.{IsDeclared, AllOutermost, data_place, level_of}
+use Rattle.pli_headline.proofs.Variables.{AllOutermost, data_place, level_of}
 use Rattle.pli_headline.proofs.DeclaredNames.{by_last, kind_around, chosen_before, chosen_here}
 use Rattle.pli_headline.proofs.States.{with_number_at, with_text_at}
 use Rattle.pli_headline.proofs.TextPlaces.{TextThere, text_kind_of}
@@ -80,8 +80,8 @@ narrows_more {outer} {outers} {block} {types} kind spot deep b =
 
 narrows_from : {outer : Names} {outers : Types} {block : Names} {types : Types} (number level index : ℕ) (ds : List Y.DeclaredVariable) → 0 < level → Narrows outer outers block types → Narrows outer outers (names_from block types number level index ds) (types_in types ds)
 narrows_from number level index [] deep b = b
-narrows_from number level index (d ∷ ds) deep b =
-    narrows_from number level (suc index) ds deep (narrows_more (declared_kind d) (record { number = number; level = level; index = index }) deep b)
+narrows_from {block = block} {types = types} number level index (d ∷ ds) deep b =
+    narrows_from {block = names_with block (length types) (record { number = number; level = level; index = index })} {types = types ++ (declared_kind d ∷ [])} number level (suc index) ds deep (narrows_more (declared_kind d) (record { number = number; level = level; index = index }) deep b)
 
 -- with those of a block in the main procedure
 pub narrows_in : {outer : Names} {outers : Types} {block : Names} {types : Types} (head : Y.BlockHead) (ds : List Y.DeclaredVariable) → 0 < head.level → Narrows outer outers block types → Narrows outer outers (names_in block types head ds) (types_in types ds)
@@ -127,7 +127,7 @@ beside_self types count n j kind at =
     same false x = refl
 
 -- those that are the same among the first are the same beside others
-beside_same : {outer : Names} {outers : Types} {block : Names} {types : Types} → Narrows outer outers block types → (n n' n0 : Values) → SameValues outers n n' → SameValues types (beside (length outers) n n0) (beside (length outers) n' n0)
+pub beside_same : {outer : Names} {outers : Types} {block : Names} {types : Types} → Narrows outer outers block types → (n n' n0 : Values) → SameValues outers n n' → SameValues types (beside (length outers) n n0) (beside (length outers) n' n0)
 beside_same {outers = outers} {block = block} b n n' n0 same j kind at = by_place (b.others j at)
   where
     by_place : (slice_get outers j ≡ Some kind) ⊎ ((length outers ≤ j) × (0 < level_of block j)) → ((beside (length outers) n n0).numbers j ≡ (beside (length outers) n' n0).numbers j) × (((beside (length outers) n n0).texts j ≡ (beside (length outers) n' n0).texts j) × ((beside (length outers) n n0).arrays j ≡ (beside (length outers) n' n0).arrays j))
@@ -138,8 +138,10 @@ beside_same {outers = outers} {block = block} b n n' n0 same j kind at = by_plac
         )
     by_place (inr h) = (
       chosen_behind (length outers) j (n.numbers j) (n0.numbers j) h.0 ∙ sym (chosen_behind (length outers) j (n'.numbers j) (n0.numbers j) h.0),
-      (chosen_behind (length outers) j (n.texts j) (n0.texts j) h.0 ∙ sym (chosen_behind (length outers) j (n'.texts j) (n0.texts j) h.0),
-       chosen_behind (length outers) j (n.arrays j) (n0.arrays j) h.0 ∙ sym (chosen_behind (length outers) j (n'.arrays j) (n0.arrays j) h.0)),
+      (
+        chosen_behind (length outers) j (n.texts j) (n0.texts j) h.0 ∙ sym (chosen_behind (length outers) j (n'.texts j) (n0.texts j) h.0),
+        chosen_behind (length outers) j (n.arrays j) (n0.arrays j) h.0 ∙ sym (chosen_behind (length outers) j (n'.arrays j) (n0.arrays j) h.0),
+      ),
     )
 
 put_by : {A : Type 0} (q r : Bool) (x y z : A) → (q ≡ true → r ≡ true) → cond q z (cond r x y) ≡ cond r (cond q z x) y
@@ -171,42 +173,42 @@ element_beside types count n n0 j p z below i kind at =
 
 -- ---- where they stand
 
-same_data : {outer : Names} {outers : Types} {block : Names} {types : Types} (e : Environment) (b : Narrows outer outers block types) (j : ℕ) {kind : Kind} → slice_get outers j ≡ Some kind → data_place e outer j ≡ data_place e block j
+pub same_data : {outer : Names} {outers : Types} {block : Names} {types : Types} (e : Environment) (b : Narrows outer outers block types) (j : ℕ) {kind : Kind} → slice_get outers j ≡ Some kind → data_place e outer j ≡ data_place e block j
 same_data e b j at = ap (λ (u : Spot). automatic_place e.parts e.program u.number u.level u.index + 16 + 0) (b.spots j at)
 
-same_level : {outer : Names} {outers : Types} {block : Names} {types : Types} (b : Narrows outer outers block types) (j : ℕ) {kind : Kind} → slice_get outers j ≡ Some kind → level_of outer j ≡ level_of block j
+pub same_level : {outer : Names} {outers : Types} {block : Names} {types : Types} (b : Narrows outer outers block types) (j : ℕ) {kind : Kind} → slice_get outers j ≡ Some kind → level_of outer j ≡ level_of block j
 same_level b j at = ap (λ (u : Spot). u.level) (b.spots j at)
 
 abbrev pub narrowed_ground : {e : Environment} {block : Names} {types : Types} → Block e block types → (outers : Types) → Values → Values → Ground
 narrowed_ground bl outers n0 n = bl.ground (beside (length outers) n n0)
 
-narrowed_reaches : {e : Environment} {outer : Names} {outers : Types} {block : Names} {types : Types} (bl : Block e block types) (b : Narrows outer outers block types) (n0 n : Values) (j : ℕ) (kind : Kind) → slice_get outers j ≡ Some kind → Reaches (level_of outer j == e.level) (level_of outer j) (narrowed_ground bl outers n0 n) (bl.bases j)
+pub narrowed_reaches : {e : Environment} {outer : Names} {outers : Types} {block : Names} {types : Types} (bl : Block e block types) (b : Narrows outer outers block types) (n0 n : Values) (j : ℕ) (kind : Kind) → slice_get outers j ≡ Some kind → Reaches (level_of outer j == e.level) (level_of outer j) (narrowed_ground bl outers n0 n) (bl.bases j)
 narrowed_reaches {e} {outers = outers} bl b n0 n j kind at =
     subst (λ l. Reaches (l == e.level) l (narrowed_ground bl outers n0 n) (bl.bases j)) (sym (same_level b j at)) (bl.reaches (beside (length outers) n n0) j (b.among j at))
 
-narrowed_reads : {e : Environment} {outer : Names} {outers : Types} {block : Names} {types : Types} (bl : Block e block types) (b : Narrows outer outers block types) (n0 n : Values) (j : ℕ) (type : Y.LeafType) → slice_get outers j ≡ Some (alone type) → Fits type (n.numbers j) → (t : ℕ → ℕ) (base : Base) (m : List ℕ) → (narrowed_ground bl outers n0 n).memory t base m → extended (load_kind type) (load (load_width (load_kind type)) m (bl.bases j + data_place e outer j)) ≡ word (n.numbers j)
+pub narrowed_reads : {e : Environment} {outer : Names} {outers : Types} {block : Names} {types : Types} (bl : Block e block types) (b : Narrows outer outers block types) (n0 n : Values) (j : ℕ) (type : Y.LeafType) → slice_get outers j ≡ Some (alone type) → Fits type (n.numbers j) → (t : ℕ → ℕ) (base : Base) (m : List ℕ) → (narrowed_ground bl outers n0 n).memory t base m → extended (load_kind type) (load (load_width (load_kind type)) m (bl.bases j + data_place e outer j)) ≡ word (n.numbers j)
 narrowed_reads {e} {outers = outers} bl b n0 n j type at fits t base m held =
     let mine = chosen_before (length outers) j (n.numbers j) (n0.numbers j) (place_below outers j _ at) in
     ap (λ p. extended (load_kind type) (load (load_width (load_kind type)) m (bl.bases j + p))) (same_data e b j at)
     ∙ bl.reads (beside (length outers) n n0) j (b.among j at) (subst (Fits type) (sym mine) fits) t base m held
     ∙ ap word mine
 
-narrowed_writes : {e : Environment} {outer : Names} {outers : Types} {block : Names} {types : Types} (bl : Block e block types) (b : Narrows outer outers block types) (n0 n : Values) (j : ℕ) (z : ℤ) (type : Y.LeafType) → slice_get outers j ≡ Some (alone type) → Fits type (n.numbers j) → Fits type z → (t : ℕ → ℕ) (base : Base) (m : List ℕ) → length m ≡ memory_size → (narrowed_ground bl outers n0 n).memory t base m → (narrowed_ground bl outers n0 (with_number_at n j z)).memory t base (store (store_width (store_kind type)) m (bl.bases j + data_place e outer j) (word z))
-narrowed_writes {e} {outers = outers} {types = types} bl b n0 n j z type at old fits t base m len held =
+pub narrowed_writes : {e : Environment} {outer : Names} {outers : Types} {block : Names} {types : Types} (bl : Block e block types) (b : Narrows outer outers block types) (n0 n : Values) (j : ℕ) (z : ℤ) (type : Y.LeafType) → slice_get outers j ≡ Some (alone type) → Fits type (n.numbers j) → Fits type z → (t : ℕ → ℕ) (base : Base) (m : List ℕ) → length m ≡ memory_size → (narrowed_ground bl outers n0 n).memory t base m → (narrowed_ground bl outers n0 (with_number_at n j z)).memory t base (store (store_width (store_kind type)) m (bl.bases j + data_place e outer j) (word z))
+narrowed_writes {e} {outers = outers} {block = block} {types = types} bl b n0 n j z type at old fits t base m len held =
     let count = length outers in
     let below = place_below outers j _ at in
     let mine = chosen_before count j (n.numbers j) (n0.numbers j) below in
     subst (λ p. (narrowed_ground bl outers n0 (with_number_at n j z)).memory t base (store (store_width (store_kind type)) m (bl.bases j + p) (word z))) (sym (same_data e b j at))
-    (bl.alike (with_number_at (beside count n n0) j z) (beside count (with_number_at n j z) n0) (number_beside types count n n0 j z below) t base (store (store_width (store_kind type)) m (bl.bases j + data_place e _ j) (word z))
+    (bl.alike (with_number_at (beside count n n0) j z) (beside count (with_number_at n j z) n0) (number_beside types count n n0 j z below) t base (store (store_width (store_kind type)) m (bl.bases j + data_place e block j) (word z))
     (bl.writes (beside count n n0) j z (b.among j at) (subst (Fits type) (sym mine) old) fits t base m len held))
 
-narrowed_text_reads : {e : Environment} {outer : Names} {outers : Types} {block : Names} {types : Types} (bl : Block e block types) (b : Narrows outer outers block types) (n0 n : Values) (j : ℕ) (varying : Bool) (most : ℕ) → IsTextAt outers j varying most → (t : ℕ → ℕ) (base : Base) (m : List ℕ) → (narrowed_ground bl outers n0 n).memory t base m → TextThere varying most (bl.bases j + data_place e outer j) m (n.texts j)
-narrowed_text_reads {e} {outers = outers} bl b n0 n j varying most at t base m held =
-    subst (TextThere varying most (bl.bases j + data_place e _ j) m) (chosen_before (length outers) j (n.texts j) (n0.texts j) (place_below outers j _ at))
+pub narrowed_text_reads : {e : Environment} {outer : Names} {outers : Types} {block : Names} {types : Types} (bl : Block e block types) (b : Narrows outer outers block types) (n0 n : Values) (j : ℕ) (varying : Bool) (most : ℕ) → IsTextAt outers j varying most → (t : ℕ → ℕ) (base : Base) (m : List ℕ) → (narrowed_ground bl outers n0 n).memory t base m → TextThere varying most (bl.bases j + data_place e outer j) m (n.texts j)
+narrowed_text_reads {e} {outer} {outers} bl b n0 n j varying most at t base m held =
+    subst (TextThere varying most (bl.bases j + data_place e outer j) m) (chosen_before (length outers) j (n.texts j) (n0.texts j) (place_below outers j _ at))
     (subst (λ p. TextThere varying most (bl.bases j + p) m ((beside (length outers) n n0).texts j)) (sym (same_data e b j at))
     (bl.texts.reads (beside (length outers) n n0) j varying most (b.among j at) t base m held))
 
-narrowed_text_writes : {e : Environment} {outer : Names} {outers : Types} {block : Names} {types : Types} (bl : Block e block types) (b : Narrows outer outers block types) (n0 n : Values) (j : ℕ) (varying : Bool) (most : ℕ) (text : List ℕ) → IsTextAt outers j varying most → (t : ℕ → ℕ) (base : Base) (m : List ℕ) → length m ≡ memory_size → (narrowed_ground bl outers n0 n).memory t base m → (narrowed_ground bl outers n0 (with_text_at n j (text_kept_as varying most text))).memory t base (with_bytes (kept_bytes (text_kind_of varying most) (BasicText text)) (bl.bases j + data_place e outer j) m)
+pub narrowed_text_writes : {e : Environment} {outer : Names} {outers : Types} {block : Names} {types : Types} (bl : Block e block types) (b : Narrows outer outers block types) (n0 n : Values) (j : ℕ) (varying : Bool) (most : ℕ) (text : List ℕ) → IsTextAt outers j varying most → (t : ℕ → ℕ) (base : Base) (m : List ℕ) → length m ≡ memory_size → (narrowed_ground bl outers n0 n).memory t base m → (narrowed_ground bl outers n0 (with_text_at n j (text_kept_as varying most text))).memory t base (with_bytes (kept_bytes (text_kind_of varying most) (BasicText text)) (bl.bases j + data_place e outer j) m)
 narrowed_text_writes {e} {outers = outers} {block = block} {types = types} bl b n0 n j varying most text at t base m len held =
     let count = length outers in
     let kept = text_kept_as varying most text in
@@ -215,7 +217,7 @@ narrowed_text_writes {e} {outers = outers} {block = block} {types = types} bl b 
     (bl.alike (with_text_at (beside count n n0) j kept) (beside count (with_text_at n j kept) n0) (text_beside types count n n0 j kept (place_below outers j _ at)) t base (with_bytes bytes (bl.bases j + data_place e block j) m)
     (bl.texts.writes (beside count n n0) j varying most text (b.among j at) t base m len held))
 
-narrowed_array : {e : Environment} {outer : Names} {outers : Types} {block : Names} {types : Types} (bl : Block e block types) (b : Narrows outer outers block types) (n0 : Values) (j : ℕ) (type : Y.LeafType) (c : Bounds) (cs : List Bounds) → IsArrayAt outers j type c cs → ArrayOn e outer (bl.bases j) bl.stack.free (narrowed_ground bl outers n0) j type (c ∷ cs)
+pub narrowed_array : {e : Environment} {outer : Names} {outers : Types} {block : Names} {types : Types} (bl : Block e block types) (b : Narrows outer outers block types) (n0 : Values) (j : ℕ) (type : Y.LeafType) (c : Bounds) (cs : List Bounds) → IsArrayAt outers j type c cs → ArrayOn e outer (bl.bases j) bl.stack.free (narrowed_ground bl outers n0) j type (c ∷ cs)
 narrowed_array {e} {outer} {outers} {block} {types} bl b n0 j type c cs at =
     let on = bl.arrays j type c cs (b.among j at) in
     let count = length outers in
@@ -243,9 +245,9 @@ narrowed_array {e} {outer} {outers} {block} {types} bl b n0 j type c cs at =
 -- ---- the main procedure around it
 
 -- none is, where it is the main procedure's own block
-abbrev pub narrowed_outer : (place : ℕ) (mains : List Label) {level number : ℕ} {labels : List Label} {os : List OuterBlock} → HasMain place mains level number labels os → List OuterBlock
-narrowed_outer place mains (inl h) = []
-narrowed_outer place mains (inr h) = main_of place mains ∷ []
+abbrev pub narrowed_outer : {e : Environment} {block : Names} {types : Types} (bl : Block e block types) (place : ℕ) (mains : List Label) → HasMain place mains e.level e.block bl.labels bl.outer → List OuterBlock
+narrowed_outer bl place mains (inl h) = []
+narrowed_outer bl place mains (inr h) = main_of place mains ∷ []
 
 abbrev pub narrowed_enclosing : {e : Environment} {block : Names} {types : Types} (bl : Block e block types) (outers : Types) (n0 : Values) (place : ℕ) (mains : List Label) (o : OuterBlock) → Enclosing e o bl.ground bl.levels bl.frames.list (e.level ∷ bl.depths) → o.level ≡ 0 → o.number ≡ place → Enclosing e (main_of place mains) (narrowed_ground bl outers n0) bl.levels bl.frames.list (e.level ∷ bl.depths)
 narrowed_enclosing {e} bl outers n0 place mains o c lowest same =
@@ -282,7 +284,7 @@ narrowed_main bl outers n0 place mains (o ∷ os) cs (inl h) =
     narrowed_enclosing bl outers n0 place mains o cs.0 h.0 h.1.0
 narrowed_main bl outers n0 place mains (o ∷ os) cs (inr h) = narrowed_main bl outers n0 place mains os cs.1 h
 
-abbrev pub narrowed_enclosures : {e : Environment} {block : Names} {types : Types} (bl : Block e block types) (outers : Types) (n0 : Values) (place : ℕ) (mains : List Label) (has : HasMain place mains e.level e.block bl.labels bl.outer) → Enclosures e (narrowed_ground bl outers n0) bl.levels bl.frames.list (e.level ∷ bl.depths) (narrowed_outer place mains has)
+abbrev pub narrowed_enclosures : {e : Environment} {block : Names} {types : Types} (bl : Block e block types) (outers : Types) (n0 : Values) (place : ℕ) (mains : List Label) (has : HasMain place mains e.level e.block bl.labels bl.outer) → Enclosures e (narrowed_ground bl outers n0) bl.levels bl.frames.list (e.level ∷ bl.depths) (narrowed_outer bl place mains has)
 narrowed_enclosures bl outers n0 place mains (inl h) = tt
 narrowed_enclosures bl outers n0 place mains (inr h) = (narrowed_main bl outers n0 place mains bl.outer bl.enclosing h, tt)
 
@@ -293,15 +295,15 @@ narrowed_main_seen bl b n0 place mains (o ∷ os) cs (inl h) seen =
 narrowed_main_seen bl b n0 place mains (o ∷ os) cs (inr h) seen =
     narrowed_main_seen bl b n0 place mains os cs.1 h seen.1
 
-narrowed_seen : {e : Environment} {outer : Names} {outers : Types} {block : Names} {types : Types} (bl : Block e block types) (b : Narrows outer outers block types) (n0 : Values) (place : ℕ) (mains : List Label) (has : HasMain place mains e.level e.block bl.labels bl.outer) → AllSeen e (narrowed_ground bl outers n0) bl.levels bl.frames.list (e.level ∷ bl.depths) (narrowed_outer place mains has) (narrowed_enclosures bl outers n0 place mains has) bl.serials outer outers
+pub narrowed_seen : {e : Environment} {outer : Names} {outers : Types} {block : Names} {types : Types} (bl : Block e block types) (b : Narrows outer outers block types) (n0 : Values) (place : ℕ) (mains : List Label) (has : HasMain place mains e.level e.block bl.labels bl.outer) → AllSeen e (narrowed_ground bl outers n0) bl.levels bl.frames.list (e.level ∷ bl.depths) (narrowed_outer bl place mains has) (narrowed_enclosures bl outers n0 place mains has) bl.serials outer outers
 narrowed_seen bl b n0 place mains (inl h) = tt
 narrowed_seen bl b n0 place mains (inr h) =
     (narrowed_main_seen bl b n0 place mains bl.outer bl.enclosing h bl.seen, tt)
 
 -- the block comes to the main procedure's own labels as before
-pub narrowed_has : (place : ℕ) (mains : List Label) {level number : ℕ} {labels : List Label} {os : List OuterBlock} (has : HasMain place mains level number labels os) → HasMain place mains level number labels (narrowed_outer place mains has)
-narrowed_has place mains (inl h) = inl h
-narrowed_has place mains (inr h) = inr (inl (refl, (refl, λ label among. among)))
+pub narrowed_has : {e : Environment} {block : Names} {types : Types} (bl : Block e block types) (place : ℕ) (mains : List Label) (has : HasMain place mains e.level e.block bl.labels bl.outer) → HasMain place mains e.level e.block bl.labels (narrowed_outer bl place mains has)
+narrowed_has bl place mains (inl h) = inl h
+narrowed_has bl place mains (inr h) = inr (inl (refl, (refl, λ label among. among)))
 
 -- ---- the block
 
@@ -379,7 +381,7 @@ narrowed {e} {outer} {outers} {block} {types} bl b n0 x place mains has =
         writes = λ n j varying most text at t b' m len held. narrowed_text_writes bl b n0 n j varying most text at t b' m len held;
       };
       arrays = λ j type c cs at. narrowed_array bl b n0 j type c cs at;
-      outer = narrowed_outer place mains has;
+      outer = narrowed_outer bl place mains has;
       enclosing = narrowed_enclosures bl outers n0 place mains has;
       seen = narrowed_seen bl b n0 place mains has;
     }

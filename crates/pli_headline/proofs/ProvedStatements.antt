@@ -123,7 +123,7 @@ Signals e block types all procedure bound links code may =
 
 -- they do, where the main procedure's variables alone can be named, which are the first of the block's; the units that may be in force are
 -- known, and the main procedure's own block may get one; a return in a called procedure goes to its end
-pub record Ways (e : Environment) (outer : Names) (outers : Types) (block : Names) (types : Types) (words bound : ℕ) (labels : List Label) (os : List OuterBlock) (base : ℕ) (units : ℕ → Y.Block → ℕ → Type 0) (all : List (ℕ × Label)) (procedure : ℕ) (links : Links) (code : List Instr) (main returns : Bool) (may : List ℕ) : Type 1 where
+pub record Ways (e : Environment) (outer : Names) (outers : Types) (block : Names) (types : Types) (words bound : ℕ) (small : Bool) (taken : ℕ) (labels : List Label) (os : List OuterBlock) (base : ℕ) (units : ℕ → Y.Block → ℕ → Type 0) (all : List (ℕ × Label)) (procedure : ℕ) (links : Links) (code : List Instr) (main returns : Bool) (may : List ℕ) : Type 1 where
   pub narrows : Narrows outer outers block types
   pub calls : Calls e outer outers all procedure bound links code may
   pub signals : Signals e outer outers all procedure bound links code may
@@ -133,7 +133,7 @@ pub record Ways (e : Environment) (outer : Names) (outers : Types) (block : Name
   pub ends : returns ≡ true → main ≡ false → IsHome e links os
   pub mains : HasMain procedure (main_labels e.program.procedures) e.level e.block labels os
 
-ways_within : {e : Environment} {outer : Names} {outers : Types} {block : Names} {types : Types} {words bound : ℕ} {labels : List Label} {os : List OuterBlock} {base : ℕ} {units : ℕ → Y.Block → ℕ → Type 0} {all : List (ℕ × Label)} {procedure : ℕ} {links : Links} {code : List Instr} {main returns : Bool} {may : List ℕ} (more : List Label) → Ways e outer outers block types words bound labels os base units all procedure links code main returns may → Ways e outer outers block types words bound (more ++ labels) os base units all procedure links code main returns may
+ways_within : {e : Environment} {outer : Names} {outers : Types} {block : Names} {types : Types} {words bound : ℕ} {small : Bool} {taken : ℕ} {labels : List Label} {os : List OuterBlock} {base : ℕ} {units : ℕ → Y.Block → ℕ → Type 0} {all : List (ℕ × Label)} {procedure : ℕ} {links : Links} {code : List Instr} {main returns : Bool} {may : List ℕ} (more : List Label) → Ways e outer outers block types words bound small taken labels os base units all procedure links code main returns may → Ways e outer outers block types words bound small taken (more ++ labels) os base units all procedure links code main returns may
 ways_within {e} {labels = labels} {os = os} {procedure = procedure} more ways =
     record {
       narrows = ways.narrows;
@@ -209,7 +209,7 @@ return_by false bl links code around line number fits few owner ended home =
     home_does bl links code around line few fits (home refl)
 
 mutual
-  pub statement_does : {e : Environment} {block : Names} {types : Types} (bl : Block e block types) (links : Links) (code : List Instr) (routines : Standing bl links code) (around : Around) (same : around.program ≡ e.program) {all : List (ℕ × Label)} {procedure : ℕ} {main returns small : Bool} {taken : ℕ} {may : List ℕ} {bound : ℕ} {outer : Names} {outers : Types} (named : LabelsStand e links all procedure main) (x : Y.Stmt) → IsProvedStatement block types x → JumpsAround e.block e.level all e.blocks (main_outer procedure e.program.procedures) bl.outer bl.labels x → bl.taken.words + stmt_words x ≤ bl.words → Room small taken bl.stack.free (length bl.depths) (inner_words x) (bytes_in e.program x) e.level → DeclaresScalars e.program x → {more : ℕ} → Entering e.program around more → more ≤ bound → ((b : BlockPlace) → IsAmong b (blocks_in x) → IsAmong b e.blocks) → CallsAmong e.program may returns taken x → Ways e outer outers block types bl.words bound bl.labels bl.outer bl.base bl.frames.known all procedure links code main returns may → Does bl links code around.turns (stmt_code e bl.taken x) (M.statement around x)
+  pub statement_does : {e : Environment} {block : Names} {types : Types} (bl : Block e block types) (links : Links) (code : List Instr) (routines : Standing bl links code) (around : Around) (same : around.program ≡ e.program) {all : List (ℕ × Label)} {procedure : ℕ} {main returns small : Bool} {taken : ℕ} {may : List ℕ} {bound : ℕ} {outer : Names} {outers : Types} (named : LabelsStand e links all procedure main) (x : Y.Stmt) → IsProvedStatement block types x → JumpsAround e.block e.level all e.blocks (main_outer procedure e.program.procedures) bl.outer bl.labels x → bl.taken.words + stmt_words x ≤ bl.words → Room small taken bl.stack.free (length bl.depths) (inner_words x) (bytes_in e.program x) e.level → DeclaresScalars e.program x → {more : ℕ} → Entering e.program around more → more ≤ bound → ((b : BlockPlace) → IsAmong b (blocks_in x) → IsAmong b e.blocks) → CallsAmong e.program may returns taken x → Ways e outer outers block types bl.words bound small taken bl.labels bl.outer bl.base bl.frames.known all procedure links code main returns may → Does bl links code around.turns (stmt_code e bl.taken x) (M.statement around x)
   statement_does bl links code routines around same named (Y.Null line) is jumps room space bare entering least known calls ways = null_does bl links code around line is
   statement_does bl links code routines around same named (Y.Assign target (Y.StoredNumber precision x) line) is jumps room space bare entering least known calls ways =
       let a = le-max_left (max 1 (number_words x)) (4 + reference_words target) in
@@ -366,7 +366,7 @@ mutual
       let mains = main_labels e.program.procedures in
       subst (λ n. Does bl links code around.turns (stmt_code e bl.taken (Y.CallProcedure (Y.Calling number n Y.NoArgument) line)) (M.statement around (Y.CallProcedure (Y.Calling number n Y.NoArgument) line))) (sym is.0)
       (through_does bl ways.narrows procedure mains ways.mains
-      (λ n0 x. ways.calls e.owner e.block e.level (narrowed bl ways.narrows n0 x procedure mains ways.mains) (room_deep small filled bl.stack.free (length bl.depths) 0 0 e.level space) (room_calls small filled bl.stack.free (length bl.depths) 0 0 e.level calls.0 space) ways.narrow (standing_narrowed ways.narrows n0 x procedure mains ways.mains routines) ways.tells (omega (arith, room)) (narrowed_has procedure mains ways.mains) around same more entering least number calls.1 line is.1))
+      (λ n0 x. ways.calls e.owner e.block e.level (narrowed bl ways.narrows n0 x procedure mains ways.mains) (room_deep small filled bl.stack.free (length bl.depths) 0 0 e.level space) (room_calls small filled bl.stack.free (length bl.depths) 0 0 e.level calls.0 space) ways.narrow (standing_narrowed ways.narrows n0 x procedure mains ways.mains routines) ways.tells (omega (arith, room)) (narrowed_has bl procedure mains ways.mains) around same more entering least number calls.1 line is.1))
   statement_does bl links code routines around same {main = main} named (Y.Return line) is jumps room space bare entering least known calls ways =
       return_by main bl links code around line _ is named.shallow named.owner named.ended (ways.ends calls)
   statement_does {e} bl links code routines around same named (Y.Goto level label line) is (inl jumps) room space bare entering least known calls ways =
@@ -377,7 +377,7 @@ mutual
   statement_does {e} bl links code routines around same {all} {procedure} {small = small} {taken = filled} named (Y.Signal C.Area line) is jumps room space bare {more} entering least known calls ways =
       let mains = main_labels e.program.procedures in
       through_does bl ways.narrows procedure mains ways.mains
-      (λ n0 x. ways.signals e.owner e.block e.level (narrowed bl ways.narrows n0 x procedure mains ways.mains) (room_deep small filled bl.stack.free (length bl.depths) 0 0 e.level space) (room_calls small filled bl.stack.free (length bl.depths) 0 0 e.level calls space) ways.narrow (standing_narrowed ways.narrows n0 x procedure mains ways.mains routines) ways.tells (narrowed_has procedure mains ways.mains) around same more entering least line is)
+      (λ n0 x. ways.signals e.owner e.block e.level (narrowed bl ways.narrows n0 x procedure mains ways.mains) (room_deep small filled bl.stack.free (length bl.depths) 0 0 e.level space) (room_calls small filled bl.stack.free (length bl.depths) 0 0 e.level calls space) ways.narrow (standing_narrowed ways.narrows n0 x procedure mains ways.mains routines) ways.tells (narrowed_has bl procedure mains ways.mains) around same more entering least line is)
   statement_does bl links code routines around same named (Y.Signal C.FixedOverflow line) is jumps room space bare entering least known calls ways = signal_does bl links code routines.raises around C.FixedOverflow line refl is
   statement_does bl links code routines around same named (Y.Signal C.ZeroDivide line) is jumps room space bare entering least known calls ways = signal_does bl links code routines.raises around C.ZeroDivide line refl is
   statement_does bl links code routines around same named (Y.Signal C.Endfile line) is jumps room space bare entering least known calls ways = signal_does bl links code routines.raises around C.Endfile line refl is
@@ -416,7 +416,7 @@ mutual
       get_skip_does bl links code routines around same n pairs line is.0.0 is.0.1 is.1.0 is.1.1 room
   statement_does bl links code routines around same named _ is jumps room space bare entering least known calls ways = absurd is
 
-  pub each_does : {e : Environment} {block : Names} {types : Types} (bl : Block e block types) (links : Links) (code : List Instr) (routines : Standing bl links code) (around : Around) (same : around.program ≡ e.program) {all : List (ℕ × Label)} {procedure : ℕ} {main returns small : Bool} {taken : ℕ} {may : List ℕ} {bound : ℕ} {outer : Names} {outers : Types} (named : LabelsStand e links all procedure main) (body : Y.Stmts) → AreProvedStatements block types body → AllJumpAround e.block e.level all e.blocks (main_outer procedure e.program.procedures) bl.outer bl.labels body → bl.taken.words + stmts_words body ≤ bl.words → Room small taken bl.stack.free (length bl.depths) (all_inner_words body) (inner_bytes e.program body) e.level → DeclareScalars e.program body → {more : ℕ} → Entering e.program around more → more ≤ bound → ((b : BlockPlace) → IsAmong b (blocks_among body) → IsAmong b e.blocks) → AllCallAmong e.program may returns taken body → Ways e outer outers block types bl.words bound bl.labels bl.outer bl.base bl.frames.known all procedure links code main returns may → EachDoes bl links code around body
+  pub each_does : {e : Environment} {block : Names} {types : Types} (bl : Block e block types) (links : Links) (code : List Instr) (routines : Standing bl links code) (around : Around) (same : around.program ≡ e.program) {all : List (ℕ × Label)} {procedure : ℕ} {main returns small : Bool} {taken : ℕ} {may : List ℕ} {bound : ℕ} {outer : Names} {outers : Types} (named : LabelsStand e links all procedure main) (body : Y.Stmts) → AreProvedStatements block types body → AllJumpAround e.block e.level all e.blocks (main_outer procedure e.program.procedures) bl.outer bl.labels body → bl.taken.words + stmts_words body ≤ bl.words → Room small taken bl.stack.free (length bl.depths) (all_inner_words body) (inner_bytes e.program body) e.level → DeclareScalars e.program body → {more : ℕ} → Entering e.program around more → more ≤ bound → ((b : BlockPlace) → IsAmong b (blocks_among body) → IsAmong b e.blocks) → AllCallAmong e.program may returns taken body → Ways e outer outers block types bl.words bound small taken bl.labels bl.outer bl.base bl.frames.known all procedure links code main returns may → EachDoes bl links code around body
   each_does bl links code routines around same named (Y.EndOfList labels) are jumps room space bare entering least known calls ways = tt
   each_does {e} bl links code routines around same {all} {procedure} {main} {small = small} {taken = filled} named (Y.StmtThen labels first rest) are jumps room space bare entering least known calls ways =
       let a = le-max_left (stmt_words first) (stmts_words rest) in
@@ -432,7 +432,7 @@ mutual
       )
 
 -- the statements of a block
-pub body_does : {e : Environment} {block : Names} {types : Types} (bl : Block e block types) (links : Links) (code : List Instr) (routines : Standing bl links code) (around : Around) (same : around.program ≡ e.program) {all : List (ℕ × Label)} {procedure : ℕ} {main returns small : Bool} {taken : ℕ} {may : List ℕ} {bound : ℕ} {outer : Names} {outers : Types} (named : LabelsStand e links all procedure main) (body : Y.Stmts) → AreProvedStatements block types body → AllJumpAround e.block e.level all e.blocks (main_outer procedure e.program.procedures) bl.outer (labels_in body ++ bl.labels) body → bl.taken.words + stmts_words body ≤ bl.words → Room small taken bl.stack.free (length bl.depths) (all_inner_words body) (inner_bytes e.program body) e.level → DeclareScalars e.program body → {more : ℕ} → Entering e.program around more → more ≤ bound → ((b : BlockPlace) → IsAmong b (blocks_among body) → IsAmong b e.blocks) → AllCallAmong e.program may returns taken body → Ways e outer outers block types bl.words bound (labels_in body ++ bl.labels) bl.outer bl.base bl.frames.known all procedure links code main returns may → Does bl links code around.turns (stmts_code e bl.taken body) (M.list around body)
+pub body_does : {e : Environment} {block : Names} {types : Types} (bl : Block e block types) (links : Links) (code : List Instr) (routines : Standing bl links code) (around : Around) (same : around.program ≡ e.program) {all : List (ℕ × Label)} {procedure : ℕ} {main returns small : Bool} {taken : ℕ} {may : List ℕ} {bound : ℕ} {outer : Names} {outers : Types} (named : LabelsStand e links all procedure main) (body : Y.Stmts) → AreProvedStatements block types body → AllJumpAround e.block e.level all e.blocks (main_outer procedure e.program.procedures) bl.outer (labels_in body ++ bl.labels) body → bl.taken.words + stmts_words body ≤ bl.words → Room small taken bl.stack.free (length bl.depths) (all_inner_words body) (inner_bytes e.program body) e.level → DeclareScalars e.program body → {more : ℕ} → Entering e.program around more → more ≤ bound → ((b : BlockPlace) → IsAmong b (blocks_among body) → IsAmong b e.blocks) → AllCallAmong e.program may returns taken body → Ways e outer outers block types bl.words bound small taken (labels_in body ++ bl.labels) bl.outer bl.base bl.frames.known all procedure links code main returns may → Does bl links code around.turns (stmts_code e bl.taken body) (M.list around body)
 body_does bl links code routines around same named body are jumps room space bare entering least known calls ways =
     listed bl around body
     (each_does (within (labels_in body) bl) links code (standing_within (labels_in body) routines) around same named body are jumps room space bare entering least known calls ways)

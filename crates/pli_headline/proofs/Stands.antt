@@ -230,7 +230,7 @@ mutual
       no_units number head.number head.level all blocks main (record { level = level; number = block; labels = around } ∷ outer) (labels_in body) body (other_level head.level level jumps.0.0) jumps.1
   called_unit program number block level all blocks main outer around may returns bytes (Y.OnUnit condition (Y.BlockOf head body) line) among jumps calls = (
     apart_of number may head head.kind among calls.1.1,
-    called_units program number head.number head.level all blocks main (main ∷ []) (labels_in body) may false true body among jumps.1.1.1 calls.0,
+    called_units program number head.number head.level all blocks main (main ∷ []) (labels_in body) may false 0 body among jumps.1.1.1 calls.0,
   )
   called_unit program number block level all blocks main outer around may returns bytes _ among jumps calls = tt
 

@@ -44,7 +44,7 @@ use Rattle.pli_headline.proofs.Temporaries.{Temporaries, Stays, stays_same, stay
 use Rattle.pli_headline.proofs.Reaching.{Reaches}
 use Rattle.pli_headline.proofs.Activations.{frames_of, RestOn, levels_of}
 use Rattle.pli_headline.proofs.OuterBlocks.{Rises}
-use Rattle.pli_headline.proofs.Asides.{AllAside, asides_changed}
+use Rattle.pli_headline.proofs.Asides.{StandAside, asides_changed}
 use Rattle.pli_headline.proofs.Entered.{Frames, frames_left, kinds_of, UnitsKnown}
 use Rattle.pli_headline.proofs.Calls.{Serving}
 use Rattle.pli_headline.proofs.Raising.{Routines}
@@ -134,7 +134,7 @@ pub record AllHold (frames : Frames) (serials : Serials) (xs : Storage) (levels 
   pub framed : frames_of xs.activations ≡ frames.list
   pub kinds : kinds_of xs.activations ≡ frames.kinds
   pub units : UnitsKnown frames.known s.activations xs.activations
-  pub aside : AllAside frames.asides serials types s.activations s.living s.serials
+  pub aside : StandAside frames.asides serials types s.activations s.living s.serials
   pub stored : Stored serials xs.signatures xs.living xs.serials (length levels) s.living s.serials block types
 
 -- some variables are the first of others
@@ -486,7 +486,7 @@ assigned_all {frames = frames} {serials = serials} {s = s} {types = types} {n = 
       framed = all.framed;
       kinds = all.kinds;
       units = all.units;
-      aside = asides_changed frames.asides j (P.with_element (designated_scalar type (serials.of j) mine.values) (value_as type z)) below all.aside;
+      aside = asides_changed j (P.with_element (designated_scalar type (serials.of j) mine.values) (value_as type z)) below all.aside;
       stored = stored_changed (serials.of j) (P.with_element (designated_scalar type (serials.of j) mine.values) (value_as type z)) (λ g. refl) all.stored;
     }
 

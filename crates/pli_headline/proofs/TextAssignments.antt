@@ -58,7 +58,7 @@ text_assigned_all {frames = frames} {serials = serials} {s = s} {types = types} 
       framed = all.framed;
       kinds = all.kinds;
       units = all.units;
-      aside = asides_changed frames.asides j (P.with_element (designated_scalar (text_leaf varying most) (serials.of j) h.values) (BasicText text)) below all.aside;
+      aside = asides_changed j (P.with_element (designated_scalar (text_leaf varying most) (serials.of j) h.values) (BasicText text)) below all.aside;
       stored = stored_changed (serials.of j) (P.with_element (designated_scalar (text_leaf varying most) (serials.of j) h.values) (BasicText text)) (λ g. refl) all.stored;
     }
 

@@ -1,43 +1,34 @@
 -- What runs where the variables of the main procedure alone can be named leaves those of the blocks in it as they were: so a part that
 -- does what it means in the narrowed block does so in the block itself.
-use Rattle.std.proofs.Common.{◌≡◌, ℕ, suc, ◌+◌, ◌<◌, ◌≤◌, ◌⊎◌, inl, inr, List, [], ◌∷◌, length, Option, Some, true, false, refl, sym, ap, ◌∙◌, subst, arith}
+use Rattle.std.proofs.Common.{◌≡◌, ℕ, suc, ◌*◌, ◌<◌, ◌≤◌, ◌⊎◌, inl, inr, List, [], ◌∷◌, length, Option, Some, true, false, refl, sym, ap, ◌∙◌, subst, arith}
 use Rattle.std.specs.Prelude.{map, slice_get, ◌==◌}
 use Rattle.std.proofs.lemmas.Bool.Decides.{nat_tests}
 use Rattle.rv_meaning.specs.declared.instr.Instr.{Instr}
-use Rattle.pli_typing.specs.Signatures.{Bounds}
-use Rattle.pli_typing.specs.TypedTree as Y
 use Rattle.pli_meaning.specs.BasicValues.{BasicValue}
 use Rattle.pli_meaning.specs.StorageState.{State, newest_height, ancestor, binding_in, standing_for, generation_of, living_of}
 use Rattle.pli_meaning.specs.Control.{Label, Meaning, is_among}
 use Rattle.pli_serving.specs.ServiceState.{Services}
 use Rattle.pli_serving.specs.Templates.{template_of}
-use Rattle.pli_coding.specs.Assembly.{Code, LabelPlace, size_of}
+use Rattle.pli_coding.specs.Assembly.{Code, LabelPlace}
 use Rattle.pli_coding.specs.Environments.{Environment}
 use Rattle.pli_coding.specs.Linking.{Links, place_of}
 use Rattle.pli_coding.specs.SignatureTable.{table_of}
-use Rattle.pli_headline.specs.ProvedSoFar.{Names, Kind, Types, OuterBlock, alone}
-use Rattle.pli_headline.proofs.Engine.{Base}
-use Rattle.pli_headline.proofs.Items.{At}
-use Rattle.pli_headline.proofs.Bodies.{Known}
-use Rattle.pli_headline.proofs.Temporaries.{Stays, nothing}
-use Rattle.pli_headline.proofs.Scalars.{Values, IsNumeric, Typed, place_below}
+use Rattle.pli_headline.specs.ProvedSoFar.{Names, Kind, Types, OuterBlock}
+use Rattle.pli_headline.proofs.Scalars.{Values, place_below}
 use Rattle.pli_headline.proofs.Variables.{level_of, own}
-use Rattle.pli_headline.proofs.Storages.{Storage, storage, Serials, Stored, owner_in}
+use Rattle.pli_headline.proofs.Storages.{Storage, storage, Serials, Stored}
 use Rattle.pli_headline.proofs.Activations.{entered_length}
-use Rattle.pli_headline.proofs.Asides.{Aside, IsAside, AllAside, first_aside, behind_aside, asides_more, asides_back, asides_again}
+use Rattle.pli_headline.proofs.Asides.{Aside, IsAside, asides_more, asides_back, asides_again}
 use Rattle.pli_headline.proofs.Entered.{Frames, put_aside, frames_left}
 use Rattle.pli_headline.proofs.States.{Holds}
-use Rattle.pli_headline.proofs.TextScopes.{IsTextAt}
 use Rattle.pli_headline.proofs.TextStates.{KeepsText}
 use Rattle.pli_headline.proofs.ArrayMeant.{HoldsArray}
-use Rattle.pli_headline.proofs.ArrayScopes.{IsArrayAt}
 use Rattle.pli_headline.proofs.DeclaredNames.{chosen_before}
-use Rattle.pli_headline.proofs.Calls.{Serving}
-use Rattle.pli_headline.proofs.Reach.{Family, Aims}
+use Rattle.pli_headline.proofs.Reach.{Family}
 use Rattle.pli_headline.proofs.MoreStates.{holds_moved, keeps_moved, array_moved, restricts_all, all_same}
-use Rattle.pli_headline.proofs.Statements.{Block, Standing, AllHold, Restricts, SameValues, Enclosing, Enclosures, Outlets, OutletOf, Homes, Enough, Does, IsMarkedOnce, ended_times}
-use Rattle.pli_headline.proofs.MainOutlets.{MainAround, HasMain, main_of}
-use Rattle.pli_headline.proofs.Narrowing.{Narrows, beside, beside_self, chosen_behind, narrowed_outer, narrowed_main, narrowed_enclosures, narrowed}
+use Rattle.pli_headline.proofs.Statements.{Block, Standing, AllHold, Restricts, Enclosures, Outlets, OutletOf, Homes, Does, IsMarkedOnce, ended_times}
+use Rattle.pli_headline.proofs.MainOutlets.{MainAround, HasMain}
+use Rattle.pli_headline.proofs.Narrowing.{Narrows, beside, beside_self, chosen_behind, narrowed_main, narrowed}
 
 -- ---- what is put aside
 
@@ -61,14 +52,14 @@ later_other : (count i j : ℕ) → count ≤ i → j < count → (i == j) ≡ f
 later_other count i j high low = grind (arith, nat_tests)
 
 -- where it is put aside
-begins_aside : {frames : Frames} {serials : Serials} {xs : Storage} {level : ℕ} {depths : List ℕ} {s : State} {outer : Names} {outers : Types} {block : Names} {types : Types} {n : Values} → Narrows outer outers block types → ((j : ℕ) {kind : Kind} → slice_get types j ≡ Some kind → serials.owner j ≤ suc (length depths)) → AllHold frames serials xs (level ∷ depths) s block types n → IsAside (aside_of outers block types serials s) serials outers s.activations s.living s.serials
+begins_aside : {frames : Frames} {serials : Serials} {xs : Storage} {level : ℕ} {depths : List ℕ} {s : State} {outer : Names} {outers : Types} {block : Names} {types : Types} {n : Values} → Narrows outer outers block types → ((j : ℕ) (kind : Kind) → slice_get types j ≡ Some kind → serials.owner j ≤ suc (length depths)) → AllHold frames serials xs (level ∷ depths) s block types n → IsAside (aside_of outers block types serials s) serials outers s.activations s.living s.serials
 begins_aside {level = level} {depths} {s} {outers = outers} b owners all =
     let long = entered_length s.activations (level ∷ depths) all.entered in
     record {
       stands = λ j among. refl;
       lives = λ j among. refl;
       owned = λ j among. all.stored.owned j among.at;
-      low = λ j among. let o = owners j among.at in omega (arith, o, long);
+      low = λ j among. let o = owners j among.kind among.at in omega (arith, o, long);
       older = λ j among. all.stored.older j among.at;
       apart = λ i j among at. all.stored.apart i j among.at (b.among j at) (later_other (length outers) i j among.behind (place_below outers j _ at));
     }
@@ -78,7 +69,7 @@ narrows_restricts : {outer : Names} {outers : Types} {block : Names} {types : Ty
 narrows_restricts serials b =
     record { program = b.program; among = λ j at. b.among j at; spots = λ j at. b.spots j at; of = λ j at. refl; owner = λ j at. refl }
 
-aside_all : {frames : Frames} {serials : Serials} {xs : Storage} {level : ℕ} {depths : List ℕ} {s : State} {outer : Names} {outers : Types} {block : Names} {types : Types} {n : Values} → Narrows outer outers block types → ((j : ℕ) {kind : Kind} → slice_get types j ≡ Some kind → serials.owner j ≤ suc (length depths)) → AllHold frames serials xs (level ∷ depths) s block types n → AllHold (put_aside (aside_of outers block types serials s) frames) serials xs (level ∷ depths) s outer outers n
+aside_all : {frames : Frames} {serials : Serials} {xs : Storage} {level : ℕ} {depths : List ℕ} {s : State} {outer : Names} {outers : Types} {block : Names} {types : Types} {n : Values} → Narrows outer outers block types → ((j : ℕ) (kind : Kind) → slice_get types j ≡ Some kind → serials.owner j ≤ suc (length depths)) → AllHold frames serials xs (level ∷ depths) s block types n → AllHold (put_aside (aside_of outers block types serials s) frames) serials xs (level ∷ depths) s outer outers n
 aside_all {frames = frames} {serials} {level = level} {depths} {s} {outers = outers} {block} {types} b owners all =
     let r = restricts_all (narrows_restricts serials b) all in
     let long = entered_length s.activations (level ∷ depths) all.entered in
@@ -90,7 +81,7 @@ aside_all {frames = frames} {serials} {level = level} {depths} {s} {outers = out
       framed = r.framed;
       kinds = r.kinds;
       units = r.units;
-      aside = asides_more (aside_of outers block types serials s) frames.asides s.activations (omega (arith, long)) (begins_aside b owners all) r.aside;
+      aside = asides_more (aside_of outers block types serials s) (omega (arith, long)) (begins_aside b owners all) r.aside;
       stored = r.stored;
     }
 
@@ -104,8 +95,8 @@ by_narrowed {A} {outers = outers} {block} {types} b j kind at first other = by_p
     by_place (inl h) = first h
     by_place (inr h) = other (record { kind = kind; at = at; behind = h.0 })
 
-back_stored : {serials : Serials} {outer : Names} {outers : Types} {block : Names} {types : Types} {s s' : State} {xs xs' : Storage} {most : ℕ} → Narrows outer outers block types → Stored serials xs.signatures xs.living xs.serials most s.living s.serials block types → Stored serials xs'.signatures xs'.living xs'.serials most s'.living s'.serials outer outers → IsAside (aside_of outers block types serials s) serials outers s'.activations s'.living s'.serials → Stored serials xs'.signatures xs'.living xs'.serials most s'.living s'.serials block types
-back_stored b before now x =
+back_stored : {serials : Serials} {outer : Names} {outers : Types} {block : Names} {types : Types} {most : ℕ} (s s' : State) (xs xs' : Storage) → Narrows outer outers block types → Stored serials xs.signatures xs.living xs.serials most s.living s.serials block types → Stored serials xs'.signatures xs'.living xs'.serials most s'.living s'.serials outer outers → IsAside (aside_of outers block types serials s) serials outers s'.activations s'.living s'.serials → Stored serials xs'.signatures xs'.living xs'.serials most s'.living s'.serials block types
+back_stored s s' xs xs' b before now x =
     record {
       owned = λ j at. by_narrowed b j _ at (λ at'. now.owned j at') (λ among. x.owned j among);
       apart = λ i j at at' other. before.apart i j at at' other;
@@ -118,7 +109,7 @@ back_stored b before now x =
 back_all : {frames : Frames} {serials : Serials} {xs xs' : Storage} {levels : List ℕ} {s s' : State} {outer : Names} {outers : Types} {block : Names} {types : Types} {n n' : Values} → Narrows outer outers block types → AllHold frames serials xs levels s block types n → AllHold (put_aside (aside_of outers block types serials s) frames) serials xs' levels s' outer outers n' → AllHold frames serials xs' levels s' block types (beside (length outers) n' n)
 back_all {frames} {serials} {xs} {xs'} {levels} {s} {s'} {outer} {outers} {block} {types} {n} {n'} b before now =
     let count = length outers in
-    let aside = asides_back (aside_of outers block types serials s) frames.asides s'.activations now.aside in
+    let aside = asides_back (aside_of outers block types serials s) now.aside in
     let x = aside.0 in
     let spot : (j : ℕ) (kind : Kind) → slice_get outers j ≡ Some kind → block.at j ≡ outer.at j = λ j kind at. sym (b.spots j at) in
     let stands : (j : ℕ) (kind : Kind) → slice_get outers j ≡ Some kind → standing_for s' (own block j) ≡ standing_for s' (own outer j) = λ j kind at. standing_moved s' block outer j (spot j kind at) in
@@ -145,8 +136,8 @@ back_all {frames} {serials} {xs} {xs'} {levels} {s} {s'} {outer} {outers} {block
       framed = now.framed;
       kinds = now.kinds;
       units = now.units;
-      aside = asides_again frames.asides s.activations s'.activations before.aside aside.1;
-      stored = back_stored {s = s} {s' = s'} {xs = xs} {xs' = xs'} b before.stored now.stored x;
+      aside = asides_again before.aside aside.1;
+      stored = back_stored s s' xs xs' b before.stored now.stored x;
     }
   where
     standing_moved : (s : State) (block outer : Names) (j : ℕ) → block.at j ≡ outer.at j → standing_for s (own block j) ≡ standing_for s (own outer j)
@@ -199,7 +190,7 @@ through_does {e} {outer} {outers} {block} {types} bl b place mains has {links} {
           let x = aside_of outers block types bl.serials s in
           let n1 = beside (length outers) n n in
           let same = beside_self types (length outers) n in
-          (does' n x).does closed line n f k l serving (aside_all b (λ j at'. bl.owners j at') all)
+          (does' n x).does closed line n f k l serving (aside_all b (λ j kind at'. bl.owners j at') all)
           (λ base. let q = (at base).holds in record {
             pc = (at base).pc;
             holds = record {
