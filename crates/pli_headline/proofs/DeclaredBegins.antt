@@ -60,16 +60,18 @@ pub record IsMade {e : Environment} {block block' : Names} {types types' : Types
   pub labels : mb.labels ≡ ib.labels
   pub outer : mb.outer ≡ ib.outer
   pub depths : mb.depths ≡ ib.depths
+  pub base : mb.base ≡ ib.base
+  pub frames : mb.frames ≡ ib.frames
   pub frame : mb.stack.frame ≡ ib.stack.frame
   pub free : mb.stack.free ≡ ib.stack.free + bytes
 
 pub is_made : (ds : List Y.DeclaredVariable) {e : Environment} {block : Names} {types : Types} (ib : Block e block types) {index : ℕ} (m : Makes ib index ds) (serial : ℕ) → IsMade ib (made_block ib ds m serial) (32 * length ds)
 is_made [] ib m serial =
-    record { words = refl; taken = refl; labels = refl; outer = refl; depths = refl; frame = refl; free = omega arith }
+    record { words = refl; taken = refl; labels = refl; outer = refl; depths = refl; base = refl; frames = refl; frame = refl; free = omega arith }
 is_made (d ∷ ds) ib m serial =
     let o = is_made ds (more_block ib (first_more ib d ds m) (serial + 1)) (next_makes ib d ds m (serial + 1)) (serial + 1) in
     let free = o.free in
-    record { words = o.words; taken = o.taken; labels = o.labels; outer = o.outer; depths = o.depths; frame = o.frame; free = omega (arith, free) }
+    record { words = o.words; taken = o.taken; labels = o.labels; outer = o.outer; depths = o.depths; base = o.base; frames = o.frames; frame = o.frame; free = omega (arith, free) }
 
 -- constant bytes stand as before
 pub made_constants : (ds : List Y.DeclaredVariable) {e : Environment} {block : Names} {types : Types} (ib : Block e block types) {index : ℕ} (m : Makes ib index ds) (serial : ℕ) {links : Links} {code : List Instr} → ((n : Values) → ConstantsStand links code (ib.ground n)) → (n : Values) → ConstantsStand links code ((made_block ib ds m serial).ground n)
@@ -115,6 +117,7 @@ inner_makes {e} bl inner t0 head next filled known are shallow room few =
       stand = λ i. let z : 0 + i ≡ i = omega arith in ap (λ n. slice_get ds n) z;
       deep = omega (arith, next);
       new = λ j kind at. inl (let low = bl.lower j at in omega (arith, low, next));
+      fresh = tt;
       own = λ n t b m o. o.own;
       places = λ i h.
           let z : 0 + i ≡ i = omega arith in

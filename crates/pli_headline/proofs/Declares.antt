@@ -44,6 +44,7 @@ use Rattle.pli_headline.proofs.NamesMade.{made_code, make_asked}
 use Rattle.pli_headline.proofs.DeclaredNames.{by_element, by_last, chosen_before, chosen_here}
 use Rattle.pli_headline.proofs.Variables.{level_of}
 use Rattle.pli_headline.proofs.OneMore.{More, more_block, more_ground, more_enclosures, around_level, not_last}
+use Rattle.pli_headline.proofs.Asides.{IsFresh}
 use Rattle.pli_headline.proofs.MoreNames.{more_names, spot_of}
 use Rattle.pli_headline.proofs.MoreStates.{IsNew, step_meant, made_or_ended, nested_same, more_all, fewer_all, all_same}
 use Rattle.pli_headline.proofs.MoreServed.{OwnStands, place_for, more_piece, past_piece}
@@ -57,6 +58,7 @@ pub record Makes {e : Environment} {block : Names} {types : Types} (ib : Block e
   pub stand : (i : ℕ) → slice_get (variables_of_block e.program e.block) (index + i) ≡ slice_get ds i
   pub deep : 0 < e.level
   pub new : IsNew e block types index
+  pub fresh : IsFresh ib.frames.asides
   pub own : OwnStands ib
   pub places : (i : ℕ) → i ≤ length ds → ib.stack.frame + place_for e (index + i) ≡ ib.stack.free + 32 * i
   pub room : ib.stack.free + 32 * length ds + 4 ≤ 14 * 2 ^ 20
@@ -102,6 +104,7 @@ next_makes {e} {block} {types} ib {index} d ds m serial =
           (λ i kind' below at'. still_new i below (m.new i kind' at'))
           (inr (let s = ap (λ (u : Spot). u.index) (chosen_here (length types) (block.at (length types)) (spot_of e index)) in omega (arith, s)))
           j kind at;
+      fresh = m.fresh;
       own = λ n t b k held. m.own n t b k held.0;
       places = λ i below.
           let e' : suc index + i ≡ index + suc i = omega arith in
@@ -261,7 +264,7 @@ declares_from {links} {code} {aims} closed around line turns k c meaning (d ∷ 
             nested = nested_same s.activations v.activations (kind_binding kind index (s.serials + 1)) serving.nested;
             waiting = serving.waiting;
           })
-          (more_all e index kind ((ib.ground n1).frame + (place_for e index + 16)) o.element o.is numbered m.new serving.nested zero' all1)
+          (more_all e index kind ((ib.ground n1).frame + (place_for e index + 16)) o.element o.is numbered m.new m.fresh serving.nested zero' all1)
           at'
           (λ s' v' line' n' h' t' f'' free serving' all' at''.
           subst (λ u. aims.done u f'' v' tt s') (sym place)

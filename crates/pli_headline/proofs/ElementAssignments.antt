@@ -37,13 +37,14 @@ use Rattle.pli_headline.proofs.ArrayExpressions.{AllEvaluate, subscripts_many}
 use Rattle.pli_headline.proofs.ArrayAssignments.{element_assigned_piece}
 use Rattle.pli_headline.proofs.ArrayScopes.{IsArrayAt, with_element_of, array_scope}
 use Rattle.pli_headline.proofs.ArrayStates.{scalar_apart, scalar_beside, text_beside, arrays_after}
+use Rattle.pli_headline.proofs.Asides.{asides_changed}
 use Rattle.pli_headline.proofs.Entered.{Frames}
 use Rattle.pli_headline.proofs.Statements.{Block, Standing, AllHold, scope_of, Does, counted_all, assign_number_does, assign_bit_does}
 use Rattle.pli_headline.proofs.Reach.{before_closed, comes_on}
 
 -- what variables hold after an element is assigned
 pub element_all : {frames : Frames} {serials : Serials} {xs : Storage} {levels : List ℕ} {s : State} {block : Names} {types : Types} {n : Values} (j : ℕ) {type : Y.LeafType} {b : Bounds} {bs : List Bounds} (is : List ℤ) (z : ℤ) (below : IsArrayAt types j type b bs) → is_within (b ∷ bs) is ≡ true → Fits type z → (all : AllHold frames serials xs levels s block types n) → AllHold frames serials xs levels (element_state s type (b ∷ bs) (serials.of j) (all.arrays j type b bs below).values is z) block types (with_element_of n j (element_place (b ∷ bs) is) z)
-element_all {serials = serials} {s = s} {types = types} {n = n} j {type} {b} {bs} is z below within fits all =
+element_all {frames = frames} {serials = serials} {s = s} {types = types} {n = n} j {type} {b} {bs} is z below within fits all =
     let h = all.arrays j type b bs below in
     let change = P.with_element (designated_element type (b ∷ bs) (serials.of j) h.values is) (value_as type z) in
     record {
@@ -54,6 +55,7 @@ element_all {serials = serials} {s = s} {types = types} {n = n} j {type} {b} {bs
       framed = all.framed;
       kinds = all.kinds;
       units = all.units;
+      aside = asides_changed j change below all.aside;
       stored = stored_changed (serials.of j) change (λ g. refl) all.stored;
     }
 

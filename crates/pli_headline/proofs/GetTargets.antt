@@ -108,6 +108,7 @@ read_all change all =
       framed = all.framed;
       kinds = all.kinds;
       units = all.units;
+      aside = all.aside;
       stored = all.stored;
     }
 

@@ -39,6 +39,7 @@ use Rattle.pli_headline.proofs.CalledFrames.{Callee, called_block}
 use Rattle.pli_headline.proofs.CallRuns.{StandsAt, called_code_is, own_call_does}
 use Rattle.pli_headline.proofs.ProcedurePlaces.{called_once, inner_at}
 use Rattle.pli_headline.proofs.MainOutlets.{procedure_owner, HasMain, main_of, main_enclosing, main_seen}
+use Rattle.pli_headline.proofs.Narrowing.{narrows_self}
 use Rattle.pli_headline.proofs.ProvedStatements.{Calls, Signals, body_does}
 use Rattle.pli_headline.proofs.UnitStanding.{Tells}
 use Rattle.pli_headline.proofs.InnerUnits.{Done, fewer_signals, signals_with}
@@ -83,11 +84,11 @@ called_does {program} {block} {all} q can {links} {code} bl callee words deep de
     let most' = le-max_right 0 (stmts_words q.body) in
     let low = most 0 (stmts_words q.body) 800 (omega arith) (omega (arith, few)) in
     let jumps : AllJumpAround q.head.number q.head.level all (blocks_of program.procedures) (main_outer block program.procedures) (main_outer block program.procedures ∷ []) (labels_in q.body ++ []) q.body = subst (λ n. AllJumpAround q.head.number n all (blocks_of program.procedures) (main_outer block program.procedures) (main_outer block program.procedures ∷ []) (labels_in q.body ++ []) q.body) (sym next) (subst (λ ls. AllJumpAround q.head.number 1 all (blocks_of program.procedures) (main_outer block program.procedures) (main_outer block program.procedures ∷ []) ls q.body) (sym (append-nil (labels_in q.body))) q.jumps) in
-    body_does cb links code (standing_called block callee back h0 t0 q.head next sized block mains has standing) (inner_around program bound q.head.line) refl {small = true}
+    body_does cb links code (standing_called block callee back h0 t0 q.head next sized block mains has standing) (inner_around program bound q.head.line) refl {small = true} {taken = 0}
     (labels_called q.head next named (known (place_of_head q.head) (inl refl))) q.body q.statements jumps (omega (arith, most', words))
     ((omega (arith, place, words, low, space, deeper), omega (arith, few)), deeper) q.inside
     (inner_entering program bound q.head.line) (omega arith) (λ b h. known b (inr h)) can.calls
-    (record { calls = λ bare. calls; signals = λ bare. signals; tells = λ bare. tells; makes = λ same' u at k. let no : true ≡ false = sym same' ∙ other_level q.head.level 0 next in absurd (cc no); narrow = omega (arith, words, low); ends = λ may called'. inl (other_level q.head.level 0 next, (refl, ended)); mains = λ bare. inr (inl (refl, (refl, λ label among. among))) })
+    (record { narrows = narrows_self (main_names program block) (types_of (variables_of_block program block)) (λ j kind at. refl); calls = calls; signals = signals; tells = tells; makes = λ same' u at k. let no : true ≡ false = sym same' ∙ other_level q.head.level 0 next in absurd (cc no); narrow = omega (arith, words, low); ends = λ may called'. inl (other_level q.head.level 0 next, (refl, ended)); mains = inr (inl (refl, (refl, λ label among. among))) })
 
 -- ---- the call
 

@@ -30,7 +30,7 @@ use Rattle.pli_headline.proofs.TextsKept.{kept_length, text_kept_as}
 use Rattle.pli_serving.specs.ServiceState as S
 use Rattle.pli_headline.proofs.Entered.{atop}
 use Rattle.pli_headline.proofs.OuterBlocks.{risen_over}
-use Rattle.pli_headline.proofs.Statements.{Block, IsFilled, Enclosing, Enclosures, AllSeen}
+use Rattle.pli_headline.proofs.Statements.{Block, IsFilled, Enclosing, Enclosures, AllSeen, restricts_self}
 use Rattle.pli_headline.proofs.TextScopes.{IsTextAt}
 use Rattle.pli_typing.specs.Signatures.{Bounds, element_count}
 use Rattle.pli_headline.proofs.ArrayScopes.{with_element_of, ArrayOn}
@@ -294,7 +294,7 @@ inner_leveled {e} {block} bl at level next j kind known =
 
 -- the block inside, in a frame of the next level
 abbrev pub inner_block : {e : Environment} {block : Names} {types : Types} (bl : Block e block types) (inner : Inner bl) (t0 : ℕ → ℕ) (number level : ℕ) → level ≡ suc e.level → IsFilled bl → Block (in_frame number level e) block types
-inner_block {e} bl inner t0 number level next filled =
+inner_block {e} {block} {types} bl inner t0 number level next filled =
     let above = inner_above inner.at bl.stack.free inner.words inner.place in
     let high = bl.stack.high in
     let over = bl.stack.over in
@@ -383,5 +383,5 @@ inner_block {e} bl inner t0 number level next filled =
       arrays = λ j type b bs at. inner_array bl inner t0 number level (inner.at + fixed_size (suc e.level) 0) (omega arith) (bl.arrays j type b bs at);
       outer = record { level = e.level; number = e.block; labels = bl.labels } ∷ bl.outer;
       enclosing = (inner_own bl inner t0 number level next filled, inner_outers bl inner t0 number level next bl.outer bl.enclosing);
-      seen = (λ frames xs levels s n all. all, inner_seen bl inner t0 number level next bl.outer bl.enclosing bl.seen);
+      seen = (restricts_self bl.serials block types, inner_seen bl inner t0 number level next bl.outer bl.enclosing bl.seen);
     }

@@ -213,12 +213,12 @@ entry_stands program block line body called plain alone are bare inner number ap
     ∙ once
 
 -- and its end
-pub end_stands : (program : Y.Program) (block line : ℕ) (body : Y.Stmts) (called : List ℕ) → AllPlain program.variables → (alone : IsAlone program block line body) → AreProvedStatements (main_names program block) (types_of (variables_of_block program block)) body → AllJumpAround block 0 (all_labels block body ++ procedure_labels alone.others) (blocks_of program.procedures) (main_outer block program.procedures) [] (labels_in body) body → DeclareScalars program body → AreInner program block (all_labels block body ++ procedure_labels alone.others) called alone.others → (number : ℕ) → (number == block) ≡ false → number_times number alone.others ≡ 1 → is_number number called ≡ true → AllCallAmong program called true true body → times_marked (ReturnPlace number) (links_of (code_of parts program)).marks ≡ 1
+pub end_stands : (program : Y.Program) (block line : ℕ) (body : Y.Stmts) (called : List ℕ) → AllPlain program.variables → (alone : IsAlone program block line body) → AreProvedStatements (main_names program block) (types_of (variables_of_block program block)) body → AllJumpAround block 0 (all_labels block body ++ procedure_labels alone.others) (blocks_of program.procedures) (main_outer block program.procedures) [] (labels_in body) body → DeclareScalars program body → AreInner program block (all_labels block body ++ procedure_labels alone.others) called alone.others → (number : ℕ) → (number == block) ≡ false → number_times number alone.others ≡ 1 → is_number number called ≡ true → AllCallAmong program called true 0 body → times_marked (ReturnPlace number) (links_of (code_of parts program)).marks ≡ 1
 end_stands program block line body called plain alone are jumps bare inner number apart once among calls =
     let rest = symbol_times (ReturnPlace number) (procedure_symbols alone.others) in
     times_are (ReturnPlace number) 0 (code_of parts program)
     ∙ ap (symbol_times (ReturnPlace number)) (program_marks program block line body plain _ _ alone are bare inner)
-    ∙ ends_behind number block (all_stands block body) (procedure_symbols alone.others) (ends_apart number block body (called_units program number block 0 _ _ _ [] (labels_in body) called true true body among jumps calls))
+    ∙ ends_behind number block (all_stands block body) (procedure_symbols alone.others) (ends_apart number block body (called_units program number block 0 _ _ _ [] (labels_in body) called true 0 body among jumps calls))
     ∙ ap (λ q. cond q (suc rest) rest) apart
     ∙ ends_times number program block _ called alone.others inner
     ∙ once

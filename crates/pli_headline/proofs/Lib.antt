@@ -16,6 +16,7 @@ pub mod Reaching
 pub mod SavedRegisters
 pub mod Activations
 pub mod OuterBlocks
+pub mod Asides
 pub mod Entered
 pub mod Storages
 pub mod Calls
@@ -111,6 +112,8 @@ pub mod CalledEntered
 pub mod CalledLeft
 pub mod CallMeant
 pub mod MainOutlets
+pub mod Narrowing
+pub mod Through
 pub mod CalledJumps
 pub mod CallRuns
 pub mod BeginMeant
@@ -205,6 +208,7 @@ pub mod LabelMarks
 pub mod Whole
 mod Rows
 mod DeclaredRows
+mod CallingRows
 pub mod FirstPathDeclared
 pub mod FirstPathNames
 pub mod FirstPathExpressions

@@ -248,6 +248,7 @@ main_hold known links code first program block input frame at line same all read
       framed = ap (λ u. u ∷ []) same;
       kinds = refl;
       units = (tt, tt);
+      aside = record { all = tt };
       stored = main_stored program block (main_types program block) (main_kind program block) at (main_count program block) (λ j kind at'. main_inside program block j kind at') (λ j below. (ready j below).numbered);
     }
 

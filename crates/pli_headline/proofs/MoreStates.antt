@@ -1,6 +1,6 @@
 -- One more scalar is made, in the meaning: it begins with 0, and the others hold what they held.
 use Rattle.std.proofs.Common.{◌≡◌, ℕ, suc, ◌+◌, ◌<◌, ◌≤◌, ◌⊎◌, inl, inr, List, [], ◌∷◌, ◌++◌, length, Option, Some, Bool, true, false, refl, sym, ap, ◌∙◌, subst, arith, add-one}
-use Rattle.std.specs.Prelude.{ℤ, pos, cond, nat_le, slice_get, ◌==◌}
+use Rattle.std.specs.Prelude.{ℤ, pos, cond, map, nat_le, slice_get, ◌==◌}
 use Rattle.std.proofs.lemmas.Bool.{eq-eqb}
 use Rattle.std.proofs.lemmas.Bool.Decides.{nat_tests}
 use Rattle.pli_typing.specs.Signatures.{Bounds}
@@ -13,7 +13,7 @@ use Rattle.pli_meaning.specs.Control.{Flow, Normal, Meaning, flow_on, give, look
 use Rattle.pli_meaning.specs.Raising.{Around}
 use Rattle.pli_meaning.specs.Making as K
 use Rattle.pli_meaning.specs.Making.{with_binding}
-use Rattle.pli_serving.specs.Templates.{shape_at}
+use Rattle.pli_serving.specs.Templates.{shape_at, template_of}
 use Rattle.pli_serving.specs.ServiceState as S
 use Rattle.pli_serving.specs.Making as G
 use Rattle.pli_coding.specs.Environments.{Environment}
@@ -31,7 +31,8 @@ use Rattle.pli_headline.proofs.States.{Holds}
 use Rattle.pli_headline.proofs.Storages.{Storage, Serials, Stored, owner_in}
 use Rattle.pli_headline.proofs.DeclaredNames.{by_element, by_last, kind_around, chosen_before, chosen_here}
 use Rattle.pli_headline.proofs.MoreNames.{more_names, more_serials, spot_of, no_text}
-use Rattle.pli_headline.proofs.Statements.{AllHold, SameValues}
+use Rattle.pli_headline.proofs.Asides.{Aside, StandAside, IsFresh, asides_by, asides_other, asides_fewer}
+use Rattle.pli_headline.proofs.Statements.{AllHold, SameValues, Restricts, restricts_self}
 use Rattle.pli_headline.proofs.Entered.{Frames, UnitsKnown}
 
 -- ---- in the meaning
@@ -107,7 +108,7 @@ units_same known (a ∷ as') (x ∷ xs) b h = h
 
 -- ---- what a variable holds, under another name
 
-holds_moved : {s s' : State} {block block' : Names} {j serial serial' : ℕ} {type : Y.LeafType} {z : ℤ} → block'.at j ≡ block.at j → serial' ≡ serial → standing_for s' (own block' j) ≡ standing_for s (own block j) → generation_of (living_of s'.living serial') ≡ generation_of (living_of s.living serial) → Holds s block j serial type z → Holds s' block' j serial' type z
+pub holds_moved : {s s' : State} {block block' : Names} {j serial serial' : ℕ} {type : Y.LeafType} {z : ℤ} → block'.at j ≡ block.at j → serial' ≡ serial → standing_for s' (own block' j) ≡ standing_for s (own block j) → generation_of (living_of s'.living serial') ≡ generation_of (living_of s.living serial) → Holds s block j serial type z → Holds s' block' j serial' type z
 holds_moved {block' = block'} {j} {serial} {serial'} {type} spot same stands lives h =
     record {
       values = h.values;
@@ -117,7 +118,7 @@ holds_moved {block' = block'} {j} {serial} {serial'} {type} spot same stands liv
       fits = h.fits;
     }
 
-keeps_moved : {s s' : State} {block block' : Names} {j serial serial' : ℕ} {varying : Bool} {most : ℕ} {text : List ℕ} → block'.at j ≡ block.at j → serial' ≡ serial → standing_for s' (own block' j) ≡ standing_for s (own block j) → generation_of (living_of s'.living serial') ≡ generation_of (living_of s.living serial) → KeepsText s block j serial varying most text → KeepsText s' block' j serial' varying most text
+pub keeps_moved : {s s' : State} {block block' : Names} {j serial serial' : ℕ} {varying : Bool} {most : ℕ} {text : List ℕ} → block'.at j ≡ block.at j → serial' ≡ serial → standing_for s' (own block' j) ≡ standing_for s (own block j) → generation_of (living_of s'.living serial') ≡ generation_of (living_of s.living serial) → KeepsText s block j serial varying most text → KeepsText s' block' j serial' varying most text
 keeps_moved {block' = block'} {j} {serial} {serial'} {varying} {most} spot same stands lives h =
     record {
       values = h.values;
@@ -127,7 +128,7 @@ keeps_moved {block' = block'} {j} {serial} {serial'} {varying} {most} spot same 
       short = h.short;
     }
 
-array_moved : {s s' : State} {block block' : Names} {j serial serial' : ℕ} {type : Y.LeafType} {bs : List Bounds} {n : ℕ → ℤ} → block'.at j ≡ block.at j → serial' ≡ serial → standing_for s' (own block' j) ≡ standing_for s (own block j) → generation_of (living_of s'.living serial') ≡ generation_of (living_of s.living serial) → HoldsArray s block j serial type bs n → HoldsArray s' block' j serial' type bs n
+pub array_moved : {s s' : State} {block block' : Names} {j serial serial' : ℕ} {type : Y.LeafType} {bs : List Bounds} {n : ℕ → ℤ} → block'.at j ≡ block.at j → serial' ≡ serial → standing_for s' (own block' j) ≡ standing_for s (own block j) → generation_of (living_of s'.living serial') ≡ generation_of (living_of s.living serial) → HoldsArray s block j serial type bs n → HoldsArray s' block' j serial' type bs n
 array_moved {block' = block'} {j} {serial} {serial'} {type} {bs} spot same stands lives h =
     record {
       values = h.values;
@@ -235,8 +236,31 @@ more_stored {serials} {block} {types} xs levels s e index k at numbered high lon
       table = h.table;
     }
 
-pub more_all : {frames : Frames} {serials : Serials} {xs : Storage} {levels : List ℕ} {s : State} {block : Names} {types : Types} {n : Values} (e : Environment) (index : ℕ) (k : Kind) (at : ℕ) → IsElementType k.type → k ≡ alone k.type → Numbered (table_of block.program) k → IsNew e block types index → Nested s.activations xs.activations → n.numbers (length types) ≡ pos 0 → AllHold frames serials xs (e.level ∷ levels) s block types n → AllHold frames (more_serials serials (length types) (s.serials + 1) (suc (length levels))) (more_storage xs (number_for (table_of block.program) k) at) (e.level ∷ levels) (more_state s index k) (more_names e block types index) (types ++ (k ∷ [])) n
-more_all {frames = frames} {serials = serials} {xs} {levels} {s} {block} {types} {n} e index k at element is numbered new nested zero' all =
+asides_newer : {xss : List (List Aside)} {serials : Serials} {types : Types} {as' : List Activation} {living : List Living} {count : ℕ} (owner : ℕ) (l : Living) (k : Kind) → l.serial ≡ count + 1 → StandAside xss serials types as' living count → StandAside xss (more_serials serials (length types) (count + 1) owner) (types ++ (k ∷ [])) as' (l ∷ living) (count + 1)
+asides_newer {serials = serials} {types} {as'} {living} {count} owner l k new all =
+    let o = more_serials serials (length types) (count + 1) owner in
+    asides_by (λ x bs few h.
+    let other : (i : ℕ) → x.among i → (l.serial == x.serials.of i) ≡ false = λ i among. ap (λ n. n == x.serials.of i) new ∙ newer (x.serials.of i) count (h.older i among) in
+    record {
+      stands = λ i among. h.stands i among;
+      lives = λ i among. ap generation_of (new_other l living (x.serials.of i) (other i among)) ∙ h.lives i among;
+      owned = λ i among. ap owner_in (new_other l living (x.serials.of i) (other i among)) ∙ h.owned i among;
+      low = λ i among. h.low i among;
+      older = λ i among. let old = h.older i among in omega (arith, old);
+      apart = λ i j among at.
+          by_last types k (λ j' kind. (o.of j' == x.serials.of i) ≡ false)
+          (λ j' kind below at'. ap (λ n. n == x.serials.of i) (chosen_before (length types) j' (serials.of j') (count + 1) below) ∙ h.apart i j' among at')
+          (ap (λ n. n == x.serials.of i) (chosen_here (length types) (serials.of (length types)) (count + 1)) ∙ newer (x.serials.of i) count (h.older i among))
+          j _ at;
+    }) all
+
+-- what is put aside stays, where the block that makes a variable has put nothing aside
+asides_bound : {xss : List (List Aside)} {serials : Serials} {types : Types} {living : List Living} {count : ℕ} (b : Binding) (as' : List Activation) → IsFresh xss → StandAside xss serials types as' living count → StandAside xss serials types (with_binding b as') living count
+asides_bound b [] fresh all = all
+asides_bound b (a ∷ as') fresh all = asides_other a (record a { bindings = b ∷ a.bindings }) as' fresh all
+
+pub more_all : {frames : Frames} {serials : Serials} {xs : Storage} {levels : List ℕ} {s : State} {block : Names} {types : Types} {n : Values} (e : Environment) (index : ℕ) (k : Kind) (at : ℕ) → IsElementType k.type → k ≡ alone k.type → Numbered (table_of block.program) k → IsNew e block types index → IsFresh frames.asides → Nested s.activations xs.activations → n.numbers (length types) ≡ pos 0 → AllHold frames serials xs (e.level ∷ levels) s block types n → AllHold frames (more_serials serials (length types) (s.serials + 1) (suc (length levels))) (more_storage xs (number_for (table_of block.program) k) at) (e.level ∷ levels) (more_state s index k) (more_names e block types index) (types ++ (k ∷ [])) n
+more_all {frames = frames} {serials = serials} {xs} {levels} {s} {block} {types} {n} e index k at element is numbered new fresh nested zero' all =
     let count = length types in
     let serial = s.serials + 1 in
     let s' = more_state s index k in
@@ -288,40 +312,52 @@ more_all {frames = frames} {serials = serials} {xs} {levels} {s} {block} {types}
       framed = all.framed;
       kinds = all.kinds;
       units = units_same frames.known s.activations xs.activations b all.units;
+      aside = asides_newer (suc (length levels)) l k refl (asides_bound b s.activations fresh all.aside);
       stored = more_stored xs levels s e index k at numbered high (same_length s.activations xs.activations nested ∙ long) all.stored;
     }
 
 -- ---- without it
 
-pub fewer_all : {frames : Frames} {serials : Serials} {xs : Storage} {levels : List ℕ} {s : State} {block : Names} {types : Types} {n : Values} (e : Environment) (index : ℕ) (k : Kind) (serial owner : ℕ) → AllHold frames (more_serials serials (length types) serial owner) xs levels s (more_names e block types index) (types ++ (k ∷ [])) n → AllHold frames serials xs levels s block types n
-fewer_all {serials = serials} {xs} {levels} {s} {block} {types} {n} e index k serial owner all =
-    let count = length types in
-    let names = more_names e block types index in
-    let o = more_serials serials count serial owner in
-    let front : (j : ℕ) (kind : Kind) → slice_get types j ≡ Some kind → slice_get (types ++ (k ∷ [])) j ≡ Some kind = λ j kind at. kind_around types (k ∷ []) j at in
-    let spot : (j : ℕ) (kind : Kind) → slice_get types j ≡ Some kind → block.at j ≡ names.at j = λ j kind at. sym (chosen_before count j (block.at j) (spot_of e index) (place_below types j kind at)) in
-    let same : (j : ℕ) (kind : Kind) → slice_get types j ≡ Some kind → serials.of j ≡ o.of j = λ j kind at. sym (chosen_before count j (serials.of j) serial (place_below types j kind at)) in
-    let stands : (j : ℕ) (kind : Kind) → slice_get types j ≡ Some kind → standing_for s (own block j) ≡ standing_for s (own names j) = λ j kind at.
-    ap (λ (u : Spot). binding_in (ancestor s.activations (newest_height s.activations) u.level) u.index) (spot j kind at) in
-    let lives : (j : ℕ) (kind : Kind) → slice_get types j ≡ Some kind → generation_of (living_of s.living (serials.of j)) ≡ generation_of (living_of s.living (o.of j)) = λ j kind at. ap (λ m. generation_of (living_of s.living m)) (same j kind at) in
+-- the first of others
+pub restricts_all : {frames : Frames} {serials serials' : Serials} {xs : Storage} {levels : List ℕ} {s : State} {block block' : Names} {types types' : Types} {n : Values} → Restricts serials block types serials' block' types' → AllHold frames serials xs levels s block types n → AllHold frames serials' xs levels s block' types' n
+restricts_all {frames = frames} {serials} {serials'} {xs} {levels} {s} {block} {block'} {types} {types'} r all =
+    let stands : (j : ℕ) (kind : Kind) → slice_get types' j ≡ Some kind → standing_for s (own block' j) ≡ standing_for s (own block j) = λ j kind at.
+    ap (λ (u : Spot). binding_in (ancestor s.activations (newest_height s.activations) u.level) u.index) (r.spots j at) in
+    let lives : (j : ℕ) (kind : Kind) → slice_get types' j ≡ Some kind → generation_of (living_of s.living (serials'.of j)) ≡ generation_of (living_of s.living (serials.of j)) = λ j kind at. ap (λ m. generation_of (living_of s.living m)) (r.of j at) in
     record {
-      numbers = λ j t numeric. holds_moved (spot j _ t.1) (same j _ t.1) (stands j _ t.1) (lives j _ t.1) (all.numbers j (t.0, front j _ t.1) numeric);
-      texts = λ j varying most at. keeps_moved (spot j _ at) (same j _ at) (stands j _ at) (lives j _ at) (all.texts j varying most (front j _ at));
-      arrays = λ j type c cs at. array_moved (spot j _ at) (same j _ at) (stands j _ at) (lives j _ at) (all.arrays j type c cs (front j _ at));
+      numbers = λ j t numeric. holds_moved (r.spots j t.1) (r.of j t.1) (stands j _ t.1) (lives j _ t.1) (all.numbers j (t.0, r.among j t.1) numeric);
+      texts = λ j varying most at. keeps_moved (r.spots j at) (r.of j at) (stands j _ at) (lives j _ at) (all.texts j varying most (r.among j at));
+      arrays = λ j type c cs at. array_moved (r.spots j at) (r.of j at) (stands j _ at) (lives j _ at) (all.arrays j type c cs (r.among j at));
       entered = all.entered;
       framed = all.framed;
       kinds = all.kinds;
       units = all.units;
+      aside = asides_fewer (λ j kind at. (r.among j at, r.of j at)) all.aside;
       stored = record {
-        owned = λ j at.
-            ap (λ m. owner_in (living_of s.living m)) (same j _ at) ∙ all.stored.owned j (front j _ at) ∙ ap (λ m. Some m) (chosen_before count j (serials.owner j) owner (place_below types j _ at));
-        apart = λ i j at at' other. ap (λ m. m == serials.of i) (same j _ at') ∙ ap (λ m. o.of j == m) (same i _ at) ∙ all.stored.apart i j (front i _ at) (front j _ at') other;
-        older = λ j at. let a = same j _ at in let old = all.stored.older j (front j _ at) in omega (arith, a, old);
+        owned = λ j at. ap (λ m. owner_in (living_of s.living m)) (r.of j at) ∙ all.stored.owned j (r.among j at) ∙ ap (λ m. Some m) (sym (r.owner j at));
+        apart = λ i j at at' other. ap (λ m. m == serials'.of i) (r.of j at') ∙ ap (λ m. serials.of j == m) (r.of i at) ∙ all.stored.apart i j (r.among i at) (r.among j at') other;
+        older = λ j at. let a = r.of j at in let old = all.stored.older j (r.among j at) in omega (arith, a, old);
         alike = all.stored.alike;
         counted = all.stored.counted;
-        table = all.stored.table;
+        table = all.stored.table ∙ ap (λ p. map template_of (table_of p)) (sym r.program);
       };
     }
+
+-- of those with one more, too
+pub more_restricts : {serials serials' : Serials} {block block' : Names} {types types' : Types} (e : Environment) (index : ℕ) (k : Kind) (serial owner : ℕ) → Restricts serials block types serials' block' types' → Restricts (more_serials serials (length types) serial owner) (more_names e block types index) (types ++ (k ∷ [])) serials' block' types'
+more_restricts {serials} {block = block} {types = types} e index k serial owner r =
+    let count = length types in
+    record {
+      program = r.program;
+      among = λ j at. kind_around types (k ∷ []) j (r.among j at);
+      spots = λ j at. r.spots j at ∙ sym (chosen_before count j (block.at j) (spot_of e index) (place_below types j _ (r.among j at)));
+      of = λ j at. r.of j at ∙ sym (chosen_before count j (serials.of j) serial (place_below types j _ (r.among j at)));
+      owner = λ j at. r.owner j at ∙ sym (chosen_before count j (serials.owner j) owner (place_below types j _ (r.among j at)));
+    }
+
+pub fewer_all : {frames : Frames} {serials : Serials} {xs : Storage} {levels : List ℕ} {s : State} {block : Names} {types : Types} {n : Values} (e : Environment) (index : ℕ) (k : Kind) (serial owner : ℕ) → AllHold frames (more_serials serials (length types) serial owner) xs levels s (more_names e block types index) (types ++ (k ∷ [])) n → AllHold frames serials xs levels s block types n
+fewer_all {serials = serials} {block = block} {types = types} e index k serial owner all =
+    restricts_all (more_restricts e index k serial owner (restricts_self serials block types)) all
 
 -- ---- other values
 
@@ -336,5 +372,6 @@ all_same {serials = serials} {s = s} {block = block} n' same all =
       framed = all.framed;
       kinds = all.kinds;
       units = all.units;
+      aside = all.aside;
       stored = all.stored;
     }

@@ -33,7 +33,7 @@ use Rattle.pli_headline.proofs.ArrayScopes.{IsArrayAt, ArrayOn, with_element_of}
 use Rattle.pli_headline.proofs.MainGround.{width_few}
 use Rattle.pli_headline.proofs.Statements.{AllSeen, Enclosing, Enclosures, Block, SameValues}
 use Rattle.pli_headline.proofs.MoreNames.{spot_of, more_names, more_serials, no_text}
-use Rattle.pli_headline.proofs.MoreStates.{fewer_all}
+use Rattle.pli_headline.proofs.MoreStates.{more_restricts}
 
 -- ---- places
 
@@ -334,7 +334,7 @@ more_enclosures ib k (o ∷ os) cs = (more_enclosing ib k o cs.0, more_enclosure
 abbrev pub more_seen : {e : Environment} {block : Names} {types : Types} (ib : Block e block types) (k : Kind) (index serial : ℕ) (os : List OuterBlock) (cs : Enclosures e ib.ground ib.levels ib.frames.list (e.level ∷ ib.depths) os) → AllSeen e ib.ground ib.levels ib.frames.list (e.level ∷ ib.depths) os cs ib.serials block types → AllSeen e (more_ground ib k) ib.levels ib.frames.list (e.level ∷ ib.depths) os (more_enclosures ib k os cs) (more_serials ib.serials (length types) serial (suc (length ib.depths))) (more_names e block types index) (types ++ (k ∷ []))
 more_seen ib k index serial [] cs seen = tt
 more_seen {e} ib k index serial (o ∷ os) cs seen = (
-  λ frames xs levels s n all. seen.0 frames xs levels s n (fewer_all e index k serial (suc (length ib.depths)) all),
+  more_restricts e index k serial (suc (length ib.depths)) seen.0,
   more_seen ib k index serial os cs.1 seen.1,
 )
 

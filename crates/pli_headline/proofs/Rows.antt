@@ -573,7 +573,7 @@ call_program =
         line = lit< tt;
         statements = ((refl, lit< tt), tt);
         jumps = (tt, tt);
-        calls = ((refl, refl), tt);
+        calls = ((omega arith, refl), tt);
         inside = (tt, tt);
         few = omega arith;
       };
@@ -588,7 +588,7 @@ call_program =
           statements = ((refl, (lit< tt, ((refl, lit< tt), (lit< tt, tt)))), (lit< tt, tt));
           jumps = (((refl, omega arith), (tt, (tt, tt))), (tt, tt));
           inside = ((tt, (tt, (tt, tt))), (tt, tt));
-          callable = λ h. record { kind = refl; line = lit< tt; calls = (((refl, refl), (refl, tt)), (refl, tt)); few = omega arith };
+          callable = λ h. record { kind = refl; line = lit< tt; calls = (((omega arith, refl), (refl, tt)), (refl, tt)); few = omega arith };
         },
         tt,
       );
@@ -642,7 +642,7 @@ unit_program =
           (lit< tt, ((refl, (tt, (lit< tt, (lit< tt, (((inl i, tt), (lit< tt, lit< tt)), (lit< tt, tt)))))), (lit< tt, tt))),
         );
         jumps = ((refl, (refl, (tt, (tt, tt)))), (tt, ((refl, (refl, (refl, (tt, (tt, tt))))), (tt, tt))));
-        calls = (((tt, tt), (omega arith, tt)), (refl, (((tt, (tt, tt)), (omega arith, refl)), (refl, tt))));
+        calls = (((tt, tt), (omega arith, tt)), (omega arith, (((tt, (tt, tt)), (omega arith, refl)), (omega arith, tt))));
         inside = ((tt, (tt, tt)), (tt, ((refl, (tt, (tt, tt))), (tt, tt))));
         few = omega arith;
       };
@@ -688,7 +688,7 @@ leaving_program =
         line = lit< tt;
         statements = ((refl, (tt, (lit< tt, (lit< tt, ((refl, lit< tt), tt))))), (lit< tt, (lit< tt, tt)));
         jumps = ((refl, (refl, (refl, (tt, tt)))), (tt, (tt, tt)));
-        calls = ((((refl, refl), tt), (omega arith, refl)), (refl, (tt, tt)));
+        calls = ((((omega arith, refl), tt), (omega arith, refl)), (omega arith, (tt, tt)));
         inside = ((refl, (tt, tt)), (tt, (tt, tt)));
         few = omega arith;
       };
@@ -748,7 +748,7 @@ away_program =
           (refl, (refl, (tt, (inr (inl (refl, (refl, (refl, refl)))), tt)))),
           (tt, ((refl, (refl, (refl, (inr (inl (refl, (refl, (refl, refl)))), tt)))), (tt, tt))),
         );
-        calls = (((tt, tt), (omega arith, tt)), (refl, (((tt, tt), (omega arith, refl)), (refl, tt))));
+        calls = (((tt, tt), (omega arith, tt)), (omega arith, (((tt, tt), (omega arith, refl)), (omega arith, tt))));
         inside = ((tt, (tt, tt)), (tt, ((refl, (tt, tt)), (tt, tt))));
         few = omega arith;
       };

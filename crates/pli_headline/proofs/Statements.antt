@@ -44,6 +44,7 @@ use Rattle.pli_headline.proofs.Temporaries.{Temporaries, Stays, stays_same, stay
 use Rattle.pli_headline.proofs.Reaching.{Reaches}
 use Rattle.pli_headline.proofs.Activations.{frames_of, RestOn, levels_of}
 use Rattle.pli_headline.proofs.OuterBlocks.{Rises}
+use Rattle.pli_headline.proofs.Asides.{StandAside, asides_changed}
 use Rattle.pli_headline.proofs.Entered.{Frames, frames_left, kinds_of, UnitsKnown}
 use Rattle.pli_headline.proofs.Calls.{Serving}
 use Rattle.pli_headline.proofs.Raising.{Routines}
@@ -123,8 +124,8 @@ lower_ground g free =
       inside = g.inside;
     }
 
--- blocks of these levels are entered, which have these frames and units, variables hold these numbers and texts and arrays theirs, and
--- what lives in the meaning lives among the services
+-- blocks of these levels are entered, which have these frames and units, variables hold these numbers and texts and arrays theirs, those
+-- that are put aside stay as they were, and what lives in the meaning lives among the services
 pub record AllHold (frames : Frames) (serials : Serials) (xs : Storage) (levels : List ℕ) (s : State) (block : Names) (types : Types) (n : Values) : Type 0 where
   pub numbers : (j : ℕ) (b : Typed types j) → IsNumeric b.0 → Holds s block j (serials.of j) b.0 (n.numbers j)
   pub texts : (j : ℕ) (varying : Bool) (most : ℕ) → IsTextAt types j varying most → KeepsText s block j (serials.of j) varying most (n.texts j)
@@ -133,12 +134,20 @@ pub record AllHold (frames : Frames) (serials : Serials) (xs : Storage) (levels 
   pub framed : frames_of xs.activations ≡ frames.list
   pub kinds : kinds_of xs.activations ≡ frames.kinds
   pub units : UnitsKnown frames.known s.activations xs.activations
+  pub aside : StandAside frames.asides serials types s.activations s.living s.serials
   pub stored : Stored serials xs.signatures xs.living xs.serials (length levels) s.living s.serials block types
 
--- what holds of some variables holds of others
-abbrev pub Restricts : Serials → Names → Types → Serials → Names → Types → Type 1
-Restricts serials block types serials' block' types' =
-    (frames : Frames) (xs : Storage) (levels : List ℕ) (s : State) (n : Values) → AllHold frames serials xs levels s block types n → AllHold frames serials' xs levels s block' types' n
+-- some variables are the first of others
+pub record Restricts (serials : Serials) (block : Names) (types : Types) (serials' : Serials) (block' : Names) (types' : Types) : Type 0 where
+  pub program : block'.program ≡ block.program
+  pub among : (j : ℕ) {kind : Kind} → slice_get types' j ≡ Some kind → slice_get types j ≡ Some kind
+  pub spots : (j : ℕ) {kind : Kind} → slice_get types' j ≡ Some kind → block'.at j ≡ block.at j
+  pub of : (j : ℕ) {kind : Kind} → slice_get types' j ≡ Some kind → serials'.of j ≡ serials.of j
+  pub owner : (j : ℕ) {kind : Kind} → slice_get types' j ≡ Some kind → serials'.owner j ≡ serials.owner j
+
+pub restricts_self : (serials : Serials) (block : Names) (types : Types) → Restricts serials block types serials block types
+restricts_self serials block types =
+    record { program = refl; among = λ j at. at; spots = λ j at. refl; of = λ j at. refl; owner = λ j at. refl }
 
 -- variables of blocks of these levels at most, whose activations are no higher
 abbrev pub Beneath : (level height : ℕ) → Serials → Names → Types → Type 0
@@ -176,9 +185,9 @@ Enclosures e ground shows frames levels [] = Unit {1}
 Enclosures e ground shows frames levels (o ∷ os) =
     Enclosing e o ground shows frames levels × Enclosures e ground shows frames levels os
 
--- what holds of the variables of a block holds of those of the blocks around
-abbrev pub AllSeen : (e : Environment) (ground : Values → Ground) (shows : ℕ → ℕ) (frames levels : List ℕ) (os : List OuterBlock) → Enclosures e ground shows frames levels os → Serials → Names → Types → Type 1
-AllSeen e ground shows frames levels [] cs serials block types = Unit {1}
+-- the variables of the blocks around are the first of a block's
+abbrev pub AllSeen : (e : Environment) (ground : Values → Ground) (shows : ℕ → ℕ) (frames levels : List ℕ) (os : List OuterBlock) → Enclosures e ground shows frames levels os → Serials → Names → Types → Type 0
+AllSeen e ground shows frames levels [] cs serials block types = Unit {0}
 AllSeen e ground shows frames levels (o ∷ os) cs serials block types =
     Restricts serials block types cs.0.serials cs.0.names cs.0.types × AllSeen e ground shows frames levels os cs.1 serials block types
 
@@ -431,11 +440,12 @@ counted_all w all =
       framed = all.framed;
       kinds = all.kinds;
       units = all.units;
+      aside = all.aside;
       stored = all.stored;
     }
 
 -- of frames that have another list, which is the same
-pub listed_as : (frames : Frames) (list : List ℕ) {serials : Serials} {xs : Storage} {levels : List ℕ} {s : State} {block : Names} {types : Types} {n : Values} → frames.list ≡ list → AllHold frames serials xs levels s block types n → AllHold (record { list = list; kinds = frames.kinds; known = frames.known }) serials xs levels s block types n
+pub listed_as : (frames : Frames) (list : List ℕ) {serials : Serials} {xs : Storage} {levels : List ℕ} {s : State} {block : Names} {types : Types} {n : Values} → frames.list ≡ list → AllHold frames serials xs levels s block types n → AllHold (record { list = list; kinds = frames.kinds; asides = frames.asides; known = frames.known }) serials xs levels s block types n
 listed_as frames list same all =
     record {
       numbers = all.numbers;
@@ -445,10 +455,11 @@ listed_as frames list same all =
       framed = all.framed ∙ same;
       kinds = all.kinds;
       units = all.units;
+      aside = all.aside;
       stored = all.stored;
     }
 
-pub listed_of : (frames : Frames) (list : List ℕ) {serials : Serials} {xs : Storage} {levels : List ℕ} {s : State} {block : Names} {types : Types} {n : Values} → frames.list ≡ list → AllHold (record { list = list; kinds = frames.kinds; known = frames.known }) serials xs levels s block types n → AllHold frames serials xs levels s block types n
+pub listed_of : (frames : Frames) (list : List ℕ) {serials : Serials} {xs : Storage} {levels : List ℕ} {s : State} {block : Names} {types : Types} {n : Values} → frames.list ≡ list → AllHold (record { list = list; kinds = frames.kinds; asides = frames.asides; known = frames.known }) serials xs levels s block types n → AllHold frames serials xs levels s block types n
 listed_of frames list same all =
     record {
       numbers = all.numbers;
@@ -458,12 +469,13 @@ listed_of frames list same all =
       framed = all.framed ∙ sym same;
       kinds = all.kinds;
       units = all.units;
+      aside = all.aside;
       stored = all.stored;
     }
 
 -- the numbers after one is assigned
 pub assigned_all : {frames : Frames} {serials : Serials} {xs : Storage} {levels : List ℕ} {s : State} {block : Names} {types : Types} {n : Values} (j : ℕ) {type : Y.LeafType} (z : ℤ) (below : slice_get types j ≡ Some (alone type)) (fits : Fits type z) (all : AllHold frames serials xs levels s block types n) → AllHold frames serials xs levels (assigned_state s type (serials.of j) (all.numbers j (type, below) (fits_numeric type z fits)).values z) block types (with_number_at n j z)
-assigned_all {serials = serials} {s = s} {types = types} {n = n} j {type} z below fits all =
+assigned_all {frames = frames} {serials = serials} {s = s} {types = types} {n = n} j {type} z below fits all =
     let numeric' = fits_numeric type z fits in
     let mine = all.numbers j (type, below) numeric' in
     record {
@@ -474,6 +486,7 @@ assigned_all {serials = serials} {s = s} {types = types} {n = n} j {type} z belo
       framed = all.framed;
       kinds = all.kinds;
       units = all.units;
+      aside = asides_changed j (P.with_element (designated_scalar type (serials.of j) mine.values) (value_as type z)) below all.aside;
       stored = stored_changed (serials.of j) (P.with_element (designated_scalar type (serials.of j) mine.values) (value_as type z)) (λ g. refl) all.stored;
     }
 

@@ -83,7 +83,7 @@ owner_by false true change l ls ls' n h e =
 owner_by false false change l ls ls' n h e =
     ap (λ t. owner_in (cond t (Some l) (living_of ls' n))) e ∙ h ∙ sym (ap (λ t. owner_in (cond t (Some l) (living_of ls n))) e)
 
-owner_changed : (serial : ℕ) (change : Generation → Generation) (ls : List Living) (n : ℕ) → owner_in (living_of (living_changed serial (generation_changed change) ls) n) ≡ owner_in (living_of ls n)
+pub owner_changed : (serial : ℕ) (change : Generation → Generation) (ls : List Living) (n : ℕ) → owner_in (living_of (living_changed serial (generation_changed change) ls) n) ≡ owner_in (living_of ls n)
 owner_changed serial change [] n = refl
 owner_changed serial change (l ∷ ls) n =
     owner_by (l.serial == serial) (l.serial == n) change l ls (living_changed serial (generation_changed change) ls) n (owner_changed serial change ls n) refl
@@ -165,7 +165,7 @@ stays_by read false false height owner n l ls e f h other ih =
     let behind : owner_in (living_of ls n) ≡ Some owner = sym (ap (λ t. owner_in (cond t (Some l) (living_of ls n))) f) ∙ h in
     ap (λ t. read (cond t (Some l) (living_of (without_owner height ls) n))) f ∙ ih behind ∙ sym (ap (λ t. read (cond t (Some l) (living_of ls n))) f)
 
-stays_left : {A : Type 0} (read : Option Living → Option A) (height owner n : ℕ) (ls : List Living) → owner_in (living_of ls n) ≡ Some owner → (owner == height) ≡ false → read (living_of (without_owner height ls) n) ≡ read (living_of ls n)
+pub stays_left : {A : Type 0} (read : Option Living → Option A) (height owner n : ℕ) (ls : List Living) → owner_in (living_of ls n) ≡ Some owner → (owner == height) ≡ false → read (living_of (without_owner height ls) n) ≡ read (living_of ls n)
 stays_left read height owner n [] h other = refl
 stays_left read height owner n (l ∷ ls) h other =
     stays_by read (l.owner == height) (l.serial == n) height owner n l ls refl refl h other (λ g. stays_left read height owner n ls g other)
@@ -173,7 +173,7 @@ stays_left read height owner n (l ∷ ls) h other =
 pub generation_left : (height owner n : ℕ) (ls : List Living) → owner_in (living_of ls n) ≡ Some owner → (owner == height) ≡ false → generation_of (living_of (without_owner height ls) n) ≡ generation_of (living_of ls n)
 generation_left height owner n ls h other = stays_left generation_of height owner n ls h other
 
-below_high : (owner most : ℕ) → owner ≤ most → (owner == suc most) ≡ false
+pub below_high : (owner most : ℕ) → owner ≤ most → (owner == suc most) ≡ false
 below_high owner most h = grind (arith, nat_tests)
 
 -- the newest activation ends, which owns none of these variables

@@ -39,6 +39,7 @@ use Rattle.pli_headline.proofs.TextVariables.{text_state, text_stored_piece}
 use Rattle.pli_headline.proofs.TextsKept.{text_kept_as, kept_length}
 use Rattle.pli_headline.proofs.TextScopes.{IsTextAt}
 use Rattle.pli_headline.proofs.TextStates.{holds_text, holds_other, number_apart, keeps_all}
+use Rattle.pli_headline.proofs.Asides.{asides_changed}
 use Rattle.pli_headline.proofs.Entered.{Frames}
 use Rattle.pli_headline.proofs.Statements.{Block, Standing, AllHold, Does, counted_all}
 use Rattle.pli_headline.proofs.Ifs.{setting}
@@ -47,7 +48,7 @@ use Rattle.pli_headline.proofs.ArrayStates.{array_apart, arrays_beside_text}
 
 -- what the variables hold when one is assigned a text
 pub text_assigned_all : {frames : Frames} {serials : Serials} {xs : Storage} {levels : List ℕ} {s : State} {block : Names} {types : Types} {n : Values} (j : ℕ) (varying : Bool) (most : ℕ) (text : List ℕ) (below : IsTextAt types j varying most) → most ≤ 1024 → (all : AllHold frames serials xs levels s block types n) → AllHold frames serials xs levels (text_state s (text_leaf varying most) (serials.of j) (all.texts j varying most below).values text) block types (with_text_at n j (text_kept_as varying most text))
-text_assigned_all {serials = serials} {s = s} {types = types} {n = n} j varying most text below few all =
+text_assigned_all {frames = frames} {serials = serials} {s = s} {types = types} {n = n} j varying most text below few all =
     let h = all.texts j varying most below in
     record {
       numbers = λ i b numeric. holds_other text (all.stored.apart i j b.1 below (number_apart types i j b.0 varying most below b.1 numeric)) h (all.numbers i b numeric);
@@ -57,6 +58,7 @@ text_assigned_all {serials = serials} {s = s} {types = types} {n = n} j varying 
       framed = all.framed;
       kinds = all.kinds;
       units = all.units;
+      aside = asides_changed j (P.with_element (designated_scalar (text_leaf varying most) (serials.of j) h.values) (BasicText text)) below all.aside;
       stored = stored_changed (serials.of j) (P.with_element (designated_scalar (text_leaf varying most) (serials.of j) h.values) (BasicText text)) (λ g. refl) all.stored;
     }
 

@@ -117,7 +117,7 @@ calls_done program is fits k =
     (labels_of program is)
     (λ b h. others_known program block line is.body alone b h) k
 
-room_for : (program : Y.Program) (is : IsProvedSoFar program) (fits : FitsMemory (picture_of parts program)) (few : main_room program (block_in is) ≤ 2 ^ 20) → (main_frame (main_words program (block_in is) is.body) (main_sizes program (block_in is)) (main_count program (block_in is)) (few_words program is fits) few).at + 144 + main_room program (block_in is) + 4 * all_inner_words is.body + 700 * 101 + 2000000 ≤ 14 * 2 ^ 20
+room_for : (program : Y.Program) (is : IsProvedSoFar program) (fits : FitsMemory (picture_of parts program)) (few : main_room program (block_in is) ≤ 2 ^ 20) → (main_frame (main_words program (block_in is) is.body) (main_sizes program (block_in is)) (main_count program (block_in is)) (few_words program is fits) few).at + 144 + main_room program (block_in is) + 4 * all_inner_words is.body + 700 * 101 + 2020000 ≤ 14 * 2 ^ 20
 room_for program is fits few =
     let p = (placed_for program is fits).procedure in
     let inside = p.inside in

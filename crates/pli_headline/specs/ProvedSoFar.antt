@@ -580,33 +580,32 @@ abbrev pub IsUnitNew : (may : List ℕ) → Y.BlockHead → Y.BlockKind → Type
 IsUnitNew may head Y.SimpleUnit = ⊤
 IsUnitNew may head _ = is_number head.number may ≡ false
 
--- none are declared
-abbrev pub is_bare : List Y.DeclaredVariable → Bool
-is_bare [] = true
-is_bare (d ∷ ds) = false
+-- where calls stand, variables of BEGIN blocks around take few bytes in frames, so that 500 frames fit the stacks above them
+abbrev pub IsShallow : (bytes : ℕ) → Type 0
+IsShallow bytes = bytes ≤ 20000
 
--- calls name one of some numbers, and they and SIGNAL of AREA stand in no block that declares variables; an on-unit has no RETURN and few
--- bytes for temporaries and variables, as a procedure that is called
+-- calls name one of some numbers, and they and SIGNAL of AREA stand where variables of BEGIN blocks around take few bytes; an on-unit has
+-- no RETURN and few bytes for temporaries and variables, as a procedure that is called
 abbrev mutual
-  pub CallsAmong : Y.Program → (may : List ℕ) → (returns bare : Bool) → Y.Stmt → Type 0
-  CallsAmong program may returns bare (Y.If condition unit line) = CallsAmong program may returns bare unit
-  CallsAmong program may returns bare (Y.IfElse condition unit otherwise line) = CallsAmong program may returns bare unit × CallsAmong program may returns bare otherwise
-  CallsAmong program may returns bare (Y.Do body line) = AllCallAmong program may returns bare body
-  CallsAmong program may returns bare (Y.DoWhile condition body line) = AllCallAmong program may returns bare body
-  CallsAmong program may returns bare (Y.DoOnce target start condition body line) = AllCallAmong program may returns bare body
-  CallsAmong program may returns bare (Y.DoCount counter start limit step condition body line) = AllCallAmong program may returns bare body
-  CallsAmong program may returns bare (Y.Begin (Y.BlockOf head body)) =
-      AllCallAmong program may returns (is_bare (variables_of_block program head.number) && bare) body
-  CallsAmong program may returns bare (Y.CallProcedure (Y.Calling procedure level _) line) = (bare ≡ true) × (is_number procedure may ≡ true)
-  CallsAmong program may returns bare (Y.Return line) = returns ≡ true
-  CallsAmong program may returns bare (Y.Signal C.Area line) = bare ≡ true
-  CallsAmong program may returns bare (Y.OnUnit condition (Y.BlockOf head body) line) =
-      AllCallAmong program may false true body × ((4 * (stmts_words body + all_inner_words body) + inner_bytes program body ≤ 3200) × IsUnitNew may head head.kind)
-  CallsAmong program may returns bare _ = ⊤
+  pub CallsAmong : Y.Program → (may : List ℕ) → (returns : Bool) → (bytes : ℕ) → Y.Stmt → Type 0
+  CallsAmong program may returns bytes (Y.If condition unit line) = CallsAmong program may returns bytes unit
+  CallsAmong program may returns bytes (Y.IfElse condition unit otherwise line) = CallsAmong program may returns bytes unit × CallsAmong program may returns bytes otherwise
+  CallsAmong program may returns bytes (Y.Do body line) = AllCallAmong program may returns bytes body
+  CallsAmong program may returns bytes (Y.DoWhile condition body line) = AllCallAmong program may returns bytes body
+  CallsAmong program may returns bytes (Y.DoOnce target start condition body line) = AllCallAmong program may returns bytes body
+  CallsAmong program may returns bytes (Y.DoCount counter start limit step condition body line) = AllCallAmong program may returns bytes body
+  CallsAmong program may returns bytes (Y.Begin (Y.BlockOf head body)) =
+      AllCallAmong program may returns (bytes + 32 * length (variables_of_block program head.number)) body
+  CallsAmong program may returns bytes (Y.CallProcedure (Y.Calling procedure level _) line) = IsShallow bytes × (is_number procedure may ≡ true)
+  CallsAmong program may returns bytes (Y.Return line) = returns ≡ true
+  CallsAmong program may returns bytes (Y.Signal C.Area line) = IsShallow bytes
+  CallsAmong program may returns bytes (Y.OnUnit condition (Y.BlockOf head body) line) =
+      AllCallAmong program may false 0 body × ((4 * (stmts_words body + all_inner_words body) + inner_bytes program body ≤ 3200) × IsUnitNew may head head.kind)
+  CallsAmong program may returns bytes _ = ⊤
 
-  pub AllCallAmong : Y.Program → (may : List ℕ) → (returns bare : Bool) → Y.Stmts → Type 0
-  AllCallAmong program may returns bare (Y.EndOfList labels) = ⊤
-  AllCallAmong program may returns bare (Y.StmtThen labels first rest) = CallsAmong program may returns bare first × AllCallAmong program may returns bare rest
+  pub AllCallAmong : Y.Program → (may : List ℕ) → (returns : Bool) → (bytes : ℕ) → Y.Stmts → Type 0
+  AllCallAmong program may returns bytes (Y.EndOfList labels) = ⊤
+  AllCallAmong program may returns bytes (Y.StmtThen labels first rest) = CallsAmong program may returns bytes first × AllCallAmong program may returns bytes rest
 
 -- how many procedures have a number
 abbrev pub number_of_block : Y.Block → ℕ
@@ -686,7 +685,7 @@ main_outer block procedures = record { level = 0; number = block; labels = main_
 pub record IsCallable (program : Y.Program) (called : List ℕ) (head : Y.BlockHead) (body : Y.Stmts) : Type 0 where
   pub kind : head.kind ≡ Y.ProcedureBlock
   pub line : IsLine head.line
-  pub calls : AllCallAmong program called true true body
+  pub calls : AllCallAmong program called true 0 body
   pub few : 4 * (stmts_words body + all_inner_words body) + inner_bytes program body ≤ 3200
 
 -- a procedure inside the main one, whose number is the given block's: it declares nothing, and has no parameters and no result
@@ -712,7 +711,7 @@ pub record IsProvedBlock (program : Y.Program) (head : Y.BlockHead) (body : Y.St
   pub line : IsLine head.line
   pub statements : AreProvedStatements (main_names program head.number) (types_of (variables_of_block program head.number)) body
   pub jumps : AllJumpAround head.number 0 (all_labels head.number body ++ procedure_labels others) (blocks_of program.procedures) (main_outer head.number program.procedures) [] (labels_in body) body
-  pub calls : AllCallAmong program called true true body
+  pub calls : AllCallAmong program called true 0 body
   pub inside : DeclareScalars program body
   pub few : inner_bytes program body ≤ 1000000
 
