@@ -141,7 +141,10 @@ raised_all head entry s xs x {frames = frames} {serials = serials} {outer = oute
           record { values = h.values; stands = ap (λ o. binding_in o (block.at j).index) (same j _ at) ∙ h.stands; lives = h.lives; value = h.value; short = h.short };
       arrays = λ j type b bs at.
           let h = all.arrays j type b bs at in
-          record { values = h.values; numeric = h.numeric; stands = ap (λ o. binding_in o (block.at j).index) (same j _ at) ∙ h.stands; lives = h.lives; value = h.value; fits = h.fits };
+          record { values = h.values; numeric = h.numeric; stands = ap (λ o. binding_in o (block.at j).index) (same j _ at.0) ∙ h.stands; lives = h.lives; value = h.value; fits = h.fits };
+      text_arrays = λ j varying most b bs at.
+          let h = all.text_arrays j varying most b bs at in
+          record { values = h.values; stands = ap (λ o. binding_in o (block.at j).index) (same j _ at) ∙ h.stands; lives = h.lives; value = h.value; short = h.short };
       entered = ap (λ ls. head.level ∷ ls) all.entered;
       framed = ap (λ fs. x.frame ∷ fs) all.framed;
       kinds = kinds_above x xs.activations (omega (arith, served, long)) ∙ ap (λ ks. x.kind ∷ ks) all.kinds;
@@ -214,7 +217,10 @@ left_by s (a ∷ as') xs (x ∷ ys) {top} {outer = outer} {levels = levels} from
             record { values = h.values; stands = ap (λ o. binding_in o (block.at j).index) (stands j _ at') ∙ h.stands; lives = lives j _ at' ∙ h.lives; value = h.value; short = h.short };
         arrays = λ j type b bs at'.
             let h = all.arrays j type b bs at' in
-            record { values = h.values; numeric = h.numeric; stands = ap (λ o. binding_in o (block.at j).index) (stands j _ at') ∙ h.stands; lives = lives j _ at' ∙ h.lives; value = h.value; fits = h.fits };
+            record { values = h.values; numeric = h.numeric; stands = ap (λ o. binding_in o (block.at j).index) (stands j _ at'.0) ∙ h.stands; lives = lives j _ at'.0 ∙ h.lives; value = h.value; fits = h.fits };
+        text_arrays = λ j varying most' b bs at'.
+            let h = all.text_arrays j varying most' b bs at' in
+            record { values = h.values; stands = ap (λ o. binding_in o (block.at j).index) (stands j _ at') ∙ h.stands; lives = lives j _ at' ∙ h.lives; value = h.value; short = h.short };
         entered = left';
         framed = ap behind_first (ap frames_of (sym are) ∙ all.framed) ∙ lists;
         kinds = kinds_behind x ys ∙ ap behind_kind (ap kinds_of (sym are) ∙ all.kinds) ∙ kinds;

@@ -80,6 +80,7 @@ within labels bl =
       leveled = bl.leveled;
       texts = bl.texts;
       arrays = bl.arrays;
+      text_arrays = bl.text_arrays;
       outer = bl.outer;
       enclosing = bl.enclosing;
       seen = bl.seen;

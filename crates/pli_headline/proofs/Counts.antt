@@ -102,6 +102,7 @@ turning bl =
       leveled = bl.leveled;
       texts = bl.texts;
       arrays = bl.arrays;
+      text_arrays = bl.text_arrays;
       outer = bl.outer;
       enclosing = bl.enclosing;
       seen = bl.seen;

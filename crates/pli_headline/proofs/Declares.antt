@@ -216,7 +216,7 @@ declares_from {links} {code} {aims} closed around line turns k c meaning (d ∷ 
     let numbered : Numbered table kind = subst (λ p. Numbered (table_of p) kind) (sym ib.named) (known.numbered e.block index (kind_stands (variables_of_block e.program e.block) index d here)) in
     let size = same_size kind o.element o.is in
     let n1 = with_number_at n count (pos 0) in
-    let same : SameValues types n n1 = λ j kind' at'. (other_number (j == count) (pos 0) (n.numbers j) (not_last count j (place_below types j kind' at')), (refl, refl)) in
+    let same : SameValues types n n1 = λ j kind' at'. (other_number (j == count) (pos 0) (n.numbers j) (not_last count j (place_below types j kind' at')), (refl, (refl, refl))) in
     let zero' : n1.numbers count ≡ pos 0 = ap (λ q. cond q (pos 0) (n.numbers count)) (eq-eqb count count refl) in
     let all1 = all_same n1 same all in
     let at1 : (b : Base) → At b i (Known (ib.ground n1) v h t nothing b) (f b) = λ b.

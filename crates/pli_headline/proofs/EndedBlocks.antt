@@ -85,6 +85,7 @@ none_ended s xs (y ∷ ys) frame level frames behind depths {serials} {block} {t
         numbers = all.numbers;
         texts = all.texts;
         arrays = all.arrays;
+        text_arrays = all.text_arrays;
         entered = all.entered;
         framed = framed;
         kinds = ap kinds_of (sym known) ∙ all.kinds;

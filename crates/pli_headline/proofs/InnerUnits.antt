@@ -32,7 +32,6 @@ use Rattle.pli_headline.proofs.Catching.{within, listed}
 use Rattle.pli_headline.proofs.BeginMeant.{Entering, inner_around, inner_entering}
 use Rattle.pli_headline.proofs.CalledFrames.{Callee, called_block_as}
 use Rattle.pli_headline.proofs.ElementAssignments.{assign_number_part_does, assign_bit_part_does}
-use Rattle.pli_headline.proofs.TextAssignments.{assign_text_does}
 use Rattle.pli_headline.proofs.JumpsOut.{out_does}
 use Rattle.pli_headline.proofs.Stops.{stop_does}
 use Rattle.pli_headline.proofs.Skips.{put_skip_does}
@@ -45,6 +44,7 @@ use Rattle.pli_headline.proofs.UnitRuns.{Raisable, signal_area_does}
 use Rattle.pli_headline.proofs.UnitStanding.{program_around, words_of_unit, Tells}
 use Rattle.pli_headline.proofs.Narrowing.{narrows_self}
 use Rattle.pli_headline.proofs.ProvedStatements.{standing_within, Calls, Signals, body_does}
+use Rattle.pli_headline.proofs.TextElementAssignments.{assign_text_part_does}
 
 -- calls and signals do what they mean, so many blocks deep at most
 abbrev pub Done : Environment → (block : Names) → Types → (all : List (ℕ × Label)) → (procedure bound : ℕ) → Links → List Instr → (may : List ℕ) → Type 1
@@ -64,7 +64,8 @@ simple_does bl links code routines around same can tells has deep space narrow e
     assign_bit_part_does bl links code routines around target x line is.0 is.1.0 (omega (arith, d, room)) (omega (arith, a, room)) is.1.1
 simple_does bl links code routines around same can tells has deep space narrow entering least (Y.Assign target (Y.StoredText x) line) simple is room calls once few jumps low =
     let a = le-max_left (text_words x) (4 + reference_words target) in
-    assign_text_does bl links code routines around target x line is.0 is.1.0 (omega (arith, a, room)) is.1.1
+    let d = le-max_right (text_words x) (4 + reference_words target) in
+    assign_text_part_does bl links code routines around target x line is.0 is.1.0 (omega (arith, a, room)) (omega (arith, d, room)) is.1.1
 simple_does bl links code routines around same can tells has deep space narrow entering least (Y.Assign target source line) simple is room calls once few jumps low = absurd is
 simple_does {e} bl links code routines around same can tells has deep space narrow {more} entering least (Y.CallProcedure (Y.Calling number level Y.NoArgument) line) simple is room calls once few jumps low =
     subst (λ n. Does bl links code around.turns (stmt_code e bl.taken (Y.CallProcedure (Y.Calling number n Y.NoArgument) line)) (M.statement around (Y.CallProcedure (Y.Calling number n Y.NoArgument) line))) (sym is.0)

@@ -27,7 +27,7 @@ use Rattle.pli_headline.proofs.Linking.{times_marked}
 use Rattle.pli_headline.proofs.FirstFrame.{start_of}
 use Rattle.pli_headline.proofs.Marks.{others_code, code_is}
 use Rattle.pli_headline.proofs.MainProcedure.{IsAlone, main_head, main_environment, main_plain, declared_at}
-use Rattle.pli_headline.proofs.Scalars.{by_plain, character, varying, element_numeric}
+use Rattle.pli_headline.proofs.Scalars.{by_plain, character, varying}
 use Rattle.pli_headline.proofs.Variables.{outermost, HasTypes}
 use Rattle.pli_headline.proofs.Gotos.{LabelsStand}
 use Rattle.pli_headline.proofs.ProgramSizes.{frame_filled}
@@ -35,9 +35,9 @@ use Rattle.pli_headline.proofs.SymbolsMarked.{symbols_marked, Marks, both_mark, 
 use Rattle.pli_headline.proofs.InnerLevels.{IsAmong, InOrder, among_all, among_with, in_order, last_is}
 use Rattle.pli_headline.proofs.Stands.{Stand, all_stands, labels_are, ends_apart, own_units, called_units}
 use Rattle.pli_headline.proofs.StatementMarks.{places_of, statements_mark}
-use Rattle.pli_headline.proofs.ArrayElements.{size_constant}
 use Rattle.pli_headline.proofs.ProcedurePlaces.{entry_behind, entry_times, ends_behind, ends_times}
 use Rattle.pli_headline.proofs.ProcedureMarks.{ended_marks, procedure_symbols, procedures_mark, symbol_times, times_are, labels_before, procedure_times, end_times, others_end}
+use Rattle.pli_headline.proofs.ArrayFrames.{held_constant}
 
 -- ---- the procedure
 
@@ -72,7 +72,7 @@ variables_none e line index (d ∷ ds) are =
     by_plain (λ u. Marks (variables_made (outermost e) line index (u ∷ ds)) []) (λ p i. here (plain_variable (Y.FixedLeaf p) i)) (λ i. here (plain_variable Y.BitLeaf i)) (λ n i. here (plain_variable (character n) i)) (λ n i. here (plain_variable (varying n) i))
     (λ type b bs i element are'.
     let u = array_variable type (b ∷ bs) i in
-    subst (λ q. Marks ((if q then constant_made (outermost e) place u else adjustable_made (outermost e) line place u) ++ rest) []) (sym (size_constant type (element_numeric type element) (b ∷ bs) i)) (here u)) d are.0
+    subst (λ q. Marks ((if q then constant_made (outermost e) place u else adjustable_made (outermost e) line place u) ++ rest) []) (sym (held_constant type element (b ∷ bs) i)) (here u)) d are.0
 
 begun_none : (words : ℕ) → Marks (frame_begun words 0 0 true) []
 begun_none words =

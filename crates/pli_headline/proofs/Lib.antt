@@ -76,6 +76,15 @@ pub mod States
 pub mod TextScopes
 pub mod ArrayMeant
 pub mod ArrayScopes
+pub mod TextArraysStay
+pub mod TextArrayMeant
+pub mod TextElements
+pub mod TextArrayScopes
+pub mod TextArrayStates
+pub mod TextArrayGrounds
+pub mod TextArrayInitial
+pub mod TextElementAssignments
+pub mod TextTargets
 pub mod ArraysMade
 pub mod ArrayOrder
 pub mod ArrayElements
@@ -209,6 +218,7 @@ pub mod Whole
 mod Rows
 mod DeclaredRows
 mod CallingRows
+mod TextArrayRows
 pub mod FirstPathDeclared
 pub mod FirstPathNames
 pub mod FirstPathExpressions

@@ -13,7 +13,7 @@ use Rattle.pli_headline.proofs.Bodies.{Ground}
 use Rattle.pli_headline.proofs.Storages.{Serials}
 use Rattle.pli_headline.specs.ProvedSoFar.{Names, Types, text_leaf, IsScalar, alone, IsHeld, AreBounds, Kind}
 use Rattle.pli_headline.proofs.Scalars.{Values, load_kind, store_kind, kind_at, kind_is, place_below, place_taken}
-use Rattle.pli_headline.proofs.VariablePlaces.{frame_size, room_of, number_place, room_before, room_next, room_even, data_fits}
+use Rattle.pli_headline.proofs.VariablePlaces.{frame_size, room_of, number_place, room_before, room_next, room_even, data_fits, scalar_data_size, data_some, word_each}
 use Rattle.pli_headline.proofs.Reaching.{Reaches}
 use Rattle.pli_headline.proofs.Variables.{data_place, HasTypes, level_of}
 use Rattle.pli_headline.proofs.States.{with_number_at, with_text_at}
@@ -30,12 +30,17 @@ use Rattle.pli_typing.specs.Signatures.{Bounds, element_count}
 use Rattle.pli_headline.proofs.ArrayScopes.{IsArrayAt, ArraysOn}
 use Rattle.pli_headline.proofs.ArrayGrounds.{array_in, main_array}
 use Rattle.pli_coding.specs.Frames.{frame_end}
+use Rattle.std.proofs.Math.Nat.{mul-le-mul_left, mul_comm}
+use Rattle.pli_headline.proofs.TextArraysStay.{text_stride}
+use Rattle.pli_headline.proofs.TextArrayScopes.{IsTextArrayAt, TextArraysOn}
+use Rattle.pli_headline.proofs.TextArrayGrounds.{TextArrayFits, main_text_array}
 
 -- the texts of a frame are short, and have room there, and so have arrays
 pub record VariablesFit (f : Frame) (types : Types) : Type 0 where
   pub bounds : (j : ℕ) (type : Y.LeafType) (b : Bounds) (bs : List Bounds) → IsArrayAt types j type b bs → AreBounds (b ∷ bs)
   pub size : (j : ℕ) (type : Y.LeafType) (b : Bounds) (bs : List Bounds) → IsArrayAt types j type b bs → 16 + 4 * element_count (b ∷ bs) ≤ f.sizes.of j
   pub few : (j : ℕ) (type : Y.LeafType) (b : Bounds) (bs : List Bounds) → IsArrayAt types j type b bs → j < f.count → element_count (b ∷ bs) ≤ 2 ^ 20
+  pub text_arrays : (j : ℕ) (varying : Bool) (most : ℕ) (b : Bounds) (bs : List Bounds) → IsTextArrayAt types j varying most b bs → j < f.count → TextArrayFits f j varying most (b ∷ bs)
   pub short : (j : ℕ) (varying : Bool) (most : ℕ) → IsTextAt types j varying most → most ≤ 1024
   pub room : (j : ℕ) (varying : Bool) (most : ℕ) → IsTextAt types j varying most → 16 + text_bytes varying most ≤ f.sizes.of j
 
@@ -43,20 +48,55 @@ pub text_few : (varying : Bool) (most : ℕ) → IsScalar (text_leaf varying mos
 text_few false most is = is.1
 text_few true most is = is.1
 
+text_some : (varying : Bool) (most : ℕ) → IsScalar (text_leaf varying most) → 1 ≤ most
+text_some false most is = is.0
+text_some true most is = is.0
+
+text_data : (varying : Bool) (most : ℕ) → scalar_data_size (text_leaf varying most) ≡ text_stride varying most
+text_data false most = refl
+text_data true most = refl
+
+count_few : (count stride size : ℕ) → 0 < stride → count * stride ≤ size → count ≤ size
+count_few count stride size some few =
+    let least : count * 1 ≤ count * stride = mul-le-mul_left count some in
+    omega (arith, few, least)
+
+-- an array of texts that has the bytes of its kind
+array_fits : (f : Frame) (types : Types) (j : ℕ) (varying : Bool) (most : ℕ) (b : Bounds) (bs : List Bounds) → f.sizes.of j ≡ frame_size (kind_at types j) → room_of f.sizes f.count ≤ 2 ^ 20 → IsTextArrayAt types j varying most b bs → IsHeld (text_leaf varying most) (b ∷ bs) → j < f.count → TextArrayFits f j varying most (b ∷ bs)
+array_fits f types j varying most b bs sized small' at held among =
+    let kind : Kind = record { type = text_leaf varying most; bounds = b ∷ bs } in
+    let count = element_count (b ∷ bs) in
+    let stride = text_stride varying most in
+    let laid : scalar_data_size (text_leaf varying most) * count ≡ count * stride = ap (λ u. u * count) (text_data varying most) ∙ mul_comm stride count in
+    let fits = data_fits kind held in
+    let is : f.sizes.of j ≡ frame_size kind = sized ∙ ap frame_size (kind_is types j at) in
+    let size : 16 + count * stride ≤ f.sizes.of j = omega (arith, fits, laid, is) in
+    let next' = room_next f.sizes j f.count among in
+    let some : 0 < stride = subst (λ u. 0 < u) (text_data varying most) (data_some (text_leaf varying most) held.0) in
+    record {
+      bounds = held.1.0;
+      size = size;
+      few = count_few count stride (2 ^ 20) some (omega (arith, size, next', small'));
+      some = text_some varying most held.0;
+      short = text_few varying most held.0;
+    }
+
 text_fits : (varying : Bool) (most : ℕ) → IsScalar (text_leaf varying most) → 16 + text_bytes varying most ≤ frame_size (alone (text_leaf varying most))
 text_fits varying most is =
-    subst (λ c. 16 + size_in c ≤ frame_size (alone (text_leaf varying most))) (content_text varying most (pos 0) []) (content_fits (alone (text_leaf varying most)) (pos 0) [] (λ p. pos 0) is)
+    subst (λ c. 16 + size_in c ≤ frame_size (alone (text_leaf varying most))) (content_text varying most (pos 0) []) (content_fits (alone (text_leaf varying most)) (pos 0) [] (λ p. pos 0) (λ p. []) is)
 
 -- where each variable has the bytes of its kind
 pub types_fit : (f : Frame) (types : Types) → ((j : ℕ) → f.sizes.of j ≡ frame_size (kind_at types j)) → room_of f.sizes f.count ≤ 2 ^ 20 → ((j : ℕ) (kind : Kind) → slice_get types j ≡ Some kind → IsHeld kind.type kind.bounds) → VariablesFit f types
 types_fit f types sized small' are =
     let size : (j : ℕ) (type : Y.LeafType) (b : Bounds) (bs : List Bounds) → IsArrayAt types j type b bs → 16 + 4 * element_count (b ∷ bs) ≤ f.sizes.of j = λ j type b bs at.
     let kind : Kind = record { type = type; bounds = b ∷ bs } in
-    subst (λ n. 16 + 4 * element_count (b ∷ bs) ≤ n) (sym (sized j ∙ ap frame_size (kind_is types j at))) (data_fits kind (are j kind at)) in
+    let fits = subst (λ u. 16 + u * element_count (b ∷ bs) ≤ frame_size kind) (word_each type at.1) (data_fits kind (are j kind at.0)) in
+    subst (λ n. 16 + 4 * element_count (b ∷ bs) ≤ n) (sym (sized j ∙ ap frame_size (kind_is types j at.0))) fits in
     record {
-      bounds = λ j type b bs at. (are j (record { type = type; bounds = b ∷ bs }) at).1.0;
+      bounds = λ j type b bs at. (are j (record { type = type; bounds = b ∷ bs }) at.0).1.0;
       size = size;
       few = λ j type b bs at below. let n = room_next f.sizes j f.count below in let s = size j type b bs at in omega (arith, n, s, small');
+      text_arrays = λ j varying most b bs at among. array_fits f types j varying most b bs (sized j) small' at (are j (record { type = text_leaf varying most; bounds = b ∷ bs }) at) among;
       short = λ j varying most at. text_few varying most (are j (alone (text_leaf varying most)) at);
       room = λ j varying most at. subst (λ n. 16 + text_bytes varying most ≤ n) (sym (sized j ∙ ap frame_size (kind_is types j at))) (text_fits varying most (are j (alone (text_leaf varying most)) at));
     }
@@ -65,7 +105,7 @@ types_fit f types sized small' are =
 pub text_stands : (types : Types) (n : Values) (m : List ℕ) (p j : ℕ) (varying : Bool) (most : ℕ) → IsTextAt types j varying most → There m p (contents (kind_at types) n j) → TextThere varying most p m (n.texts j)
 text_stands types n m p j varying most at o =
     subst (There m p) (content_text varying most (n.numbers j) (n.texts j))
-    (subst (λ u. There m p (content_for u (n.numbers j) (n.texts j) (n.arrays j))) (kind_is types j at) o)
+    (subst (λ u. There m p (content_for u (n.numbers j) (n.texts j) (n.arrays j) (n.text_arrays j))) (kind_is types j at) o)
 
 abbrev main_texts : (f : Frame) (first : List ℕ) (e : Environment) (block : Names) (types : Types) → ((j : ℕ) (kind : Kind) → slice_get types j ≡ Some kind → j < f.count) → ((j : ℕ) → j < f.count → data_place e block j ≡ number_place f.sizes j) → VariablesFit f types → TextsStand e block types (λ j. f.at) (f.at + 144 + room_of f.sizes f.count) (λ n. ground_of f first (contents (kind_at types) n))
 main_texts f first e block types inside placed texts =
@@ -109,10 +149,16 @@ main_stack f first e block types inside placed =
 abbrev main_arrays : (f : Frame) (first : List ℕ) (e : Environment) (block : Names) (types : Types) → ((j : ℕ) (kind : Kind) → slice_get types j ≡ Some kind → j < f.count) → HasTypes e block types → ((j : ℕ) → j < f.count → data_place e block j ≡ number_place f.sizes j) → VariablesFit f types → ArraysOn e block types (λ j. f.at) (f.at + 144 + room_of f.sizes f.count) (λ n. ground_of f first (contents (kind_at types) n))
 main_arrays f first e block types inside declared placed fit j type b bs at =
     let kind : Kind = record { type = type; bounds = b ∷ bs } in
-    let here = inside j kind at in
+    let here = inside j kind at.0 in
     main_array f first e block j type (b ∷ bs) (contents (kind_at types))
-    (array_in f (kind_at types) j type b bs here (kind_is types j at) (fit.size j type b bs at) (fit.few j type b bs at here))
-    (declared j kind at) (fit.bounds j type b bs at) (placed j here)
+    (array_in f (kind_at types) j type b bs here at.1 (kind_is types j at.0) (fit.size j type b bs at) (fit.few j type b bs at here))
+    (declared j kind at.0) (fit.bounds j type b bs at) (placed j here)
+
+abbrev main_text_arrays : (f : Frame) (first : List ℕ) (e : Environment) (block : Names) (types : Types) → ((j : ℕ) (kind : Kind) → slice_get types j ≡ Some kind → j < f.count) → HasTypes e block types → ((j : ℕ) → j < f.count → data_place e block j ≡ number_place f.sizes j) → VariablesFit f types → TextArraysOn e block types (λ j. f.at) (f.at + 144 + room_of f.sizes f.count) (λ n. ground_of f first (contents (kind_at types) n))
+main_text_arrays f first e block types inside declared placed fit j varying most b bs at =
+    let kind : Kind = record { type = text_leaf varying most; bounds = b ∷ bs } in
+    let here = inside j kind at in
+    main_text_array f first e block (kind_at types) j varying most b bs here (kind_is types j at) (fit.text_arrays j varying most b bs at here) (declared j kind at) (placed j here)
 
 -- the main procedure's block, where its variables stand one behind the other
 -- each variable has the serial number behind its place
@@ -123,7 +169,10 @@ pub contents_same : (types : Types) (n n' : Values) (j : ℕ) → SameValues typ
 contents_same types n n' j same at =
     let o = same j at.0 at.1 in
     let k = kind_at types j in
-    ap (λ z. content_for k z (n.texts j) (n.arrays j)) o.0 ∙ ap (λ text. content_for k (n'.numbers j) text (n.arrays j)) o.1.0 ∙ ap (λ a. content_for k (n'.numbers j) (n'.texts j) a) o.1.1
+    ap (λ z. content_for k z (n.texts j) (n.arrays j) (n.text_arrays j)) o.0
+    ∙ ap (λ text. content_for k (n'.numbers j) text (n.arrays j) (n.text_arrays j)) o.1.0
+    ∙ ap (λ a. content_for k (n'.numbers j) (n'.texts j) a (n.text_arrays j)) o.1.1.0
+    ∙ ap (λ a. content_for k (n'.numbers j) (n'.texts j) (n'.arrays j) a) o.1.1.1
 
 pub either_same : (q : Bool) (x : ℕ) → cond q x x ≡ x
 either_same true x = refl
@@ -189,6 +238,7 @@ main_block f first e block types known named outer outermost count declared plac
       leveled = λ j at. either_same (level_of block j == e.level) f.at;
       texts = main_texts f first e block types inside placed texts;
       arrays = main_arrays f first e block types inside declared placed texts;
+      text_arrays = main_text_arrays f first e block types inside declared placed texts;
       outer = [];
       enclosing = tt;
       seen = tt;

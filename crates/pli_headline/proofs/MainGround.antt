@@ -102,22 +102,23 @@ width_few Store.Word = omega arith
 
 -- what stands where the variables hold these numbers and texts
 abbrev pub contents : (ℕ → Kind) → Values → ℕ → Content
-contents kind held j = content_for (kind j) (held.numbers j) (held.texts j) (held.arrays j)
+contents kind held j =
+    content_for (kind j) (held.numbers j) (held.texts j) (held.arrays j) (held.text_arrays j)
 
-number_put : (s : Sizes) (q : Bool) (kind : ℕ → Kind) (type : Y.LeafType) (m : List ℕ) (held : Values) (at i j : ℕ) (z : ℤ) → (i == j) ≡ q → kind j ≡ alone type → length m ≡ memory_size → Fits type (held.numbers j) → Fits type z → at + number_place s j + 4 ≤ memory_size → 16 + size_in (contents kind held i) ≤ s.of i → There m (at + number_place s i) (contents kind held i) → There (store (store_width (store_kind type)) m (at + number_place s j) (word z)) (at + number_place s i) (content_for (kind i) (cond q z (held.numbers i)) (held.texts i) (held.arrays i))
+number_put : (s : Sizes) (q : Bool) (kind : ℕ → Kind) (type : Y.LeafType) (m : List ℕ) (held : Values) (at i j : ℕ) (z : ℤ) → (i == j) ≡ q → kind j ≡ alone type → length m ≡ memory_size → Fits type (held.numbers j) → Fits type z → at + number_place s j + 4 ≤ memory_size → 16 + size_in (contents kind held i) ≤ s.of i → There m (at + number_place s i) (contents kind held i) → There (store (store_width (store_kind type)) m (at + number_place s j) (word z)) (at + number_place s i) (content_for (kind i) (cond q z (held.numbers i)) (held.texts i) (held.arrays i) (held.text_arrays i))
 number_put s true kind type m held at i j z e is len old fits h size o =
     let same : i ≡ j = eqb-true i j e in
     let p = at + number_place s j in
     let wide = fits_wide type z fits in
-    let whole : There m p (content_for (kind j) (held.numbers j) (held.texts j) (held.arrays j)) = subst (λ u. There m (at + number_place s u) (contents kind held u)) same o in
+    let whole : There m p (content_for (kind j) (held.numbers j) (held.texts j) (held.arrays j) (held.text_arrays j)) = subst (λ u. There m (at + number_place s u) (contents kind held u)) same o in
     let mine : There m p (Counted (content type (held.numbers j))) =
-    subst (There m p) (content_numeric type (held.numbers j) (held.texts j) old) (subst (λ k. There m p (content_for k (held.numbers j) (held.texts j) (held.arrays j))) is whole) in
+    subst (There m p) (content_numeric type (held.numbers j) (held.texts j) old) (subst (λ k. There m p (content_for k (held.numbers j) (held.texts j) (held.arrays j) (held.text_arrays j))) is whole) in
     let here : Cell m p (kept_by (store_kind type) (word (held.numbers j))) = subst (Cell m p) (content_word type (held.numbers j) (fits_wide type (held.numbers j) old)) mine in
     let m' = store (store_width (store_kind type)) m p (word z) in
     let there : Cell m' p (word (content type z)) =
     subst (Cell m' p) (sym (content_word type z wide)) (cell_stored (store_kind type) m p (word (held.numbers j)) (word z) (word_small z wide) (omega (arith, len, h)) here) in
-    subst (λ u. There m' (at + number_place s u) (content_for (kind u) z (held.texts u) (held.arrays u))) (sym same)
-    (subst (λ k. There m' p (content_for k z (held.texts j) (held.arrays j))) (sym is)
+    subst (λ u. There m' (at + number_place s u) (content_for (kind u) z (held.texts u) (held.arrays u) (held.text_arrays u))) (sym same)
+    (subst (λ k. There m' p (content_for k z (held.texts j) (held.arrays j) (held.text_arrays j))) (sym is)
     (subst (There m' p) (sym (content_numeric type z (held.texts j) fits)) there))
 number_put s false kind type m held at i j z e is len old fits h size o =
     there_other (store_width (store_kind type)) m (at + number_place s j) (word z) (at + number_place s i) (contents kind held i) (apart_places s (store_width (store_kind type)) (size_in (contents kind held i)) at i j (width_few (store_kind type)) size e) o
@@ -134,7 +135,7 @@ main_writes f first kind held j type z below is old fits t b m len o =
       below = load-store_other n 4 m p (word z) (f.at + 4) (inl (omega arith)) ∙ o.below;
       own = load-store_other n 4 m p (word z) (f.at + 36) (inl (omega arith)) ∙ o.own;
       variables = λ i h. number_put f.sizes (i == j) kind type m held f.at i j z refl is len old fits (let r = room_before f.sizes j f.count below in omega (arith, inside, r)) (o.fits i h) (o.variables i h);
-      fits = λ i h. subst (λ u. 16 + u ≤ f.sizes.of i) (sizes_same (kind i) (held.numbers i) ((with_number_at held j z).numbers i) (held.texts i) (held.texts i) (held.arrays i) (held.arrays i)) (o.fits i h);
+      fits = λ i h. subst (λ u. 16 + u ≤ f.sizes.of i) (sizes_same (kind i) (held.numbers i) ((with_number_at held j z).numbers i) (held.texts i) (held.texts i) (held.arrays i) (held.arrays i) (held.text_arrays i) (held.text_arrays i)) (o.fits i h);
       temporaries = λ i h. load-store_other n 4 m p (word z) (f.at - 4 * suc i) (inl (omega (arith, above, h))) ∙ o.temporaries i h;
     }
 
@@ -183,7 +184,7 @@ pub reads_by : (f : Frame) (first : List ℕ) (kind : ℕ → Kind) (held : Valu
 reads_by f first kind held j type below e fits t b m o =
     let p = f.at + number_place f.sizes j in
     let found : There m p (Counted (content type (held.numbers j))) =
-    subst (There m p) (content_numeric type (held.numbers j) (held.texts j) fits) (subst (λ u. There m p (content_for u (held.numbers j) (held.texts j) (held.arrays j))) e (o.variables j below)) in
+    subst (There m p) (content_numeric type (held.numbers j) (held.texts j) fits) (subst (λ u. There m p (content_for u (held.numbers j) (held.texts j) (held.arrays j) (held.text_arrays j))) e (o.variables j below)) in
     cell_found type (held.numbers j) m (f.at + number_place f.sizes j) fits (subst (Cell m (f.at + number_place f.sizes j)) (content_word type (held.numbers j) (fits_wide type (held.numbers j) fits)) found)
 
 -- what lies above the frame may change

@@ -48,7 +48,7 @@ use Rattle.pli_headline.proofs.MainProcedure.{main_head, main_procedure, IsAlone
 use Rattle.pli_headline.proofs.Holdings.{Counted}
 use Rattle.pli_headline.proofs.TextStates.{KeepsText}
 use Rattle.pli_headline.proofs.VariablePlaces.{room_of, number_place, room_before}
-use Rattle.pli_headline.proofs.Scalars.{Declared, begin_text, Typed, kind_is, place_below, IsNumeric, scalar_limited}
+use Rattle.pli_headline.proofs.Scalars.{Declared, begin_text, Typed, kind_is, place_below, IsNumeric, scalar_limited, scalar_element, begin_texts}
 use Rattle.pli_headline.proofs.PlainNumbers.{scalars_of, are_of, length_types, kind_held}
 use Rattle.pli_headline.proofs.VariableServed.{Ready}
 use Rattle.pli_headline.proofs.States.{Holds}
@@ -56,7 +56,7 @@ use Rattle.pli_headline.proofs.Marks.{Placed}
 use Rattle.pli_headline.proofs.FirstFrame.{start_resume, start_family, start_ground, no_texts, finish_linked, zeros, started}
 use Rattle.pli_headline.proofs.MainFrame.{main_frame, first_words}
 use Rattle.pli_headline.proofs.Prologue.{begun}
-use Rattle.pli_headline.proofs.MainStates.{begin_numbers, begin_values, begin_contents, main_state, scalars_hold, texts_hold, main_stored, main_services, main_nested, arrays_hold}
+use Rattle.pli_headline.proofs.MainStates.{begin_numbers, begin_values, begin_contents, main_state, scalars_hold, texts_hold, main_stored, main_services, main_nested, arrays_hold, text_arrays_hold}
 use Rattle.pli_headline.proofs.VariablesMade.{variables_piece}
 use Rattle.pli_headline.proofs.Leaving.{leaving_piece}
 use Rattle.pli_headline.proofs.MainFlow.{inside, inside_closed, comes_left}
@@ -66,6 +66,8 @@ use Rattle.pli_headline.proofs.ArrayMeant.{HoldsArray}
 use Rattle.pli_headline.proofs.ArrayScopes.{IsArrayAt}
 use Rattle.pli_typing.specs.Signatures.{Bounds}
 use Rattle.pli_headline.proofs.ArrayInitial.{numbers_of}
+use Rattle.pli_headline.proofs.TextArrayMeant.{HoldsTexts}
+use Rattle.pli_headline.proofs.TextArrayScopes.{IsTextArrayAt}
 
 -- ---- in the meaning
 
@@ -232,11 +234,23 @@ main_arrays_hold : (links : Links) (code : List Instr) (first : List ℕ) (progr
 main_arrays_hold links code first program block input all ready j type b bs at =
     let kind = main_kind program block in
     let is : Kind = record { type = type; bounds = b ∷ bs } in
+    let same = kind_is (main_types program block) j at.0 in
+    let inside = main_inside program block j is at.0 in
+    let held = kind_held (variables_of_block program block) j is (main_plain program block all) at.0 in
+    let begins = subst (λ (k : Kind). AreConstants k.type (kind j).initial) same (ready j inside).begins in
+    arrays_hold kind input program block (main_count program block) j type (b ∷ bs) inside same (scalar_element type held.0 at.1) begins
+
+main_text_arrays_hold : (links : Links) (code : List Instr) (first : List ℕ) (program : Y.Program) (block : ℕ) (input : List ℕ) → AllPlain program.variables → AllReady links code first program block → (j : ℕ) (varying : Bool) (most : ℕ) (b : Bounds) (bs : List Bounds) → IsTextArrayAt (main_types program block) j varying most b bs → HoldsTexts (main_state (main_kind program block) input (main_count program block)) (main_names program block) j (suc j) varying most (b ∷ bs) (begin_texts (main_kind program block j).kind.type (main_kind program block j).initial)
+main_text_arrays_hold links code first program block input all ready j varying most b bs at =
+    let kind = main_kind program block in
+    let type = text_leaf varying most in
+    let is : Kind = record { type = type; bounds = b ∷ bs } in
     let same = kind_is (main_types program block) j at in
     let inside = main_inside program block j is at in
     let held = kind_held (variables_of_block program block) j is (main_plain program block all) at in
     let begins = subst (λ (k : Kind). AreConstants k.type (kind j).initial) same (ready j inside).begins in
-    arrays_hold kind input program block (main_count program block) j type (b ∷ bs) inside same held.0 begins
+    subst (λ (k : Kind). HoldsTexts (main_state kind input (main_count program block)) (main_names program block) j (suc j) varying most (b ∷ bs) (begin_texts k.type (kind j).initial)) (sym same)
+    (text_arrays_hold kind input program block (main_count program block) j varying most (b ∷ bs) inside same (text_few varying most held.0) begins)
 
 main_hold : (known : ℕ → Y.Block → ℕ → Type 0) (links : Links) (code : List Instr) (first : List ℕ) (program : Y.Program) (block : ℕ) (input : List ℕ) (frame at line : ℕ) → at ≡ frame → AllPlain program.variables → AllReady links code first program block → AllHold (lone frame known) main_serials (storage (main_services (table_of program) (main_kind program block) input at line (main_count program block))) (0 ∷ []) (main_state (main_kind program block) input (main_count program block)) (main_names program block) (main_types program block) (begin_values (main_kind program block))
 main_hold known links code first program block input frame at line same all ready =
@@ -244,6 +258,7 @@ main_hold known links code first program block input frame at line same all read
       numbers = λ j b numeric. main_holds links code first program block input all ready j b numeric;
       texts = λ j varying most at. main_texts_hold links code first program block input all ready j varying most at;
       arrays = λ j type b bs at. main_arrays_hold links code first program block input all ready j type b bs at;
+      text_arrays = λ j varying most b bs at. main_text_arrays_hold links code first program block input all ready j varying most b bs at;
       entered = refl;
       framed = ap (λ u. u ∷ []) same;
       kinds = refl;

@@ -34,6 +34,7 @@ use Rattle.pli_headline.proofs.MoreNames.{more_names, more_serials, spot_of, no_
 use Rattle.pli_headline.proofs.Asides.{Aside, StandAside, IsFresh, asides_by, asides_other, asides_fewer}
 use Rattle.pli_headline.proofs.Statements.{AllHold, SameValues, Restricts, restricts_self}
 use Rattle.pli_headline.proofs.Entered.{Frames, UnitsKnown}
+use Rattle.pli_headline.proofs.TextArrayMeant.{HoldsTexts}
 
 -- ---- in the meaning
 
@@ -137,6 +138,16 @@ array_moved {block' = block'} {j} {serial} {serial'} {type} {bs} spot same stand
       lives = lives ∙ h.lives;
       value = h.value;
       fits = h.fits;
+    }
+
+texts_moved : {s s' : State} {block block' : Names} {j serial serial' : ℕ} {varying : Bool} {most : ℕ} {bs : List Bounds} {texts : ℕ → List ℕ} → block'.at j ≡ block.at j → serial' ≡ serial → standing_for s' (own block' j) ≡ standing_for s (own block j) → generation_of (living_of s'.living serial') ≡ generation_of (living_of s.living serial) → HoldsTexts s block j serial varying most bs texts → HoldsTexts s' block' j serial' varying most bs texts
+texts_moved {block' = block'} {j} {serial} {serial'} {varying} {most} {bs} spot same stands lives h =
+    record {
+      values = h.values;
+      stands = stands ∙ h.stands ∙ ap (λ (u : Spot). Some (array_binding (text_leaf varying most) bs u.index serial)) (sym spot) ∙ ap (λ n. Some (array_binding (text_leaf varying most) bs (block'.at j).index n)) (sym same);
+      lives = lives ∙ h.lives;
+      value = h.value;
+      short = h.short;
     }
 
 -- ---- with one more
@@ -306,8 +317,12 @@ more_all {frames = frames} {serials = serials} {xs} {levels} {s} {block} {types}
           (λ e'. absurd (no_text varying most (subst IsElementType (ap (λ (q : Kind). q.type) e') element))) j (alone (text_leaf varying most)) at' refl;
       arrays = λ j type c cs at'.
           by_last types k (λ i kind. kind ≡ record { type = type; bounds = c ∷ cs } → HoldsArray s' names i (o.of i) type (c ∷ cs) (n.arrays i))
-          (λ i kind below at'' e'. array_moved (spot i below) (same i below) (stands i kind below at'') (lives i kind below at'') (all.arrays i type c cs (at'' ∙ ap (λ q. Some q) e')))
-          (λ e'. let no : [] ≡ c ∷ cs = sym (ap (λ (q : Kind). q.bounds) is) ∙ ap (λ (q : Kind). q.bounds) e' in absurd (cc no)) j (record { type = type; bounds = c ∷ cs }) at' refl;
+          (λ i kind below at'' e'. array_moved (spot i below) (same i below) (stands i kind below at'') (lives i kind below at'') (all.arrays i type c cs (at'' ∙ ap (λ q. Some q) e', at'.1)))
+          (λ e'. let no : [] ≡ c ∷ cs = sym (ap (λ (q : Kind). q.bounds) is) ∙ ap (λ (q : Kind). q.bounds) e' in absurd (cc no)) j (record { type = type; bounds = c ∷ cs }) at'.0 refl;
+      text_arrays = λ j varying most c cs at'.
+          by_last types k (λ i kind. kind ≡ record { type = text_leaf varying most; bounds = c ∷ cs } → HoldsTexts s' names i (o.of i) varying most (c ∷ cs) (n.text_arrays i))
+          (λ i kind below at'' e'. texts_moved (spot i below) (same i below) (stands i kind below at'') (lives i kind below at'') (all.text_arrays i varying most c cs (at'' ∙ ap (λ q. Some q) e')))
+          (λ e'. let no : [] ≡ c ∷ cs = sym (ap (λ (q : Kind). q.bounds) is) ∙ ap (λ (q : Kind). q.bounds) e' in absurd (cc no)) j (record { type = text_leaf varying most; bounds = c ∷ cs }) at' refl;
       entered = levels_same s.activations b ∙ all.entered;
       framed = all.framed;
       kinds = all.kinds;
@@ -327,7 +342,8 @@ restricts_all {frames = frames} {serials} {serials'} {xs} {levels} {s} {block} {
     record {
       numbers = λ j t numeric. holds_moved (r.spots j t.1) (r.of j t.1) (stands j _ t.1) (lives j _ t.1) (all.numbers j (t.0, r.among j t.1) numeric);
       texts = λ j varying most at. keeps_moved (r.spots j at) (r.of j at) (stands j _ at) (lives j _ at) (all.texts j varying most (r.among j at));
-      arrays = λ j type c cs at. array_moved (r.spots j at) (r.of j at) (stands j _ at) (lives j _ at) (all.arrays j type c cs (r.among j at));
+      arrays = λ j type c cs at. array_moved (r.spots j at.0) (r.of j at.0) (stands j _ at.0) (lives j _ at.0) (all.arrays j type c cs (r.among j at.0, at.1));
+      text_arrays = λ j varying most c cs at. texts_moved (r.spots j at) (r.of j at) (stands j _ at) (lives j _ at) (all.text_arrays j varying most c cs (r.among j at));
       entered = all.entered;
       framed = all.framed;
       kinds = all.kinds;
@@ -367,7 +383,8 @@ all_same {serials = serials} {s = s} {block = block} n' same all =
     record {
       numbers = λ j t numeric. subst (λ z. Holds s block j (serials.of j) t.0 z) (same j _ t.1).0 (all.numbers j t numeric);
       texts = λ j varying most at. subst (λ z. KeepsText s block j (serials.of j) varying most z) (same j _ at).1.0 (all.texts j varying most at);
-      arrays = λ j type b bs at. subst (λ z. HoldsArray s block j (serials.of j) type (b ∷ bs) z) (same j _ at).1.1 (all.arrays j type b bs at);
+      arrays = λ j type b bs at. subst (λ z. HoldsArray s block j (serials.of j) type (b ∷ bs) z) (same j _ at.0).1.1.0 (all.arrays j type b bs at);
+      text_arrays = λ j varying most b bs at. subst (λ z. HoldsTexts s block j (serials.of j) varying most (b ∷ bs) z) (same j _ at).1.1.1 (all.text_arrays j varying most b bs at);
       entered = all.entered;
       framed = all.framed;
       kinds = all.kinds;

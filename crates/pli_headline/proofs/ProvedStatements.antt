@@ -21,7 +21,6 @@ use Rattle.pli_coding.specs.Linking.{Links}
 use Rattle.pli_headline.specs.ProvedSoFar.{Names, names_in, types_in, IsShallow, AreDeclaring, bytes_in, inner_bytes, Types, OuterBlock, main_labels, main_outer, IsProvedStatement, AreProvedStatements, JumpsAround, AllJumpAround, DeclaresScalars, DeclareScalars, is_number, CallsAmong, AllCallAmong}
 use Rattle.pli_meaning.specs.DeclaredShapes.{variables_of_block}
 use Rattle.pli_headline.proofs.Statements.{owner_level, IsOwned, known_in, Standing, Block, Does, EachDoes, null_does, IsEndMarkedOnce}
-use Rattle.pli_headline.proofs.TextAssignments.{assign_text_does}
 use Rattle.pli_headline.proofs.Ifs.{if_does, if_else_does}
 use Rattle.pli_headline.proofs.Catching.{within, listed}
 use Rattle.pli_headline.proofs.InnerLevels.{IsAmong, among_front, among_back}
@@ -57,6 +56,7 @@ use Rattle.pli_headline.proofs.Getting.{get_does, get_skip_does}
 use Rattle.pli_headline.proofs.ElementAssignments.{assign_number_part_does, assign_bit_part_does}
 use Rattle.pli_headline.proofs.CountStarts.{counted_does}
 use Rattle.pli_coding.specs.Streams.{value_words}
+use Rattle.pli_headline.proofs.TextElementAssignments.{assign_text_part_does}
 
 -- constant bytes stand in a block inside it
 standing_inner : {e : Environment} {block : Names} {types : Types} {bl : Block e block types} {links : Links} {code : List Instr} (inner : Inner bl) (t0 : ℕ → ℕ) (number level : ℕ) (next : level ≡ suc e.level) (s : Standing bl links code) → (n : Values) → ConstantsStand links code ((inner_block bl inner t0 number level next s.filled).ground n)
@@ -221,7 +221,8 @@ mutual
       assign_bit_part_does bl links code routines around target x line is.0 is.1.0 (omega (arith, d, room)) (omega (arith, a, room)) is.1.1
   statement_does bl links code routines around same named (Y.Assign target (Y.StoredText x) line) is jumps room space bare entering least known calls ways =
       let a = le-max_left (text_words x) (4 + reference_words target) in
-      assign_text_does bl links code routines around target x line is.0 is.1.0 (omega (arith, a, room)) is.1.1
+      let d = le-max_right (text_words x) (4 + reference_words target) in
+      assign_text_part_does bl links code routines around target x line is.0 is.1.0 (omega (arith, a, room)) (omega (arith, d, room)) is.1.1
   statement_does bl links code routines around same named (Y.If condition unit line) is jumps room space bare entering least known calls ways =
       let a = le-max_left (bit_words condition) (stmt_words unit) in
       let d = le-max_right (bit_words condition) (stmt_words unit) in
@@ -277,10 +278,11 @@ mutual
       let a = le-max_left (assigned_words target (Y.StoredText x)) most in
       let d = le-max_right (assigned_words target (Y.StoredText x)) most in
       let a1 = le-max_left (text_words x) (4 + reference_words target) in
+      let a2 = le-max_right (text_words x) (4 + reference_words target) in
       let d1 = le-max_left (bit_if condition) (stmts_words body) in
       let d2 = le-max_right (bit_if condition) (stmts_words body) in
       once_does bl links code routines around target (Y.StoredText x) condition body line is.1.0 (omega (arith, d, d1, room)) is.1.1.1
-      (assign_text_does bl links code routines around target x line is.0.0 is.0.1 (omega (arith, a, a1, room)) is.1.1.1)
+      (assign_text_part_does bl links code routines around target x line is.0.0 is.0.1 (omega (arith, a, a1, room)) (omega (arith, a, a2, room)) is.1.1.1)
       (listed bl around body (each_does (within (labels_in body) bl) links code (standing_within (labels_in body) routines) around same named body is.1.1.0 jumps (omega (arith, d, d2, room)) space bare entering least known calls (ways_within (labels_in body) ways)))
   statement_does bl links code routines around same named (Y.DoCount (Y.NumberCounter precision target) start limit step condition body line) is jumps room space bare entering least known calls ways =
       let first = 3 + max (value_words start) (max (number_if limit) (number_words step)) in

@@ -31,7 +31,7 @@ use Rattle.pli_coding.specs.SignatureTable.{table_of}
 use Rattle.pli_meaning.specs.DeclaredShapes.{variables_of_block}
 use Rattle.pli_headline.specs.Headline.{parts}
 use Rattle.pli_headline.proofs.PlainNumbers.{Numbered}
-use Rattle.pli_headline.specs.ProvedSoFar.{Names, Kind, Types, OuterBlock, IsOwn, IsProvedNumber, IsProvedBit, alone, types_of}
+use Rattle.pli_headline.specs.ProvedSoFar.{Names, Kind, Types, OuterBlock, IsOwn, IsProvedNumber, IsProvedBit, alone, types_of, text_leaf}
 use Rattle.image_runs.specs.Runs.{Whole}
 use Rattle.pli_headline.proofs.Storages.{storage, Storage, Serials, Stored, stored_changed}
 use Rattle.pli_headline.proofs.Engine.{Base, address, most_code}
@@ -63,6 +63,8 @@ use Rattle.pli_typing.specs.Signatures.{Bounds}
 use Rattle.pli_headline.proofs.ArrayMeant.{HoldsArray}
 use Rattle.pli_headline.proofs.ArrayScopes.{IsArrayAt, ArraysOn, array_scope}
 use Rattle.pli_headline.proofs.ArrayStates.{array_apart, arrays_beside}
+use Rattle.pli_headline.proofs.TextArrayMeant.{HoldsTexts, texts_aside}
+use Rattle.pli_headline.proofs.TextArrayScopes.{IsTextArrayAt, TextArraysOn, text_array_scope}
 
 -- ---- a block
 
@@ -86,7 +88,7 @@ owned_of owner level next (inr owned) = owned
 -- these variables hold the same
 abbrev pub SameValues : Types → Values → Values → Type 0
 SameValues types n n' =
-    (j : ℕ) (kind : Kind) → slice_get types j ≡ Some kind → (n.numbers j ≡ n'.numbers j) × ((n.texts j ≡ n'.texts j) × (n.arrays j ≡ n'.arrays j))
+    (j : ℕ) (kind : Kind) → slice_get types j ≡ Some kind → (n.numbers j ≡ n'.numbers j) × ((n.texts j ≡ n'.texts j) × ((n.arrays j ≡ n'.arrays j) × (n.text_arrays j ≡ n'.text_arrays j)))
 
 -- the stack above a block's frame, where blocks inside it have theirs
 pub record Stack (e : Environment) (block : Names) (types : Types) (base : ℕ) (bases : ℕ → ℕ) (ground : Values → Ground) : Type 0 where
@@ -130,6 +132,7 @@ pub record AllHold (frames : Frames) (serials : Serials) (xs : Storage) (levels 
   pub numbers : (j : ℕ) (b : Typed types j) → IsNumeric b.0 → Holds s block j (serials.of j) b.0 (n.numbers j)
   pub texts : (j : ℕ) (varying : Bool) (most : ℕ) → IsTextAt types j varying most → KeepsText s block j (serials.of j) varying most (n.texts j)
   pub arrays : (j : ℕ) (type : Y.LeafType) (b : Bounds) (bs : List Bounds) → IsArrayAt types j type b bs → HoldsArray s block j (serials.of j) type (b ∷ bs) (n.arrays j)
+  pub text_arrays : (j : ℕ) (varying : Bool) (most : ℕ) (b : Bounds) (bs : List Bounds) → IsTextArrayAt types j varying most b bs → HoldsTexts s block j (serials.of j) varying most (b ∷ bs) (n.text_arrays j)
   pub entered : levels_of s.activations ≡ levels
   pub framed : frames_of xs.activations ≡ frames.list
   pub kinds : kinds_of xs.activations ≡ frames.kinds
@@ -238,6 +241,7 @@ pub record Block (e : Environment) (block : Names) (types : Types) : Type 1 wher
   pub leveled : (j : ℕ) {kind : Kind} → slice_get types j ≡ Some kind → cond (level_of block j == e.level) stack.frame (levels (level_of block j)) ≡ bases j
   pub texts : TextsStand e block types bases stack.free ground
   pub arrays : ArraysOn e block types bases stack.free ground
+  pub text_arrays : TextArraysOn e block types bases stack.free ground
   pub outer : List OuterBlock
   pub enclosing : Enclosures e ground levels frames.list (e.level ∷ depths) outer
   pub seen : AllSeen e ground levels frames.list (e.level ∷ depths) outer enclosing serials block types
@@ -280,7 +284,8 @@ scope_of b n all =
         holds = λ j varying most at. holds_text (all.texts j varying most at);
         reads = λ j varying most at. b.texts.reads n j varying most at;
       };
-      arrays = λ j type c cs at. array_scope (b.arrays j type c cs at) n (all.arrays j type c cs at) (b.reaches n j at);
+      arrays = λ j type c cs at. array_scope (b.arrays j type c cs at) n (all.arrays j type c cs at) (b.reaches n j at.0);
+      text_arrays = λ j varying most c cs at. text_array_scope (b.text_arrays j varying most c cs at) n (all.text_arrays j varying most c cs at) (b.reaches n j at);
     }
 
 -- ---- what a statement's code does
@@ -430,12 +435,16 @@ counted_keeps w h = record { values = h.values; stands = h.stands; lives = h.liv
 counted_array : {s : State} {block : Names} {j serial : ℕ} {type : Y.LeafType} {bs : List Bounds} {n : ℕ → ℤ} (w : World) → HoldsArray s block j serial type bs n → HoldsArray (with_world w s) block j serial type bs n
 counted_array w h = record { values = h.values; numeric = h.numeric; stands = h.stands; lives = h.lives; value = h.value; fits = h.fits }
 
+counted_texts : {s : State} {block : Names} {j serial : ℕ} {varying : Bool} {most : ℕ} {bs : List Bounds} {texts : ℕ → List ℕ} (w : World) → HoldsTexts s block j serial varying most bs texts → HoldsTexts (with_world w s) block j serial varying most bs texts
+counted_texts w h = record { values = h.values; stands = h.stands; lives = h.lives; value = h.value; short = h.short }
+
 pub counted_all : {frames : Frames} {serials : Serials} {xs : Storage} {levels : List ℕ} {s : State} {block : Names} {types : Types} {n : Values} (w : World) → AllHold frames serials xs levels s block types n → AllHold frames serials xs levels (with_world w s) block types n
 counted_all w all =
     record {
       numbers = λ j b numeric. counted_holds w (all.numbers j b numeric);
       texts = λ j varying most at. counted_keeps w (all.texts j varying most at);
       arrays = λ j type b bs at. counted_array w (all.arrays j type b bs at);
+      text_arrays = λ j varying most b bs at. counted_texts w (all.text_arrays j varying most b bs at);
       entered = all.entered;
       framed = all.framed;
       kinds = all.kinds;
@@ -451,6 +460,7 @@ listed_as frames list same all =
       numbers = all.numbers;
       texts = all.texts;
       arrays = all.arrays;
+      text_arrays = all.text_arrays;
       entered = all.entered;
       framed = all.framed ∙ same;
       kinds = all.kinds;
@@ -465,6 +475,7 @@ listed_of frames list same all =
       numbers = all.numbers;
       texts = all.texts;
       arrays = all.arrays;
+      text_arrays = all.text_arrays;
       entered = all.entered;
       framed = all.framed ∙ sym same;
       kinds = all.kinds;
@@ -481,7 +492,8 @@ assigned_all {frames = frames} {serials = serials} {s = s} {types = types} {n = 
     record {
       numbers = λ i b numeric. holds_assigned serials.of types n z below fits mine (λ i' b' e. all.stored.apart i' j b'.1 below e) all.numbers i b numeric;
       texts = λ i varying most at. keeps_beside z (all.stored.apart i j at below (text_apart types i j type varying most below numeric' at)) mine (all.texts i varying most at);
-      arrays = λ i other b bs at. arrays_beside type (serials.of j) mine.values z (all.stored.apart i j at below (array_apart types i j type other b bs below at)) (all.arrays i other b bs at);
+      arrays = λ i other b bs at. arrays_beside type (serials.of j) mine.values z (all.stored.apart i j at.0 below (array_apart types i j type other b bs below at.0)) (all.arrays i other b bs at);
+      text_arrays = λ i varying most b bs at. texts_aside (serials.of j) (P.with_element (designated_scalar type (serials.of j) mine.values) (value_as type z)) (all.stored.apart i j at below (array_apart types i j type (text_leaf varying most) b bs below at)) (all.text_arrays i varying most b bs at);
       entered = all.entered;
       framed = all.framed;
       kinds = all.kinds;

@@ -166,6 +166,9 @@ changed_all {frames = frames} {xs = xs} {s = s} {block = block} q u w c new all 
       arrays = λ j type b bs at.
           let h = all.arrays j type b bs at in
           record { values = h.values; numeric = h.numeric; stands = binding_kept q u c s.activations (block.at j).level (block.at j).index ∙ h.stands; lives = h.lives; value = h.value; fits = h.fits };
+      text_arrays = λ j varying most b bs at.
+          let h = all.text_arrays j varying most b bs at in
+          record { values = h.values; stands = binding_kept q u c s.activations (block.at j).level (block.at j).index ∙ h.stands; lives = h.lives; value = h.value; short = h.short };
       entered = changed_levels q u c s.activations ∙ all.entered;
       framed = changed_frames q w c xs.activations ∙ all.framed;
       kinds = changed_kinds q w c xs.activations ∙ all.kinds;

@@ -1,5 +1,5 @@
 -- The programs for which the headline is proved so far: a main procedure with scalars of FIXED BINARY, BIT(1) and CHARACTER of
--- constant lengths, VARYING or not, with or without INITIAL, arrays of FIXED BINARY and BIT(1) with constant bounds, with or without
+-- constant lengths, VARYING or not, with or without INITIAL, arrays of these with constant bounds, with or without
 -- INITIAL, procedures inside it that declare nothing, without parameters and results, and BEGIN blocks in these and in one another that
 -- declare nothing, or scalars of FIXED BINARY and BIT(1) without INITIAL; expressions of numbers, bits and texts, and elements of arrays
 -- in them; assignments of these, CALL of these procedures, also by themselves, IF, groups, DO WHILE, DO with a variable, GOTO to a label
@@ -99,10 +99,10 @@ IsElementType (Y.FixedLeaf p) = (1 ≤ p) × (p ≤ 31)
 IsElementType Y.BitLeaf = ⊤
 IsElementType _ = ⊥
 
--- a scalar, or an array of up to eight dimensions
+-- a scalar, or an array of scalars of up to eight dimensions
 abbrev pub IsHeld : Y.LeafType → List Bounds → Type 0
 IsHeld type [] = IsScalar type
-IsHeld type (b ∷ bs) = IsElementType type × ((IsBounds b × AreBounds bs) × (length bs ≤ 7))
+IsHeld type (b ∷ bs) = IsScalar type × ((IsBounds b × AreBounds bs) × (length bs ≤ 7))
 
 pub record IsPlain (d : Y.DeclaredVariable) : Type 0 where
   pub type : Y.LeafType
@@ -208,7 +208,7 @@ pub record IsPartNumber (names : Names) (types : Types) (r : Y.Reference) : Type
 pub record IsDimension (names : Names) (types : Types) (r : Y.Reference) (dimension : ℕ) : Type 0 where
   pub index : ℕ
   pub type : Y.LeafType
-  pub element : IsElementType type
+  pub held : IsScalar type
   pub bound : Bounds
   pub bounds : List Bounds
   pub declared : slice_get types index ≡ Some (record { type = type; bounds = bound ∷ bounds })
@@ -218,11 +218,11 @@ pub record IsDimension (names : Names) (types : Types) (r : Y.Reference) (dimens
   pub among : slice_get (bound ∷ bounds) place ≡ Some asked
   pub is : r ≡ Y.Referring (variable_at names index) Y.NotLocated (record { first = 0; count = 1 }) Y.NoNumber
 
--- a variable that holds a text
-pub record IsOwnText (names : Names) (types : Types) (r : Y.Reference) : Type 0 where
+-- one that holds a text
+pub record IsPartText (names : Names) (types : Types) (r : Y.Reference) : Type 0 where
   pub varying : Bool
   pub most : ℕ
-  pub own : IsOwn names types (text_leaf varying most) r
+  pub part : IsPart names types (text_leaf varying most) r
 
 -- the places of a number as a text go by its precision
 abbrev pub IsPrecision : ℕ → Type 0
@@ -268,10 +268,11 @@ abbrev mutual
   IsProvedBit names types (Y.BitsCompared comparison left right) = IsProvedBit names types left × IsProvedBit names types right
   IsProvedBit names types _ = ⊥
 
-  -- constants of 1,024 bytes at most, variables, numbers and bits as texts, texts that are joined, and their parts
+  -- constants of 1,024 bytes at most, variables, elements, numbers and bits as texts, texts that are joined, and their parts
   pub IsProvedText : (names : Names) (types : Types) → Y.Text → Type 0
   IsProvedText names types (Y.TextConstant bytes) = length bytes ≤ 1024
-  IsProvedText names types (Y.TextIn r) = IsOwnText names types r
+  IsProvedText names types (Y.TextIn (Y.Referring v locator part subscripts)) =
+      IsPartText names types (Y.Referring v locator part subscripts) × AreProvedNumbers names types subscripts
   IsProvedText names types (Y.TextOfNumber precision x) = IsPrecision precision × IsProvedNumber names types x
   IsProvedText names types (Y.TextOfBit x) = IsProvedBit names types x
   IsProvedText names types (Y.Joined left right) = IsProvedText names types left × IsProvedText names types right
@@ -286,6 +287,9 @@ AreSubscripts names types (Y.Referring v locator part subscripts) = AreProvedNum
 
 abbrev pub IsAssigned : (names : Names) (types : Types) → Y.LeafType → Y.Reference → Type 0
 IsAssigned names types type r = IsPart names types type r × AreSubscripts names types r
+
+abbrev pub IsAssignedText : (names : Names) (types : Types) → Y.Reference → Type 0
+IsAssignedText names types r = IsPartText names types r × AreSubscripts names types r
 
 abbrev pub IsProvedNumberIf : (names : Names) (types : Types) → Option Y.Number → Type 0
 IsProvedNumberIf names types None = ⊤
@@ -388,7 +392,7 @@ IsReadBy fixed _ = ⊥
 -- a variable of the block that is read by items of a list, or an element
 pub record IsTarget (names : Names) (types : Types) (fixed : Bool) (r : Y.Reference) : Type 0 where
   pub type : Y.LeafType
-  pub part : IsOwn names types type r ⊎ (IsElement names types type r × IsElementType type)
+  pub part : IsPart names types type r
   pub read : IsReadBy fixed type
   pub subscripts : AreSubscripts names types r
 
@@ -441,7 +445,7 @@ abbrev mutual
   IsProvedStatement names types (Y.Assign target (Y.StoredBit x) line) =
       IsAssigned names types Y.BitLeaf target × (IsProvedBit names types x × IsLine line)
   IsProvedStatement names types (Y.Assign target (Y.StoredText x) line) =
-      IsOwnText names types target × (IsProvedText names types x × IsLine line)
+      IsAssignedText names types target × (IsProvedText names types x × IsLine line)
   IsProvedStatement names types (Y.If condition unit line) =
       IsProvedBit names types condition × (IsProvedStatement names types unit × IsLine line)
   IsProvedStatement names types (Y.IfElse condition unit otherwise line) =
@@ -454,7 +458,7 @@ abbrev mutual
   IsProvedStatement names types (Y.DoOnce target (Y.StoredBit x) condition body line) =
       (IsAssigned names types Y.BitLeaf target × IsProvedBit names types x) × (IsProvedBitIf names types condition × (AreProvedStatements names types body × IsLine line))
   IsProvedStatement names types (Y.DoOnce target (Y.StoredText x) condition body line) =
-      (IsOwnText names types target × IsProvedText names types x) × (IsProvedBitIf names types condition × (AreProvedStatements names types body × IsLine line))
+      (IsAssignedText names types target × IsProvedText names types x) × (IsProvedBitIf names types condition × (AreProvedStatements names types body × IsLine line))
   IsProvedStatement names types (Y.DoCount (Y.NumberCounter precision target) start limit step condition body line) =
       (IsAssigned names types (Y.FixedLeaf precision) target × IsProvedStart names types start)
       × ((IsProvedNumberIf names types limit × IsProvedNumber names types step) × (IsProvedBitIf names types condition × (AreProvedStatements names types body × IsLine line)))
