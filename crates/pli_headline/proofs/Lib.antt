@@ -189,6 +189,7 @@ pub mod PlainSignatures
 pub mod SignaturesOnce
 pub mod PlainNumbers
 pub mod PlainTables
+pub mod CalledVariables
 pub mod InnerCalls
 pub mod MainBody
 pub mod FirstFrame
