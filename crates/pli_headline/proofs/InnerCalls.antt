@@ -22,6 +22,7 @@ use Rattle.pli_coding.specs.Procedures.{procedure_environment, procedure_in}
 use Rattle.pli_coding.specs.Statements.{stmt_code, stmts_code, stmts_words}
 use Rattle.pli_headline.specs.Headline.{parts}
 use Rattle.pli_headline.specs.ProvedSoFar.{Names, Types, types_of, main_labels, main_outer, AllJumpAround, is_number, number_times, AllOnce, IsCallable, IsInner, AreInner, main_names}
+use Rattle.pli_headline.proofs.StandingBytes.{constants_moved}
 use Rattle.pli_headline.proofs.Engine.{Base}
 use Rattle.pli_headline.proofs.Numbers.{below_small}
 use Rattle.pli_headline.proofs.Linking.{times_marked}
@@ -50,7 +51,7 @@ standing_called : {program : Y.Program} (block : ℕ) {block' : Names} {types : 
 standing_called block callee back h0 t0 head next sized main mains has s =
     record {
       raises = s.raises;
-      constants = λ n. record { stand = λ bytes placed t b m o. (s.constants n).stand bytes placed t0 b m o.kept.0 };
+      constants = λ n. constants_moved (λ t. t0) (λ t b m o. o.kept.0) (s.constants n);
       filled = λ owned. ap (λ u. callee.at + u) sized;
       known = known_in (BlockOwner (record { number = head.number; level = head.level })) head.number head.level s.known;
     }
