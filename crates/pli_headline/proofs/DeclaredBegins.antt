@@ -92,7 +92,7 @@ places_of at [] zero are h fits = omega arith
 places_of at [] (suc i) are h fits = absurd (omega (arith, h))
 places_of at (d ∷ ds) zero are h fits = omega arith
 places_of at (d ∷ ds) (suc i) are h fits =
-    let bytes : frame_bytes parts d ≡ 32 = ap (frame_bytes parts) are.0.is ∙ bytes_of are.0.type are.0.initial are.0.element in
+    let bytes : frame_bytes parts d ≡ 32 = ap (frame_bytes parts) are.0.is ∙ bytes_of are.0.type are.0.items are.0.element in
     let next' : min last_place (at + frame_bytes parts d) ≡ at + 32 = omega (arith, fits, bytes) in
     ap (λ n. variable_place parts n ds i) next' ∙ places_of (at + 32) ds i are.1 (omega (arith, h)) (omega (arith, fits)) ∙ omega arith
 
@@ -153,7 +153,7 @@ no_words : (ds : List Y.DeclaredVariable) → AreDeclaring ds → variables_word
 no_words [] are = refl
 no_words (d ∷ ds) are =
     ap (λ u. variables_words (u ∷ ds)) are.0.is
-    ∙ by_element (λ t. variables_words (plain_variable t are.0.initial ∷ ds) ≡ max 0 (variables_words ds)) (λ p h. refl) refl are.0.type are.0.element
+    ∙ by_element (λ t. variables_words (plain_variable t are.0.items ∷ ds) ≡ max 0 (variables_words ds)) (λ p h. refl) refl are.0.type are.0.element
     ∙ ap (λ n. max 0 n) (no_words ds are.1)
 
 declaring_code_is : (e : Environment) (head : Y.BlockHead) (body : Y.Stmts) → head.level ≡ suc e.level → AreDeclaring (vars_of e head) → begin_code e head (block_words e head.number (stmts_words body)) (stmts_code (begin_environment head e) none_taken body) ≡ declaring_code e head (max 0 (stmts_words body)) body

@@ -32,7 +32,7 @@ declared_by [] i are h = absurd (cc h)
 declared_by (d ∷ ds) zero {kind} are h =
     let e : declared_kind d ≡ kind = cc h in
     let o = are.0 in
-    record { type = o.type; element = o.element; initial = o.initial; is = sym e ∙ ap declared_kind o.is; stands = ap (λ u. Some u) o.is }
+    record { type = o.type; element = o.element; initial = o.items; is = sym e ∙ ap declared_kind o.is; stands = ap (λ u. Some u) o.is }
 declared_by (d ∷ ds) (suc i) are h =
     let o = declared_by ds i are.1 h in
     record { type = o.type; element = o.element; initial = o.initial; is = o.is; stands = o.stands }
@@ -116,7 +116,7 @@ has_more e block types number level index d stands is has j kind at =
     (λ i kind' below at'.
     let known = has i kind' at' in
     (known.0, ap (λ (u : Spot). slice_get (variables_of_block e.program u.number) u.index) (chosen_before (length types) i (block.at i) spot below) ∙ known.1))
-    (is.initial, ap (λ (u : Spot). slice_get (variables_of_block e.program u.number) u.index) (chosen_here (length types) (block.at (length types)) spot) ∙ stands ∙ ap (λ u. Some u) is.is ∙ ap (λ (k : Kind). Some (array_variable k.type k.bounds is.initial)) (sym (ap declared_kind is.is)))
+    (is.items, ap (λ (u : Spot). slice_get (variables_of_block e.program u.number) u.index) (chosen_here (length types) (block.at (length types)) spot) ∙ stands ∙ ap (λ u. Some u) is.is ∙ ap (λ (k : Kind). Some (array_variable k.type k.bounds is.items)) (sym (ap declared_kind is.is)))
     j kind at
 
 has_from : (e : Environment) (block : Names) (types : Types) (number level index : ℕ) (ds : List Y.DeclaredVariable) → ((i : ℕ) → slice_get (variables_of_block e.program number) (index + i) ≡ slice_get ds i) → AreDeclaring ds → HasTypes e block types → HasTypes e (names_from block types number level index ds) (types_in types ds)

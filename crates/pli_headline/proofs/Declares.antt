@@ -83,8 +83,8 @@ first_more {e} ib {index} d ds m =
     record {
       element = subst IsElementType (sym type) m.are.0.element;
       is = ap declared_kind m.are.0.is ∙ ap alone (sym type);
-      initial = m.are.0.initial;
-      declared = first_here e index d ds m.stand ∙ ap (λ u. Some u) m.are.0.is ∙ ap (λ u. Some (plain_variable u m.are.0.initial)) (sym type);
+      initial = m.are.0.items;
+      declared = first_here e index d ds m.stand ∙ ap (λ u. Some u) m.are.0.is ∙ ap (λ u. Some (plain_variable u m.are.0.items)) (sym type);
       deep = m.deep;
       place = omega (arith, p, q);
       room = omega (arith, room);
@@ -150,13 +150,13 @@ own_made e line place type items is same =
     ∙ ap (λ n. made_code n place (number_for e.table (alone (Y.FixedLeaf p))) start) (frame_fixed p items))
     (ap (λ q. made_by q e 32 place (number_for e.table (alone Y.BitLeaf)) start) (eq-eqb e.level e.level refl)) type is
 
-first_made : (e : Environment) (line index : ℕ) (d : Y.DeclaredVariable) (ds : List Y.DeclaredVariable) (is : IsDeclaring d) → e.parts ≡ parts → variables_made e line index (d ∷ ds) ≡ made_code 32 (place_for e index) (number_for e.table (declared_kind d)) (start_datum is.initial) ++ variables_made e line (suc index) ds
+first_made : (e : Environment) (line index : ℕ) (d : Y.DeclaredVariable) (ds : List Y.DeclaredVariable) (is : IsDeclaring d) → e.parts ≡ parts → variables_made e line index (d ∷ ds) ≡ made_code 32 (place_for e index) (number_for e.table (declared_kind d)) (start_datum is.items) ++ variables_made e line (suc index) ds
 first_made e line index d ds is same =
     let rest = variables_made e line (suc index) ds in
     let p = place_for e index in
     ap (λ u. cond (is_automatic u.class) (automatic_made e line p u) [] ++ rest) is.is
-    ∙ ap (λ c. c ++ rest) (own_made e line p is.type is.initial is.element same)
-    ∙ ap (λ k. made_code 32 p (number_for e.table k) (start_datum is.initial) ++ rest) (sym (ap declared_kind is.is))
+    ∙ ap (λ c. c ++ rest) (own_made e line p is.type is.items is.element same)
+    ∙ ap (λ k. made_code 32 p (number_for e.table k) (start_datum is.items) ++ rest) (sym (ap declared_kind is.is))
 
 -- what is named in code that is linked has a place
 placed_if : {links : Links} {code : List Instr} {i : ℕ} {xs : Code} (start : Option Datum) → Linked links code i xs → IsNamedIf start xs → IsPlacedIf start links.data'
@@ -215,7 +215,7 @@ declares_from {links} {code} {aims} closed around line turns k c meaning [] {e} 
 declares_from {links} {code} {aims} closed around line turns k c meaning (d ∷ ds) {e} {block} {types} ib known {index} m {i} {s} {v} {h} {t} n f old stand none outs homes low enough later returns does' l serving all at goal =
     let count = length types in
     let kind = declared_kind d in
-    let items = m.are.0.initial in
+    let items = m.are.0.items in
     let start = start_datum items in
     let o = first_more ib d ds m in
     let table = table_of block.program in

@@ -156,7 +156,7 @@ declared_none e line index [] are = refl
 declared_none e line index (d ∷ ds) are =
     let place = automatic_place e.parts e.program e.block e.level index in
     let rest = variables_made e line (suc index) ds in
-    let items = are.0.initial in
+    let items = are.0.items in
     let T : Y.DeclaredVariable → Type 0 = λ u. Marks ((if is_automatic u.class then automatic_made e line place u else []) ++ rest) [] in
     subst T (sym are.0.is) (by_element (λ t. T (plain_variable t items)) (λ p element. behind (constant_made e place (plain_variable (Y.FixedLeaf p) items)) rest [] (one_none e place (Y.FixedLeaf p) items element) (declared_none e line (suc index) ds are.1)) (behind (constant_made e place (plain_variable Y.BitLeaf items)) rest [] (one_none e place Y.BitLeaf items tt) (declared_none e line (suc index) ds are.1)) are.0.type are.0.element)
 

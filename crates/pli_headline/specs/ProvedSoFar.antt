@@ -630,9 +630,9 @@ AllOnce (n ∷ ns) others = (number_times n others ≡ 1) × AllOnce ns others
 pub record IsDeclaring (d : Y.DeclaredVariable) : Type 0 where
   pub type : Y.LeafType
   pub element : IsElementType type
-  pub initial : List T.InitialItem
-  pub begins : AreConstants type initial
-  pub is : d ≡ plain_variable type initial
+  pub items : List T.InitialItem
+  pub begins : AreConstants type items
+  pub is : d ≡ plain_variable type items
 
 abbrev pub AreDeclaring : List Y.DeclaredVariable → Type 0
 AreDeclaring [] = ⊤
