@@ -46,6 +46,7 @@ use Rattle.pli_headline.proofs.Acts.{act_to, act_piece}
 use Rattle.pli_headline.proofs.Entered.{atop}
 use Rattle.pli_headline.proofs.Declares.{Makes, made_block, declares_from, code_joined}
 use Rattle.pli_headline.proofs.DeclaredBegins.{vars_of, no_words, ended_does}
+use Rattle.pli_headline.proofs.StandingBytes.{ConstantsStand}
 use Rattle.pli_headline.proofs.Statements.{owner_level, Block, IsKnown, AllHold, counted_all, Enough, Does, further}
 use Rattle.pli_headline.proofs.CalledJumps.{ending_closed, comes_called}
 use Rattle.pli_headline.proofs.Owing.{owing, owing_closed, comes_owing, done_owing}
@@ -168,6 +169,11 @@ abbrev pub CalleeMakes : {e : Environment} {block : Names} {types : Types} (bl :
 CalleeMakes {e} bl callee head next main mains has =
     (back : Base → ℕ) (h0 t0 : ℕ → ℕ) → Makes (callee_block bl callee head next main mains has back h0 t0) 0 (vars_of e head)
 
+-- constant bytes stand in it
+abbrev pub CalleeStand : {e : Environment} {block : Names} {types : Types} (bl : Block e block types) (callee : Callee bl) (head : Y.BlockHead) (next : head.level ≡ 1) (main : ℕ) (mains : List Label) (has : HasMain main mains e.level e.block bl.labels bl.outer) → Links → List Instr → Type 0
+CalleeStand bl callee head next main mains has links code =
+    (back : Base → ℕ) (h0 t0 : ℕ → ℕ) (n : Values) → ConstantsStand links code ((callee_block bl callee head next main mains has back h0 t0).ground n)
+
 -- its statements do what they mean once they are
 abbrev pub CalleeDoes : {e : Environment} {block : Names} {types : Types} (bl : Block e block types) (callee : Callee bl) (head : Y.BlockHead) (next : head.level ≡ 1) (main : ℕ) (mains : List Label) (has : HasMain main mains e.level e.block bl.labels bl.outer) → CalleeMakes bl callee head next main mains has → Links → List Instr → (more : ℕ) → Y.Stmts → Type 1
 CalleeDoes {e} bl callee head next main mains has makes links code more body =
@@ -195,9 +201,9 @@ acted_does bl {c = c} {meaning = meaning} line fits d =
 
 -- ---- behind its act
 
-call_piece : {e : Environment} {block : Names} {types : Types} (bl : Block e block types) {links : Links} {code : List Instr} (around : Around) (more : ℕ) (head : Y.BlockHead) (body : Y.Stmts) (callee : Callee bl) (stands : StandsAt links code e head callee.words body) (list : ℤ) → (next : head.level ≡ 1) (main : ℕ) (mains : List Label) (has : HasMain main mains e.level e.block bl.labels bl.outer) → head.kind ≡ Y.ProcedureBlock → head.line < 2 ^ 31 → IsKnown (procedure_environment head e) → (makes : CalleeMakes bl callee head next main mains has) → around.program ≡ e.program → around.enter ≡ M.entered e.program (suc more) → procedure_numbered head.number e.program.procedures ≡ Some (plain_procedure head body) → word list < 2 ^ 32 → CalleeDoes bl callee head next main mains has makes links code more body → {i : ℕ} {s : State} {v : Services} {h t : ℕ → ℕ} {aims : Aims (Unit {0})} (closed : Closed code aims) (n : Values) (f : Family) (k line : ℕ) → k < suc more + v.world.acts → (turns0 i0 acts0 : ℕ) → Enough bl links k turns0 i0 h t acts0 aims.jumped aims.returned → acts0 ≤ v.world.acts → Linked links code i (call_of e list head.number) → nat_lt (length s.activations) most_activations ≡ true → Serving k s v line → AllHold bl.frames bl.serials (storage v) (e.level ∷ bl.depths) s block types n → ((b : Base) → At b i (Known (bl.ground n) v h t nothing b) (f b)) → ((s' : State) (v' : Services) (line' : ℕ) (n' : Values) (h' : ℕ → ℕ) (f' : Family) → Serving k s' v' line' → AllHold bl.frames bl.serials (storage v') (e.level ∷ bl.depths) s' block types n' → ((b : Base) → At b (call_back i e list head.number) (Known (bl.ground n') v' h' t nothing b) (f' b)) → aims.done (call_back i e list head.number) f' v' tt s') → Comes code 0 f v (owing code (length code) aims) (call_part around head.number k s)
+call_piece : {e : Environment} {block : Names} {types : Types} (bl : Block e block types) {links : Links} {code : List Instr} (around : Around) (more : ℕ) (head : Y.BlockHead) (body : Y.Stmts) (callee : Callee bl) (stands : StandsAt links code e head callee.words body) (list : ℤ) → (next : head.level ≡ 1) (main : ℕ) (mains : List Label) (has : HasMain main mains e.level e.block bl.labels bl.outer) → head.kind ≡ Y.ProcedureBlock → head.line < 2 ^ 31 → IsKnown (procedure_environment head e) → (makes : CalleeMakes bl callee head next main mains has) → CalleeStand bl callee head next main mains has links code → around.program ≡ e.program → around.enter ≡ M.entered e.program (suc more) → procedure_numbered head.number e.program.procedures ≡ Some (plain_procedure head body) → word list < 2 ^ 32 → CalleeDoes bl callee head next main mains has makes links code more body → {i : ℕ} {s : State} {v : Services} {h t : ℕ → ℕ} {aims : Aims (Unit {0})} (closed : Closed code aims) (n : Values) (f : Family) (k line : ℕ) → k < suc more + v.world.acts → (turns0 i0 acts0 : ℕ) → Enough bl links k turns0 i0 h t acts0 aims.jumped aims.returned → acts0 ≤ v.world.acts → Linked links code i (call_of e list head.number) → nat_lt (length s.activations) most_activations ≡ true → Serving k s v line → AllHold bl.frames bl.serials (storage v) (e.level ∷ bl.depths) s block types n → ((b : Base) → At b i (Known (bl.ground n) v h t nothing b) (f b)) → ((s' : State) (v' : Services) (line' : ℕ) (n' : Values) (h' : ℕ → ℕ) (f' : Family) → Serving k s' v' line' → AllHold bl.frames bl.serials (storage v') (e.level ∷ bl.depths) s' block types n' → ((b : Base) → At b (call_back i e list head.number) (Known (bl.ground n') v' h' t nothing b) (f' b)) → aims.done (call_back i e list head.number) f' v' tt s') → Comes code 0 f v (owing code (length code) aims) (call_part around head.number k s)
 unfolding give ◌>>◌
-call_piece {e} {block} {types} bl {links} {code} around more head body callee stands list next main mains has kind fits known makes same enter found short does' {i} {s} {v} {h} {t} {aims} closed n f k line enough turns0 start0 acts0 ready less l few serving all at goal =
+call_piece {e} {block} {types} bl {links} {code} around more head body callee stands list next main mains has kind fits known makes stand same enter found short does' {i} {s} {v} {h} {t} {aims} closed n f k line enough turns0 start0 acts0 ready less l few serving all at goal =
     let program = e.program in
     let here = inner_around program more head.line in
     let debt = length code in
@@ -253,7 +259,7 @@ call_piece {e} {block} {types} bl {links} {code} around more head body callee st
     (λ f3 at3.
     comes_on k (left true newest_ended (flow_on k (K.variables_made here 0 vars k s2) (λ u. called_part program more head body))) last
     (comes_called newest_ended (flow_on k (K.variables_made here 0 vars k s2) (λ u. called_part program more head body))
-    (declares_from closed1 here head.line (suc more) k st (called_part program more head body) vars cb known (makes back h t) n f3 head.line refl
+    (declares_from closed1 here head.line (suc more) k st (called_part program more head body) vars cb known (makes back h t) n f3 head.line (stand back h t) refl
     (λ label among once. owed_outlet closed (atop callee.at S.ProcedureBlock bl.frames) (main_enclosing bl callee back h t (procedure_owner head) head next main mains has) label (main_outlet bl callee back h (procedure_owner head) S.ProcedureBlock head next main mains has links k turns0 start0 h t acts0 v2.world.acts aims.jumped aims.returned ready label among once (omega (arith, less))), tt)
     (λ deep owned once. let no : true ≡ false = deep in absurd (cc no), tt)
     (λ inner owned once. record {
@@ -315,9 +321,9 @@ limited_call {e} bl {code = code} around more head body callee stands list fits 
 
 -- ---- the statement
 
-pub own_call_does : {e : Environment} {block : Names} {types : Types} (bl : Block e block types) (links : Links) (code : List Instr) (around : Around) (more : ℕ) (head : Y.BlockHead) (body : Y.Stmts) (callee : Callee bl) (stands : StandsAt links code e head callee.words body) (list : ℤ) (line : ℕ) → (next : head.level ≡ 1) (main : ℕ) (mains : List Label) (has : HasMain main mains e.level e.block bl.labels bl.outer) → head.kind ≡ Y.ProcedureBlock → head.line < 2 ^ 31 → IsKnown (procedure_environment head e) → (makes : CalleeMakes bl callee head next main mains has) → around.program ≡ e.program → Entering e.program around more → procedure_numbered head.number e.program.procedures ≡ Some (plain_procedure head body) → word list < 2 ^ 32 → line < 2 ^ 31 → ((more' : ℕ) → more ≡ suc more' → suc (length bl.depths) < most_activations → CalleeDoes bl callee head next main mains has makes links code more' body) → Does bl links code around.turns (act_code line ++ call_of e list head.number) (M.statement around (Y.CallProcedure (Y.Calling head.number 0 Y.NoArgument) line))
+pub own_call_does : {e : Environment} {block : Names} {types : Types} (bl : Block e block types) (links : Links) (code : List Instr) (around : Around) (more : ℕ) (head : Y.BlockHead) (body : Y.Stmts) (callee : Callee bl) (stands : StandsAt links code e head callee.words body) (list : ℤ) (line : ℕ) → (next : head.level ≡ 1) (main : ℕ) (mains : List Label) (has : HasMain main mains e.level e.block bl.labels bl.outer) → head.kind ≡ Y.ProcedureBlock → head.line < 2 ^ 31 → IsKnown (procedure_environment head e) → (makes : CalleeMakes bl callee head next main mains has) → CalleeStand bl callee head next main mains has links code → around.program ≡ e.program → Entering e.program around more → procedure_numbered head.number e.program.procedures ≡ Some (plain_procedure head body) → word list < 2 ^ 32 → line < 2 ^ 31 → ((more' : ℕ) → more ≡ suc more' → suc (length bl.depths) < most_activations → CalleeDoes bl callee head next main mains has makes links code more' body) → Does bl links code around.turns (act_code line ++ call_of e list head.number) (M.statement around (Y.CallProcedure (Y.Calling head.number 0 Y.NoArgument) line))
 unfolding M.statement ◌>>◌
-own_call_does {e} {block} {types} bl links code around zero head body callee stands list line next main mains has kind fits known makes same entering found short low does' =
+own_call_does {e} {block} {types} bl links code around zero head body callee stands list line next main mains has kind fits known makes stand same entering found short low does' =
     record {
       does = λ {i} {s} {v} {h} {t} {aims} closed old n f k l serving all at goal more'.
           let next' : Unit {0} → Meaning (Unit {0}) = λ u. call_part (at_line around line) head.number in
@@ -326,7 +332,7 @@ own_call_does {e} {block} {types} bl links code around zero head body callee sta
           (λ f1 serving1 at1.
           absurd (let e1 = more'.enough in let e2 = entering.turns in let e3 = serving1.allowed in omega (arith, e1, e2, e3))));
     }
-own_call_does {e} {block} {types} bl links code around (suc more) head body callee stands list line next main mains has kind fits known makes same entering found short low does' =
+own_call_does {e} {block} {types} bl links code around (suc more) head body callee stands list line next main mains has kind fits known makes stand same entering found short low does' =
     record {
       does = λ {i} {s} {v} {h} {t} {aims} closed old n f k l serving all at goal more'.
           let a = act_code line in
@@ -346,7 +352,7 @@ own_call_does {e} {block} {types} bl links code around (suc more) head body call
           (λ many. limited_call bl (at_line around line) more head body callee stands list fits same entering.enter found short closed n f1 k line (back_of a c l) many serving1 at1)
           (λ few.
           let deep : suc (length bl.depths) < most_activations = (let below = ltb-true (length s.activations) most_activations few in let long = entered_length s.activations (e.level ∷ bl.depths) all.entered in omega (arith, below, long)) in
-          call_piece bl (at_line around line) more head body callee stands list next main mains has kind fits known makes same entering.enter found short (does' more refl deep) closed n f1 k line (omega (arith, e1, e2)) around.turns i v.world.acts more' (omega arith) (back_of a c l) few serving1
+          call_piece bl (at_line around line) more head body callee stands list next main mains has kind fits known makes stand same entering.enter found short (does' more refl deep) closed n f1 k line (omega (arith, e1, e2)) around.turns i v.world.acts more' (omega arith) (back_of a c l) few serving1
           (counted_all (counted s.world) all)
           at1
           (λ s4 v4 line4 n4 h4 f4 serving4 all4 at4.

@@ -36,6 +36,7 @@ use Rattle.pli_headline.proofs.MainProcedure.{main_procedure, IsAlone, main_envi
 use Rattle.pli_headline.proofs.CallMeant.{plain_procedure}
 use Rattle.pli_headline.proofs.Entered.{Frames}
 use Rattle.pli_headline.proofs.Declares.{made_block}
+use Rattle.pli_headline.proofs.StandingBytes.{constants_moved}
 use Rattle.pli_headline.proofs.DeclaredBegins.{vars_of, is_made, made_constants}
 use Rattle.pli_headline.proofs.CalledFrames.{Callee}
 use Rattle.pli_headline.proofs.CallRuns.{StandsAt, CalleeMakes, CalleeDoes, callee_block, called_code_is, own_call_does}
@@ -89,7 +90,7 @@ called_does {program} {block} {all} {called} q can {links} {code} {o} {number} {
     let low = most 0 (stmts_words body) 800 (omega arith) (omega (arith, few)) in
     let standing' : Standing mb links code = record {
       raises = standing.raises;
-      constants = made_constants vars cb m serial (λ n. record { stand = λ bytes placed t b m' held. (standing.constants n).stand bytes placed t0 b m' held.kept.0 });
+      constants = made_constants vars cb m serial (λ n. constants_moved (λ t. t0) (λ t b m' held. held.kept.0) (standing.constants n));
       filled = called_filled bl callee head next block mains has standing.known q.declares (omega (arith, few)) makes back h0 t0 serial;
       known = known_in (procedure_owner head) head.number head.level standing.known;
     } in
@@ -132,7 +133,7 @@ one_does program block line body alone {all} {called} {procedure} q can {links} 
       linked = subst (Linked links code at) (called_code_is e head q.body q.level q.declares) l;
     } in
     let whole : procedure_numbered head.number program.procedures ≡ Some (plain_procedure head q.body) = ap (procedure_numbered head.number) alone.are ∙ ap (λ t. cond t (Some (main_procedure block line body)) (procedure_numbered head.number alone.others)) q.apart ∙ found in
-    own_call_does bl links code around more head q.body callee stands (words_place bl.taken.words 0) line' q.level block (main_labels program.procedures) has can.kind can.line (known_in (procedure_owner head) head.number head.level standing.known) makes same entering whole
+    own_call_does bl links code around more head q.body callee stands (words_place bl.taken.words 0) line' q.level block (main_labels program.procedures) has can.kind can.line (known_in (procedure_owner head) head.number head.level standing.known) makes (λ back h0 t0 n. constants_moved (λ t. t0) (λ t b m' held. held.kept.0) (standing.constants n)) same entering whole
     (below_small (4 * (bl.taken.words + 0)) (omega (arith, taken, few))) fits
     (λ m step deeper. called_does q can bl callee refl deep deeper space standing named known ended m (below m step).0 (below m step).1 tells has makes)
 

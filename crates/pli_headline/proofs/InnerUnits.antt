@@ -20,6 +20,7 @@ use Rattle.pli_coding.specs.Temporaries.{number_words, bit_words, text_words, re
 use Rattle.pli_headline.specs.ProvedSoFar.{Types, OuterBlock, main_labels, main_outer, times, IsOutward, JumpsAround, IsSimple, IsUnitBody, IsProvedStatement, AreProvedStatements, AllJumpAround, DeclaresNothing, DeclareScalars, CallsAmong, AllCallAmong, Names, inner_bytes}
 use Rattle.pli_headline.specs.InnerWords.{all_inner_words}
 use Rattle.pli_coding.specs.Images.{blocks_among}
+use Rattle.pli_headline.proofs.StandingBytes.{constants_moved}
 use Rattle.pli_headline.proofs.Sizes.{most}
 use Rattle.pli_headline.proofs.InnerLevels.{IsAmong}
 use Rattle.pli_headline.proofs.InnerFrames.{other_level}
@@ -105,7 +106,7 @@ standing_raised : {e : Environment} {block : Names} {types : Types} {bl : Block 
 standing_raised callee kind back h0 t0 head next sized main mains has s =
     record {
       raises = s.raises;
-      constants = λ n. record { stand = λ bytes placed t b m o. (s.constants n).stand bytes placed t0 b m o.kept.0 };
+      constants = λ n. constants_moved (λ t. t0) (λ t b m o. o.kept.0) (s.constants n);
       filled = λ owned. ap (λ u. callee.at + u) (sized (owned_of (owner_of_unit head head.kind) head.level next owned));
       known = known_in (owner_of_unit head head.kind) head.number head.level s.known;
     }

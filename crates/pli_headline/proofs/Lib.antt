@@ -204,6 +204,7 @@ pub mod VariablesMade
 pub mod Leaving
 pub mod Entering
 pub mod InitialNamed
+pub mod InitialPlaced
 pub mod MainRuns
 pub mod SymbolsMarked
 pub mod ExpressionMarks

@@ -1,9 +1,10 @@
--- One more scalar is made, in the meaning: it begins with 0, and the others hold what they held.
+-- One more scalar is made, in the meaning: it begins with what INITIAL gives it, or 0, and the others hold what they held.
 use Rattle.std.proofs.Common.{◌≡◌, ℕ, suc, ◌+◌, ◌<◌, ◌≤◌, ◌⊎◌, inl, inr, List, [], ◌∷◌, ◌++◌, length, Option, Some, Bool, true, false, refl, sym, ap, ◌∙◌, subst, arith, add-one}
 use Rattle.std.specs.Prelude.{ℤ, pos, cond, map, nat_le, slice_get, ◌==◌}
 use Rattle.std.proofs.lemmas.Bool.{eq-eqb}
 use Rattle.std.proofs.lemmas.Bool.Decides.{nat_tests}
 use Rattle.pli_typing.specs.Signatures.{Bounds}
+use Rattle.pli_language.specs.Tree as T
 use Rattle.pli_typing.specs.TypedTree as Y
 use Rattle.pli_meaning.specs.declared.outcome.End.TheVariants as E
 use Rattle.pli_meaning.specs.declared.outcome.Limit.TheVariants as L
@@ -20,7 +21,7 @@ use Rattle.pli_coding.specs.Environments.{Environment}
 use Rattle.pli_coding.specs.SignatureTable.{table_of}
 use Rattle.pli_headline.specs.ProvedSoFar.{Names, Spot, Kind, Types, alone, text_leaf, IsElementType, AreConstants, IsHeld, array_variable}
 use Rattle.pli_headline.proofs.Activations.{Nested, levels_of, newest_level, newest_of_levels, newest_is, entered_length, same_length}
-use Rattle.pli_headline.proofs.Scalars.{Values, Fits, zero_fits, IsNumeric, IsLimited, value_as, place_below}
+use Rattle.pli_headline.proofs.Scalars.{Values, Fits, begin_of, begin_fits, IsNumeric, IsLimited, value_as, place_below}
 use Rattle.pli_headline.proofs.Variables.{level_of, own, scalar_binding}
 use Rattle.pli_headline.proofs.VariablePlaces.{frame_size}
 use Rattle.pli_headline.proofs.PlainNumbers.{number_for, Numbered, numbered_shape}
@@ -38,25 +39,25 @@ use Rattle.pli_headline.proofs.TextArrayMeant.{HoldsTexts}
 
 -- ---- in the meaning
 
-abbrev pub fresh_kind : Kind → Generation
-fresh_kind k = fresh_scalar (record { kind = k; initial = [] })
+abbrev pub fresh_kind : Kind → List T.InitialItem → Generation
+fresh_kind k items = fresh_scalar (record { kind = k; initial = items })
 
-abbrev pub more_state : State → (index : ℕ) → Kind → State
-more_state s index k = K.with_variable index (fresh_kind k) s
+abbrev pub more_state : State → (index : ℕ) → Kind → List T.InitialItem → State
+more_state s index k items = K.with_variable index (fresh_kind k items) s
 
 -- one within the limit, or the end of the run
-abbrev pub made_or_ended : (s : State) (index c : ℕ) (k : Kind) → Bool → Flow (Unit {0})
-made_or_ended s index c k within = cond within (Normal tt (more_state s index k)) (finish {R = Unit {0}} (E.Limit L.Automatic) c s)
+abbrev pub made_or_ended : (s : State) (index c : ℕ) (k : Kind) (items : List T.InitialItem) → Bool → Flow (Unit {0})
+made_or_ended s index c k items within = cond within (Normal tt (more_state s index k items)) (finish {R = Unit {0}} (E.Limit L.Automatic) c s)
 
-pub step_meant : (around : Around) (s : State) (index c : ℕ) (k : Kind) (d : Y.DeclaredVariable) (ds : List Y.DeclaredVariable) → d ≡ array_variable k.type k.bounds [] → IsHeld k.type k.bounds → K.variables_made around index (d ∷ ds) c s ≡ flow_on c (made_or_ended s index c k (nat_le (automatic_in_use s.living + frame_size k) most_automatic)) (λ u. K.variables_made around (suc index) ds)
+pub step_meant : (around : Around) (s : State) (index c : ℕ) (k : Kind) (items : List T.InitialItem) (d : Y.DeclaredVariable) (ds : List Y.DeclaredVariable) → d ≡ array_variable k.type k.bounds items → IsHeld k.type k.bounds → K.variables_made around index (d ∷ ds) c s ≡ flow_on c (made_or_ended s index c k items (nat_le (automatic_in_use s.living + frame_size k) most_automatic)) (λ u. K.variables_made around (suc index) ds)
 unfolding K.variables_made K.automatic_made K.extents K.variable_made give looked choose stored ◌>>=◌ ◌>>◌
-step_meant around s index c k d ds is held =
+step_meant around s index c k items d ds is held =
     let rest : ℕ → Unit {0} → Meaning (Unit {0}) = λ n u. K.variables_made around n ds in
     let end = finish {R = Unit {0}} (E.Limit L.Automatic) c s in
     ap (λ u. (K.automatic_made around index u u.class >> K.variables_made around (index + 1) ds) c s) is
-    ∙ ap (λ (g : Shape). flow_on c (K.variable_made index (fresh g (pos 0) ([] ∷ [])) c s) (rest (index + 1))) (shape_is k.type k.bounds [])
-    ∙ ap (λ n. flow_on c (cond (nat_le (automatic_in_use s.living + n) most_automatic) (Normal tt (more_state s index k)) end) (rest (index + 1))) (scalar_print (record { kind = k; initial = [] }) held)
-    ∙ ap (λ n. flow_on c (made_or_ended s index c k (nat_le (automatic_in_use s.living + frame_size k) most_automatic)) (rest n)) (add-one index)
+    ∙ ap (λ (g : Shape). flow_on c (K.variable_made index (fresh g (pos 0) (items ∷ [])) c s) (rest (index + 1))) (shape_is k.type k.bounds items)
+    ∙ ap (λ n. flow_on c (cond (nat_le (automatic_in_use s.living + n) most_automatic) (Normal tt (more_state s index k items)) end) (rest (index + 1))) (scalar_print (record { kind = k; initial = items }) held)
+    ∙ ap (λ n. flow_on c (made_or_ended s index c k items (nat_le (automatic_in_use s.living + frame_size k) most_automatic)) (rest n)) (add-one index)
 
 -- ---- activations
 
@@ -155,9 +156,6 @@ texts_moved {block' = block'} {j} {serial} {serial'} {varying} {most} {bs} spot 
 pub limited_element : (type : Y.LeafType) → IsElementType type → IsLimited type
 limited_element type is = by_element IsLimited (λ p h. h) tt type is
 
-pub none_given : (type : Y.LeafType) → IsElementType type → AreConstants type []
-none_given type is = by_element (λ u. AreConstants u []) (λ p h. tt) tt type is
-
 abbrev pub more_storage : Storage → (signature at : ℕ) → Storage
 more_storage xs signature at =
     record xs {
@@ -193,13 +191,13 @@ apart_by : (e : Environment) (block : Names) (index j newest : ℕ) → newest �
 apart_by e block index j newest same (inl low) = inl (level_apart (level_of block j) e.level newest same low)
 apart_by e block index j newest same (inr low) = inr (index_apart (block.at j).index index low)
 
-more_stored : {serials : Serials} {block : Names} {types : Types} (xs : Storage) (levels : List ℕ) (s : State) (e : Environment) (index : ℕ) (k : Kind) (at : ℕ) → Numbered (table_of block.program) k → newest_height s.activations ≡ suc (length levels) → length xs.activations ≡ suc (length levels) → Stored serials xs.signatures xs.living xs.serials (suc (length levels)) s.living s.serials block types → Stored (more_serials serials (length types) (s.serials + 1) (suc (length levels))) xs.signatures (more_storage xs (number_for (table_of block.program) k) at).living (xs.serials + 1) (suc (length levels)) (more_state s index k).living (s.serials + 1) (more_names e block types index) (types ++ (k ∷ []))
-more_stored {serials} {block} {types} xs levels s e index k at numbered high long h =
+more_stored : {serials : Serials} {block : Names} {types : Types} (xs : Storage) (levels : List ℕ) (s : State) (e : Environment) (index : ℕ) (k : Kind) (items : List T.InitialItem) (at : ℕ) → Numbered (table_of block.program) k → newest_height s.activations ≡ suc (length levels) → length xs.activations ≡ suc (length levels) → Stored serials xs.signatures xs.living xs.serials (suc (length levels)) s.living s.serials block types → Stored (more_serials serials (length types) (s.serials + 1) (suc (length levels))) xs.signatures (more_storage xs (number_for (table_of block.program) k) at).living (xs.serials + 1) (suc (length levels)) (more_state s index k items).living (s.serials + 1) (more_names e block types index) (types ++ (k ∷ []))
+more_stored {serials} {block} {types} xs levels s e index k items at numbered high long h =
     let count = length types in
     let table = table_of block.program in
     let serial = s.serials + 1 in
     let o = more_serials serials count serial (suc (length levels)) in
-    let new : Living = record { serial = serial; owner = newest_height s.activations; generation = fresh_kind k; placed = [] } in
+    let new : Living = record { serial = serial; owner = newest_height s.activations; generation = fresh_kind k items; placed = [] } in
     let of_before : (j : ℕ) → j < count → o.of j ≡ serials.of j = λ j below. chosen_before count j (serials.of j) serial below in
     let of_here : o.of count ≡ serial = chosen_here count (serials.of count) serial in
     record {
@@ -239,7 +237,7 @@ more_stored {serials} {block} {types} xs levels s e index k at numbered high lon
           size = ap (λ ts. G.footprint_of_shape (shape_at ts (number_for table k))) h.table
               ∙ ap G.footprint_of_shape (numbered_shape table k numbered)
               ∙ shape_print k numbered.held
-              ∙ sym (scalar_print (record { kind = k; initial = [] }) numbered.held);
+              ∙ sym (scalar_print (record { kind = k; initial = items }) numbered.held);
         },
         h.alike,
       );
@@ -270,18 +268,18 @@ asides_bound : {xss : List (List Aside)} {serials : Serials} {types : Types} {li
 asides_bound b [] fresh all = all
 asides_bound b (a ∷ as') fresh all = asides_other a (record a { bindings = b ∷ a.bindings }) as' fresh all
 
-pub more_all : {frames : Frames} {serials : Serials} {xs : Storage} {levels : List ℕ} {s : State} {block : Names} {types : Types} {n : Values} (e : Environment) (index : ℕ) (k : Kind) (at : ℕ) → IsElementType k.type → k ≡ alone k.type → Numbered (table_of block.program) k → IsNew e block types index → IsFresh frames.asides → Nested s.activations xs.activations → n.numbers (length types) ≡ pos 0 → AllHold frames serials xs (e.level ∷ levels) s block types n → AllHold frames (more_serials serials (length types) (s.serials + 1) (suc (length levels))) (more_storage xs (number_for (table_of block.program) k) at) (e.level ∷ levels) (more_state s index k) (more_names e block types index) (types ++ (k ∷ [])) n
-more_all {frames = frames} {serials = serials} {xs} {levels} {s} {block} {types} {n} e index k at element is numbered new fresh nested zero' all =
+pub more_all : {frames : Frames} {serials : Serials} {xs : Storage} {levels : List ℕ} {s : State} {block : Names} {types : Types} {n : Values} (e : Environment) (index : ℕ) (k : Kind) (items : List T.InitialItem) (at : ℕ) → IsElementType k.type → AreConstants k.type items → k ≡ alone k.type → Numbered (table_of block.program) k → IsNew e block types index → IsFresh frames.asides → Nested s.activations xs.activations → n.numbers (length types) ≡ begin_of items → AllHold frames serials xs (e.level ∷ levels) s block types n → AllHold frames (more_serials serials (length types) (s.serials + 1) (suc (length levels))) (more_storage xs (number_for (table_of block.program) k) at) (e.level ∷ levels) (more_state s index k items) (more_names e block types index) (types ++ (k ∷ [])) n
+more_all {frames = frames} {serials = serials} {xs} {levels} {s} {block} {types} {n} e index k items at element begins is numbered new fresh nested begun all =
     let count = length types in
     let serial = s.serials + 1 in
-    let s' = more_state s index k in
+    let s' = more_state s index k items in
     let names = more_names e block types index in
     let b = kind_binding k index serial in
     let o = more_serials serials count serial (suc (length levels)) in
     let long = entered_length s.activations (e.level ∷ levels) all.entered in
     let newest = newest_of_levels s.activations e.level levels all.entered in
     let high = newest_is s.activations xs.activations (length levels) nested long in
-    let l : Living = record { serial = serial; owner = newest_height s.activations; generation = fresh_kind k; placed = [] } in
+    let l : Living = record { serial = serial; owner = newest_height s.activations; generation = fresh_kind k items; placed = [] } in
     let spot : (j : ℕ) → j < count → names.at j ≡ block.at j = λ j below. chosen_before count j (block.at j) (spot_of e index) below in
     let same : (j : ℕ) → j < count → o.of j ≡ serials.of j = λ j below. chosen_before count j (serials.of j) serial below in
     let stands : (j : ℕ) (kind : Kind) → j < count → slice_get types j ≡ Some kind → standing_for s' (own names j) ≡ standing_for s (own block j) = λ j kind below at'.
@@ -298,8 +296,9 @@ more_all {frames = frames} {serials = serials} {xs} {levels} {s} {block} {types}
           (λ u e' numeric'.
           let type = ap (λ (q : Kind). q.type) e' in
           let element' = subst IsElementType type element in
+          let begins' = subst (λ q. AreConstants q items) type begins in
           record {
-            values = (fresh_kind (alone u)).values;
+            values = (fresh_kind (alone u) items).values;
             stands = ap (λ (q : Spot). binding_in (ancestor s'.activations (newest_height s'.activations) q.level) q.index) (chosen_here count (block.at count) (spot_of e index))
                 ∙ seen_new s.activations b e.level (omega (arith, long)) newest
                 ∙ ap (λ q. Some (kind_binding q index serial)) e'
@@ -307,9 +306,9 @@ more_all {frames = frames} {serials = serials} {xs} {levels} {s} {block} {types}
                 ∙ ap (λ m. Some (scalar_binding u (names.at count).index m)) (sym (chosen_here count (serials.of count) serial));
             lives = ap (λ m. generation_of (living_of s'.living m)) (chosen_here count (serials.of count) serial)
                 ∙ ap generation_of (new_here l s.living)
-                ∙ ap (λ q. Some (fresh_kind q)) e';
-            value = begins_as u [] numeric' (none_given u element') ∙ ap (value_as u) (sym zero');
-            fits = subst (Fits u) (sym zero') (zero_fits u (limited_element u element'));
+                ∙ ap (λ q. Some (fresh_kind q items)) e';
+            value = begins_as u items numeric' begins' ∙ ap (value_as u) (sym begun);
+            fits = subst (Fits u) (sym begun) (begin_fits u items (limited_element u element') begins');
           }) j (alone t.0) t.1 t.0 refl numeric;
       texts = λ j varying most at'.
           by_last types k (λ i kind. kind ≡ alone (text_leaf varying most) → KeepsText s' names i (o.of i) varying most (n.texts i))
@@ -328,7 +327,7 @@ more_all {frames = frames} {serials = serials} {xs} {levels} {s} {block} {types}
       kinds = all.kinds;
       units = units_same frames.known s.activations xs.activations b all.units;
       aside = asides_newer (suc (length levels)) l k refl (asides_bound b s.activations fresh all.aside);
-      stored = more_stored xs levels s e index k at numbered high (same_length s.activations xs.activations nested ∙ long) all.stored;
+      stored = more_stored xs levels s e index k items at numbered high (same_length s.activations xs.activations nested ∙ long) all.stored;
     }
 
 -- ---- without it

@@ -7,6 +7,7 @@ use Rattle.rv_meaning.specs.Words.{word}
 use Rattle.rv_meaning.specs.Memory.{load, store}
 use Rattle.rv_meaning.specs.Machine.{memory_size, load_width, extended, store_width}
 use Rattle.pli_typing.specs.Signatures.{Bounds, element_count}
+use Rattle.pli_language.specs.Tree as T
 use Rattle.pli_typing.specs.TypedTree as Y
 use Rattle.pli_meaning.specs.BasicValues.{BasicText}
 use Rattle.pli_meaning.specs.DeclaredShapes.{variables_of_block}
@@ -55,7 +56,8 @@ other_kept false x y e = refl
 pub record More {e : Environment} {block : Names} {types : Types} (ib : Block e block types) (index : ℕ) (k : Kind) : Type 0 where
   pub element : IsElementType k.type
   pub is : k ≡ alone k.type
-  pub declared : slice_get (variables_of_block e.program e.block) index ≡ Some (plain_variable k.type [])
+  pub initial : List T.InitialItem
+  pub declared : slice_get (variables_of_block e.program e.block) index ≡ Some (plain_variable k.type initial)
   pub deep : 0 < e.level
   pub place : ib.stack.frame + automatic_place e.parts e.program e.block e.level index ≡ ib.stack.free
   pub room : ib.stack.free + 36 ≤ 14 * 2 ^ 20
@@ -123,7 +125,7 @@ more_declared {e} {block} {types} ib {index} {k} o j type at =
     (λ i kind below at' u e'.
     let d = ib.declared i (at' ∙ ap (λ q. Some q) e') in
     (d.0, ap (λ (s : Spot). slice_get (variables_of_block e.program s.number) s.index) (around_spot e block types index i below) ∙ d.1))
-    (λ u e'. ([], ap (λ (s : Spot). slice_get (variables_of_block e.program s.number) s.index) (own_spot e block types index) ∙ o.declared ∙ ap (λ q. Some (plain_variable q [])) (own_type e')))
+    (λ u e'. (o.initial, ap (λ (s : Spot). slice_get (variables_of_block e.program s.number) s.index) (own_spot e block types index) ∙ o.declared ∙ ap (λ q. Some (plain_variable q o.initial)) (own_type e')))
     j (alone type) at type refl
 
 -- ---- it is reached

@@ -30,7 +30,7 @@ use Rattle.pli_headline.proofs.BeginMeant.{Entering, inner_around, inner_enterin
 use Rattle.pli_headline.proofs.Begins.{inner_of, begin_does}
 use Rattle.pli_headline.proofs.Declares.{made_block}
 use Rattle.pli_headline.proofs.DeclaredBegins.{is_made, made_constants, inner_makes, made_filled, declares_does}
-use Rattle.pli_headline.proofs.StandingBytes.{ConstantsStand}
+use Rattle.pli_headline.proofs.StandingBytes.{ConstantsStand, constants_moved}
 use Rattle.pli_headline.proofs.Scalars.{Values}
 use Rattle.pli_headline.proofs.JumpsOut.{out_does}
 use Rattle.pli_headline.proofs.Returns.{return_does}
@@ -61,7 +61,7 @@ use Rattle.pli_headline.proofs.TextElementAssignments.{assign_text_part_does}
 -- constant bytes stand in a block inside it
 standing_inner : {e : Environment} {block : Names} {types : Types} {bl : Block e block types} {links : Links} {code : List Instr} (inner : Inner bl) (t0 : ℕ → ℕ) (number level : ℕ) (next : level ≡ suc e.level) (s : Standing bl links code) → (n : Values) → ConstantsStand links code ((inner_block bl inner t0 number level next s.filled).ground n)
 standing_inner inner t0 number level next s n =
-    record { stand = λ bytes placed t b m o. (s.constants n).stand bytes placed t0 b m o.kept }
+    constants_moved (λ t. t0) (λ t b m o. o.kept) (s.constants n)
 
 pub standing_within : {e : Environment} {block : Names} {types : Types} {bl : Block e block types} {links : Links} {code : List Instr} (labels : List Label) → Standing bl links code → Standing (within labels bl) links code
 standing_within labels s = record { raises = s.raises; constants = s.constants; filled = s.filled; known = s.known }
@@ -331,7 +331,7 @@ mutual
       let are : AreProvedStatements (names_in block types head vars) (types_in types vars) body = subst (λ p. AreProvedStatements (names_in block types head (variables_of_block p head.number)) (types_in types (variables_of_block p head.number)) body) bl.named is.1.1 in
       let around' : AllJumpAround head.number head.level all e.blocks (main_outer procedure e.program.procedures) (own' ∷ bl.outer) (labels_in body) body = jumps.1 in
       let makes = λ (t0 : ℕ → ℕ). inner_makes bl inner t0 head next routines.filled routines.known are' deep (let place = inner.place in omega (arith, fits, shallow)) (omega (arith, few)) in
-      declares_does bl links code around more head body inner named.lower refl shallow next routines.filled (known_in e.owner head.number head.level routines.known) are' makes is.0 is.1.0 entering
+      declares_does bl links code around more head body inner named.lower refl shallow next routines.filled (known_in e.owner head.number head.level routines.known) are' makes (λ t0. standing_inner inner t0 head.number head.level next routines) is.0 is.1.0 entering
       (λ more' step deeper t0 serial.
       let ib = inner_block bl inner t0 head.number head.level next routines.filled in
       let mb = made_block ib vars (makes t0) serial in

@@ -5,10 +5,13 @@ use Rattle.rv_meaning.specs.declared.instr.Instr.TheVariants as I
 use Rattle.rv_meaning.specs.declared.instr.BranchTest.TheVariants as Test
 use Rattle.pli_language.specs.declared.condition.Condition.{Condition}
 use Rattle.pli_language.specs.declared.condition.Condition.TheVariants as C
+use Rattle.pli_language.specs.Tree as T
 use Rattle.pli_typing.specs.TypedTree as Y
 use Rattle.pli_meaning.specs.Control.{Label}
 use Rattle.pli_coding.specs.Registers.{zero_register, stack_register, frame_register, a0, a1, a2, u0, u1, u2, a3, a4}
-use Rattle.pli_coding.specs.Assembly.{Symbol, Plain, BaseIn, ProcedureEntry, LabelPlace, ReturnPlace, JumpTo, CallTo, JumpAhead, JumpBack, Code, size_of}
+use Rattle.pli_coding.specs.Extents.{initial_given, initial_code}
+use Rattle.pli_coding.specs.StaticForms.{initial_datum}
+use Rattle.pli_coding.specs.Assembly.{Datum, Symbol, Plain, BaseIn, ProcedureEntry, LabelPlace, ReturnPlace, JumpTo, CallTo, JumpAhead, JumpBack, Code, size_of}
 use Rattle.pli_coding.specs.Instructions.{add, move, subtract, small, number, plus, load_word, store_word, skip_where, service, tested_service}
 use Rattle.pli_coding.specs.Environments.{Owner, BlockOwner, UnitOwner, Environment, in_frame, owned_by, Taken, none_taken, block_around}
 use Rattle.pli_coding.specs.Frames.{frame_below, own_offset, lower_top, display, fixed_size, frame_end, temporary_bytes, words_place, name_bytes, frame_bytes, automatic_place, last_place, is_automatic}
@@ -118,18 +121,22 @@ called_begun_none words level =
     (behind made (own ++ raised) [] (display_none level) (behind own raised [] refl (plus_none stack_register frame_register (pos (fixed_size level 0))))))
 
 -- what makes a variable
-one_none : (e : Environment) (place : ℕ) (type : Y.LeafType) → IsElementType type → Marks (constant_made e place (plain_variable type [])) []
-one_none e place type element =
-    let d = plain_variable type [] in
+given_none : (r : Register) (start : Option Datum) → Marks (initial_given r start) []
+given_none r None = refl
+given_none r (Some d) = refl
+
+one_none : (e : Environment) (place : ℕ) (type : Y.LeafType) (items : List T.InitialItem) → IsElementType type → Marks (constant_made e place (plain_variable type items)) []
+one_none e place type items element =
+    let d = plain_variable type items in
     let own = own_place e a0 (pos place) in
     let named = number a1 (table_number e d) in
-    let first = small a2 0 ∷ [] in
+    let first = initial_code a2 d in
     let second = own_place e a3 (pos (place + name_bytes)) in
     let asked = small a4 0 ∷ service 7 in
     let up = plus stack_register frame_register (pos (min last_place (place + frame_bytes e.parts d))) in
     behind own (named ++ (first ++ (second ++ (asked ++ up)))) [] (own_place_none e a0 place)
     (behind named (first ++ (second ++ (asked ++ up))) [] (constant_none a1 (pos (table_number e d)))
-    (behind first (second ++ (asked ++ up)) [] refl
+    (behind first (second ++ (asked ++ up)) [] (given_none a2 (initial_datum d))
     (behind second (asked ++ up) [] (own_place_none e a3 (place + name_bytes))
     (behind asked up [] refl (plus_none stack_register frame_register (pos (min last_place (place + frame_bytes e.parts d))))))))
   where
@@ -149,8 +156,9 @@ declared_none e line index [] are = refl
 declared_none e line index (d ∷ ds) are =
     let place = automatic_place e.parts e.program e.block e.level index in
     let rest = variables_made e line (suc index) ds in
+    let items = are.0.items in
     let T : Y.DeclaredVariable → Type 0 = λ u. Marks ((if is_automatic u.class then automatic_made e line place u else []) ++ rest) [] in
-    subst T (sym are.0.is) (by_element (λ t. T (plain_variable t [])) (λ p element. behind (constant_made e place (plain_variable (Y.FixedLeaf p) [])) rest [] (one_none e place (Y.FixedLeaf p) element) (declared_none e line (suc index) ds are.1)) (behind (constant_made e place (plain_variable Y.BitLeaf [])) rest [] (one_none e place Y.BitLeaf tt) (declared_none e line (suc index) ds are.1)) are.0.type are.0.element)
+    subst T (sym are.0.is) (by_element (λ t. T (plain_variable t items)) (λ p element. behind (constant_made e place (plain_variable (Y.FixedLeaf p) items)) rest [] (one_none e place (Y.FixedLeaf p) items element) (declared_none e line (suc index) ds are.1)) (behind (constant_made e place (plain_variable Y.BitLeaf items)) rest [] (one_none e place Y.BitLeaf items tt) (declared_none e line (suc index) ds are.1)) are.0.type are.0.element)
 
 begin_marks : (e : Environment) (head : Y.BlockHead) (words : ℕ) (c : Code) (ss : List Symbol) → AreDeclaring (variables_of_block e.program head.number) → Marks c ss → Marks (begin_code e head words c) ss
 begin_marks e head words c ss declaring h =

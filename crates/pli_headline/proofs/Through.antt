@@ -14,6 +14,7 @@ use Rattle.pli_coding.specs.Environments.{Environment}
 use Rattle.pli_coding.specs.Linking.{Links, place_of}
 use Rattle.pli_coding.specs.SignatureTable.{table_of}
 use Rattle.pli_headline.specs.ProvedSoFar.{Names, Kind, Types, OuterBlock}
+use Rattle.pli_headline.proofs.StandingBytes.{constants_moved}
 use Rattle.pli_headline.proofs.Scalars.{Values, place_below}
 use Rattle.pli_headline.proofs.Variables.{level_of, own}
 use Rattle.pli_headline.proofs.Storages.{Storage, storage, Serials, Stored}
@@ -242,7 +243,7 @@ pub standing_narrowed : {e : Environment} {outer : Names} {outers : Types} {bloc
 standing_narrowed {outers = outers} b n0 x place mains has s =
     record {
       raises = s.raises;
-      constants = λ n. record { stand = λ bytes placed t base m o. (s.constants (beside (length outers) n n0)).stand bytes placed t base m o };
+      constants = λ n. constants_moved (λ t. t) (λ t base m o. o) (s.constants (beside (length outers) n n0));
       filled = s.filled;
       known = s.known;
     }

@@ -1,7 +1,7 @@
 -- The programs for which the headline is proved so far: a main procedure with scalars of FIXED BINARY, BIT(1) and CHARACTER of
 -- constant lengths, VARYING or not, with or without INITIAL, arrays of these with constant bounds, with or without
 -- INITIAL, procedures inside it, without parameters and results, and BEGIN blocks in these and in one another, which declare nothing,
--- or scalars of FIXED BINARY and BIT(1) without INITIAL; expressions of numbers, bits and texts, and elements of arrays
+-- or scalars of FIXED BINARY and BIT(1), with or without INITIAL; expressions of numbers, bits and texts, and elements of arrays
 -- in them; assignments of these, CALL of these procedures, also by themselves, IF, groups, DO WHILE, DO with a variable, GOTO to a label
 -- of a list around it in its block, in a block around it up to the procedure's own, or of the main procedure's own list, RETURN, STOP,
 -- SIGNAL, ON with SYSTEM, ON for AREA with a single statement or a BEGIN block in the main procedure's own block, REVERT, PUT EDIT of
@@ -626,11 +626,13 @@ AllOnce (n ∷ ns) others = (number_times n others ≡ 1) × AllOnce ns others
 
 -- ---- blocks inside the procedure
 
--- AUTOMATIC scalars of numbers and bits, without INITIAL
+-- AUTOMATIC scalars of numbers and bits, with what INITIAL gives them
 pub record IsDeclaring (d : Y.DeclaredVariable) : Type 0 where
   pub type : Y.LeafType
   pub element : IsElementType type
-  pub is : d ≡ plain_variable type []
+  pub items : List T.InitialItem
+  pub begins : AreConstants type items
+  pub is : d ≡ plain_variable type items
 
 abbrev pub AreDeclaring : List Y.DeclaredVariable → Type 0
 AreDeclaring [] = ⊤
