@@ -58,7 +58,7 @@ element_all {frames = frames} {serials = serials} {s = s} {types = types} {n = n
       framed = all.framed;
       kinds = all.kinds;
       units = all.units;
-      aside = asides_changed j change below all.aside;
+      aside = asides_changed j change below.0 all.aside;
       stored = stored_changed (serials.of j) change (λ g. refl) all.stored;
     }
 

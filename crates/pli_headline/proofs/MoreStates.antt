@@ -140,7 +140,7 @@ array_moved {block' = block'} {j} {serial} {serial'} {type} {bs} spot same stand
       fits = h.fits;
     }
 
-texts_moved : {s s' : State} {block block' : Names} {j serial serial' : ℕ} {varying : Bool} {most : ℕ} {bs : List Bounds} {texts : ℕ → List ℕ} → block'.at j ≡ block.at j → serial' ≡ serial → standing_for s' (own block' j) ≡ standing_for s (own block j) → generation_of (living_of s'.living serial') ≡ generation_of (living_of s.living serial) → HoldsTexts s block j serial varying most bs texts → HoldsTexts s' block' j serial' varying most bs texts
+pub texts_moved : {s s' : State} {block block' : Names} {j serial serial' : ℕ} {varying : Bool} {most : ℕ} {bs : List Bounds} {texts : ℕ → List ℕ} → block'.at j ≡ block.at j → serial' ≡ serial → standing_for s' (own block' j) ≡ standing_for s (own block j) → generation_of (living_of s'.living serial') ≡ generation_of (living_of s.living serial) → HoldsTexts s block j serial varying most bs texts → HoldsTexts s' block' j serial' varying most bs texts
 texts_moved {block' = block'} {j} {serial} {serial'} {varying} {most} {bs} spot same stands lives h =
     record {
       values = h.values;

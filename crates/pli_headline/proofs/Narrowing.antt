@@ -28,6 +28,8 @@ use Rattle.pli_headline.proofs.TextsKept.{text_kept_as}
 use Rattle.pli_headline.proofs.TextScopes.{IsTextAt}
 use Rattle.pli_headline.proofs.ElementsStay.{with_element_at}
 use Rattle.pli_headline.proofs.ArrayScopes.{IsArrayAt, ArrayOn, with_element_of}
+use Rattle.pli_headline.proofs.TextArraysStay.{text_stride, with_text_in}
+use Rattle.pli_headline.proofs.TextArrayScopes.{IsTextArrayAt, TextArrayOn, with_text_of}
 use Rattle.pli_headline.proofs.OuterBlocks.{Rises}
 use Rattle.pli_headline.proofs.Asides.{Aside}
 use Rattle.pli_headline.proofs.Entered.{put_aside}
@@ -113,6 +115,7 @@ beside count n n0 =
       numbers = λ j. cond (nat_lt j count) (n.numbers j) (n0.numbers j);
       texts = λ j. cond (nat_lt j count) (n.texts j) (n0.texts j);
       arrays = λ j. cond (nat_lt j count) (n.arrays j) (n0.arrays j);
+      text_arrays = λ j. cond (nat_lt j count) (n.text_arrays j) (n0.text_arrays j);
     }
 
 pub chosen_behind : {A : Type 0} (count j : ℕ) (x y : A) → count ≤ j → cond (nat_lt j count) x y ≡ y
@@ -120,7 +123,7 @@ chosen_behind count j x y h = ap (λ q. cond q x y) (le-ltb j count h)
 
 pub beside_self : (types : Types) (count : ℕ) (n : Values) → SameValues types n (beside count n n)
 beside_self types count n j kind at =
-    (same (nat_lt j count) (n.numbers j), (same (nat_lt j count) (n.texts j), same (nat_lt j count) (n.arrays j)))
+    (same (nat_lt j count) (n.numbers j), (same (nat_lt j count) (n.texts j), (same (nat_lt j count) (n.arrays j), same (nat_lt j count) (n.text_arrays j))))
   where
     same : {A : Type 0} (q : Bool) (x : A) → x ≡ cond q x x
     same true x = refl
@@ -130,17 +133,20 @@ beside_self types count n j kind at =
 pub beside_same : {outer : Names} {outers : Types} {block : Names} {types : Types} → Narrows outer outers block types → (n n' n0 : Values) → SameValues outers n n' → SameValues types (beside (length outers) n n0) (beside (length outers) n' n0)
 beside_same {outers = outers} {block = block} b n n' n0 same j kind at = by_place (b.others j at)
   where
-    by_place : (slice_get outers j ≡ Some kind) ⊎ ((length outers ≤ j) × (0 < level_of block j)) → ((beside (length outers) n n0).numbers j ≡ (beside (length outers) n' n0).numbers j) × (((beside (length outers) n n0).texts j ≡ (beside (length outers) n' n0).texts j) × ((beside (length outers) n n0).arrays j ≡ (beside (length outers) n' n0).arrays j))
+    by_place : (slice_get outers j ≡ Some kind) ⊎ ((length outers ≤ j) × (0 < level_of block j)) → ((beside (length outers) n n0).numbers j ≡ (beside (length outers) n' n0).numbers j) × (((beside (length outers) n n0).texts j ≡ (beside (length outers) n' n0).texts j) × (((beside (length outers) n n0).arrays j ≡ (beside (length outers) n' n0).arrays j) × ((beside (length outers) n n0).text_arrays j ≡ (beside (length outers) n' n0).text_arrays j)))
     by_place (inl h) =
         let o = same j kind h in (
           ap (λ z. cond (nat_lt j (length outers)) z (n0.numbers j)) o.0,
-          (ap (λ z. cond (nat_lt j (length outers)) z (n0.texts j)) o.1.0, ap (λ z. cond (nat_lt j (length outers)) z (n0.arrays j)) o.1.1),
+          (ap (λ z. cond (nat_lt j (length outers)) z (n0.texts j)) o.1.0, (ap (λ z. cond (nat_lt j (length outers)) z (n0.arrays j)) o.1.1.0, ap (λ z. cond (nat_lt j (length outers)) z (n0.text_arrays j)) o.1.1.1)),
         )
     by_place (inr h) = (
       chosen_behind (length outers) j (n.numbers j) (n0.numbers j) h.0 ∙ sym (chosen_behind (length outers) j (n'.numbers j) (n0.numbers j) h.0),
       (
         chosen_behind (length outers) j (n.texts j) (n0.texts j) h.0 ∙ sym (chosen_behind (length outers) j (n'.texts j) (n0.texts j) h.0),
-        chosen_behind (length outers) j (n.arrays j) (n0.arrays j) h.0 ∙ sym (chosen_behind (length outers) j (n'.arrays j) (n0.arrays j) h.0),
+        (
+          chosen_behind (length outers) j (n.arrays j) (n0.arrays j) h.0 ∙ sym (chosen_behind (length outers) j (n'.arrays j) (n0.arrays j) h.0),
+          chosen_behind (length outers) j (n.text_arrays j) (n0.text_arrays j) h.0 ∙ sym (chosen_behind (length outers) j (n'.text_arrays j) (n0.text_arrays j) h.0),
+        ),
       ),
     )
 
@@ -161,15 +167,19 @@ here_first count i j below e = let same = eqb-true i j e in lt-ltb i count (omeg
 
 number_beside : (types : Types) (count : ℕ) (n n0 : Values) (j : ℕ) (z : ℤ) → j < count → SameValues types (with_number_at (beside count n n0) j z) (beside count (with_number_at n j z) n0)
 number_beside types count n n0 j z below i kind at =
-    (put_by (i == j) (nat_lt i count) (n.numbers i) (n0.numbers i) z (here_first count i j below), (refl, refl))
+    (put_by (i == j) (nat_lt i count) (n.numbers i) (n0.numbers i) z (here_first count i j below), (refl, (refl, refl)))
 
 text_beside : (types : Types) (count : ℕ) (n n0 : Values) (j : ℕ) (text : List ℕ) → j < count → SameValues types (with_text_at (beside count n n0) j text) (beside count (with_text_at n j text) n0)
 text_beside types count n n0 j text below i kind at =
-    (refl, (put_by (i == j) (nat_lt i count) (n.texts i) (n0.texts i) text (here_first count i j below), refl))
+    (refl, (put_by (i == j) (nat_lt i count) (n.texts i) (n0.texts i) text (here_first count i j below), (refl, refl)))
 
 element_beside : (types : Types) (count : ℕ) (n n0 : Values) (j p : ℕ) (z : ℤ) → j < count → SameValues types (with_element_of (beside count n n0) j p z) (beside count (with_element_of n j p z) n0)
 element_beside types count n n0 j p z below i kind at =
-    (refl, (refl, part_by (i == j) (nat_lt i count) (λ u. with_element_at u p z) (n.arrays i) (n0.arrays i) (here_first count i j below)))
+    (refl, (refl, (part_by (i == j) (nat_lt i count) (λ u. with_element_at u p z) (n.arrays i) (n0.arrays i) (here_first count i j below), refl)))
+
+text_element_beside : (types : Types) (count : ℕ) (n n0 : Values) (j p : ℕ) (text : List ℕ) → j < count → SameValues types (with_text_of (beside count n n0) j p text) (beside count (with_text_of n j p text) n0)
+text_element_beside types count n n0 j p text below i kind at =
+    (refl, (refl, (refl, part_by (i == j) (nat_lt i count) (λ u. with_text_in u p text) (n.text_arrays i) (n0.text_arrays i) (here_first count i j below))))
 
 -- ---- where they stand
 
@@ -219,14 +229,14 @@ narrowed_text_writes {e} {outers = outers} {block = block} {types = types} bl b 
 
 pub narrowed_array : {e : Environment} {outer : Names} {outers : Types} {block : Names} {types : Types} (bl : Block e block types) (b : Narrows outer outers block types) (n0 : Values) (j : ℕ) (type : Y.LeafType) (c : Bounds) (cs : List Bounds) → IsArrayAt outers j type c cs → ArrayOn e outer (bl.bases j) bl.stack.free (narrowed_ground bl outers n0) j type (c ∷ cs)
 narrowed_array {e} {outer} {outers} {block} {types} bl b n0 j type c cs at =
-    let on = bl.arrays j type c cs (b.among j at) in
+    let on = bl.arrays j type c cs (b.among j at.0, at.1) in
     let count = length outers in
-    let below = place_below outers j _ at in
-    let d = same_data e b j at in
+    let below = place_below outers j _ at.0 in
+    let d = same_data e b j at.0 in
     let under = on.under in
     let mine : (n : Values) → (beside count n n0).arrays j ≡ n.arrays j = λ n. chosen_before count j (n.arrays j) (n0.arrays j) below in
     record {
-      declared = (on.declared.0, ap (λ (u : Spot). slice_get (variables_of_block e.program u.number) u.index) (b.spots j at) ∙ on.declared.1);
+      declared = (on.declared.0, ap (λ (u : Spot). slice_get (variables_of_block e.program u.number) u.index) (b.spots j at.0) ∙ on.declared.1);
       bounds = on.bounds;
       few = on.few;
       within = on.within;
@@ -240,6 +250,37 @@ narrowed_array {e} {outer} {outers} {block} {types} bl b n0 j type c cs at =
           subst (λ x. (narrowed_ground bl outers n0 (with_element_of n j p z)).memory t base (store (store_width (store_kind type)) m (bl.bases j + 4 * p + x) (word z))) (sym d)
           (bl.alike (with_element_of (beside count n n0) j p z) (beside count (with_element_of n j p z) n0) (element_beside types count n n0 j p z below) t base (store (store_width (store_kind type)) m (bl.bases j + 4 * p + data_place e block j) (word z))
           (on.writes (beside count n n0) p z inside (subst (λ (u : ℕ → ℤ). Fits type (u p)) (sym (mine n)) old) fits t base m len held));
+    }
+
+pub narrowed_text_array : {e : Environment} {outer : Names} {outers : Types} {block : Names} {types : Types} (bl : Block e block types) (b : Narrows outer outers block types) (n0 : Values) (j : ℕ) (varying : Bool) (most : ℕ) (c : Bounds) (cs : List Bounds) → IsTextArrayAt outers j varying most c cs → TextArrayOn e outer (bl.bases j) bl.stack.free (narrowed_ground bl outers n0) j varying most (c ∷ cs)
+narrowed_text_array {e} {outer} {outers} {block} {types} bl b n0 j varying most c cs at =
+    let on = bl.text_arrays j varying most c cs (b.among j at) in
+    let count = length outers in
+    let below = place_below outers j _ at in
+    let d = same_data e b j at in
+    let within = on.within in
+    let under = on.under in
+    let stride = text_stride varying most in
+    let mine : (n : Values) → (beside count n n0).text_arrays j ≡ n.text_arrays j = λ n. chosen_before count j (n.text_arrays j) (n0.text_arrays j) below in
+    record {
+      declared = (on.declared.0, ap (λ (u : Spot). slice_get (variables_of_block e.program u.number) u.index) (b.spots j at) ∙ on.declared.1);
+      bounds = on.bounds;
+      few = on.few;
+      some = on.some;
+      short = on.short;
+      high = on.high;
+      within = omega (arith, within, d);
+      under = omega (arith, under, d);
+      reads = λ n p inside t base m held.
+          subst (λ x. TextThere varying most (bl.bases j + p * stride + x) m (n.text_arrays j p)) (sym d)
+          (subst (λ (u : ℕ → List ℕ). TextThere varying most (bl.bases j + p * stride + data_place e block j) m (u p)) (mine n)
+          (on.reads (beside count n n0) p inside t base m held));
+      writes = λ n p text inside t base m len held.
+          let kept = text_kept_as varying most text in
+          let bytes = kept_bytes (text_kind_of varying most) (BasicText text) in
+          subst (λ x. (narrowed_ground bl outers n0 (with_text_of n j p kept)).memory t base (with_bytes bytes (bl.bases j + p * stride + x) m)) (sym d)
+          (bl.alike (with_text_of (beside count n n0) j p kept) (beside count (with_text_of n j p kept) n0) (text_element_beside types count n n0 j p kept below) t base (with_bytes bytes (bl.bases j + p * stride + data_place e block j) m)
+          (on.writes (beside count n n0) p text inside t base m len held));
     }
 
 -- ---- the main procedure around it
@@ -381,6 +422,7 @@ narrowed {e} {outer} {outers} {block} {types} bl b n0 x place mains has =
         writes = λ n j varying most text at t b' m len held. narrowed_text_writes bl b n0 n j varying most text at t b' m len held;
       };
       arrays = λ j type c cs at. narrowed_array bl b n0 j type c cs at;
+      text_arrays = λ j varying most c cs at. narrowed_text_array bl b n0 j varying most c cs at;
       outer = narrowed_outer bl place mains has;
       enclosing = narrowed_enclosures bl outers n0 place mains has;
       seen = narrowed_seen bl b n0 place mains has;

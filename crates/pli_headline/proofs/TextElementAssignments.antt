@@ -50,6 +50,7 @@ use Rattle.pli_headline.proofs.TextElements.{text_element_stored_piece}
 use Rattle.pli_headline.proofs.TextArrayScopes.{IsTextArrayAt, with_text_of, text_array_scope}
 use Rattle.pli_headline.proofs.TextArrayStates.{numbers_apart, text_arrays_after}
 use Rattle.pli_headline.proofs.TextAssignments.{assign_text_does}
+use Rattle.pli_headline.proofs.Asides.{asides_changed}
 use Rattle.pli_headline.proofs.Entered.{Frames}
 use Rattle.pli_headline.proofs.Statements.{Block, Standing, AllHold, Does, counted_all}
 use Rattle.pli_headline.proofs.Reach.{Family, Aims, Comes, Closed, before_closed, comes_on}
@@ -69,6 +70,7 @@ text_element_all {serials = serials} {s = s} {types = types} {n = n} j varying m
       framed = all.framed;
       kinds = all.kinds;
       units = all.units;
+      aside = asides_changed j change below all.aside;
       stored = stored_changed (serials.of j) change (λ g. refl) all.stored;
     }
 

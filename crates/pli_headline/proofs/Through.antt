@@ -23,9 +23,10 @@ use Rattle.pli_headline.proofs.Entered.{Frames, put_aside, frames_left}
 use Rattle.pli_headline.proofs.States.{Holds}
 use Rattle.pli_headline.proofs.TextStates.{KeepsText}
 use Rattle.pli_headline.proofs.ArrayMeant.{HoldsArray}
+use Rattle.pli_headline.proofs.TextArrayMeant.{HoldsTexts}
 use Rattle.pli_headline.proofs.DeclaredNames.{chosen_before}
 use Rattle.pli_headline.proofs.Reach.{Family}
-use Rattle.pli_headline.proofs.MoreStates.{holds_moved, keeps_moved, array_moved, restricts_all, all_same}
+use Rattle.pli_headline.proofs.MoreStates.{holds_moved, keeps_moved, array_moved, texts_moved, restricts_all, all_same}
 use Rattle.pli_headline.proofs.Statements.{Block, Standing, AllHold, Restricts, Enclosures, Outlets, OutletOf, Homes, Does, IsMarkedOnce, ended_times}
 use Rattle.pli_headline.proofs.MainOutlets.{MainAround, HasMain}
 use Rattle.pli_headline.proofs.Narrowing.{Narrows, beside, beside_self, chosen_behind, narrowed_main, narrowed}
@@ -77,6 +78,7 @@ aside_all {frames = frames} {serials} {level = level} {depths} {s} {outers = out
       numbers = r.numbers;
       texts = r.texts;
       arrays = r.arrays;
+      text_arrays = r.text_arrays;
       entered = r.entered;
       framed = r.framed;
       kinds = r.kinds;
@@ -127,11 +129,17 @@ back_all {frames} {serials} {xs} {xs'} {levels} {s} {s'} {outer} {outers} {block
           (λ among. subst (λ z. KeepsText s' block j (serials.of j) varying most z) (sym (chosen_behind count j (n'.texts j) (n.texts j) among.behind))
           (keeps_moved refl refl (x.stands j among) (x.lives j among) (before.texts j varying most at')));
       arrays = λ j type c cs at'.
-          by_narrowed b j _ at'
+          by_narrowed b j _ at'.0
           (λ at. subst (λ z. HoldsArray s' block j (serials.of j) type (c ∷ cs) z) (sym (chosen_before count j (n'.arrays j) (n.arrays j) (place_below outers j _ at)))
-          (array_moved (spot j _ at) refl (stands j _ at) refl (now.arrays j type c cs at)))
+          (array_moved (spot j _ at) refl (stands j _ at) refl (now.arrays j type c cs (at, at'.1))))
           (λ among. subst (λ z. HoldsArray s' block j (serials.of j) type (c ∷ cs) z) (sym (chosen_behind count j (n'.arrays j) (n.arrays j) among.behind))
           (array_moved refl refl (x.stands j among) (x.lives j among) (before.arrays j type c cs at')));
+      text_arrays = λ j varying most c cs at'.
+          by_narrowed b j _ at'
+          (λ at. subst (λ z. HoldsTexts s' block j (serials.of j) varying most (c ∷ cs) z) (sym (chosen_before count j (n'.text_arrays j) (n.text_arrays j) (place_below outers j _ at)))
+          (texts_moved (spot j _ at) refl (stands j _ at) refl (now.text_arrays j varying most c cs at)))
+          (λ among. subst (λ z. HoldsTexts s' block j (serials.of j) varying most (c ∷ cs) z) (sym (chosen_behind count j (n'.text_arrays j) (n.text_arrays j) among.behind))
+          (texts_moved refl refl (x.stands j among) (x.lives j among) (before.text_arrays j varying most c cs at')));
       entered = now.entered;
       framed = now.framed;
       kinds = now.kinds;
