@@ -104,11 +104,13 @@ pub mod MoreStates
 pub mod OneMore
 pub mod MoreServed
 pub mod Declares
+pub mod NamesStand
 pub mod MainGround
 pub mod MainTexts
 pub mod MainBlock
 pub mod MainArrays
 pub mod ArrayGrounds
+pub mod ArrayNames
 pub mod ArrayStates
 pub mod InnerFrames
 pub mod CalledFrames
