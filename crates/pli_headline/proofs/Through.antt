@@ -172,10 +172,13 @@ main_outlets bl {outers = outers} b n0 x place mains links k acts jumped label a
           acted at';
     }
   where
-    first_beside : (n : Values) (j : ℕ) → j < length outers → (n.numbers j ≡ (beside (length outers) n n0).numbers j) × ((n.texts j ≡ (beside (length outers) n n0).texts j) × (n.arrays j ≡ (beside (length outers) n n0).arrays j))
+    first_beside : (n : Values) (j : ℕ) → j < length outers → (n.numbers j ≡ (beside (length outers) n n0).numbers j) × ((n.texts j ≡ (beside (length outers) n n0).texts j) × ((n.arrays j ≡ (beside (length outers) n n0).arrays j) × (n.text_arrays j ≡ (beside (length outers) n n0).text_arrays j)))
     first_beside n j below = (
       sym (chosen_before (length outers) j (n.numbers j) (n0.numbers j) below),
-      (sym (chosen_before (length outers) j (n.texts j) (n0.texts j) below), sym (chosen_before (length outers) j (n.arrays j) (n0.arrays j) below)),
+      (
+        sym (chosen_before (length outers) j (n.texts j) (n0.texts j) below),
+        (sym (chosen_before (length outers) j (n.arrays j) (n0.arrays j) below), sym (chosen_before (length outers) j (n.text_arrays j) (n0.text_arrays j) below)),
+      ),
     )
 main_outlets bl b n0 x place mains links k acts jumped label among once (o ∷ os) cs (inr h) few outs =
     main_outlets bl b n0 x place mains links k acts jumped label among once os cs.1 h few outs.1
