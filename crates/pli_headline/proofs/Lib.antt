@@ -92,6 +92,7 @@ pub mod ArrayExpressions
 pub mod ArrayDimensions
 pub mod ArrayAssignments
 pub mod ElementAssignments
+pub mod ElementsAssignments
 pub mod Targets
 pub mod TextStates
 pub mod TextGrounds
@@ -111,6 +112,11 @@ pub mod MainBlock
 pub mod MainArrays
 pub mod ArrayGrounds
 pub mod ArrayNames
+pub mod ElementsFilled
+pub mod ElementsServed
+pub mod ElementsCode
+pub mod ElementsMarks
+pub mod ElementsPieces
 pub mod ArrayStates
 pub mod InnerFrames
 pub mod CalledFrames
@@ -221,6 +227,7 @@ mod Rows
 mod DeclaredRows
 mod CallingRows
 mod TextArrayRows
+mod ElementsRows
 pub mod FirstPathDeclared
 pub mod FirstPathNames
 pub mod FirstPathExpressions

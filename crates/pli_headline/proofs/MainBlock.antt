@@ -175,13 +175,17 @@ abbrev main_named : {served : ℕ → Option S.Living} (f : Frame) (first : List
 main_named f first e block types inside placed fit j type b bs at =
     let kind : Kind = record { type = type; bounds = b ∷ bs } in
     let here = inside j kind at.0 in
-    let data = placed j here in
-    let same : f.at + name_place f.sizes j ≡ f.at + place_of_name e block j = omega (arith, data) in
+    let stands = placed j here in
+    let same : f.at + name_place f.sizes j ≡ f.at + place_of_name e block j = omega (arith, stands) in
     record {
       living = record { serial = suc j; owner = 1; signature = number_for (table_of e.program) kind; at = f.at + number_place f.sizes j };
       lives = fit.living j kind at.0 here;
       signature = refl;
-      at = omega (arith, data);
+      at = omega (arith, stands);
+      aligned = f.whole;
+      high = let above = f.above_statics in omega (arith, above);
+      room = let within = f.inside in omega (arith, within);
+      own = λ n t c m o. o.own;
       names = λ n t c m o. subst (λ p. NameThere m p (suc j)) same (o.names j here);
     }
 

@@ -297,6 +297,10 @@ narrowed_named {e} {outer} {outers} {block} {types} bl b n0 j type c cs at =
       lives = on.lives;
       signature = on.signature;
       at = omega (arith, here, d);
+      aligned = on.aligned;
+      high = on.high;
+      room = on.room;
+      own = λ n t base m held. on.own (beside (length outers) n n0) t base m held;
       names = λ n t base m held. subst (λ p. NameThere m p (bl.serials.of j)) same (on.names (beside (length outers) n n0) t base m held);
     }
 

@@ -345,6 +345,10 @@ more_named {e} {block} {types} ib index k serial j kind below on =
       lives = ap ib.serials.first mine ∙ on.lives;
       signature = on.signature;
       at = omega (arith, here, a, d);
+      aligned = let h = on.aligned in omega (arith, h, a);
+      high = let h = on.high in omega (arith, h, a);
+      room = let h = on.room in omega (arith, h, a);
+      own = λ n t b m held. subst (λ u. load 4 m (u + 36) ≡ u) (sym a) (on.own n t b m held.0);
       names = λ n t b m held. subst (NameThere m (more_bases ib j + place_of_name e names j)) (sym mine) (subst (λ p. NameThere m p (ib.serials.of j)) same (on.names n t b m held.0));
     }
 

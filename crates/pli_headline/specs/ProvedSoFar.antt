@@ -195,6 +195,14 @@ pub record IsElement (names : Names) (types : Types) (type : Y.LeafType) (r : Y.
   pub many : given_in rest ≡ length bounds
   pub is : r ≡ Y.Referring (variable_at names index) Y.NotLocated (record { first = 0; count = 1 }) (Y.NumberThen first rest)
 
+-- an array of the block, all of it
+pub record IsWhole (names : Names) (types : Types) (type : Y.LeafType) (r : Y.Reference) : Type 0 where
+  pub index : ℕ
+  pub bound : Bounds
+  pub bounds : List Bounds
+  pub declared : slice_get types index ≡ Some (record { type = type; bounds = bound ∷ bounds })
+  pub is : r ≡ Y.Referring (variable_at names index) Y.NotLocated (record { first = 0; count = 1 }) Y.NoNumber
+
 -- a scalar, or an element
 abbrev pub IsPart : (names : Names) (types : Types) (type : Y.LeafType) (r : Y.Reference) → Type 0
 IsPart names types type r = IsOwn names types type r ⊎ IsElement names types type r
@@ -446,6 +454,10 @@ abbrev mutual
       IsAssigned names types Y.BitLeaf target × (IsProvedBit names types x × IsLine line)
   IsProvedStatement names types (Y.Assign target (Y.StoredText x) line) =
       IsAssignedText names types target × (IsProvedText names types x × IsLine line)
+  IsProvedStatement names types (Y.AssignElements target (Y.StoredNumber precision x) line) =
+      IsWhole names types (Y.FixedLeaf precision) target × (IsProvedNumber names types x × IsLine line)
+  IsProvedStatement names types (Y.AssignElements target (Y.StoredBit x) line) =
+      IsWhole names types Y.BitLeaf target × (IsProvedBit names types x × IsLine line)
   IsProvedStatement names types (Y.If condition unit line) =
       IsProvedBit names types condition × (IsProvedStatement names types unit × IsLine line)
   IsProvedStatement names types (Y.IfElse condition unit otherwise line) =
