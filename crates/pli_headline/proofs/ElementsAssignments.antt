@@ -1,5 +1,5 @@
 -- Assignments of one number or bit to all elements of an array of a block.
-use Rattle.std.proofs.Common.{◌≡◌, ℕ, suc, ◌+◌, ◌-◌, ◌*◌, ◌%◌, ◌^◌, ◌<◌, ◌≤◌, List, [], ◌∷◌, ◌++◌, length, map, Some, Bool, true, false, refl, sym, ap, ◌∙◌, subst, arith, lit<}
+use Rattle.std.proofs.Common.{◌≡◌, ℕ, zero, suc, ◌+◌, ◌-◌, ◌*◌, ◌%◌, ◌^◌, ◌<◌, ◌≤◌, List, [], ◌∷◌, ◌++◌, length, map, Some, Bool, true, false, refl, sym, ap, ◌∙◌, subst, arith, lit<}
 use Rattle.std.specs.Prelude.{ℤ, pos, cond, max, ◌==◌, slice_get}
 use Rattle.std.proofs.Math.Nat.{le-max_left, le-max_right}
 use Rattle.std.proofs.lemmas.Bool.{eqb-true}
@@ -106,7 +106,7 @@ elements_all {frames = frames} {serials = serials} {s = s} {block = block} {type
 
 type_found : (ds : List Y.DeclaredVariable) (i : ℕ) (d : Y.DeclaredVariable) → slice_get ds i ≡ Some d → slice_get (types_of ds) i ≡ Some (declared_kind d)
 type_found [] i d h = absurd (cc h)
-type_found (c ∷ ds) 0 d h = let e : c ≡ d = cc h in ap (λ u. Some (declared_kind u)) e
+type_found (c ∷ ds) zero d h = let e : c ≡ d = cc h in ap (λ u. Some (declared_kind u)) e
 type_found (c ∷ ds) (suc i) d h = type_found ds i d h
 
 array_numbered : {e : Environment} {block : Names} {types : Types} {bl : Block e block types} {links : Links} {code : List Instr} (s : Standing bl links code) (j : ℕ) (type : Y.LeafType) (bs : List Bounds) → IsDeclaredArray e block j type bs → Numbered (table_of e.program) (record { type = type; bounds = bs })
@@ -220,7 +220,7 @@ elements_does {e} {block} {types} bl links code routines around j {type} b bs so
                 (elements_all j z below fits2 all1)
                 (stays_then stays2 stays3)
                 (λ base'. record { pc = (at3 base').pc ∙ ap (address base') there; holds = (at3 base').holds }));
-          })))));
+          }))))));
     }
 
 -- ---- of a number or a bit
