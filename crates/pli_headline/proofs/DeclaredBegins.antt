@@ -95,7 +95,7 @@ places_of at (d ∷ ds) (suc i) are h fits =
     ap (λ n. variable_place parts n ds i) next' ∙ places_of (at + 32) ds i are.1 (omega (arith, h)) (omega (arith, fits)) ∙ omega arith
 
 -- from the fixed part of the frame on
-declared_place : (e : Environment) (number level i : ℕ) → IsKnown e → AreDeclaring (variables_of_block e.program number) → i ≤ length (variables_of_block e.program number) → fixed_size level 0 + 32 * length (variables_of_block e.program number) ≤ last_place → place_for (in_frame number level e) i ≡ fixed_size level 0 + 32 * i
+pub declared_place : (e : Environment) (number level i : ℕ) → IsKnown e → AreDeclaring (variables_of_block e.program number) → i ≤ length (variables_of_block e.program number) → fixed_size level 0 + 32 * length (variables_of_block e.program number) ≤ last_place → place_for (in_frame number level e) i ≡ fixed_size level 0 + 32 * i
 declared_place e number level i known are h fits =
     let ds = variables_of_block e.program number in
     ap (λ p. variable_place p (fixed_size level (length (parameters_of_block e.program number))) ds i) known.parts_are
@@ -147,7 +147,7 @@ declaring_code e head words body =
     ++ ((variables_made (begin_environment head e) head.line 0 (vars_of e head) ++ stmts_code (begin_environment head e) none_taken body) ++ inner_ended words))
 
 -- no temporaries are needed for them
-no_words : (ds : List Y.DeclaredVariable) → AreDeclaring ds → variables_words ds ≡ 0
+pub no_words : (ds : List Y.DeclaredVariable) → AreDeclaring ds → variables_words ds ≡ 0
 no_words [] are = refl
 no_words (d ∷ ds) are =
     ap (λ u. variables_words (u ∷ ds)) are.0.is
@@ -171,7 +171,7 @@ declaring_code_is e head body next are =
 -- ---- what it does
 
 -- its statements, and then its end
-ended_does : {e : Environment} {block : Names} {types : Types} (bl : Block e block types) {links : Links} {code : List Instr} {turns : ℕ} {c : Code} {meaning : Meaning (Unit {0})} (around : Around) → Does bl links code turns c meaning → Does bl links code turns c (meaning >> M.end_reached around false)
+pub ended_does : {e : Environment} {block : Names} {types : Types} (bl : Block e block types) {links : Links} {code : List Instr} {turns : ℕ} {c : Code} {meaning : Meaning (Unit {0})} (around : Around) → Does bl links code turns c meaning → Does bl links code turns c (meaning >> M.end_reached around false)
 unfolding M.end_reached give ◌>>◌
 ended_does bl {meaning = meaning} around d =
     record {
@@ -231,7 +231,8 @@ declaring_piece {e} {block} {types} bl {links} {code} around more head body inne
     (declares_from closed2 here head.line (suc more) k stmts part vars ib known (makes t) n f2 head.line refl
     (λ label among once. own_outlet bl inner head.number head.level next filled t ready label among once (omega (arith, less)), outer_outlets bl inner t head.number head.level next links k acts0 v.world.acts aims.jumped less bl.outer bl.enclosing ready.outs)
     (λ deep owned once. own_home bl inner head.number head.level next filled t (ready.own deep owned once), outer_homes bl inner t head.number head.level next links k aims.returned bl.outer bl.enclosing ready.homes)
-    (omega (arith, lower, next)) (omega (arith, enough)) (omega (arith, later))
+    (λ deep owned once. let no : owner_level e.owner ≡ head.level = ap owner_level owned in absurd (omega (arith, no, lower, next)))
+    (omega (arith, enough)) (omega (arith, later))
     (λ number owned once.
     let o = ready.returns number owned once in
     record {

@@ -45,11 +45,11 @@ use Rattle.pli_headline.proofs.DeclaredNames.{by_element, by_last, chosen_before
 use Rattle.pli_headline.proofs.Variables.{level_of}
 use Rattle.pli_headline.proofs.OneMore.{More, more_block, more_ground, more_enclosures, around_level, not_last}
 use Rattle.pli_headline.proofs.Asides.{IsFresh}
-use Rattle.pli_headline.proofs.MoreNames.{more_names, spot_of}
+use Rattle.pli_headline.proofs.MoreNames.{more_names, more_serials, spot_of}
 use Rattle.pli_headline.proofs.MoreStates.{IsNew, step_meant, made_or_ended, nested_same, more_all, fewer_all, all_same}
 use Rattle.pli_headline.proofs.MoreServed.{OwnStands, place_for, more_piece, past_piece}
 use Rattle.pli_headline.proofs.MainStates.{kind_binding}
-use Rattle.pli_headline.proofs.Statements.{Block, Enclosures, Outlets, Homes, lower_ground, AllHold, SameValues, IsKnown, IsEndMarkedOnce, Exit, Does, owner_level}
+use Rattle.pli_headline.proofs.Statements.{Block, Enclosures, Outlets, Homes, lower_ground, AllHold, SameValues, IsKnown, IsEndMarkedOnce, Exit, OwnExit, Does}
 
 -- ---- the variables still to be made
 
@@ -188,9 +188,24 @@ more_homes ib k' links k returned [] cs homes = tt
 more_homes ib k' links k returned (o ∷ os) cs homes =
     (λ deep owned once. let p = homes.0 deep owned once in record { at = p.at; place = p.place; near = p.near; later = p.later; leaves = p.leaves }, more_homes ib k' links k returned os cs.1 homes.1)
 
-pub declares_from : {links : Links} {code : List Instr} {aims : Aims (Unit {0})} (closed : Closed code aims) (around : Around) (line turns k : ℕ) (c : Code) (meaning : Meaning (Unit {0})) (ds : List Y.DeclaredVariable) {e : Environment} {block : Names} {types : Types} (ib : Block e block types) (known : IsKnown e) {index : ℕ} (m : Makes ib index ds) {i : ℕ} {s : State} {v : Services} {h t : ℕ → ℕ} (n : Values) (f : Family) (old : ℕ) → ib.labels ≡ [] → Outlets e ib.ground ib.levels ib.frames (e.level ∷ ib.depths) ib.outer ib.enclosing links k v.world.acts aims.jumped → Homes e ib.ground ib.levels ib.frames (e.level ∷ ib.depths) ib.outer ib.enclosing links k aims.returned → owner_level e.owner < e.level → k < turns + v.world.acts → 10 ≤ i → ((number : ℕ) → e.owner ≡ BlockOwner (record { number = number; level = 0 }) → IsEndMarkedOnce links number → Exit number ib.base ib.bottom.holds links k aims.returned) → Does (made_block ib ds m s.serials) links code turns c meaning → Linked links code i (variables_made e line index ds ++ c) → Serving k s v old → AllHold ib.frames ib.serials (storage v) (e.level ∷ ib.depths) s block types n → ((b : Base) → At b i (Known (ib.ground n) v h t nothing b) (f b)) → GoesOn ib k (i + size_of (variables_made e line index ds ++ c)) aims → Comes code i f v aims (flow_on k (K.variables_made around index ds k s) (λ u. meaning))
+more_exit : {e : Environment} {block : Names} {types : Types} (ib : Block e block types) (index : ℕ) (k' : Kind) (serial : ℕ) {links : Links} {k : ℕ} {returned : ℕ → Family → Services → Option BasicValue → State → Type 0} → OwnExit e block types ib.ground ib.frames ib.serials ib.depths links k returned → OwnExit e (more_names e block types index) (types ++ (k' ∷ [])) (more_ground ib k') ib.frames (more_serials ib.serials (length types) serial (suc (length ib.depths))) ib.depths links k returned
+more_exit {e} ib index k' serial o =
+    record {
+      at = o.at;
+      place = o.place;
+      near = o.near;
+      later = o.later;
+      leaves = λ s v line n h t f free serving all at.
+          o.leaves s v line n h t f free serving (fewer_all e index k' serial (suc (length ib.depths)) all)
+          (λ b. let q = (at b).holds in record {
+            pc = (at b).pc;
+            holds = record { body = record { services = q.body.services; registers = q.body.registers; bytes = q.body.bytes; memory = q.body.memory.0 }; regs = q.regs };
+          });
+    }
+
+pub declares_from : {links : Links} {code : List Instr} {aims : Aims (Unit {0})} (closed : Closed code aims) (around : Around) (line turns k : ℕ) (c : Code) (meaning : Meaning (Unit {0})) (ds : List Y.DeclaredVariable) {e : Environment} {block : Names} {types : Types} (ib : Block e block types) (known : IsKnown e) {index : ℕ} (m : Makes ib index ds) {i : ℕ} {s : State} {v : Services} {h t : ℕ → ℕ} (n : Values) (f : Family) (old : ℕ) → ib.labels ≡ [] → Outlets e ib.ground ib.levels ib.frames (e.level ∷ ib.depths) ib.outer ib.enclosing links k v.world.acts aims.jumped → Homes e ib.ground ib.levels ib.frames (e.level ∷ ib.depths) ib.outer ib.enclosing links k aims.returned → ((0 == e.level) ≡ false → e.owner ≡ BlockOwner (record { number = e.block; level = e.level }) → IsEndMarkedOnce links e.block → OwnExit e block types ib.ground ib.frames ib.serials ib.depths links k aims.returned) → k < turns + v.world.acts → 10 ≤ i → ((number : ℕ) → e.owner ≡ BlockOwner (record { number = number; level = 0 }) → IsEndMarkedOnce links number → Exit number ib.base ib.bottom.holds links k aims.returned) → Does (made_block ib ds m s.serials) links code turns c meaning → Linked links code i (variables_made e line index ds ++ c) → Serving k s v old → AllHold ib.frames ib.serials (storage v) (e.level ∷ ib.depths) s block types n → ((b : Base) → At b i (Known (ib.ground n) v h t nothing b) (f b)) → GoesOn ib k (i + size_of (variables_made e line index ds ++ c)) aims → Comes code i f v aims (flow_on k (K.variables_made around index ds k s) (λ u. meaning))
 unfolding K.variables_made give
-declares_from {links} {code} {aims} closed around line turns k c meaning [] {e} ib known m n f old none outs homes low enough later returns does' l serving all at goal =
+declares_from {links} {code} {aims} closed around line turns k c meaning [] {e} ib known m n f old none outs homes own enough later returns does' l serving all at goal =
     does'.does closed old n f k l serving all at
     (λ s' v' line' n' h' t' f' serving' all' stays at'. goal s' v' line' n' h' t' f' (ib.ground n').free serving' all' at')
     (record {
@@ -199,10 +214,10 @@ declares_from {links} {code} {aims} closed around line turns k c meaning [] {e} 
       jumps = λ label among once. let no : false ≡ true = sym (ap (is_among label) none) ∙ among in absurd (cc no);
       outs = outs;
       returns = returns;
-      own = λ deep owned once. let no : owner_level e.owner ≡ e.level = ap owner_level owned in absurd (omega (arith, no, low));
+      own = own;
       homes = homes;
     })
-declares_from {links} {code} {aims} closed around line turns k c meaning (d ∷ ds) {e} {block} {types} ib known {index} m {i} {s} {v} {h} {t} n f old none outs homes low enough later returns does' l serving all at goal =
+declares_from {links} {code} {aims} closed around line turns k c meaning (d ∷ ds) {e} {block} {types} ib known {index} m {i} {s} {v} {h} {t} n f old none outs homes own enough later returns does' l serving all at goal =
     let count = length types in
     let kind = declared_kind d in
     let o = first_more ib d ds m in
@@ -253,7 +268,7 @@ declares_from {links} {code} {aims} closed around line turns k c meaning (d ∷ 
       | inr within ↦
           subst T (sym (le-leb (automatic_in_use s.living + frame_size kind) (2 ^ 20) within))
           (onward closed (more_piece ib o m.own i n1 v h t f table numbered size all.stored.table some (omega (arith, within, use')) zero' l1 at1) (λ f' at'.
-          declares_from closed around line turns k c meaning ds (more_block ib o (s.serials + 1)) known (next_makes ib d ds m (s.serials + 1)) n1 f' old none (more_outlets ib kind links k v.world.acts aims.jumped ib.outer ib.enclosing outs) (more_homes ib kind links k aims.returned ib.outer ib.enclosing homes) low enough (omega (arith, later)) returns does' l2
+          declares_from closed around line turns k c meaning ds (more_block ib o (s.serials + 1)) known (next_makes ib d ds m (s.serials + 1)) n1 f' old none (more_outlets ib kind links k v.world.acts aims.jumped ib.outer ib.enclosing outs) (more_homes ib kind links k aims.returned ib.outer ib.enclosing homes) (λ deep owned once. more_exit ib index kind (s.serials + 1) (own deep owned once)) enough (omega (arith, later)) returns does' l2
           (record {
             world = serving.world;
             running = serving.running;

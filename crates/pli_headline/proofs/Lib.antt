@@ -197,6 +197,7 @@ pub mod PlainSignatures
 pub mod SignaturesOnce
 pub mod PlainNumbers
 pub mod PlainTables
+pub mod CalledVariables
 pub mod InnerCalls
 pub mod MainBody
 pub mod FirstFrame

@@ -145,7 +145,7 @@ one_none e place type element =
         behind found (loaded ++ plus r r (pos n)) [] (found_none e' r (e'.level == e'.level))
         (behind loaded (plus r r (pos n)) [] (load_none r (frame_in e' e'.level r) own_offset) (plus_none r r (pos n)))
 
-declared_none : (e : Environment) (line index : ℕ) (ds : List Y.DeclaredVariable) → AreDeclaring ds → Marks (variables_made e line index ds) []
+pub declared_none : (e : Environment) (line index : ℕ) (ds : List Y.DeclaredVariable) → AreDeclaring ds → Marks (variables_made e line index ds) []
 declared_none e line index [] are = refl
 declared_none e line index (d ∷ ds) are =
     let place = automatic_place e.parts e.program e.block e.level index in

@@ -1,7 +1,7 @@
 -- The programs for which the headline is proved so far: a main procedure with scalars of FIXED BINARY, BIT(1) and CHARACTER of
 -- constant lengths, VARYING or not, with or without INITIAL, arrays of these with constant bounds, with or without
--- INITIAL, procedures inside it that declare nothing, without parameters and results, and BEGIN blocks in these and in one another that
--- declare nothing, or scalars of FIXED BINARY and BIT(1) without INITIAL; expressions of numbers, bits and texts, and elements of arrays
+-- INITIAL, procedures inside it, without parameters and results, and BEGIN blocks in these and in one another, which declare nothing,
+-- or scalars of FIXED BINARY and BIT(1) without INITIAL; expressions of numbers, bits and texts, and elements of arrays
 -- in them; assignments of these, CALL of these procedures, also by themselves, IF, groups, DO WHILE, DO with a variable, GOTO to a label
 -- of a list around it in its block, in a block around it up to the procedure's own, or of the main procedure's own list, RETURN, STOP,
 -- SIGNAL, ON with SYSTEM, ON for AREA with a single statement or a BEGIN block in the main procedure's own block, REVERT, PUT EDIT of
@@ -702,17 +702,18 @@ pub record IsCallable (program : Y.Program) (called : List ℕ) (head : Y.BlockH
   pub kind : head.kind ≡ Y.ProcedureBlock
   pub line : IsLine head.line
   pub calls : AllCallAmong program called true 0 body
-  pub few : 4 * (stmts_words body + all_inner_words body) + inner_bytes program body ≤ 3200
+  pub few : 4 * (stmts_words body + all_inner_words body) + (32 * length (variables_of_block program head.number) + inner_bytes program body) ≤ 3200
 
--- a procedure inside the main one, whose number is the given block's: it declares nothing, and has no parameters and no result
+-- a procedure inside the main one, whose number is the given block's: it declares scalars as BEGIN blocks do, and has no parameters and no
+-- result
 pub record IsInner (program : Y.Program) (block : ℕ) (all : List (ℕ × Label)) (called : List ℕ) (p : Y.Procedure) : Type 0 where
   pub head : Y.BlockHead
   pub body : Y.Stmts
   pub is : p ≡ record { block = Y.BlockOf head body; parameters = []; result = None }
   pub apart : (block == head.number) ≡ false
   pub level : head.level ≡ 1
-  pub bare : variables_of_block program head.number ≡ []
-  pub statements : AreProvedStatements (main_names program block) (types_of (variables_of_block program block)) body
+  pub declares : AreDeclaring (variables_of_block program head.number)
+  pub statements : AreProvedStatements (names_in (main_names program block) (types_of (variables_of_block program block)) head (variables_of_block program head.number)) (types_in (types_of (variables_of_block program block)) (variables_of_block program head.number)) body
   pub jumps : AllJumpAround head.number 1 all (blocks_of program.procedures) (main_outer block program.procedures) (main_outer block program.procedures ∷ []) (labels_in body) body
   pub inside : DeclareScalars program body
   pub callable : is_number head.number called ≡ true → IsCallable program called head body
