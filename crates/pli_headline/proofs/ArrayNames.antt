@@ -1,7 +1,6 @@
 -- Arrays of a block by their names: the name stands before the data, and services know by its serial number where the data stands, and
 -- its signature.
 use Rattle.std.proofs.Common.{◌≡◌, ℕ, ◌+◌, ◌%◌, ◌^◌, ◌≤◌, List, ◌∷◌, Some}
-use Rattle.std.specs.Prelude.{slice_get}
 use Rattle.rv_meaning.specs.Memory.{load}
 use Rattle.rv_meaning.specs.Machine.{memory_size}
 use Rattle.pli_typing.specs.Signatures.{Bounds}

@@ -1,5 +1,5 @@
 -- Assignments of one number or bit to all elements of an array of a block.
-use Rattle.std.proofs.Common.{◌≡◌, ℕ, zero, suc, ◌+◌, ◌-◌, ◌*◌, ◌%◌, ◌^◌, ◌<◌, ◌≤◌, List, [], ◌∷◌, ◌++◌, length, map, Some, Bool, true, false, refl, sym, ap, ◌∙◌, subst, arith, lit<}
+use Rattle.std.proofs.Common.{◌≡◌, ℕ, zero, suc, ◌+◌, ◌-◌, ◌*◌, ◌%◌, ◌^◌, ◌<◌, ◌≤◌, List, [], ◌∷◌, ◌++◌, map, Some, Bool, true, false, refl, sym, ap, ◌∙◌, subst, arith, lit<}
 use Rattle.std.specs.Prelude.{ℤ, pos, cond, max, ◌==◌, slice_get}
 use Rattle.std.proofs.Math.Nat.{le-max_left, le-max_right}
 use Rattle.std.proofs.lemmas.Bool.{eqb-true}
@@ -7,12 +7,11 @@ use Rattle.rv_meaning.specs.declared.instr.Instr.{Instr}
 use Rattle.rv_meaning.specs.Words.{word}
 use Rattle.rv_meaning.specs.Memory.{load}
 use Rattle.rv_meaning.specs.Machine.{memory_size, store_width}
-use Rattle.pli_language.specs.Tree as T
 use Rattle.pli_typing.specs.Signatures.{Bounds, element_count}
 use Rattle.pli_typing.specs.TypedTree as Y
 use Rattle.pli_meaning.specs.World.{counted}
 use Rattle.pli_meaning.specs.BasicValues.{BasicValue}
-use Rattle.pli_meaning.specs.DeclaredShapes.{variables_of_block, bounds_of}
+use Rattle.pli_meaning.specs.DeclaredShapes.{variables_of_block}
 use Rattle.pli_meaning.specs.StorageState.{State, with_world}
 use Rattle.pli_meaning.specs.Control.{Meaning, act, ◌>>=◌, ◌>>◌}
 use Rattle.pli_meaning.specs.Raising.{Around, at_line}
@@ -31,9 +30,9 @@ use Rattle.pli_coding.specs.Storing.{elements_code, elements_words, record_code,
 use Rattle.pli_coding.specs.Temporaries.{number_words, bit_words, reference_words}
 use Rattle.pli_coding.specs.SignatureTable.{table_of}
 use Rattle.pli_coding.specs.Linking.{Links}
-use Rattle.pli_headline.specs.ProvedSoFar.{Names, Types, Kind, text_leaf, types_of, declared_kind, array_variable, constant_bounds, IsWhole, IsProvedNumber, IsProvedBit}
+use Rattle.pli_headline.specs.ProvedSoFar.{Names, Types, Kind, text_leaf, types_of, declared_kind, array_variable, IsWhole, IsProvedNumber, IsProvedBit}
 use Rattle.pli_headline.proofs.Storages.{storage, Storage, Serials, stored_changed}
-use Rattle.pli_headline.proofs.Engine.{Base, address, call_at, most_code}
+use Rattle.pli_headline.proofs.Engine.{address}
 use Rattle.pli_headline.proofs.Linking.{size_append}
 use Rattle.pli_headline.proofs.Items.{Linked}
 use Rattle.pli_headline.proofs.Jumps.{front_of, back_of}
@@ -41,8 +40,8 @@ use Rattle.pli_headline.proofs.Numbers.{above_sum, word_small}
 use Rattle.pli_headline.proofs.Bodies.{PlaceFrom}
 use Rattle.pli_headline.proofs.Calls.{Serving}
 use Rattle.pli_headline.proofs.Acts.{acted, act_piece}
-use Rattle.pli_headline.proofs.Temporaries.{stays_then, held_with, words_with}
-use Rattle.pli_headline.proofs.Scalars.{IsNumeric, Values, Fits, fits_wide, value_as, store_kind}
+use Rattle.pli_headline.proofs.Temporaries.{stays_then, words_with}
+use Rattle.pli_headline.proofs.Scalars.{Values, Fits, fits_wide, store_kind}
 use Rattle.pli_headline.proofs.Variables.{whole, own, level_of, data_place}
 use Rattle.pli_headline.proofs.Assignments.{Stores, number_stores, bit_stores}
 use Rattle.pli_headline.proofs.States.{Holds, one_type}
@@ -58,7 +57,7 @@ use Rattle.pli_headline.proofs.ElementAssignments.{setting_at}
 use Rattle.pli_headline.proofs.ElementsFilled.{filled, filled_numbers, filled_texts, filled_text_arrays, filled_other, filled_at, stored_from, stands_filled, all_changed, all_state, elements_meant, array_filled}
 use Rattle.pli_headline.proofs.ElementsServed.{elements_answer}
 use Rattle.pli_headline.proofs.ElementsCode.{filling, filling_is}
-use Rattle.pli_headline.proofs.ElementsPieces.{recorded, record_there, filling_words, filling_piece}
+use Rattle.pli_headline.proofs.ElementsPieces.{record_there, filling_piece}
 use Rattle.pli_headline.proofs.Asides.{asides_changed}
 use Rattle.pli_headline.proofs.Entered.{Frames}
 use Rattle.pli_headline.proofs.Statements.{Block, Standing, AllHold, Does, counted_all}

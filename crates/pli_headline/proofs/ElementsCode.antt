@@ -1,29 +1,25 @@
 -- The code that stores one number in all elements of an array: it writes a record of the array in four words behind the temporaries in
 -- use, and calls service 41.
-use Rattle.std.proofs.Common.{◌≡◌, ℕ, suc, ◌+◌, ◌-◌, ◌*◌, ◌%◌, ◌^◌, ◌<◌, ◌≤◌, List, [], ◌∷◌, ◌++◌, length, Option, Some, Bool, true, false, refl, sym, ap, ◌∙◌, subst, arith}
-use Rattle.std.specs.Prelude.{ℤ, pos, neg_ℤ, cond, ◌==◌, ◌||◌, slice_get, if◌then◌else◌}
+use Rattle.std.proofs.Common.{◌≡◌, ℕ, suc, ◌+◌, ◌-◌, ◌*◌, ◌%◌, ◌^◌, ◌<◌, ◌≤◌, List, [], ◌∷◌, ◌++◌, Bool, true, false, refl, sym, ap, ◌∙◌, subst, arith}
+use Rattle.std.specs.Prelude.{ℤ, pos, neg_ℤ, cond, ◌==◌, ◌||◌, if◌then◌else◌}
 use Rattle.std.specs.List.{list_any}
 use Rattle.std.proofs.lemmas.Int.{ints}
 use Rattle.std.proofs.lemmas.Bool.{eq-eqb}
 use Rattle.std.proofs.lemmas.Bool.Decides.{nat_tests}
 use Rattle.rv_meaning.specs.declared.instr.Instr.{Instr}
-use Rattle.rv_meaning.specs.declared.instr.Instr.TheVariants as I
 use Rattle.rv_meaning.specs.declared.instr.Register.{Register}
 use Rattle.rv_meaning.specs.Words.{word, sum}
-use Rattle.rv_meaning.specs.Memory.{load, store}
-use Rattle.rv_meaning.specs.Machine.{memory_size, written}
+use Rattle.rv_meaning.specs.Memory.{load}
 use Rattle.rv_meaning.specs.Tables.{run_time_size}
 use Rattle.pli_typing.specs.Signatures.{Bounds}
 use Rattle.pli_typing.specs.TypedTree as Y
 use Rattle.pli_meaning.specs.Control.{Flow}
 use Rattle.pli_serving.specs.ServiceState.{Services}
-use Rattle.pli_serving.specs.Answers.{Answer, Done}
-use Rattle.pli_serving.specs.Finding.{Call}
-use Rattle.pli_coding.specs.Registers.{zero_register, frame_register, a0, a1, a2, a7}
-use Rattle.pli_coding.specs.Assembly.{Code, Plain, size_of}
-use Rattle.pli_coding.specs.Instructions.{number, plus, small, load_word, store_word, service}
+use Rattle.pli_coding.specs.Registers.{zero_register, frame_register, a0, a1, a2}
+use Rattle.pli_coding.specs.Assembly.{Code, size_of}
+use Rattle.pli_coding.specs.Instructions.{number, plus, load_word, store_word, service}
 use Rattle.pli_coding.specs.Frames.{has_constant_size, display, own_offset, words_place}
-use Rattle.pli_coding.specs.Environments.{Environment, Taken, is_register_left, with_words, with_number, save, fetch}
+use Rattle.pli_coding.specs.Environments.{Environment, Taken, with_words, with_number, save, fetch}
 use Rattle.pli_coding.specs.SignatureTable.{table_of, signature_of, is_open, is_open_pair, number_in_table}
 use Rattle.pli_coding.specs.Locating as L
 use Rattle.pli_coding.specs.Storing as K
@@ -31,19 +27,15 @@ use Rattle.pli_coding.specs.Linking.{Links}
 use Rattle.image_runs.specs.Runs.{Whole}
 use Rattle.pli_language.specs.Tree as T
 use Rattle.pli_headline.specs.ProvedSoFar.{Names, IsScalar, AreBounds, array_variable}
-use Rattle.pli_headline.proofs.Unlimited as U
-use Rattle.pli_headline.proofs.Engine.{Base, address, call_at}
+use Rattle.pli_headline.proofs.Engine.{Base, address}
 use Rattle.pli_headline.proofs.Linking.{size_append}
 use Rattle.pli_headline.proofs.Items.{Linked, At, straight}
 use Rattle.pli_headline.proofs.Jumps.{front_of, back_of}
-use Rattle.pli_headline.proofs.Numbers.{above_small, below_small, below_sum}
-use Rattle.pli_headline.proofs.Acts.{word_is, word_fits}
-use Rattle.pli_headline.proofs.Raising.{small_is}
-use Rattle.pli_headline.proofs.Bodies.{Ground, Known, Free, PlaceFrom, PlaceOf, IsNear, with', zero_is, frame_is, at_place, load_piece, store_piece, constant_piece, reserved_are}
+use Rattle.pli_headline.proofs.Numbers.{above_small}
+use Rattle.pli_headline.proofs.Bodies.{Ground, Known, Free, PlaceFrom, PlaceOf, IsNear, with', frame_is, at_place, load_piece, store_piece}
 use Rattle.pli_headline.proofs.Increments.{plus_own}
 use Rattle.pli_headline.proofs.Operators.{valued}
-use Rattle.pli_headline.proofs.Temporaries.{Temporaries, nothing, put, put_same, word_place, waiting, save_piece, fetch_piece, held_with, words_with, waiting_saved}
-use Rattle.pli_headline.proofs.Calls.{Calling, called, call_done}
+use Rattle.pli_headline.proofs.Temporaries.{Temporaries, nothing, put, word_place}
 use Rattle.pli_headline.proofs.Reaching.{Reaches}
 use Rattle.pli_headline.proofs.Scalars.{IsNumeric}
 use Rattle.pli_headline.proofs.Variables.{whole, whole_part, own, level_of, declared_in}

@@ -1,7 +1,6 @@
 -- One number is stored in all elements of an array: the value waits, the record of the array is written, and service 41 is called.
-use Rattle.std.proofs.Common.{◌≡◌, ℕ, suc, ◌+◌, ◌-◌, ◌*◌, ◌%◌, ◌^◌, ◌<◌, ◌≤◌, List, [], ◌∷◌, ◌++◌, length, Bool, true, false, refl, sym, ap, ◌∙◌, subst, arith}
+use Rattle.std.proofs.Common.{◌≡◌, ℕ, suc, ◌+◌, ◌-◌, ◌*◌, ◌%◌, ◌^◌, ◌<◌, ◌≤◌, List, [], ◌∷◌, ◌++◌, length, Bool, false, refl, sym, ap, ◌∙◌, subst, arith}
 use Rattle.std.specs.Prelude.{pos, neg_ℤ, cond, ◌==◌}
-use Rattle.std.proofs.lemmas.Int.{ints}
 use Rattle.std.proofs.lemmas.Bool.Decides.{nat_tests}
 use Rattle.rv_meaning.specs.declared.instr.Instr.{Instr}
 use Rattle.rv_meaning.specs.declared.instr.Instr.TheVariants as I
@@ -26,11 +25,10 @@ use Rattle.pli_headline.proofs.Jumps.{front_of, back_of}
 use Rattle.pli_headline.proofs.Numbers.{below_small, below_sum}
 use Rattle.pli_headline.proofs.Acts.{word_is, word_fits}
 use Rattle.pli_headline.proofs.Raising.{small_is}
-use Rattle.pli_headline.proofs.Bodies.{Ground, Known, PlaceFrom, with', zero_is, frame_is, constant_piece, reserved_are}
+use Rattle.pli_headline.proofs.Bodies.{Ground, Known, PlaceFrom, zero_is, frame_is, constant_piece, reserved_are}
 use Rattle.pli_headline.proofs.Increments.{plus_own}
 use Rattle.pli_headline.proofs.Operators.{valued}
-use Rattle.pli_headline.proofs.Temporaries.{Temporaries, Stays, stays_then, stays_saved, stays_less, stays_same, nothing, put, put_same, put_other, waiting, waiting_kept, save_piece, fetch_piece, held_with, words_with, waiting_saved}
-use Rattle.pli_headline.proofs.Waiting.{stays_kept}
+use Rattle.pli_headline.proofs.Temporaries.{Temporaries, Stays, stays_then, stays_saved, stays_less, nothing, put, put_same, put_other, waiting_kept, save_piece, fetch_piece, held_with, words_with, waiting_saved}
 use Rattle.pli_headline.proofs.Calls.{Calling, called, call_done}
 use Rattle.pli_headline.proofs.Reaching.{Reaches}
 use Rattle.pli_headline.proofs.ElementsServed.{RecordThere}

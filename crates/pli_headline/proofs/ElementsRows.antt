@@ -1,5 +1,5 @@
 -- A program that assigns one value to all elements of arrays, also in a BEGIN block, is one of those that are proved.
-use Rattle.std.proofs.Common.{List, [], ◌∷◌, None, refl, arith, lit<, inl, inr, true, false, ℕ, Some}
+use Rattle.std.proofs.Common.{List, [], ◌∷◌, None, refl, arith, lit<, inl, inr, ℕ}
 use Rattle.std.specs.Prelude.{pos, negsuc}
 use Rattle.pli_typing.specs.Signatures.{Bounds}
 use Rattle.pli_typing.specs.TypedTree as Y
