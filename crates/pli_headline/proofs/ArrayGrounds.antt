@@ -49,6 +49,7 @@ stands_as f first held held' j count z z' t b m is same other o =
       variables = λ i h. held_by (i == j) held held' m (f.at + number_place f.sizes i) i j count z z' refl is same (other i h) (o.variables i h);
       fits = λ i h. fits_by (i == j) f.sizes held held' i j count z z' refl is (other i h) (o.fits i h);
       temporaries = o.temporaries;
+      names = o.names;
     }
 
 -- where an array stands in a frame

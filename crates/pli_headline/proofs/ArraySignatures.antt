@@ -60,7 +60,7 @@ array_signed _ is bs initial = absurd is
 -- ---- its shape
 
 -- bounds in order are known before the program runs
-known_by : (l u : ℤ) → IsWide l → IsWide u → int_le l u ≡ true → is_run_time (word l) (word u) ≡ false
+pub known_by : (l u : ℤ) → IsWide l → IsWide u → int_le l u ≡ true → is_run_time (word l) (word u) ≡ false
 known_by (pos l) (pos u) wl wu e = grind (arith, ints, nat_tests)
 known_by (pos l) (negsuc u) wl wu e = absurd (cc e)
 known_by (negsuc l) (pos u) wl wu e = grind (arith, ints, nat_tests)

@@ -204,7 +204,7 @@ left_by s (a ∷ as') xs (x ∷ ys) {top} {outer = outer} {levels = levels} from
     let stands : (j : ℕ) (kind : Kind) → slice_get types j ≡ Some kind → ancestor as' (newest_height as') (level_of block j) ≡ ancestor s.activations (newest_height s.activations) (level_of block j) = λ j kind at. sym (inside j kind at) ∙ ap (λ us. ancestor us (newest_height us) (level_of block j)) (sym same) in
     let stored : Stored serials xs.signatures (filter (λ l. nat_le l.owner (length ys)) xs.living) xs.serials (suc (length levels)) (without_owner a.height s.living) s.serials block types =
     subst (λ m. Stored serials xs.signatures (filter (λ l. nat_le l.owner (length ys)) xs.living) xs.serials (suc (length levels)) (without_owner m s.living) s.serials block types) (sym high)
-    (subst (λ m. Stored serials xs.signatures (filter (λ l. nat_le l.owner m) xs.living) xs.serials (suc (length levels)) (without_owner (suc (suc (length levels))) s.living) s.serials block types) (sym most) (stored_left owners all.stored)) in
+    (subst (λ m. Stored serials xs.signatures (filter (λ l. nat_le l.owner m) xs.living) xs.serials (suc (length levels)) (without_owner (suc (suc (length levels))) s.living) s.serials block types) (sym most) (stored_left (omega arith) owners all.stored)) in
     let T : State → Type 0 = λ s'. Nested (with_world s.world s').activations ys × AllHold frames serials (left_storage xs ys) (outer ∷ levels) (with_world s.world s') block types n in
     let done : T (without_newest (a ∷ as') s) = (
       nested.1.1,

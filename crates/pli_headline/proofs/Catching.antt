@@ -81,6 +81,7 @@ within labels bl =
       texts = bl.texts;
       arrays = bl.arrays;
       text_arrays = bl.text_arrays;
+      array_names = bl.array_names;
       outer = bl.outer;
       enclosing = bl.enclosing;
       seen = bl.seen;

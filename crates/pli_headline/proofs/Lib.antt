@@ -92,6 +92,7 @@ pub mod ArrayExpressions
 pub mod ArrayDimensions
 pub mod ArrayAssignments
 pub mod ElementAssignments
+pub mod ElementsAssignments
 pub mod Targets
 pub mod TextStates
 pub mod TextGrounds
@@ -104,11 +105,18 @@ pub mod MoreStates
 pub mod OneMore
 pub mod MoreServed
 pub mod Declares
+pub mod NamesStand
 pub mod MainGround
 pub mod MainTexts
 pub mod MainBlock
 pub mod MainArrays
 pub mod ArrayGrounds
+pub mod ArrayNames
+pub mod ElementsFilled
+pub mod ElementsServed
+pub mod ElementsCode
+pub mod ElementsMarks
+pub mod ElementsPieces
 pub mod ArrayStates
 pub mod InnerFrames
 pub mod CalledFrames
@@ -221,6 +229,7 @@ mod Rows
 mod DeclaredRows
 mod CallingRows
 mod TextArrayRows
+mod ElementsRows
 pub mod FirstPathDeclared
 pub mod FirstPathNames
 pub mod FirstPathExpressions

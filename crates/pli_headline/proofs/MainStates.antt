@@ -1,5 +1,5 @@
 -- The state of the main procedure when so many of its variables are made, and the services beside it.
-use Rattle.std.proofs.Common.{◌≡◌, ℕ, zero, suc, ◌+◌, ◌*◌, ◌<◌, List, [], ◌∷◌, map, Some, None, Bool, true, false, refl, sym, ap, ◌∙◌, subst, arith, ◌≤◌, lit<}
+use Rattle.std.proofs.Common.{◌≡◌, ℕ, zero, suc, ◌+◌, ◌*◌, ◌<◌, List, [], ◌∷◌, map, Option, Some, None, Bool, true, false, refl, sym, ap, ◌∙◌, subst, arith, ◌≤◌, lit<}
 use Rattle.std.specs.Prelude.{ℤ, pos, cond, nat_le, ◌==◌, nat_lt, ◌-◌, slice_get}
 use Rattle.std.proofs.lemmas.Bool.{eqb-true}
 use Rattle.std.proofs.lemmas.Bool.Decides.{nat_tests}
@@ -242,6 +242,32 @@ abbrev pub scalars_served : List TableSignature → (kind : ℕ → Declared) �
 scalars_served table kind frame zero = []
 scalars_served table kind frame (suc j) = served_scalar table kind frame j ∷ scalars_served table kind frame j
 
+-- by their serial numbers
+abbrev pub first_served : List TableSignature → (kind : ℕ → Declared) → (frame count : ℕ) → ℕ → Option S.Living
+first_served table kind frame count n = S.living_of (scalars_served table kind frame count) n
+
+served_by : (table : List TableSignature) (kind : ℕ → Declared) (frame : ℕ) (q : Bool) (n j : ℕ) → (suc n == suc j) ≡ q → j < suc n → (j < n → first_served table kind frame n (suc j) ≡ Some (served_scalar table kind frame j)) → cond q (Some (served_scalar table kind frame n)) (first_served table kind frame n (suc j)) ≡ Some (served_scalar table kind frame j)
+served_by table kind frame true n j e below ih =
+    let same : n ≡ j = let f = eqb-true (suc n) (suc j) e in omega (arith, f) in
+    ap (λ u. Some (served_scalar table kind frame u)) same
+served_by table kind frame false n j e below ih = ih (grind (arith, nat_tests))
+
+pub served_living : (table : List TableSignature) (kind : ℕ → Declared) (frame count j : ℕ) → j < count → first_served table kind frame count (suc j) ≡ Some (served_scalar table kind frame j)
+served_living table kind frame zero j below = absurd (omega (arith, below))
+served_living table kind frame (suc n) j below = served_by table kind frame (suc n == suc j) n j refl below (served_living table kind frame n j)
+
+oldest_by : (table : List TableSignature) (kind : ℕ → Declared) (frame : ℕ) (q : Bool) (c n : ℕ) (l : S.Living) → (suc c == n) ≡ q → cond q (Some (served_scalar table kind frame c)) (first_served table kind frame c n) ≡ Some l → (first_served table kind frame c n ≡ Some l → (n ≤ c) × (l.owner ≡ 1)) → (n ≤ suc c) × (l.owner ≡ 1)
+oldest_by table kind frame true c n l e h ih =
+    let same : suc c ≡ n = eqb-true (suc c) n e in
+    let mine : served_scalar table kind frame c ≡ l = cc h in
+    (omega (arith, same), ap (λ (u : S.Living). u.owner) (sym mine))
+oldest_by table kind frame false c n l e h ih = let o = ih h in let under = o.0 in (omega (arith, under), o.1)
+
+-- all of them are the main procedure's
+pub served_first : (table : List TableSignature) (kind : ℕ → Declared) (frame count n : ℕ) (l : S.Living) → first_served table kind frame count n ≡ Some l → (n ≤ count) × (l.owner ≡ 1)
+served_first table kind frame zero n l h = absurd (cc h)
+served_first table kind frame (suc c) n l h = oldest_by table kind frame (suc c == n) c n l refl h (served_first table kind frame c n l)
+
 abbrev pub main_activation : (frame : ℕ) → S.Activation
 main_activation frame =
     record { kind = S.ProcedureBlock; frame = frame; texts = 0; edits = 0; line = 0; units = [] }
@@ -301,7 +327,7 @@ serials_apart : (i j : ℕ) → (i == j) ≡ false → (suc j == suc i) ≡ fals
 serials_apart i j e = grind (arith, nat_tests)
 
 -- what stands beside them
-pub main_stored : (program : Y.Program) (block : ℕ) (types : Types) (kind : ℕ → Declared) (frame count : ℕ) → ((j : ℕ) (k : Kind) → slice_get types j ≡ Some k → j < count) → ((i : ℕ) → i < count → Numbered (table_of program) (kind i).kind) → Stored (record { of = λ j. suc j; owner = λ j. 1 }) (map template_of (table_of program)) (scalars_served (table_of program) kind frame count) count 1 (scalars_living kind count) count (main_names program block) types
+pub main_stored : (program : Y.Program) (block : ℕ) (types : Types) (kind : ℕ → Declared) (frame count : ℕ) → ((j : ℕ) (k : Kind) → slice_get types j ≡ Some k → j < count) → ((i : ℕ) → i < count → Numbered (table_of program) (kind i).kind) → Stored (record { of = λ j. suc j; owner = λ j. 1; first = first_served (table_of program) kind frame count }) (map template_of (table_of program)) (scalars_served (table_of program) kind frame count) count 1 (scalars_living kind count) count (main_names program block) types
 main_stored program block types kind frame count inside are =
     record {
       owned = λ j at. scalars_owned kind count j (inside j _ at);
@@ -310,6 +336,7 @@ main_stored program block types kind frame count inside are =
       alike = main_alike (table_of program) kind frame count are;
       counted = refl;
       table = refl;
+      first = λ n l is. (is, served_first (table_of program) kind frame count n l is);
     }
 
 pub main_nested : (table : List TableSignature) (kind : ℕ → Declared) (input : List ℕ) (frame line count : ℕ) → Nested (main_state kind input count).activations (main_services table kind input frame line count).activations

@@ -16,6 +16,7 @@ use Rattle.pli_headline.proofs.TextsKept.{text_kept_as, kept_length, kept_there}
 use Rattle.pli_headline.proofs.TextsStay.{text_beside}
 use Rattle.pli_headline.proofs.Holdings.{Content, Counted, Written, Many, There, size_in, content_text, content_for, ManyTexts}
 use Rattle.pli_headline.proofs.ElementsStay.{elements_beside}
+use Rattle.pli_headline.proofs.NamesStand.{name_untouched}
 use Rattle.pli_headline.proofs.MainGround.{Frame, Stands, contents}
 use Rattle.pli_headline.proofs.Scalars.{Values}
 use Rattle.pli_headline.proofs.States.{with_text_at}
@@ -88,6 +89,7 @@ main_written f first held j varying most old text below is few t b m len o =
       variables = λ i h. text_put f.sizes (i == j) held m f.at i j varying most text refl few (o.fits i h) mine held_in (o.variables i h);
       fits = λ i h. fits_put f.sizes (i == j) held i j varying most text refl (o.fits i h) mine;
       temporaries = λ i h. load-with_other 4 bytes m p (f.at - 4 * suc i) room (inl (omega (arith, above, h))) ∙ o.temporaries i h;
+      names = λ i h. name_untouched bytes m f.sizes f.at i j 0 p (omega arith) room (omega (arith, mine, long)) (o.names i h);
     }
 
 -- ---- by the types of the variables
@@ -102,6 +104,7 @@ stands_alike f first held others t b m alike o =
       variables = λ j h. subst (There m (f.at + number_place f.sizes j)) (alike j) (o.variables j h);
       fits = λ j h. subst (λ c. 16 + size_in c ≤ f.sizes.of j) (alike j) (o.fits j h);
       temporaries = o.temporaries;
+      names = o.names;
     }
 
 content_put : (q : Bool) (kind : ℕ → Kind) (n : Values) (i j : ℕ) (varying : Bool) (most : ℕ) (text : List ℕ) → (i == j) ≡ q → kind j ≡ alone (text_leaf varying most) → cond q (Written varying most text) (contents kind n i) ≡ content_for (kind i) (n.numbers i) (cond q text (n.texts i)) (n.arrays i) (n.text_arrays i)

@@ -243,6 +243,11 @@ more_stored {serials} {block} {types} xs levels s e index k items at numbered hi
       );
       counted = ap (λ n. n + 1) h.counted;
       table = h.table;
+      first = λ n l is.
+          let old = h.first n l is in
+          let under = old.1.0 in
+          let same = h.counted in
+          (ap (λ q. cond q (Some (record { serial = xs.serials + 1; owner = length xs.activations; signature = number_for table k; at = at })) (S.living_of xs.living n)) (newer n xs.serials (omega (arith, under, same))) ∙ old.0, (omega (arith, under), old.1.1));
     }
 
 asides_newer : {xss : List (List Aside)} {serials : Serials} {types : Types} {as' : List Activation} {living : List Living} {count : ℕ} (owner : ℕ) (l : Living) (k : Kind) → l.serial ≡ count + 1 → StandAside xss serials types as' living count → StandAside xss (more_serials serials (length types) (count + 1) owner) (types ++ (k ∷ [])) as' (l ∷ living) (count + 1)
@@ -354,6 +359,7 @@ restricts_all {frames = frames} {serials} {serials'} {xs} {levels} {s} {block} {
         older = λ j at. let a = r.of j at in let old = all.stored.older j (r.among j at) in omega (arith, a, old);
         alike = all.stored.alike;
         counted = all.stored.counted;
+        first = λ m l is. all.stored.first m l (ap (λ (u : ℕ → Option S.Living). u m) (sym r.first) ∙ is);
         table = all.stored.table ∙ ap (λ p. map template_of (table_of p)) (sym r.program);
       };
     }
@@ -364,6 +370,7 @@ more_restricts {serials} {block = block} {types = types} e index k serial owner 
     let count = length types in
     record {
       program = r.program;
+      first = r.first;
       among = λ j at. kind_around types (k ∷ []) j (r.among j at);
       spots = λ j at. r.spots j at ∙ sym (chosen_before count j (block.at j) (spot_of e index) (place_below types j _ (r.among j at)));
       of = λ j at. r.of j at ∙ sym (chosen_before count j (serials.of j) serial (place_below types j _ (r.among j at)));

@@ -27,6 +27,8 @@ use Rattle.pli_headline.proofs.TextPlaces.{TextThere, text_kind_of}
 use Rattle.pli_headline.proofs.TextsKept.{text_kept_as}
 use Rattle.pli_headline.proofs.TextScopes.{IsTextAt}
 use Rattle.pli_headline.proofs.ElementsStay.{with_element_at}
+use Rattle.pli_headline.proofs.NamesStand.{NameThere}
+use Rattle.pli_headline.proofs.ArrayNames.{ArrayNamed, place_of_name}
 use Rattle.pli_headline.proofs.ArrayScopes.{IsArrayAt, ArrayOn, with_element_of}
 use Rattle.pli_headline.proofs.TextArraysStay.{text_stride, with_text_in}
 use Rattle.pli_headline.proofs.TextArrayScopes.{IsTextArrayAt, TextArrayOn, with_text_of}
@@ -100,6 +102,7 @@ narrows_seen {outer} {outers} {block} {names = names} {kinds} b r low =
       spots = λ j at. r.spots j at ∙ sym (b.spots j (mine j _ at));
       of = λ j at. r.of j at;
       owner = λ j at. r.owner j at;
+      first = r.first;
     }
   where
     first_of : {A : Type 0} {count j level : ℕ} → A ⊎ ((count ≤ j) × (0 < level)) → level ≤ 0 → A
@@ -283,6 +286,24 @@ narrowed_text_array {e} {outer} {outers} {block} {types} bl b n0 j varying most 
           (on.writes (beside count n n0) p text inside t base m len held));
     }
 
+pub narrowed_named : {e : Environment} {outer : Names} {outers : Types} {block : Names} {types : Types} (bl : Block e block types) (b : Narrows outer outers block types) (n0 : Values) (j : ℕ) (type : Y.LeafType) (c : Bounds) (cs : List Bounds) → IsArrayAt outers j type c cs → ArrayNamed e outer (bl.bases j) (narrowed_ground bl outers n0) bl.serials j (record { type = type; bounds = c ∷ cs })
+narrowed_named {e} {outer} {outers} {block} {types} bl b n0 j type c cs at =
+    let on = bl.array_names j type c cs (b.among j at.0, at.1) in
+    let d = same_data e b j at.0 in
+    let here = on.at in
+    let same : bl.bases j + place_of_name e block j ≡ bl.bases j + place_of_name e outer j = omega (arith, d) in
+    record {
+      living = on.living;
+      lives = on.lives;
+      signature = on.signature;
+      at = omega (arith, here, d);
+      aligned = on.aligned;
+      high = on.high;
+      room = on.room;
+      own = λ n t base m held. on.own (beside (length outers) n n0) t base m held;
+      names = λ n t base m held. subst (λ p. NameThere m p (bl.serials.of j)) same (on.names (beside (length outers) n n0) t base m held);
+    }
+
 -- ---- the main procedure around it
 
 -- none is, where it is the main procedure's own block
@@ -423,6 +444,7 @@ narrowed {e} {outer} {outers} {block} {types} bl b n0 x place mains has =
       };
       arrays = λ j type c cs at. narrowed_array bl b n0 j type c cs at;
       text_arrays = λ j varying most c cs at. narrowed_text_array bl b n0 j varying most c cs at;
+      array_names = λ j type c cs at. narrowed_named bl b n0 j type c cs at;
       outer = narrowed_outer bl place mains has;
       enclosing = narrowed_enclosures bl outers n0 place mains has;
       seen = narrowed_seen bl b n0 place mains has;

@@ -30,6 +30,8 @@ use Rattle.pli_headline.proofs.States.{with_number_at, with_text_at}
 use Rattle.pli_headline.proofs.TextPlaces.{text_bytes, TextThere, text_kind_of}
 use Rattle.pli_headline.proofs.TextsKept.{text_kept_as, kept_length}
 use Rattle.pli_headline.proofs.TextScopes.{IsTextAt}
+use Rattle.pli_headline.proofs.NamesStand.{NameThere}
+use Rattle.pli_headline.proofs.ArrayNames.{ArrayNamed, place_of_name}
 use Rattle.pli_headline.proofs.ArrayScopes.{IsArrayAt, ArrayOn, with_element_of}
 use Rattle.pli_headline.proofs.MainGround.{width_few}
 use Rattle.pli_headline.proofs.Statements.{AllSeen, Enclosing, Enclosures, Block, SameValues}
@@ -331,6 +333,33 @@ text_array_place {e} {block} {types} ib {index} {k} o j varying most b bs at =
     (λ i kind below at' e'. more_texts ib index k i varying most (b ∷ bs) below (ib.text_arrays i varying most b bs (at' ∙ ap (λ q. Some q) e')))
     (λ e'. let no : [] ≡ b ∷ bs = sym (ap (λ (q : Kind). q.bounds) o.is) ∙ ap (λ (q : Kind). q.bounds) e' in absurd (cc no)) j (record { type = text_leaf varying most; bounds = b ∷ bs }) at refl
 
+-- the names of arrays
+more_named : {e : Environment} {block : Names} {types : Types} (ib : Block e block types) (index : ℕ) (k : Kind) (serial j : ℕ) (kind : Kind) → j < length types → ArrayNamed e block (ib.bases j) ib.ground ib.serials j kind → ArrayNamed e (more_names e block types index) (more_bases ib j) (more_ground ib k) (more_serials ib.serials (length types) serial (suc (length ib.depths))) j kind
+more_named {e} {block} {types} ib index k serial j kind below on =
+    let names = more_names e block types index in
+    let a = around_base ib j below in
+    let d = around_data e block types index j below in
+    let here = on.at in
+    let mine = chosen_before (length types) j (ib.serials.of j) serial below in
+    let same : ib.bases j + place_of_name e block j ≡ more_bases ib j + place_of_name e names j = omega (arith, a, d) in
+    record {
+      living = on.living;
+      lives = ap ib.serials.first mine ∙ on.lives;
+      signature = on.signature;
+      at = omega (arith, here, a, d);
+      aligned = let h = on.aligned in omega (arith, h, a);
+      high = let h = on.high in omega (arith, h, a);
+      room = let h = on.room in omega (arith, h, a);
+      own = λ n t b m held. subst (λ u. load 4 m (u + 36) ≡ u) (sym a) (on.own n t b m held.0);
+      names = λ n t b m held. subst (NameThere m (more_bases ib j + place_of_name e names j)) (sym mine) (subst (λ p. NameThere m p (ib.serials.of j)) same (on.names n t b m held.0));
+    }
+
+pub named_place : {e : Environment} {block : Names} {types : Types} (ib : Block e block types) {index : ℕ} {k : Kind} (o : More ib index k) (serial j : ℕ) (type : Y.LeafType) (b : Bounds) (bs : List Bounds) → IsArrayAt (types ++ (k ∷ [])) j type b bs → ArrayNamed e (more_names e block types index) (more_bases ib j) (more_ground ib k) (more_serials ib.serials (length types) serial (suc (length ib.depths))) j (record { type = type; bounds = b ∷ bs })
+named_place {e} {block} {types} ib {index} {k} o serial j type b bs at =
+    by_last types k (λ i kind. kind ≡ record { type = type; bounds = b ∷ bs } → ArrayNamed e (more_names e block types index) (more_bases ib i) (more_ground ib k) (more_serials ib.serials (length types) serial (suc (length ib.depths))) i (record { type = type; bounds = b ∷ bs }))
+    (λ i kind below at' e'. more_named ib index k serial i (record { type = type; bounds = b ∷ bs }) below (ib.array_names i type b bs (at' ∙ ap (λ q. Some q) e', at.1)))
+    (λ e'. let no : [] ≡ b ∷ bs = sym (ap (λ (q : Kind). q.bounds) o.is) ∙ ap (λ (q : Kind). q.bounds) e' in absurd (cc no)) j (record { type = type; bounds = b ∷ bs }) at.0 refl
+
 -- ---- the block
 
 pub more_temporaries : {e : Environment} {block : Names} {types : Types} (ib : Block e block types) (k : Kind) (n : Values) → Temporaries (more_ground ib k n)
@@ -494,6 +523,7 @@ more_block {e} {block} {types} ib {index} {k} o serial =
       };
       arrays = λ j type b bs at. array_place ib o j type b bs at;
       text_arrays = λ j varying most b bs at. text_array_place ib o j varying most b bs at;
+      array_names = λ j type b bs at. named_place ib o serial j type b bs at;
       outer = ib.outer;
       enclosing = more_enclosures ib k ib.outer ib.enclosing;
       seen = more_seen ib k index serial ib.outer ib.enclosing ib.seen;

@@ -53,6 +53,7 @@ use Rattle.pli_headline.proofs.Onces.{once_does}
 use Rattle.pli_headline.proofs.Counts.{turning, standing_turning}
 use Rattle.pli_headline.proofs.Putting.{put_does}
 use Rattle.pli_headline.proofs.Getting.{get_does, get_skip_does}
+use Rattle.pli_headline.proofs.ElementsAssignments.{elements_number_does, elements_bit_does}
 use Rattle.pli_headline.proofs.ElementAssignments.{assign_number_part_does, assign_bit_part_does}
 use Rattle.pli_headline.proofs.CountStarts.{counted_does}
 use Rattle.pli_coding.specs.Streams.{value_words}
@@ -223,6 +224,10 @@ mutual
       let a = le-max_left (text_words x) (4 + reference_words target) in
       let d = le-max_right (text_words x) (4 + reference_words target) in
       assign_text_part_does bl links code routines around target x line is.0 is.1.0 (omega (arith, a, room)) (omega (arith, d, room)) is.1.1
+  statement_does bl links code routines around same named (Y.AssignElements target (Y.StoredNumber precision x) line) is jumps room space bare entering least known calls ways =
+      elements_number_does bl links code routines around target precision x line is.0 is.1.0 room is.1.1
+  statement_does bl links code routines around same named (Y.AssignElements target (Y.StoredBit x) line) is jumps room space bare entering least known calls ways =
+      elements_bit_does bl links code routines around target x line is.0 is.1.0 room is.1.1
   statement_does bl links code routines around same named (Y.If condition unit line) is jumps room space bare entering least known calls ways =
       let a = le-max_left (bit_words condition) (stmt_words unit) in
       let d = le-max_right (bit_words condition) (stmt_words unit) in

@@ -62,6 +62,7 @@ use Rattle.pli_headline.proofs.Reach.{Family, Aims, Comes, Closed, before_closed
 use Rattle.pli_typing.specs.Signatures.{Bounds}
 use Rattle.pli_headline.proofs.ArrayMeant.{HoldsArray}
 use Rattle.pli_headline.proofs.ArrayScopes.{IsArrayAt, ArraysOn, array_scope}
+use Rattle.pli_headline.proofs.ArrayNames.{ArraysNamed}
 use Rattle.pli_headline.proofs.ArrayStates.{array_apart, arrays_beside}
 use Rattle.pli_headline.proofs.TextArrayMeant.{HoldsTexts, texts_aside}
 use Rattle.pli_headline.proofs.TextArrayScopes.{IsTextArrayAt, TextArraysOn, text_array_scope}
@@ -147,10 +148,11 @@ pub record Restricts (serials : Serials) (block : Names) (types : Types) (serial
   pub spots : (j : ℕ) {kind : Kind} → slice_get types' j ≡ Some kind → block'.at j ≡ block.at j
   pub of : (j : ℕ) {kind : Kind} → slice_get types' j ≡ Some kind → serials'.of j ≡ serials.of j
   pub owner : (j : ℕ) {kind : Kind} → slice_get types' j ≡ Some kind → serials'.owner j ≡ serials.owner j
+  pub first : serials'.first ≡ serials.first
 
 pub restricts_self : (serials : Serials) (block : Names) (types : Types) → Restricts serials block types serials block types
 restricts_self serials block types =
-    record { program = refl; among = λ j at. at; spots = λ j at. refl; of = λ j at. refl; owner = λ j at. refl }
+    record { program = refl; among = λ j at. at; spots = λ j at. refl; of = λ j at. refl; owner = λ j at. refl; first = refl }
 
 -- variables of blocks of these levels at most, whose activations are no higher
 abbrev pub Beneath : (level height : ℕ) → Serials → Names → Types → Type 0
@@ -242,6 +244,7 @@ pub record Block (e : Environment) (block : Names) (types : Types) : Type 1 wher
   pub texts : TextsStand e block types bases stack.free ground
   pub arrays : ArraysOn e block types bases stack.free ground
   pub text_arrays : TextArraysOn e block types bases stack.free ground
+  pub array_names : ArraysNamed e block types bases ground serials
   pub outer : List OuterBlock
   pub enclosing : Enclosures e ground levels frames.list (e.level ∷ depths) outer
   pub seen : AllSeen e ground levels frames.list (e.level ∷ depths) outer enclosing serials block types

@@ -20,6 +20,7 @@ use Rattle.pli_headline.proofs.TextsKept.{text_kept_as, kept_length}
 use Rattle.pli_headline.proofs.TextArraysStay.{text_stride, with_text_in, text_within, texts_put}
 use Rattle.pli_headline.proofs.Holdings.{ManyTexts, There, size_in, content_for, many_texts, sizes_same}
 use Rattle.pli_headline.proofs.ArrayElements.{IsDeclaredArray}
+use Rattle.pli_headline.proofs.NamesStand.{name_untouched}
 use Rattle.pli_headline.proofs.MainGround.{Frame, Stands, ground_of, contents}
 use Rattle.pli_headline.proofs.MainTexts.{there_beside}
 use Rattle.pli_headline.proofs.TextArrayScopes.{with_text_of, TextArrayOn}
@@ -81,6 +82,7 @@ main_text_element_stored f first kind n j p varying most b bs text among is few 
       variables = λ i h. element_put (i == j) f.sizes kind n m f.at i j p varying most b bs text refl is few below (o.fits i h) size whole (o.variables i h);
       fits = λ i h. subst (λ u. 16 + u ≤ f.sizes.of i) (sizes_same (kind i) (n.numbers i) (n.numbers i) (n.texts i) (n.texts i) (n.arrays i) (n.arrays i) (n.text_arrays i) (n'.text_arrays i)) (o.fits i h);
       temporaries = λ i h. load-with_other 4 bytes m q (f.at - 4 * suc i) room (inl (omega (arith, above, h))) ∙ o.temporaries i h;
+      names = λ i h. name_untouched bytes m f.sizes f.at i j (p * text_stride varying most) q refl room (omega (arith, size, row, long)) (o.names i h);
     }
 
 -- the room of an array of texts in a frame

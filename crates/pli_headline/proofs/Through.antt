@@ -69,7 +69,7 @@ begins_aside {level = level} {depths} {s} {outers = outers} b owners all =
 -- the first are those of the main procedure
 narrows_restricts : {outer : Names} {outers : Types} {block : Names} {types : Types} (serials : Serials) → Narrows outer outers block types → Restricts serials block types serials outer outers
 narrows_restricts serials b =
-    record { program = b.program; among = λ j at. b.among j at; spots = λ j at. b.spots j at; of = λ j at. refl; owner = λ j at. refl }
+    record { program = b.program; among = λ j at. b.among j at; spots = λ j at. b.spots j at; of = λ j at. refl; owner = λ j at. refl; first = refl }
 
 aside_all : {frames : Frames} {serials : Serials} {xs : Storage} {level : ℕ} {depths : List ℕ} {s : State} {outer : Names} {outers : Types} {block : Names} {types : Types} {n : Values} → Narrows outer outers block types → ((j : ℕ) (kind : Kind) → slice_get types j ≡ Some kind → serials.owner j ≤ suc (length depths)) → AllHold frames serials xs (level ∷ depths) s block types n → AllHold (put_aside (aside_of outers block types serials s) frames) serials xs (level ∷ depths) s outer outers n
 aside_all {frames = frames} {serials} {level = level} {depths} {s} {outers = outers} {block} {types} b owners all =
@@ -106,6 +106,7 @@ back_stored s s' xs xs' b before now x =
       older = λ j at. by_narrowed b j _ at (λ at'. now.older j at') (λ among. x.older j among);
       alike = now.alike;
       counted = now.counted;
+      first = now.first;
       table = now.table ∙ ap (λ p. map template_of (table_of p)) b.program;
     }
 

@@ -37,7 +37,8 @@ use Rattle.pli_serving.specs.Making as G
 use Rattle.pli_headline.proofs.Unlimited as U
 use Rattle.pli_headline.proofs.Engine.{Base, most_code, call_at}
 use Rattle.pli_headline.proofs.Calls.{acts}
-use Rattle.pli_headline.proofs.VariablePlaces.{Sizes, room_of, number_place, room_next, data_size, data_fits, element_alone, sizes_of, scalar_data_size, data_size_for}
+use Rattle.pli_headline.proofs.VariablePlaces.{Sizes, room_of, number_place, room_next, room_before, room_counts, data_size, data_fits, element_alone, sizes_of, scalar_data_size, data_size_for}
+use Rattle.pli_headline.proofs.NamesStand.{NameThere, name_place, name_beside, name_written}
 use Rattle.pli_headline.proofs.MainGround.{Stands}
 use Rattle.pli_headline.proofs.MainFrame.{main_frame}
 use Rattle.pli_headline.proofs.Scalars.{Declared, by_type, is_numeric, by_held, value_as, bit_of, bit_word, Fits, fits_wide, constant_text, begin_text, begin_of, begin_fits, store_kind, IsLimited, by_shape, begin_texts}
@@ -422,6 +423,21 @@ made_kind : (m : List ℕ) (at o j : ℕ) (type : Y.LeafType) (bs : List Bounds)
 made_kind m at o j type [] items is begins room = made_content m at o j type items is begins room
 made_kind m at o j type (b ∷ bs) items is begins room = made_many m at o j (element_count (b ∷ bs)) type items is.0 begins room
 
+-- the names of all variables, and that of the one that is made
+name_made : (s : Sizes) (q : Bool) (m bytes : List ℕ) (at i j : ℕ) → (i == j) ≡ q → j < 2 ^ 31 → at + 200 + room_of s j + length bytes ≤ length m → i < suc j → (i < j → NameThere m (at + name_place s i) (suc i)) → NameThere (with_number_made m at (room_of s j) j bytes) (at + name_place s i) (suc i)
+name_made s true m bytes at i j e few room below o =
+    let m' = with_number_made m at (room_of s j) j bytes in
+    let one = length-with_bytes bytes m (at + (144 + room_of s j + 16)) (omega (arith, room)) in
+    subst (λ u. NameThere m' (at + name_place s u) (suc u)) (sym (eqb-true i j e))
+    (subst (NameThere m' (at + name_place s j)) (add-one j)
+    (name_written (with_bytes bytes (at + (144 + room_of s j + 16)) m) (at + (144 + room_of s j)) (j + 1) (omega (arith, few)) (omega (arith, room, one))))
+name_made s false m bytes at i j e few room below o =
+    let less : i < j = grind (arith, nat_tests) in
+    let r = room_before s i j less in
+    let one = length-with_bytes bytes m (at + (144 + room_of s j + 16)) (omega (arith, room)) in
+    name_beside (name_bytes (VariableName (j + 1))) (with_bytes bytes (at + (144 + room_of s j + 16)) m) (at + (144 + room_of s j)) (at + name_place s i) (suc i) (omega (arith, room, one)) (inl (omega (arith, r)))
+    (name_beside bytes m (at + (144 + room_of s j + 16)) (at + name_place s i) (suc i) (omega (arith, room)) (inl (omega (arith, r))) (o less))
+
 -- the frame with one more variable
 pub more_stands : (kind : ℕ → Declared) (words j : ℕ) (small' : words ≤ most_code) (few : room_of (sizes_of kind) j ≤ 2 ^ 20) (few' : room_of (sizes_of kind) (suc j) ≤ 2 ^ 20) (first : List ℕ) (t : ℕ → ℕ) (b : Base) (m : List ℕ) → ((i : ℕ) → i < suc j → IsHeld (kind i).kind.type (kind i).kind.bounds) → AreConstants (kind j).kind.type (kind j).initial → length m ≡ memory_size → Stands (main_frame words (sizes_of kind) j small' few) first (begin_contents kind) t b m → Stands (main_frame words (sizes_of kind) (suc j) small' few') first (begin_contents kind) t b (with_number_made m (main_frame words (sizes_of kind) j small' few).at (room_of (sizes_of kind) j) j (data_of (kind j)))
 more_stands kind words j small' few few' first t b m held begins len o =
@@ -443,4 +459,5 @@ more_stands kind words j small' few few' first t b m held begins len o =
       variables = λ i h. variable_by (sizes_of kind) (i == j) m bytes (begin_contents kind) f.at i j refl room (held_fits i h) (made_kind m f.at (room_of (sizes_of kind) j) j (kind j).kind.type (kind j).kind.bounds (kind j).initial mine begins room) h (o.variables i);
       fits = held_fits;
       temporaries = λ i h. made_load 4 m bytes f.at (room_of (sizes_of kind) j) j (f.at - 4 * suc i) room (omega arith) ∙ o.temporaries i h;
+      names = λ i h. name_made (sizes_of kind) (i == j) m bytes f.at i j refl (let c = room_counts (sizes_of kind) j in omega (arith, c, few)) room h (o.names i);
     }

@@ -2,11 +2,11 @@
 -- constant lengths, VARYING or not, with or without INITIAL, arrays of these with constant bounds, with or without
 -- INITIAL, procedures inside it, without parameters and results, and BEGIN blocks in these and in one another, which declare nothing,
 -- or scalars of FIXED BINARY and BIT(1), with or without INITIAL; expressions of numbers, bits and texts, and elements of arrays
--- in them; assignments of these, CALL of these procedures, also by themselves, IF, groups, DO WHILE, DO with a variable, GOTO to a label
--- of a list around it in its block, in a block around it up to the procedure's own, or of the main procedure's own list, RETURN, STOP,
--- SIGNAL, ON with SYSTEM, ON for AREA with a single statement or a BEGIN block in the main procedure's own block, REVERT, PUT EDIT of
--- numbers, bits and texts, and GET EDIT of such scalars and elements, by lists of F, A, X, SKIP and COLUMN items. Each form that is
--- proved takes a line off.
+-- in them; assignments of these, and of one number or bit to all elements of an array, CALL of these procedures, also by themselves, IF,
+-- groups, DO WHILE, DO with a variable, GOTO to a label of a list around it in its block, in a block around it up to the procedure's own,
+-- or of the main procedure's own list, RETURN, STOP, SIGNAL, ON with SYSTEM, ON for AREA with a single statement or a BEGIN block in the
+-- main procedure's own block, REVERT, PUT EDIT of numbers, bits and texts, and GET EDIT of such scalars and elements, by lists of F, A, X,
+-- SKIP and COLUMN items. Each form that is proved takes a line off.
 use Rattle.std.specs.Prelude.{◌≡◌, ℕ, suc, int_le, ◌<◌, ◌≤◌, ◌^◌, List, [], ◌∷◌, ◌++◌, length, map, max, nat_lt, ◌*◌, slice_get, Bool, Option, None, Some, true, false, if◌then◌else◌, ⊤, ◌==◌, ◌&&◌, ◌⊎◌, pos, ◌+◌}
 use Rattle.pli_language.specs.Keywords.{same_bytes}
 use Rattle.pli_language.specs.declared.condition.Condition.TheVariants as C
@@ -194,6 +194,14 @@ pub record IsElement (names : Names) (types : Types) (type : Y.LeafType) (r : Y.
   pub declared : slice_get types index ≡ Some (record { type = type; bounds = bound ∷ bounds })
   pub many : given_in rest ≡ length bounds
   pub is : r ≡ Y.Referring (variable_at names index) Y.NotLocated (record { first = 0; count = 1 }) (Y.NumberThen first rest)
+
+-- an array of the block, all of it
+pub record IsWhole (names : Names) (types : Types) (type : Y.LeafType) (r : Y.Reference) : Type 0 where
+  pub index : ℕ
+  pub bound : Bounds
+  pub bounds : List Bounds
+  pub declared : slice_get types index ≡ Some (record { type = type; bounds = bound ∷ bounds })
+  pub is : r ≡ Y.Referring (variable_at names index) Y.NotLocated (record { first = 0; count = 1 }) Y.NoNumber
 
 -- a scalar, or an element
 abbrev pub IsPart : (names : Names) (types : Types) (type : Y.LeafType) (r : Y.Reference) → Type 0
@@ -446,6 +454,10 @@ abbrev mutual
       IsAssigned names types Y.BitLeaf target × (IsProvedBit names types x × IsLine line)
   IsProvedStatement names types (Y.Assign target (Y.StoredText x) line) =
       IsAssignedText names types target × (IsProvedText names types x × IsLine line)
+  IsProvedStatement names types (Y.AssignElements target (Y.StoredNumber precision x) line) =
+      IsWhole names types (Y.FixedLeaf precision) target × (IsProvedNumber names types x × IsLine line)
+  IsProvedStatement names types (Y.AssignElements target (Y.StoredBit x) line) =
+      IsWhole names types Y.BitLeaf target × (IsProvedBit names types x × IsLine line)
   IsProvedStatement names types (Y.If condition unit line) =
       IsProvedBit names types condition × (IsProvedStatement names types unit × IsLine line)
   IsProvedStatement names types (Y.IfElse condition unit otherwise line) =
