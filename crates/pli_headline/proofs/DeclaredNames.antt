@@ -7,22 +7,16 @@ use Rattle.pli_typing.specs.TypedTree as Y
 use Rattle.pli_meaning.specs.DeclaredShapes.{variables_of_block}
 use Rattle.pli_coding.specs.Environments.{Environment}
 use Rattle.pli_coding.specs.Statements.{begin_environment}
-use Rattle.pli_headline.specs.ProvedSoFar.{Names, Spot, Kind, Types, alone, types_of, IsElementType, plain_variable, IsDeclaring, AreDeclaring, names_with, names_from, names_in, types_in, declared_kind, array_variable}
+use Rattle.pli_headline.specs.ProvedSoFar.{Names, Spot, Kind, Types, alone, types_of, IsScalar, plain_variable, IsDeclaring, AreDeclaring, names_with, names_from, names_in, types_in, declared_kind, array_variable}
 use Rattle.pli_headline.proofs.Scalars.{place_below}
 use Rattle.pli_headline.proofs.Variables.{IsDeclaredAs, HasTypes}
 
 -- ---- declarations
 
--- FIXED BINARY or BIT(1)
-pub by_element : (P : Y.LeafType → Type 0) → ((p : ℕ) → IsElementType (Y.FixedLeaf p) → P (Y.FixedLeaf p)) → P Y.BitLeaf → (type : Y.LeafType) → IsElementType type → P type
-by_element P fixed bit (Y.FixedLeaf p) is = fixed p is
-by_element P fixed bit Y.BitLeaf is = bit
-by_element P fixed bit _ is = absurd is
-
 -- a variable by its place
 pub record DeclaredAt (ds : List Y.DeclaredVariable) (i : ℕ) (kind : Kind) : Type 0 where
   pub type : Y.LeafType
-  pub element : IsElementType type
+  pub held : IsScalar type
   pub initial : List T.InitialItem
   pub is : kind ≡ alone type
   pub stands : slice_get ds i ≡ Some (plain_variable type initial)
@@ -32,10 +26,10 @@ declared_by [] i are h = absurd (cc h)
 declared_by (d ∷ ds) zero {kind} are h =
     let e : declared_kind d ≡ kind = cc h in
     let o = are.0 in
-    record { type = o.type; element = o.element; initial = o.items; is = sym e ∙ ap declared_kind o.is; stands = ap (λ u. Some u) o.is }
+    record { type = o.type; held = o.held; initial = o.items; is = sym e ∙ ap declared_kind o.is; stands = ap (λ u. Some u) o.is }
 declared_by (d ∷ ds) (suc i) are h =
     let o = declared_by ds i are.1 h in
-    record { type = o.type; element = o.element; initial = o.initial; is = o.is; stands = o.stands }
+    record { type = o.type; held = o.held; initial = o.initial; is = o.is; stands = o.stands }
 
 -- ---- places among the types
 

@@ -91,9 +91,9 @@ declaring_program =
     let short : IsPlain (plain_variable (Y.FixedLeaf 15) seven) = record { type = Y.FixedLeaf 15; bounds = []; initial = seven; held = (omega arith, omega arith); begins = minus; is = refl } in
     let bit : IsPlain (plain_variable Y.BitLeaf one) = record { type = Y.BitLeaf; bounds = []; initial = one; held = tt; begins = set; is = refl } in
     let inmost : IsPlain (plain_variable (Y.FixedLeaf 31) skipped) = record { type = Y.FixedLeaf 31; bounds = []; initial = skipped; held = (omega arith, omega arith); begins = none; is = refl } in
-    let declares_j : IsDeclaring (plain_variable (Y.FixedLeaf 15) seven) = record { type = Y.FixedLeaf 15; element = (omega arith, omega arith); items = seven; begins = minus; is = refl } in
-    let declares_b : IsDeclaring (plain_variable Y.BitLeaf one) = record { type = Y.BitLeaf; element = tt; items = one; begins = set; is = refl } in
-    let declares_k : IsDeclaring (plain_variable (Y.FixedLeaf 31) skipped) = record { type = Y.FixedLeaf 31; element = (omega arith, omega arith); items = skipped; begins = none; is = refl } in
+    let declares_j : IsDeclaring (plain_variable (Y.FixedLeaf 15) seven) = record { type = Y.FixedLeaf 15; held = (omega arith, omega arith); items = seven; begins = minus; is = refl } in
+    let declares_b : IsDeclaring (plain_variable Y.BitLeaf one) = record { type = Y.BitLeaf; held = tt; items = one; begins = set; is = refl } in
+    let declares_k : IsDeclaring (plain_variable (Y.FixedLeaf 31) skipped) = record { type = Y.FixedLeaf 31; held = (omega arith, omega arith); items = skipped; begins = none; is = refl } in
     record {
       head = head;
       body = outer_body;

@@ -106,6 +106,10 @@ by_content P number text (Y.CharacterLeaf (Y.ConstantExtent (pos n))) is = text 
 by_content P number text (Y.VaryingLeaf (Y.ConstantExtent (pos n))) is = text true n is.0 is.1
 by_content P number text _ is = absurd is
 
+pub text_limit : (varying' : Bool) (most : ℕ) → IsScalar (text_leaf varying' most) → most ≤ 1024
+text_limit false most is = is.1
+text_limit true most is = is.1
+
 -- ---- values
 
 -- 0 is the bit that isn't set
