@@ -1,5 +1,5 @@
 -- One more scalar is made by service 7, or passes the limit on automatic data.
-use Rattle.std.proofs.Common.{◌≡◌, ℕ, ◌+◌, ◌-◌, ◌*◌, ◌^◌, ◌<◌, ◌≤◌, inr, List, [], ◌∷◌, length, map, Option, Some, None, true, false, refl, sym, ap, ◌∙◌, subst, arith, lit<, add-one}
+use Rattle.std.proofs.Common.{◌≡◌, ℕ, ◌+◌, ◌-◌, ◌*◌, ◌^◌, ◌<◌, ◌≤◌, List, [], ◌∷◌, length, map, Option, Some, None, true, false, refl, sym, ap, ◌∙◌, subst, arith, lit<, add-one}
 use Rattle.std.specs.Prelude.{pos, cond, min, ◌==◌, nat_lt, nat_le}
 use Rattle.std.proofs.lemmas.Bool.{lt-ltb, le-ltb, le-leb}
 use Rattle.std.proofs.lemmas.Bool.Decides.{nat_tests}

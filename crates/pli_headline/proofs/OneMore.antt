@@ -330,23 +330,23 @@ more_text_stand {e} {block} {types} ib {index} {k} o =
     record {
       room = record {
         high = λ j varying most at. text_place ib o (λ i. 4 * most_code ≤ more_bases ib i) j varying most
-        (λ i below at'. let a = around_base ib i below in let h = ib.texts.room.high i varying most at' in omega (arith, a, h))
-        (λ e'. let a = own_base ib in let h = above_code ib in omega (arith, a, h)) at;
+            (λ i below at'. let a = around_base ib i below in let h = ib.texts.room.high i varying most at' in omega (arith, a, h))
+            (λ e'. let a = own_base ib in let h = above_code ib in omega (arith, a, h)) at;
         short = λ j varying most at. text_place ib o (λ i. most ≤ 1024) j varying most (λ i below at'. ib.texts.room.short i varying most at')
-        (λ e'. text_limit varying most (subst IsScalar (own_type e') o.held)) at;
+            (λ e'. text_limit varying most (subst IsScalar (own_type e') o.held)) at;
         inside = λ j varying most at. text_place ib o (λ i. more_bases ib i + data_place e names i + text_bytes varying most ≤ memory_size) j varying most
-        (λ i below at'. let a = around_address ib index i below in let h = ib.texts.room.inside i varying most at' in omega (arith, a, h))
-        (λ e'. let size = text_room varying most o.held e' in omega (arith, own, size, behind)) at;
+            (λ i below at'. let a = around_address ib index i below in let h = ib.texts.room.inside i varying most at' in omega (arith, a, h))
+            (λ e'. let size = text_room varying most o.held e' in omega (arith, own, size, behind)) at;
       };
       under = λ j varying most at. text_place ib o (λ i. more_bases ib i + data_place e names i + text_bytes varying most ≤ ib.stack.free + frame_size k) j varying most
-      (λ i below at'. let a = around_address ib index i below in let h = ib.texts.under i varying most at' in omega (arith, a, h))
-      (λ e'. let size = text_room varying most o.held e' in omega (arith, own, size)) at;
+          (λ i below at'. let a = around_address ib index i below in let h = ib.texts.under i varying most at' in omega (arith, a, h))
+          (λ e'. let size = text_room varying most o.held e' in omega (arith, own, size)) at;
       reads = λ n j varying most at t b m held. text_place ib o (λ i. TextThere varying most (more_bases ib i + data_place e names i) m (n.texts i)) j varying most
-      (λ i below at'. subst (λ p. TextThere varying most p m (n.texts i)) (sym (around_address ib index i below)) (ib.texts.reads n i varying most at' t b m held.0))
-      (λ e'. subst (λ p. TextThere varying most p m (n.texts count)) (sym own) (own_text varying most m (ib.stack.free + 16) n count e' held.1)) at;
+          (λ i below at'. subst (λ p. TextThere varying most p m (n.texts i)) (sym (around_address ib index i below)) (ib.texts.reads n i varying most at' t b m held.0))
+          (λ e'. subst (λ p. TextThere varying most p m (n.texts count)) (sym own) (own_text varying most m (ib.stack.free + 16) n count e' held.1)) at;
       writes = λ n j varying most text at t b m len held. text_place ib o (λ i. (more_ground ib k (with_text_at n i (text_kept_as varying most text))).memory t b (with_bytes (kept_bytes (text_kind_of varying most) (BasicText text)) (more_bases ib i + data_place e names i) m)) j varying most
-      (λ i below at'. around_text ib index k n i varying most text below at' t b m len held)
-      (λ e'. own_text_writes ib o n varying most text e' t b m len held) at;
+          (λ i below at'. around_text ib index k n i varying most text below at' t b m len held)
+          (λ e'. own_text_writes ib o n varying most text e' t b m len held) at;
     }
 
 -- ---- arrays are those around
