@@ -25,8 +25,9 @@ use Rattle.pli_coding.specs.Allocating.{act_code}
 use Rattle.pli_coding.specs.Statements.{if_met, while_met, once_code, in_turns, before_turns, limit_place, step_place, start_place, start_code, limit_code, step_code, start_loaded, started_code, count_begun, limit_tested, limit_kept, while_kept, stepped_code, turn_of, turns_code, words_behind_limit, words_behind_condition, words_back, signal_code, unwound_to, returned_by, goto_outer, goto_code, marked, stmt_code, stmts_code, stmts_words, block_words, begin_environment, begin_code, condition_given, unit_established, unit_left, unit_variables, owner_of_unit, unit_words, unit_mark}
 use Rattle.pli_coding.specs.Locating.{own_place, frame_found, frame_in, table_number}
 use Rattle.rv_meaning.specs.declared.instr.Register.{Register}
-use Rattle.pli_headline.proofs.DeclaredNames.{named_in, has_in, by_element}
-use Rattle.pli_headline.specs.ProvedSoFar.{Names, Types, IsAssigned, IsProvedNumber, IsProvedNumberIf, IsProvedBit, IsProvedBitIf, IsProvedStatement, AreProvedStatements, DeclaresScalars, DeclareScalars, DeclaresNothing, IsProvedStart, names_in, types_in, AreDeclaring, IsElementType, plain_variable}
+use Rattle.pli_headline.proofs.DeclaredNames.{named_in, has_in}
+use Rattle.pli_headline.proofs.Scalars.{by_held, character, varying}
+use Rattle.pli_headline.specs.ProvedSoFar.{Names, Types, IsAssigned, IsProvedNumber, IsProvedNumberIf, IsProvedBit, IsProvedBitIf, IsProvedStatement, AreProvedStatements, DeclaresScalars, DeclareScalars, DeclaresNothing, IsProvedStart, names_in, types_in, AreDeclaring, plain_variable}
 use Rattle.pli_headline.proofs.Stands.{Stand, stands_of, end_of, inner_stands, all_stands}
 use Rattle.pli_headline.proofs.SymbolsMarked.{symbols_marked, Marks, both_mark, behind, before, either, constant_none, load_none, store_none, plus_none, overflow_none, act_none, fitted_none}
 use Rattle.pli_headline.proofs.PutMarks.{pairs_none, skip_none}
@@ -126,8 +127,8 @@ given_none : (r : Register) (start : Option Datum) → Marks (initial_given r st
 given_none r None = refl
 given_none r (Some d) = refl
 
-one_none : (e : Environment) (place : ℕ) (type : Y.LeafType) (items : List T.InitialItem) → IsElementType type → Marks (constant_made e place (plain_variable type items)) []
-one_none e place type items element =
+one_none : (e : Environment) (place : ℕ) (type : Y.LeafType) (items : List T.InitialItem) → Marks (constant_made e place (plain_variable type items)) []
+one_none e place type items =
     let d = plain_variable type items in
     let own = own_place e a0 (pos place) in
     let named = number a1 (table_number e d) in
@@ -159,7 +160,8 @@ declared_none e line index (d ∷ ds) are =
     let rest = variables_made e line (suc index) ds in
     let items = are.0.items in
     let T : Y.DeclaredVariable → Type 0 = λ u. Marks ((if is_automatic u.class then automatic_made e line place u else []) ++ rest) [] in
-    subst T (sym are.0.is) (by_element (λ t. T (plain_variable t items)) (λ p element. behind (constant_made e place (plain_variable (Y.FixedLeaf p) items)) rest [] (one_none e place (Y.FixedLeaf p) items element) (declared_none e line (suc index) ds are.1)) (behind (constant_made e place (plain_variable Y.BitLeaf items)) rest [] (one_none e place Y.BitLeaf items tt) (declared_none e line (suc index) ds are.1)) are.0.type are.0.element)
+    let here : (type : Y.LeafType) → Marks (constant_made e place (plain_variable type items) ++ rest) [] = λ type. behind (constant_made e place (plain_variable type items)) rest [] (one_none e place type items) (declared_none e line (suc index) ds are.1) in
+    subst T (sym are.0.is) (by_held (λ t. T (plain_variable t items)) (λ p. here (Y.FixedLeaf p)) (here Y.BitLeaf) (λ n few. here (character n)) (λ n few. here (varying n)) are.0.type are.0.held)
 
 begin_marks : (e : Environment) (head : Y.BlockHead) (words : ℕ) (c : Code) (ss : List Symbol) → AreDeclaring (variables_of_block e.program head.number) → Marks c ss → Marks (begin_code e head words c) ss
 begin_marks e head words c ss declaring h =

@@ -1,7 +1,7 @@
 -- The programs for which the headline is proved so far: a main procedure with scalars of FIXED BINARY, BIT(1) and CHARACTER of
 -- constant lengths, VARYING or not, with or without INITIAL, arrays of these with constant bounds, with or without
 -- INITIAL, procedures inside it, without parameters and results, and BEGIN blocks in these and in one another, which declare nothing,
--- or scalars of FIXED BINARY and BIT(1), with or without INITIAL; expressions of numbers, bits and texts, and elements of arrays
+-- or such scalars, with or without INITIAL; expressions of numbers, bits and texts, and elements of arrays
 -- in them; assignments of these, and of one number or bit to all elements of an array, CALL of these procedures, also by themselves, IF,
 -- groups, DO WHILE, DO with a variable, GOTO to a label of a list around it in its block, in a block around it up to the procedure's own,
 -- or of the main procedure's own list, RETURN, STOP, SIGNAL, ON with SYSTEM, ON for AREA with a single statement or a BEGIN block in the
@@ -12,7 +12,7 @@ use Rattle.pli_language.specs.Keywords.{same_bytes}
 use Rattle.pli_language.specs.declared.condition.Condition.TheVariants as C
 use Rattle.pli_language.specs.Tree as T
 use Rattle.pli_language.specs.Formats.{formats_move_data}
-use Rattle.pli_typing.specs.Signatures.{Bounds}
+use Rattle.pli_typing.specs.Signatures.{Bounds, rounded_up}
 use Rattle.pli_typing.specs.TypedTree as Y
 use Rattle.pli_meaning.specs.Numbers.{is_of_precision}
 use Rattle.pli_meaning.specs.Control.{Label, is_among}
@@ -570,6 +570,16 @@ abbrev mutual
 
 -- ---- what the variables of blocks in a part take in frames
 
+-- a scalar: 16 bytes for its name, and its data in whole pieces of 16
+abbrev pub bytes_for : Y.LeafType → ℕ
+bytes_for (Y.CharacterLeaf (Y.ConstantExtent (pos n))) = 16 + rounded_up 16 n
+bytes_for (Y.VaryingLeaf (Y.ConstantExtent (pos n))) = 16 + rounded_up 16 (2 + n)
+bytes_for _ = 32
+
+abbrev pub bytes_of : List Y.DeclaredVariable → ℕ
+bytes_of [] = 0
+bytes_of (d ∷ ds) = bytes_for (declared_kind d).type + bytes_of ds
+
 abbrev mutual
   pub bytes_in : Y.Program → Y.Stmt → ℕ
   bytes_in program (Y.If condition unit line) = bytes_in program unit
@@ -578,7 +588,7 @@ abbrev mutual
   bytes_in program (Y.DoWhile condition body line) = inner_bytes program body
   bytes_in program (Y.DoOnce target start condition body line) = inner_bytes program body
   bytes_in program (Y.DoCount counter start limit step condition body line) = inner_bytes program body
-  bytes_in program (Y.Begin (Y.BlockOf head body)) = 32 * length (variables_of_block program head.number) + inner_bytes program body
+  bytes_in program (Y.Begin (Y.BlockOf head body)) = bytes_of (variables_of_block program head.number) + inner_bytes program body
   bytes_in program _ = 0
 
   pub inner_bytes : Y.Program → Y.Stmts → ℕ
@@ -611,7 +621,7 @@ abbrev mutual
   CallsAmong program may returns bytes (Y.DoOnce target start condition body line) = AllCallAmong program may returns bytes body
   CallsAmong program may returns bytes (Y.DoCount counter start limit step condition body line) = AllCallAmong program may returns bytes body
   CallsAmong program may returns bytes (Y.Begin (Y.BlockOf head body)) =
-      AllCallAmong program may returns (bytes + 32 * length (variables_of_block program head.number)) body
+      AllCallAmong program may returns (bytes + bytes_of (variables_of_block program head.number)) body
   CallsAmong program may returns bytes (Y.CallProcedure (Y.Calling procedure level _) line) = IsShallow bytes × (is_number procedure may ≡ true)
   CallsAmong program may returns bytes (Y.Return line) = returns ≡ true
   CallsAmong program may returns bytes (Y.Signal C.Area line) = IsShallow bytes
@@ -638,10 +648,10 @@ AllOnce (n ∷ ns) others = (number_times n others ≡ 1) × AllOnce ns others
 
 -- ---- blocks inside the procedure
 
--- AUTOMATIC scalars of numbers and bits, with what INITIAL gives them
+-- AUTOMATIC scalars, with what INITIAL gives them
 pub record IsDeclaring (d : Y.DeclaredVariable) : Type 0 where
   pub type : Y.LeafType
-  pub element : IsElementType type
+  pub held : IsScalar type
   pub items : List T.InitialItem
   pub begins : AreConstants type items
   pub is : d ≡ plain_variable type items
@@ -704,7 +714,7 @@ pub record IsCallable (program : Y.Program) (called : List ℕ) (head : Y.BlockH
   pub kind : head.kind ≡ Y.ProcedureBlock
   pub line : IsLine head.line
   pub calls : AllCallAmong program called true 0 body
-  pub few : 4 * (stmts_words body + all_inner_words body) + (32 * length (variables_of_block program head.number) + inner_bytes program body) ≤ 3200
+  pub few : 4 * (stmts_words body + all_inner_words body) + (bytes_of (variables_of_block program head.number) + inner_bytes program body) ≤ 3200
 
 -- a procedure inside the main one, whose number is the given block's: it declares scalars as BEGIN blocks do, and has no parameters and no
 -- result
