@@ -198,6 +198,7 @@ pub mod SignaturesOnce
 pub mod PlainNumbers
 pub mod PlainTables
 pub mod CalledVariables
+pub mod UnitVariables
 pub mod InnerCalls
 pub mod MainBody
 pub mod FirstFrame

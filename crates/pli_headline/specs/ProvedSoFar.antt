@@ -425,10 +425,16 @@ AreProvedGetPairs names types (p ∷ ps) =
 abbrev pub IsLine : ℕ → Type 0
 IsLine line = line < 2 ^ 31
 
+-- what an on-unit declares: nothing where it is a single statement
+abbrev pub unit_declares : Y.Program → Y.BlockHead → Y.BlockKind → List Y.DeclaredVariable
+unit_declares program head Y.SimpleUnit = []
+unit_declares program head _ = variables_of_block program head.number
+
 -- what may be an on-unit by itself
 abbrev pub IsSimple : Y.Stmt → Type 0
 IsSimple (Y.Null line) = ⊤
 IsSimple (Y.Assign target source line) = ⊤
+IsSimple (Y.AssignElements target source line) = ⊤
 IsSimple (Y.CallProcedure call line) = ⊤
 IsSimple (Y.Goto level label line) = ⊤
 IsSimple (Y.Stop line) = ⊤
@@ -486,7 +492,11 @@ abbrev mutual
   IsProvedStatement names types (Y.OnSystem condition line) = IsLine line
   IsProvedStatement names types (Y.Revert condition line) = IsLine line
   IsProvedStatement names types (Y.OnUnit condition (Y.BlockOf head body) line) =
-      (condition ≡ C.Area) × (IsUnitBody head.kind body × (IsLine line × (IsLine head.line × AreProvedStatements names types body)))
+      (condition ≡ C.Area)
+      × (IsUnitBody head.kind body
+      × (IsLine line
+      × (IsLine head.line
+      × AreProvedStatements (names_in names types head (unit_declares names.program head head.kind)) (types_in types (unit_declares names.program head head.kind)) body)))
   IsProvedStatement names types (Y.Put None pairs line) = AreProvedPairs names types pairs × IsLine line
   IsProvedStatement names types (Y.Put (Some n) pairs line) = IsTimes n × (AreProvedPairs names types pairs × IsLine line)
   IsProvedStatement names types (Y.Get None pairs line) = AreProvedGetPairs names types pairs × IsLine line
@@ -616,7 +626,9 @@ abbrev mutual
   CallsAmong program may returns bytes (Y.Return line) = returns ≡ true
   CallsAmong program may returns bytes (Y.Signal C.Area line) = IsShallow bytes
   CallsAmong program may returns bytes (Y.OnUnit condition (Y.BlockOf head body) line) =
-      AllCallAmong program may false 0 body × ((4 * (stmts_words body + all_inner_words body) + inner_bytes program body ≤ 3200) × IsUnitNew may head head.kind)
+      AllCallAmong program may false 0 body
+      × ((4 * (stmts_words body + all_inner_words body) + (32 * length (unit_declares program head head.kind) + inner_bytes program body) ≤ 3200)
+      × IsUnitNew may head head.kind)
   CallsAmong program may returns bytes _ = ⊤
 
   pub AllCallAmong : Y.Program → (may : List ℕ) → (returns : Bool) → (bytes : ℕ) → Y.Stmts → Type 0
@@ -650,11 +662,6 @@ abbrev pub AreDeclaring : List Y.DeclaredVariable → Type 0
 AreDeclaring [] = ⊤
 AreDeclaring (d ∷ ds) = IsDeclaring d × AreDeclaring ds
 
--- a single statement declares nothing
-abbrev pub DeclaresNothing : Y.Program → Y.BlockHead → Y.BlockKind → Type 0
-DeclaresNothing program head Y.SimpleUnit = ⊤
-DeclaresNothing program head _ = variables_of_block program head.number ≡ []
-
 -- blocks declare such variables alone
 abbrev mutual
   pub DeclaresScalars : Y.Program → Y.Stmt → Type 0
@@ -666,7 +673,8 @@ abbrev mutual
   DeclaresScalars program (Y.DoCount counter start limit step condition body line) = DeclareScalars program body
   DeclaresScalars program (Y.Begin (Y.BlockOf head body)) =
       AreDeclaring (variables_of_block program head.number) × DeclareScalars program body
-  DeclaresScalars program (Y.OnUnit condition (Y.BlockOf head body) line) = DeclaresNothing program head head.kind × DeclareScalars program body
+  DeclaresScalars program (Y.OnUnit condition (Y.BlockOf head body) line) =
+      AreDeclaring (unit_declares program head head.kind) × DeclareScalars program body
   DeclaresScalars program _ = ⊤
 
   pub DeclareScalars : Y.Program → Y.Stmts → Type 0
