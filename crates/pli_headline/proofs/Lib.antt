@@ -229,6 +229,7 @@ pub mod Whole
 mod Rows
 mod DeclaredRows
 mod CallingRows
+mod UnitRows
 mod TextArrayRows
 mod ElementsRows
 pub mod FirstPathDeclared

@@ -27,7 +27,6 @@ use Rattle.pli_coding.specs.Arithmetic.{raised}
 use Rattle.pli_coding.specs.Allocating.{act_code}
 use Rattle.pli_coding.specs.Entries.{registers_restored, frame_begun, frame_ended, entered_without_texts, variables_made}
 use Rattle.pli_coding.specs.Environments.{BlockOwner, Environment, none_taken}
-use Rattle.pli_coding.specs.Frames.{fixed_size}
 use Rattle.pli_coding.specs.Statements.{owner_of_unit, unit_environment, unit_mark, unit_left, stmt_code, stmts_code}
 use Rattle.pli_coding.specs.Linking.{Links, place_of}
 use Rattle.pli_headline.specs.ProvedSoFar.{Types, Names, unit_declares}
@@ -42,14 +41,14 @@ use Rattle.pli_headline.proofs.Entered.{atop, AreBoth, both_in_force}
 use Rattle.pli_headline.proofs.Calls.{Serving}
 use Rattle.pli_headline.proofs.Raising.{Routines, with_act}
 use Rattle.pli_headline.proofs.Operators.{raised_alone}
-use Rattle.pli_headline.proofs.Acts.{acted, act_to, act_piece}
+use Rattle.pli_headline.proofs.Acts.{act_to, act_piece}
 use Rattle.pli_headline.proofs.Statements.{owner_level, Block, IsKnown, AllHold, counted_all, IsEndMarkedOnce, Enough, Does}
 use Rattle.pli_headline.proofs.CalledJumps.{ending_closed, comes_called}
 use Rattle.pli_headline.proofs.Owing.{owing, owing_closed, comes_owing, done_owing}
 use Rattle.pli_headline.proofs.MainOutlets.{HasMain, main_of, main_enclosing, main_seen, main_outlet, owed_outlet}
 use Rattle.pli_headline.proofs.SavedRegisters.{held_again}
 use Rattle.pli_headline.proofs.BeginEntered.{ended_services}
-use Rattle.pli_headline.proofs.BeginMeant.{Entering, inner_around, inner_part, entered_by, raised_nested, raised_all, ended_input, left_all, newest_kind}
+use Rattle.pli_headline.proofs.BeginMeant.{Entering, inner_around, entered_by, raised_nested, raised_all, ended_input, left_all, newest_kind}
 use Rattle.pli_headline.proofs.CallMeant.{called_part}
 use Rattle.pli_headline.proofs.CallRuns.{called_direct, acted_does}
 use Rattle.pli_headline.proofs.Declares.{Makes, made_block, declares_from}
