@@ -1,5 +1,5 @@
--- SIGNAL of AREA while a unit of the program may be in force: the unit is entered, runs and goes back behind SIGNAL, or the limit on active
--- blocks ends the run; where none is in force the system's action ends it.
+-- SIGNAL of AREA while a unit of the program may be in force: the unit is entered, its variables are made, it runs and goes back behind
+-- SIGNAL, or the limit on active blocks ends the run; where none is in force the system's action ends it.
 use Rattle.std.proofs.Common.{◌≡◌, ℕ, zero, suc, ◌+◌, ◌*◌, ◌^◌, ◌<◌, ◌≤◌, List, [], ◌∷◌, ◌++◌, length, None, Option, Some, true, false, refl, sym, ap, ◌∙◌, subst, arith, lit<, inl}
 use Rattle.std.proofs.lemmas.Bool.{eq-eqb, ltb-true}
 use Rattle.std.specs.Prelude.{cond, nat_lt, ◌==◌}
@@ -108,7 +108,7 @@ end_placed head Y.UnitBlock l owned once = l.has.0 (eq-eqb head.number head.numb
 end_placed head Y.ProcedureBlock l owned once = l.has.0 (eq-eqb head.number head.number refl) once
 end_placed head Y.BeginBlock l owned once = l.has.0 (eq-eqb head.number head.number refl) once
 
--- its code stands at an offset, there is room for its frame, and its statements do what they mean
+-- its code stands at an offset, there is room for its frame, its variables can be made, and then its statements do what they mean
 pub record Raisable {e : Environment} {block : Names} {types : Types} (bl : Block e block types) (main : ℕ) (mains : List Label) (has : HasMain main mains e.level e.block bl.labels bl.outer) (links : Links) (code : List Instr) (more frame : ℕ) (u : Y.Block) (at : ℕ) : Type 1 where
   pub lowest : frame ≡ bl.base
   pub head : Y.BlockHead
