@@ -24,7 +24,7 @@ called_makes {e} bl callee head next main mains has known are room few back h0 t
     let first = place 0 (omega arith) in
     record {
       are = are;
-      stand = λ i. let z : 0 + i ≡ i = omega arith in ap (λ n. slice_get ds n) z;
+      stand = λ i below. let z : 0 + i ≡ i = omega arith in ap (λ n. slice_get ds n) z;
       deep = omega (arith, next);
       new = λ j kind at. inl (let low = callee.outer j kind at in omega (arith, low, next));
       fresh = tt;

@@ -116,7 +116,7 @@ inner_makes {e} bl inner t0 head next filled known are shallow room few =
     let first = place 0 (omega arith) in
     record {
       are = are;
-      stand = λ i. let z : 0 + i ≡ i = omega arith in ap (λ n. slice_get ds n) z;
+      stand = λ i below. let z : 0 + i ≡ i = omega arith in ap (λ n. slice_get ds n) z;
       deep = omega (arith, next);
       new = λ j kind at. inl (let low = bl.lower j at in omega (arith, low, next));
       fresh = tt;

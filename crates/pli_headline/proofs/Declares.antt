@@ -74,7 +74,7 @@ declared_bytes d is =
 
 pub record Makes {e : Environment} {block : Names} {types : Types} (ib : Block e block types) (index : ℕ) (ds : List Y.DeclaredVariable) : Type 0 where
   pub are : AreDeclaring ds
-  pub stand : (i : ℕ) → slice_get (variables_of_block e.program e.block) (index + i) ≡ slice_get ds i
+  pub stand : (i : ℕ) → i < length ds → slice_get (variables_of_block e.program e.block) (index + i) ≡ slice_get ds i
   pub deep : 0 < e.level
   pub new : IsNew e block types index
   pub fresh : IsFresh ib.frames.asides
@@ -83,10 +83,10 @@ pub record Makes {e : Environment} {block : Names} {types : Types} (ib : Block e
   pub room : ib.stack.free + bytes_of ds + 4 ≤ 14 * 2 ^ 20
   pub near : place_for e index + bytes_of ds ≤ last_place
 
-first_here : (e : Environment) (index : ℕ) (d : Y.DeclaredVariable) (ds : List Y.DeclaredVariable) → ((i : ℕ) → slice_get (variables_of_block e.program e.block) (index + i) ≡ slice_get (d ∷ ds) i) → slice_get (variables_of_block e.program e.block) index ≡ Some d
+first_here : (e : Environment) (index : ℕ) (d : Y.DeclaredVariable) (ds : List Y.DeclaredVariable) → ((i : ℕ) → i < length (d ∷ ds) → slice_get (variables_of_block e.program e.block) (index + i) ≡ slice_get (d ∷ ds) i) → slice_get (variables_of_block e.program e.block) index ≡ Some d
 first_here e index d ds stand =
     let here : index ≡ index + 0 = omega arith in
-    ap (λ i. slice_get (variables_of_block e.program e.block) i) here ∙ stand 0
+    ap (λ i. slice_get (variables_of_block e.program e.block) i) here ∙ stand 0 (omega arith)
 
 pub first_more : {e : Environment} {block : Names} {types : Types} (ib : Block e block types) {index : ℕ} (d : Y.DeclaredVariable) (ds : List Y.DeclaredVariable) → Makes ib index (d ∷ ds) → More ib index (declared_kind d)
 first_more {e} ib {index} d ds m =
@@ -119,7 +119,7 @@ next_makes {e} {block} {types} ib {index} d ds m serial =
     let q1 : place_for e (index + 1) ≡ place_for e (suc index) = (let same : index + 1 ≡ suc index = omega arith in ap (place_for e) same) in
     record {
       are = m.are.1;
-      stand = λ i. let e' : suc index + i ≡ index + suc i = omega arith in ap (λ n. slice_get (variables_of_block e.program e.block) n) e' ∙ m.stand (suc i);
+      stand = λ i below. let e' : suc index + i ≡ index + suc i = omega arith in ap (λ n. slice_get (variables_of_block e.program e.block) n) e' ∙ m.stand (suc i) (omega (arith, below));
       deep = m.deep;
       new = λ j kind at.
           by_last types (declared_kind d) (λ i kind'. (level_of (more_names e block types index) i < e.level) ⊎ (((more_names e block types index).at i).index < suc index))

@@ -18,7 +18,7 @@ use Rattle.pli_coding.specs.Statements.{owner_of_unit, unit_environment, number_
 use Rattle.pli_coding.specs.Temporaries.{number_words, bit_words, reference_words, text_words}
 use Rattle.pli_coding.specs.Images.{place_of_head, place_of_unit, blocks_in, blocks_among}
 use Rattle.pli_coding.specs.Linking.{Links}
-use Rattle.pli_headline.specs.ProvedSoFar.{Names, names_in, types_in, IsShallow, AreDeclaring, bytes_of, bytes_in, inner_bytes, Types, OuterBlock, main_labels, main_outer, IsProvedStatement, AreProvedStatements, JumpsAround, AllJumpAround, DeclaresScalars, DeclareScalars, is_number, CallsAmong, AllCallAmong}
+use Rattle.pli_headline.specs.ProvedSoFar.{Names, names_in, types_in, unit_declares, IsShallow, AreDeclaring, bytes_of, bytes_in, inner_bytes, Types, OuterBlock, main_labels, main_outer, IsProvedStatement, AreProvedStatements, JumpsAround, AllJumpAround, DeclaresScalars, DeclareScalars, is_number, CallsAmong, AllCallAmong}
 use Rattle.pli_meaning.specs.DeclaredShapes.{variables_of_block}
 use Rattle.pli_headline.proofs.Statements.{owner_level, IsOwned, known_in, Standing, Block, Does, EachDoes, null_does, IsEndMarkedOnce}
 use Rattle.pli_headline.proofs.Ifs.{if_does, if_else_does}
@@ -391,7 +391,7 @@ mutual
   statement_does bl links code routines around same named (Y.Signal C.Error line) is jumps room space bare entering least known calls ways = signal_does bl links code routines.raises around C.Error line refl is
   statement_does bl links code routines around same named (Y.OnSystem condition line) is jumps room space bare entering least known calls ways = on_system_does bl links code around condition line is
   statement_does bl links code routines around same named (Y.Revert condition line) is jumps room space bare entering least known calls ways = revert_does bl links code around condition line is
-  statement_does {e} bl links code routines around same named (Y.OnUnit condition (Y.BlockOf head body) line) is jumps room space bare entering least known calls ways =
+  statement_does {e} {block} {types} bl links code routines around same named (Y.OnUnit condition (Y.BlockOf head body) line) is jumps room space bare entering least known calls ways =
       on_unit_does bl links code around condition head body line jumps.0 is.0 is.1.1.0
       (λ i later l. ways.makes jumps.0 (Y.BlockOf head body) (4 * i) (record {
         head = head;
@@ -400,9 +400,10 @@ mutual
         what = is.1.0;
         level = jumps.1.0;
         line = is.1.1.1.0;
-        proved = is.1.1.1.1;
+        proved = subst (λ p. AreProvedStatements (names_in block types head (unit_declares p head head.kind)) (types_in types (unit_declares p head head.kind)) body) bl.named is.1.1.1.1;
         jumps = jumps.1.1.1;
-        bare = bare;
+        declares = bare.0;
+        inside = bare.1;
         calls = calls.0;
         few = calls.1.0;
         once = named.once;

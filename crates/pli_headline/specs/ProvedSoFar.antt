@@ -4,9 +4,9 @@
 -- or such scalars, with or without INITIAL; expressions of numbers, bits and texts, and elements of arrays
 -- in them; assignments of these, and of one number or bit to all elements of an array, CALL of these procedures, also by themselves, IF,
 -- groups, DO WHILE, DO with a variable, GOTO to a label of a list around it in its block, in a block around it up to the procedure's own,
--- or of the main procedure's own list, RETURN, STOP, SIGNAL, ON with SYSTEM, ON for AREA with a single statement or a BEGIN block in the
--- main procedure's own block, REVERT, PUT EDIT of numbers, bits and texts, and GET EDIT of such scalars and elements, by lists of F, A, X,
--- SKIP and COLUMN items. Each form that is proved takes a line off.
+-- or of the main procedure's own list, RETURN, STOP, SIGNAL, ON with SYSTEM, ON for AREA with a single statement or a BEGIN block, which
+-- declares as others do, in the main procedure's own block, REVERT, PUT EDIT of numbers, bits and texts, and GET EDIT of such scalars and
+-- elements, by lists of F, A, X, SKIP and COLUMN items. Each form that is proved takes a line off.
 use Rattle.std.specs.Prelude.{◌≡◌, ℕ, suc, int_le, ◌<◌, ◌≤◌, ◌^◌, List, [], ◌∷◌, ◌++◌, length, map, max, nat_lt, ◌*◌, slice_get, Bool, Option, None, Some, true, false, if◌then◌else◌, ⊤, ◌==◌, ◌&&◌, ◌⊎◌, pos, ◌+◌}
 use Rattle.pli_language.specs.Keywords.{same_bytes}
 use Rattle.pli_language.specs.declared.condition.Condition.TheVariants as C
@@ -425,10 +425,16 @@ AreProvedGetPairs names types (p ∷ ps) =
 abbrev pub IsLine : ℕ → Type 0
 IsLine line = line < 2 ^ 31
 
+-- what an on-unit declares: nothing where it is a single statement
+abbrev pub unit_declares : Y.Program → Y.BlockHead → Y.BlockKind → List Y.DeclaredVariable
+unit_declares program head Y.SimpleUnit = []
+unit_declares program head _ = variables_of_block program head.number
+
 -- what may be an on-unit by itself
 abbrev pub IsSimple : Y.Stmt → Type 0
 IsSimple (Y.Null line) = ⊤
 IsSimple (Y.Assign target source line) = ⊤
+IsSimple (Y.AssignElements target source line) = ⊤
 IsSimple (Y.CallProcedure call line) = ⊤
 IsSimple (Y.Goto level label line) = ⊤
 IsSimple (Y.Stop line) = ⊤
@@ -486,7 +492,11 @@ abbrev mutual
   IsProvedStatement names types (Y.OnSystem condition line) = IsLine line
   IsProvedStatement names types (Y.Revert condition line) = IsLine line
   IsProvedStatement names types (Y.OnUnit condition (Y.BlockOf head body) line) =
-      (condition ≡ C.Area) × (IsUnitBody head.kind body × (IsLine line × (IsLine head.line × AreProvedStatements names types body)))
+      (condition ≡ C.Area)
+      × (IsUnitBody head.kind body
+      × (IsLine line
+      × (IsLine head.line
+      × AreProvedStatements (names_in names types head (unit_declares names.program head head.kind)) (types_in types (unit_declares names.program head head.kind)) body)))
   IsProvedStatement names types (Y.Put None pairs line) = AreProvedPairs names types pairs × IsLine line
   IsProvedStatement names types (Y.Put (Some n) pairs line) = IsTimes n × (AreProvedPairs names types pairs × IsLine line)
   IsProvedStatement names types (Y.Get None pairs line) = AreProvedGetPairs names types pairs × IsLine line
@@ -626,7 +636,9 @@ abbrev mutual
   CallsAmong program may returns bytes (Y.Return line) = returns ≡ true
   CallsAmong program may returns bytes (Y.Signal C.Area line) = IsShallow bytes
   CallsAmong program may returns bytes (Y.OnUnit condition (Y.BlockOf head body) line) =
-      AllCallAmong program may false 0 body × ((4 * (stmts_words body + all_inner_words body) + inner_bytes program body ≤ 3200) × IsUnitNew may head head.kind)
+      AllCallAmong program may false 0 body
+      × ((4 * (stmts_words body + all_inner_words body) + (bytes_of (unit_declares program head head.kind) + inner_bytes program body) ≤ 3200)
+      × IsUnitNew may head head.kind)
   CallsAmong program may returns bytes _ = ⊤
 
   pub AllCallAmong : Y.Program → (may : List ℕ) → (returns : Bool) → (bytes : ℕ) → Y.Stmts → Type 0
@@ -660,11 +672,6 @@ abbrev pub AreDeclaring : List Y.DeclaredVariable → Type 0
 AreDeclaring [] = ⊤
 AreDeclaring (d ∷ ds) = IsDeclaring d × AreDeclaring ds
 
--- a single statement declares nothing
-abbrev pub DeclaresNothing : Y.Program → Y.BlockHead → Y.BlockKind → Type 0
-DeclaresNothing program head Y.SimpleUnit = ⊤
-DeclaresNothing program head _ = variables_of_block program head.number ≡ []
-
 -- blocks declare such variables alone
 abbrev mutual
   pub DeclaresScalars : Y.Program → Y.Stmt → Type 0
@@ -676,7 +683,8 @@ abbrev mutual
   DeclaresScalars program (Y.DoCount counter start limit step condition body line) = DeclareScalars program body
   DeclaresScalars program (Y.Begin (Y.BlockOf head body)) =
       AreDeclaring (variables_of_block program head.number) × DeclareScalars program body
-  DeclaresScalars program (Y.OnUnit condition (Y.BlockOf head body) line) = DeclaresNothing program head head.kind × DeclareScalars program body
+  DeclaresScalars program (Y.OnUnit condition (Y.BlockOf head body) line) =
+      AreDeclaring (unit_declares program head head.kind) × DeclareScalars program body
   DeclaresScalars program _ = ⊤
 
   pub DeclareScalars : Y.Program → Y.Stmts → Type 0
