@@ -180,7 +180,7 @@ CalleeDoes {e} bl callee head next main mains has makes links code more body =
     (back : Base → ℕ) (h0 t0 : ℕ → ℕ) (serial : ℕ) → Does (made_block (callee_block bl callee head next main mains has back h0 t0) (vars_of e head) (makes back h0 t0) serial) links code (suc more) (stmts_code (procedure_environment head e) none_taken body) (M.list (inner_around e.program more head.line) body)
 
 -- the act of the entry stands before them
-acted_does : {e : Environment} {block : Names} {types : Types} (bl : Block e block types) {links : Links} {code : List Instr} {turns : ℕ} {c : Code} {meaning : Meaning (Unit {0})} (line : ℕ) → line < 2 ^ 31 → Does bl links code turns c meaning → Does bl links code turns (act_code line ++ c) (act counted >> meaning)
+pub acted_does : {e : Environment} {block : Names} {types : Types} (bl : Block e block types) {links : Links} {code : List Instr} {turns : ℕ} {c : Code} {meaning : Meaning (Unit {0})} (line : ℕ) → line < 2 ^ 31 → Does bl links code turns c meaning → Does bl links code turns (act_code line ++ c) (act counted >> meaning)
 unfolding ◌>>◌
 acted_does bl {c = c} {meaning = meaning} line fits d =
     record {

@@ -70,7 +70,7 @@ calling_program =
     let ni' : IsProvedNumber called_names inner_types (Y.NumberIn (whole_at 1 0 0)) = (record { precision = 31; part = inl i' }, tt) in
     let nk : IsProvedNumber called_names inner_types (Y.NumberIn (whole_at 3 1 0)) = (record { precision = 31; part = inl k }, tt) in
     let plain : IsPlain number = record { type = Y.FixedLeaf 31; bounds = []; initial = []; held = (omega arith, omega arith); begins = tt; is = refl } in
-    let declares : IsDeclaring number = record { type = Y.FixedLeaf 31; element = (omega arith, omega arith); items = []; begins = tt; is = refl } in
+    let declares : IsDeclaring number = record { type = Y.FixedLeaf 31; held = (omega arith, omega arith); items = []; begins = tt; is = refl } in
     record {
       head = head;
       body = outer_body;

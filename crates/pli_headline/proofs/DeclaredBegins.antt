@@ -3,7 +3,6 @@ use Rattle.std.proofs.Common.{◌≡◌, ℕ, zero, suc, ◌+◌, ◌*◌, ◌^�
 use Rattle.std.specs.Prelude.{max, min, nat_lt, slice_get}
 use Rattle.std.proofs.lemmas.Bool.{ltb-true}
 use Rattle.rv_meaning.specs.declared.instr.Instr.{Instr}
-use Rattle.pli_language.specs.Tree as T
 use Rattle.pli_typing.specs.TypedTree as Y
 use Rattle.pli_meaning.specs.declared.outcome.End.TheVariants as E
 use Rattle.pli_meaning.specs.declared.outcome.Limit.TheVariants as L
@@ -26,23 +25,22 @@ use Rattle.pli_coding.specs.Frames.{fixed_size, last_place, frame_bytes, variabl
 use Rattle.pli_coding.specs.Linking.{Links}
 use Rattle.pli_coding.specs.Statements.{begin_environment, begin_code, block_words, stmts_words, stmt_code, stmts_code}
 use Rattle.pli_headline.specs.Headline.{parts}
-use Rattle.pli_headline.specs.ProvedSoFar.{Names, Types, AreDeclaring, plain_variable, IsElementType}
+use Rattle.pli_headline.specs.ProvedSoFar.{Names, Types, AreDeclaring, IsDeclaring, IsPlain, plain_variable, declared_kind, bytes_for, bytes_of}
 use Rattle.pli_headline.proofs.Engine.{Base, address}
 use Rattle.pli_headline.proofs.Linking.{size_append}
 use Rattle.pli_headline.proofs.Items.{Linked, At}
 use Rattle.pli_headline.proofs.Jumps.{front_of, back_of}
 use Rattle.pli_headline.proofs.Bodies.{Known}
 use Rattle.pli_headline.proofs.Temporaries.{nothing}
-use Rattle.pli_headline.proofs.Scalars.{Values}
+use Rattle.pli_headline.proofs.Scalars.{Values, by_held}
 use Rattle.pli_headline.proofs.Calls.{Serving}
 use Rattle.pli_headline.proofs.Acts.{acted, act_piece}
 use Rattle.pli_headline.proofs.Storages.{storage}
 use Rattle.pli_headline.proofs.Activations.{same_length, newest_is, entered_length}
-use Rattle.pli_headline.proofs.MainProcedure.{frame_fixed}
-use Rattle.pli_headline.proofs.DeclaredNames.{by_element}
+use Rattle.pli_headline.proofs.MainProcedure.{frame_plain}
 use Rattle.pli_headline.proofs.StandingBytes.{ConstantsStand, constants_moved}
 use Rattle.pli_headline.proofs.Statements.{owner_level, Block, IsFilled, IsKnown, AllHold, counted_all, Does, Enough}
-use Rattle.pli_headline.proofs.Declares.{Makes, made_block, first_more, next_makes, declares_from, code_joined}
+use Rattle.pli_headline.proofs.Declares.{Makes, bytes_before, bytes_all, declared_bytes, made_block, first_more, next_makes, declares_from, code_joined}
 use Rattle.pli_headline.proofs.OneMore.{more_block}
 use Rattle.pli_headline.proofs.MoreServed.{place_for}
 use Rattle.pli_headline.proofs.InnerFrames.{Inner, inner_block}
@@ -66,13 +64,14 @@ pub record IsMade {e : Environment} {block block' : Names} {types types' : Types
   pub frame : mb.stack.frame ≡ ib.stack.frame
   pub free : mb.stack.free ≡ ib.stack.free + bytes
 
-pub is_made : (ds : List Y.DeclaredVariable) {e : Environment} {block : Names} {types : Types} (ib : Block e block types) {index : ℕ} (m : Makes ib index ds) (serial : ℕ) → IsMade ib (made_block ib ds m serial) (32 * length ds)
+pub is_made : (ds : List Y.DeclaredVariable) {e : Environment} {block : Names} {types : Types} (ib : Block e block types) {index : ℕ} (m : Makes ib index ds) (serial : ℕ) → IsMade ib (made_block ib ds m serial) (bytes_of ds)
 is_made [] ib m serial =
     record { words = refl; taken = refl; labels = refl; outer = refl; depths = refl; base = refl; frames = refl; frame = refl; free = omega arith }
 is_made (d ∷ ds) ib m serial =
     let o = is_made ds (more_block ib (first_more ib d ds m) (serial + 1)) (next_makes ib d ds m (serial + 1)) (serial + 1) in
     let free = o.free in
-    record { words = o.words; taken = o.taken; labels = o.labels; outer = o.outer; depths = o.depths; base = o.base; frames = o.frames; frame = o.frame; free = omega (arith, free) }
+    let size = declared_bytes d m.are.0 in
+    record { words = o.words; taken = o.taken; labels = o.labels; outer = o.outer; depths = o.depths; base = o.base; frames = o.frames; frame = o.frame; free = omega (arith, free, size) }
 
 -- constant bytes stand as before
 pub made_constants : (ds : List Y.DeclaredVariable) {e : Environment} {block : Names} {types : Types} (ib : Block e block types) {index : ℕ} (m : Makes ib index ds) (serial : ℕ) {links : Links} {code : List Instr} → ((n : Values) → ConstantsStand links code (ib.ground n)) → (n : Values) → ConstantsStand links code ((made_block ib ds m serial).ground n)
@@ -83,21 +82,22 @@ made_constants (d ∷ ds) ib m serial stand n =
 
 -- ---- places in the frame
 
-bytes_of : (type : Y.LeafType) (items : List T.InitialItem) → IsElementType type → frame_bytes parts (plain_variable type items) ≡ 32
-bytes_of type items is =
-    by_element (λ t. frame_bytes parts (plain_variable t items) ≡ 32) (λ p h. frame_fixed p items) refl type is
+plain_declaring : (d : Y.DeclaredVariable) → IsDeclaring d → IsPlain d
+plain_declaring d is =
+    record { type = is.type; bounds = []; initial = is.items; held = is.held; begins = is.begins; is = is.is }
 
-places_of : (at : ℕ) (ds : List Y.DeclaredVariable) (i : ℕ) → AreDeclaring ds → i ≤ length ds → at + 32 * length ds ≤ last_place → variable_place parts at ds i ≡ at + 32 * i
+places_of : (at : ℕ) (ds : List Y.DeclaredVariable) (i : ℕ) → AreDeclaring ds → i ≤ length ds → at + bytes_of ds ≤ last_place → variable_place parts at ds i ≡ at + bytes_before ds i
 places_of at [] zero are h fits = omega arith
 places_of at [] (suc i) are h fits = absurd (omega (arith, h))
 places_of at (d ∷ ds) zero are h fits = omega arith
 places_of at (d ∷ ds) (suc i) are h fits =
-    let bytes : frame_bytes parts d ≡ 32 = ap (frame_bytes parts) are.0.is ∙ bytes_of are.0.type are.0.items are.0.element in
-    let next' : min last_place (at + frame_bytes parts d) ≡ at + 32 = omega (arith, fits, bytes) in
-    ap (λ n. variable_place parts n ds i) next' ∙ places_of (at + 32) ds i are.1 (omega (arith, h)) (omega (arith, fits)) ∙ omega arith
+    let n = bytes_for (declared_kind d).type in
+    let bytes : frame_bytes parts d ≡ n = frame_plain d (plain_declaring d are.0) ∙ sym (declared_bytes d are.0) in
+    let next' : min last_place (at + frame_bytes parts d) ≡ at + n = omega (arith, fits, bytes) in
+    ap (λ p. variable_place parts p ds i) next' ∙ places_of (at + n) ds i are.1 (omega (arith, h)) (omega (arith, fits)) ∙ omega arith
 
 -- from the fixed part of the frame on
-pub declared_place : (e : Environment) (number level i : ℕ) → IsKnown e → AreDeclaring (variables_of_block e.program number) → i ≤ length (variables_of_block e.program number) → fixed_size level 0 + 32 * length (variables_of_block e.program number) ≤ last_place → place_for (in_frame number level e) i ≡ fixed_size level 0 + 32 * i
+pub declared_place : (e : Environment) (number level i : ℕ) → IsKnown e → AreDeclaring (variables_of_block e.program number) → i ≤ length (variables_of_block e.program number) → fixed_size level 0 + bytes_of (variables_of_block e.program number) ≤ last_place → place_for (in_frame number level e) i ≡ fixed_size level 0 + bytes_before (variables_of_block e.program number) i
 declared_place e number level i known are h fits =
     let ds = variables_of_block e.program number in
     ap (λ p. variable_place p (fixed_size level (length (parameters_of_block e.program number))) ds i) known.parts_are
@@ -109,14 +109,14 @@ declared_place e number level i known are h fits =
 abbrev pub vars_of : Environment → Y.BlockHead → List Y.DeclaredVariable
 vars_of e head = variables_of_block e.program head.number
 
-pub inner_makes : {e : Environment} {block : Names} {types : Types} (bl : Block e block types) (inner : Inner bl) (t0 : ℕ → ℕ) (head : Y.BlockHead) (next : head.level ≡ suc e.level) (filled : IsFilled bl) → IsKnown e → AreDeclaring (vars_of e head) → head.level ≤ 100 → inner.at + fixed_size (suc e.level) 0 + 32 * length (vars_of e head) + 4 ≤ 14 * 2 ^ 20 → length (vars_of e head) ≤ 2 ^ 15 → Makes (inner_block bl inner t0 head.number head.level next filled) 0 (vars_of e head)
+pub inner_makes : {e : Environment} {block : Names} {types : Types} (bl : Block e block types) (inner : Inner bl) (t0 : ℕ → ℕ) (head : Y.BlockHead) (next : head.level ≡ suc e.level) (filled : IsFilled bl) → IsKnown e → AreDeclaring (vars_of e head) → head.level ≤ 100 → inner.at + fixed_size (suc e.level) 0 + bytes_of (vars_of e head) + 4 ≤ 14 * 2 ^ 20 → bytes_of (vars_of e head) ≤ 2 ^ 20 → Makes (inner_block bl inner t0 head.number head.level next filled) 0 (vars_of e head)
 inner_makes {e} bl inner t0 head next filled known are shallow room few =
     let ds = vars_of e head in
-    let place : (i : ℕ) → i ≤ length ds → place_for (in_frame head.number head.level e) i ≡ fixed_size head.level 0 + 32 * i = λ i h. declared_place e head.number head.level i known are h (omega (arith, few, shallow)) in
+    let place : (i : ℕ) → i ≤ length ds → place_for (in_frame head.number head.level e) i ≡ fixed_size head.level 0 + bytes_before ds i = λ i h. declared_place e head.number head.level i known are h (omega (arith, few, shallow)) in
     let first = place 0 (omega arith) in
     record {
       are = are;
-      stand = λ i. let z : 0 + i ≡ i = omega arith in ap (λ n. slice_get ds n) z;
+      stand = λ i below. let z : 0 + i ≡ i = omega arith in ap (λ n. slice_get ds n) z;
       deep = omega (arith, next);
       new = λ j kind at. inl (let low = bl.lower j at in omega (arith, low, next));
       fresh = tt;
@@ -131,14 +131,15 @@ inner_makes {e} bl inner t0 head next filled known are shallow room few =
     }
 
 -- all of them stand in its frame
-pub made_filled : {e : Environment} {block : Names} {types : Types} (bl : Block e block types) (inner : Inner bl) (t0 : ℕ → ℕ) (head : Y.BlockHead) (next : head.level ≡ suc e.level) (filled : IsFilled bl) → IsKnown e → (are : AreDeclaring (vars_of e head)) → head.level ≤ 100 → length (vars_of e head) ≤ 2 ^ 15 → (m : Makes (inner_block bl inner t0 head.number head.level next filled) 0 (vars_of e head)) (serial : ℕ) → IsFilled (made_block (inner_block bl inner t0 head.number head.level next filled) (vars_of e head) m serial)
+pub made_filled : {e : Environment} {block : Names} {types : Types} (bl : Block e block types) (inner : Inner bl) (t0 : ℕ → ℕ) (head : Y.BlockHead) (next : head.level ≡ suc e.level) (filled : IsFilled bl) → IsKnown e → (are : AreDeclaring (vars_of e head)) → head.level ≤ 100 → bytes_of (vars_of e head) ≤ 2 ^ 20 → (m : Makes (inner_block bl inner t0 head.number head.level next filled) 0 (vars_of e head)) (serial : ℕ) → IsFilled (made_block (inner_block bl inner t0 head.number head.level next filled) (vars_of e head) m serial)
 made_filled {e} bl inner t0 head next filled known are shallow few m serial owned =
     let ds = vars_of e head in
     let o = is_made ds (inner_block bl inner t0 head.number head.level next filled) m serial in
     let frame = o.frame in
     let free = o.free in
     let p = declared_place e head.number head.level (length ds) known are (omega arith) (omega (arith, few, shallow)) in
-    omega (arith, frame, free, p, next)
+    let all = bytes_all ds in
+    omega (arith, frame, free, p, next, all)
 
 -- ---- the code
 
@@ -153,7 +154,7 @@ pub no_words : (ds : List Y.DeclaredVariable) → AreDeclaring ds → variables_
 no_words [] are = refl
 no_words (d ∷ ds) are =
     ap (λ u. variables_words (u ∷ ds)) are.0.is
-    ∙ by_element (λ t. variables_words (plain_variable t are.0.items ∷ ds) ≡ max 0 (variables_words ds)) (λ p h. refl) refl are.0.type are.0.element
+    ∙ by_held (λ t. variables_words (plain_variable t are.0.items ∷ ds) ≡ max 0 (variables_words ds)) (λ p. refl) refl (λ n few. refl) (λ n few. refl) are.0.type are.0.held
     ∙ ap (λ n. max 0 n) (no_words ds are.1)
 
 declaring_code_is : (e : Environment) (head : Y.BlockHead) (body : Y.Stmts) → head.level ≡ suc e.level → AreDeclaring (vars_of e head) → begin_code e head (block_words e head.number (stmts_words body)) (stmts_code (begin_environment head e) none_taken body) ≡ declaring_code e head (max 0 (stmts_words body)) body

@@ -2,40 +2,13 @@
 use Rattle.std.proofs.Common.{◌≡◌, ℕ, zero, suc, ◌+◌, ◌-◌, ◌<◌, ◌≤◌, ◌⊎◌, inl, inr, List, [], ◌∷◌, ◌++◌, length, Some, refl, sym, ap, ◌∙◌, subst, arith}
 use Rattle.std.specs.Prelude.{cond, nat_lt, slice_get}
 use Rattle.std.proofs.lemmas.Bool.{lt-ltb, le-ltb, cases_lt}
-use Rattle.pli_language.specs.Tree as T
 use Rattle.pli_typing.specs.TypedTree as Y
 use Rattle.pli_meaning.specs.DeclaredShapes.{variables_of_block}
 use Rattle.pli_coding.specs.Environments.{Environment}
 use Rattle.pli_coding.specs.Statements.{begin_environment}
-use Rattle.pli_headline.specs.ProvedSoFar.{Names, Spot, Kind, Types, alone, types_of, IsElementType, plain_variable, IsDeclaring, AreDeclaring, names_with, names_from, names_in, types_in, declared_kind, array_variable}
+use Rattle.pli_headline.specs.ProvedSoFar.{Names, Spot, Kind, Types, IsDeclaring, AreDeclaring, names_with, names_from, names_in, types_in, declared_kind, array_variable}
 use Rattle.pli_headline.proofs.Scalars.{place_below}
 use Rattle.pli_headline.proofs.Variables.{IsDeclaredAs, HasTypes}
-
--- ---- declarations
-
--- FIXED BINARY or BIT(1)
-pub by_element : (P : Y.LeafType → Type 0) → ((p : ℕ) → IsElementType (Y.FixedLeaf p) → P (Y.FixedLeaf p)) → P Y.BitLeaf → (type : Y.LeafType) → IsElementType type → P type
-by_element P fixed bit (Y.FixedLeaf p) is = fixed p is
-by_element P fixed bit Y.BitLeaf is = bit
-by_element P fixed bit _ is = absurd is
-
--- a variable by its place
-pub record DeclaredAt (ds : List Y.DeclaredVariable) (i : ℕ) (kind : Kind) : Type 0 where
-  pub type : Y.LeafType
-  pub element : IsElementType type
-  pub initial : List T.InitialItem
-  pub is : kind ≡ alone type
-  pub stands : slice_get ds i ≡ Some (plain_variable type initial)
-
-pub declared_by : (ds : List Y.DeclaredVariable) (i : ℕ) {kind : Kind} → AreDeclaring ds → slice_get (types_of ds) i ≡ Some kind → DeclaredAt ds i kind
-declared_by [] i are h = absurd (cc h)
-declared_by (d ∷ ds) zero {kind} are h =
-    let e : declared_kind d ≡ kind = cc h in
-    let o = are.0 in
-    record { type = o.type; element = o.element; initial = o.items; is = sym e ∙ ap declared_kind o.is; stands = ap (λ u. Some u) o.is }
-declared_by (d ∷ ds) (suc i) are h =
-    let o = declared_by ds i are.1 h in
-    record { type = o.type; element = o.element; initial = o.initial; is = o.is; stands = o.stands }
 
 -- ---- places among the types
 

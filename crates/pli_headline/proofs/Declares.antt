@@ -25,7 +25,7 @@ use Rattle.pli_coding.specs.SignatureTable.{table_of}
 use Rattle.pli_coding.specs.Entries.{automatic_made, variables_made}
 use Rattle.pli_coding.specs.Linking.{Links}
 use Rattle.pli_headline.specs.Headline.{parts}
-use Rattle.pli_headline.specs.ProvedSoFar.{Names, Spot, Kind, Types, alone, types_of, IsElementType, AreConstants, AreDeclaring, IsDeclaring, plain_variable, array_variable, declared_kind, names_from, types_in, OuterBlock}
+use Rattle.pli_headline.specs.ProvedSoFar.{Names, Spot, Kind, Types, alone, types_of, IsScalar, bytes_for, bytes_of, AreConstants, AreDeclaring, IsDeclaring, plain_variable, array_variable, declared_kind, names_from, types_in, OuterBlock}
 use Rattle.pli_headline.proofs.Storages.{storage, in_use_same}
 use Rattle.pli_headline.proofs.Engine.{Base, address}
 use Rattle.pli_headline.proofs.Linking.{size_append}
@@ -36,13 +36,13 @@ use Rattle.pli_headline.proofs.Temporaries.{nothing}
 use Rattle.pli_headline.proofs.Activations.{entered_length, same_length}
 use Rattle.pli_headline.proofs.Calls.{Serving}
 use Rattle.pli_headline.proofs.Reach.{Family, Aims, Comes, Closed, before_closed, comes_on, onward}
-use Rattle.pli_headline.proofs.Scalars.{Values, begin_of, place_below}
-use Rattle.pli_headline.proofs.States.{with_number_at}
-use Rattle.pli_headline.proofs.VariablePlaces.{frame_size}
+use Rattle.pli_headline.proofs.Scalars.{Values, begin_of, begin_text, place_below, by_held, character, varying}
+use Rattle.pli_headline.proofs.States.{with_number_at, with_text_at}
+use Rattle.pli_headline.proofs.VariablePlaces.{frame_size, scalar_size, counted_size, text_print}
 use Rattle.pli_headline.proofs.MainProcedure.{frame_fixed}
 use Rattle.pli_headline.proofs.PlainNumbers.{number_for, Numbered}
 use Rattle.pli_headline.proofs.NamesMade.{made_code, make_asked, made_named}
-use Rattle.pli_headline.proofs.DeclaredNames.{by_element, by_last, chosen_before, chosen_here}
+use Rattle.pli_headline.proofs.DeclaredNames.{by_last, chosen_before, chosen_here}
 use Rattle.pli_headline.proofs.Variables.{level_of}
 use Rattle.pli_headline.proofs.OneMore.{More, more_block, more_ground, more_enclosures, around_level, not_last}
 use Rattle.pli_headline.proofs.Asides.{IsFresh}
@@ -54,23 +54,39 @@ use Rattle.pli_headline.proofs.MoreServed.{OwnStands, place_for, more_piece, pas
 use Rattle.pli_headline.proofs.MainStates.{kind_binding}
 use Rattle.pli_headline.proofs.Statements.{Block, Enclosures, Outlets, Homes, lower_ground, AllHold, SameValues, IsKnown, IsEndMarkedOnce, Exit, OwnExit, Does}
 
+-- ---- what they take
+
+-- what the first of them take
+abbrev pub bytes_before : List Y.DeclaredVariable → (i : ℕ) → ℕ
+bytes_before ds zero = 0
+bytes_before [] (suc i) = 0
+bytes_before (d ∷ ds) (suc i) = bytes_for (declared_kind d).type + bytes_before ds i
+
+pub bytes_all : (ds : List Y.DeclaredVariable) → bytes_before ds (length ds) ≡ bytes_of ds
+bytes_all [] = refl
+bytes_all (d ∷ ds) = ap (λ n. bytes_for (declared_kind d).type + n) (bytes_all ds)
+
+pub declared_bytes : (d : Y.DeclaredVariable) → IsDeclaring d → bytes_for (declared_kind d).type ≡ frame_size (declared_kind d)
+declared_bytes d is =
+    ap (λ u. bytes_for (declared_kind u).type) is.is ∙ counted_size is.type is.held ∙ sym (ap (λ u. frame_size (declared_kind u)) is.is)
+
 -- ---- the variables still to be made
 
 pub record Makes {e : Environment} {block : Names} {types : Types} (ib : Block e block types) (index : ℕ) (ds : List Y.DeclaredVariable) : Type 0 where
   pub are : AreDeclaring ds
-  pub stand : (i : ℕ) → slice_get (variables_of_block e.program e.block) (index + i) ≡ slice_get ds i
+  pub stand : (i : ℕ) → i < length ds → slice_get (variables_of_block e.program e.block) (index + i) ≡ slice_get ds i
   pub deep : 0 < e.level
   pub new : IsNew e block types index
   pub fresh : IsFresh ib.frames.asides
   pub own : OwnStands ib
-  pub places : (i : ℕ) → i ≤ length ds → ib.stack.frame + place_for e (index + i) ≡ ib.stack.free + 32 * i
-  pub room : ib.stack.free + 32 * length ds + 4 ≤ 14 * 2 ^ 20
-  pub near : place_for e index + 32 * length ds ≤ last_place
+  pub places : (i : ℕ) → i ≤ length ds → ib.stack.frame + place_for e (index + i) ≡ ib.stack.free + bytes_before ds i
+  pub room : ib.stack.free + bytes_of ds + 4 ≤ 14 * 2 ^ 20
+  pub near : place_for e index + bytes_of ds ≤ last_place
 
-first_here : (e : Environment) (index : ℕ) (d : Y.DeclaredVariable) (ds : List Y.DeclaredVariable) → ((i : ℕ) → slice_get (variables_of_block e.program e.block) (index + i) ≡ slice_get (d ∷ ds) i) → slice_get (variables_of_block e.program e.block) index ≡ Some d
+first_here : (e : Environment) (index : ℕ) (d : Y.DeclaredVariable) (ds : List Y.DeclaredVariable) → ((i : ℕ) → i < length (d ∷ ds) → slice_get (variables_of_block e.program e.block) (index + i) ≡ slice_get (d ∷ ds) i) → slice_get (variables_of_block e.program e.block) index ≡ Some d
 first_here e index d ds stand =
     let here : index ≡ index + 0 = omega arith in
-    ap (λ i. slice_get (variables_of_block e.program e.block) i) here ∙ stand 0
+    ap (λ i. slice_get (variables_of_block e.program e.block) i) here ∙ stand 0 (omega arith)
 
 pub first_more : {e : Environment} {block : Names} {types : Types} (ib : Block e block types) {index : ℕ} (d : Y.DeclaredVariable) (ds : List Y.DeclaredVariable) → Makes ib index (d ∷ ds) → More ib index (declared_kind d)
 first_more {e} ib {index} d ds m =
@@ -80,28 +96,30 @@ first_more {e} ib {index} d ds m =
     let q : place_for e (index + 0) ≡ place_for e index = ap (place_for e) here in
     let room = m.room in
     let near = m.near in
+    let size = declared_bytes d m.are.0 in
     record {
-      element = subst IsElementType (sym type) m.are.0.element;
+      held = subst IsScalar (sym type) m.are.0.held;
       is = ap declared_kind m.are.0.is ∙ ap alone (sym type);
       initial = m.are.0.items;
       declared = first_here e index d ds m.stand ∙ ap (λ u. Some u) m.are.0.is ∙ ap (λ u. Some (plain_variable u m.are.0.items)) (sym type);
       deep = m.deep;
       place = omega (arith, p, q);
-      room = omega (arith, room);
-      near = omega (arith, near);
+      room = omega (arith, room, size);
+      near = omega (arith, near, size);
     }
 
 pub next_makes : {e : Environment} {block : Names} {types : Types} (ib : Block e block types) {index : ℕ} (d : Y.DeclaredVariable) (ds : List Y.DeclaredVariable) (m : Makes ib index (d ∷ ds)) (serial : ℕ) → Makes (more_block ib (first_more ib d ds m) serial) (suc index) ds
 next_makes {e} {block} {types} ib {index} d ds m serial =
     let room = m.room in
     let near = m.near in
+    let size = declared_bytes d m.are.0 in
     let p0 = m.places 0 (omega arith) in
     let q0 : place_for e (index + 0) ≡ place_for e index = (let same : index + 0 ≡ index = omega arith in ap (place_for e) same) in
     let p1 = m.places 1 (omega arith) in
     let q1 : place_for e (index + 1) ≡ place_for e (suc index) = (let same : index + 1 ≡ suc index = omega arith in ap (place_for e) same) in
     record {
       are = m.are.1;
-      stand = λ i. let e' : suc index + i ≡ index + suc i = omega arith in ap (λ n. slice_get (variables_of_block e.program e.block) n) e' ∙ m.stand (suc i);
+      stand = λ i below. let e' : suc index + i ≡ index + suc i = omega arith in ap (λ n. slice_get (variables_of_block e.program e.block) n) e' ∙ m.stand (suc i) (omega (arith, below));
       deep = m.deep;
       new = λ j kind at.
           by_last types (declared_kind d) (λ i kind'. (level_of (more_names e block types index) i < e.level) ⊎ (((more_names e block types index).at i).index < suc index))
@@ -114,8 +132,8 @@ next_makes {e} {block} {types} ib {index} d ds m serial =
           let e' : suc index + i ≡ index + suc i = omega arith in
           let q : place_for e (suc index + i) ≡ place_for e (index + suc i) = ap (place_for e) e' in
           let p = m.places (suc i) (omega (arith, below)) in
-          omega (arith, p, q);
-      room = omega (arith, room);
+          omega (arith, p, q, size);
+      room = omega (arith, room, size);
       near = omega (arith, near, p0, q0, p1, q1);
     }
   where
@@ -141,22 +159,26 @@ made_by q e size place n start =
     ++ (initial_given a2 start
     ++ (placed_by q e a3 (pos (place + name_bytes)) ++ (make_asked ++ plus stack_register frame_register (pos (min last_place (place + size)))))))
 
-own_made : (e : Environment) (line place : ℕ) (type : Y.LeafType) (items : List T.InitialItem) → IsElementType type → e.parts ≡ parts → automatic_made e line place (plain_variable type items) ≡ made_code 32 place (number_for e.table (alone type)) (start_datum items)
+own_made : (e : Environment) (line place : ℕ) (type : Y.LeafType) (items : List T.InitialItem) → IsScalar type → e.parts ≡ parts → automatic_made e line place (plain_variable type items) ≡ made_code (scalar_size type) place (number_for e.table (alone type)) (start_datum items)
 own_made e line place type items is same =
     let start = start_datum items in
+    let code : Y.LeafType → ℕ → Code = λ t n. made_code n place (number_for e.table (alone t)) start in
+    let asked : Y.LeafType → Bool → Code = λ t q. made_by q e (frame_bytes parts (plain_variable t items)) place (number_for e.table (alone t)) start in
     ap (λ q. automatic_made (record e { parts = q }) line place (plain_variable type items)) same
-    ∙ by_element (λ t. automatic_made (record e { parts = parts }) line place (plain_variable t items) ≡ made_code 32 place (number_for e.table (alone t)) start)
-    (λ p h. ap (λ q. made_by q e (frame_bytes parts (plain_variable (Y.FixedLeaf p) items)) place (number_for e.table (alone (Y.FixedLeaf p))) start) (eq-eqb e.level e.level refl)
-    ∙ ap (λ n. made_code n place (number_for e.table (alone (Y.FixedLeaf p))) start) (frame_fixed p items))
-    (ap (λ q. made_by q e 32 place (number_for e.table (alone Y.BitLeaf)) start) (eq-eqb e.level e.level refl)) type is
+    ∙ by_held (λ t. automatic_made (record e { parts = parts }) line place (plain_variable t items) ≡ made_code (scalar_size t) place (number_for e.table (alone t)) start)
+    (λ p. ap (asked (Y.FixedLeaf p)) (eq-eqb e.level e.level refl) ∙ ap (code (Y.FixedLeaf p)) (frame_fixed p items))
+    (ap (λ q. made_by q e 32 place (number_for e.table (alone Y.BitLeaf)) start) (eq-eqb e.level e.level refl))
+    (λ n few. ap (asked (character n)) (eq-eqb e.level e.level refl) ∙ ap (code (character n)) (text_print (suc n)))
+    (λ n few. ap (asked (varying n)) (eq-eqb e.level e.level refl) ∙ ap (code (varying n)) (text_print (2 + suc n)))
+    type is
 
-first_made : (e : Environment) (line index : ℕ) (d : Y.DeclaredVariable) (ds : List Y.DeclaredVariable) (is : IsDeclaring d) → e.parts ≡ parts → variables_made e line index (d ∷ ds) ≡ made_code 32 (place_for e index) (number_for e.table (declared_kind d)) (start_datum is.items) ++ variables_made e line (suc index) ds
+first_made : (e : Environment) (line index : ℕ) (d : Y.DeclaredVariable) (ds : List Y.DeclaredVariable) (is : IsDeclaring d) → e.parts ≡ parts → variables_made e line index (d ∷ ds) ≡ made_code (frame_size (declared_kind d)) (place_for e index) (number_for e.table (declared_kind d)) (start_datum is.items) ++ variables_made e line (suc index) ds
 first_made e line index d ds is same =
     let rest = variables_made e line (suc index) ds in
     let p = place_for e index in
     ap (λ u. cond (is_automatic u.class) (automatic_made e line p u) [] ++ rest) is.is
-    ∙ ap (λ c. c ++ rest) (own_made e line p is.type is.items is.element same)
-    ∙ ap (λ k. made_code 32 p (number_for e.table k) (start_datum is.items) ++ rest) (sym (ap declared_kind is.is))
+    ∙ ap (λ c. c ++ rest) (own_made e line p is.type is.items is.held same)
+    ∙ ap (λ k. made_code (frame_size k) p (number_for e.table k) (start_datum is.items) ++ rest) (sym (ap declared_kind is.is))
 
 -- what is named in code that is linked has a place
 placed_if : {links : Links} {code : List Instr} {i : ℕ} {xs : Code} (start : Option Datum) → Linked links code i xs → IsNamedIf start xs → IsPlacedIf start links.data'
@@ -166,10 +188,6 @@ placed_if (Some d) l named = l.named d named
 pub code_joined : (xs ys zs : Code) → (xs ++ ys) ++ zs ≡ xs ++ (ys ++ zs)
 code_joined [] ys zs = refl
 code_joined (x ∷ xs) ys zs = ap (λ us. x ∷ us) (code_joined xs ys zs)
-
-same_size : (k : Kind) → IsElementType k.type → k ≡ alone k.type → frame_size k ≡ 32
-same_size k element is =
-    ap frame_size is ∙ by_element (λ t. frame_size (alone t) ≡ 32) (λ p h. refl) refl k.type element
 
 kind_stands : (ds : List Y.DeclaredVariable) (i : ℕ) (d : Y.DeclaredVariable) → slice_get ds i ≡ Some d → slice_get (types_of ds) i ≡ Some (declared_kind d)
 kind_stands [] i d h = absurd (cc h)
@@ -183,9 +201,9 @@ abbrev pub GoesOn : {e : Environment} {block : Names} {types : Types} → Block 
 GoesOn {e} {block} {types} ib k i aims =
     (s : State) (v : Services) (line : ℕ) (n : Values) (h t : ℕ → ℕ) (f : Family) (free : ℕ) → Serving k s v line → AllHold ib.frames ib.serials (storage v) (e.level ∷ ib.depths) s block types n → ((b : Base) → At b i (Known (lower_ground (ib.ground n) free) v h t nothing b) (f b)) → aims.done i f v tt s
 
-other_number : (q : Bool) (x y : ℤ) → q ≡ false → y ≡ cond q x y
-other_number true x y e = absurd (cc e)
-other_number false x y e = refl
+other_value : {A : Type 0} (q : Bool) (x y : A) → q ≡ false → y ≡ cond q x y
+other_value true x y e = absurd (cc e)
+other_value false x y e = refl
 
 -- a jump or a return out goes on as it does from the block with fewer variables
 more_outlets : {e : Environment} {block : Names} {types : Types} (ib : Block e block types) (k' : Kind) (links : Links) (k acts : ℕ) (jumped : ℕ → Family → Services → ℕ → Label → State → Type 0) (os : List OuterBlock) (cs : Enclosures e ib.ground ib.levels ib.frames.list (e.level ∷ ib.depths) os) → Outlets e ib.ground ib.levels ib.frames (e.level ∷ ib.depths) os cs links k acts jumped → Outlets e (more_ground ib k') ib.levels ib.frames (e.level ∷ ib.depths) os (more_enclosures ib k' os cs) links k acts jumped
@@ -235,17 +253,18 @@ declares_from {links} {code} {aims} closed around line turns k c meaning (d ∷ 
     let o = first_more ib d ds m in
     let table = table_of block.program in
     let sig = number_for table kind in
-    let first = made_code 32 (place_for e index) sig start in
+    let first = made_code (frame_size kind) (place_for e index) sig start in
     let rest = variables_made e line (suc index) ds in
     let tables : e.table ≡ table = known.table ∙ ap table_of (sym ib.named) in
-    let eq : variables_made e line index (d ∷ ds) ≡ first ++ rest = first_made e line index d ds m.are.0 known.parts_are ∙ ap (λ u. made_code 32 (place_for e index) (number_for u kind) start ++ rest) tables in
+    let eq : variables_made e line index (d ∷ ds) ≡ first ++ rest = first_made e line index d ds m.are.0 known.parts_are ∙ ap (λ u. made_code (frame_size kind) (place_for e index) (number_for u kind) start ++ rest) tables in
     let here = first_here e index d ds m.stand in
     let numbered : Numbered table kind = subst (λ p. Numbered (table_of p) kind) (sym ib.named) (known.numbered e.block index (kind_stands (variables_of_block e.program e.block) index d here)) in
-    let size = same_size kind o.element o.is in
     let z = begin_of items in
-    let n1 = with_number_at n count z in
-    let same : SameValues types n n1 = λ j kind' at'. (other_number (j == count) z (n.numbers j) (not_last count j (place_below types j kind' at')), (refl, (refl, refl))) in
+    let text = begin_text kind.type items in
+    let n1 = with_text_at (with_number_at n count z) count text in
+    let same : SameValues types n n1 = λ j kind' at'. (let other = not_last count j (place_below types j kind' at') in (other_value (j == count) z (n.numbers j) other, (other_value (j == count) text (n.texts j) other, (refl, refl)))) in
     let begun : n1.numbers count ≡ z = ap (λ q. cond q z (n.numbers count)) (eq-eqb count count refl) in
+    let written : n1.texts count ≡ text = ap (λ q. cond q text (n.texts count)) (eq-eqb count count refl) in
     let all1 = all_same n1 same all in
     let at1 : (b : Base) → At b i (Known (ib.ground n1) v h t nothing b) (f b) = λ b.
     let q = (at b).holds in
@@ -273,7 +292,7 @@ declares_from {links} {code} {aims} closed around line turns k c meaning (d ∷ 
     let begins : AreConstants kind.type items = subst (λ u. AreConstants u items) (sym type) m.are.0.begins in
     let plain : d ≡ plain_variable kind.type items = m.are.0.is ∙ ap (λ u. plain_variable u items) (sym type) in
     let array : d ≡ array_variable kind.type kind.bounds items = plain ∙ ap (λ (q : Kind). array_variable kind.type q.bounds items) (sym o.is) in
-    let reads : Begins links code (ib.ground n1) kind items = subst (λ q. Begins links code (ib.ground n1) q items) (sym o.is) ((stand n1).begin kind.type items o.element begins (placed_if start l1 (made_named 32 (place_for e index) sig start))) in
+    let reads : Begins links code (ib.ground n1) kind items = subst (λ q. Begins links code (ib.ground n1) q items) (sym o.is) ((stand n1).begin kind.type items o.held begins (placed_if start l1 (made_named (frame_size kind) (place_for e index) sig start))) in
     let T : Bool → Type 0 = λ q. Comes code i f v aims (flow_on k (flow_on k (made_or_ended s index k kind items q) next') last) in
     let by_limit : (2 ^ 20 < automatic_in_use s.living + frame_size kind) ⊎ (automatic_in_use s.living + frame_size kind ≤ 2 ^ 20) → T (nat_le (automatic_in_use s.living + frame_size kind) most_automatic) = elim [
       | inl over ↦
@@ -283,7 +302,7 @@ declares_from {links} {code} {aims} closed around line turns k c meaning (d ∷ 
           (past_piece ib o m.own (before_closed k next' (before_closed k last closed)) n1 f table items k old reads numbered all.stored.table some (omega (arith, over, use')) l1 serving at1)))
       | inr within ↦
           subst T (sym (le-leb (automatic_in_use s.living + frame_size kind) (2 ^ 20) within))
-          (onward closed (more_piece ib o m.own i n1 v h t f table items begins reads numbered size all.stored.table some (omega (arith, within, use')) begun l1 at1) (λ f' at'.
+          (onward closed (more_piece ib o m.own i n1 v h t f table items begins reads numbered all.stored.table some (omega (arith, within, use')) begun written l1 at1) (λ f' at'.
           declares_from closed around line turns k c meaning ds (more_block ib o (s.serials + 1)) known (next_makes ib d ds m (s.serials + 1)) n1 f' old (λ n'. constants_moved (λ t'. t') (λ t' b m' q. q.0) (stand n')) none (more_outlets ib kind links k v.world.acts aims.jumped ib.outer ib.enclosing outs) (more_homes ib kind links k aims.returned ib.outer ib.enclosing homes) (λ deep owned once. more_exit ib index kind (s.serials + 1) (own deep owned once)) enough (omega (arith, later)) returns does' l2
           (record {
             world = serving.world;
@@ -295,7 +314,7 @@ declares_from {links} {code} {aims} closed around line turns k c meaning (d ∷ 
             nested = nested_same s.activations v.activations (kind_binding kind index (s.serials + 1)) serving.nested;
             waiting = serving.waiting;
           })
-          (more_all e index kind items ((ib.ground n1).frame + (place_for e index + 16)) o.element begins o.is numbered m.new m.fresh serving.nested begun all1)
+          (more_all e index kind items ((ib.ground n1).frame + (place_for e index + 16)) o.held begins o.is numbered m.new m.fresh serving.nested begun written all1)
           at'
           (λ s' v' line' n' h' t' f'' free serving' all' at''.
           subst (λ u. aims.done u f'' v' tt s') (sym place)

@@ -79,7 +79,7 @@ size_same (Y.CharacterLeaf (Y.ConstantExtent (pos n))) z z' text text' = refl
 size_same (Y.VaryingLeaf (Y.ConstantExtent (pos n))) z z' text text' = refl
 size_same _ z z' text text' = refl
 
-scalar_fits : (type : Y.LeafType) (z : ℤ) (text : List ℕ) → IsScalar type → 16 + size_in (content_of type z text) ≤ scalar_size type
+pub scalar_fits : (type : Y.LeafType) (z : ℤ) (text : List ℕ) → IsScalar type → 16 + size_in (content_of type z text) ≤ scalar_size type
 scalar_fits type z text is =
     by_held (λ t. 16 + size_in (content_of t z text) ≤ scalar_size t) (λ p. omega arith) (omega arith) (λ n few. omega arith) (λ n few. omega arith) type is
 

@@ -14,7 +14,6 @@ use Rattle.pli_headline.specs.Headline.{FitsMemory}
 use Rattle.pli_headline.proofs.DataNamed.{IsNamed}
 use Rattle.pli_headline.proofs.DataOnce.{Has, same_datum-equal, placed_same, named_once}
 use Rattle.pli_headline.proofs.Statics.{constant_stands}
-use Rattle.pli_headline.proofs.Scalars.{element_scalar}
 use Rattle.pli_headline.proofs.InitialRead.{start_datum, IsNamedIf, kind_reads}
 use Rattle.pli_headline.proofs.InitialLists.{leaf_of_items}
 use Rattle.pli_headline.proofs.StandingBytes.{IsPlacedIf, DataStand}
@@ -155,5 +154,5 @@ pub data_stand : (program : Code) → FitsMemory (picture_of_code program) → 0
 data_stand program fits some =
     record {
       bytes = constant_stands program fits;
-      lists = λ type items element begins placed. kind_reads program fits some type [] items (element_scalar type element) begins (items_named program items placed);
+      lists = λ type items element begins placed. kind_reads program fits some type [] items element begins (items_named program items placed);
     }

@@ -12,26 +12,32 @@ use Rattle.pli_meaning.specs.Executing as M
 use Rattle.pli_meaning.specs.Executing.{labels_in}
 use Rattle.pli_meaning.specs.StorageState.{most_activations}
 use Rattle.pli_serving.specs.ServiceState as S
-use Rattle.pli_coding.specs.Environments.{BlockPlace, Environment, none_taken}
+use Rattle.pli_coding.specs.Environments.{BlockPlace, Taken, Environment, none_taken}
 use Rattle.pli_coding.specs.Frames.{fixed_size, frame_end, temporary_bytes}
 use Rattle.pli_coding.specs.Linking.{Links}
 use Rattle.pli_coding.specs.Statements.{owner_of_unit, unit_environment, stmt_code, stmts_code, stmt_words, stmts_words}
 use Rattle.pli_coding.specs.Temporaries.{number_words, bit_words, text_words, reference_words}
-use Rattle.pli_headline.specs.ProvedSoFar.{Types, OuterBlock, main_labels, main_outer, times, IsOutward, JumpsAround, IsSimple, IsUnitBody, IsProvedStatement, AreProvedStatements, AllJumpAround, DeclaresNothing, DeclareScalars, CallsAmong, AllCallAmong, Names, inner_bytes}
+use Rattle.pli_headline.specs.ProvedSoFar.{Types, OuterBlock, main_labels, main_outer, times, IsOutward, JumpsAround, IsSimple, IsUnitBody, IsProvedStatement, AreProvedStatements, AllJumpAround, DeclareScalars, CallsAmong, AllCallAmong, Names, names_in, types_in, unit_declares, inner_bytes, bytes_of}
 use Rattle.pli_headline.specs.InnerWords.{all_inner_words}
 use Rattle.pli_coding.specs.Images.{blocks_among}
-use Rattle.pli_headline.proofs.StandingBytes.{constants_moved}
+use Rattle.pli_headline.proofs.StandingBytes.{ConstantsStand, constants_moved}
 use Rattle.pli_headline.proofs.Sizes.{most}
 use Rattle.pli_headline.proofs.InnerLevels.{IsAmong}
 use Rattle.pli_headline.proofs.InnerFrames.{other_level}
 use Rattle.pli_headline.proofs.Gotos.{LabelsStand}
-use Rattle.pli_headline.proofs.UnitMeant.{IsBareUnit}
+use Rattle.pli_headline.proofs.UnitMeant.{IsUnitKind}
+use Rattle.pli_headline.proofs.Declares.{Makes, made_block}
+use Rattle.pli_headline.proofs.DeclaredBegins.{is_made, made_constants}
+use Rattle.pli_headline.proofs.UnitVariables.{unit_makes, unit_sized, unit_filled}
+use Rattle.pli_headline.proofs.ElementsAssignments.{elements_number_does, elements_bit_does}
+use Rattle.pli_headline.proofs.Entered.{Frames}
+use Rattle.pli_headline.proofs.Scalars.{Values}
 use Rattle.pli_headline.proofs.Engine.{Base}
 use Rattle.pli_headline.proofs.Variables.{AllOutermost}
-use Rattle.pli_headline.proofs.Statements.{IsOwned, owned_of, IsMarkedOnce, Block, Standing, Does, null_does, known_in}
+use Rattle.pli_headline.proofs.Statements.{IsOwned, IsMarkedOnce, Block, Standing, Does, null_does, known_in}
 use Rattle.pli_headline.proofs.Catching.{within, listed}
 use Rattle.pli_headline.proofs.BeginMeant.{Entering, inner_around, inner_entering}
-use Rattle.pli_headline.proofs.CalledFrames.{Callee, called_block_as}
+use Rattle.pli_headline.proofs.CalledFrames.{Callee}
 use Rattle.pli_headline.proofs.ElementAssignments.{assign_number_part_does, assign_bit_part_does}
 use Rattle.pli_headline.proofs.JumpsOut.{out_does}
 use Rattle.pli_headline.proofs.Stops.{stop_does}
@@ -40,10 +46,10 @@ use Rattle.pli_headline.proofs.Signals.{signal_does}
 use Rattle.pli_headline.proofs.SystemUnits.{on_system_does, revert_does}
 use Rattle.pli_headline.proofs.Putting.{put_does}
 use Rattle.pli_headline.proofs.Getting.{get_does, get_skip_does}
-use Rattle.pli_headline.proofs.MainOutlets.{HasMain, main_of, main_enclosing, main_seen}
-use Rattle.pli_headline.proofs.UnitRuns.{Raisable, signal_area_does}
+use Rattle.pli_headline.proofs.MainOutlets.{HasMain, main_of}
+use Rattle.pli_headline.proofs.UnitRuns.{unit_block, Raisable, signal_area_does}
 use Rattle.pli_headline.proofs.UnitStanding.{program_around, words_of_unit, Tells}
-use Rattle.pli_headline.proofs.Narrowing.{narrows_self}
+use Rattle.pli_headline.proofs.Narrowing.{narrows_self, narrows_in}
 use Rattle.pli_headline.proofs.ProvedStatements.{standing_within, Calls, Signals, body_does}
 use Rattle.pli_headline.proofs.TextElementAssignments.{assign_text_part_does}
 
@@ -68,6 +74,11 @@ simple_does bl links code routines around same can tells has deep space narrow e
     let d = le-max_right (text_words x) (4 + reference_words target) in
     assign_text_part_does bl links code routines around target x line is.0 is.1.0 (omega (arith, a, room)) (omega (arith, d, room)) is.1.1
 simple_does bl links code routines around same can tells has deep space narrow entering least (Y.Assign target source line) simple is room calls once few jumps low = absurd is
+simple_does bl links code routines around same can tells has deep space narrow entering least (Y.AssignElements target (Y.StoredNumber precision x) line) simple is room calls once few jumps low =
+    elements_number_does bl links code routines around target precision x line is.0 is.1.0 room is.1.1
+simple_does bl links code routines around same can tells has deep space narrow entering least (Y.AssignElements target (Y.StoredBit x) line) simple is room calls once few jumps low =
+    elements_bit_does bl links code routines around target x line is.0 is.1.0 room is.1.1
+simple_does bl links code routines around same can tells has deep space narrow entering least (Y.AssignElements target source line) simple is room calls once few jumps low = absurd is
 simple_does {e} bl links code routines around same can tells has deep space narrow {more} entering least (Y.CallProcedure (Y.Calling number level Y.NoArgument) line) simple is room calls once few jumps low =
     subst (λ n. Does bl links code around.turns (stmt_code e bl.taken (Y.CallProcedure (Y.Calling number n Y.NoArgument) line)) (M.statement around (Y.CallProcedure (Y.Calling number n Y.NoArgument) line))) (sym is.0)
     (can.0 e.owner e.block e.level bl deep space narrow routines tells (omega (arith, room)) has around same more entering least number calls.1 line is.1)
@@ -102,87 +113,108 @@ main_level : (block : ℕ) (all : List (ℕ × Label)) (blocks : List BlockPlace
 main_level block all blocks main lowest level label (inl jumps) = sym jumps.0 ∙ lowest
 main_level block all blocks main lowest level label (inr jumps) = absurd jumps
 
-standing_raised : {e : Environment} {block : Names} {types : Types} {bl : Block e block types} {links : Links} {code : List Instr} (callee : Callee bl) (kind : S.BlockKind) (back : Base → ℕ) (h0 t0 : ℕ → ℕ) (head : Y.BlockHead) (next : head.level ≡ 1) (sized : IsOwned (owner_of_unit head head.kind) → frame_end e.parts e.program head.number head.level ≡ fixed_size 1 0) (main : ℕ) (mains : List Label) (has : HasMain main mains e.level e.block bl.labels bl.outer) → Standing bl links code → Standing (called_block_as bl callee back h0 t0 (owner_of_unit head head.kind) kind head next (main_of main mains) (main_enclosing bl callee back h0 t0 (owner_of_unit head head.kind) head next main mains has) (main_seen bl callee back h0 t0 (owner_of_unit head head.kind) head next main mains has)) links code
-standing_raised callee kind back h0 t0 head next sized main mains has s =
+constants_raised : {e : Environment} {block : Names} {types : Types} {bl : Block e block types} {links : Links} {code : List Instr} (callee : Callee bl) (kind : S.BlockKind) (back : Base → ℕ) (h0 t0 : ℕ → ℕ) (head : Y.BlockHead) (next : head.level ≡ 1) (main : ℕ) (mains : List Label) (has : HasMain main mains e.level e.block bl.labels bl.outer) → Standing bl links code → (n : Values) → ConstantsStand links code ((unit_block bl callee kind back h0 t0 head next main mains has).ground n)
+constants_raised callee kind back h0 t0 head next main mains has s n =
+    constants_moved (λ t. t0) (λ t b m o. o.kept.0) (s.constants n)
+
+-- once its variables are made
+standing_raised : {e : Environment} {block : Names} {types : Types} {bl : Block e block types} {links : Links} {code : List Instr} (callee : Callee bl) (kind : S.BlockKind) (back : Base → ℕ) (h0 t0 : ℕ → ℕ) (head : Y.BlockHead) (next : head.level ≡ 1) (main : ℕ) (mains : List Label) (has : HasMain main mains e.level e.block bl.labels bl.outer) (ds : List Y.DeclaredVariable) → (IsOwned (owner_of_unit head head.kind) → frame_end e.parts e.program head.number head.level ≡ fixed_size head.level 0 + bytes_of ds) → (makes : Makes (unit_block bl callee kind back h0 t0 head next main mains has) 0 ds) (serial : ℕ) → Standing bl links code → Standing (made_block (unit_block bl callee kind back h0 t0 head next main mains has) ds makes serial) links code
+standing_raised {bl = bl} callee kind back h0 t0 head next main mains has ds sized makes serial s =
     record {
       raises = s.raises;
-      constants = λ n. constants_moved (λ t. t0) (λ t b m o. o.kept.0) (s.constants n);
-      filled = λ owned. ap (λ u. callee.at + u) (sized (owned_of (owner_of_unit head head.kind) head.level next owned));
+      constants = made_constants ds (unit_block bl callee kind back h0 t0 head next main mains has) makes serial (constants_raised callee kind back h0 t0 head next main mains has s);
+      filled = unit_filled bl callee kind back h0 t0 head next main mains has ds sized makes serial;
       known = known_in (owner_of_unit head head.kind) head.number head.level s.known;
     }
 
-words_few : (kind : Y.BlockKind) (body : ℕ) → body ≤ 800 → words_of_unit kind body ≤ 800
-words_few Y.SimpleUnit body few = few
-words_few Y.UnitBlock body few = most 0 body 800 (omega arith) few
-words_few Y.ProcedureBlock body few = most 0 body 800 (omega arith) few
-words_few Y.BeginBlock body few = most 0 body 800 (omega arith) few
+words_few : (kind : Y.BlockKind) (body : ℕ) → words_of_unit kind body ≤ body
+words_few Y.SimpleUnit body = omega arith
+words_few Y.UnitBlock body = most 0 body body (omega arith) (omega arith)
+words_few Y.ProcedureBlock body = most 0 body body (omega arith) (omega arith)
+words_few Y.BeginBlock body = most 0 body body (omega arith) (omega arith)
 
-bare_unit : (program : Y.Program) (head : Y.BlockHead) (kind : Y.BlockKind) → head.kind ≡ kind → (body : Y.Stmts) → IsUnitBody kind body → DeclaresNothing program head kind → IsBareUnit program head
-bare_unit program head Y.SimpleUnit is body what none = inl is
-bare_unit program head Y.UnitBlock is body what none = inr (is, none)
-bare_unit program head _ is body what none = absurd what
+is_unit : (kind : Y.BlockKind) (body : Y.Stmts) → IsUnitBody kind body → IsUnitKind kind
+is_unit Y.SimpleUnit body what = inl refl
+is_unit Y.UnitBlock body what = inr refl
+is_unit _ body what = absurd what
 
 -- its statements, where calls and signals in it do what they mean
-body_by : {e : Environment} {block : Names} {types : Types} (bl : Block e block types) {links : Links} {code : List Instr} (standing : Standing bl links code) {all : List (ℕ × Label)} {procedure : ℕ} {may : List ℕ} (m : ℕ) → Done e block types all procedure m links code may → Tells e block types all procedure may links code bl.base bl.frames.known → (has : HasMain procedure (main_labels e.program.procedures) e.level e.block bl.labels bl.outer) → suc (length bl.depths) < most_activations → bl.stack.free + 4000 * (500 - length bl.depths) ≤ 14 * 2 ^ 20 → (head : Y.BlockHead) (next : head.level ≡ 1) (sized : IsOwned (owner_of_unit head head.kind) → frame_end e.parts e.program head.number head.level ≡ fixed_size 1 0) (kind : Y.BlockKind) → head.kind ≡ kind → (body : Y.Stmts) → IsUnitBody kind body → AreProvedStatements block types body → AllJumpAround head.number head.level all e.blocks (main_outer procedure e.program.procedures) (main_outer procedure e.program.procedures ∷ []) (labels_in body) body → DeclareScalars e.program body → AllCallAmong e.program may false 0 body → 4 * (stmts_words body + all_inner_words body) + inner_bytes e.program body ≤ 3200 → ((number : ℕ) (label : Label) → times number label all ≡ 1 → IsMarkedOnce links number label) → (head.kind ≡ Y.UnitBlock → LabelsStand (unit_environment head (program_around e)) links all procedure false) → ((b : BlockPlace) → IsAmong b (blocks_among body) → IsAmong b e.blocks) → (callee : Callee bl) → callee.words ≡ words_of_unit kind (stmts_words body) → (entered : S.BlockKind) (back : Base → ℕ) (h0 t0 : ℕ → ℕ) → Does (called_block_as bl callee back h0 t0 (owner_of_unit head head.kind) entered head next (main_of procedure (main_labels e.program.procedures)) (main_enclosing bl callee back h0 t0 (owner_of_unit head head.kind) head next procedure (main_labels e.program.procedures) has) (main_seen bl callee back h0 t0 (owner_of_unit head head.kind) head next procedure (main_labels e.program.procedures) has)) links code (suc m) (stmts_code (unit_environment head e) none_taken body) (M.list (inner_around e.program m head.line) body)
-body_by {e} bl {links} {code} standing {all} {procedure} m can tells has deeper space head next sized Y.SimpleUnit kind (Y.StmtThen [] x (Y.EndOfList [])) what proved jumps bare calls few once labels blocks callee words entered back h0 t0 =
+body_by : {e : Environment} {block : Names} {types : Types} (bl : Block e block types) {links : Links} {code : List Instr} (standing : Standing bl links code) {all : List (ℕ × Label)} {procedure : ℕ} {may : List ℕ} (m : ℕ) → Done e block types all procedure m links code may → Tells e block types all procedure may links code bl.base bl.frames.known → (has : HasMain procedure (main_labels e.program.procedures) e.level e.block bl.labels bl.outer) → suc (length bl.depths) < most_activations → bl.stack.free + 4000 * (500 - length bl.depths) ≤ 14 * 2 ^ 20 → (head : Y.BlockHead) (next : head.level ≡ 1) (ds : List Y.DeclaredVariable) → (IsOwned (owner_of_unit head head.kind) → frame_end e.parts e.program head.number head.level ≡ fixed_size head.level 0 + bytes_of ds) → (kind : Y.BlockKind) → head.kind ≡ kind → ds ≡ unit_declares e.program head kind → (body : Y.Stmts) → IsUnitBody kind body → AreProvedStatements (names_in block types head (unit_declares e.program head kind)) (types_in types (unit_declares e.program head kind)) body → AllJumpAround head.number head.level all e.blocks (main_outer procedure e.program.procedures) (main_outer procedure e.program.procedures ∷ []) (labels_in body) body → DeclareScalars e.program body → AllCallAmong e.program may false 0 body → 4 * (stmts_words body + all_inner_words body) + (bytes_of ds + inner_bytes e.program body) ≤ 3200 → ((number : ℕ) (label : Label) → times number label all ≡ 1 → IsMarkedOnce links number label) → (head.kind ≡ Y.UnitBlock → LabelsStand (unit_environment head (program_around e)) links all procedure false) → ((b : BlockPlace) → IsAmong b (blocks_among body) → IsAmong b e.blocks) → (callee : Callee bl) → callee.words ≡ words_of_unit kind (stmts_words body) → (entered : S.BlockKind) (back : Base → ℕ) (h0 t0 : ℕ → ℕ) (makes : Makes (unit_block bl callee entered back h0 t0 head next procedure (main_labels e.program.procedures) has) 0 ds) (serial : ℕ) → Does (made_block (unit_block bl callee entered back h0 t0 head next procedure (main_labels e.program.procedures) has) ds makes serial) links code (suc m) (stmts_code (unit_environment head e) none_taken body) (M.list (inner_around e.program m head.line) body)
+body_by {e} bl {links} {code} standing {all} {procedure} m can tells has deeper space head next ds sized Y.SimpleUnit kind none (Y.StmtThen [] x (Y.EndOfList [])) what proved jumps inside calls few once labels blocks callee words entered back h0 t0 makes serial =
     let mains = main_labels e.program.procedures in
-    let cb = called_block_as bl callee back h0 t0 (owner_of_unit head head.kind) entered head next (main_of procedure mains) (main_enclosing bl callee back h0 t0 (owner_of_unit head head.kind) head next procedure mains has) (main_seen bl callee back h0 t0 (owner_of_unit head head.kind) head next procedure mains has) in
+    let body = Y.StmtThen [] x (Y.EndOfList []) in
+    let here = inner_around e.program m head.line in
+    let cb = unit_block bl callee entered back h0 t0 head next procedure mains has in
     let first = le-max_left (stmt_words x) 0 in
     let place = callee.place in
-    listed cb (inner_around e.program m head.line) (Y.StmtThen [] x (Y.EndOfList []))
-    (simple_does (within [] cb) links code (standing_within [] (standing_raised callee entered back h0 t0 head next sized procedure mains has standing)) (inner_around e.program m head.line) refl can tells (inr (inl (refl, (refl, λ label among. among)))) deeper (omega (arith, place, words, few, space, deeper)) (omega (arith, words, few)) (inner_entering e.program m head.line) (omega arith) x what proved.0 (omega (arith, words, first)) calls.0 once (omega (arith, next)) jumps.0 (main_level head.number all e.blocks (main_of procedure mains) refl), tt)
-body_by {e} {block} {types} bl {links} {code} standing {all} {procedure} m can tells has deeper space head next sized Y.UnitBlock kind body what proved jumps bare calls few once labels blocks callee words entered back h0 t0 =
+    let T : List Y.DeclaredVariable → Type 1 = λ vs. ((IsOwned (owner_of_unit head head.kind) → frame_end e.parts e.program head.number head.level ≡ fixed_size head.level 0 + bytes_of vs) → (made : Makes cb 0 vs) → Does (made_block cb vs made serial) links code (suc m) (stmts_code (unit_environment head e) none_taken body) (M.list here body)) in
+    subst T (sym none)
+    (λ sized' made.
+    listed cb here body
+    (simple_does (within [] cb) links code (standing_within [] (standing_raised callee entered back h0 t0 head next procedure mains has [] sized' made serial standing)) here refl can tells (inr (inl (refl, (refl, λ label among. among)))) deeper (omega (arith, place, words, few, space, deeper)) (omega (arith, words, few)) (inner_entering e.program m head.line) (omega arith) x what proved.0 (omega (arith, words, first)) calls.0 once (omega (arith, next)) jumps.0 (main_level head.number all e.blocks (main_of procedure mains) refl), tt))
+    sized makes
+body_by {e} {block} {types} bl {links} {code} standing {all} {procedure} {may} m can tells has deeper space head next ds sized Y.UnitBlock kind are body what proved jumps inside calls few once labels blocks callee words entered back h0 t0 makes serial =
     let mains = main_labels e.program.procedures in
-    let cb = called_block_as bl callee back h0 t0 (owner_of_unit head head.kind) entered head next (main_of procedure mains) (main_enclosing bl callee back h0 t0 (owner_of_unit head head.kind) head next procedure mains has) (main_seen bl callee back h0 t0 (owner_of_unit head head.kind) head next procedure mains has) in
+    let main' = main_of procedure mains in
+    let cb = unit_block bl callee entered back h0 t0 head next procedure mains has in
+    let mb = made_block cb ds makes serial in
+    let made = is_made ds cb makes serial in
+    let w = made.words in
+    let free = made.free in
+    let depths = ap (λ (us : List ℕ). length us) made.depths in
     let place = callee.place in
     let most' = le-max_right 0 (stmts_words body) in
     let low = most 0 (stmts_words body) 800 (omega arith) (omega (arith, few)) in
-    let high : AllJumpAround head.number head.level all e.blocks (main_of procedure mains) (main_of procedure mains ∷ []) (labels_in body ++ []) body = subst (λ ls. AllJumpAround head.number head.level all e.blocks (main_of procedure mains) (main_of procedure mains ∷ []) ls body) (sym (append-nil (labels_in body))) jumps in
-    body_does cb links code (standing_raised callee entered back h0 t0 head next sized procedure mains has standing) (inner_around e.program m head.line) refl {small = true} {taken = 0}
-    (labels kind) body proved high (omega (arith, most', words))
-    ((omega (arith, place, words, low, space, deeper), omega (arith, few)), deeper) bare
+    let proved' : AreProvedStatements (names_in block types head ds) (types_in types ds) body = subst (λ vs. AreProvedStatements (names_in block types head vs) (types_in types vs) body) (sym are) proved in
+    let high : AllJumpAround head.number head.level all e.blocks main' mb.outer (labels_in body ++ mb.labels) body =
+    subst (λ os. AllJumpAround head.number head.level all e.blocks main' os (labels_in body ++ mb.labels) body) (sym made.outer)
+    (subst (λ ls. AllJumpAround head.number head.level all e.blocks main' (main' ∷ []) ls body) (sym (ap (λ ls. labels_in body ++ ls) made.labels ∙ append-nil (labels_in body))) jumps) in
+    subst (λ tk. Does mb links code (suc m) (stmts_code (unit_environment head e) tk body) (M.list (inner_around e.program m head.line) body)) made.taken
+    (body_does mb links code (standing_raised callee entered back h0 t0 head next procedure mains has ds sized makes serial standing) (inner_around e.program m head.line) refl {small = true} {taken = 0} {bound = m}
+    (labels kind) body proved' high (omega (arith, most', words, w, ap (λ (tk : Taken). tk.words) made.taken))
+    ((omega (arith, place, words, low, space, deeper, free, depths, few), omega (arith, few)), omega (arith, deeper, depths)) inside
     (inner_entering e.program m head.line) (omega arith) blocks calls
     (record {
-      narrows = narrows_self block types callee.outer;
+      narrows = narrows_in head ds (omega (arith, next)) (narrows_self block types callee.outer);
       calls = can.0;
       signals = can.1;
-      tells = tells;
+      tells = subst (λ b. Tells e block types all procedure may links code b mb.frames.known) (sym made.base) (subst (λ (fs : Frames). Tells e block types all procedure may links code bl.base fs.known) (sym made.frames) tells);
       makes = λ same' u at k. let no : true ≡ false = sym same' ∙ other_level head.level 0 next in absurd (cc no);
-      narrow = omega (arith, words, low);
+      narrow = omega (arith, words, low, w);
       ends = λ no. let apart : false ≡ true = no in absurd (cc apart);
-      mains = inr (inl (refl, (refl, λ label among. among)));
-    })
-body_by bl standing m can tells has deeper space head next sized _ kind body what proved jumps bare calls few once labels blocks callee words entered back h0 t0 = absurd what
-
--- the end of its frame is known where it is a block
-sized_by : (e : Environment) (head : Y.BlockHead) (kind : Y.BlockKind) (body : Y.Stmts) → IsUnitBody kind body → (kind ≡ Y.UnitBlock → frame_end e.parts e.program head.number head.level ≡ fixed_size 1 0) → IsOwned (owner_of_unit head kind) → frame_end e.parts e.program head.number head.level ≡ fixed_size 1 0
-sized_by e head Y.SimpleUnit body what size owned = absurd owned
-sized_by e head Y.UnitBlock body what size owned = size refl
-sized_by e head _ body what size owned = absurd what
+      mains = subst (λ os. HasMain procedure mains head.level head.number (labels_in body ++ mb.labels) os) (sym made.outer) (inr (inl (refl, (refl, λ label among. among))));
+    }))
+body_by bl standing m can tells has deeper space head next ds sized _ kind are body what proved jumps inside calls few once labels blocks callee words entered back h0 t0 makes serial = absurd what
 
 unit_raisable : {e : Environment} {block : Names} {types : Types} (bl : Block e block types) {links : Links} {code : List Instr} (standing : Standing bl links code) {all : List (ℕ × Label)} {procedure : ℕ} {may : List ℕ} (more : ℕ) → AllOutermost block types → ((m : ℕ) → more ≡ suc m → Done e block types all procedure m links code may) → Tells e block types all procedure may links code bl.base bl.frames.known → (has : HasMain procedure (main_labels e.program.procedures) e.level e.block bl.labels bl.outer) → length bl.depths < most_activations → bl.stack.free + 4000 * (500 - length bl.depths) ≤ 14 * 2 ^ 20 → (frame : ℕ) (u : Y.Block) (at : ℕ) → bl.frames.known frame u at → Raisable bl procedure (main_labels e.program.procedures) has links code more frame u at
-unit_raisable {e} {block} {types} bl {links} {code} standing more outermost below tells has deep space frame u at known =
+unit_raisable {e} {block} {types} bl {links} {code} standing {procedure = procedure} more outermost below tells has deep space frame u at known =
     let q = (tells frame u at known).1 in
+    let mains = main_labels e.program.procedures in
+    let vars = unit_declares e.program q.head q.head.kind in
     let words = words_of_unit q.head.kind (stmts_words q.body) in
     let few = q.few in
-    let sized = sized_by e q.head q.head.kind q.body q.what (λ kind. (q.labels kind).bare q.head.number q.head.level (subst (DeclaresNothing e.program q.head) kind q.bare.0) ∙ ap (λ l. fixed_size l 0) q.level) in
-    let small' = words_few q.head.kind (stmts_words q.body) (omega (arith, few)) in
-    let callee : Callee bl = record { words = words; at = bl.stack.free + temporary_bytes words; place = refl; room = omega (arith, small', space, deep); outer = outermost } in
+    let small' = words_few q.head.kind (stmts_words q.body) in
+    let callee : Callee bl = record { words = words; at = bl.stack.free + temporary_bytes words; place = refl; room = omega (arith, small', few, space, deep); outer = outermost } in
+    let makes = unit_makes bl callee q.head q.level procedure mains has standing.known q.declares (omega (arith, few, small', space, deep)) (omega (arith, few)) in
+    let sized = unit_sized e q.head q.head.kind q.body q.what standing.known q.declares q.level (omega (arith, few)) in
     record {
       lowest = (tells frame u at known).0;
       head = q.head;
       body = q.body;
       is = q.is;
-      bare = bare_unit e.program q.head q.head.kind refl q.body q.what q.bare.0;
+      kind = is_unit q.head.kind q.body q.what;
       level = q.level;
       line = q.line;
+      known = known_in (owner_of_unit q.head q.head.kind) q.head.number q.head.level standing.known;
       callee = callee;
       index = q.index;
       at_is = q.at_is;
       later = q.later;
       linked = q.linked;
-      does = λ m next deeper kind back h0 t0.
-          body_by bl standing m (below m next) tells has deeper space q.head q.level sized q.head.kind refl q.body q.what q.proved q.jumps q.bare.1 q.calls few q.once q.labels q.blocks callee refl kind back h0 t0;
+      makes = makes;
+      stand = λ kind back h0 t0. constants_raised callee kind back h0 t0 q.head q.level procedure mains has standing;
+      does = λ m next deeper kind back h0 t0 serial.
+          body_by bl standing m (below m next) tells has deeper space q.head q.level vars sized q.head.kind refl refl q.body q.what q.proved q.jumps q.inside q.calls few q.once q.labels q.blocks callee refl kind back h0 t0 (makes kind back h0 t0) serial;
     }
 
 -- ---- all signals

@@ -198,6 +198,7 @@ pub mod SignaturesOnce
 pub mod PlainNumbers
 pub mod PlainTables
 pub mod CalledVariables
+pub mod UnitVariables
 pub mod InnerCalls
 pub mod MainBody
 pub mod FirstFrame
@@ -228,6 +229,7 @@ pub mod Whole
 mod Rows
 mod DeclaredRows
 mod CallingRows
+mod UnitRows
 mod TextArrayRows
 mod ElementsRows
 pub mod FirstPathDeclared

@@ -101,7 +101,7 @@ frame_many type b bs i held are =
 kind_many : (type : Y.LeafType) (bs : List Bounds) (i : List T.InitialItem) → record { type = type; bounds = bs } ≡ declared_kind (array_variable type bs i)
 kind_many type bs i = ap (λ cs. record { type = type; bounds = cs }) (sym (bounds_back bs))
 
-frame_plain : (d : Y.DeclaredVariable) → IsPlain d → frame_bytes parts d ≡ frame_size (declared_kind d)
+pub frame_plain : (d : Y.DeclaredVariable) → IsPlain d → frame_bytes parts d ≡ frame_size (declared_kind d)
 frame_plain d is =
     by_plain (λ u. frame_bytes parts u ≡ frame_size (declared_kind u)) frame_fixed (λ i. refl) (λ n i. text_print (suc n)) (λ n i. text_print (2 + suc n))
     (λ type b bs i element are. frame_many type b bs i element are ∙ ap frame_size (kind_many type (b ∷ bs) i)) d is

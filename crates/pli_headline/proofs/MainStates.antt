@@ -202,11 +202,11 @@ text_arrays_hold kind input program block count j varying most bs below alike fe
       short = λ p inside. begun_short varying most items p few;
     }
 
-text_begins : (varying : Bool) (most : ℕ) (items : List T.InitialItem) → AreConstants (text_leaf varying most) items → seen (text_kind_of varying most) ((fresh_scalar (record { kind = alone (text_leaf varying most); initial = items })).values 0 []) ≡ BasicText (begin_text (text_leaf varying most) items)
+pub text_begins : (varying : Bool) (most : ℕ) (items : List T.InitialItem) → AreConstants (text_leaf varying most) items → seen (text_kind_of varying most) ((fresh_scalar (record { kind = alone (text_leaf varying most); initial = items })).values 0 []) ≡ BasicText (begin_text (text_leaf varying most) items)
 text_begins false most items h = text_seen false most items h
 text_begins true most items h = text_seen true most items h
 
-text_short : (varying : Bool) (most : ℕ) (items : List T.InitialItem) → most ≤ 1024 → IsShort (begin_text (text_leaf varying most) items)
+pub text_short : (varying : Bool) (most : ℕ) (items : List T.InitialItem) → most ≤ 1024 → IsShort (begin_text (text_leaf varying most) items)
 text_short false most items few = kept_short false most (constant_text (K.initial_at items 0)) few
 text_short true most items few = kept_short true most (constant_text (K.initial_at items 0)) few
 

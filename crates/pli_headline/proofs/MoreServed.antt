@@ -1,11 +1,10 @@
 -- One more scalar is made by service 7, or passes the limit on automatic data.
-use Rattle.std.proofs.Common.{◌≡◌, ℕ, ◌+◌, ◌*◌, ◌^◌, ◌<◌, ◌≤◌, inr, List, [], ◌∷◌, length, map, Option, Some, None, true, false, refl, sym, ap, ◌∙◌, subst, arith, lit<, add-one}
+use Rattle.std.proofs.Common.{◌≡◌, ℕ, ◌+◌, ◌-◌, ◌*◌, ◌^◌, ◌<◌, ◌≤◌, List, [], ◌∷◌, length, map, Option, Some, None, true, false, refl, sym, ap, ◌∙◌, subst, arith, lit<, add-one}
 use Rattle.std.specs.Prelude.{pos, cond, min, ◌==◌, nat_lt, nat_le}
 use Rattle.std.proofs.lemmas.Bool.{lt-ltb, le-ltb, le-leb}
 use Rattle.std.proofs.lemmas.Bool.Decides.{nat_tests}
 use Rattle.rv_meaning.specs.declared.instr.Instr.{Instr}
 use Rattle.rv_meaning.specs.declared.instr.Instr.TheVariants as I
-use Rattle.rv_meaning.specs.Words.{word}
 use Rattle.rv_meaning.specs.Memory.{load}
 use Rattle.rv_meaning.specs.Machine.{memory_size}
 use Rattle.rv_meaning.specs.Tables.{TableSignature}
@@ -33,30 +32,30 @@ use Rattle.pli_coding.specs.Environments.{Environment}
 use Rattle.pli_coding.specs.Frames.{last_place, automatic_place}
 use Rattle.pli_coding.specs.Linking.{Links}
 use Rattle.image_runs.specs.Runs.{Whole}
-use Rattle.pli_headline.specs.ProvedSoFar.{Names, Kind, Types, alone, IsElementType, AreConstants}
+use Rattle.pli_headline.specs.ProvedSoFar.{Names, Kind, Types, alone, IsScalar, AreConstants}
 use Rattle.pli_headline.proofs.Unlimited as U
 use Rattle.pli_headline.proofs.Engine.{Base, address, call_at}
 use Rattle.pli_headline.proofs.Items.{Linked, At}
-use Rattle.pli_headline.proofs.Numbers.{above_sum, word_small}
+use Rattle.pli_headline.proofs.Numbers.{above_sum}
 use Rattle.pli_headline.proofs.Bodies.{Known, PlaceOf}
 use Rattle.pli_headline.proofs.Jumps.{first_of}
 use Rattle.pli_headline.proofs.Temporaries.{nothing}
 use Rattle.pli_headline.proofs.Calls.{comes_finish, called, Calling, call_done, end_pauses, call_ends, acts, Serving}
 use Rattle.pli_headline.proofs.Reach.{Family, Reach, Aims, Comes, Closed, cost, onward, reach_then, reach_map, reached, reached_holds}
-use Rattle.pli_headline.proofs.Scalars.{Values, store_kind, fits_wide, begin_of, begin_fits}
-use Rattle.pli_headline.proofs.Cells.{Cell, kept_by, kind_bytes, kind_length, cell_written}
-use Rattle.pli_headline.proofs.WrittenBytes.{length-with_bytes, load-with_other}
-use Rattle.pli_headline.proofs.VariablePlaces.{data_size, data_fits, frame_size}
+use Rattle.pli_headline.proofs.Scalars.{Values, begin_of, begin_text}
+use Rattle.pli_headline.proofs.Holdings.{There, content_of}
+use Rattle.pli_headline.proofs.WrittenBytes.{length-with_bytes}
+use Rattle.pli_headline.proofs.VariablePlaces.{data_size, data_fits, frame_size, frame_wide, scalar_data_fits}
 use Rattle.pli_headline.proofs.PlainNumbers.{number_for, Numbered, numbered_shape}
 use Rattle.pli_headline.proofs.MainStates.{scalar_print, kind_shape}
 use Rattle.pli_headline.proofs.InitialRead.{start_datum, start_of}
 use Rattle.pli_headline.proofs.StandingBytes.{Begins}
-use Rattle.pli_headline.proofs.VariableServed.{past_limit, data_of, scalar_made, scalar_data}
+use Rattle.pli_headline.proofs.VariableServed.{past_limit, data_by, data_of, scalar_made, alone_length, made_content}
 use Rattle.pli_headline.proofs.NamesMade.{made_code, asked_regs, asked_size, made_size, call_linked, rest_linked, ground_asked}
 use Rattle.pli_headline.proofs.JumpsOut.{stack_piece}
 use Rattle.pli_headline.proofs.Statements.{Block, lower_ground}
 use Rattle.pli_headline.proofs.OneMore.{More, more_ground}
-use Rattle.pli_headline.proofs.MoreStates.{fresh_kind, limited_element}
+use Rattle.pli_headline.proofs.MoreStates.{fresh_kind}
 
 -- ---- the service
 
@@ -97,19 +96,26 @@ make_ends code v m table k items name place start c signs numbered some over all
     ∙ acts v c (Ends (past_limit v)) allowed fits
 
 abbrev pub scalar_begun : Kind → List T.InitialItem → List ℕ
-scalar_begun k items = kind_bytes (store_kind k.type) (word (begin_of items))
+scalar_begun k items = data_by k.type (begin_of items) (begin_text k.type items)
 
-begun_data : (k : Kind) (items : List T.InitialItem) → IsElementType k.type → k ≡ alone k.type → data_of (record { kind = k; initial = items }) ≡ scalar_begun k items
-begun_data k items element is =
-    ap (λ q. data_of (record { kind = q; initial = items })) is ∙ scalar_data k.type (begin_of items) _ (limited_element k.type element)
+begun_data : (k : Kind) (items : List T.InitialItem) → k ≡ alone k.type → data_of (record { kind = k; initial = items }) ≡ scalar_begun k items
+begun_data k items is = ap (λ q. data_of (record { kind = q; initial = items })) is
+
+-- they fit what the frame has for them
+begun_fits : (k : Kind) (items : List T.InitialItem) → IsScalar k.type → k ≡ alone k.type → 16 + length (scalar_begun k items) ≤ frame_size k
+begun_fits k items scalar is =
+    let long = alone_length k.type (begin_of items) (begin_text k.type items) scalar in
+    let fits = scalar_data_fits k.type scalar in
+    let same = ap frame_size is in
+    omega (arith, long, fits, same)
 
 -- the memory with the scalar and its name
 abbrev pub more_made : List ℕ → (name place serial : ℕ) → Kind → List T.InitialItem → List ℕ
 more_made m name place serial k items =
     with_bytes (name_bytes (VariableName serial)) name (with_bytes (scalar_begun k items) place m)
 
-make_made : (code : List Instr) (v : Services) (m : List ℕ) (table : List TableSignature) (k : Kind) (items : List T.InitialItem) (name place start : ℕ) → IsElementType k.type → AreConstants k.type items → k ≡ alone k.type → v.signatures ≡ map template_of table → Numbered table k → 0 < length v.activations → G.automatic_in_use v.signatures v.living + frame_size k ≤ 2 ^ 20 → frame_size k ≡ 32 → 4 * length code ≤ name → name + 16 ≤ place → place + 16 ≤ memory_size → ReadsAt code v m k items start → U.make_served (call_at code v m) name (number_for table k) start place 0 ≡ Done (more_services v (number_for table k) place) (more_made m name place (v.serials + 1) k items) name (number_for table k)
-make_made code v m table k items name place start element begins is signs numbered some few size low behind inside read =
+make_made : (code : List Instr) (v : Services) (m : List ℕ) (table : List TableSignature) (k : Kind) (items : List T.InitialItem) (name place start : ℕ) → AreConstants k.type items → k ≡ alone k.type → v.signatures ≡ map template_of table → Numbered table k → 0 < length v.activations → G.automatic_in_use v.signatures v.living + frame_size k ≤ 2 ^ 20 → 4 * length code ≤ name → name + 16 ≤ place → place + frame_size k ≤ memory_size + 16 → ReadsAt code v m k items start → U.make_served (call_at code v m) name (number_for table k) start place 0 ≡ Done (more_services v (number_for table k) place) (more_made m name place (v.serials + 1) k items) name (number_for table k)
+make_made code v m table k items name place start begins is signs numbered some few low behind inside read =
     let call = call_at code v m in
     let n = number_for table k in
     let high = length v.activations in
@@ -118,45 +124,56 @@ make_made code v m table k items name place start element begins is signs number
     let more = U.variable_made call name n place high (v.serials + 1) (fresh_kind k items) in
     let ends = N.acting v (Ends (past_limit v)) in
     let t2 : nat_le (4 * length code) place ≡ true = le-leb _ _ (omega (arith, low, behind)) in
-    let t3 : nat_le (place + data_size k) memory_size ≡ true = le-leb _ _ (omega (arith, inside, all, size)) in
+    let t3 : nat_le (place + data_size k) memory_size ≡ true = le-leb _ _ (omega (arith, inside, all)) in
     let t4 : nat_le (4 * length code) name ≡ true = le-leb _ _ (omega (arith, low)) in
-    let t5 : nat_le (name + 16) memory_size ≡ true = le-leb _ _ (omega (arith, behind, inside)) in
+    let wide = frame_wide k in
+    let t5 : nat_le (name + 16) memory_size ≡ true = le-leb _ _ (omega (arith, behind, inside, wide)) in
     make_limited code v m table k items name place start signs numbered some read
     ∙ ap (λ q. cond (cond q false (nat_lt most_automatic (G.automatic_in_use v.signatures v.living + footprint_of (fresh_kind k items)))) ends more) (some_not high some)
     ∙ ap (λ q. cond q ends more) (le-ltb most_automatic (G.automatic_in_use v.signatures v.living + footprint_of (fresh_kind k items)) (omega (arith, few, print)))
     ∙ scalar_made call name n place high (v.serials + 1) (record { kind = k; initial = items }) numbered.held begins
     ∙ rw (t2, t3, t4, t5) refl
-    ∙ ap (λ bytes. Done (more_services v n place) (with_bytes (name_bytes (VariableName (v.serials + 1))) name (with_bytes bytes place m)) name n) (begun_data k items element is)
+    ∙ ap (λ bytes. Done (more_services v n place) (with_bytes (name_bytes (VariableName (v.serials + 1))) name (with_bytes bytes place m)) name n) (begun_data k items is)
 
 -- ---- what stands then
 
-more_length : (m : List ℕ) (name place serial : ℕ) (k : Kind) (items : List T.InitialItem) → name + 16 ≤ place → place + 4 ≤ length m → length (more_made m name place serial k items) ≡ length m
+more_length : (m : List ℕ) (name place serial : ℕ) (k : Kind) (items : List T.InitialItem) → name + 16 ≤ place → place + length (scalar_begun k items) ≤ length m → length (more_made m name place serial k items) ≡ length m
 more_length m name place serial k items behind inside =
-    let four = kind_length (store_kind k.type) (word (begin_of items)) in
-    let one = length-with_bytes (scalar_begun k items) m place (omega (arith, four, inside)) in
+    let one = length-with_bytes (scalar_begun k items) m place inside in
     length-with_bytes (name_bytes (VariableName serial)) (with_bytes (scalar_begun k items) place m) name (omega (arith, one, behind, inside)) ∙ one
 
-more_stands : {e : Environment} {block : Names} {types : Types} (ib : Block e block types) (k : Kind) (items : List T.InitialItem) (n : Values) → IsElementType k.type → AreConstants k.type items → n.numbers (length types) ≡ begin_of items → (t : ℕ → ℕ) (b : Base) (m : List ℕ) (name place serial : ℕ) → name ≡ ib.stack.free → place ≡ ib.stack.free + 16 → place + 4 ≤ length m → (ib.ground n).memory t b m → (more_ground ib k n).memory t b (more_made m name place serial k items)
-more_stands {types = types} ib k items n element begins begun t b m name place serial here there inside held =
-    let kind = store_kind k.type in
-    let z = begin_of items in
-    let w = word z in
+-- behind a name, wherever that stands
+begun_there : (k : Kind) (items : List T.InitialItem) (m : List ℕ) (at serials : ℕ) → IsScalar k.type → AreConstants k.type items → at + 200 + length (scalar_begun k items) ≤ length m → There (more_made m (at + 144) (at + 160) (serials + 1) k items) (at + 160) (content_of k.type (begin_of items) (begin_text k.type items))
+begun_there k items m at serials scalar begins room =
+    let a : at + (144 + 0) ≡ at + 144 = omega arith in
+    let b : at + (144 + 0 + 16) ≡ at + 160 = omega arith in
+    let c : at + (160 + 0) ≡ at + 160 = omega arith in
+    let content = content_of k.type (begin_of items) (begin_text k.type items) in
+    subst (λ p. There (more_made m (at + 144) (at + 160) (serials + 1) k items) p content) c
+    (subst (λ p. There (with_bytes (name_bytes (VariableName (serials + 1))) (at + 144) (with_bytes (scalar_begun k items) p m)) (at + (160 + 0)) content) b
+    (subst (λ p. There (with_bytes (name_bytes (VariableName (serials + 1))) p (with_bytes (scalar_begun k items) (at + (144 + 0 + 16)) m)) (at + (160 + 0)) content) a
+    (made_content m at 0 serials k.type items scalar begins (omega (arith, room)))))
+
+more_stands : {e : Environment} {block : Names} {types : Types} (ib : Block e block types) (k : Kind) (items : List T.InitialItem) (n : Values) → IsScalar k.type → AreConstants k.type items → n.numbers (length types) ≡ begin_of items → n.texts (length types) ≡ begin_text k.type items → (t : ℕ → ℕ) (b : Base) (m : List ℕ) (name place serials : ℕ) → name ≡ ib.stack.free → place ≡ ib.stack.free + 16 → place + length (scalar_begun k items) + 40 ≤ length m → (ib.ground n).memory t b m → (more_ground ib k n).memory t b (more_made m name place (serials + 1) k items)
+more_stands {types = types} ib k items n scalar begins begun written t b m name place serials here there inside held =
     let bytes = scalar_begun k items in
     let m1 = with_bytes bytes place m in
-    let named = name_bytes (VariableName serial) in
-    let four = kind_length kind w in
-    let one = length-with_bytes bytes m place (omega (arith, four, inside)) in
-    let room1 : place + length bytes ≤ length m = omega (arith, four, inside) in
-    let room2 : name + length named ≤ length m1 = omega (arith, one, here, there, inside) in
-    let small' = word_small z (fits_wide k.type z (begin_fits k.type items (limited_element k.type element) begins)) in
-    let c = cell_written kind m place w small' inside in
-    let made : Cell (more_made m name place serial k items) place (kept_by kind w) = record {
-      whole = load-with_other 4 named m1 name place room2 (inr (omega (arith, here, there))) ∙ c.whole;
-      half = load-with_other 2 named m1 name place room2 (inr (omega (arith, here, there))) ∙ c.half;
-      byte = load-with_other 1 named m1 name place room2 (inr (omega (arith, here, there))) ∙ c.byte;
-    } in (
-      ib.stack.keeps_bytes n t b m1 named name (omega (arith, here)) room2 (ib.stack.keeps_bytes n t b m bytes place (omega (arith, there)) room1 held),
-      subst (λ y. Cell (more_made m name place serial k items) (ib.stack.free + 16) (kept_by kind (word y))) (sym begun) (subst (λ p. Cell (more_made m name place serial k items) p (kept_by kind w)) there made),
+    let named = name_bytes (VariableName (serials + 1)) in
+    let one = length-with_bytes bytes m place (omega (arith, inside)) in
+    let high = ib.stack.high in
+    let at = ib.stack.free - 144 in
+    let e1 : at + 144 ≡ name = omega (arith, here, high) in
+    let e2 : at + 160 ≡ place = omega (arith, there, high) in
+    let e3 : at + 160 ≡ ib.stack.free + 16 = omega (arith, high) in
+    let content = content_of k.type (begin_of items) (begin_text k.type items) in
+    let made : There (more_made m name place (serials + 1) k items) (ib.stack.free + 16) content =
+    subst (λ q. There (more_made m q place (serials + 1) k items) (ib.stack.free + 16) content) e1
+    (subst (λ q. There (more_made m (at + 144) q (serials + 1) k items) (ib.stack.free + 16) content) e2
+    (subst (λ q. There (more_made m (at + 144) (at + 160) (serials + 1) k items) q content) e3
+    (begun_there k items m at serials scalar begins (omega (arith, e2, inside))))) in (
+      ib.stack.keeps_bytes n t b m1 named name (omega (arith, here)) (omega (arith, one, here, there, inside)) (ib.stack.keeps_bytes n t b m bytes place (omega (arith, there)) (omega (arith, inside)) held),
+      subst (λ y. There (more_made m name place (serials + 1) k items) (ib.stack.free + 16) (content_of k.type (n.numbers (length types)) y)) (sym written)
+          (subst (λ y. There (more_made m name place (serials + 1) k items) (ib.stack.free + 16) (content_of k.type y (begin_text k.type items))) (sym begun) made),
     )
 
 -- ---- the code
@@ -181,13 +198,14 @@ own_place ib n room =
 abbrev pub place_for : Environment → (index : ℕ) → ℕ
 place_for e index = automatic_place e.parts e.program e.block e.level index
 
-asked : {e : Environment} {block : Names} {types : Types} (ib : Block e block types) {index : ℕ} {k : Kind} (o : More ib index k) (own : OwnStands ib) {links : Links} {code : List Instr} {i : ℕ} (c : ℕ) (n : Values) (v : Services) (h t : ℕ → ℕ) (f : Family) (table : List TableSignature) (start : Option Datum) → start_of links start < 2 ^ 32 → Numbered table k → Linked links code i (made_code 32 (place_for e index) (number_for table k) start) → ((b : Base) → At b i (Known (ib.ground n) v h t nothing b) (f b)) → Reach code c f v (asked_size (place_for e index) (number_for table k) start c) v (λ b w. At b (asked_size (place_for e index) (number_for table k) start i) (Known (ib.ground n) v h t (asked_regs ((ib.ground n).frame + place_for e index) (number_for table k) (start_of links start) ((ib.ground n).frame + (place_for e index + 16))) b) w)
+asked : {e : Environment} {block : Names} {types : Types} (ib : Block e block types) {index : ℕ} {k : Kind} (o : More ib index k) (own : OwnStands ib) {links : Links} {code : List Instr} {i : ℕ} (c : ℕ) (n : Values) (v : Services) (h t : ℕ → ℕ) (f : Family) (table : List TableSignature) (start : Option Datum) → start_of links start < 2 ^ 32 → Numbered table k → Linked links code i (made_code (frame_size k) (place_for e index) (number_for table k) start) → ((b : Base) → At b i (Known (ib.ground n) v h t nothing b) (f b)) → Reach code c f v (asked_size (place_for e index) (number_for table k) start c) v (λ b w. At b (asked_size (place_for e index) (number_for table k) start i) (Known (ib.ground n) v h t (asked_regs ((ib.ground n).frame + place_for e index) (number_for table k) (start_of links start) ((ib.ground n).frame + (place_for e index + 16))) b) w)
 asked {e} ib {index} {k} o own c n v h t f table start fits numbered l at =
     let same = ib.stack.frame_is n in
     let place = o.place in
     let room = o.room in
     let above = ib.stack.above in
-    ground_asked c (ib.ground n) (own_place ib n (omega (arith, same, above, room))) (own n) v h t f 32 (place_for e index) (number_for table k) start fits numbered.few (omega (arith, same, place, room)) l at
+    let wide = frame_wide k in
+    ground_asked c (ib.ground n) (own_place ib n (omega (arith, same, above, room))) (own n) v h t f (frame_size k) (place_for e index) (number_for table k) start fits numbered.few (omega (arith, same, place, room, wide)) l at
 
 calling : {e : Environment} {block : Names} {types : Types} (ib : Block e block types) (index : ℕ) {links : Links} {code : List Instr} {i : ℕ} (n : Values) (v : Services) (h t : ℕ → ℕ) (f : Family) (signature start : ℕ) → Linked links code i (Plain I.Ecall ∷ []) → ((b : Base) → At b i (Known (ib.ground n) v h t (asked_regs ((ib.ground n).frame + place_for e index) signature start ((ib.ground n).frame + (place_for e index + 16))) b) (f b)) → Calling links code i f (λ b. U.make_served (call_at code v (f b).machine.memory) ((ib.ground n).frame + place_for e index) signature start ((ib.ground n).frame + (place_for e index + 16)) 0)
 calling {e} ib index {code = code} n v h t f signature start l at =
@@ -200,57 +218,58 @@ calling {e} ib index {code = code} n v h t f signature start l at =
     }
 
 -- within the limit
-pub more_piece : {e : Environment} {block : Names} {types : Types} (ib : Block e block types) {index : ℕ} {k : Kind} (o : More ib index k) (own : OwnStands ib) {links : Links} {code : List Instr} {i : ℕ} (c : ℕ) (n : Values) (v : Services) (h t : ℕ → ℕ) (f : Family) (table : List TableSignature) (items : List T.InitialItem) → AreConstants k.type items → Begins links code (ib.ground n) k items → Numbered table k → frame_size k ≡ 32 → v.signatures ≡ map template_of table → 0 < length v.activations → G.automatic_in_use v.signatures v.living + frame_size k ≤ 2 ^ 20 → n.numbers (length types) ≡ begin_of items → Linked links code i (made_code 32 (place_for e index) (number_for table k) (start_datum items)) → ((b : Base) → At b i (Known (ib.ground n) v h t nothing b) (f b)) → Reach code c f v (c + size_of (made_code 32 (place_for e index) (number_for table k) (start_datum items))) (more_services v (number_for table k) ((ib.ground n).frame + (place_for e index + 16))) (λ b w. At b (i + size_of (made_code 32 (place_for e index) (number_for table k) (start_datum items))) (Known (more_ground ib k n) (more_services v (number_for table k) ((ib.ground n).frame + (place_for e index + 16))) h t nothing b) w)
-more_piece {e} {types = types} ib {index} {k} o own {links} {code} {i} c n v h t f table items begins reads numbered size signs some few begun l at =
+pub more_piece : {e : Environment} {block : Names} {types : Types} (ib : Block e block types) {index : ℕ} {k : Kind} (o : More ib index k) (own : OwnStands ib) {links : Links} {code : List Instr} {i : ℕ} (c : ℕ) (n : Values) (v : Services) (h t : ℕ → ℕ) (f : Family) (table : List TableSignature) (items : List T.InitialItem) → AreConstants k.type items → Begins links code (ib.ground n) k items → Numbered table k → v.signatures ≡ map template_of table → 0 < length v.activations → G.automatic_in_use v.signatures v.living + frame_size k ≤ 2 ^ 20 → n.numbers (length types) ≡ begin_of items → n.texts (length types) ≡ begin_text k.type items → Linked links code i (made_code (frame_size k) (place_for e index) (number_for table k) (start_datum items)) → ((b : Base) → At b i (Known (ib.ground n) v h t nothing b) (f b)) → Reach code c f v (c + size_of (made_code (frame_size k) (place_for e index) (number_for table k) (start_datum items))) (more_services v (number_for table k) ((ib.ground n).frame + (place_for e index + 16))) (λ b w. At b (i + size_of (made_code (frame_size k) (place_for e index) (number_for table k) (start_datum items))) (Known (more_ground ib k n) (more_services v (number_for table k) ((ib.ground n).frame + (place_for e index + 16))) h t nothing b) w)
+more_piece {e} {types = types} ib {index} {k} o own {links} {code} {i} c n v h t f table items begins reads numbered signs some few begun written l at =
     let g = ib.ground n in
     let place = place_for e index in
     let sig = number_for table k in
     let start = start_datum items in
     let v' = more_services v sig (g.frame + (place + 16)) in
     let near = o.near in
-    let counted : min last_place (place + 32) ≡ place + 32 = omega (arith, near) in
-    let ps = plus stack_register frame_register (pos (min last_place (place + 32))) in
+    let counted : min last_place (place + frame_size k) ≡ place + frame_size k = omega (arith, near) in
+    let ps = plus stack_register frame_register (pos (min last_place (place + frame_size k))) in
     let same = ib.stack.frame_is n in
     let here = o.place in
     let room = o.room in
     let high = ib.stack.high in
-    let total = made_size 32 place sig start in
-    let lc = call_linked 32 place sig start l in
+    let size = begun_fits k items o.held o.is in
+    let total = made_size (frame_size k) place sig start in
+    let lc = call_linked (frame_size k) place sig start l in
     let r1 = asked ib o own c n v h t f table start reads.small' numbered l at in
     let m' : Base → List ℕ = λ b. more_made (reached r1 b).machine.memory (g.frame + place) (g.frame + (place + 16)) (v.serials + 1) k items in
     let call = calling ib index n v h t (reached r1) sig (start_of links start) (first_of (Plain I.Ecall) ps lc) (reached_holds r1) in
     let done : Calling links code (asked_size place sig start i) (reached r1) (λ b. Done v' (m' b) (g.frame + place) sig) = record {
       linked = call.linked;
       pc = call.pc;
-      answers = λ b. call.answers b ∙ make_made code v (reached r1 b).machine.memory table k items (g.frame + place) (g.frame + (place + 16)) (start_of links start) o.element begins o.is signs numbered some few size (let s = l.small' in omega (arith, s, same, here, high)) (omega arith) (omega (arith, same, here, room)) (let q = (reached_holds r1 b).holds.body in reads.read t b (reached r1 b).machine.memory q.memory q.bytes v);
+      answers = λ b. call.answers b ∙ make_made code v (reached r1 b).machine.memory table k items (g.frame + place) (g.frame + (place + 16)) (start_of links start) begins o.is signs numbered some few (let s = l.small' in omega (arith, s, same, here, high)) (omega arith) (omega (arith, same, here, room)) (let q = (reached_holds r1 b).holds.body in reads.read t b (reached r1 b).machine.memory q.memory q.bytes v);
     } in
     let r2 = call_done (asked_size place sig start c) (reached r1) v v' m' (λ b. g.frame + place) (λ b. sig) (λ b. Known (lower_ground (more_ground ib k n) ib.stack.free) v' h t nothing b) (omega arith) done
     (λ b. let q = (reached_holds r1 b).holds.body in record {
       body = record {
         services = refl;
         registers = q.registers ∙ ap (λ u. 0 ∷ (b.at + u) ∷ (b.at + g.frame) ∷ h 0 ∷ h 1 ∷ h 2 ∷ h 3 ∷ h 4 ∷ h 5 ∷ h 6 ∷ []) (ib.stack.free_is n);
-        bytes = more_length (reached r1 b).machine.memory (g.frame + place) (g.frame + (place + 16)) (v.serials + 1) k items (omega arith) (let long = q.bytes in omega (arith, long, same, here, room)) ∙ q.bytes;
-        memory = more_stands ib k items n o.element begins begun t b (reached r1 b).machine.memory (g.frame + place) (g.frame + (place + 16)) (v.serials + 1) (omega (arith, same, here)) (omega (arith, same, here)) (let long = q.bytes in omega (arith, long, same, here, room)) q.memory;
+        bytes = more_length (reached r1 b).machine.memory (g.frame + place) (g.frame + (place + 16)) (v.serials + 1) k items (omega arith) (let long = q.bytes in omega (arith, long, same, here, room, size)) ∙ q.bytes;
+        memory = more_stands ib k items n o.held begins begun written t b (reached r1 b).machine.memory (g.frame + place) (g.frame + (place + 16)) v.serials (omega (arith, same, here)) (omega (arith, same, here)) (let long = q.bytes in omega (arith, long, same, here, room, size)) q.memory;
       };
       regs = tt;
     }) in
-    let r3 = stack_piece (more_ground ib k n) ib.stack.free (min last_place (place + 32)) (asked_size place sig start c + 1) (reached r2) (omega (arith, same, here, counted)) (omega (arith, same, here, room, counted)) (rest_linked 32 place sig start l) (reached_holds r2) in
-    let e1 : asked_size place sig start c + 1 + size_of ps ≡ c + size_of (made_code 32 place sig start) = omega (arith, total) in
-    let e2 : asked_size place sig start i + 1 + size_of ps ≡ i + size_of (made_code 32 place sig start) = omega (arith, total) in
+    let r3 = stack_piece (more_ground ib k n) ib.stack.free (min last_place (place + frame_size k)) (asked_size place sig start c + 1) (reached r2) (omega (arith, same, here, counted)) (omega (arith, same, here, room, counted)) (rest_linked (frame_size k) place sig start l) (reached_holds r2) in
+    let e1 : asked_size place sig start c + 1 + size_of ps ≡ c + size_of (made_code (frame_size k) place sig start) = omega (arith, total) in
+    let e2 : asked_size place sig start i + 1 + size_of ps ≡ i + size_of (made_code (frame_size k) place sig start) = omega (arith, total) in
     let whole' = reach_then r1 (reach_then r2 r3) in
-    let P : Base → Whole → Type 0 = λ b w. At b (i + size_of (made_code 32 place sig start)) (Known (more_ground ib k n) v' h t nothing b) w in
+    let P : Base → Whole → Type 0 = λ b w. At b (i + size_of (made_code (frame_size k) place sig start)) (Known (more_ground ib k n) v' h t nothing b) w in
     let moved = reach_map P whole' (λ b w q. record { pc = q.pc ∙ ap (address b) e2; holds = q.holds }) in
     subst (λ u. Reach code c f v u v' P) e1 moved
 
 -- past it
-pub past_piece : {e : Environment} {block : Names} {types : Types} (ib : Block e block types) {index : ℕ} {k : Kind} (o : More ib index k) (own : OwnStands ib) {links : Links} {code : List Instr} {i : ℕ} {s : State} {v : Services} {h t : ℕ → ℕ} {aims : Aims (Unit {0})} (closed : Closed code aims) (n : Values) (f : Family) (table : List TableSignature) (items : List T.InitialItem) (c line : ℕ) → Begins links code (ib.ground n) k items → Numbered table k → v.signatures ≡ map template_of table → 0 < length v.activations → 2 ^ 20 < G.automatic_in_use v.signatures v.living + frame_size k → Linked links code i (made_code 32 (place_for e index) (number_for table k) (start_datum items)) → Serving c s v line → ((b : Base) → At b i (Known (ib.ground n) v h t nothing b) (f b)) → Comes code i f v aims (finish {R = Unit {0}} (E.Limit L.Automatic) c s)
+pub past_piece : {e : Environment} {block : Names} {types : Types} (ib : Block e block types) {index : ℕ} {k : Kind} (o : More ib index k) (own : OwnStands ib) {links : Links} {code : List Instr} {i : ℕ} {s : State} {v : Services} {h t : ℕ → ℕ} {aims : Aims (Unit {0})} (closed : Closed code aims) (n : Values) (f : Family) (table : List TableSignature) (items : List T.InitialItem) (c line : ℕ) → Begins links code (ib.ground n) k items → Numbered table k → v.signatures ≡ map template_of table → 0 < length v.activations → 2 ^ 20 < G.automatic_in_use v.signatures v.living + frame_size k → Linked links code i (made_code (frame_size k) (place_for e index) (number_for table k) (start_datum items)) → Serving c s v line → ((b : Base) → At b i (Known (ib.ground n) v h t nothing b) (f b)) → Comes code i f v aims (finish {R = Unit {0}} (E.Limit L.Automatic) c s)
 past_piece {e} ib {index} {k} o own {links} {code} {i} {s} {v} {h} {t} closed n f table items c line reads numbered signs some over l serving at =
     let g = ib.ground n in
     let place = place_for e index in
     let sig = number_for table k in
     let start = start_datum items in
-    let ps = plus stack_register frame_register (pos (min last_place (place + 32))) in
-    let lc = call_linked 32 place sig start l in
+    let ps = plus stack_register frame_register (pos (min last_place (place + frame_size k))) in
+    let lc = call_linked (frame_size k) place sig start l in
     onward closed (asked ib o own i n v h t f table start reads.small' numbered l at) (λ f' at'.
     let call = calling ib index n v h t f' sig (start_of links start) (first_of (Plain I.Ecall) ps lc) at' in
     let ends : Calling links code (asked_size place sig start i) f' (λ b. Ends (past_limit v)) = record {

@@ -19,19 +19,19 @@ use Rattle.pli_serving.specs.ServiceState as S
 use Rattle.pli_serving.specs.Making as G
 use Rattle.pli_coding.specs.Environments.{Environment}
 use Rattle.pli_coding.specs.SignatureTable.{table_of}
-use Rattle.pli_headline.specs.ProvedSoFar.{Names, Spot, Kind, Types, alone, text_leaf, IsElementType, AreConstants, IsHeld, array_variable}
+use Rattle.pli_headline.specs.ProvedSoFar.{Names, Spot, Kind, Types, alone, text_leaf, IsScalar, AreConstants, IsHeld, array_variable}
 use Rattle.pli_headline.proofs.Activations.{Nested, levels_of, newest_level, newest_of_levels, newest_is, entered_length, same_length}
-use Rattle.pli_headline.proofs.Scalars.{Values, Fits, begin_of, begin_fits, IsNumeric, IsLimited, value_as, place_below}
+use Rattle.pli_headline.proofs.Scalars.{Values, Fits, begin_of, begin_text, begin_fits, IsNumeric, scalar_limited, text_limit, value_as, place_below}
 use Rattle.pli_headline.proofs.Variables.{level_of, own, scalar_binding}
 use Rattle.pli_headline.proofs.VariablePlaces.{frame_size}
 use Rattle.pli_headline.proofs.PlainNumbers.{number_for, Numbered, numbered_shape}
-use Rattle.pli_headline.proofs.MainStates.{kind_binding, fresh_scalar, scalar_print, shape_print, begins_as}
+use Rattle.pli_headline.proofs.MainStates.{kind_binding, fresh_scalar, scalar_print, shape_print, begins_as, text_begins, text_short}
 use Rattle.pli_headline.proofs.ArrayMeant.{HoldsArray, array_binding, shape_is}
 use Rattle.pli_headline.proofs.TextStates.{KeepsText}
 use Rattle.pli_headline.proofs.States.{Holds}
 use Rattle.pli_headline.proofs.Storages.{Storage, Serials, Stored, owner_in}
-use Rattle.pli_headline.proofs.DeclaredNames.{by_element, by_last, kind_around, chosen_before, chosen_here}
-use Rattle.pli_headline.proofs.MoreNames.{more_names, more_serials, spot_of, no_text}
+use Rattle.pli_headline.proofs.DeclaredNames.{by_last, kind_around, chosen_before, chosen_here}
+use Rattle.pli_headline.proofs.MoreNames.{more_names, more_serials, spot_of}
 use Rattle.pli_headline.proofs.Asides.{Aside, StandAside, IsFresh, asides_by, asides_other, asides_fewer}
 use Rattle.pli_headline.proofs.Statements.{AllHold, SameValues, Restricts, restricts_self}
 use Rattle.pli_headline.proofs.Entered.{Frames, UnitsKnown}
@@ -153,9 +153,6 @@ texts_moved {block' = block'} {j} {serial} {serial'} {varying} {most} {bs} spot 
 
 -- ---- with one more
 
-pub limited_element : (type : Y.LeafType) → IsElementType type → IsLimited type
-limited_element type is = by_element IsLimited (λ p h. h) tt type is
-
 abbrev pub more_storage : Storage → (signature at : ℕ) → Storage
 more_storage xs signature at =
     record xs {
@@ -273,8 +270,8 @@ asides_bound : {xss : List (List Aside)} {serials : Serials} {types : Types} {li
 asides_bound b [] fresh all = all
 asides_bound b (a ∷ as') fresh all = asides_other a (record a { bindings = b ∷ a.bindings }) as' fresh all
 
-pub more_all : {frames : Frames} {serials : Serials} {xs : Storage} {levels : List ℕ} {s : State} {block : Names} {types : Types} {n : Values} (e : Environment) (index : ℕ) (k : Kind) (items : List T.InitialItem) (at : ℕ) → IsElementType k.type → AreConstants k.type items → k ≡ alone k.type → Numbered (table_of block.program) k → IsNew e block types index → IsFresh frames.asides → Nested s.activations xs.activations → n.numbers (length types) ≡ begin_of items → AllHold frames serials xs (e.level ∷ levels) s block types n → AllHold frames (more_serials serials (length types) (s.serials + 1) (suc (length levels))) (more_storage xs (number_for (table_of block.program) k) at) (e.level ∷ levels) (more_state s index k items) (more_names e block types index) (types ++ (k ∷ [])) n
-more_all {frames = frames} {serials = serials} {xs} {levels} {s} {block} {types} {n} e index k items at element begins is numbered new fresh nested begun all =
+pub more_all : {frames : Frames} {serials : Serials} {xs : Storage} {levels : List ℕ} {s : State} {block : Names} {types : Types} {n : Values} (e : Environment) (index : ℕ) (k : Kind) (items : List T.InitialItem) (at : ℕ) → IsScalar k.type → AreConstants k.type items → k ≡ alone k.type → Numbered (table_of block.program) k → IsNew e block types index → IsFresh frames.asides → Nested s.activations xs.activations → n.numbers (length types) ≡ begin_of items → n.texts (length types) ≡ begin_text k.type items → AllHold frames serials xs (e.level ∷ levels) s block types n → AllHold frames (more_serials serials (length types) (s.serials + 1) (suc (length levels))) (more_storage xs (number_for (table_of block.program) k) at) (e.level ∷ levels) (more_state s index k items) (more_names e block types index) (types ++ (k ∷ [])) n
+more_all {frames = frames} {serials = serials} {xs} {levels} {s} {block} {types} {n} e index k items at scalar begins is numbered new fresh nested begun written all =
     let count = length types in
     let serial = s.serials + 1 in
     let s' = more_state s index k items in
@@ -300,7 +297,7 @@ more_all {frames = frames} {serials = serials} {xs} {levels} {s} {block} {types}
           holds_moved (spot i below) (same i below) (stands i kind below at') (lives i kind below at') (all.numbers i (u, here) numeric'))
           (λ u e' numeric'.
           let type = ap (λ (q : Kind). q.type) e' in
-          let element' = subst IsElementType type element in
+          let limited = scalar_limited u (subst IsScalar type scalar) numeric' in
           let begins' = subst (λ q. AreConstants q items) type begins in
           record {
             values = (fresh_kind (alone u) items).values;
@@ -313,12 +310,29 @@ more_all {frames = frames} {serials = serials} {xs} {levels} {s} {block} {types}
                 ∙ ap generation_of (new_here l s.living)
                 ∙ ap (λ q. Some (fresh_kind q items)) e';
             value = begins_as u items numeric' begins' ∙ ap (value_as u) (sym begun);
-            fits = subst (Fits u) (sym begun) (begin_fits u items (limited_element u element') begins');
+            fits = subst (Fits u) (sym begun) (begin_fits u items limited begins');
           }) j (alone t.0) t.1 t.0 refl numeric;
       texts = λ j varying most at'.
           by_last types k (λ i kind. kind ≡ alone (text_leaf varying most) → KeepsText s' names i (o.of i) varying most (n.texts i))
           (λ i kind below at'' e'. keeps_moved (spot i below) (same i below) (stands i kind below at'') (lives i kind below at'') (all.texts i varying most (at'' ∙ ap (λ q. Some q) e')))
-          (λ e'. absurd (no_text varying most (subst IsElementType (ap (λ (q : Kind). q.type) e') element))) j (alone (text_leaf varying most)) at' refl;
+          (λ e'.
+          let u = text_leaf varying most in
+          let type = ap (λ (q : Kind). q.type) e' in
+          let begins' = subst (λ q. AreConstants q items) type begins in
+          let same' : begin_text u items ≡ n.texts count = sym (written ∙ ap (λ q. begin_text q items) type) in
+          subst (KeepsText s' names count (o.of count) varying most) same' (record {
+            values = (fresh_kind (alone u) items).values;
+            stands = ap (λ (q : Spot). binding_in (ancestor s'.activations (newest_height s'.activations) q.level) q.index) (chosen_here count (block.at count) (spot_of e index))
+                ∙ seen_new s.activations b e.level (omega (arith, long)) newest
+                ∙ ap (λ q. Some (kind_binding q index serial)) e'
+                ∙ ap (λ (q : Spot). Some (scalar_binding u q.index serial)) (sym (chosen_here count (block.at count) (spot_of e index)))
+                ∙ ap (λ m. Some (scalar_binding u (names.at count).index m)) (sym (chosen_here count (serials.of count) serial));
+            lives = ap (λ m. generation_of (living_of s'.living m)) (chosen_here count (serials.of count) serial)
+                ∙ ap generation_of (new_here l s.living)
+                ∙ ap (λ q. Some (fresh_kind q items)) e';
+            value = text_begins varying most items begins';
+            short = text_short varying most items (text_limit varying most (subst IsScalar type scalar));
+          })) j (alone (text_leaf varying most)) at' refl;
       arrays = λ j type c cs at'.
           by_last types k (λ i kind. kind ≡ record { type = type; bounds = c ∷ cs } → HoldsArray s' names i (o.of i) type (c ∷ cs) (n.arrays i))
           (λ i kind below at'' e'. array_moved (spot i below) (same i below) (stands i kind below at'') (lives i kind below at'') (all.arrays i type c cs (at'' ∙ ap (λ q. Some q) e', at'.1)))

@@ -22,9 +22,9 @@ use Rattle.pli_serving.specs.ServiceState.{Services}
 use Rattle.pli_serving.specs.Answers.{Done}
 use Rattle.pli_serving.specs.Outcomes.{or_bad}
 use Rattle.pli_serving.specs.OnUnits as U
-use Rattle.pli_coding.specs.Registers.{a1}
+use Rattle.pli_coding.specs.Registers.{a0, a1}
 use Rattle.pli_coding.specs.Assembly.{Plain, OffsetAhead, JumpAhead, Code, size_of}
-use Rattle.pli_coding.specs.Instructions.{service}
+use Rattle.pli_coding.specs.Instructions.{number, small, service}
 use Rattle.pli_coding.specs.Arithmetic.{condition_number}
 use Rattle.pli_coding.specs.Allocating.{act_code}
 use Rattle.pli_coding.specs.Entries.{frame_begun, entered_without_texts}
@@ -112,7 +112,7 @@ not_zero i some = grind (arith, nat_tests)
 
 -- ---- the statement
 
-pub on_unit_does : {e : Environment} {block : Names} {types : Types} (bl : Block e block types) (links : Links) (code : List Instr) (around : Around) (c : Condition) (head : Y.BlockHead) (body : Y.Stmts) (line : ℕ) → (0 == e.level) ≡ true → c ≡ C.Area → line < 2 ^ 31 → ((i : ℕ) → 10 ≤ i → Linked links code i (unit_by e head body head.kind head.level) → bl.frames.known bl.base (Y.BlockOf head body) (4 * i)) → Does bl links code around.turns (stmt_code e bl.taken (Y.OnUnit c (Y.BlockOf head body) line)) (M.statement around (Y.OnUnit c (Y.BlockOf head body) line))
+pub on_unit_does : {e : Environment} {block : Names} {types : Types} (bl : Block e block types) (links : Links) (code : List Instr) (around : Around) (c : Condition) (head : Y.BlockHead) (body : Y.Stmts) (line : ℕ) → (0 == e.level) ≡ true → c ≡ C.Area → line < 2 ^ 31 → ((i : ℕ) → 19 ≤ i → Linked links code i (unit_by e head body head.kind head.level) → bl.frames.known bl.base (Y.BlockOf head body) (4 * i)) → Does bl links code around.turns (stmt_code e bl.taken (Y.OnUnit c (Y.BlockOf head body) line)) (M.statement around (Y.OnUnit c (Y.BlockOf head body) line))
 unfolding M.statement M.established_by stored ◌>>◌
 on_unit_does {e} {block} {types} bl links code around c head body line outermost area fits known =
     record {
@@ -137,6 +137,7 @@ on_unit_does {e} {block} {types} bl links code around c head body line outermost
           let inside = l5.inside in
           let long = l5.small' in
           let later = more.later in
+          let few = size_append (number a0 line) (small a1 0 ∷ service 1) in
           let w = S.CodeUnit (4 * index) in
           let change : Unit {0} → Meaning (Unit {0}) = λ r. stored (λ s'. with_activations (established c (BlockUnit u) s'.activations) s') in
           comes_on k (act counted k s) change
@@ -148,7 +149,7 @@ on_unit_does {e} {block} {types} bl links code around c head body line outermost
           let all1 : AllHold bl.frames bl.serials (storage v1) (e.level ∷ bl.depths) s1 block types n = counted_all _ all in
           let some = some_served e.level bl.depths s1.activations v1.activations serving1.nested all1.entered in
           let one = entered_length s1.activations (e.level ∷ bl.depths) all1.entered ∙ ap (λ (ds : List ℕ). suc (length ds)) (bl.shallow outermost) in
-          let new = unit_known bl.frames.known u (4 * index) bl.base s1.activations v1.activations serving1.nested one (ap first_of_frames (all1.framed ∙ bl.leads) ∙ bl.alone outermost) (known index (omega (arith, later)) l5) in
+          let new = unit_known bl.frames.known u (4 * index) bl.base s1.activations v1.activations serving1.nested one (ap first_of_frames (all1.framed ∙ bl.leads) ∙ bl.alone outermost) (known index (omega (arith, later, few)) l5) in
           onward closed (offset_piece i1 f1 a1 5 (omega (arith, inside, long)) (record { reserved_stay = λ y r. refl; known_stay = λ b y r q. q; set = λ y r. refl }) (front_of offset (given ++ (call ++ (over ++ unit))) l1) at1)
           (λ f2 at2.
           let z : Base → ℕ = λ b. (f2 b).machine.registers 12 in

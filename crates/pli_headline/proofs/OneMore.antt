@@ -15,12 +15,15 @@ use Rattle.pli_serving.specs.Bytes.{with_bytes}
 use Rattle.pli_serving.specs.Stored.{kept_bytes}
 use Rattle.pli_coding.specs.Environments.{Environment}
 use Rattle.pli_coding.specs.Frames.{last_place, automatic_place}
-use Rattle.pli_headline.specs.ProvedSoFar.{OuterBlock, Names, Spot, Kind, Types, alone, text_leaf, IsElementType, plain_variable}
+use Rattle.pli_headline.specs.ProvedSoFar.{OuterBlock, Names, Spot, Kind, Types, alone, text_leaf, IsScalar, plain_variable}
 use Rattle.pli_headline.proofs.Engine.{Base, most_code}
 use Rattle.pli_headline.proofs.Numbers.{above_sum, above_small, word_small}
-use Rattle.pli_headline.proofs.Scalars.{Values, Fits, fits_wide, load_kind, store_kind, place_below}
-use Rattle.pli_headline.proofs.Cells.{Cell, kept_by, cell_other, cell_stored, cell_found}
-use Rattle.pli_headline.proofs.WrittenBytes.{load-with_other}
+use Rattle.pli_headline.proofs.Scalars.{Values, Fits, fits_wide, load_kind, store_kind, place_below, text_limit}
+use Rattle.pli_headline.proofs.Cells.{Cell, kept_by, content, content_word, cell_stored, cell_found}
+use Rattle.pli_headline.proofs.VariablePlaces.{frame_size, frame_wide, frame_even}
+use Rattle.pli_headline.proofs.Holdings.{Content, Counted, There, size_in, content_of, content_numeric, content_text, scalar_fits, there_other, there_below}
+use Rattle.pli_headline.proofs.MainTexts.{there_beside}
+use Rattle.pli_headline.proofs.TextGrounds.{TextsStand}
 use Rattle.pli_headline.proofs.Bodies.{Ground, PlaceFrom}
 use Rattle.pli_headline.proofs.Temporaries.{Temporaries}
 use Rattle.pli_headline.proofs.Reaching.{Reaches}
@@ -28,14 +31,14 @@ use Rattle.pli_headline.proofs.Variables.{IsDeclared, data_place, level_of}
 use Rattle.pli_headline.proofs.DeclaredNames.{kind_around, by_last, last_kind, chosen_before, chosen_here}
 use Rattle.pli_headline.proofs.States.{with_number_at, with_text_at}
 use Rattle.pli_headline.proofs.TextPlaces.{text_bytes, TextThere, text_kind_of}
-use Rattle.pli_headline.proofs.TextsKept.{text_kept_as, kept_length}
+use Rattle.pli_headline.proofs.TextsKept.{text_kept_as, kept_length, kept_there}
 use Rattle.pli_headline.proofs.TextScopes.{IsTextAt}
 use Rattle.pli_headline.proofs.NamesStand.{NameThere}
 use Rattle.pli_headline.proofs.ArrayNames.{ArrayNamed, place_of_name}
 use Rattle.pli_headline.proofs.ArrayScopes.{IsArrayAt, ArrayOn, with_element_of}
 use Rattle.pli_headline.proofs.MainGround.{width_few}
 use Rattle.pli_headline.proofs.Statements.{AllSeen, Enclosing, Enclosures, Block, SameValues}
-use Rattle.pli_headline.proofs.MoreNames.{spot_of, more_names, more_serials, no_text}
+use Rattle.pli_headline.proofs.MoreNames.{spot_of, more_names, more_serials}
 use Rattle.pli_headline.proofs.MoreStates.{more_restricts}
 use Rattle.pli_headline.proofs.TextArrayScopes.{IsTextArrayAt, TextArrayOn, with_text_of}
 use Rattle.pli_headline.proofs.TextArraysStay.{text_stride, text_within}
@@ -48,33 +51,41 @@ not_last count j below = grind (arith, nat_tests)
 pub last_not : (count j : ℕ) → j < count → (count == j) ≡ false
 last_not count j below = grind (arith, nat_tests)
 
-other_kept : (q : Bool) (x y : ℤ) → q ≡ false → y ≡ cond q x y
+other_kept : {A : Type 0} (q : Bool) (x y : A) → q ≡ false → y ≡ cond q x y
 other_kept true x y e = absurd (cc e)
 other_kept false x y e = refl
+
+here_kept : {A : Type 0} (q : Bool) (x y : A) → q ≡ true → x ≡ cond q x y
+here_kept true x y e = refl
+here_kept false x y e = absurd (cc e)
 
 -- ---- the variable
 
 -- a variable of a block of its own level, behind so many others
 pub record More {e : Environment} {block : Names} {types : Types} (ib : Block e block types) (index : ℕ) (k : Kind) : Type 0 where
-  pub element : IsElementType k.type
+  pub held : IsScalar k.type
   pub is : k ≡ alone k.type
   pub initial : List T.InitialItem
   pub declared : slice_get (variables_of_block e.program e.block) index ≡ Some (plain_variable k.type initial)
   pub deep : 0 < e.level
   pub place : ib.stack.frame + automatic_place e.parts e.program e.block e.level index ≡ ib.stack.free
-  pub room : ib.stack.free + 36 ≤ 14 * 2 ^ 20
-  pub near : automatic_place e.parts e.program e.block e.level index + 32 ≤ last_place
+  pub room : ib.stack.free + frame_size k + 4 ≤ 14 * 2 ^ 20
+  pub near : automatic_place e.parts e.program e.block e.level index + frame_size k ≤ last_place
 
 abbrev pub more_bases : {e : Environment} {block : Names} {types : Types} → Block e block types → ℕ → ℕ
 more_bases {types = types} ib j = cond (nat_lt j (length types)) (ib.bases j) ib.stack.frame
+
+-- what stands there
+abbrev pub own_content : Kind → Values → (count : ℕ) → Content
+own_content k n count = content_of k.type (n.numbers count) (n.texts count)
 
 abbrev pub more_ground : {e : Environment} {block : Names} {types : Types} (ib : Block e block types) (k : Kind) → Values → Ground
 more_ground {types = types} ib k n =
     record {
       frame = (ib.ground n).frame;
-      free = ib.stack.free + 32;
+      free = ib.stack.free + frame_size k;
       words = (ib.ground n).words;
-      memory = λ t b m. (ib.ground n).memory t b m × Cell m (ib.stack.free + 16) (kept_by (store_kind k.type) (word (n.numbers (length types))));
+      memory = λ t b m. (ib.ground n).memory t b m × There m (ib.stack.free + 16) (own_content k n (length types));
       whole = (ib.ground n).whole;
       above_code = (ib.ground n).above_code;
       inside = (ib.ground n).inside;
@@ -118,6 +129,44 @@ own_address {e} {block} {types} ib {index} o =
 
 own_type : {k : Kind} {type : Y.LeafType} → k ≡ alone type → k.type ≡ type
 own_type e = ap (λ (q : Kind). q.type) e
+
+pub own_size : (k : Kind) (n : Values) (count : ℕ) → IsScalar k.type → k ≡ alone k.type → 16 + size_in (own_content k n count) ≤ frame_size k
+own_size k n count held is =
+    subst (λ u. 16 + size_in (own_content k n count) ≤ u) (sym (ap frame_size is)) (scalar_fits k.type (n.numbers count) (n.texts count) held)
+
+-- a number in its cell
+own_number : {k : Kind} {type : Y.LeafType} {m : List ℕ} {p : ℕ} (n : Values) (count : ℕ) → k ≡ alone type → Fits type (n.numbers count) → There m p (own_content k n count) → Cell m p (kept_by (store_kind type) (word (n.numbers count)))
+own_number {k} {type} {m} {p} n count e fits o =
+    let z = n.numbers count in
+    let mine : There m p (Counted (content type z)) = subst (There m p) (content_numeric type z (n.texts count) fits) (subst (λ t. There m p (content_of t z (n.texts count))) (own_type e) o) in
+    subst (Cell m p) (content_word type z (fits_wide type z fits)) mine
+
+there_number : {k : Kind} {type : Y.LeafType} {m : List ℕ} {p : ℕ} (z : ℤ) (text : List ℕ) → k ≡ alone type → Fits type z → Cell m p (kept_by (store_kind type) (word z)) → There m p (content_of k.type z text)
+there_number {k} {type} {m} {p} z text e fits o =
+    let mine : There m p (Counted (content type z)) = subst (Cell m p) (sym (content_word type z (fits_wide type z fits))) o in
+    subst (λ t. There m p (content_of t z text)) (sym (own_type e)) (subst (There m p) (sym (content_numeric type z text fits)) mine)
+
+-- a text
+own_text : {k : Kind} (varying : Bool) (most : ℕ) (m : List ℕ) (p : ℕ) (n : Values) (count : ℕ) → k ≡ alone (text_leaf varying most) → There m p (own_content k n count) → TextThere varying most p m (n.texts count)
+own_text {k} varying most m p n count e o =
+    subst (There m p) (content_text varying most (n.numbers count) (n.texts count)) (subst (λ t. There m p (content_of t (n.numbers count) (n.texts count))) (own_type e) o)
+
+there_text : {k : Kind} (varying : Bool) (most : ℕ) (m : List ℕ) (p : ℕ) (z : ℤ) (text : List ℕ) → k ≡ alone (text_leaf varying most) → TextThere varying most p m text → There m p (content_of k.type z text)
+there_text {k} varying most m p z text e o =
+    subst (λ t. There m p (content_of t z text)) (sym (own_type e)) (subst (There m p) (sym (content_text varying most z text)) o)
+
+text_room : {k : Kind} (varying : Bool) (most : ℕ) → IsScalar k.type → k ≡ alone (text_leaf varying most) → 16 + text_bytes varying most ≤ frame_size k
+text_room {k} varying most held e =
+    subst (λ c. 16 + size_in c ≤ frame_size k) (content_text varying most (pos 0) [])
+    (subst (λ u. 16 + size_in (content_of (text_leaf varying most) (pos 0) []) ≤ u) (sym (ap frame_size e)) (scalar_fits (text_leaf varying most) (pos 0) [] (subst IsScalar (own_type e) held)))
+
+-- a block's frame lies above the code
+above_code : {e : Environment} {block : Names} {types : Types} (ib : Block e block types) → 4 * most_code ≤ ib.stack.frame
+above_code ib =
+    let n : Values = record { numbers = λ j. pos 0; texts = λ j. []; arrays = λ j p. pos 0; text_arrays = λ j p. [] } in
+    let same = ib.stack.frame_is n in
+    let above = (ib.ground n).above_code in
+    omega (arith, same, above)
 
 -- ---- it is declared
 
@@ -169,7 +218,7 @@ more_places {e} {block} {types} ib {index} {k} o j type at =
     (λ u e'.
     subst (λ w. PlaceFrom w (pos (data_place e names (length types))) (w + data_place e names (length types))) (sym (own_base ib))
     (subst (λ x. PlaceFrom ib.stack.frame (pos x) (ib.stack.frame + x)) (sym (own_data e block types index))
-    (place_behind ib.stack.frame (automatic_place e.parts e.program e.block e.level index) ib.stack.free o.place ib.stack.aligned ib.stack.high o.room)))
+    (place_behind ib.stack.frame (automatic_place e.parts e.program e.block e.level index) ib.stack.free o.place ib.stack.aligned ib.stack.high (let room = o.room in let wide = frame_wide k in omega (arith, room, wide)))))
     j (alone type) at type refl
 
 -- ---- what it holds
@@ -182,7 +231,7 @@ more_reads {e} {block} {types} ib {index} {k} o n j type at fits t b m held =
     ap (λ p. extended (load_kind u) (load (load_width (load_kind u)) m p)) (around_address ib index i below) ∙ ib.reads n i (at' ∙ ap (λ q. Some q) e') f t b m held.0)
     (λ u e' f.
     ap (λ p. extended (load_kind u) (load (load_width (load_kind u)) m p)) (own_address ib o)
-    ∙ cell_found u (n.numbers (length types)) m (ib.stack.free + 16) f (subst (λ q. Cell m (ib.stack.free + 16) (kept_by (store_kind q) (word (n.numbers (length types))))) (own_type e') held.1))
+    ∙ cell_found u (n.numbers (length types)) m (ib.stack.free + 16) f (own_number n (length types) e' f held.1))
     j (alone type) at type refl fits
 
 around_writes : {e : Environment} {block : Names} {types : Types} (ib : Block e block types) (k : Kind) (n : Values) (j : ℕ) (z : ℤ) {type : Y.LeafType} → j < length types → slice_get types j ≡ Some (alone type) → Fits type (n.numbers j) → Fits type z → (t : ℕ → ℕ) (b : Base) (m : List ℕ) → length m ≡ memory_size → (more_ground ib k n).memory t b m → (more_ground ib k (with_number_at n j z)).memory t b (store (store_width (store_kind type)) m (ib.bases j + data_place e block j) (word z))
@@ -192,25 +241,22 @@ around_writes {e} {block} {types} ib k n j z {type} below at old fits t b m len 
     let few = width_few (store_kind type) in
     let under = ib.stack.under j at in (
       ib.writes n j z at old fits t b m len held.0,
-      subst (λ x. Cell (store w m p (word z)) (ib.stack.free + 16) (kept_by (store_kind k.type) (word x))) (other_kept (length types == j) z (n.numbers (length types)) (last_not (length types) j below))
-          (cell_other w m p (word z) (ib.stack.free + 16) (kept_by (store_kind k.type) (word (n.numbers (length types)))) (inr (omega (arith, few, under))) held.1),
+      subst (λ x. There (store w m p (word z)) (ib.stack.free + 16) (content_of k.type x (n.texts (length types)))) (other_kept (length types == j) z (n.numbers (length types)) (last_not (length types) j below))
+          (there_other w m p (word z) (ib.stack.free + 16) (own_content k n (length types)) (inr (omega (arith, few, under))) held.1),
     )
 
-here_kept : (q : Bool) (x y : ℤ) → q ≡ true → x ≡ cond q x y
-here_kept true x y e = refl
-here_kept false x y e = absurd (cc e)
-
-own_writes : {e : Environment} {block : Names} {types : Types} (ib : Block e block types) {index : ℕ} {k : Kind} (o : More ib index k) (n : Values) (z : ℤ) → Fits k.type z → (t : ℕ → ℕ) (b : Base) (m : List ℕ) → length m ≡ memory_size → (more_ground ib k n).memory t b m → (more_ground ib k (with_number_at n (length types) z)).memory t b (store (store_width (store_kind k.type)) m (ib.stack.free + 16) (word z))
-own_writes {e} {block} {types} ib {index} {k} o n z fits t b m len held =
+own_writes : {e : Environment} {block : Names} {types : Types} (ib : Block e block types) {index : ℕ} {k : Kind} (o : More ib index k) (n : Values) (z : ℤ) (type : Y.LeafType) → k ≡ alone type → Fits type (n.numbers (length types)) → Fits type z → (t : ℕ → ℕ) (b : Base) (m : List ℕ) → length m ≡ memory_size → (more_ground ib k n).memory t b m → (more_ground ib k (with_number_at n (length types) z)).memory t b (store (store_width (store_kind type)) m (ib.stack.free + 16) (word z))
+own_writes {e} {block} {types} ib {index} {k} o n z type is old fits t b m len held =
     let count = length types in
-    let w = store_width (store_kind k.type) in
+    let w = store_width (store_kind type) in
     let p = ib.stack.free + 16 in
-    let wide = fits_wide k.type z fits in
+    let wide = fits_wide type z fits in
     let room = o.room in
+    let size = frame_wide k in
     let same : SameValues types n (with_number_at n count z) = λ j kind at. (other_kept (j == count) z (n.numbers j) (not_last count j (place_below types j kind at)), (refl, (refl, refl))) in (
       ib.alike n (with_number_at n count z) same t b (store w m p (word z)) (ib.stack.keeps n t b m w p (word z) (omega arith) held.0),
-      subst (λ x. Cell (store w m p (word z)) p (kept_by (store_kind k.type) (word x))) (here_kept (count == count) z (n.numbers count) (eq-eqb count count refl))
-          (cell_stored (store_kind k.type) m p (word (n.numbers count)) (word z) (word_small z wide) (omega (arith, room, len)) held.1),
+      subst (λ x. There (store w m p (word z)) p (content_of k.type x (n.texts count))) (here_kept (count == count) z (n.numbers count) (eq-eqb count count refl))
+          (there_number z (n.texts count) is fits (cell_stored (store_kind type) m p (word (n.numbers count)) (word z) (word_small z wide) (omega (arith, room, size, len)) (own_number n count is old held.1))),
     )
 
 pub more_writes : {e : Environment} {block : Names} {types : Types} (ib : Block e block types) {index : ℕ} {k : Kind} (o : More ib index k) (n : Values) (j : ℕ) (z : ℤ) (type : Y.LeafType) → slice_get (types ++ (k ∷ [])) j ≡ Some (alone type) → Fits type (n.numbers j) → Fits type z → (t : ℕ → ℕ) (b : Base) (m : List ℕ) → length m ≡ memory_size → (more_ground ib k n).memory t b m → (more_ground ib k (with_number_at n j z)).memory t b (store (store_width (store_kind type)) m (more_bases ib j + data_place e (more_names e block types index) j) (word z))
@@ -222,42 +268,90 @@ more_writes {e} {block} {types} ib {index} {k} o n j z type at old fits t b m le
     (around_writes ib k n i z below (at' ∙ ap (λ q. Some q) e') old' f t b m len held))
     (λ u e' old' f.
     subst (λ p. (more_ground ib k (with_number_at n (length types) z)).memory t b (store (store_width (store_kind u)) m p (word z))) (sym (own_address ib o))
-    (subst (λ q. Fits q z → (more_ground ib k (with_number_at n (length types) z)).memory t b (store (store_width (store_kind q)) m (ib.stack.free + 16) (word z))) (own_type e') (λ f'. own_writes ib o n z f' t b m len held) f))
+    (own_writes ib o n z u e' old' f t b m len held))
     j (alone type) at type refl old fits
 
-pub more_under : {e : Environment} {block : Names} {types : Types} (ib : Block e block types) {index : ℕ} {k : Kind} (o : More ib index k) (j : ℕ) (type : Y.LeafType) → slice_get (types ++ (k ∷ [])) j ≡ Some (alone type) → more_bases ib j + data_place e (more_names e block types index) j + 4 ≤ ib.stack.free + 32
+pub more_under : {e : Environment} {block : Names} {types : Types} (ib : Block e block types) {index : ℕ} {k : Kind} (o : More ib index k) (j : ℕ) (type : Y.LeafType) → slice_get (types ++ (k ∷ [])) j ≡ Some (alone type) → more_bases ib j + data_place e (more_names e block types index) j + 4 ≤ ib.stack.free + frame_size k
 more_under {e} {block} {types} ib {index} {k} o j type at =
     let names = more_names e block types index in
-    by_last types k (λ i kind. (u : Y.LeafType) → kind ≡ alone u → more_bases ib i + data_place e names i + 4 ≤ ib.stack.free + 32)
+    by_last types k (λ i kind. (u : Y.LeafType) → kind ≡ alone u → more_bases ib i + data_place e names i + 4 ≤ ib.stack.free + frame_size k)
     (λ i kind below at' u e'. let a = around_address ib index i below in let under = ib.stack.under i (at' ∙ ap (λ q. Some q) e') in omega (arith, a, under))
-    (λ u e'. let a = own_address ib o in omega (arith, a))
+    (λ u e'. let a = own_address ib o in let wide = frame_wide k in omega (arith, a, wide))
     j (alone type) at type refl
 
--- ---- texts and arrays are those around
+-- ---- texts
 
-pub text_place : {e : Environment} {block : Names} {types : Types} (ib : Block e block types) {index : ℕ} {k : Kind} (o : More ib index k) (P : ℕ → Type 0) (j : ℕ) (varying : Bool) (most : ℕ) → ((i : ℕ) → i < length types → IsTextAt types i varying most → P i) → IsTextAt (types ++ (k ∷ [])) j varying most → P j
-text_place {types = types} ib {k = k} o P j varying most around at =
+pub text_place : {e : Environment} {block : Names} {types : Types} (ib : Block e block types) {index : ℕ} {k : Kind} (o : More ib index k) (P : ℕ → Type 0) (j : ℕ) (varying : Bool) (most : ℕ) → ((i : ℕ) → i < length types → IsTextAt types i varying most → P i) → (k ≡ alone (text_leaf varying most) → P (length types)) → IsTextAt (types ++ (k ∷ [])) j varying most → P j
+text_place {types = types} ib {k = k} o P j varying most around own at =
     by_last types k (λ i kind. kind ≡ alone (text_leaf varying most) → P i) (λ i kind below at' e'. around i below (at' ∙ ap (λ q. Some q) e'))
-    (λ e'. absurd (no_text varying most (subst IsElementType (own_type e') o.element))) j (alone (text_leaf varying most)) at refl
+    own j (alone (text_leaf varying most)) at refl
 
-pub text_writes : {e : Environment} {block : Names} {types : Types} (ib : Block e block types) (index : ℕ) (k : Kind) (n : Values) (j : ℕ) (varying : Bool) (most : ℕ) (text : List ℕ) → j < length types → IsTextAt types j varying most → (t : ℕ → ℕ) (b : Base) (m : List ℕ) → length m ≡ memory_size → (more_ground ib k n).memory t b m → (more_ground ib k (with_text_at n j (text_kept_as varying most text))).memory t b (with_bytes (kept_bytes (text_kind_of varying most) (BasicText text)) (more_bases ib j + data_place e (more_names e block types index) j) m)
-text_writes {e} {block} {types} ib index k n j varying most text below at t b m len held =
+around_text : {e : Environment} {block : Names} {types : Types} (ib : Block e block types) (index : ℕ) (k : Kind) (n : Values) (j : ℕ) (varying : Bool) (most : ℕ) (text : List ℕ) → j < length types → IsTextAt types j varying most → (t : ℕ → ℕ) (b : Base) (m : List ℕ) → length m ≡ memory_size → (more_ground ib k n).memory t b m → (more_ground ib k (with_text_at n j (text_kept_as varying most text))).memory t b (with_bytes (kept_bytes (text_kind_of varying most) (BasicText text)) (more_bases ib j + data_place e (more_names e block types index) j) m)
+around_text {e} {block} {types} ib index k n j varying most text below at t b m len held =
+    let count = length types in
     let bytes = kept_bytes (text_kind_of varying most) (BasicText text) in
+    let kept = text_kept_as varying most text in
     let p = ib.bases j + data_place e block j in
     let long = kept_length varying most text in
     let under = ib.texts.under j varying most at in
     let inside = ib.texts.room.inside j varying most at in
     let room : p + length bytes ≤ length m = omega (arith, inside, long, len) in
-    subst (λ q. (more_ground ib k (with_text_at n j (text_kept_as varying most text))).memory t b (with_bytes bytes q m)) (sym (around_address ib index j below)) (
+    subst (λ q. (more_ground ib k (with_text_at n j kept)).memory t b (with_bytes bytes q m)) (sym (around_address ib index j below)) (
       ib.texts.writes n j varying most text at t b m len held.0,
-      record {
-        whole = load-with_other 4 bytes m p (ib.stack.free + 16) room (inr (omega (arith, under, long))) ∙ held.1.whole;
-        half = load-with_other 2 bytes m p (ib.stack.free + 16) room (inr (omega (arith, under, long))) ∙ held.1.half;
-        byte = load-with_other 1 bytes m p (ib.stack.free + 16) room (inr (omega (arith, under, long))) ∙ held.1.byte;
-      },
+      subst (λ x. There (with_bytes bytes p m) (ib.stack.free + 16) (content_of k.type (n.numbers count) x)) (other_kept (count == j) kept (n.texts count) (last_not count j below))
+          (there_beside bytes m p (ib.stack.free + 16) (own_content k n count) room (inl (omega (arith, under, long))) held.1),
     )
 
-more_array : {e : Environment} {block : Names} {types : Types} (ib : Block e block types) (index : ℕ) (k : Kind) (j : ℕ) (type : Y.LeafType) (bs : List Bounds) → j < length types → ArrayOn e block (ib.bases j) ib.stack.free ib.ground j type bs → ArrayOn e (more_names e block types index) (more_bases ib j) (ib.stack.free + 32) (more_ground ib k) j type bs
+own_text_writes : {e : Environment} {block : Names} {types : Types} (ib : Block e block types) {index : ℕ} {k : Kind} (o : More ib index k) (n : Values) (varying : Bool) (most : ℕ) (text : List ℕ) → k ≡ alone (text_leaf varying most) → (t : ℕ → ℕ) (b : Base) (m : List ℕ) → length m ≡ memory_size → (more_ground ib k n).memory t b m → (more_ground ib k (with_text_at n (length types) (text_kept_as varying most text))).memory t b (with_bytes (kept_bytes (text_kind_of varying most) (BasicText text)) (more_bases ib (length types) + data_place e (more_names e block types index) (length types)) m)
+own_text_writes {e} {block} {types} ib {index} {k} o n varying most text is t b m len held =
+    let count = length types in
+    let bytes = kept_bytes (text_kind_of varying most) (BasicText text) in
+    let kept = text_kept_as varying most text in
+    let p = ib.stack.free + 16 in
+    let long = kept_length varying most text in
+    let size = text_room varying most o.held is in
+    let behind = o.room in
+    let few = text_limit varying most (subst IsScalar (own_type is) o.held) in
+    let inside : p + text_bytes varying most ≤ length m = omega (arith, behind, size, len) in
+    let room : p + length bytes ≤ length m = omega (arith, inside, long) in
+    let same : SameValues types n (with_text_at n count kept) = λ j kind at. (refl, (other_kept (j == count) kept (n.texts j) (not_last count j (place_below types j kind at)), (refl, refl))) in
+    subst (λ q. (more_ground ib k (with_text_at n count kept)).memory t b (with_bytes bytes q m)) (sym (own_address ib o)) (
+      ib.alike n (with_text_at n count kept) same t b (with_bytes bytes p m) (ib.stack.keeps_bytes n t b m bytes p (omega arith) room held.0),
+      subst (λ x. There (with_bytes bytes p m) p (content_of k.type (n.numbers count) x)) (here_kept (count == count) kept (n.texts count) (eq-eqb count count refl))
+          (there_text varying most (with_bytes bytes p m) p (n.numbers count) kept is (kept_there varying most p m text few inside)),
+    )
+
+pub more_text_stand : {e : Environment} {block : Names} {types : Types} (ib : Block e block types) {index : ℕ} {k : Kind} (o : More ib index k) → TextsStand e (more_names e block types index) (types ++ (k ∷ [])) (more_bases ib) (ib.stack.free + frame_size k) (more_ground ib k)
+more_text_stand {e} {block} {types} ib {index} {k} o =
+    let names = more_names e block types index in
+    let count = length types in
+    let own = own_address ib o in
+    let behind = o.room in
+    record {
+      room = record {
+        high = λ j varying most at. text_place ib o (λ i. 4 * most_code ≤ more_bases ib i) j varying most
+            (λ i below at'. let a = around_base ib i below in let h = ib.texts.room.high i varying most at' in omega (arith, a, h))
+            (λ e'. let a = own_base ib in let h = above_code ib in omega (arith, a, h)) at;
+        short = λ j varying most at. text_place ib o (λ i. most ≤ 1024) j varying most (λ i below at'. ib.texts.room.short i varying most at')
+            (λ e'. text_limit varying most (subst IsScalar (own_type e') o.held)) at;
+        inside = λ j varying most at. text_place ib o (λ i. more_bases ib i + data_place e names i + text_bytes varying most ≤ memory_size) j varying most
+            (λ i below at'. let a = around_address ib index i below in let h = ib.texts.room.inside i varying most at' in omega (arith, a, h))
+            (λ e'. let size = text_room varying most o.held e' in omega (arith, own, size, behind)) at;
+      };
+      under = λ j varying most at. text_place ib o (λ i. more_bases ib i + data_place e names i + text_bytes varying most ≤ ib.stack.free + frame_size k) j varying most
+          (λ i below at'. let a = around_address ib index i below in let h = ib.texts.under i varying most at' in omega (arith, a, h))
+          (λ e'. let size = text_room varying most o.held e' in omega (arith, own, size)) at;
+      reads = λ n j varying most at t b m held. text_place ib o (λ i. TextThere varying most (more_bases ib i + data_place e names i) m (n.texts i)) j varying most
+          (λ i below at'. subst (λ p. TextThere varying most p m (n.texts i)) (sym (around_address ib index i below)) (ib.texts.reads n i varying most at' t b m held.0))
+          (λ e'. subst (λ p. TextThere varying most p m (n.texts count)) (sym own) (own_text varying most m (ib.stack.free + 16) n count e' held.1)) at;
+      writes = λ n j varying most text at t b m len held. text_place ib o (λ i. (more_ground ib k (with_text_at n i (text_kept_as varying most text))).memory t b (with_bytes (kept_bytes (text_kind_of varying most) (BasicText text)) (more_bases ib i + data_place e names i) m)) j varying most
+          (λ i below at'. around_text ib index k n i varying most text below at' t b m len held)
+          (λ e'. own_text_writes ib o n varying most text e' t b m len held) at;
+    }
+
+-- ---- arrays are those around
+
+more_array : {e : Environment} {block : Names} {types : Types} (ib : Block e block types) (index : ℕ) (k : Kind) (j : ℕ) (type : Y.LeafType) (bs : List Bounds) → j < length types → ArrayOn e block (ib.bases j) ib.stack.free ib.ground j type bs → ArrayOn e (more_names e block types index) (more_bases ib j) (ib.stack.free + frame_size k) (more_ground ib k) j type bs
 more_array {e} {block} {types} ib index k j type bs below on =
     let names = more_names e block types index in
     let a = around_base ib j below in
@@ -281,17 +375,17 @@ more_array {e} {block} {types} ib index k j type bs below on =
           let few = width_few (store_kind type) in
           subst (λ u. (more_ground ib k (with_element_of n j p z)).memory t b (store (store_width (store_kind type)) m u (word z))) (sym q) (
             on.writes n p z inside old fits t b m len held.0,
-            cell_other (store_width (store_kind type)) m (ib.bases j + 4 * p + data_place e block j) (word z) (ib.stack.free + 16) (kept_by (store_kind k.type) (word (n.numbers (length types)))) (inr (omega (arith, few, under, inside))) held.1,
+            there_other (store_width (store_kind type)) m (ib.bases j + 4 * p + data_place e block j) (word z) (ib.stack.free + 16) (own_content k n (length types)) (inr (omega (arith, few, under, inside))) held.1,
           );
     }
 
-pub array_place : {e : Environment} {block : Names} {types : Types} (ib : Block e block types) {index : ℕ} {k : Kind} (o : More ib index k) (j : ℕ) (type : Y.LeafType) (b : Bounds) (bs : List Bounds) → IsArrayAt (types ++ (k ∷ [])) j type b bs → ArrayOn e (more_names e block types index) (more_bases ib j) (ib.stack.free + 32) (more_ground ib k) j type (b ∷ bs)
+pub array_place : {e : Environment} {block : Names} {types : Types} (ib : Block e block types) {index : ℕ} {k : Kind} (o : More ib index k) (j : ℕ) (type : Y.LeafType) (b : Bounds) (bs : List Bounds) → IsArrayAt (types ++ (k ∷ [])) j type b bs → ArrayOn e (more_names e block types index) (more_bases ib j) (ib.stack.free + frame_size k) (more_ground ib k) j type (b ∷ bs)
 array_place {e} {block} {types} ib {index} {k} o j type b bs at =
-    by_last types k (λ i kind. kind ≡ record { type = type; bounds = b ∷ bs } → ArrayOn e (more_names e block types index) (more_bases ib i) (ib.stack.free + 32) (more_ground ib k) i type (b ∷ bs))
+    by_last types k (λ i kind. kind ≡ record { type = type; bounds = b ∷ bs } → ArrayOn e (more_names e block types index) (more_bases ib i) (ib.stack.free + frame_size k) (more_ground ib k) i type (b ∷ bs))
     (λ i kind below at' e'. more_array ib index k i type (b ∷ bs) below (ib.arrays i type b bs (at' ∙ ap (λ q. Some q) e', at.1)))
     (λ e'. let no : [] ≡ b ∷ bs = sym (ap (λ (q : Kind). q.bounds) o.is) ∙ ap (λ (q : Kind). q.bounds) e' in absurd (cc no)) j (record { type = type; bounds = b ∷ bs }) at.0 refl
 
-more_texts : {e : Environment} {block : Names} {types : Types} (ib : Block e block types) (index : ℕ) (k : Kind) (j : ℕ) (varying : Bool) (most : ℕ) (bs : List Bounds) → j < length types → TextArrayOn e block (ib.bases j) ib.stack.free ib.ground j varying most bs → TextArrayOn e (more_names e block types index) (more_bases ib j) (ib.stack.free + 32) (more_ground ib k) j varying most bs
+more_texts : {e : Environment} {block : Names} {types : Types} (ib : Block e block types) (index : ℕ) (k : Kind) (j : ℕ) (varying : Bool) (most : ℕ) (bs : List Bounds) → j < length types → TextArrayOn e block (ib.bases j) ib.stack.free ib.ground j varying most bs → TextArrayOn e (more_names e block types index) (more_bases ib j) (ib.stack.free + frame_size k) (more_ground ib k) j varying most bs
 more_texts {e} {block} {types} ib index k j varying most bs below on =
     let names = more_names e block types index in
     let a = around_base ib j below in
@@ -319,17 +413,13 @@ more_texts {e} {block} {types} ib index k j varying most bs below on =
           let room : here + length bytes ≤ length m = omega (arith, within, row, long, len) in
           subst (λ u. (more_ground ib k (with_text_of n j p (text_kept_as varying most text))).memory t b (with_bytes bytes u m)) (sym (q p)) (
             on.writes n p text inside t b m len held.0,
-            record {
-              whole = load-with_other 4 bytes m here (ib.stack.free + 16) room (inr (omega (arith, under, row, long))) ∙ held.1.whole;
-              half = load-with_other 2 bytes m here (ib.stack.free + 16) room (inr (omega (arith, under, row, long))) ∙ held.1.half;
-              byte = load-with_other 1 bytes m here (ib.stack.free + 16) room (inr (omega (arith, under, row, long))) ∙ held.1.byte;
-            },
+            there_beside bytes m here (ib.stack.free + 16) (own_content k n (length types)) room (inl (omega (arith, under, row, long))) held.1,
           );
     }
 
-pub text_array_place : {e : Environment} {block : Names} {types : Types} (ib : Block e block types) {index : ℕ} {k : Kind} (o : More ib index k) (j : ℕ) (varying : Bool) (most : ℕ) (b : Bounds) (bs : List Bounds) → IsTextArrayAt (types ++ (k ∷ [])) j varying most b bs → TextArrayOn e (more_names e block types index) (more_bases ib j) (ib.stack.free + 32) (more_ground ib k) j varying most (b ∷ bs)
+pub text_array_place : {e : Environment} {block : Names} {types : Types} (ib : Block e block types) {index : ℕ} {k : Kind} (o : More ib index k) (j : ℕ) (varying : Bool) (most : ℕ) (b : Bounds) (bs : List Bounds) → IsTextArrayAt (types ++ (k ∷ [])) j varying most b bs → TextArrayOn e (more_names e block types index) (more_bases ib j) (ib.stack.free + frame_size k) (more_ground ib k) j varying most (b ∷ bs)
 text_array_place {e} {block} {types} ib {index} {k} o j varying most b bs at =
-    by_last types k (λ i kind. kind ≡ record { type = text_leaf varying most; bounds = b ∷ bs } → TextArrayOn e (more_names e block types index) (more_bases ib i) (ib.stack.free + 32) (more_ground ib k) i varying most (b ∷ bs))
+    by_last types k (λ i kind. kind ≡ record { type = text_leaf varying most; bounds = b ∷ bs } → TextArrayOn e (more_names e block types index) (more_bases ib i) (ib.stack.free + frame_size k) (more_ground ib k) i varying most (b ∷ bs))
     (λ i kind below at' e'. more_texts ib index k i varying most (b ∷ bs) below (ib.text_arrays i varying most b bs (at' ∙ ap (λ q. Some q) e')))
     (λ e'. let no : [] ≡ b ∷ bs = sym (ap (λ (q : Kind). q.bounds) o.is) ∙ ap (λ (q : Kind). q.bounds) e' in absurd (cc no)) j (record { type = text_leaf varying most; bounds = b ∷ bs }) at refl
 
@@ -369,7 +459,7 @@ more_temporaries {types = types} ib k n =
     record {
       kept = λ t b m j x below len fits o. (
         (ib.temps n).kept t b m j x below len fits o.0,
-        cell_other 4 m ((ib.ground n).frame - 4 * suc j) x (ib.stack.free + 16) (kept_by (store_kind k.type) (word (n.numbers (length types)))) (inr (omega (arith, e', above))) o.1,
+        there_other 4 m ((ib.ground n).frame - 4 * suc j) x (ib.stack.free + 16) (own_content k n (length types)) (inr (omega (arith, e', above))) o.1,
       );
       found = λ t b m j below known o. (ib.temps n).found t b m j below known o.0;
     }
@@ -423,6 +513,7 @@ more_block {e} {block} {types} ib {index} {k} o serial =
     let high = ib.stack.high in
     let over = ib.stack.over in
     let whole = ib.stack.aligned in
+    let even = frame_even k in
     record {
       ground = more_ground ib k;
       words = ib.words;
@@ -431,11 +522,12 @@ more_block {e} {block} {types} ib {index} {k} o serial =
       base = ib.base;
       within = ib.within;
       words_are = ib.words_are;
-      same = λ n n' b h. ap (λ u. 0 ∷ (b.at + (ib.stack.free + 32)) ∷ (b.at + u) ∷ h 0 ∷ h 1 ∷ h 2 ∷ h 3 ∷ h 4 ∷ h 5 ∷ h 6 ∷ []) (ib.stack.frame_is n ∙ sym (ib.stack.frame_is n'));
+      same = λ n n' b h. ap (λ u. 0 ∷ (b.at + (ib.stack.free + frame_size k)) ∷ (b.at + u) ∷ h 0 ∷ h 1 ∷ h 2 ∷ h 3 ∷ h 4 ∷ h 5 ∷ h 6 ∷ []) (ib.stack.frame_is n ∙ sym (ib.stack.frame_is n'));
       temps = more_temporaries ib k;
       alike = λ n n' same t b m held. (
         ib.alike n n' (λ j kind at. same j kind (kind_around types (k ∷ []) j at)) t b m held.0,
-        subst (λ x. Cell m (ib.stack.free + 16) (kept_by (store_kind k.type) (word x))) (same count k (last_kind types k)).0 held.1,
+        subst (λ x. There m (ib.stack.free + 16) (content_of k.type (n'.numbers count) x)) (same count k (last_kind types k)).1.0
+            (subst (λ x. There m (ib.stack.free + 16) (content_of k.type x (n.texts count))) (same count k (last_kind types k)).0 held.1),
       );
       declared = λ j at. more_declared ib o j _ at;
       reach = λ n. still_reached ib k n (0 == e.level) 0 ib.base (ib.reach n);
@@ -482,24 +574,20 @@ more_block {e} {block} {types} ib {index} {k} o serial =
           (λ low'. let l = own_level e block types index in absurd (omega (arith, l, low', deep))) j _ at low;
       stack = record {
         frame = ib.stack.frame;
-        free = ib.stack.free + 32;
+        free = ib.stack.free + frame_size k;
         frame_is = ib.stack.frame_is;
         free_is = λ n. refl;
-        aligned = omega (arith, whole);
+        aligned = omega (arith, whole, even);
         high = omega (arith, high);
         above = omega (arith, above);
         over = omega (arith, over);
         keeps = λ n t b m w p x over' held. (
           ib.stack.keeps n t b m w p x (omega (arith, over')) held.0,
-          cell_other w m p x (ib.stack.free + 16) (kept_by (store_kind k.type) (word (n.numbers count))) (inl (omega (arith, over'))) held.1,
+          there_other w m p x (ib.stack.free + 16) (own_content k n count) (inl (let size = own_size k n count o.held o.is in omega (arith, over', size))) held.1,
         );
         keeps_bytes = λ n t b m bytes p over' room' held. (
           ib.stack.keeps_bytes n t b m bytes p (omega (arith, over')) room' held.0,
-          record {
-            whole = load-with_other 4 bytes m p (ib.stack.free + 16) room' (inl (omega (arith, over'))) ∙ held.1.whole;
-            half = load-with_other 2 bytes m p (ib.stack.free + 16) room' (inl (omega (arith, over'))) ∙ held.1.half;
-            byte = load-with_other 1 bytes m p (ib.stack.free + 16) room' (inl (omega (arith, over'))) ∙ held.1.byte;
-          },
+          there_below bytes m p (ib.stack.free + 16) (own_content k n count) room' (let size = own_size k n count o.held o.is in omega (arith, over', size)) held.1,
         );
         under = λ j at. more_under ib o j _ at;
       };
@@ -511,16 +599,7 @@ more_block {e} {block} {types} ib {index} {k} o serial =
           by_last types k (λ i kind. cond (level_of names i == e.level) ib.stack.frame (ib.levels (level_of names i)) ≡ more_bases ib i)
           (λ i kind below at'. ap (λ u. cond (u == e.level) ib.stack.frame (ib.levels u)) (around_level e block types index i below) ∙ ib.leveled i at' ∙ sym (around_base ib i below))
           (ap (λ u. cond (u == e.level) ib.stack.frame (ib.levels u)) (own_level e block types index) ∙ ap (λ q. cond q ib.stack.frame (ib.levels e.level)) (eq-eqb e.level e.level refl) ∙ sym (own_base ib)) j _ at;
-      texts = record {
-        room = record {
-          high = λ j varying most at. text_place ib o (λ i. 4 * most_code ≤ more_bases ib i) j varying most (λ i below at'. let a = around_base ib i below in let h = ib.texts.room.high i varying most at' in omega (arith, a, h)) at;
-          short = λ j varying most at. text_place ib o (λ i. most ≤ 1024) j varying most (λ i below at'. ib.texts.room.short i varying most at') at;
-          inside = λ j varying most at. text_place ib o (λ i. more_bases ib i + data_place e names i + text_bytes varying most ≤ memory_size) j varying most (λ i below at'. let a = around_address ib index i below in let h = ib.texts.room.inside i varying most at' in omega (arith, a, h)) at;
-        };
-        under = λ j varying most at. text_place ib o (λ i. more_bases ib i + data_place e names i + text_bytes varying most ≤ ib.stack.free + 32) j varying most (λ i below at'. let a = around_address ib index i below in let h = ib.texts.under i varying most at' in omega (arith, a, h)) at;
-        reads = λ n j varying most at t b m held. text_place ib o (λ i. TextThere varying most (more_bases ib i + data_place e names i) m (n.texts i)) j varying most (λ i below at'. subst (λ p. TextThere varying most p m (n.texts i)) (sym (around_address ib index i below)) (ib.texts.reads n i varying most at' t b m held.0)) at;
-        writes = λ n j varying most text at t b m len held. text_place ib o (λ i. (more_ground ib k (with_text_at n i (text_kept_as varying most text))).memory t b (with_bytes (kept_bytes (text_kind_of varying most) (BasicText text)) (more_bases ib i + data_place e names i) m)) j varying most (λ i below at'. text_writes ib index k n i varying most text below at' t b m len held) at;
-      };
+      texts = more_text_stand ib o;
       arrays = λ j type b bs at. array_place ib o j type b bs at;
       text_arrays = λ j varying most b bs at. text_array_place ib o j varying most b bs at;
       array_names = λ j type b bs at. named_place ib o serial j type b bs at;

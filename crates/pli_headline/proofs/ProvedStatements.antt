@@ -18,7 +18,7 @@ use Rattle.pli_coding.specs.Statements.{owner_of_unit, unit_environment, number_
 use Rattle.pli_coding.specs.Temporaries.{number_words, bit_words, reference_words, text_words}
 use Rattle.pli_coding.specs.Images.{place_of_head, place_of_unit, blocks_in, blocks_among}
 use Rattle.pli_coding.specs.Linking.{Links}
-use Rattle.pli_headline.specs.ProvedSoFar.{Names, names_in, types_in, IsShallow, AreDeclaring, bytes_in, inner_bytes, Types, OuterBlock, main_labels, main_outer, IsProvedStatement, AreProvedStatements, JumpsAround, AllJumpAround, DeclaresScalars, DeclareScalars, is_number, CallsAmong, AllCallAmong}
+use Rattle.pli_headline.specs.ProvedSoFar.{Names, names_in, types_in, unit_declares, IsShallow, AreDeclaring, bytes_of, bytes_in, inner_bytes, Types, OuterBlock, main_labels, main_outer, IsProvedStatement, AreProvedStatements, JumpsAround, AllJumpAround, DeclaresScalars, DeclareScalars, is_number, CallsAmong, AllCallAmong}
 use Rattle.pli_meaning.specs.DeclaredShapes.{variables_of_block}
 use Rattle.pli_headline.proofs.Statements.{owner_level, IsOwned, known_in, Standing, Block, Does, EachDoes, null_does, IsEndMarkedOnce}
 use Rattle.pli_headline.proofs.Ifs.{if_does, if_else_does}
@@ -312,7 +312,7 @@ mutual
       let shallow : e.level < 100 = omega (arith, next, deep) in
       let own' : OuterBlock = record { level = e.level; number = e.block; labels = bl.labels } in
       let words = max 0 (stmts_words body) in
-      let fits = room_frame small filled bl.stack.free (length bl.depths) words (all_inner_words body) (32 * length vars) (inner_bytes e.program body) e.level shallow space in
+      let fits = room_frame small filled bl.stack.free (length bl.depths) words (all_inner_words body) (bytes_of vars) (inner_bytes e.program body) e.level shallow space in
       let inner = inner_of bl words shallow (omega (arith, fits)) in
       let here : (more' : ℕ) → Around = λ more'. inner_around e.program more' head.line in
       let most = le-max_right 0 (stmts_words body) in
@@ -328,11 +328,11 @@ mutual
       let high : AllJumpAround head.number head.level all e.blocks (main_outer procedure e.program.procedures) ib.outer (labels_in body ++ []) body = subst (λ ls. AllJumpAround head.number head.level all e.blocks (main_outer procedure e.program.procedures) ib.outer ls body) (sym (append-nil (labels_in body))) around' in
       listed ib (here more') body
       (each_does (within (labels_in body) ib) links code (standing_within (labels_in body) (standing_inside inner t0 head.number head.level next sized routines)) (here more') refl (inner_labels_stand named head.number head.level next deep (known (place_of_head head) (inl refl))) body are high (omega (arith, most))
-      (room_bare small filled bl.stack.free (length bl.depths) words (all_inner_words body) (32 * length vars) (inner_bytes e.program body) e.level head.level shallow next deeper space)
+      (room_bare small filled bl.stack.free (length bl.depths) words (all_inner_words body) (bytes_of vars) (inner_bytes e.program body) e.level head.level shallow next deeper space)
       bare.1 (inner_entering e.program more' head.line) (omega (arith, least, step)) (λ b h. known b (inr h)) calls
       (record { narrows = ways.narrows; calls = ways.calls; signals = ways.signals; tells = ways.tells; makes = λ same' u at k. let no : true ≡ false = sym same' ∙ other_level head.level e.level next in absurd (cc no); narrow = omega (arith, fits); ends = λ may' other. inr (ways.ends may' other); mains = more_main procedure (main_labels e.program.procedures) head.level head.number (labels_in body) [] ib.outer (inr ways.mains) }))))
       (let are' : AreDeclaring vars = bare.0 in
-      let few = room_few small filled bl.stack.free (length bl.depths) (words + all_inner_words body) (32 * length vars + inner_bytes e.program body) e.level space in
+      let few = room_few small filled bl.stack.free (length bl.depths) (words + all_inner_words body) (bytes_of vars + inner_bytes e.program body) e.level space in
       let are : AreProvedStatements (names_in block types head vars) (types_in types vars) body = subst (λ p. AreProvedStatements (names_in block types head (variables_of_block p head.number)) (types_in types (variables_of_block p head.number)) body) bl.named is.1.1 in
       let around' : AllJumpAround head.number head.level all e.blocks (main_outer procedure e.program.procedures) (own' ∷ bl.outer) (labels_in body) body = jumps.1 in
       let makes = λ (t0 : ℕ → ℕ). inner_makes bl inner t0 head next routines.filled routines.known are' deep (let place = inner.place in omega (arith, fits, shallow)) (omega (arith, few)) in
@@ -355,9 +355,9 @@ mutual
       subst (λ tk. Does mb links code (suc more') (stmts_code (in_frame head.number head.level e) tk body) (M.list (here more') body)) taken
       (listed mb (here more') body
       (each_does (within (labels_in body) mb) links code (standing_within (labels_in body) standing) (here more') refl {bound = bound} (inner_labels_stand named head.number head.level next deep (known (place_of_head head) (inl refl))) body are high (omega (arith, most, w, ap (λ (tk : Taken). tk.words) taken))
-      (subst (λ d. Room small (filled + 32 * length vars) mb.stack.free d (all_inner_words body) (inner_bytes e.program body) head.level) (sym (ap (λ (ds : List ℕ). length ds) depths))
-      (subst (λ fr. Room small (filled + 32 * length vars) fr (suc (length bl.depths)) (all_inner_words body) (inner_bytes e.program body) head.level) (sym free')
-      (room_inner small filled bl.stack.free (length bl.depths) words (all_inner_words body) (32 * length vars) (inner_bytes e.program body) e.level head.level shallow next deeper space)))
+      (subst (λ d. Room small (filled + bytes_of vars) mb.stack.free d (all_inner_words body) (inner_bytes e.program body) head.level) (sym (ap (λ (ds : List ℕ). length ds) depths))
+      (subst (λ fr. Room small (filled + bytes_of vars) fr (suc (length bl.depths)) (all_inner_words body) (inner_bytes e.program body) head.level) (sym free')
+      (room_inner small filled bl.stack.free (length bl.depths) words (all_inner_words body) (bytes_of vars) (inner_bytes e.program body) e.level head.level shallow next deeper space)))
       bare.1 (inner_entering e.program more' head.line) (omega (arith, least, step)) (λ b h. known b (inr h)) calls
       (record {
         narrows = narrows_in head vars (omega (arith, next)) ways.narrows;
@@ -391,7 +391,7 @@ mutual
   statement_does bl links code routines around same named (Y.Signal C.Error line) is jumps room space bare entering least known calls ways = signal_does bl links code routines.raises around C.Error line refl is
   statement_does bl links code routines around same named (Y.OnSystem condition line) is jumps room space bare entering least known calls ways = on_system_does bl links code around condition line is
   statement_does bl links code routines around same named (Y.Revert condition line) is jumps room space bare entering least known calls ways = revert_does bl links code around condition line is
-  statement_does {e} bl links code routines around same named (Y.OnUnit condition (Y.BlockOf head body) line) is jumps room space bare entering least known calls ways =
+  statement_does {e} {block} {types} bl links code routines around same named (Y.OnUnit condition (Y.BlockOf head body) line) is jumps room space bare entering least known calls ways =
       on_unit_does bl links code around condition head body line jumps.0 is.0 is.1.1.0
       (λ i later l. ways.makes jumps.0 (Y.BlockOf head body) (4 * i) (record {
         head = head;
@@ -400,9 +400,10 @@ mutual
         what = is.1.0;
         level = jumps.1.0;
         line = is.1.1.1.0;
-        proved = is.1.1.1.1;
+        proved = subst (λ p. AreProvedStatements (names_in block types head (unit_declares p head head.kind)) (types_in types (unit_declares p head head.kind)) body) bl.named is.1.1.1.1;
         jumps = jumps.1.1.1;
-        bare = bare;
+        declares = bare.0;
+        inside = bare.1;
         calls = calls.0;
         few = calls.1.0;
         once = named.once;

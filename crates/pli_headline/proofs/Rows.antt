@@ -643,7 +643,7 @@ unit_program =
         );
         jumps = ((refl, (refl, (tt, (tt, tt)))), (tt, ((refl, (refl, (refl, (tt, (tt, tt))))), (tt, tt))));
         calls = (((tt, tt), (omega arith, tt)), (omega arith, (((tt, (tt, tt)), (omega arith, refl)), (omega arith, tt))));
-        inside = ((tt, (tt, tt)), (tt, ((refl, (tt, (tt, tt))), (tt, tt))));
+        inside = ((tt, (tt, tt)), (tt, ((tt, (tt, (tt, tt))), (tt, tt))));
         few = omega arith;
       };
       inner = tt;
@@ -689,7 +689,7 @@ leaving_program =
         statements = ((refl, (tt, (lit< tt, (lit< tt, ((refl, lit< tt), tt))))), (lit< tt, (lit< tt, tt)));
         jumps = ((refl, (refl, (refl, (tt, tt)))), (tt, (tt, tt)));
         calls = ((((omega arith, refl), tt), (omega arith, refl)), (omega arith, (tt, tt)));
-        inside = ((refl, (tt, tt)), (tt, (tt, tt)));
+        inside = ((tt, (tt, tt)), (tt, (tt, tt)));
         few = omega arith;
       };
       inner = (
@@ -749,7 +749,7 @@ away_program =
           (tt, ((refl, (refl, (refl, (inr (inl (refl, (refl, (refl, refl)))), tt)))), (tt, tt))),
         );
         calls = (((tt, tt), (omega arith, tt)), (omega arith, (((tt, tt), (omega arith, refl)), (omega arith, tt))));
-        inside = ((tt, (tt, tt)), (tt, ((refl, (tt, tt)), (tt, tt))));
+        inside = ((tt, (tt, tt)), (tt, ((tt, (tt, tt)), (tt, tt))));
         few = omega arith;
       };
       inner = tt;

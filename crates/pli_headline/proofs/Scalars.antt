@@ -87,12 +87,7 @@ element_numeric (Y.FixedLeaf p) is = tt
 element_numeric Y.BitLeaf is = tt
 element_numeric _ is = absurd is
 
--- an element of numbers is a scalar, and a scalar that holds a number may be an element of numbers
-pub element_scalar : (type : Y.LeafType) → IsElementType type → IsScalar type
-element_scalar (Y.FixedLeaf p) is = is
-element_scalar Y.BitLeaf is = is
-element_scalar _ is = absurd is
-
+-- a scalar that holds a number may be an element of numbers
 pub scalar_element : (type : Y.LeafType) → IsScalar type → IsNumeric type → IsElementType type
 scalar_element (Y.FixedLeaf p) is numeric = is
 scalar_element Y.BitLeaf is numeric = is
@@ -105,6 +100,10 @@ by_content P number text Y.BitLeaf is = number Y.BitLeaf is
 by_content P number text (Y.CharacterLeaf (Y.ConstantExtent (pos n))) is = text false n is.0 is.1
 by_content P number text (Y.VaryingLeaf (Y.ConstantExtent (pos n))) is = text true n is.0 is.1
 by_content P number text _ is = absurd is
+
+pub text_limit : (varying' : Bool) (most : ℕ) → IsScalar (text_leaf varying' most) → most ≤ 1024
+text_limit false most is = is.1
+text_limit true most is = is.1
 
 -- ---- values
 

@@ -10,7 +10,7 @@ use Rattle.pli_serving.specs.InitialValues.{initial_values}
 use Rattle.pli_coding.specs.Assembly.{Datum, ConstantBytes, DataPlace}
 use Rattle.pli_coding.specs.StaticData.{PlacedDatum}
 use Rattle.pli_coding.specs.Linking.{Links, place_of}
-use Rattle.pli_headline.specs.ProvedSoFar.{Kind, alone, IsElementType, AreConstants}
+use Rattle.pli_headline.specs.ProvedSoFar.{Kind, alone, IsScalar, AreConstants}
 use Rattle.pli_headline.proofs.Engine.{Base, call_at}
 use Rattle.pli_headline.proofs.Bodies.{Ground}
 use Rattle.pli_headline.proofs.DataNamed.{IsPlaced, BytesStand}
@@ -29,12 +29,12 @@ pub record Begins (links : Links) (code : List Instr) (g : Ground) (k : Kind) (i
 -- where the links have them, in every memory of a ground
 pub record ConstantsStand (links : Links) (code : List Instr) (g : Ground) : Type 0 where
   pub stand : (bytes : List ℕ) → IsPlaced (ConstantBytes bytes) links.data' → (t : ℕ → ℕ) (b : Base) (m : List ℕ) → g.memory t b m → BytesStand code m (place_of links (DataPlace (ConstantBytes bytes))) bytes
-  pub begin : (type : Y.LeafType) (items : List T.InitialItem) → IsElementType type → AreConstants type items → IsPlacedIf (start_datum items) links.data' → Begins links code g (alone type) items
+  pub begin : (type : Y.LeafType) (items : List T.InitialItem) → IsScalar type → AreConstants type items → IsPlacedIf (start_datum items) links.data' → Begins links code g (alone type) items
 
 -- they stand in the first memory
 pub record DataStand (links : Links) (code : List Instr) (first : List ℕ) : Type 0 where
   pub bytes : (bytes : List ℕ) → IsPlaced (ConstantBytes bytes) links.data' → BytesStand code first (place_of links (DataPlace (ConstantBytes bytes))) bytes
-  pub lists : (type : Y.LeafType) (items : List T.InitialItem) → IsElementType type → AreConstants type items → IsPlacedIf (start_datum items) links.data' → Reads links code first (alone type) items
+  pub lists : (type : Y.LeafType) (items : List T.InitialItem) → IsScalar type → AreConstants type items → IsPlacedIf (start_datum items) links.data' → Reads links code first (alone type) items
 
 -- code and static data stay as they are in the first memory
 abbrev pub KeepsStatics : Ground → (first : List ℕ) → Type 0

@@ -25,8 +25,9 @@ use Rattle.pli_coding.specs.Allocating.{act_code}
 use Rattle.pli_coding.specs.Statements.{if_met, while_met, once_code, in_turns, before_turns, limit_place, step_place, start_place, start_code, limit_code, step_code, start_loaded, started_code, count_begun, limit_tested, limit_kept, while_kept, stepped_code, turn_of, turns_code, words_behind_limit, words_behind_condition, words_back, signal_code, unwound_to, returned_by, goto_outer, goto_code, marked, stmt_code, stmts_code, stmts_words, block_words, begin_environment, begin_code, condition_given, unit_established, unit_left, unit_variables, owner_of_unit, unit_words, unit_mark}
 use Rattle.pli_coding.specs.Locating.{own_place, frame_found, frame_in, table_number}
 use Rattle.rv_meaning.specs.declared.instr.Register.{Register}
-use Rattle.pli_headline.proofs.DeclaredNames.{named_in, has_in, by_element}
-use Rattle.pli_headline.specs.ProvedSoFar.{Names, Types, IsAssigned, IsProvedNumber, IsProvedNumberIf, IsProvedBit, IsProvedBitIf, IsProvedStatement, AreProvedStatements, DeclaresScalars, DeclareScalars, DeclaresNothing, IsProvedStart, names_in, types_in, AreDeclaring, IsElementType, plain_variable}
+use Rattle.pli_headline.proofs.DeclaredNames.{named_in, has_in}
+use Rattle.pli_headline.proofs.Scalars.{by_held, character, varying}
+use Rattle.pli_headline.specs.ProvedSoFar.{Names, Types, IsAssigned, IsProvedNumber, IsProvedNumberIf, IsProvedBit, IsProvedBitIf, IsProvedStatement, AreProvedStatements, DeclaresScalars, DeclareScalars, IsProvedStart, names_in, types_in, AreDeclaring, plain_variable, unit_declares}
 use Rattle.pli_headline.proofs.Stands.{Stand, stands_of, end_of, inner_stands, all_stands}
 use Rattle.pli_headline.proofs.SymbolsMarked.{symbols_marked, Marks, both_mark, behind, before, either, constant_none, load_none, store_none, plus_none, overflow_none, act_none, fitted_none}
 use Rattle.pli_headline.proofs.PutMarks.{pairs_none, skip_none}
@@ -126,8 +127,8 @@ given_none : (r : Register) (start : Option Datum) → Marks (initial_given r st
 given_none r None = refl
 given_none r (Some d) = refl
 
-one_none : (e : Environment) (place : ℕ) (type : Y.LeafType) (items : List T.InitialItem) → IsElementType type → Marks (constant_made e place (plain_variable type items)) []
-one_none e place type items element =
+one_none : (e : Environment) (place : ℕ) (type : Y.LeafType) (items : List T.InitialItem) → Marks (constant_made e place (plain_variable type items)) []
+one_none e place type items =
     let d = plain_variable type items in
     let own = own_place e a0 (pos place) in
     let named = number a1 (table_number e d) in
@@ -159,7 +160,8 @@ declared_none e line index (d ∷ ds) are =
     let rest = variables_made e line (suc index) ds in
     let items = are.0.items in
     let T : Y.DeclaredVariable → Type 0 = λ u. Marks ((if is_automatic u.class then automatic_made e line place u else []) ++ rest) [] in
-    subst T (sym are.0.is) (by_element (λ t. T (plain_variable t items)) (λ p element. behind (constant_made e place (plain_variable (Y.FixedLeaf p) items)) rest [] (one_none e place (Y.FixedLeaf p) items element) (declared_none e line (suc index) ds are.1)) (behind (constant_made e place (plain_variable Y.BitLeaf items)) rest [] (one_none e place Y.BitLeaf items tt) (declared_none e line (suc index) ds are.1)) are.0.type are.0.element)
+    let here : (type : Y.LeafType) → Marks (constant_made e place (plain_variable type items) ++ rest) [] = λ type. behind (constant_made e place (plain_variable type items)) rest [] (one_none e place type items) (declared_none e line (suc index) ds are.1) in
+    subst T (sym are.0.is) (by_held (λ t. T (plain_variable t items)) (λ p. here (Y.FixedLeaf p)) (here Y.BitLeaf) (λ n few. here (character n)) (λ n few. here (varying n)) are.0.type are.0.held)
 
 begin_marks : (e : Environment) (head : Y.BlockHead) (words : ℕ) (c : Code) (ss : List Symbol) → AreDeclaring (variables_of_block e.program head.number) → Marks c ss → Marks (begin_code e head words c) ss
 begin_marks e head words c ss declaring h =
@@ -270,12 +272,19 @@ unit_left_none words =
     (behind (registers_restored 0 7) ((up ++ below) ++ last) [] refl
     (behind (up ++ below) last [] (behind up below [] (plus_none stack_register frame_register z) refl) refl))
 
+-- its variables are declared
+unit_has : (e : Environment) (block : Names) (types : Types) (head : Y.BlockHead) (kind : Y.BlockKind) → block.program ≡ e.program → AreDeclaring (unit_declares e.program head kind) → HasTypes e block types → HasTypes e (names_in block types head (unit_declares block.program head kind)) (types_in types (unit_declares block.program head kind))
+unit_has e block types head Y.SimpleUnit named are has = has
+unit_has e block types head Y.UnitBlock named are has = has_in e block types head named are has
+unit_has e block types head Y.ProcedureBlock named are has = has_in e block types head named are has
+unit_has e block types head Y.BeginBlock named are has = has_in e block types head named are has
+
 -- a unit marks what its statements mark, and its end where it is a block
-made_none : (e : Environment) (head : Y.BlockHead) (kind : Y.BlockKind) → DeclaresNothing e.program head kind → e.block ≡ head.number → Marks (unit_variables e head kind) []
-made_none e head Y.SimpleUnit none same = refl
-made_none e head Y.UnitBlock none same = ap (λ n. symbols_marked (variables_made e head.line 0 (variables_of_block e.program n))) same ∙ ap (λ ds. symbols_marked (variables_made e head.line 0 ds)) none
-made_none e head Y.ProcedureBlock none same = ap (λ n. symbols_marked (variables_made e head.line 0 (variables_of_block e.program n))) same ∙ ap (λ ds. symbols_marked (variables_made e head.line 0 ds)) none
-made_none e head Y.BeginBlock none same = ap (λ n. symbols_marked (variables_made e head.line 0 (variables_of_block e.program n))) same ∙ ap (λ ds. symbols_marked (variables_made e head.line 0 ds)) none
+made_none : (e : Environment) (head : Y.BlockHead) (kind : Y.BlockKind) → AreDeclaring (unit_declares e.program head kind) → e.block ≡ head.number → Marks (unit_variables e head kind) []
+made_none e head Y.SimpleUnit are same = refl
+made_none e head Y.UnitBlock are same = ap (λ n. symbols_marked (variables_made e head.line 0 (variables_of_block e.program n))) same ∙ declared_none e head.line 0 (variables_of_block e.program head.number) are
+made_none e head Y.ProcedureBlock are same = ap (λ n. symbols_marked (variables_made e head.line 0 (variables_of_block e.program n))) same ∙ declared_none e head.line 0 (variables_of_block e.program head.number) are
+made_none e head Y.BeginBlock are same = ap (λ n. symbols_marked (variables_made e head.line 0 (variables_of_block e.program n))) same ∙ declared_none e head.line 0 (variables_of_block e.program head.number) are
 
 mark_marks : (head : Y.BlockHead) (kind : Y.BlockKind) → Marks (unit_mark head kind) (places_of (end_of head kind))
 mark_marks head Y.SimpleUnit = refl
@@ -283,8 +292,8 @@ mark_marks head Y.UnitBlock = refl
 mark_marks head Y.ProcedureBlock = refl
 mark_marks head Y.BeginBlock = refl
 
-unit_marks : (e : Environment) (head : Y.BlockHead) (body : Y.Stmts) → DeclaresNothing e.program head head.kind → Marks (stmts_code (owned_by (owner_of_unit head head.kind) (in_frame head.number head.level e)) none_taken body) (places_of (all_stands head.number body)) → Marks (unit_by e head body head.kind head.level) (places_of (all_stands head.number body ++ end_of head head.kind))
-unit_marks e head body none marks =
+unit_marks : (e : Environment) (head : Y.BlockHead) (body : Y.Stmts) → AreDeclaring (unit_declares e.program head head.kind) → Marks (stmts_code (owned_by (owner_of_unit head head.kind) (in_frame head.number head.level e)) none_taken body) (places_of (all_stands head.number body)) → Marks (unit_by e head body head.kind head.level) (places_of (all_stands head.number body ++ end_of head head.kind))
+unit_marks e head body are marks =
     let e' = owned_by (owner_of_unit head head.kind) (in_frame head.number head.level e) in
     let c = stmts_code e' none_taken body in
     let words = unit_words e head head.kind (stmts_words body) in
@@ -299,7 +308,7 @@ unit_marks e head body none marks =
     let both : Marks (c ++ (mark ++ left')) (ss ++ ends) = both_mark c (mark ++ left') ss ends marks (before mark left' ends (mark_marks head head.kind) (unit_left_none words)) in
     behind frame (enter ++ (made ++ (act ++ (c ++ (mark ++ left'))))) (ss ++ ends) (called_begun_none words head.level)
     (behind enter (made ++ (act ++ (c ++ (mark ++ left')))) (ss ++ ends) (behind (number a2 head.line) (service 4) [] (constant_none a2 (pos head.line)) refl)
-    (behind made (act ++ (c ++ (mark ++ left'))) (ss ++ ends) (made_none e' head head.kind none refl)
+    (behind made (act ++ (c ++ (mark ++ left'))) (ss ++ ends) (made_none e' head head.kind are refl)
     (behind act (c ++ (mark ++ left')) (ss ++ ends) (act_none head.line) both)))
     ∙ sym (places_append (all_stands head.number body) (end_of head head.kind))
 
@@ -401,7 +410,9 @@ mutual
       let e' = owned_by (owner_of_unit head head.kind) (in_frame head.number head.level e) in
       let unit = unit_by e head body head.kind head.level in
       behind (act_code line) (unit_established condition unit) (places_of (all_stands head.number body ++ end_of head head.kind)) (act_none line)
-      (unit_marks e head body bare.0 (statements_mark e' none_taken block types body named has is.1.1.1.1 bare.1))
+      (unit_marks e head body bare.0
+      (statements_mark e' none_taken (names_in block types head (unit_declares block.program head head.kind)) (types_in types (unit_declares block.program head head.kind)) body
+      (named_in block types head (unit_declares block.program head head.kind) named) (unit_has e block types head head.kind named bare.0 has) is.1.1.1.1 bare.1))
   statement_marks e t block types (Y.Put None pairs line) named has is bare =
       behind (act_code line) (put_pairs e t pairs) [] (act_none line) (pairs_none e t block types pairs has is.0)
   statement_marks e t block types (Y.Put (Some n) pairs line) named has is bare =

@@ -1,5 +1,5 @@
--- SIGNAL of AREA while a unit of the program may be in force: the unit is entered, runs and goes back behind SIGNAL, or the limit on active
--- blocks ends the run; where none is in force the system's action ends it.
+-- SIGNAL of AREA while a unit of the program may be in force: the unit is entered, its variables are made, it runs and goes back behind
+-- SIGNAL, or the limit on active blocks ends the run; where none is in force the system's action ends it.
 use Rattle.std.proofs.Common.{◌≡◌, ℕ, zero, suc, ◌+◌, ◌*◌, ◌^◌, ◌<◌, ◌≤◌, List, [], ◌∷◌, ◌++◌, length, None, Option, Some, true, false, refl, sym, ap, ◌∙◌, subst, arith, lit<, inl}
 use Rattle.std.proofs.lemmas.Bool.{eq-eqb, ltb-true}
 use Rattle.std.specs.Prelude.{cond, nat_lt, ◌==◌}
@@ -25,12 +25,11 @@ use Rattle.pli_coding.specs.Instructions.{small}
 use Rattle.rv_meaning.specs.declared.instr.Instr.TheVariants as I
 use Rattle.pli_coding.specs.Arithmetic.{raised}
 use Rattle.pli_coding.specs.Allocating.{act_code}
-use Rattle.pli_coding.specs.Entries.{registers_restored, frame_begun, frame_ended, entered_without_texts}
+use Rattle.pli_coding.specs.Entries.{registers_restored, frame_begun, frame_ended, entered_without_texts, variables_made}
 use Rattle.pli_coding.specs.Environments.{BlockOwner, Environment, none_taken}
-use Rattle.pli_coding.specs.Frames.{fixed_size}
 use Rattle.pli_coding.specs.Statements.{owner_of_unit, unit_environment, unit_mark, unit_left, stmt_code, stmts_code}
 use Rattle.pli_coding.specs.Linking.{Links, place_of}
-use Rattle.pli_headline.specs.ProvedSoFar.{Types, Names}
+use Rattle.pli_headline.specs.ProvedSoFar.{Types, Names, unit_declares}
 use Rattle.pli_headline.proofs.Engine.{Base, address, most_code}
 use Rattle.pli_headline.proofs.Linking.{size_append}
 use Rattle.pli_headline.proofs.Items.{Linked, At}
@@ -42,35 +41,52 @@ use Rattle.pli_headline.proofs.Entered.{atop, AreBoth, both_in_force}
 use Rattle.pli_headline.proofs.Calls.{Serving}
 use Rattle.pli_headline.proofs.Raising.{Routines, with_act}
 use Rattle.pli_headline.proofs.Operators.{raised_alone}
-use Rattle.pli_headline.proofs.Acts.{acted, act_to, act_piece}
-use Rattle.pli_headline.proofs.Statements.{owner_level, Block, AllHold, counted_all, IsEndMarkedOnce, Enough, Does}
+use Rattle.pli_headline.proofs.Acts.{act_to, act_piece}
+use Rattle.pli_headline.proofs.Statements.{owner_level, Block, IsKnown, AllHold, counted_all, IsEndMarkedOnce, Enough, Does}
 use Rattle.pli_headline.proofs.CalledJumps.{ending_closed, comes_called}
 use Rattle.pli_headline.proofs.Owing.{owing, owing_closed, comes_owing, done_owing}
 use Rattle.pli_headline.proofs.MainOutlets.{HasMain, main_of, main_enclosing, main_seen, main_outlet, owed_outlet}
 use Rattle.pli_headline.proofs.SavedRegisters.{held_again}
 use Rattle.pli_headline.proofs.BeginEntered.{ended_services}
-use Rattle.pli_headline.proofs.BeginMeant.{Entering, inner_around, inner_part, entered_by, raised_nested, raised_all, ended_input, left_all, newest_kind}
+use Rattle.pli_headline.proofs.BeginMeant.{Entering, inner_around, entered_by, raised_nested, raised_all, ended_input, left_all, newest_kind}
 use Rattle.pli_headline.proofs.CallMeant.{called_part}
-use Rattle.pli_headline.proofs.CallRuns.{called_direct}
+use Rattle.pli_headline.proofs.CallRuns.{called_direct, acted_does}
+use Rattle.pli_headline.proofs.Declares.{Makes, made_block, declares_from}
+use Rattle.pli_headline.proofs.DeclaredBegins.{ended_does}
+use Rattle.pli_headline.proofs.StandingBytes.{ConstantsStand}
 use Rattle.pli_headline.proofs.CalledFrames.{Callee, called_block_as}
 use Rattle.pli_headline.proofs.CalledLeft.{ending_ground}
 use Rattle.pli_headline.proofs.CalledBegun.{called_frame, entry_with}
 use Rattle.pli_headline.proofs.Begins.{by_test}
-use Rattle.pli_headline.proofs.UnitMeant.{IsBareUnit, unit_entry, unit_part, unit_meant, past_limit}
+use Rattle.pli_headline.proofs.UnitMeant.{IsUnitKind, unit_entry, unit_part, unit_flow, unit_meant, past_limit}
 use Rattle.pli_headline.proofs.UnitRaised.{waiting_services, unit_begins}
 use Rattle.pli_headline.proofs.UnitEntered.{unit_activation, unit_services, unit_entered, line_given, entry_limited}
 use Rattle.pli_headline.proofs.UnitLeft.{jump_on, unit_left_piece}
-use Rattle.pli_headline.proofs.Reach.{Family, Aims, Comes, Closed, before_closed, comes_on, onward}
+use Rattle.pli_headline.proofs.Reach.{Family, Aims, Comes, Closed, before_closed, comes_on, onward, reach_with}
 use Rattle.pli_headline.proofs.Scalars.{Values}
 use Rattle.pli_headline.proofs.Storages.{storage}
 
 -- ---- units that may be raised
 
--- the code of a unit without variables, with the mark of its end
-abbrev pub unit_with : (words line : ℕ) → (statements mark : Code) → Code
-unit_with words line statements mark =
+-- the code of a unit, with that of its variables and the mark of its end
+abbrev pub unit_with : (words line : ℕ) → (made statements mark : Code) → Code
+unit_with words line made statements mark =
     frame_begun words 1 0 true
-    ++ (entered_without_texts 2 line ++ (act_code line ++ (statements ++ (mark ++ unit_left words))))
+    ++ (entered_without_texts 2 line ++ ((made ++ (act_code line ++ statements)) ++ (mark ++ unit_left words)))
+
+-- its variables are made
+abbrev pub unit_made : Environment → Y.BlockHead → Y.BlockKind → Code
+unit_made e head kind = variables_made (unit_environment head e) head.line 0 (unit_declares e.program head kind)
+
+-- its block, before they are
+abbrev pub unit_block : {e : Environment} {block : Names} {types : Types} (bl : Block e block types) (callee : Callee bl) (kind : S.BlockKind) (back : Base → ℕ) (h0 t0 : ℕ → ℕ) (head : Y.BlockHead) → (next : head.level ≡ 1) (main : ℕ) (mains : List Label) (has : HasMain main mains e.level e.block bl.labels bl.outer) → Block (unit_environment head e) block types
+unit_block bl callee kind back h0 t0 head next main mains has =
+    called_block_as bl callee back h0 t0 (owner_of_unit head head.kind) kind head next (main_of main mains) (main_enclosing bl callee back h0 t0 (owner_of_unit head head.kind) head next main mains has) (main_seen bl callee back h0 t0 (owner_of_unit head head.kind) head next main mains has)
+
+-- so many variables are made in it
+abbrev pub UnitMakes : {e : Environment} {block : Names} {types : Types} (bl : Block e block types) (callee : Callee bl) (head : Y.BlockHead) → (next : head.level ≡ 1) (main : ℕ) (mains : List Label) (has : HasMain main mains e.level e.block bl.labels bl.outer) → List Y.DeclaredVariable → Type 0
+UnitMakes bl callee head next main mains has ds =
+    (kind : S.BlockKind) (back : Base → ℕ) (h0 t0 : ℕ → ℕ) → Makes (unit_block bl callee kind back h0 t0 head next main mains has) 0 ds
 
 -- what owns its statements isn't the main procedure
 pub unit_apart : (head : Y.BlockHead) (kind : Y.BlockKind) → head.level ≡ 1 → (number : ℕ) → owner_of_unit head kind ≡ BlockOwner (record { number = number; level = 0 }) → ⊥
@@ -92,21 +108,24 @@ end_placed head Y.UnitBlock l owned once = l.has.0 (eq-eqb head.number head.numb
 end_placed head Y.ProcedureBlock l owned once = l.has.0 (eq-eqb head.number head.number refl) once
 end_placed head Y.BeginBlock l owned once = l.has.0 (eq-eqb head.number head.number refl) once
 
--- its code stands at an offset, there is room for its frame, and its statements do what they mean
+-- its code stands at an offset, there is room for its frame, its variables can be made, and then its statements do what they mean
 pub record Raisable {e : Environment} {block : Names} {types : Types} (bl : Block e block types) (main : ℕ) (mains : List Label) (has : HasMain main mains e.level e.block bl.labels bl.outer) (links : Links) (code : List Instr) (more frame : ℕ) (u : Y.Block) (at : ℕ) : Type 1 where
   pub lowest : frame ≡ bl.base
   pub head : Y.BlockHead
   pub body : Y.Stmts
   pub is : u ≡ Y.BlockOf head body
-  pub bare : IsBareUnit e.program head
+  pub kind : IsUnitKind head.kind
   pub level : head.level ≡ 1
   pub line : head.line < 2 ^ 31
+  pub known : IsKnown (unit_environment head e)
   pub callee : Callee bl
   pub index : ℕ
   pub at_is : at ≡ 4 * index
-  pub later : 10 ≤ index
-  pub linked : Linked links code index (unit_with callee.words head.line (stmts_code (unit_environment head e) none_taken body) (unit_mark head head.kind))
-  pub does : (m : ℕ) → more ≡ suc m → suc (length bl.depths) < most_activations → (kind : S.BlockKind) (back : Base → ℕ) (h0 t0 : ℕ → ℕ) → Does (called_block_as bl callee back h0 t0 (owner_of_unit head head.kind) kind head level (main_of main mains) (main_enclosing bl callee back h0 t0 (owner_of_unit head head.kind) head level main mains has) (main_seen bl callee back h0 t0 (owner_of_unit head head.kind) head level main mains has)) links code (suc m) (stmts_code (unit_environment head e) none_taken body) (M.list (inner_around e.program m head.line) body)
+  pub later : 19 ≤ index
+  pub linked : Linked links code index (unit_with callee.words head.line (unit_made e head head.kind) (stmts_code (unit_environment head e) none_taken body) (unit_mark head head.kind))
+  pub makes : UnitMakes bl callee head level main mains has (unit_declares e.program head head.kind)
+  pub stand : (kind' : S.BlockKind) (back : Base → ℕ) (h0 t0 : ℕ → ℕ) (n : Values) → ConstantsStand links code ((unit_block bl callee kind' back h0 t0 head level main mains has).ground n)
+  pub does : (m : ℕ) → more ≡ suc m → suc (length bl.depths) < most_activations → (kind' : S.BlockKind) (back : Base → ℕ) (h0 t0 : ℕ → ℕ) (serial : ℕ) → Does (made_block (unit_block bl callee kind' back h0 t0 head level main mains has) (unit_declares e.program head head.kind) (makes kind' back h0 t0) serial) links code (suc m) (stmts_code (unit_environment head e) none_taken body) (M.list (inner_around e.program m head.line) body)
 
 -- ---- behind the statements of the unit
 
@@ -158,24 +177,22 @@ unit_piece {e} {block} {types} bl {links} {code} main mains has around more m ca
     let e' = unit_environment head e in
     let mark = unit_mark head head.kind in
     let i0 = can.index in
-    let st = stmts_code e' none_taken body in
+    let vars = unit_declares program head head.kind in
+    let st = act_code head.line ++ stmts_code e' none_taken body in
+    let cs = unit_made e head head.kind ++ st in
     let fb = frame_begun callee.words 1 0 true in
     let ec = entered_without_texts 2 head.line in
-    let ac = act_code head.line in
     let ended = unit_left callee.words in
-    let lf = front_of fb (ec ++ (ac ++ (st ++ (mark ++ ended)))) can.linked in
-    let l1 = back_of fb (ec ++ (ac ++ (st ++ (mark ++ ended)))) can.linked in
-    let le = front_of ec (ac ++ (st ++ (mark ++ ended))) l1 in
-    let l2 = back_of ec (ac ++ (st ++ (mark ++ ended))) l1 in
-    let la = front_of ac (st ++ (mark ++ ended)) l2 in
-    let l3 = back_of ac (st ++ (mark ++ ended)) l2 in
-    let ls = front_of st (mark ++ ended) l3 in
-    let l4 = back_of st (mark ++ ended) l3 in
+    let lf = front_of fb (ec ++ (cs ++ (mark ++ ended))) can.linked in
+    let l1 = back_of fb (ec ++ (cs ++ (mark ++ ended))) can.linked in
+    let le = front_of ec (cs ++ (mark ++ ended)) l1 in
+    let l2 = back_of ec (cs ++ (mark ++ ended)) l1 in
+    let ls = front_of cs (mark ++ ended) l2 in
+    let l4 = back_of cs (mark ++ ended) l2 in
     let lm = front_of mark ended l4 in
     let i1 = i0 + size_of fb in
     let i2 = i1 + size_of ec in
-    let i3 = i2 + size_of ac in
-    let i4 = i3 + size_of st in
+    let i4 = i2 + size_of cs in
     let zero' = mark_size head head.kind in
     let ll = linked_at i4 ended (omega (arith, zero')) (back_of mark ended l4) in
     let restored = registers_restored 0 7 in
@@ -196,20 +213,33 @@ unit_piece {e} {block} {types} bl {links} {code} main mains has around more m ca
     let direct : head.level ≡ suc (first_level (levels_of s.activations)) → 1 ≡ length s.activations = λ inside. called_direct bl head.level (levels_of s.activations) (length s.activations) all.entered lengths level inside in
     let ordinary : IsOrdinary oncode x = record { kind = λ further. ap (λ q. cond q further oncode) (sym other); units = tt } in
     let last : Option BasicValue → Meaning (Unit {0}) = λ r. give tt in
-    let behind' : Unit {0} → Meaning (Unit {0}) = λ r. M.end_reached here false in
-    let statements : Unit {0} → Meaning (Unit {0}) = λ r. inner_part program m head body in
+    let ub = unit_block bl callee (S.OnUnitBlock oncode (4 * resume)) back h t head level main mains has in
+    let makes = can.makes (S.OnUnitBlock oncode (4 * resume)) back h t in
+    let flow = unit_flow program m head body head.kind k s2 in
     let leave = leave_piece bl callee k i4 resume oncode h t closed (omega (arith, near, small2)) (omega (arith, room, n1, n2)) ll goal in
     let closed0 = owing_closed code debt aims in
     let closed1 = ending_closed newest_ended (before_closed k last closed0) in
-    subst (Comes code 19 f v1 (owing code debt aims)) (sym (unit_meant program around m head body oncode k a s enter can.bare parent few))
+    subst (Comes code 19 f v1 (owing code debt aims)) (sym (unit_meant program around m head body oncode k a s enter can.kind parent few))
     (onward closed0 (called_frame bl callee back (λ b. let valid = b.valid.1 in omega (arith, valid, near, small2)) (4 * resume) n 19 f (omega (arith, behind)) lf at)
     (λ f2 at2.
-    onward closed0 (unit_entered bl callee back (4 * resume) n (19 + size_of fb) f2 w head.line can.line refl few' le at2)
+    onward closed0 (reach_with i2 (omega (arith, behind)) (unit_entered bl callee back (4 * resume) n (19 + size_of fb) f2 w head.line can.line refl few' le at2))
     (λ f3 at3.
-    comes_on k (left true newest_ended (called_part program m head body k s2)) last
-    (comes_called newest_ended (called_part program m head body k s2)
-    (comes_on k (act counted k s2) statements
-    (act_to (before_closed k statements closed1) (19 + size_of fb + size_of ec) i3 f3 head.line head.line k can.line (omega (arith, room, long)) la
+    comes_on k (left true newest_ended flow) last
+    (comes_called newest_ended flow
+    (declares_from closed1 here head.line (suc m) k st (called_part program m head body) vars ub can.known makes n f3 head.line (can.stand (S.OnUnitBlock oncode (4 * resume)) back h t) refl
+    (λ label among once. owed_outlet closed (atop callee.at (S.OnUnitBlock oncode (4 * resume)) bl.frames) (main_enclosing bl callee back h t (owner_of_unit head head.kind) head level main mains has) label (main_outlet bl callee back h (owner_of_unit head head.kind) (S.OnUnitBlock oncode (4 * resume)) head level main mains has links k turns0 start0 h t acts0 v2.world.acts aims.jumped aims.returned ready label among once (omega (arith, less))), tt)
+    (λ deep' owned once. let no : true ≡ false = deep' in absurd (cc no), tt)
+    (λ inner owned once. record {
+      at = i4;
+      place = end_placed head head.kind lm owned once;
+      near = omega (arith, room, small2);
+      later = omega (arith, behind);
+      leaves = λ s5 v5 line5 n5 h5 t5 f5 free5 serving5 all5 at5. record { to = leave s5 v5 line5 n5 h5 t5 f5 free5 serving5 all5 at5 };
+    })
+    (omega (arith, enough)) (omega (arith, behind))
+    (λ number' owned once. absurd (unit_apart head head.kind level number' owned))
+    (acted_does (made_block ub vars makes s2.serials) head.line can.line (ended_does (made_block ub vars makes s2.serials) here (can.does m next deep (S.OnUnitBlock oncode (4 * resume)) back h t s2.serials)))
+    ls
     (record {
       world = serving.world;
       running = serving.running;
@@ -220,29 +250,9 @@ unit_piece {e} {block} {types} bl {links} {code} main mains has around more m ca
       nested = raised_nested head entry s v.activations x small' some (omega (arith, lengths)) (omega arith) (omega (arith, lengths)) direct ordinary serving.nested;
       waiting = refl;
     })
+    (raised_all head entry s (storage v) x small' some (omega arith) (omega (arith, lengths)) direct ordinary refl (inl callee.outer) serving.nested all)
     at3
-    (λ f4 serving4 at4.
-    let s3 = with_world (counted s2.world) s2 in
-    comes_on k (M.list here body k s3) behind'
-    ((can.does m next deep (S.OnUnitBlock oncode (4 * resume)) back h t).does (before_closed k behind' closed1) head.line n f4 k ls serving4
-    (counted_all (counted s2.world) (raised_all head entry s (storage v) x small' some (omega arith) (omega (arith, lengths)) direct ordinary refl (inl callee.outer) serving.nested all))
-    at4
-    (λ s5 v5 line5 n5 h5 t5 f5 serving5 all5 stays5 at5. record { to = record { to = leave s5 v5 line5 n5 h5 t5 f5 (callee.at + fixed_size 1 0) serving5 all5 at5 } })
-    (record {
-      enough = omega (arith, enough);
-      later = omega (arith, behind);
-      jumps = λ label among once. let no : false ≡ true = among in absurd (cc no);
-      outs = (λ label among once. owed_outlet closed (atop callee.at (S.OnUnitBlock oncode (4 * resume)) bl.frames) (main_enclosing bl callee back h t (owner_of_unit head head.kind) head level main mains has) label (main_outlet bl callee back h (owner_of_unit head head.kind) (S.OnUnitBlock oncode (4 * resume)) head level main mains has links k turns0 start0 h t acts0 (acted head.line v2).world.acts aims.jumped aims.returned ready label among once (omega (arith, less))), tt);
-      homes = (λ deep owned once. let no : true ≡ false = deep in absurd (cc no), tt);
-      returns = λ number' owned once. absurd (unit_apart head head.kind level number' owned);
-      own = λ inner owned once. record {
-        at = i4;
-        place = end_placed head head.kind lm owned once;
-        near = omega (arith, room, small2);
-        later = omega (arith, behind);
-        leaves = λ s5 v5 line5 n5 h5 t5 f5 free5 serving5 all5 at5. record { to = leave s5 v5 line5 n5 h5 t5 f5 free5 serving5 all5 at5 };
-      };
-    })))))))))
+    (λ s5 v5 line5 n5 h5 t5 f5 free5 serving5 all5 at5. record { to = leave s5 v5 line5 n5 h5 t5 f5 free5 serving5 all5 at5 }))))))
 
 -- where too many blocks are entered the run ends
 limited_piece : {e : Environment} {block : Names} {types : Types} (bl : Block e block types) {links : Links} {code : List Instr} (main : ℕ) (mains : List Label) (has : HasMain main mains e.level e.block bl.labels bl.outer) (around : Around) (more m : ℕ) {frame : ℕ} {u : Y.Block} {at' : ℕ} (can : Raisable bl main mains has links code more frame u at') → around.enter ≡ M.entered e.program (suc m) → {s : State} {v : Services} {h t : ℕ → ℕ} {aims : Aims (Unit {0})} (closed : Closed code aims) (n : Values) (f : Family) (k line resume oncode : ℕ) (a : Activation) → 19 ≤ length code → resume ≤ length code → nat_lt (length s.activations) most_activations ≡ false → Serving k s v line → ((b : Base) → At b can.index (Known (bl.ground n) (record v { waiting = Some (record { code = oncode; resume = 4 * resume; line = v.line }) }) h t (entry_with bl.base (4 * resume) (λ b'. address b' resume)) b) (f b)) → Comes code 19 f (record v { waiting = Some (record { code = oncode; resume = 4 * resume; line = v.line }) }) (owing code (length code) aims) (unit_part around oncode a can.head can.body k s)
@@ -258,7 +268,7 @@ limited_piece {e} bl {code = code} main mains has around more m can enter {s} {v
     let i0 = can.index in
     let fb = frame_begun callee.words 1 0 true in
     let ec = entered_without_texts 2 head.line in
-    let rest = act_code head.line ++ (stmts_code e' none_taken body ++ (mark ++ unit_left callee.words)) in
+    let rest = (unit_made e head head.kind ++ (act_code head.line ++ stmts_code e' none_taken body)) ++ (mark ++ unit_left callee.words) in
     let lf = front_of fb (ec ++ rest) can.linked in
     let le = front_of ec rest (back_of fb (ec ++ rest) can.linked) in
     let room = le.inside in
@@ -292,7 +302,7 @@ raised_unit {e} {block} {types} bl {links} {code} routines main mains has around
     let placed = can.linked.inside in
     let fb = frame_begun can.callee.words 1 0 true in
     let ec = entered_without_texts 2 can.head.line in
-    let rest = ec ++ (act_code can.head.line ++ (stmts_code (unit_environment can.head e) none_taken can.body ++ (unit_mark can.head can.head.kind ++ unit_left can.callee.words))) in
+    let rest = ec ++ ((unit_made e can.head can.head.kind ++ (act_code can.head.line ++ stmts_code (unit_environment can.head e) none_taken can.body)) ++ (unit_mark can.head can.head.kind ++ unit_left can.callee.words)) in
     let total = size_append fb rest in
     let some : 0 < size_of rest = omega arith in
     let later = can.later in

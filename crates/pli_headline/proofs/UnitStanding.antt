@@ -1,5 +1,5 @@
 -- Units of the main procedure that may be in force: what is proved of them, and where their code stands.
-use Rattle.std.proofs.Common.{◌≡◌, ℕ, ◌+◌, ◌*◌, ◌≤◌, List, [], ◌∷◌, ◌++◌, true, false, refl, ap, ◌∙◌}
+use Rattle.std.proofs.Common.{◌≡◌, ℕ, ◌+◌, ◌*◌, ◌≤◌, List, [], ◌∷◌, ◌++◌, length, true, false, refl, sym, ap, ◌∙◌}
 use Rattle.std.specs.Prelude.{max}
 use Rattle.rv_meaning.specs.declared.instr.Instr.{Instr}
 use Rattle.pli_typing.specs.TypedTree as Y
@@ -8,18 +8,20 @@ use Rattle.pli_meaning.specs.DeclaredShapes.{variables_of_block}
 use Rattle.pli_meaning.specs.Executing.{labels_in}
 use Rattle.pli_coding.specs.Assembly.{Code}
 use Rattle.pli_coding.specs.Allocating.{act_code}
-use Rattle.pli_coding.specs.Entries.{frame_begun, entered_without_texts, variables_made, variables_words}
+use Rattle.pli_coding.specs.Entries.{frame_begun, entered_without_texts}
 use Rattle.pli_coding.specs.Environments.{BlockPlace, UnitOwner, Environment, in_frame, owned_by, none_taken}
 use Rattle.pli_coding.specs.Images.{blocks_among}
 use Rattle.pli_coding.specs.Statements.{unit_environment, unit_variables, unit_words, unit_mark, unit_left, stmts_words, stmts_code}
 use Rattle.pli_coding.specs.Linking.{Links}
-use Rattle.pli_headline.specs.ProvedSoFar.{Types, main_outer, times, IsLine, IsUnitBody, AreProvedStatements, AllJumpAround, AllCallAmong, DeclaresNothing, DeclareScalars, Names, inner_bytes}
+use Rattle.pli_headline.specs.ProvedSoFar.{Types, main_outer, times, IsLine, IsUnitBody, AreProvedStatements, AllJumpAround, AllCallAmong, AreDeclaring, DeclareScalars, Names, names_in, types_in, unit_declares, inner_bytes, bytes_of}
 use Rattle.pli_headline.specs.InnerWords.{all_inner_words}
 use Rattle.pli_headline.proofs.Items.{Linked}
 use Rattle.pli_headline.proofs.InnerLevels.{IsAmong}
 use Rattle.pli_headline.proofs.Statements.{IsMarkedOnce}
 use Rattle.pli_headline.proofs.Gotos.{LabelsStand}
-use Rattle.pli_headline.proofs.UnitRuns.{unit_with}
+use Rattle.pli_headline.proofs.Declares.{code_joined}
+use Rattle.pli_headline.proofs.DeclaredBegins.{no_words}
+use Rattle.pli_headline.proofs.UnitRuns.{unit_with, unit_made}
 use Rattle.pli_headline.proofs.OnUnits.{unit_by}
 
 -- the program around a block, whatever the block
@@ -38,18 +40,19 @@ pub record UnitStands (e : Environment) (block : Names) (types : Types) (all : L
   pub what : IsUnitBody head.kind body
   pub level : head.level ≡ 1
   pub line : IsLine head.line
-  pub proved : AreProvedStatements block types body
+  pub proved : AreProvedStatements (names_in block types head (unit_declares e.program head head.kind)) (types_in types (unit_declares e.program head head.kind)) body
   pub jumps : AllJumpAround head.number head.level all e.blocks (main_outer procedure e.program.procedures) (main_outer procedure e.program.procedures ∷ []) (labels_in body) body
-  pub bare : DeclaresNothing e.program head head.kind × DeclareScalars e.program body
+  pub declares : AreDeclaring (unit_declares e.program head head.kind)
+  pub inside : DeclareScalars e.program body
   pub calls : AllCallAmong e.program may false 0 body
-  pub few : 4 * (stmts_words body + all_inner_words body) + inner_bytes e.program body ≤ 3200
+  pub few : 4 * (stmts_words body + all_inner_words body) + (bytes_of (unit_declares e.program head head.kind) + inner_bytes e.program body) ≤ 3200
   pub once : (number : ℕ) (label : Label) → times number label all ≡ 1 → IsMarkedOnce links number label
   pub labels : head.kind ≡ Y.UnitBlock → LabelsStand (unit_environment head e) links all procedure false
   pub blocks : (b : BlockPlace) → IsAmong b (blocks_among body) → IsAmong b e.blocks
   pub index : ℕ
   pub at_is : at ≡ 4 * index
-  pub later : 10 ≤ index
-  pub linked : Linked links code index (unit_with (words_of_unit head.kind (stmts_words body)) head.line (stmts_code (unit_environment head e) none_taken body) (unit_mark head head.kind))
+  pub later : 19 ≤ index
+  pub linked : Linked links code index (unit_with (words_of_unit head.kind (stmts_words body)) head.line (unit_made e head head.kind) (stmts_code (unit_environment head e) none_taken body) (unit_mark head head.kind))
 
 -- a block's units are such, in the frame of the main procedure
 abbrev pub Tells : (e : Environment) (block : Names) (types : Types) (all : List (ℕ × Label)) (procedure : ℕ) (may : List ℕ) (links : Links) (code : List Instr) (base : ℕ) (known : ℕ → Y.Block → ℕ → Type 0) → Type 0
@@ -58,27 +61,35 @@ Tells e block types all procedure may links code base known =
 
 -- ---- the code of one
 
-abbrev code_with : Y.BlockHead → (statements mark : Code) → (words level : ℕ) → (made : Code) → Code
-code_with head statements mark words level made =
+abbrev code_with : Y.BlockHead → (made statements mark : Code) → (words level : ℕ) → Code
+code_with head made statements mark words level =
     frame_begun words level 0 true
     ++ (entered_without_texts 2 head.line ++ (made ++ (act_code head.line ++ (statements ++ (mark ++ unit_left words)))))
 
--- without variables
-made_is : (e : Environment) (head : Y.BlockHead) (kind : Y.BlockKind) (body level : ℕ) (statements mark : Code) → e.block ≡ head.number → DeclaresNothing e.program head kind → code_with head statements mark (unit_words e head kind body) level (unit_variables e head kind) ≡ code_with head statements mark (words_of_unit kind body) level []
-made_is e head Y.SimpleUnit body level statements mark same none = refl
-made_is e head Y.UnitBlock body level statements mark same none =
-    ap (λ n. code_with head statements mark (max (variables_words (variables_of_block e.program head.number)) body) level (variables_made e head.line 0 (variables_of_block e.program n))) same
-    ∙ ap (λ ds. code_with head statements mark (max (variables_words ds) body) level (variables_made e head.line 0 ds)) none
-made_is e head Y.ProcedureBlock body level statements mark same none =
-    ap (λ n. code_with head statements mark (max (variables_words (variables_of_block e.program head.number)) body) level (variables_made e head.line 0 (variables_of_block e.program n))) same
-    ∙ ap (λ ds. code_with head statements mark (max (variables_words ds) body) level (variables_made e head.line 0 ds)) none
-made_is e head Y.BeginBlock body level statements mark same none =
-    ap (λ n. code_with head statements mark (max (variables_words (variables_of_block e.program head.number)) body) level (variables_made e head.line 0 (variables_of_block e.program n))) same
-    ∙ ap (λ ds. code_with head statements mark (max (variables_words ds) body) level (variables_made e head.line 0 ds)) none
+-- no words are needed for its variables
+words_are : (e : Environment) (head : Y.BlockHead) (kind : Y.BlockKind) (body : ℕ) → AreDeclaring (unit_declares e.program head kind) → unit_words e head kind body ≡ words_of_unit kind body
+words_are e head Y.SimpleUnit body are = refl
+words_are e head Y.UnitBlock body are = ap (λ n. max n body) (no_words (variables_of_block e.program head.number) are)
+words_are e head Y.ProcedureBlock body are = ap (λ n. max n body) (no_words (variables_of_block e.program head.number) are)
+words_are e head Y.BeginBlock body are = ap (λ n. max n body) (no_words (variables_of_block e.program head.number) are)
 
-pub unit_is : (e : Environment) (head : Y.BlockHead) (body : Y.Stmts) → DeclaresNothing e.program head head.kind → head.level ≡ 1 → unit_by e head body head.kind head.level ≡ unit_with (words_of_unit head.kind (stmts_words body)) head.line (stmts_code (unit_environment head e) none_taken body) (unit_mark head head.kind)
-unit_is e head body none level =
+made_is : (e : Environment) (head : Y.BlockHead) (kind : Y.BlockKind) → unit_variables (unit_environment head e) head kind ≡ unit_made e head kind
+made_is e head Y.SimpleUnit = refl
+made_is e head Y.UnitBlock = refl
+made_is e head Y.ProcedureBlock = refl
+made_is e head Y.BeginBlock = refl
+
+joined : (frame enter made act statements ended : Code) → frame ++ (enter ++ (made ++ (act ++ (statements ++ ended)))) ≡ frame ++ (enter ++ ((made ++ (act ++ statements)) ++ ended))
+joined frame enter made act statements ended =
+    ap (λ c. frame ++ (enter ++ c)) (ap (λ c. made ++ c) (sym (code_joined act statements ended)) ∙ sym (code_joined made (act ++ statements) ended))
+
+pub unit_is : (e : Environment) (head : Y.BlockHead) (body : Y.Stmts) → AreDeclaring (unit_declares e.program head head.kind) → head.level ≡ 1 → unit_by e head body head.kind head.level ≡ unit_with (words_of_unit head.kind (stmts_words body)) head.line (unit_made e head head.kind) (stmts_code (unit_environment head e) none_taken body) (unit_mark head head.kind)
+unit_is e head body are level =
     let st = stmts_code (unit_environment head e) none_taken body in
     let mark = unit_mark head head.kind in
-    made_is (unit_environment head e) head head.kind (stmts_words body) head.level st mark refl none
-    ∙ ap (λ l. code_with head st mark (words_of_unit head.kind (stmts_words body)) l []) level
+    let made = unit_made e head head.kind in
+    let words = words_of_unit head.kind (stmts_words body) in
+    ap (λ n. code_with head (unit_variables (unit_environment head e) head head.kind) st mark n head.level) (words_are e head head.kind (stmts_words body) are)
+    ∙ ap (λ c. code_with head c st mark words head.level) (made_is e head head.kind)
+    ∙ ap (λ l. code_with head made st mark words l) level
+    ∙ joined (frame_begun words 1 0 true) (entered_without_texts 2 head.line) made (act_code head.line) st (mark ++ unit_left words)

@@ -5,7 +5,7 @@ use Rattle.std.proofs.lemmas.Bool.{cases_lt}
 use Rattle.std.proofs.lemmas.Bool.Decides.{nat_tests}
 use Rattle.pli_typing.specs.Signatures.{Bounds, rounded_up, element_count}
 use Rattle.pli_typing.specs.TypedTree as Y
-use Rattle.pli_headline.specs.ProvedSoFar.{IsScalar, IsHeld, Kind}
+use Rattle.pli_headline.specs.ProvedSoFar.{IsScalar, IsHeld, Kind, bytes_for}
 use Rattle.pli_headline.proofs.Scalars.{Declared, by_held, by_shape, IsNumeric, by_type}
 use Rattle.pli_headline.proofs.ArrayPlaces.{suc-times}
 
@@ -77,6 +77,11 @@ abbrev pub scalar_size : Y.LeafType → ℕ
 scalar_size (Y.CharacterLeaf (Y.ConstantExtent (pos (suc n)))) = 16 + rounded_up 16 (rounded_up 4 (suc n))
 scalar_size (Y.VaryingLeaf (Y.ConstantExtent (pos n))) = 16 + rounded_up 16 (rounded_up 4 (2 + n))
 scalar_size _ = 32
+
+-- as many as the specification counts
+pub counted_size : (type : Y.LeafType) → IsScalar type → bytes_for type ≡ scalar_size type
+counted_size type is =
+    by_held (λ t. bytes_for t ≡ scalar_size t) (λ p. refl) refl (λ n few. omega arith) (λ n few. omega arith) type is
 
 -- so many bytes of elements, of which there is one at least
 abbrev pub many_size : ℕ → ℕ

@@ -161,7 +161,7 @@ padded_length n xs e =
 varying_length : (n : ℕ) (text : List ℕ) → length (value_bytes (Varying n) (BasicText text)) ≡ 2 + n
 varying_length n text = let e = fitted_length n text in omega (arith, e)
 
-alone_length : (type : Y.LeafType) (z : ℤ) (text : List ℕ) → IsScalar type → length (data_by type z text) ≡ scalar_data_size type
+pub alone_length : (type : Y.LeafType) (z : ℤ) (text : List ℕ) → IsScalar type → length (data_by type z text) ≡ scalar_data_size type
 alone_length type z text is =
     by_held (λ t. length (data_by t z text) ≡ scalar_data_size t) (λ p. kind_length (store_kind (Y.FixedLeaf p)) (word z)) (kind_length (store_kind Y.BitLeaf) (word z))
     (λ n few. padded_length (suc n) (fitted (suc n) text) (fitted_length (suc n) text))
@@ -365,7 +365,7 @@ begin_size n items = fitted_length n (constant_text (initial_at items 0))
 begin_few : (n : ℕ) (items : List T.InitialItem) → length (begin_text (Y.VaryingLeaf (Y.ConstantExtent (pos n))) items) ≤ n
 begin_few n items = taken_most n (constant_text (initial_at items 0))
 
-made_content : (m : List ℕ) (at o j : ℕ) (type : Y.LeafType) (items : List T.InitialItem) → IsScalar type → AreConstants type items → at + 200 + o + length (data_by type (begin_of items) (begin_text type items)) ≤ length m → There (with_number_made m at o j (data_by type (begin_of items) (begin_text type items))) (at + (160 + o)) (content_of type (begin_of items) (begin_text type items))
+pub made_content : (m : List ℕ) (at o j : ℕ) (type : Y.LeafType) (items : List T.InitialItem) → IsScalar type → AreConstants type items → at + 200 + o + length (data_by type (begin_of items) (begin_text type items)) ≤ length m → There (with_number_made m at o j (data_by type (begin_of items) (begin_text type items))) (at + (160 + o)) (content_of type (begin_of items) (begin_text type items))
 made_content m at o j (Y.FixedLeaf p) items is begins room =
     let four = kind_length (store_kind (Y.FixedLeaf p)) (word (begin_of items)) in
     made_number m at o j (Y.FixedLeaf p) items is begins (omega (arith, room, four))

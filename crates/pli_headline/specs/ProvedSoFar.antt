@@ -1,18 +1,18 @@
 -- The programs for which the headline is proved so far: a main procedure with scalars of FIXED BINARY, BIT(1) and CHARACTER of
 -- constant lengths, VARYING or not, with or without INITIAL, arrays of these with constant bounds, with or without
 -- INITIAL, procedures inside it, without parameters and results, and BEGIN blocks in these and in one another, which declare nothing,
--- or scalars of FIXED BINARY and BIT(1), with or without INITIAL; expressions of numbers, bits and texts, and elements of arrays
+-- or such scalars, with or without INITIAL; expressions of numbers, bits and texts, and elements of arrays
 -- in them; assignments of these, and of one number or bit to all elements of an array, CALL of these procedures, also by themselves, IF,
 -- groups, DO WHILE, DO with a variable, GOTO to a label of a list around it in its block, in a block around it up to the procedure's own,
--- or of the main procedure's own list, RETURN, STOP, SIGNAL, ON with SYSTEM, ON for AREA with a single statement or a BEGIN block in the
--- main procedure's own block, REVERT, PUT EDIT of numbers, bits and texts, and GET EDIT of such scalars and elements, by lists of F, A, X,
--- SKIP and COLUMN items. Each form that is proved takes a line off.
+-- or of the main procedure's own list, RETURN, STOP, SIGNAL, ON with SYSTEM, ON for AREA with a single statement or a BEGIN block, which
+-- declares as others do, in the main procedure's own block, REVERT, PUT EDIT of numbers, bits and texts, and GET EDIT of such scalars and
+-- elements, by lists of F, A, X, SKIP and COLUMN items. Each form that is proved takes a line off.
 use Rattle.std.specs.Prelude.{◌≡◌, ℕ, suc, int_le, ◌<◌, ◌≤◌, ◌^◌, List, [], ◌∷◌, ◌++◌, length, map, max, nat_lt, ◌*◌, slice_get, Bool, Option, None, Some, true, false, if◌then◌else◌, ⊤, ◌==◌, ◌&&◌, ◌⊎◌, pos, ◌+◌}
 use Rattle.pli_language.specs.Keywords.{same_bytes}
 use Rattle.pli_language.specs.declared.condition.Condition.TheVariants as C
 use Rattle.pli_language.specs.Tree as T
 use Rattle.pli_language.specs.Formats.{formats_move_data}
-use Rattle.pli_typing.specs.Signatures.{Bounds}
+use Rattle.pli_typing.specs.Signatures.{Bounds, rounded_up}
 use Rattle.pli_typing.specs.TypedTree as Y
 use Rattle.pli_meaning.specs.Numbers.{is_of_precision}
 use Rattle.pli_meaning.specs.Control.{Label, is_among}
@@ -425,10 +425,16 @@ AreProvedGetPairs names types (p ∷ ps) =
 abbrev pub IsLine : ℕ → Type 0
 IsLine line = line < 2 ^ 31
 
+-- what an on-unit declares: nothing where it is a single statement
+abbrev pub unit_declares : Y.Program → Y.BlockHead → Y.BlockKind → List Y.DeclaredVariable
+unit_declares program head Y.SimpleUnit = []
+unit_declares program head _ = variables_of_block program head.number
+
 -- what may be an on-unit by itself
 abbrev pub IsSimple : Y.Stmt → Type 0
 IsSimple (Y.Null line) = ⊤
 IsSimple (Y.Assign target source line) = ⊤
+IsSimple (Y.AssignElements target source line) = ⊤
 IsSimple (Y.CallProcedure call line) = ⊤
 IsSimple (Y.Goto level label line) = ⊤
 IsSimple (Y.Stop line) = ⊤
@@ -486,7 +492,11 @@ abbrev mutual
   IsProvedStatement names types (Y.OnSystem condition line) = IsLine line
   IsProvedStatement names types (Y.Revert condition line) = IsLine line
   IsProvedStatement names types (Y.OnUnit condition (Y.BlockOf head body) line) =
-      (condition ≡ C.Area) × (IsUnitBody head.kind body × (IsLine line × (IsLine head.line × AreProvedStatements names types body)))
+      (condition ≡ C.Area)
+      × (IsUnitBody head.kind body
+      × (IsLine line
+      × (IsLine head.line
+      × AreProvedStatements (names_in names types head (unit_declares names.program head head.kind)) (types_in types (unit_declares names.program head head.kind)) body)))
   IsProvedStatement names types (Y.Put None pairs line) = AreProvedPairs names types pairs × IsLine line
   IsProvedStatement names types (Y.Put (Some n) pairs line) = IsTimes n × (AreProvedPairs names types pairs × IsLine line)
   IsProvedStatement names types (Y.Get None pairs line) = AreProvedGetPairs names types pairs × IsLine line
@@ -570,6 +580,16 @@ abbrev mutual
 
 -- ---- what the variables of blocks in a part take in frames
 
+-- a scalar: 16 bytes for its name, and its data in whole pieces of 16
+abbrev pub bytes_for : Y.LeafType → ℕ
+bytes_for (Y.CharacterLeaf (Y.ConstantExtent (pos n))) = 16 + rounded_up 16 n
+bytes_for (Y.VaryingLeaf (Y.ConstantExtent (pos n))) = 16 + rounded_up 16 (2 + n)
+bytes_for _ = 32
+
+abbrev pub bytes_of : List Y.DeclaredVariable → ℕ
+bytes_of [] = 0
+bytes_of (d ∷ ds) = bytes_for (declared_kind d).type + bytes_of ds
+
 abbrev mutual
   pub bytes_in : Y.Program → Y.Stmt → ℕ
   bytes_in program (Y.If condition unit line) = bytes_in program unit
@@ -578,7 +598,7 @@ abbrev mutual
   bytes_in program (Y.DoWhile condition body line) = inner_bytes program body
   bytes_in program (Y.DoOnce target start condition body line) = inner_bytes program body
   bytes_in program (Y.DoCount counter start limit step condition body line) = inner_bytes program body
-  bytes_in program (Y.Begin (Y.BlockOf head body)) = 32 * length (variables_of_block program head.number) + inner_bytes program body
+  bytes_in program (Y.Begin (Y.BlockOf head body)) = bytes_of (variables_of_block program head.number) + inner_bytes program body
   bytes_in program _ = 0
 
   pub inner_bytes : Y.Program → Y.Stmts → ℕ
@@ -611,12 +631,14 @@ abbrev mutual
   CallsAmong program may returns bytes (Y.DoOnce target start condition body line) = AllCallAmong program may returns bytes body
   CallsAmong program may returns bytes (Y.DoCount counter start limit step condition body line) = AllCallAmong program may returns bytes body
   CallsAmong program may returns bytes (Y.Begin (Y.BlockOf head body)) =
-      AllCallAmong program may returns (bytes + 32 * length (variables_of_block program head.number)) body
+      AllCallAmong program may returns (bytes + bytes_of (variables_of_block program head.number)) body
   CallsAmong program may returns bytes (Y.CallProcedure (Y.Calling procedure level _) line) = IsShallow bytes × (is_number procedure may ≡ true)
   CallsAmong program may returns bytes (Y.Return line) = returns ≡ true
   CallsAmong program may returns bytes (Y.Signal C.Area line) = IsShallow bytes
   CallsAmong program may returns bytes (Y.OnUnit condition (Y.BlockOf head body) line) =
-      AllCallAmong program may false 0 body × ((4 * (stmts_words body + all_inner_words body) + inner_bytes program body ≤ 3200) × IsUnitNew may head head.kind)
+      AllCallAmong program may false 0 body
+      × ((4 * (stmts_words body + all_inner_words body) + (bytes_of (unit_declares program head head.kind) + inner_bytes program body) ≤ 3200)
+      × IsUnitNew may head head.kind)
   CallsAmong program may returns bytes _ = ⊤
 
   pub AllCallAmong : Y.Program → (may : List ℕ) → (returns : Bool) → (bytes : ℕ) → Y.Stmts → Type 0
@@ -638,10 +660,10 @@ AllOnce (n ∷ ns) others = (number_times n others ≡ 1) × AllOnce ns others
 
 -- ---- blocks inside the procedure
 
--- AUTOMATIC scalars of numbers and bits, with what INITIAL gives them
+-- AUTOMATIC scalars, with what INITIAL gives them
 pub record IsDeclaring (d : Y.DeclaredVariable) : Type 0 where
   pub type : Y.LeafType
-  pub element : IsElementType type
+  pub held : IsScalar type
   pub items : List T.InitialItem
   pub begins : AreConstants type items
   pub is : d ≡ plain_variable type items
@@ -649,11 +671,6 @@ pub record IsDeclaring (d : Y.DeclaredVariable) : Type 0 where
 abbrev pub AreDeclaring : List Y.DeclaredVariable → Type 0
 AreDeclaring [] = ⊤
 AreDeclaring (d ∷ ds) = IsDeclaring d × AreDeclaring ds
-
--- a single statement declares nothing
-abbrev pub DeclaresNothing : Y.Program → Y.BlockHead → Y.BlockKind → Type 0
-DeclaresNothing program head Y.SimpleUnit = ⊤
-DeclaresNothing program head _ = variables_of_block program head.number ≡ []
 
 -- blocks declare such variables alone
 abbrev mutual
@@ -666,7 +683,8 @@ abbrev mutual
   DeclaresScalars program (Y.DoCount counter start limit step condition body line) = DeclareScalars program body
   DeclaresScalars program (Y.Begin (Y.BlockOf head body)) =
       AreDeclaring (variables_of_block program head.number) × DeclareScalars program body
-  DeclaresScalars program (Y.OnUnit condition (Y.BlockOf head body) line) = DeclaresNothing program head head.kind × DeclareScalars program body
+  DeclaresScalars program (Y.OnUnit condition (Y.BlockOf head body) line) =
+      AreDeclaring (unit_declares program head head.kind) × DeclareScalars program body
   DeclaresScalars program _ = ⊤
 
   pub DeclareScalars : Y.Program → Y.Stmts → Type 0
@@ -704,7 +722,7 @@ pub record IsCallable (program : Y.Program) (called : List ℕ) (head : Y.BlockH
   pub kind : head.kind ≡ Y.ProcedureBlock
   pub line : IsLine head.line
   pub calls : AllCallAmong program called true 0 body
-  pub few : 4 * (stmts_words body + all_inner_words body) + (32 * length (variables_of_block program head.number) + inner_bytes program body) ≤ 3200
+  pub few : 4 * (stmts_words body + all_inner_words body) + (bytes_of (variables_of_block program head.number) + inner_bytes program body) ≤ 3200
 
 -- a procedure inside the main one, whose number is the given block's: it declares scalars as BEGIN blocks do, and has no parameters and no
 -- result
