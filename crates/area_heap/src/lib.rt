@@ -7,4 +7,4 @@ pub mod keeper;
 mod place;
 #[cfg(test)]
 mod tests;
-mod words;
+pub mod words;

@@ -5,7 +5,7 @@ ghost use Rattle.area_keeper.specs.KeptAreas.{with_part};
 ghost use Rattle.area_keeper.specs.Chain.{capacity_in};
 ghost use Rattle.granule_keeper.specs.Granules.{front_for, has_front, freed_all, granules_of};
 
-use crate::words::word_at;
+use area_heap::words::word_at;
 
 /// What tells such an area from other bytes: the letters GRAN.
 pub const MARK: u32 = 0x4e41_5247;

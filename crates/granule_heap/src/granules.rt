@@ -8,9 +8,9 @@ use crate::marking::{
     Header, capacity_of, copy_part, header_of, mark_copied, mark_freed, mark_placed, room_for,
     used_in,
 };
-use crate::words::{set_word, word_at};
 use area_heap::fault::AreaFault;
 use area_heap::keeper::AreaKeeper;
+use area_heap::words::{set_word, word_at};
 
 /// The keeper that has a mark for each granule of 16 bytes.
 ///

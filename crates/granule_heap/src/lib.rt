@@ -7,4 +7,3 @@ mod marking;
 mod marks;
 #[cfg(test)]
 mod tests;
-mod words;

@@ -11,8 +11,8 @@ ghost use Rattle.granule_heap.specs.Places.{IsFound};
 
 use crate::front::{CAPACITY, GRANULE, MARKS, front_for, granules_in};
 use crate::marks::{begins, copy_marks, free_run, place_run, room, used};
-use crate::words::{set_word, word_at};
 use area_heap::fault::AreaFault;
+use area_heap::words::{set_word, word_at};
 
 /// A generation's header: its data size in bytes, its signature, and its extent as a word.
 #[derive(Clone, Copy)]

@@ -54,7 +54,7 @@ next_factor t x r =
 pub next_summand : (t x r : ℕ) → capped (capped (t + capped x) + r) ≡ capped (t + (x + r))
 next_summand t x r = omega arith
 
-spans_in_two : (xs ys : List Bound) → spans (xs ++ ys) ≡ spans xs * spans ys
+pub spans_in_two : (xs ys : List Bound) → spans (xs ++ ys) ≡ spans xs * spans ys
 spans_in_two [] ys = omega arith
 spans_in_two (b ∷ bs) ys = ap (λ n. bound_span b * n) (spans_in_two bs ys) ∙ omega arith
 

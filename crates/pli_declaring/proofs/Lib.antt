@@ -8,5 +8,6 @@ pub mod Members
 pub mod Starts
 pub mod Repeats
 pub mod Bytes
+pub mod Alone
 pub mod Storing
 pub mod Whole

@@ -5,13 +5,13 @@ ghost use Rattle.std.specs.List.{flat_map, sum_by};
 ghost use Rattle.pli_language.specs.Declarations.{dimensions_of};
 ghost use Rattle.pli_language.specs.Declaring.{attribute_bytes, bound_span, data_of_members, elements_above, footprint_of, leaf_bytes, own_data, positive, size_value, span_of, spans, up_to};
 ghost use Rattle.pli_language.specs.View.{attribute_of, bound_of, option_of, size_of};
-ghost use Rattle.pli_declare.specs.Shown.{chain_of, declaration_of, held_of, variable_of};
+ghost use Rattle.pli_declare.specs.Shown.{above_of, declaration_of, held_of, levels_of, variable_of};
 ghost use Rattle.pli_declaring.specs.Bytes.{capped};
 
 use crate::attribute::{Row, has, is_number, precision_of};
 use crate::constant::constant;
-use crate::held::{has_members, own_attributes};
-use pli_declare::above::Levels;
+use crate::held::{dimensions_of, has_members, own_attributes};
+use pli_declare::above::{Above, Levels};
 use pli_declare::scope::{Declaration, Held, Variable};
 use pli_language::declaration::{Attribute, Bound, Size};
 
@@ -100,12 +100,9 @@ fn variable_spans(variable: Variable) -> u64
 
 /// How many elements these structures have, each in the one before.
 #[tactic(auto, using(crate::proofs::Bytes::steps))]
-fn elements_above(outermost: Option<Variable>, levels: &Levels) -> u64
-    ensures { result ≡ capped (elements_above (chain_of outermost.entry levels.now)) }
+fn elements_inside(first: Variable, levels: &Levels) -> u64
+    ensures { result ≡ capped (elements_above (levels_of (variable_of first.entry) levels.now)) }
 {
-    let Some(first) = outermost else {
-        return 1;
-    };
     let mut elements = 1;
     let mut rest = levels;
     while let Levels::Inside {
@@ -118,6 +115,20 @@ fn elements_above(outermost: Option<Variable>, levels: &Levels) -> u64
         rest = above;
     }
     times(elements, variable_spans(first))
+}
+
+/// How many elements the structures have that hold a variable. Mostly the outermost alone has dimensions: then the others aren't
+/// looked through.
+fn elements_above(above: &Above) -> u64
+    ensures { result ≡ capped (elements_above (above_of above.now)) }
+{
+    let Some(first) = above.outermost else {
+        return 1;
+    };
+    if above.dimensions() == dimensions_of(first) {
+        return variable_spans(first);
+    }
+    elements_inside(first, &above.levels)
 }
 
 /// The constant that a size is.
@@ -194,9 +205,6 @@ pub fn own_data(held: &Held, after: &[Declaration]) -> u64
     if has_members(held, after) {
         return 0;
     }
-    let elements = times(
-        elements_above(held.above.outermost, &held.above.levels),
-        variable_spans(held.variable),
-    );
+    let elements = times(elements_above(&held.above), variable_spans(held.variable));
     times(in_words(leaf_bytes(own_attributes(held))), elements)
 }

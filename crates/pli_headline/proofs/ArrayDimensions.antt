@@ -12,9 +12,9 @@ use Rattle.pli_typing.specs.TypedTree as Y
 use Rattle.pli_language.specs.declared.condition.Condition.TheVariants.{FixedOverflow}
 use Rattle.pli_meaning.specs.Codes.{fixed_overflow_code}
 use Rattle.pli_meaning.specs.Numbers.{is_of_precision, wrapped, Gives, Raises, checked}
-use Rattle.pli_meaning.specs.BasicValues.{VariableName}
-use Rattle.pli_meaning.specs.Contents.{is_within}
-use Rattle.pli_meaning.specs.StorageState.{State, if_same_shape, named}
+use Rattle.pli_meaning.specs.BasicValues.{VariableName, BasicValue}
+use Rattle.pli_meaning.specs.Contents.{is_within, same_shape}
+use Rattle.pli_meaning.specs.StorageState.{State, if_same_shape, named, standing_for, generation_of, living_of}
 use Rattle.pli_meaning.specs.Control.{Meaning, give, given, stuck, flow_on, looked, choose, ◌>>=◌, ◌>>◌}
 use Rattle.pli_meaning.specs.Raising as R
 use Rattle.pli_meaning.specs.Raising.{Around}
@@ -30,7 +30,7 @@ use Rattle.pli_coding.specs.Expressions.{BoundAsked, LowerAsked, UpperAsked, Ele
 use Rattle.pli_coding.specs.Locating as L
 use Rattle.pli_coding.specs.Temporaries.{number_words}
 use Rattle.pli_coding.specs.Linking.{Links}
-use Rattle.pli_headline.specs.ProvedSoFar.{Names, constant_bounds, IsBounds, AreBounds}
+use Rattle.pli_headline.specs.ProvedSoFar.{Names, constant_bounds, IsBounds, AreBounds, array_variable, text_leaf}
 use Rattle.pli_headline.proofs.Engine.{address}
 use Rattle.pli_headline.proofs.Linking.{size_append}
 use Rattle.pli_headline.proofs.Items.{Linked, straight}
@@ -39,13 +39,14 @@ use Rattle.pli_headline.proofs.Bodies.{Ground, Known, Free, constant_piece}
 use Rattle.pli_headline.proofs.Jumps.{front_of, back_of}
 use Rattle.pli_headline.proofs.Temporaries.{stays_same, nothing}
 use Rattle.pli_headline.proofs.Operators.{valued}
-use Rattle.pli_headline.proofs.Scalars.{IsNumeric}
 use Rattle.pli_headline.proofs.Variables.{whole, own, whole_part, declared_in}
 use Rattle.pli_headline.proofs.Evaluations.{number_kind, Evaluates}
 use Rattle.pli_headline.proofs.ArrayPlaces.{suc-times, span_is, count_some}
-use Rattle.pli_headline.proofs.ArrayMeant.{array_shape, array_generation, same_array, HoldsArray, designated_element}
+use Rattle.pli_headline.proofs.ArrayMeant.{array_shape, array_generation, same_array, designated_element, array_binding}
 use Rattle.pli_headline.proofs.ArrayElements.{IsDeclaredArray, ArrayScope, size_constant}
 use Rattle.pli_headline.proofs.Reach.{onward, Comes}
+use Rattle.pli_headline.proofs.TextArrayMeant.{same_text_array}
+use Rattle.pli_headline.proofs.TextElements.{TextArrayScope, text_size_constant}
 
 -- ---- what is asked
 
@@ -109,26 +110,66 @@ asked_alike LowerAsked e t r dimension = refl
 asked_alike UpperAsked e t r dimension = refl
 asked_alike ElementsAsked e t r dimension = refl
 
-pub answer_is : (asked : BoundAsked) (e : Environment) (t : Taken) (block : Names) (j : ℕ) (type : Y.LeafType) (bs : List Bounds) (n : ℕ) (b : Bounds) → IsNumeric type → IsDeclaredArray e block j type bs → slice_get bs n ≡ Some b → number_code e t (asked_number asked (whole (own block j)) (suc n)) ≡ answer_code t asked b
-answer_is asked e t block j type bs n b is declared among =
+pub answer_is : (asked : BoundAsked) (e : Environment) (t : Taken) (block : Names) (j : ℕ) (type : Y.LeafType) (bs : List Bounds) (n : ℕ) (b : Bounds) → has_constant_size (array_variable type bs []) ≡ true → IsDeclaredArray e block j type bs → slice_get bs n ≡ Some b → number_code e t (asked_number asked (whole (own block j)) (suc n)) ≡ answer_code t asked b
+answer_is asked e t block j type bs n b sized declared among =
     let other = found_otherwise e t block j n in
     asked_alike asked e t (whole (own block j)) (suc n)
     ∙ ap (λ o. (if has_constant_size (declared_in o) then [] else other) ++ bound_code t asked (bounds_by o n) (suc n)) declared.1
-    ∙ ap (λ q. (if q then [] else other) ++ bound_code t asked (unwrap_or (slice_get (map constant_bounds bs) n) no_bounds) (suc n)) (size_constant type is bs declared.0)
+    ∙ ap (λ q. (if q then [] else other) ++ bound_code t asked (unwrap_or (slice_get (map constant_bounds bs) n) no_bounds) (suc n)) sized
     ∙ ap (λ o. bound_code t asked (unwrap_or o no_bounds) (suc n)) (bounds_mapped bs n b among)
     ∙ code_by t asked b n
 
 -- ---- the meaning
 
--- all of an array is designated
-array_designated : {s : State} {block : Names} {j serial : ℕ} {type : Y.LeafType} {bs : List Bounds} {n : ℕ → ℤ} (around : Around) (k : ℕ) (h : HoldsArray s block j serial type bs n) → V.designated around (whole (own block j)) k s ≡ give (designated_element type bs serial h.values []) k s
-unfolding V.designated V.located V.numbers V.variable_designated V.part_designated looked ◌>>=◌ ◌>>◌ R.or_error R.demanded choose give
-array_designated {s = s} {j = j} {serial = serial} {type = type} {bs = bs} around k h =
-    let lives : named s (VariableName serial) (array_shape type bs) ≡ Some (array_generation type bs h.values) = ap (if_same_shape (array_shape type bs)) h.lives ∙ ap (λ t. cond t (Some (array_generation type bs h.values)) None) (same_array type bs h.numeric) in
-    ap (λ o. flow_on k (R.or_error around 101 o k s) (λ b. V.part_designated around b.name b.shape whole_part [])) h.stands
-    ∙ ap (λ o. flow_on k (R.or_error around 101 o k s) (λ g. ◌>>=◌ (R.or_error around 107 (V.extent_in_force g whole_part)) (λ e. ◌>>◌ (R.demanded around 102 (is_within (take 0 (V.leaf_at (array_shape type bs) e 0).bounds) [])) (give (record { name = VariableName serial; generation = g; extent = e; part = whole_part; subscripts = [] }))))) lives
+-- an array around an expression, whatever its elements hold
+pub record BoundsScope (e : Environment) (s : State) (block : Names) (j : ℕ) (type : Y.LeafType) (bs : List Bounds) : Type 0 where
+  pub declared : IsDeclaredArray e block j type bs
+  pub sized : has_constant_size (array_variable type bs []) ≡ true
+  pub bounds : AreBounds bs
+  pub few : element_count bs ≤ 2 ^ 20
+  pub serial : ℕ
+  pub values : ℕ → List ℤ → BasicValue
+  pub stands : standing_for s (own block j) ≡ Some (array_binding type bs (block.at j).index serial)
+  pub lives : generation_of (living_of s.living serial) ≡ Some (array_generation type bs values)
+  pub same : same_shape (array_shape type bs) (array_shape type bs) ≡ true
 
-pub answer_meant : {s : State} {block : Names} {j serial : ℕ} {type : Y.LeafType} {bs : List Bounds} {m : ℕ → ℤ} (asked : BoundAsked) (around : Around) (k n : ℕ) (b : Bounds) (h : HoldsArray s block j serial type bs m) → slice_get bs n ≡ Some b → IsWide (V.elements_between b) → V.number around (asked_number asked (whole (own block j)) (suc n)) k s ≡ give (answer_of asked b) k s
+abbrev pub numbers_scope : {g : Ground} {e : Environment} {s : State} {block : Names} {j : ℕ} {type : Y.LeafType} {bs : List Bounds} {n : ℕ → ℤ} → ArrayScope g e s block j type bs n → BoundsScope e s block j type bs
+numbers_scope {type = type} {bs = bs} scope =
+    record {
+      declared = scope.declared;
+      sized = size_constant type scope.holds.numeric bs [];
+      bounds = scope.bounds;
+      few = scope.few;
+      serial = scope.serial;
+      values = scope.holds.values;
+      stands = scope.holds.stands;
+      lives = scope.holds.lives;
+      same = same_array type bs scope.holds.numeric;
+    }
+
+abbrev pub texts_scope : {g : Ground} {e : Environment} {s : State} {block : Names} {j : ℕ} {varying : Bool} {most : ℕ} {bs : List Bounds} {texts : ℕ → List ℕ} → TextArrayScope g e s block j varying most bs texts → BoundsScope e s block j (text_leaf varying most) bs
+texts_scope {varying = varying} {most = most} {bs = bs} scope =
+    record {
+      declared = scope.declared;
+      sized = text_size_constant varying most bs [];
+      bounds = scope.bounds;
+      few = scope.few;
+      serial = scope.serial;
+      values = scope.holds.values;
+      stands = scope.holds.stands;
+      lives = scope.holds.lives;
+      same = same_text_array varying most bs;
+    }
+
+-- all of it is designated
+array_designated : {e : Environment} {s : State} {block : Names} {j : ℕ} {type : Y.LeafType} {bs : List Bounds} (around : Around) (k : ℕ) (h : BoundsScope e s block j type bs) → V.designated around (whole (own block j)) k s ≡ give (designated_element type bs h.serial h.values []) k s
+unfolding V.designated V.located V.numbers V.variable_designated V.part_designated looked ◌>>=◌ ◌>>◌ R.or_error R.demanded choose give
+array_designated {s = s} {type = type} {bs = bs} around k h =
+    let lives : named s (VariableName h.serial) (array_shape type bs) ≡ Some (array_generation type bs h.values) = ap (if_same_shape (array_shape type bs)) h.lives ∙ ap (λ t. cond t (Some (array_generation type bs h.values)) None) h.same in
+    ap (λ o. flow_on k (R.or_error around 101 o k s) (λ b. V.part_designated around b.name b.shape whole_part [])) h.stands
+    ∙ ap (λ o. flow_on k (R.or_error around 101 o k s) (λ g. ◌>>=◌ (R.or_error around 107 (V.extent_in_force g whole_part)) (λ e. ◌>>◌ (R.demanded around 102 (is_within (take 0 (V.leaf_at (array_shape type bs) e 0).bounds) [])) (give (record { name = VariableName h.serial; generation = g; extent = e; part = whole_part; subscripts = [] }))))) lives
+
+pub answer_meant : {e : Environment} {s : State} {block : Names} {j : ℕ} {type : Y.LeafType} {bs : List Bounds} (asked : BoundAsked) (around : Around) (k n : ℕ) (b : Bounds) (h : BoundsScope e s block j type bs) → slice_get bs n ≡ Some b → IsWide (V.elements_between b) → V.number around (asked_number asked (whole (own block j)) (suc n)) k s ≡ give (answer_of asked b) k s
 unfolding V.number ◌>>=◌ give given R.value_of
 answer_meant {s = s} LowerAsked around k n b h among wide =
     ap (λ q. flow_on k q (λ d. given (V.bounds_in d (suc n)) (λ c. give c.lower) stuck)) (array_designated around k h)
@@ -231,11 +272,10 @@ answers LowerAsked words b is few = constant_answers words b.lower is.0
 answers UpperAsked words b is few = constant_answers words b.upper is.1.0
 answers ElementsAsked words b is few = elements_answer words b is few
 
-pub dimension_does : {links : Links} {code : List Instr} {g : Ground} {v : Services} {s : State} {k : ℕ} {e : Environment} {block : Names} {j : ℕ} {type : Y.LeafType} {bs : List Bounds} {m : ℕ → ℤ} (asked : BoundAsked) (around : Around) (n : ℕ) (b : Bounds) (scope : ArrayScope g e s block j type bs m) → slice_get bs n ≡ Some b → Evaluates number_kind links code g v s k (number_words (asked_number asked (whole (own block j)) (suc n))) (λ taken. number_code e taken (asked_number asked (whole (own block j)) (suc n))) (V.number around (asked_number asked (whole (own block j)) (suc n)))
+pub dimension_does : {links : Links} {code : List Instr} {g : Ground} {v : Services} {s : State} {k : ℕ} {e : Environment} {block : Names} {j : ℕ} {type : Y.LeafType} {bs : List Bounds} (asked : BoundAsked) (around : Around) (n : ℕ) (b : Bounds) (scope : BoundsScope e s block j type bs) → slice_get bs n ≡ Some b → Evaluates number_kind links code g v s k (number_words (asked_number asked (whole (own block j)) (suc n))) (λ taken. number_code e taken (asked_number asked (whole (own block j)) (suc n))) (V.number around (asked_number asked (whole (own block j)) (suc n)))
 unfolding give
 dimension_does {links} {code} {g} {v} {s} {k} {e} {block} {j} {type} {bs} asked around n b scope among =
     let x = asked_number asked (whole (own block j)) (suc n) in
-    let holds = scope.holds in
     let spans = span_few bs n b scope.bounds among in
     let is = span_is b spans.0 in
     let most = spans.1 in
@@ -245,10 +285,10 @@ dimension_does {links} {code} {g} {v} {s} {k} {e} {block} {j} {type} {bs} asked 
     let o = answers {links = links} {code = code} {g = g} {v = v} {s = s} {k = k} asked (number_words x) b spans.0 few in
     record {
       does = λ {i} {h} {t} {aims} closed f taken room l at goal.
-          let eq = answer_is asked e taken block j type bs n b holds.numeric scope.declared among ∙ few_is taken asked b wide in
+          let eq = answer_is asked e taken block j type bs n b scope.sized scope.declared among ∙ few_is taken asked b wide in
           let same = ap size_of eq in
           let there : i + size_of (few_code asked b) ≡ i + size_of (number_code e taken x) = omega (arith, same) in
-          subst (Comes code i f v aims) (sym (answer_meant asked around k n b holds among wide))
+          subst (Comes code i f v aims) (sym (answer_meant asked around k n b scope among wide))
           (o.does closed f taken room (subst (Linked links code i) eq l) at
           (λ z f1 h1 t1 small stays at1. subst (λ u. aims.done u f1 v z s) (sym there) (goal z f1 h1 t1 small stays (λ base. record { pc = (at1 base).pc ∙ ap (address base) there; holds = (at1 base).holds }))));
     }

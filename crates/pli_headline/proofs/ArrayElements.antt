@@ -73,23 +73,23 @@ element_code e t level bs first rest =
     ++ (L.subscripts_counted t 0 (suc (given_in rest)) (map constant_bounds bs) ++ element_found e level)
 
 -- by the variable's declaration
-abbrev leaf_in : Option Y.DeclaredVariable → Y.Leaf
+abbrev pub leaf_in : Option Y.DeclaredVariable → Y.Leaf
 leaf_in o = unwrap_or (slice_get (declared_in o).leaves 0) L.no_leaf
 
-abbrev reached_by : Environment → Taken → (block : Names) (index given : ℕ) → Option Y.DeclaredVariable → Code
+abbrev pub reached_by : Environment → Taken → (block : Names) (index given : ℕ) → Option Y.DeclaredVariable → Code
 reached_by e t block index given o =
     let v = own block index in
     if has_constant_size (declared_in o) then L.subscripts_counted t 0 given (leaf_in o).bounds ++ (L.frame_found e (level_of block index) u3 ++ L.element_added (L.frame_in e (level_of block index) u3) (leaf_in o).type given)
     else L.found_reached e t t v whole_part (L.leaf_number e v 0) given
 
-abbrev address_by : Environment → (block : Names) (index : ℕ) → Option Y.DeclaredVariable → L.Address
+abbrev pub address_by : Environment → (block : Names) (index : ℕ) → Option Y.DeclaredVariable → L.Address
 address_by e block index o =
     record {
       register = u3;
       displacement = pos (if has_constant_size (declared_in o) then automatic_place e.parts e.program (block.at index).number (block.at index).level (block.at index).index + 16 + L.leaf_place (declared_in o) 0 else 0);
     }
 
-bounds_constant : (bs : List Bounds) → list_all are_constant (map constant_bounds bs) ≡ true
+pub bounds_constant : (bs : List Bounds) → list_all are_constant (map constant_bounds bs) ≡ true
 bounds_constant [] = refl
 bounds_constant (b ∷ bs) = bounds_constant bs
 

@@ -1,5 +1,5 @@
 -- Arrays in the main procedure's frame: their elements are read and written there, whatever the other variables hold.
-use Rattle.std.proofs.Common.{◌≡◌, ℕ, ◌+◌, ◌*◌, ◌^◌, ◌<◌, ◌≤◌, List, ◌∷◌, Bool, true, false, refl, sym, ap, subst, arith}
+use Rattle.std.proofs.Common.{◌≡◌, ℕ, ◌+◌, ◌*◌, ◌^◌, ◌<◌, ◌≤◌, List, ◌∷◌, Bool, true, false, refl, sym, ap, subst, arith, ◌∙◌}
 use Rattle.std.specs.Prelude.{ℤ, cond, ◌==◌}
 use Rattle.std.proofs.lemmas.Bool.{eqb-true, eq-eqb}
 use Rattle.rv_meaning.specs.Words.{word}
@@ -11,12 +11,12 @@ use Rattle.pli_coding.specs.Environments.{Environment}
 use Rattle.pli_headline.specs.ProvedSoFar.{Names, AreBounds, Kind}
 use Rattle.pli_headline.proofs.Engine.{Base}
 use Rattle.pli_headline.proofs.Numbers.{above_sum, above_small}
-use Rattle.pli_headline.proofs.Scalars.{Values, load_kind, store_kind}
+use Rattle.pli_headline.proofs.Scalars.{Values, load_kind, store_kind, IsNumeric}
 use Rattle.pli_headline.proofs.VariablePlaces.{Sizes, room_of, number_place, room_next, room_even}
 use Rattle.pli_headline.proofs.Variables.{data_place}
 use Rattle.pli_headline.proofs.ElementsStay.{ElementsThere, with_element_at, contents_of}
 use Rattle.pli_headline.proofs.Cells.{Cell, content}
-use Rattle.pli_headline.proofs.Holdings.{Content, Many, There, size_in, content_for}
+use Rattle.pli_headline.proofs.Holdings.{Content, Many, There, size_in, content_for, many_numeric}
 use Rattle.pli_headline.proofs.ArrayElements.{IsDeclaredArray}
 use Rattle.pli_headline.proofs.ArrayScopes.{with_element_of, ArrayOn}
 use Rattle.pli_headline.proofs.MainGround.{Frame, Stands, ground_of, contents}
@@ -49,6 +49,7 @@ stands_as f first held held' j count z z' t b m is same other o =
       variables = λ i h. held_by (i == j) held held' m (f.at + number_place f.sizes i) i j count z z' refl is same (other i h) (o.variables i h);
       fits = λ i h. fits_by (i == j) f.sizes held held' i j count z z' refl is (other i h) (o.fits i h);
       temporaries = o.temporaries;
+      names = o.names;
     }
 
 -- where an array stands in a frame
@@ -60,17 +61,18 @@ pub record ArrayIn (f : Frame) (j : ℕ) (type : Y.LeafType) (bs : List Bounds) 
   pub others : (n : Values) (p : ℕ) (z : ℤ) (i : ℕ) → i < f.count → (i == j) ≡ false → held (with_element_of n j p z) i ≡ held n i
 
 -- of those that stand by their kinds
-content_beside : (q : Bool) (kind : ℕ → Kind) (n : Values) (i p : ℕ) (z : ℤ) → q ≡ false → content_for (kind i) (n.numbers i) (n.texts i) (cond q (with_element_at (n.arrays i) p z) (n.arrays i)) ≡ contents kind n i
+content_beside : (q : Bool) (kind : ℕ → Kind) (n : Values) (i p : ℕ) (z : ℤ) → q ≡ false → content_for (kind i) (n.numbers i) (n.texts i) (cond q (with_element_at (n.arrays i) p z) (n.arrays i)) (n.text_arrays i) ≡ contents kind n i
 content_beside true kind n i p z e = absurd (cc e)
 content_beside false kind n i p z e = refl
 
-pub array_in : (f : Frame) (kind : ℕ → Kind) (j : ℕ) (type : Y.LeafType) (b : Bounds) (bs : List Bounds) → j < f.count → kind j ≡ record { type = type; bounds = b ∷ bs } → 16 + 4 * element_count (b ∷ bs) ≤ f.sizes.of j → element_count (b ∷ bs) ≤ 2 ^ 20 → ArrayIn f j type (b ∷ bs) (contents kind)
-array_in f kind j type b bs below is size few =
+pub array_in : (f : Frame) (kind : ℕ → Kind) (j : ℕ) (type : Y.LeafType) (b : Bounds) (bs : List Bounds) → j < f.count → IsNumeric type → kind j ≡ record { type = type; bounds = b ∷ bs } → 16 + 4 * element_count (b ∷ bs) ≤ f.sizes.of j → element_count (b ∷ bs) ≤ 2 ^ 20 → ArrayIn f j type (b ∷ bs) (contents kind)
+array_in f kind j type b bs below numeric is size few =
     record {
       below = below;
       size = size;
       few = few;
-      is = λ n. ap (λ k. content_for k (n.numbers j) (n.texts j) (n.arrays j)) is;
+      is = λ n.
+          ap (λ k. content_for k (n.numbers j) (n.texts j) (n.arrays j) (n.text_arrays j)) is ∙ many_numeric type (element_count (b ∷ bs)) (n.arrays j) (n.text_arrays j) numeric;
       others = λ n p z i among apart. content_beside (i == j) kind n i p z apart;
     }
 

@@ -117,11 +117,11 @@ element_kept Y.BitLeaf z fits =
     ap (λ w. w % 256 ∷ 0 ∷ 0 ∷ 0 ∷ []) (bit_word (bit_of z) ∙ ap word (sym fits))
 element_kept _ z fits = absurd fits
 
-flat_same : {A : Type 0} (f h : A → List ℕ) (xs : List A) → ((x : A) → f x ≡ h x) → flat_map f xs ≡ flat_map h xs
+pub flat_same : {A : Type 0} (f h : A → List ℕ) (xs : List A) → ((x : A) → f x ≡ h x) → flat_map f xs ≡ flat_map h xs
 flat_same f h [] same = refl
 flat_same f h (x ∷ xs) same = ap (λ u. u ++ flat_map f xs) (same x) ∙ ap (λ u. h x ++ u) (flat_same f h xs same)
 
-append_none : (xs : List ℕ) → xs ++ [] ≡ xs
+pub append_none : (xs : List ℕ) → xs ++ [] ≡ xs
 append_none [] = refl
 append_none (x ∷ xs) = ap (λ u. x ∷ u) (append_none xs)
 

@@ -36,7 +36,7 @@ dimension_none d b =
     let rest = tested_skip ++ L.counted_in d in
     behind less (range ++ rest) [] (plus_none u1 u1 (neg_ℤ b.lower)) (behind range rest [] (constant_none u2 (b.upper -ℤ b.lower)) (counted_none d))
 
-dimensions_none : (t : Taken) (d n : ℕ) (bs : List Bounds) → Marks (L.subscripts_counted t d n (map constant_bounds bs)) []
+pub dimensions_none : (t : Taken) (d n : ℕ) (bs : List Bounds) → Marks (L.subscripts_counted t d n (map constant_bounds bs)) []
 dimensions_none t d zero bs = refl
 dimensions_none t d (suc n) [] = refl
 dimensions_none t d (suc n) (b ∷ bs) =

@@ -42,7 +42,7 @@ number_itself : (z : ℤ) → same_int z z ≡ true
 number_itself (pos n) = grind (arith, nat_tests)
 number_itself (negsuc n) = grind (arith, nat_tests)
 
-bounds_itself : (bs : List Bounds) → same_bounds bs bs ≡ true
+pub bounds_itself : (bs : List Bounds) → same_bounds bs bs ≡ true
 bounds_itself [] = refl
 bounds_itself (b ∷ bs) =
     ap (λ t. t && (same_int b.upper b.upper && same_bounds bs bs)) (number_itself b.lower)
@@ -94,13 +94,17 @@ all_taken [] (suc n) e = absurd (omega (arith, e))
 all_taken (x ∷ xs) zero e = absurd (omega (arith, e))
 all_taken (x ∷ xs) (suc n) e = ap (λ u. x ∷ u) (all_taken xs n (omega (arith, e)))
 
-pub element_checked : {s : State} {block : Names} {j serial : ℕ} {type : Y.LeafType} {bs : List Bounds} {n : ℕ → ℤ} (around : Around) (is : List ℤ) (k : ℕ) (h : HoldsArray s block j serial type bs n) → length is ≡ length bs → V.variable_designated around (own block j) None whole_part is k s ≡ flow_on k (R.demanded around 102 (is_within bs is) k s) (λ u. give (designated_element type bs serial h.values is))
+pub checked_by : (s : State) (block : Names) (j : ℕ) (around : Around) (is : List ℤ) (k : ℕ) (type : Y.LeafType) (bs : List Bounds) (serial : ℕ) (values : ℕ → List ℤ → BasicValue) → same_shape (array_shape type bs) (array_shape type bs) ≡ true → standing_for s (own block j) ≡ Some (array_binding type bs (block.at j).index serial) → generation_of (living_of s.living serial) ≡ Some (array_generation type bs values) → length is ≡ length bs → V.variable_designated around (own block j) None whole_part is k s ≡ flow_on k (R.demanded around 102 (is_within bs is) k s) (λ u. give (designated_element type bs serial values is))
 unfolding V.variable_designated V.part_designated looked ◌>>=◌ ◌>>◌ R.or_error give
-element_checked {s = s} {block = block} {j = j} {serial = serial} {type = type} {bs = bs} around is k h all =
-    let lives : named s (VariableName serial) (array_shape type bs) ≡ Some (array_generation type bs h.values) = ap (if_same_shape (array_shape type bs)) h.lives ∙ ap (λ t. cond t (Some (array_generation type bs h.values)) None) (same_array type bs h.numeric) in
-    ap (λ o. flow_on k (R.or_error around 101 o k s) (λ b. V.part_designated around b.name b.shape whole_part is)) h.stands
+checked_by s block j around is k type bs serial values same stands living all =
+    let lives : named s (VariableName serial) (array_shape type bs) ≡ Some (array_generation type bs values) = ap (if_same_shape (array_shape type bs)) living ∙ ap (λ t. cond t (Some (array_generation type bs values)) None) same in
+    ap (λ o. flow_on k (R.or_error around 101 o k s) (λ b. V.part_designated around b.name b.shape whole_part is)) stands
     ∙ ap (λ o. flow_on k (R.or_error around 101 o k s) (λ g. ◌>>=◌ (R.or_error around 107 (V.extent_in_force g whole_part)) (λ e. ◌>>◌ (R.demanded around 102 (is_within (take (length is) (V.leaf_at (array_shape type bs) e 0).bounds) is)) (give (record { name = VariableName serial; generation = g; extent = e; part = whole_part; subscripts = is }))))) lives
-    ∙ ap (λ u. flow_on k (R.demanded around 102 (is_within u is) k s) (λ r. give (designated_element type bs serial h.values is))) (all_taken bs (length is) all)
+    ∙ ap (λ u. flow_on k (R.demanded around 102 (is_within u is) k s) (λ r. give (designated_element type bs serial values is))) (all_taken bs (length is) all)
+
+pub element_checked : {s : State} {block : Names} {j serial : ℕ} {type : Y.LeafType} {bs : List Bounds} {n : ℕ → ℤ} (around : Around) (is : List ℤ) (k : ℕ) (h : HoldsArray s block j serial type bs n) → length is ≡ length bs → V.variable_designated around (own block j) None whole_part is k s ≡ flow_on k (R.demanded around 102 (is_within bs is) k s) (λ u. give (designated_element type bs serial h.values is))
+element_checked {s = s} {block = block} {j = j} {serial = serial} {type = type} {bs = bs} around is k h all =
+    checked_by s block j around is k type bs serial h.values (same_array type bs h.numeric) h.stands h.lives all
 
 -- what an element holds is seen as it is
 pub element_seen : (type : Y.LeafType) (bs : List Bounds) (serial : ℕ) (values : ℕ → List ℤ → BasicValue) (is : List ℤ) → IsNumeric type → V.value_in (designated_element type bs serial values is) ≡ values 0 is

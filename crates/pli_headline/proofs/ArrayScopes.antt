@@ -10,7 +10,7 @@ use Rattle.pli_meaning.specs.StorageState.{State}
 use Rattle.pli_coding.specs.Environments.{Environment}
 use Rattle.pli_headline.specs.ProvedSoFar.{Names, Types, AreBounds}
 use Rattle.pli_headline.proofs.Engine.{Base}
-use Rattle.pli_headline.proofs.Scalars.{Values, Fits, load_kind, store_kind}
+use Rattle.pli_headline.proofs.Scalars.{Values, Fits, load_kind, store_kind, IsNumeric}
 use Rattle.pli_headline.proofs.Bodies.{Ground, PlaceFrom}
 use Rattle.pli_headline.proofs.Reaching.{Reaches}
 use Rattle.pli_headline.proofs.Variables.{data_place, level_of}
@@ -18,14 +18,19 @@ use Rattle.pli_headline.proofs.ElementsStay.{with_element_at}
 use Rattle.pli_headline.proofs.ArrayMeant.{HoldsArray}
 use Rattle.pli_headline.proofs.ArrayElements.{IsDeclaredArray, ArrayScope}
 
--- an array of the block
+-- an array of numbers or bits of the block
 abbrev pub IsArrayAt : Types → (j : ℕ) → Y.LeafType → Bounds → List Bounds → Type 0
-IsArrayAt types j type b bs = slice_get types j ≡ Some (record { type = type; bounds = b ∷ bs })
+IsArrayAt types j type b bs = (slice_get types j ≡ Some (record { type = type; bounds = b ∷ bs })) × IsNumeric type
 
 -- what variables hold when an element is assigned
 abbrev pub with_element_of : Values → (j p : ℕ) → ℤ → Values
 with_element_of n j p z =
-    record { numbers = n.numbers; texts = n.texts; arrays = λ i. cond (i == j) (with_element_at (n.arrays i) p z) (n.arrays i) }
+    record {
+      numbers = n.numbers;
+      texts = n.texts;
+      arrays = λ i. cond (i == j) (with_element_at (n.arrays i) p z) (n.arrays i);
+      text_arrays = n.text_arrays;
+    }
 
 -- all arrays around an expression
 abbrev pub ArraysHeld : Ground → Environment → (block : Names) → Types → State → Values → Type 0

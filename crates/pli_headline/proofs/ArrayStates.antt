@@ -22,7 +22,7 @@ use Rattle.pli_headline.proofs.ArrayScopes.{IsArrayAt, with_element_of}
 
 -- ---- a place is that of one variable
 
-abbrev kind_with : Y.LeafType → List Bounds → Kind
+abbrev pub kind_with : Y.LeafType → List Bounds → Kind
 kind_with type bs = record { type = type; bounds = bs }
 
 alone_apart : (type other : Y.LeafType) (b : Bounds) (bs : List Bounds) → alone type ≡ kind_with other (b ∷ bs) → ⊥
@@ -30,17 +30,17 @@ alone_apart type other b bs e =
     let f : [] ≡ b ∷ bs = ap (λ (k : Kind). k.bounds) e in
     absurd (cc f)
 
-apart_by : (q : Bool) (types : Types) (i j : ℕ) (kind other : Kind) → (i == j) ≡ q → slice_get types j ≡ Some kind → slice_get types i ≡ Some other → (other ≡ kind → ⊥) → q ≡ false
+pub apart_by : (q : Bool) (types : Types) (i j : ℕ) (kind other : Kind) → (i == j) ≡ q → slice_get types j ≡ Some kind → slice_get types i ≡ Some other → (other ≡ kind → ⊥) → q ≡ false
 apart_by true types i j kind other e h k never =
     absurd (never (one_type types i j kind other h k (eqb-true i j e)))
 apart_by false types i j kind other e h k never = refl
 
 -- a scalar is no array
-pub scalar_apart : (types : Types) (i j : ℕ) (other type : Y.LeafType) (b : Bounds) (bs : List Bounds) → IsArrayAt types j type b bs → slice_get types i ≡ Some (alone other) → (i == j) ≡ false
+pub scalar_apart : (types : Types) (i j : ℕ) (other type : Y.LeafType) (b : Bounds) (bs : List Bounds) → slice_get types j ≡ Some (kind_with type (b ∷ bs)) → slice_get types i ≡ Some (alone other) → (i == j) ≡ false
 scalar_apart types i j other type b bs h k =
     apart_by (i == j) types i j (kind_with type (b ∷ bs)) (alone other) refl h k (λ e. alone_apart other type b bs e)
 
-pub array_apart : (types : Types) (i j : ℕ) (other type : Y.LeafType) (b : Bounds) (bs : List Bounds) → slice_get types j ≡ Some (alone other) → IsArrayAt types i type b bs → (i == j) ≡ false
+pub array_apart : (types : Types) (i j : ℕ) (other type : Y.LeafType) (b : Bounds) (bs : List Bounds) → slice_get types j ≡ Some (alone other) → slice_get types i ≡ Some (kind_with type (b ∷ bs)) → (i == j) ≡ false
 array_apart types i j other type b bs h k =
     apart_by (i == j) types i j (alone other) (kind_with type (b ∷ bs)) refl h k (λ e. alone_apart other type b bs (sym e))
 
@@ -74,7 +74,7 @@ after_by {s} {block} {j} {serial} {type} {bs} false i other' other cs n is z e a
 -- all arrays
 pub arrays_after : {s : State} {block : Names} {j : ℕ} {type : Y.LeafType} {b : Bounds} {bs : List Bounds} (serials : ℕ → ℕ) (types : Types) (n : Values) (is : List ℤ) (z : ℤ) → IsArrayAt types j type b bs → is_within (b ∷ bs) is ≡ true → Fits type z → (h : HoldsArray s block j (serials j) type (b ∷ bs) (n.arrays j)) → (i : ℕ) (other : Y.LeafType) (c : Bounds) (cs : List Bounds) → IsArrayAt types i other c cs → ((i == j) ≡ false → (serials j == serials i) ≡ false) → HoldsArray s block i (serials i) other (c ∷ cs) (n.arrays i) → HoldsArray (element_state s type (b ∷ bs) (serials j) h.values is z) block i (serials i) other (c ∷ cs) ((with_element_of n j (element_place (b ∷ bs) is) z).arrays i)
 arrays_after {j = j} {type = type} {b = b} {bs = bs} serials types n is z at within fits h i other c cs at' apart o =
-    after_by (i == j) i (serials i) other (c ∷ cs) n is z refl (one_type types i j (kind_with type (b ∷ bs)) (kind_with other (c ∷ cs)) at at') (λ e. ap serials e) apart within fits h o
+    after_by (i == j) i (serials i) other (c ∷ cs) n is z refl (one_type types i j (kind_with type (b ∷ bs)) (kind_with other (c ∷ cs)) at.0 at'.0) (λ e. ap serials e) apart within fits h o
 
 -- ---- something else is assigned
 

@@ -2,15 +2,17 @@
 use Rattle.std.proofs.Common.{◌≡◌, ℕ, zero, suc, ◌+◌, ◌*◌, List, [], ◌∷◌, ◌++◌, length, Some, Bool, true, false, refl, sym, ap, ◌∙◌, arith, length-append, append_assoc}
 use Rattle.std.specs.Prelude.{ℤ, pos, ◌+ℤ◌, cond, nat_le, slice_get}
 use Rattle.std.specs.List.{flat_map}
-use Rattle.pli_typing.specs.Signatures.{Bounds, rounded_up, span, element_count}
+use Rattle.pli_typing.specs.Signatures.{Bounds, rounded_up, span, element_count, data_size}
 use Rattle.pli_typing.specs.TypedTree as Y
 use Rattle.pli_meaning.specs.StreamOrder.{numbers_from, subscripts_of, with_more}
 use Rattle.pli_serving.specs.Values.{all_subscripts}
 use Rattle.pli_serving.specs.Finding.{Call}
 use Rattle.pli_serving.specs.Arguments.{data_bytes}
-use Rattle.pli_headline.proofs.Scalars.{IsNumeric, by_type}
 use Rattle.pli_headline.proofs.ArrayPlaces.{suc-times}
 use Rattle.pli_headline.proofs.ArrayMeant.{array_shape}
+use Rattle.pli_headline.proofs.Scalars.{by_held}
+use Rattle.pli_headline.specs.ProvedSoFar.{IsScalar}
+use Rattle.pli_headline.proofs.VariablePlaces.{scalar_data_size}
 
 -- ---- how many elements there are
 
@@ -54,10 +56,21 @@ pub size_by : (q : Bool) (n : ℕ) → rounded_up 4 (cond q 2 4) * n + 0 ≡ 4 *
 size_by true n = omega arith
 size_by false n = omega arith
 
-pub array_size : (c : Call) (type : Y.LeafType) → IsNumeric type → (bs : List Bounds) → data_bytes c.keeper (array_shape type bs) ≡ 4 * element_count bs
+none_behind : (n : ℕ) → n + 0 ≡ n
+none_behind n = omega arith
+
+pub array_size : (c : Call) (type : Y.LeafType) → IsScalar type → (bs : List Bounds) → data_bytes c.keeper (array_shape type bs) ≡ scalar_data_size type * element_count bs
 array_size c type is bs =
-    by_type (λ t. data_bytes c.keeper (array_shape t bs) ≡ 4 * element_count bs) (λ p. size_by (nat_le p 15) (element_count bs)) (size_by false (element_count bs)) type is
+    by_held (λ t. data_bytes c.keeper (array_shape t bs) ≡ scalar_data_size t * element_count bs) (λ p. size_by (nat_le p 15) (element_count bs)) (size_by false (element_count bs))
+    (λ n few. none_behind (rounded_up 4 (suc n) * element_count bs)) (λ n few. none_behind (rounded_up 4 (2 + suc n) * element_count bs)) type is
 
 -- what it takes with its name, in whole pieces of 16 bytes
-abbrev pub array_room : List Bounds → ℕ
-array_room bs = 16 + rounded_up 16 (4 * element_count bs)
+abbrev pub array_room : Y.LeafType → List Bounds → ℕ
+array_room type bs = 16 + rounded_up 16 (scalar_data_size type * element_count bs)
+
+-- whatever asks for its bytes
+pub data_room : (type : Y.LeafType) → IsScalar type → (bs : List Bounds) → 16 + rounded_up 16 (data_size (array_shape type bs).signature) ≡ array_room type bs
+data_room type is bs =
+    by_held (λ t. 16 + rounded_up 16 (data_size (array_shape t bs).signature) ≡ array_room t bs)
+    (λ p. ap (λ n. 16 + rounded_up 16 n) (size_by (nat_le p 15) (element_count bs))) (ap (λ n. 16 + rounded_up 16 n) (size_by false (element_count bs)))
+    (λ n few. ap (λ m. 16 + rounded_up 16 m) (none_behind (rounded_up 4 (suc n) * element_count bs))) (λ n few. ap (λ m. 16 + rounded_up 16 m) (none_behind (rounded_up 4 (2 + suc n) * element_count bs))) type is

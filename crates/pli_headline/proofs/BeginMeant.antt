@@ -15,6 +15,7 @@ use Rattle.pli_meaning.specs.Executing as M
 use Rattle.pli_serving.specs.ServiceState as S
 use Rattle.pli_headline.specs.ProvedSoFar.{Names, Kind, Types}
 use Rattle.pli_headline.proofs.Activations.{IsNested, IsOrdinary, Nested, frames_of, ancestor_inside, ancestor_around, first_level, levels_of, behind_level, entered_length, same_length, newest_level, newest_of_levels, direct_parent}
+use Rattle.pli_headline.proofs.Asides.{StandAside, behind_aside, asides_left}
 use Rattle.pli_headline.proofs.Entered.{Frames, atop, kinds_of, kinds_above, kinds_behind, behind_kind, first_kind, AreKnown, UnitsKnown}
 use Rattle.pli_headline.proofs.Variables.{level_of, AllOutermost}
 use Rattle.pli_headline.proofs.Storages.{Storage, Serials, Stored, stored_higher, stored_left, lives_left}
@@ -140,11 +141,15 @@ raised_all head entry s xs x {frames = frames} {serials = serials} {outer = oute
           record { values = h.values; stands = ap (λ o. binding_in o (block.at j).index) (same j _ at) ∙ h.stands; lives = h.lives; value = h.value; short = h.short };
       arrays = λ j type b bs at.
           let h = all.arrays j type b bs at in
-          record { values = h.values; numeric = h.numeric; stands = ap (λ o. binding_in o (block.at j).index) (same j _ at) ∙ h.stands; lives = h.lives; value = h.value; fits = h.fits };
+          record { values = h.values; numeric = h.numeric; stands = ap (λ o. binding_in o (block.at j).index) (same j _ at.0) ∙ h.stands; lives = h.lives; value = h.value; fits = h.fits };
+      text_arrays = λ j varying most b bs at.
+          let h = all.text_arrays j varying most b bs at in
+          record { values = h.values; stands = ap (λ o. binding_in o (block.at j).index) (same j _ at) ∙ h.stands; lives = h.lives; value = h.value; short = h.short };
       entered = ap (λ ls. head.level ∷ ls) all.entered;
       framed = ap (λ fs. x.frame ∷ fs) all.framed;
       kinds = kinds_above x xs.activations (omega (arith, served, long)) ∙ ap (λ ks. x.kind ∷ ks) all.kinds;
       units = (subst (AreKnown frames.known (length s.activations + 1) x.frame []) (sym none) tt, all.units);
+      aside = record { all = (tt, all.aside.all) };
       stored = stored_higher all.stored;
     }
 
@@ -180,12 +185,12 @@ abbrev pub behind_first : List ℕ → List ℕ
 behind_first [] = []
 behind_first (x ∷ xs) = xs
 
-left_by : (s : State) (as' : List Activation) (xs : Storage) (ys : List S.Activation) {top outer : ℕ} {levels : List ℕ} (from frames : Frames) {serials : Serials} {block : Names} {types : Types} {n : Values} → behind_first from.list ≡ frames.list → behind_kind from.kinds ≡ frames.kinds → ((us : List Activation) (vs : List S.Activation) → UnitsKnown from.known us vs → UnitsKnown frames.known us vs) → s.activations ≡ as' → xs.activations ≡ ys → Nested as' ys → Outside top outer block types → ((j : ℕ) (kind : Kind) → slice_get types j ≡ Some kind → serials.owner j ≤ suc (length levels)) → AllHold from serials xs (top ∷ outer ∷ levels) s block types n → Left frames serials s xs block types n (outer ∷ levels)
-left_by s [] xs ys {top} {outer} {levels} from frames lists kinds known same are nested outside owners all =
+left_by : (s : State) (as' : List Activation) (xs : Storage) (ys : List S.Activation) {top outer : ℕ} {levels : List ℕ} (from frames : Frames) {serials : Serials} {block : Names} {types : Types} {n : Values} → behind_first from.list ≡ frames.list → behind_kind from.kinds ≡ frames.kinds → behind_aside from.asides ≡ frames.asides → ((us : List Activation) (vs : List S.Activation) → UnitsKnown from.known us vs → UnitsKnown frames.known us vs) → s.activations ≡ as' → xs.activations ≡ ys → Nested as' ys → Outside top outer block types → ((j : ℕ) (kind : Kind) → slice_get types j ≡ Some kind → serials.owner j ≤ suc (length levels)) → AllHold from serials xs (top ∷ outer ∷ levels) s block types n → Left frames serials s xs block types n (outer ∷ levels)
+left_by s [] xs ys {top} {outer} {levels} from frames lists kinds asides known same are nested outside owners all =
     let none : [] ≡ top ∷ outer ∷ levels = ap levels_of (sym same) ∙ all.entered in
     absurd (cc none)
-left_by s (a ∷ as') xs [] from frames lists kinds known same are nested outside owners all = absurd nested
-left_by s (a ∷ as') xs (x ∷ ys) {top} {outer = outer} {levels = levels} from frames {serials = serials} {block = block} {types = types} {n = n} lists kinds known same are nested outside owners all =
+left_by s (a ∷ as') xs [] from frames lists kinds asides known same are nested outside owners all = absurd nested
+left_by s (a ∷ as') xs (x ∷ ys) {top} {outer = outer} {levels = levels} from frames {serials = serials} {block = block} {types = types} {n = n} lists kinds asides known same are nested outside owners all =
     let entered : levels_of (a ∷ as') ≡ top ∷ outer ∷ levels = ap levels_of (sym same) ∙ all.entered in
     let left' : levels_of as' ≡ outer ∷ levels = ap behind_level entered in
     let long = entered_length as' (outer ∷ levels) left' in
@@ -199,7 +204,7 @@ left_by s (a ∷ as') xs (x ∷ ys) {top} {outer = outer} {levels = levels} from
     let stands : (j : ℕ) (kind : Kind) → slice_get types j ≡ Some kind → ancestor as' (newest_height as') (level_of block j) ≡ ancestor s.activations (newest_height s.activations) (level_of block j) = λ j kind at. sym (inside j kind at) ∙ ap (λ us. ancestor us (newest_height us) (level_of block j)) (sym same) in
     let stored : Stored serials xs.signatures (filter (λ l. nat_le l.owner (length ys)) xs.living) xs.serials (suc (length levels)) (without_owner a.height s.living) s.serials block types =
     subst (λ m. Stored serials xs.signatures (filter (λ l. nat_le l.owner (length ys)) xs.living) xs.serials (suc (length levels)) (without_owner m s.living) s.serials block types) (sym high)
-    (subst (λ m. Stored serials xs.signatures (filter (λ l. nat_le l.owner m) xs.living) xs.serials (suc (length levels)) (without_owner (suc (suc (length levels))) s.living) s.serials block types) (sym most) (stored_left owners all.stored)) in
+    (subst (λ m. Stored serials xs.signatures (filter (λ l. nat_le l.owner m) xs.living) xs.serials (suc (length levels)) (without_owner (suc (suc (length levels))) s.living) s.serials block types) (sym most) (stored_left (omega arith) owners all.stored)) in
     let T : State → Type 0 = λ s'. Nested (with_world s.world s').activations ys × AllHold frames serials (left_storage xs ys) (outer ∷ levels) (with_world s.world s') block types n in
     let done : T (without_newest (a ∷ as') s) = (
       nested.1.1,
@@ -212,11 +217,15 @@ left_by s (a ∷ as') xs (x ∷ ys) {top} {outer = outer} {levels = levels} from
             record { values = h.values; stands = ap (λ o. binding_in o (block.at j).index) (stands j _ at') ∙ h.stands; lives = lives j _ at' ∙ h.lives; value = h.value; short = h.short };
         arrays = λ j type b bs at'.
             let h = all.arrays j type b bs at' in
-            record { values = h.values; numeric = h.numeric; stands = ap (λ o. binding_in o (block.at j).index) (stands j _ at') ∙ h.stands; lives = lives j _ at' ∙ h.lives; value = h.value; fits = h.fits };
+            record { values = h.values; numeric = h.numeric; stands = ap (λ o. binding_in o (block.at j).index) (stands j _ at'.0) ∙ h.stands; lives = lives j _ at'.0 ∙ h.lives; value = h.value; fits = h.fits };
+        text_arrays = λ j varying most' b bs at'.
+            let h = all.text_arrays j varying most' b bs at' in
+            record { values = h.values; stands = ap (λ o. binding_in o (block.at j).index) (stands j _ at') ∙ h.stands; lives = lives j _ at' ∙ h.lives; value = h.value; short = h.short };
         entered = left';
         framed = ap behind_first (ap frames_of (sym are) ∙ all.framed) ∙ lists;
         kinds = kinds_behind x ys ∙ ap behind_kind (ap kinds_of (sym are) ∙ all.kinds) ∙ kinds;
         units = known as' ys (subst (λ us. UnitsKnown from.known us (x ∷ ys)) same (subst (UnitsKnown from.known s.activations) are all.units)).1;
+        aside = subst (λ xss. StandAside xss serials types as' (without_owner a.height s.living) s.serials) asides (asides_left a.height a as' (omega (arith, high, long)) (subst (λ us. StandAside from.asides serials types us s.living s.serials) same all.aside));
         stored = stored;
       },
     ) in
@@ -224,13 +233,13 @@ left_by s (a ∷ as') xs (x ∷ ys) {top} {outer = outer} {levels = levels} from
     record { newest = x; rest = ys; are = are; some = omega (arith, long, long'); nested = o.0; all = o.1 }
 
 -- below the newest of some frames
-pub left_below : (s : State) (xs : Storage) {top outer : ℕ} {levels : List ℕ} (from frames : Frames) {serials : Serials} {block : Names} {types : Types} {n : Values} → behind_first from.list ≡ frames.list → behind_kind from.kinds ≡ frames.kinds → ((us : List Activation) (vs : List S.Activation) → UnitsKnown from.known us vs → UnitsKnown frames.known us vs) → Nested s.activations xs.activations → Outside top outer block types → ((j : ℕ) (kind : Kind) → slice_get types j ≡ Some kind → serials.owner j ≤ suc (length levels)) → AllHold from serials xs (top ∷ outer ∷ levels) s block types n → Left frames serials s xs block types n (outer ∷ levels)
-left_below s xs from frames lists kinds known nested outside owners all =
-    left_by s s.activations xs xs.activations from frames lists kinds known refl refl nested outside owners all
+pub left_below : (s : State) (xs : Storage) {top outer : ℕ} {levels : List ℕ} (from frames : Frames) {serials : Serials} {block : Names} {types : Types} {n : Values} → behind_first from.list ≡ frames.list → behind_kind from.kinds ≡ frames.kinds → behind_aside from.asides ≡ frames.asides → ((us : List Activation) (vs : List S.Activation) → UnitsKnown from.known us vs → UnitsKnown frames.known us vs) → Nested s.activations xs.activations → Outside top outer block types → ((j : ℕ) (kind : Kind) → slice_get types j ≡ Some kind → serials.owner j ≤ suc (length levels)) → AllHold from serials xs (top ∷ outer ∷ levels) s block types n → Left frames serials s xs block types n (outer ∷ levels)
+left_below s xs from frames lists kinds asides known nested outside owners all =
+    left_by s s.activations xs xs.activations from frames lists kinds asides known refl refl nested outside owners all
 
 pub left_all : (s : State) (xs : Storage) {top outer : ℕ} {levels : List ℕ} {at : ℕ} {kind : S.BlockKind} {frames : Frames} {serials : Serials} {block : Names} {types : Types} {n : Values} → Nested s.activations xs.activations → Outside top outer block types → ((j : ℕ) (kind' : Kind) → slice_get types j ≡ Some kind' → serials.owner j ≤ suc (length levels)) → AllHold (atop at kind frames) serials xs (top ∷ outer ∷ levels) s block types n → Left frames serials s xs block types n (outer ∷ levels)
 left_all s xs {at = at} {kind = kind} {frames = frames} nested outside owners all =
-    left_below s xs (atop at kind frames) frames refl refl (λ us vs o. o) nested outside owners all
+    left_below s xs (atop at kind frames) frames refl refl refl (λ us vs o. o) nested outside owners all
 
 -- how the newest block was entered
 pub newest_kind : {s : State} {xs : Storage} {levels : List ℕ} {at : ℕ} {kind : S.BlockKind} {frames : Frames} {serials : Serials} {block : Names} {types : Types} {n : Values} (x : S.Activation) (rest : List S.Activation) → xs.activations ≡ x ∷ rest → 0 < length rest → AllHold (atop at kind frames) serials xs levels s block types n → x.kind ≡ kind

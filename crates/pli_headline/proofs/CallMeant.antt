@@ -1,5 +1,5 @@
--- What a call without arguments means, of a procedure inside the main one that declares nothing: the procedure is entered above the caller,
--- and behind its end the caller goes on; past the limit on active blocks the run ends.
+-- What a call without arguments means, of a procedure inside the main one: it is entered above the caller, its variables are made, and
+-- behind its end the caller goes on; past the limit on active blocks the run ends.
 use Rattle.std.proofs.Common.{◌≡◌, ℕ, suc, [], length, Option, Some, None, true, false, ap, ◌∙◌}
 use Rattle.std.specs.Prelude.{cond, nat_lt}
 use Rattle.pli_typing.specs.TypedTree as Y
@@ -28,9 +28,9 @@ call_part around number = V.called around (Y.Calling number 0 Y.NoArgument) >> g
 abbrev pub called_part : Y.Program → (more : ℕ) → Y.BlockHead → Y.Stmts → Meaning (Unit {0})
 called_part program more head body = act counted >> inner_part program more head body
 
-pub call_meant : (program : Y.Program) (around : Around) (more : ℕ) (head : Y.BlockHead) (body : Y.Stmts) (number k : ℕ) (s : State) → around.program ≡ program → around.enter ≡ M.entered program (suc more) → procedure_numbered number program.procedures ≡ Some (plain_procedure head body) → head.kind ≡ Y.ProcedureBlock → variables_of_block program head.number ≡ [] → height_of (ancestor_at s 0) ≡ 1 → nat_lt (length s.activations) most_activations ≡ true → call_part around number k s ≡ flow_on k (left true newest_ended (called_part program more head body k (entered_at 1 head body s))) (λ u. give tt)
-unfolding V.called V.arguments V.all_passed_last V.procedure_entered M.entered M.block_run M.block_body M.block_variables_made M.entry_act K.parameters_bound K.variables_made leaving stored looked choose give ◌>>=◌ ◌>>◌
-call_meant program around more head body number k s same enter found kind none parent few =
+pub call_meant : (program : Y.Program) (around : Around) (more : ℕ) (head : Y.BlockHead) (body : Y.Stmts) (number k : ℕ) (s : State) → around.program ≡ program → around.enter ≡ M.entered program (suc more) → procedure_numbered number program.procedures ≡ Some (plain_procedure head body) → head.kind ≡ Y.ProcedureBlock → height_of (ancestor_at s 0) ≡ 1 → nat_lt (length s.activations) most_activations ≡ true → call_part around number k s ≡ flow_on k (left true newest_ended (flow_on k (K.variables_made (inner_around program more head.line) 0 (variables_of_block program head.number) k (entered_at 1 head body s)) (λ u. called_part program more head body))) (λ u. give tt)
+unfolding V.called V.arguments V.all_passed_last V.procedure_entered M.entered M.block_run M.block_body M.block_variables_made M.entry_act K.parameters_bound leaving stored looked choose give ◌>>=◌ ◌>>◌
+call_meant program around more head body number k s same enter found kind parent few =
     let here = inner_around program more head.line in
     let entry = M.begun (Y.BlockOf head body) 1 in
     let s1 = entered_at 1 head body s in
@@ -42,7 +42,6 @@ call_meant program around more head body number k s same enter found kind none p
     ∙ ap (λ enters. flow_on k (enters entry k s) last) enter
     ∙ ap (λ q. flow_on k (cond q (left (M.is_own_return head.kind) newest_ended (M.block_body here head body entry k s1)) (finish (E.Limit L.Depth) k s)) last) few
     ∙ ap (λ kind'. flow_on k (left (M.is_own_return kind') newest_ended (flow_on k (M.block_variables_made here head kind' k s1) (λ u. M.entry_act kind' >> statements))) last) kind
-    ∙ ap (λ ds. flow_on k (left true newest_ended (flow_on k (K.variables_made here 0 ds k s1) (λ u. M.entry_act Y.ProcedureBlock >> statements))) last) none
 
 -- where too many blocks are entered the run ends
 pub call_limited : (program : Y.Program) (around : Around) (more : ℕ) (head : Y.BlockHead) (body : Y.Stmts) (number k : ℕ) (s : State) → around.program ≡ program → around.enter ≡ M.entered program (suc more) → procedure_numbered number program.procedures ≡ Some (plain_procedure head body) → nat_lt (length s.activations) most_activations ≡ false → call_part around number k s ≡ flow_on k (finish {R = Option BasicValue} (E.Limit L.Depth) k s) (λ u. give tt)

@@ -11,45 +11,49 @@ use Rattle.rv_meaning.specs.Words.{word}
 use Rattle.pli_typing.specs.TypedTree as Y
 use Rattle.pli_meaning.specs.World.{counted}
 use Rattle.pli_meaning.specs.BasicValues.{BasicValue}
-use Rattle.pli_meaning.specs.DeclaredShapes.{procedure_numbered, variables_of_block}
+use Rattle.pli_meaning.specs.DeclaredShapes.{procedure_numbered}
 use Rattle.pli_meaning.specs.StorageState.{State, with_world, newest_ended, most_activations}
 use Rattle.pli_meaning.specs.declared.outcome.End.TheVariants as E
 use Rattle.pli_meaning.specs.declared.outcome.Limit.TheVariants as L
-use Rattle.pli_meaning.specs.Control.{Label, Meaning, left, give, act, ◌>>◌, finish}
+use Rattle.pli_meaning.specs.Control.{Label, Meaning, flow_on, left, give, act, ◌>>◌, finish}
 use Rattle.pli_meaning.specs.Raising.{Around, at_line}
 use Rattle.pli_meaning.specs.Executing as M
+use Rattle.pli_meaning.specs.Making as K
 use Rattle.pli_serving.specs.ServiceState as S
 use Rattle.pli_serving.specs.ServiceState.{Services}
 use Rattle.pli_coding.specs.Registers.{zero_register, return_register, frame_register, a0, a1, a2, a3, u5, a7}
 use Rattle.pli_coding.specs.Assembly.{ProcedureEntry, ReturnPlace, Plain, CallTo, Mark, Code, size_of}
 use Rattle.pli_coding.specs.Instructions.{move, plus, number, load_word, is_immediate, small}
-use Rattle.pli_coding.specs.Frames.{display, own_offset, fixed_size}
+use Rattle.pli_coding.specs.Frames.{display, own_offset}
 use Rattle.pli_coding.specs.Allocating.{act_code}
-use Rattle.pli_coding.specs.Entries.{all_restored, frame_begun, frame_ended, block_entered, block_left, variables_made, variables_words}
+use Rattle.pli_coding.specs.Entries.{all_restored, frame_begun, frame_ended, block_left, variables_made}
 use Rattle.pli_coding.specs.Environments.{Environment, none_taken}
 use Rattle.pli_coding.specs.Expressions.{frame_given}
 use Rattle.pli_coding.specs.Statements.{stmts_words, stmts_code}
 use Rattle.pli_coding.specs.Procedures.{procedure_environment, procedure_in}
 use Rattle.pli_coding.specs.Linking.{Links, place_of}
-use Rattle.pli_headline.specs.ProvedSoFar.{Names, Types}
+use Rattle.pli_headline.specs.ProvedSoFar.{Names, Types, AreDeclaring}
 use Rattle.pli_headline.proofs.Storages.{storage}
 use Rattle.pli_headline.proofs.Engine.{Base, address, most_code}
 use Rattle.pli_headline.proofs.Linking.{size_append}
 use Rattle.pli_headline.proofs.Items.{Linked, At}
 use Rattle.pli_headline.proofs.Bodies.{far_code, Known}
 use Rattle.pli_headline.proofs.Jumps.{front_of, back_of, rest_of, linked_at}
-use Rattle.pli_headline.proofs.Temporaries.{nothing}
+use Rattle.pli_headline.proofs.Temporaries.{stays_same, nothing}
 use Rattle.pli_headline.proofs.Activations.{same_length, first_level, levels_of, entered_length, outermost_height}
 use Rattle.pli_headline.proofs.Calls.{Serving}
-use Rattle.pli_headline.proofs.Acts.{acted, act_to, act_piece}
+use Rattle.pli_headline.proofs.Acts.{act_to, act_piece}
 use Rattle.pli_headline.proofs.Entered.{atop}
-use Rattle.pli_headline.proofs.Statements.{owner_level, Block, AllHold, counted_all, Enough, Does}
+use Rattle.pli_headline.proofs.Declares.{Makes, made_block, declares_from, code_joined}
+use Rattle.pli_headline.proofs.DeclaredBegins.{vars_of, no_words, ended_does}
+use Rattle.pli_headline.proofs.StandingBytes.{ConstantsStand}
+use Rattle.pli_headline.proofs.Statements.{owner_level, Block, IsKnown, AllHold, counted_all, Enough, Does, further}
 use Rattle.pli_headline.proofs.CalledJumps.{ending_closed, comes_called}
 use Rattle.pli_headline.proofs.Owing.{owing, owing_closed, comes_owing, done_owing}
 use Rattle.pli_headline.proofs.MainOutlets.{procedure_owner, HasMain, main_of, main_enclosing, main_seen, main_outlet, owed_outlet}
 use Rattle.pli_headline.proofs.SavedRegisters.{held_again}
 use Rattle.pli_headline.proofs.BeginEntered.{ended_services}
-use Rattle.pli_headline.proofs.BeginMeant.{Entering, inner_around, inner_part, entered_nested, entered_all, ended_input, left_all, entered_at}
+use Rattle.pli_headline.proofs.BeginMeant.{Entering, inner_around, entered_nested, entered_all, ended_input, left_all, entered_at}
 use Rattle.pli_headline.proofs.CallMeant.{plain_procedure, call_part, called_part, call_meant, call_limited}
 use Rattle.pli_headline.proofs.CallEntry.{call_of, call_back, call_entry}
 use Rattle.pli_headline.proofs.CalledFrames.{Callee, called_block}
@@ -62,29 +66,38 @@ use Rattle.pli_headline.proofs.Scalars.{Values}
 
 -- ---- the code of the procedure
 
-abbrev begun_with : (level words line : ℕ) → (made : Code) → Code
-begun_with level words line made =
-    frame_begun words level 0 true ++ (move u5 a1 ∷ move a3 a2 ∷ (block_entered 0 line ++ (made ++ act_code line)))
+-- the variables are made before the act of the entry
+abbrev pub called_variables : Environment → Y.BlockHead → Code
+called_variables e head = variables_made (procedure_environment head e) head.line 0 (vars_of e head)
 
-abbrev called_begun : (words line : ℕ) → Code
-called_begun words line = frame_begun words 1 0 true ++ (called_entry line ++ act_code line)
+abbrev pub called_behind : Environment → Y.BlockHead → (words : ℕ) → Y.Stmts → Code
+called_behind e head words body =
+    called_entry head.line
+    ++ ((called_variables e head ++ (act_code head.line ++ stmts_code (procedure_environment head e) none_taken body))
+    ++ (Mark (ReturnPlace head.number) ∷ called_ended words))
 
 abbrev pub called_code : Environment → Y.BlockHead → (words : ℕ) → Y.Stmts → Code
 called_code e head words body =
+    Mark (ProcedureEntry head.number) ∷ (frame_begun words 1 0 true ++ called_behind e head words body)
+
+abbrev code_with : Environment → Y.BlockHead → Y.Stmts → (level words : ℕ) → Code
+code_with e head body level words =
     Mark (ProcedureEntry head.number)
-    ∷ (called_begun words head.line
+    ∷ ((frame_begun words level 0 true ++ (called_entry head.line ++ (called_variables e head ++ act_code head.line)))
     ++ (stmts_code (procedure_environment head e) none_taken body ++ (Mark (ReturnPlace head.number) ∷ called_ended words)))
 
-abbrev code_with : Environment → Y.BlockHead → Y.Stmts → (level : ℕ) → List Y.DeclaredVariable → Code
-code_with e head body level ds =
-    Mark (ProcedureEntry head.number)
-    ∷ (begun_with level (max (variables_words ds) (stmts_words body)) head.line (variables_made (procedure_environment head e) head.line 0 ds)
-    ++ (stmts_code (procedure_environment head e) none_taken body
-    ++ (Mark (ReturnPlace head.number) ∷ called_ended (max (variables_words ds) (stmts_words body)))))
+joined : (frame enter made act code ended : Code) → (frame ++ (enter ++ (made ++ act))) ++ (code ++ ended) ≡ frame ++ (enter ++ ((made ++ (act ++ code)) ++ ended))
+joined frame enter made act code ended =
+    code_joined frame (enter ++ (made ++ act)) (code ++ ended)
+    ∙ ap (λ c. frame ++ c) (code_joined enter (made ++ act) (code ++ ended))
+    ∙ ap (λ c. frame ++ (enter ++ c)) (code_joined made act (code ++ ended) ∙ ap (λ c. made ++ c) (sym (code_joined act code ended)) ∙ sym (code_joined made (act ++ code) ended))
 
-pub called_code_is : (e : Environment) (head : Y.BlockHead) (body : Y.Stmts) → head.level ≡ 1 → variables_of_block e.program head.number ≡ [] → procedure_in (procedure_environment head e) head body [] None ≡ called_code e head (max 0 (stmts_words body)) body
-called_code_is e head body next none =
-    ap (code_with e head body head.level) none ∙ ap (λ level. code_with e head body level []) next
+pub called_code_is : (e : Environment) (head : Y.BlockHead) (body : Y.Stmts) → head.level ≡ 1 → AreDeclaring (vars_of e head) → procedure_in (procedure_environment head e) head body [] None ≡ called_code e head (max 0 (stmts_words body)) body
+called_code_is e head body next are =
+    let words = max 0 (stmts_words body) in
+    ap (λ n. code_with e head body head.level (max n (stmts_words body))) (no_words (vars_of e head) are)
+    ∙ ap (λ level. code_with e head body level words) next
+    ∙ ap (λ c. Mark (ProcedureEntry head.number) ∷ c) (joined (frame_begun words 1 0 true) (called_entry head.line) (called_variables e head) (act_code head.line) (stmts_code (procedure_environment head e) none_taken body) (Mark (ReturnPlace head.number) ∷ called_ended words))
 
 -- where it stands
 pub record StandsAt (links : Links) (code : List Instr) (e : Environment) (head : Y.BlockHead) (words : ℕ) (body : Y.Stmts) : Type 0 where
@@ -145,41 +158,77 @@ leave_piece {e} {block} {types} bl {code = code} callee k i resume h t closed ne
     })
     o.all at')
 
+-- ---- the procedure's block
+
+abbrev pub callee_block : {e : Environment} {block : Names} {types : Types} (bl : Block e block types) (callee : Callee bl) (head : Y.BlockHead) (next : head.level ≡ 1) (main : ℕ) (mains : List Label) (has : HasMain main mains e.level e.block bl.labels bl.outer) (back : Base → ℕ) (h0 t0 : ℕ → ℕ) → Block (procedure_environment head e) block types
+callee_block bl callee head next main mains has back h0 t0 =
+    called_block bl callee back h0 t0 head next (main_of main mains) (main_enclosing bl callee back h0 t0 (procedure_owner head) head next main mains has) (main_seen bl callee back h0 t0 (procedure_owner head) head next main mains has)
+
+-- the variables that are made in it
+abbrev pub CalleeMakes : {e : Environment} {block : Names} {types : Types} (bl : Block e block types) (callee : Callee bl) (head : Y.BlockHead) (next : head.level ≡ 1) (main : ℕ) (mains : List Label) (has : HasMain main mains e.level e.block bl.labels bl.outer) → Type 0
+CalleeMakes {e} bl callee head next main mains has =
+    (back : Base → ℕ) (h0 t0 : ℕ → ℕ) → Makes (callee_block bl callee head next main mains has back h0 t0) 0 (vars_of e head)
+
+-- constant bytes stand in it
+abbrev pub CalleeStand : {e : Environment} {block : Names} {types : Types} (bl : Block e block types) (callee : Callee bl) (head : Y.BlockHead) (next : head.level ≡ 1) (main : ℕ) (mains : List Label) (has : HasMain main mains e.level e.block bl.labels bl.outer) → Links → List Instr → Type 0
+CalleeStand bl callee head next main mains has links code =
+    (back : Base → ℕ) (h0 t0 : ℕ → ℕ) (n : Values) → ConstantsStand links code ((callee_block bl callee head next main mains has back h0 t0).ground n)
+
+-- its statements do what they mean once they are
+abbrev pub CalleeDoes : {e : Environment} {block : Names} {types : Types} (bl : Block e block types) (callee : Callee bl) (head : Y.BlockHead) (next : head.level ≡ 1) (main : ℕ) (mains : List Label) (has : HasMain main mains e.level e.block bl.labels bl.outer) → CalleeMakes bl callee head next main mains has → Links → List Instr → (more : ℕ) → Y.Stmts → Type 1
+CalleeDoes {e} bl callee head next main mains has makes links code more body =
+    (back : Base → ℕ) (h0 t0 : ℕ → ℕ) (serial : ℕ) → Does (made_block (callee_block bl callee head next main mains has back h0 t0) (vars_of e head) (makes back h0 t0) serial) links code (suc more) (stmts_code (procedure_environment head e) none_taken body) (M.list (inner_around e.program more head.line) body)
+
+-- the act of the entry stands before them
+acted_does : {e : Environment} {block : Names} {types : Types} (bl : Block e block types) {links : Links} {code : List Instr} {turns : ℕ} {c : Code} {meaning : Meaning (Unit {0})} (line : ℕ) → line < 2 ^ 31 → Does bl links code turns c meaning → Does bl links code turns (act_code line ++ c) (act counted >> meaning)
+unfolding ◌>>◌
+acted_does bl {c = c} {meaning = meaning} line fits d =
+    record {
+      does = λ {i} {s} {v} {h} {t} {aims} closed old n f k l serving all at goal more.
+          let a = act_code line in
+          let size = size_append a c in
+          let place : i + size_of a + size_of c ≡ i + size_of (a ++ c) = omega (arith, size) in
+          let next' : Unit {0} → Meaning (Unit {0}) = λ u. meaning in
+          comes_on k (act counted k s) next'
+          (act_piece (before_closed k next' closed) f line old k fits (front_of a c l) serving at
+          (λ f1 serving1 at1.
+          d.does closed line n f1 k (back_of a c l) serving1 (counted_all (counted s.world) all) at1
+          (λ s2 v2 line2 n2 h2 t2 f2 serving2 all2 stays2 at2.
+          subst (λ u. aims.done u f2 v2 tt s2) (sym place)
+          (goal s2 v2 line2 n2 h2 t2 f2 serving2 all2 stays2 (λ b. record { pc = (at2 b).pc ∙ ap (address b) place; holds = (at2 b).holds })))
+          (further more (omega arith) (omega arith) (stays_same bl.taken h t))));
+    }
+
 -- ---- behind its act
 
-call_piece : {e : Environment} {block : Names} {types : Types} (bl : Block e block types) {links : Links} {code : List Instr} (around : Around) (more : ℕ) (head : Y.BlockHead) (body : Y.Stmts) (callee : Callee bl) (stands : StandsAt links code e head callee.words body) (list : ℤ) → (next : head.level ≡ 1) (main : ℕ) (mains : List Label) (has : HasMain main mains e.level e.block bl.labels bl.outer) → head.kind ≡ Y.ProcedureBlock → head.line < 2 ^ 31 → variables_of_block e.program head.number ≡ [] → around.program ≡ e.program → around.enter ≡ M.entered e.program (suc more) → procedure_numbered head.number e.program.procedures ≡ Some (plain_procedure head body) → word list < 2 ^ 32 → ((back : Base → ℕ) (h0 t0 : ℕ → ℕ) → Does (called_block bl callee back h0 t0 head next (main_of main mains) (main_enclosing bl callee back h0 t0 (procedure_owner head) head next main mains has) (main_seen bl callee back h0 t0 (procedure_owner head) head next main mains has)) links code (suc more) (stmts_code (procedure_environment head e) none_taken body) (M.list (inner_around e.program more head.line) body)) → {i : ℕ} {s : State} {v : Services} {h t : ℕ → ℕ} {aims : Aims (Unit {0})} (closed : Closed code aims) (n : Values) (f : Family) (k line : ℕ) → k < suc more + v.world.acts → (turns0 i0 acts0 : ℕ) → Enough bl links k turns0 i0 h t acts0 aims.jumped aims.returned → acts0 ≤ v.world.acts → Linked links code i (call_of e list head.number) → nat_lt (length s.activations) most_activations ≡ true → Serving k s v line → AllHold bl.frames bl.serials (storage v) (e.level ∷ bl.depths) s block types n → ((b : Base) → At b i (Known (bl.ground n) v h t nothing b) (f b)) → ((s' : State) (v' : Services) (line' : ℕ) (n' : Values) (h' : ℕ → ℕ) (f' : Family) → Serving k s' v' line' → AllHold bl.frames bl.serials (storage v') (e.level ∷ bl.depths) s' block types n' → ((b : Base) → At b (call_back i e list head.number) (Known (bl.ground n') v' h' t nothing b) (f' b)) → aims.done (call_back i e list head.number) f' v' tt s') → Comes code 0 f v (owing code (length code) aims) (call_part around head.number k s)
-unfolding M.end_reached give ◌>>◌
-call_piece {e} {block} {types} bl {links} {code} around more head body callee stands list next main mains has kind fits none same enter found short does' {i} {s} {v} {h} {t} {aims} closed n f k line enough turns0 start0 acts0 ready less l few serving all at goal =
+call_piece : {e : Environment} {block : Names} {types : Types} (bl : Block e block types) {links : Links} {code : List Instr} (around : Around) (more : ℕ) (head : Y.BlockHead) (body : Y.Stmts) (callee : Callee bl) (stands : StandsAt links code e head callee.words body) (list : ℤ) → (next : head.level ≡ 1) (main : ℕ) (mains : List Label) (has : HasMain main mains e.level e.block bl.labels bl.outer) → head.kind ≡ Y.ProcedureBlock → head.line < 2 ^ 31 → IsKnown (procedure_environment head e) → (makes : CalleeMakes bl callee head next main mains has) → CalleeStand bl callee head next main mains has links code → around.program ≡ e.program → around.enter ≡ M.entered e.program (suc more) → procedure_numbered head.number e.program.procedures ≡ Some (plain_procedure head body) → word list < 2 ^ 32 → CalleeDoes bl callee head next main mains has makes links code more body → {i : ℕ} {s : State} {v : Services} {h t : ℕ → ℕ} {aims : Aims (Unit {0})} (closed : Closed code aims) (n : Values) (f : Family) (k line : ℕ) → k < suc more + v.world.acts → (turns0 i0 acts0 : ℕ) → Enough bl links k turns0 i0 h t acts0 aims.jumped aims.returned → acts0 ≤ v.world.acts → Linked links code i (call_of e list head.number) → nat_lt (length s.activations) most_activations ≡ true → Serving k s v line → AllHold bl.frames bl.serials (storage v) (e.level ∷ bl.depths) s block types n → ((b : Base) → At b i (Known (bl.ground n) v h t nothing b) (f b)) → ((s' : State) (v' : Services) (line' : ℕ) (n' : Values) (h' : ℕ → ℕ) (f' : Family) → Serving k s' v' line' → AllHold bl.frames bl.serials (storage v') (e.level ∷ bl.depths) s' block types n' → ((b : Base) → At b (call_back i e list head.number) (Known (bl.ground n') v' h' t nothing b) (f' b)) → aims.done (call_back i e list head.number) f' v' tt s') → Comes code 0 f v (owing code (length code) aims) (call_part around head.number k s)
+unfolding give ◌>>◌
+call_piece {e} {block} {types} bl {links} {code} around more head body callee stands list next main mains has kind fits known makes stand same enter found short does' {i} {s} {v} {h} {t} {aims} closed n f k line enough turns0 start0 acts0 ready less l few serving all at goal =
     let program = e.program in
     let here = inner_around program more head.line in
     let debt = length code in
     let resume = call_back i e list head.number in
     let back : Base → ℕ = λ b. address b resume in
     let i0 = stands.entry in
-    let st = stmts_code (procedure_environment head e) none_taken body in
+    let stmts = stmts_code (procedure_environment head e) none_taken body in
+    let st = act_code head.line ++ stmts in
+    let vars = vars_of e head in
+    let cs = called_variables e head ++ st in
     let fb = frame_begun callee.words 1 0 true in
     let ec = called_entry head.line in
-    let ac = act_code head.line in
-    let pb = called_begun callee.words head.line in
     let ended = called_ended callee.words in
     let en = Mark (ReturnPlace head.number) ∷ ended in
     let mark : i0 + 0 ≡ i0 = omega arith in
-    let l0 = linked_at i0 (pb ++ (st ++ en)) mark (rest_of (Mark (ProcedureEntry head.number)) (pb ++ (st ++ en)) stands.linked) in
-    let lp = front_of pb (st ++ en) l0 in
-    let lf = front_of fb (ec ++ ac) lp in
-    let l2 = back_of fb (ec ++ ac) lp in
-    let le = front_of ec ac l2 in
-    let la = back_of ec ac l2 in
-    let e1 = size_append fb (ec ++ ac) in
-    let e2 = size_append ec ac in
+    let l0 = linked_at i0 (fb ++ (ec ++ (cs ++ en))) mark (rest_of (Mark (ProcedureEntry head.number)) (fb ++ (ec ++ (cs ++ en))) stands.linked) in
+    let lf = front_of fb (ec ++ (cs ++ en)) l0 in
+    let l2 = back_of fb (ec ++ (cs ++ en)) l0 in
+    let le = front_of ec (cs ++ en) l2 in
+    let l3 = back_of ec (cs ++ en) l2 in
     let i1 = i0 + size_of fb in
     let i2 = i1 + size_of ec in
-    let i3 = i2 + size_of ac in
-    let there : i0 + size_of pb ≡ i3 = omega (arith, e1, e2) in
-    let ls = linked_at i3 (st ++ en) there (back_of pb (st ++ en) l0) in
-    let i4 = i3 + size_of st in
+    let i4 = i2 + size_of cs in
     let mark' : i4 + 0 ≡ i4 = omega arith in
-    let ll = linked_at i4 ended mark' (rest_of (Mark (ReturnPlace head.number)) ended (back_of st en ls)) in
+    let ll = linked_at i4 ended mark' (rest_of (Mark (ReturnPlace head.number)) ended (back_of cs en l3)) in
     let lower = frame_ended callee.words in
     let jump = Plain (I.JumpRegister zero_register return_register (pos 0)) ∷ [] in
     let n1 = size_append (block_left 0) (all_restored ++ (lower ++ jump)) in
@@ -197,22 +246,33 @@ call_piece {e} {block} {types} bl {links} {code} around more head body callee st
     let some : 0 < head.level = omega (arith, next) in
     let direct : head.level ≡ suc (first_level (levels_of s.activations)) → 1 ≡ length s.activations = λ inside. called_direct bl head.level (levels_of s.activations) (length s.activations) all.entered long next inside in
     let last : Option BasicValue → Meaning (Unit {0}) = λ u. give tt in
-    let behind' : Unit {0} → Meaning (Unit {0}) = λ u. M.end_reached here false in
-    let statements : Unit {0} → Meaning (Unit {0}) = λ u. inner_part program more head body in
+    let cb = callee_block bl callee head next main mains has back h t in
     let leave = leave_piece bl callee k i4 resume h t closed (omega (arith, inside', small')) (omega (arith, room, n1, n2, n3)) ll goal in
     let closed0 = owing_closed code debt aims in
     let closed1 = ending_closed newest_ended (before_closed k last closed0) in
-    subst (Comes code 0 f v (owing code debt aims)) (sym (call_meant program around more head body head.number k s same enter found kind none parent few))
+    subst (Comes code 0 f v (owing code debt aims)) (sym (call_meant program around more head body head.number k s same enter found kind parent few))
     (onward closed0 (call_entry bl n 0 i0 f list head.number i0 short stands.placed (omega (arith, room, small')) (let size = call_size e list head.number in omega (arith, size, behind)) l at)
     (λ f1 at1.
     onward closed0 (called_frame bl callee back (λ b. let valid = b.valid.1 in omega (arith, valid, inside', small')) 0 n i0 f1 (omega (arith, behind)) lf at1)
     (λ f2 at2.
     onward closed0 (called_entered bl callee back n i1 f2 head.line fits serving.waiting few' le at2)
     (λ f3 at3.
-    comes_on k (left true newest_ended (called_part program more head body k s2)) last
-    (comes_called newest_ended (called_part program more head body k s2)
-    (comes_on k (act counted k s2) statements
-    (act_piece (before_closed k statements closed1) f3 head.line head.line k fits la
+    comes_on k (left true newest_ended (flow_on k (K.variables_made here 0 vars k s2) (λ u. called_part program more head body))) last
+    (comes_called newest_ended (flow_on k (K.variables_made here 0 vars k s2) (λ u. called_part program more head body))
+    (declares_from closed1 here head.line (suc more) k st (called_part program more head body) vars cb known (makes back h t) n f3 head.line (stand back h t) refl
+    (λ label among once. owed_outlet closed (atop callee.at S.ProcedureBlock bl.frames) (main_enclosing bl callee back h t (procedure_owner head) head next main mains has) label (main_outlet bl callee back h (procedure_owner head) S.ProcedureBlock head next main mains has links k turns0 start0 h t acts0 v2.world.acts aims.jumped aims.returned ready label among once (omega (arith, less))), tt)
+    (λ deep owned once. let no : true ≡ false = deep in absurd (cc no), tt)
+    (λ inner owned once. record {
+      at = i4;
+      place = (back_of cs en l3).has.0 (eq-eqb head.number head.number refl) once;
+      near = omega (arith, room, small');
+      later = omega (arith, behind);
+      leaves = λ s5 v5 line5 n5 h5 t5 f5 free5 serving5 all5 at5. record { to = leave s5 v5 line5 n5 h5 t5 f5 free5 serving5 all5 at5 };
+    })
+    (omega (arith, enough)) (omega (arith, behind))
+    (λ number owned once. let no : head.level ≡ 0 = ap owner_level owned in absurd (omega (arith, no, next)))
+    (acted_does (made_block cb vars (makes back h t) s2.serials) head.line fits (ended_does (made_block cb vars (makes back h t) s2.serials) here (does' back h t s2.serials)))
+    (front_of cs en l3)
     (record {
       world = serving.world;
       running = serving.running;
@@ -223,30 +283,9 @@ call_piece {e} {block} {types} bl {links} {code} around more head body callee st
       nested = entered_nested head body s v.activations (called_activation v callee.at) 1 some (omega (arith, long)) (omega arith) (omega (arith, long)) direct (record { kind = λ further. refl; units = tt }) serving.nested;
       waiting = refl;
     })
+    (entered_all head body s (storage v) (called_activation v callee.at) 1 some (omega arith) (omega (arith, long)) direct (record { kind = λ further. refl; units = tt }) refl (inl callee.outer) serving.nested all)
     at3
-    (λ f4 serving4 at4.
-    let s3 = with_world (counted s2.world) s2 in
-    let v3 = acted head.line v2 in
-    comes_on k (M.list here body k s3) behind'
-    ((does' back h t).does (before_closed k behind' closed1) head.line n f4 k (front_of st en ls) serving4
-    (counted_all (counted s2.world) (entered_all head body s (storage v) (called_activation v callee.at) 1 some (omega arith) (omega (arith, long)) direct (record { kind = λ further. refl; units = tt }) refl (inl callee.outer) serving.nested all))
-    at4
-    (λ s5 v5 line5 n5 h5 t5 f5 serving5 all5 stays5 at5. record { to = record { to = leave s5 v5 line5 n5 h5 t5 f5 (callee.at + fixed_size 1 0) serving5 all5 at5 } })
-    (record {
-      enough = omega (arith, enough);
-      later = omega (arith, behind);
-      jumps = λ label among once. let no : false ≡ true = among in absurd (cc no);
-      outs = (λ label among once. owed_outlet closed (atop callee.at S.ProcedureBlock bl.frames) (main_enclosing bl callee back h t (procedure_owner head) head next main mains has) label (main_outlet bl callee back h (procedure_owner head) S.ProcedureBlock head next main mains has links k turns0 start0 h t acts0 v3.world.acts aims.jumped aims.returned ready label among once (omega (arith, less))), tt);
-      homes = (λ deep owned once. let no : true ≡ false = deep in absurd (cc no), tt);
-      returns = λ number owned once. let no : head.level ≡ 0 = ap owner_level owned in absurd (omega (arith, no, next));
-      own = λ inner owned once. record {
-        at = i4;
-        place = (back_of st en ls).has.0 (eq-eqb head.number head.number refl) once;
-        near = omega (arith, room, small');
-        later = omega (arith, behind);
-        leaves = λ s5 v5 line5 n5 h5 t5 f5 free5 serving5 all5 at5. record { to = leave s5 v5 line5 n5 h5 t5 f5 free5 serving5 all5 at5 };
-      };
-    }))))))))))
+    (λ s5 v5 line5 n5 h5 t5 f5 free5 serving5 all5 at5. record { to = leave s5 v5 line5 n5 h5 t5 f5 free5 serving5 all5 at5 })))))))
 
 -- where too many blocks are entered the run ends
 limited_call : {e : Environment} {block : Names} {types : Types} (bl : Block e block types) {links : Links} {code : List Instr} (around : Around) (more : ℕ) (head : Y.BlockHead) (body : Y.Stmts) (callee : Callee bl) (stands : StandsAt links code e head callee.words body) (list : ℤ) → head.line < 2 ^ 31 → around.program ≡ e.program → around.enter ≡ M.entered e.program (suc more) → procedure_numbered head.number e.program.procedures ≡ Some (plain_procedure head body) → word list < 2 ^ 32 → {i : ℕ} {s : State} {v : Services} {h t : ℕ → ℕ} {aims : Aims (Unit {0})} (closed : Closed code aims) (n : Values) (f : Family) (k line : ℕ) → Linked links code i (call_of e list head.number) → nat_lt (length s.activations) most_activations ≡ false → Serving k s v line → ((b : Base) → At b i (Known (bl.ground n) v h t nothing b) (f b)) → Comes code 0 f v (owing code (length code) aims) (call_part around head.number k s)
@@ -256,12 +295,10 @@ limited_call {e} bl {code = code} around more head body callee stands list fits 
     let i0 = stands.entry in
     let fb = frame_begun callee.words 1 0 true in
     let ec = called_entry head.line in
-    let ac = act_code head.line in
-    let pb = called_begun callee.words head.line in
-    let behind = stmts_code (procedure_environment head e) none_taken body ++ (Mark (ReturnPlace head.number) ∷ called_ended callee.words) in
+    let behind' = (called_variables e head ++ (act_code head.line ++ stmts_code (procedure_environment head e) none_taken body)) ++ (Mark (ReturnPlace head.number) ∷ called_ended callee.words) in
     let mark : i0 + 0 ≡ i0 = omega arith in
-    let lp = front_of pb behind (linked_at i0 (pb ++ behind) mark (rest_of (Mark (ProcedureEntry head.number)) (pb ++ behind) stands.linked)) in
-    let le = front_of ec ac (back_of fb (ec ++ ac) lp) in
+    let l0 = linked_at i0 (fb ++ (ec ++ behind')) mark (rest_of (Mark (ProcedureEntry head.number)) (fb ++ (ec ++ behind')) stands.linked) in
+    let le = front_of ec behind' (back_of fb (ec ++ behind') l0) in
     let room = le.inside in
     let small' = le.small' in
     let inside' = l.inside in
@@ -277,16 +314,16 @@ limited_call {e} bl {code = code} around more head body callee stands list fits 
     subst (Comes code 0 f v (owing code debt aims)) (sym (call_limited e.program around more head body head.number k s same enter found many))
     (onward closed0 (call_entry bl n 0 i0 f list head.number i0 short stands.placed (omega (arith, room, small')) (let size = call_size e list head.number in omega (arith, size, later)) l at)
     (λ f1 at1.
-    onward closed0 (called_frame bl callee (λ b. address b resume) (λ b. let valid = b.valid.1 in omega (arith, valid, inside', small')) 0 n i0 f1 (omega (arith, later)) (front_of fb (ec ++ ac) lp) at1)
+    onward closed0 (called_frame bl callee (λ b. address b resume) (λ b. let valid = b.valid.1 in omega (arith, valid, inside', small')) 0 n i0 f1 (omega (arith, later)) (front_of fb (ec ++ behind') l0) at1)
     (λ f2 at2.
     comes_on k (finish {R = Option BasicValue} (E.Limit L.Depth) k s) last
     (called_limited bl callee (λ b. address b resume) n (i0 + size_of fb) f2 (before_closed k last closed0) k head.line line fits (omega (arith, room, total, total2)) many' le serving at2))))
 
 -- ---- the statement
 
-pub own_call_does : {e : Environment} {block : Names} {types : Types} (bl : Block e block types) (links : Links) (code : List Instr) (around : Around) (more : ℕ) (head : Y.BlockHead) (body : Y.Stmts) (callee : Callee bl) (stands : StandsAt links code e head callee.words body) (list : ℤ) (line : ℕ) → (next : head.level ≡ 1) (main : ℕ) (mains : List Label) (has : HasMain main mains e.level e.block bl.labels bl.outer) → head.kind ≡ Y.ProcedureBlock → head.line < 2 ^ 31 → variables_of_block e.program head.number ≡ [] → around.program ≡ e.program → Entering e.program around more → procedure_numbered head.number e.program.procedures ≡ Some (plain_procedure head body) → word list < 2 ^ 32 → line < 2 ^ 31 → ((more' : ℕ) → more ≡ suc more' → suc (length bl.depths) < most_activations → (back : Base → ℕ) (h0 t0 : ℕ → ℕ) → Does (called_block bl callee back h0 t0 head next (main_of main mains) (main_enclosing bl callee back h0 t0 (procedure_owner head) head next main mains has) (main_seen bl callee back h0 t0 (procedure_owner head) head next main mains has)) links code (suc more') (stmts_code (procedure_environment head e) none_taken body) (M.list (inner_around e.program more' head.line) body)) → Does bl links code around.turns (act_code line ++ call_of e list head.number) (M.statement around (Y.CallProcedure (Y.Calling head.number 0 Y.NoArgument) line))
+pub own_call_does : {e : Environment} {block : Names} {types : Types} (bl : Block e block types) (links : Links) (code : List Instr) (around : Around) (more : ℕ) (head : Y.BlockHead) (body : Y.Stmts) (callee : Callee bl) (stands : StandsAt links code e head callee.words body) (list : ℤ) (line : ℕ) → (next : head.level ≡ 1) (main : ℕ) (mains : List Label) (has : HasMain main mains e.level e.block bl.labels bl.outer) → head.kind ≡ Y.ProcedureBlock → head.line < 2 ^ 31 → IsKnown (procedure_environment head e) → (makes : CalleeMakes bl callee head next main mains has) → CalleeStand bl callee head next main mains has links code → around.program ≡ e.program → Entering e.program around more → procedure_numbered head.number e.program.procedures ≡ Some (plain_procedure head body) → word list < 2 ^ 32 → line < 2 ^ 31 → ((more' : ℕ) → more ≡ suc more' → suc (length bl.depths) < most_activations → CalleeDoes bl callee head next main mains has makes links code more' body) → Does bl links code around.turns (act_code line ++ call_of e list head.number) (M.statement around (Y.CallProcedure (Y.Calling head.number 0 Y.NoArgument) line))
 unfolding M.statement ◌>>◌
-own_call_does {e} {block} {types} bl links code around zero head body callee stands list line next main mains has kind fits none same entering found short low does' =
+own_call_does {e} {block} {types} bl links code around zero head body callee stands list line next main mains has kind fits known makes stand same entering found short low does' =
     record {
       does = λ {i} {s} {v} {h} {t} {aims} closed old n f k l serving all at goal more'.
           let next' : Unit {0} → Meaning (Unit {0}) = λ u. call_part (at_line around line) head.number in
@@ -295,7 +332,7 @@ own_call_does {e} {block} {types} bl links code around zero head body callee sta
           (λ f1 serving1 at1.
           absurd (let e1 = more'.enough in let e2 = entering.turns in let e3 = serving1.allowed in omega (arith, e1, e2, e3))));
     }
-own_call_does {e} {block} {types} bl links code around (suc more) head body callee stands list line next main mains has kind fits none same entering found short low does' =
+own_call_does {e} {block} {types} bl links code around (suc more) head body callee stands list line next main mains has kind fits known makes stand same entering found short low does' =
     record {
       does = λ {i} {s} {v} {h} {t} {aims} closed old n f k l serving all at goal more'.
           let a = act_code line in
@@ -315,7 +352,7 @@ own_call_does {e} {block} {types} bl links code around (suc more) head body call
           (λ many. limited_call bl (at_line around line) more head body callee stands list fits same entering.enter found short closed n f1 k line (back_of a c l) many serving1 at1)
           (λ few.
           let deep : suc (length bl.depths) < most_activations = (let below = ltb-true (length s.activations) most_activations few in let long = entered_length s.activations (e.level ∷ bl.depths) all.entered in omega (arith, below, long)) in
-          call_piece bl (at_line around line) more head body callee stands list next main mains has kind fits none same entering.enter found short (does' more refl deep) closed n f1 k line (omega (arith, e1, e2)) around.turns i v.world.acts more' (omega arith) (back_of a c l) few serving1
+          call_piece bl (at_line around line) more head body callee stands list next main mains has kind fits known makes stand same entering.enter found short (does' more refl deep) closed n f1 k line (omega (arith, e1, e2)) around.turns i v.world.acts more' (omega arith) (back_of a c l) few serving1
           (counted_all (counted s.world) all)
           at1
           (λ s4 v4 line4 n4 h4 f4 serving4 all4 at4.

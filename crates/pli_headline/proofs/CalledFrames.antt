@@ -33,6 +33,8 @@ use Rattle.pli_headline.proofs.TextsKept.{kept_length, text_kept_as}
 use Rattle.pli_headline.proofs.TextScopes.{IsTextAt}
 use Rattle.pli_typing.specs.Signatures.{Bounds, element_count}
 use Rattle.pli_headline.proofs.ArrayScopes.{with_element_of, ArrayOn}
+use Rattle.pli_headline.proofs.TextArrayScopes.{TextArrayOn, with_text_of}
+use Rattle.pli_headline.proofs.TextArraysStay.{text_stride, text_within}
 
 -- where it lies, above the temporaries of the procedure
 pub record Callee {e : Environment} {block : Names} {types : Types} (bl : Block e block types) : Type 0 where
@@ -185,6 +187,44 @@ called_array bl callee back h0 t0 owner head free over on =
       writes = λ n p z inside old fits t b m len o. called_element_stored bl callee back h0 t0 on n p z inside old fits t b m len o;
     }
 
+-- a text is stored in an element
+called_text_element_stored : {e : Environment} {block : Names} {types : Types} (bl : Block e block types) (callee : Callee bl) (back : Base → ℕ) (h0 t0 : ℕ → ℕ) {j : ℕ} {varying : Bool} {most : ℕ} {bs : List Bounds} (on : TextArrayOn e block (bl.bases j) bl.stack.free bl.ground j varying most bs) → (n : Values) (p : ℕ) (text : List ℕ) → p < element_count bs → (t : ℕ → ℕ) (b : Base) (m : List ℕ) → length m ≡ memory_size → (called_ground bl callee back h0 t0 n).memory t b m → (called_ground bl callee back h0 t0 (with_text_of n j p (text_kept_as varying most text))).memory t b (with_bytes (kept_bytes (text_kind_of varying most) (BasicText text)) (bl.bases j + p * text_stride varying most + data_place e block j) m)
+called_text_element_stored {e} {block} bl callee back h0 t0 {j} {varying} {most} {bs} on n p text inside t b m len o =
+    let q = bl.bases j + p * text_stride varying most + data_place e block j in
+    let bytes = kept_bytes (text_kind_of varying most) (BasicText text) in
+    let long = kept_length varying most text in
+    let row = text_within varying most p (element_count bs) inside in
+    let under = on.under in
+    let within = on.within in
+    let above = inner_above callee.at bl.stack.free callee.words callee.place in
+    let room : q + length bytes ≤ length m = omega (arith, within, row, long, len) in
+    let ends : q + length bytes ≤ bl.stack.free = omega (arith, under, row, long) in
+    record {
+      kept = (on.writes n p text inside t0 b m len o.kept.0, saved_beside_text bytes q room (omega (arith, above, ends)) o.kept.1);
+      below = load-with_other 4 bytes m q (callee.at + 4) room (inr (omega (arith, above, ends))) ∙ o.below;
+      own = load-with_other 4 bytes m q (callee.at + 36) room (inr (omega (arith, above, ends))) ∙ o.own;
+      shown = λ i h. load-with_other 4 bytes m q (callee.at + (144 + 4 * i)) room (inr (omega (arith, above, ends))) ∙ o.shown i h;
+      temporaries = λ i h known. load-with_other 4 bytes m q (callee.at - 4 * suc i) room (inr (omega (arith, above, ends, h))) ∙ o.temporaries i h known;
+    }
+
+-- an array of texts of the main procedure
+pub called_text_array : {e : Environment} {block : Names} {types : Types} (bl : Block e block types) (callee : Callee bl) (back : Base → ℕ) (h0 t0 : ℕ → ℕ) (owner : Owner) (head : Y.BlockHead) (free : ℕ) → callee.at + 144 ≤ free → {j : ℕ} {varying : Bool} {most : ℕ} {bs : List Bounds} (on : TextArrayOn e block (bl.bases j) bl.stack.free bl.ground j varying most bs) → TextArrayOn (owned_by owner (in_frame head.number head.level e)) block (bl.bases j) free (called_ground bl callee back h0 t0) j varying most bs
+called_text_array bl callee back h0 t0 owner head free over on =
+    let above = inner_above callee.at bl.stack.free callee.words callee.place in
+    let under = on.under in
+    record {
+      declared = on.declared;
+      bounds = on.bounds;
+      few = on.few;
+      some = on.some;
+      short = on.short;
+      high = on.high;
+      within = on.within;
+      under = omega (arith, above, under, over);
+      reads = λ n p inside t b m o. on.reads n p inside t0 b m o.kept.0;
+      writes = λ n p text inside t b m len o. called_text_element_stored bl callee back h0 t0 on n p text inside t b m len o;
+    }
+
 -- the variables of the main procedure stand in its frame
 outermost_base : {e : Environment} {block : Names} {types : Types} (bl : Block e block types) (j : ℕ) {kind : Kind} → slice_get types j ≡ Some kind → level_of block j ≡ 0 → bl.base ≡ bl.bases j
 outermost_base {e} bl j at outer =
@@ -294,6 +334,10 @@ called_block_as {e} bl callee back h0 t0 owner kind head next o c seen =
         writes = λ n j varying most text at t b m len o. called_text_writes bl callee back h0 t0 n j varying most text at t b m len o;
       };
       arrays = λ j type b bs at. called_array bl callee back h0 t0 owner head (callee.at + fixed_size 1 0) (omega arith) (bl.arrays j type b bs at);
+      text_arrays = λ j varying most b bs at. called_text_array bl callee back h0 t0 owner head (callee.at + fixed_size 1 0) (omega arith) (bl.text_arrays j varying most b bs at);
+      array_names = λ j type b bs at.
+          let on = bl.array_names j type b bs at in
+          record { living = on.living; lives = on.lives; signature = on.signature; at = on.at; aligned = on.aligned; high = on.high; room = on.room; own = λ n t b' m o. on.own n t0 b' m o.kept.0; names = λ n t b' m o. on.names n t0 b' m o.kept.0 };
       outer = o ∷ [];
       enclosing = (c, tt);
       seen = (seen, tt);

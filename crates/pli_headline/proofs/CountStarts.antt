@@ -283,7 +283,7 @@ assigned_counts {e} {block} {types} bl links code routines r p target room =
         let most = le-max_right 0 (0 + subscripts_words xs) in
         let same = ap reference_words o.is in
         subst (λ q. Takes (turning bl) links code q (Y.FixedLeaf p)) (sym o.is)
-        (element_takes (turning bl) links code (standing_turning routines) o.index o.bound o.bounds o.first o.rest o.declared o.many are (omega (arith, room, most, same)))
+        (element_takes (turning bl) links code (standing_turning routines) o.index o.bound o.bounds o.first o.rest (o.declared, tt) o.many are (omega (arith, room, most, same)))
 
 pub counted_does : {e : Environment} {block : Names} {types : Types} (bl : Block e block types) (links : Links) (code : List Instr) (routines : Standing bl links code) (around : Around) (r : Y.Reference) (precision : ℕ) (start : Y.Value) (limit : Option Y.Number) (step : Y.Number) (condition : Option Y.Bit) (body : Y.Stmts) (line : ℕ) → IsAssigned block types (Y.FixedLeaf precision) r → bl.taken.words + 3 + reference_words r ≤ bl.words → IsProvedStart block types start → IsProvedNumberIf block types limit → IsProvedNumber block types step → IsProvedBitIf block types condition → bl.taken.words + 3 + value_words start ≤ bl.words → bl.taken.words + 3 + number_if limit ≤ bl.words → bl.taken.words + 3 + number_words step ≤ bl.words → bl.taken.words + 2 + bit_if condition ≤ bl.words → line < 2 ^ 31 → Does (turning bl) links code around.turns (stmts_code e (in_turns bl.taken) body) (M.list around body) → Does bl links code around.turns (stmt_code e bl.taken (Y.DoCount (Y.NumberCounter precision r) start limit step condition body line)) (M.statement around (Y.DoCount (Y.NumberCounter precision r) start limit step condition body line))
 counted_does bl links code routines around r precision start limit step condition body line target some is isl iss isc room rooml rooms roomc fits inner =

@@ -3,6 +3,7 @@ use Rattle.std.proofs.Common.{◌≡◌, ℕ, zero, suc, ◌+◌, ◌*◌, ◌^�
 use Rattle.std.specs.Prelude.{max, min, nat_lt, slice_get}
 use Rattle.std.proofs.lemmas.Bool.{ltb-true}
 use Rattle.rv_meaning.specs.declared.instr.Instr.{Instr}
+use Rattle.pli_language.specs.Tree as T
 use Rattle.pli_typing.specs.TypedTree as Y
 use Rattle.pli_meaning.specs.declared.outcome.End.TheVariants as E
 use Rattle.pli_meaning.specs.declared.outcome.Limit.TheVariants as L
@@ -39,7 +40,7 @@ use Rattle.pli_headline.proofs.Storages.{storage}
 use Rattle.pli_headline.proofs.Activations.{same_length, newest_is, entered_length}
 use Rattle.pli_headline.proofs.MainProcedure.{frame_fixed}
 use Rattle.pli_headline.proofs.DeclaredNames.{by_element}
-use Rattle.pli_headline.proofs.StandingBytes.{ConstantsStand}
+use Rattle.pli_headline.proofs.StandingBytes.{ConstantsStand, constants_moved}
 use Rattle.pli_headline.proofs.Statements.{owner_level, Block, IsFilled, IsKnown, AllHold, counted_all, Does, Enough}
 use Rattle.pli_headline.proofs.Declares.{Makes, made_block, first_more, next_makes, declares_from, code_joined}
 use Rattle.pli_headline.proofs.OneMore.{more_block}
@@ -60,40 +61,43 @@ pub record IsMade {e : Environment} {block block' : Names} {types types' : Types
   pub labels : mb.labels ≡ ib.labels
   pub outer : mb.outer ≡ ib.outer
   pub depths : mb.depths ≡ ib.depths
+  pub base : mb.base ≡ ib.base
+  pub frames : mb.frames ≡ ib.frames
   pub frame : mb.stack.frame ≡ ib.stack.frame
   pub free : mb.stack.free ≡ ib.stack.free + bytes
 
 pub is_made : (ds : List Y.DeclaredVariable) {e : Environment} {block : Names} {types : Types} (ib : Block e block types) {index : ℕ} (m : Makes ib index ds) (serial : ℕ) → IsMade ib (made_block ib ds m serial) (32 * length ds)
 is_made [] ib m serial =
-    record { words = refl; taken = refl; labels = refl; outer = refl; depths = refl; frame = refl; free = omega arith }
+    record { words = refl; taken = refl; labels = refl; outer = refl; depths = refl; base = refl; frames = refl; frame = refl; free = omega arith }
 is_made (d ∷ ds) ib m serial =
     let o = is_made ds (more_block ib (first_more ib d ds m) (serial + 1)) (next_makes ib d ds m (serial + 1)) (serial + 1) in
     let free = o.free in
-    record { words = o.words; taken = o.taken; labels = o.labels; outer = o.outer; depths = o.depths; frame = o.frame; free = omega (arith, free) }
+    record { words = o.words; taken = o.taken; labels = o.labels; outer = o.outer; depths = o.depths; base = o.base; frames = o.frames; frame = o.frame; free = omega (arith, free) }
 
 -- constant bytes stand as before
 pub made_constants : (ds : List Y.DeclaredVariable) {e : Environment} {block : Names} {types : Types} (ib : Block e block types) {index : ℕ} (m : Makes ib index ds) (serial : ℕ) {links : Links} {code : List Instr} → ((n : Values) → ConstantsStand links code (ib.ground n)) → (n : Values) → ConstantsStand links code ((made_block ib ds m serial).ground n)
 made_constants [] ib m serial stand n = stand n
 made_constants (d ∷ ds) ib m serial stand n =
     made_constants ds (more_block ib (first_more ib d ds m) (serial + 1)) (next_makes ib d ds m (serial + 1)) (serial + 1)
-    (λ n'. record { stand = λ bytes placed t b m' o. (stand n').stand bytes placed t b m' o.0 }) n
+    (λ n'. constants_moved (λ t. t) (λ t b m' o. o.0) (stand n')) n
 
 -- ---- places in the frame
 
-bytes_of : (type : Y.LeafType) → IsElementType type → frame_bytes parts (plain_variable type []) ≡ 32
-bytes_of type is = by_element (λ t. frame_bytes parts (plain_variable t []) ≡ 32) (λ p h. frame_fixed p []) refl type is
+bytes_of : (type : Y.LeafType) (items : List T.InitialItem) → IsElementType type → frame_bytes parts (plain_variable type items) ≡ 32
+bytes_of type items is =
+    by_element (λ t. frame_bytes parts (plain_variable t items) ≡ 32) (λ p h. frame_fixed p items) refl type is
 
 places_of : (at : ℕ) (ds : List Y.DeclaredVariable) (i : ℕ) → AreDeclaring ds → i ≤ length ds → at + 32 * length ds ≤ last_place → variable_place parts at ds i ≡ at + 32 * i
 places_of at [] zero are h fits = omega arith
 places_of at [] (suc i) are h fits = absurd (omega (arith, h))
 places_of at (d ∷ ds) zero are h fits = omega arith
 places_of at (d ∷ ds) (suc i) are h fits =
-    let bytes : frame_bytes parts d ≡ 32 = ap (frame_bytes parts) are.0.is ∙ bytes_of are.0.type are.0.element in
+    let bytes : frame_bytes parts d ≡ 32 = ap (frame_bytes parts) are.0.is ∙ bytes_of are.0.type are.0.items are.0.element in
     let next' : min last_place (at + frame_bytes parts d) ≡ at + 32 = omega (arith, fits, bytes) in
     ap (λ n. variable_place parts n ds i) next' ∙ places_of (at + 32) ds i are.1 (omega (arith, h)) (omega (arith, fits)) ∙ omega arith
 
 -- from the fixed part of the frame on
-declared_place : (e : Environment) (number level i : ℕ) → IsKnown e → AreDeclaring (variables_of_block e.program number) → i ≤ length (variables_of_block e.program number) → fixed_size level 0 + 32 * length (variables_of_block e.program number) ≤ last_place → place_for (in_frame number level e) i ≡ fixed_size level 0 + 32 * i
+pub declared_place : (e : Environment) (number level i : ℕ) → IsKnown e → AreDeclaring (variables_of_block e.program number) → i ≤ length (variables_of_block e.program number) → fixed_size level 0 + 32 * length (variables_of_block e.program number) ≤ last_place → place_for (in_frame number level e) i ≡ fixed_size level 0 + 32 * i
 declared_place e number level i known are h fits =
     let ds = variables_of_block e.program number in
     ap (λ p. variable_place p (fixed_size level (length (parameters_of_block e.program number))) ds i) known.parts_are
@@ -115,6 +119,7 @@ inner_makes {e} bl inner t0 head next filled known are shallow room few =
       stand = λ i. let z : 0 + i ≡ i = omega arith in ap (λ n. slice_get ds n) z;
       deep = omega (arith, next);
       new = λ j kind at. inl (let low = bl.lower j at in omega (arith, low, next));
+      fresh = tt;
       own = λ n t b m o. o.own;
       places = λ i h.
           let z : 0 + i ≡ i = omega arith in
@@ -144,11 +149,11 @@ declaring_code e head words body =
     ++ ((variables_made (begin_environment head e) head.line 0 (vars_of e head) ++ stmts_code (begin_environment head e) none_taken body) ++ inner_ended words))
 
 -- no temporaries are needed for them
-no_words : (ds : List Y.DeclaredVariable) → AreDeclaring ds → variables_words ds ≡ 0
+pub no_words : (ds : List Y.DeclaredVariable) → AreDeclaring ds → variables_words ds ≡ 0
 no_words [] are = refl
 no_words (d ∷ ds) are =
     ap (λ u. variables_words (u ∷ ds)) are.0.is
-    ∙ by_element (λ t. variables_words (plain_variable t [] ∷ ds) ≡ max 0 (variables_words ds)) (λ p h. refl) refl are.0.type are.0.element
+    ∙ by_element (λ t. variables_words (plain_variable t are.0.items ∷ ds) ≡ max 0 (variables_words ds)) (λ p h. refl) refl are.0.type are.0.element
     ∙ ap (λ n. max 0 n) (no_words ds are.1)
 
 declaring_code_is : (e : Environment) (head : Y.BlockHead) (body : Y.Stmts) → head.level ≡ suc e.level → AreDeclaring (vars_of e head) → begin_code e head (block_words e head.number (stmts_words body)) (stmts_code (begin_environment head e) none_taken body) ≡ declaring_code e head (max 0 (stmts_words body)) body
@@ -168,7 +173,7 @@ declaring_code_is e head body next are =
 -- ---- what it does
 
 -- its statements, and then its end
-ended_does : {e : Environment} {block : Names} {types : Types} (bl : Block e block types) {links : Links} {code : List Instr} {turns : ℕ} {c : Code} {meaning : Meaning (Unit {0})} (around : Around) → Does bl links code turns c meaning → Does bl links code turns c (meaning >> M.end_reached around false)
+pub ended_does : {e : Environment} {block : Names} {types : Types} (bl : Block e block types) {links : Links} {code : List Instr} {turns : ℕ} {c : Code} {meaning : Meaning (Unit {0})} (around : Around) → Does bl links code turns c meaning → Does bl links code turns c (meaning >> M.end_reached around false)
 unfolding M.end_reached give ◌>>◌
 ended_does bl {meaning = meaning} around d =
     record {
@@ -183,9 +188,14 @@ abbrev pub MadeDoes : {e : Environment} {block : Names} {types : Types} (bl : Bl
 MadeDoes {e} bl inner head next filled makes links code more body =
     (t0 : ℕ → ℕ) (serial : ℕ) → Does (made_block (inner_block bl inner t0 head.number head.level next filled) (vars_of e head) (makes t0) serial) links code (suc more) (stmts_code (begin_environment head e) none_taken body) (M.list (inner_around e.program more head.line) body)
 
-declaring_piece : {e : Environment} {block : Names} {types : Types} (bl : Block e block types) {links : Links} {code : List Instr} (around : Around) (more : ℕ) (head : Y.BlockHead) (body : Y.Stmts) (inner : Inner bl) → owner_level e.owner ≤ e.level → e.level < 100 → (next : head.level ≡ suc e.level) (filled : IsFilled bl) → IsKnown (begin_environment head e) → (makes : (t0 : ℕ → ℕ) → Makes (inner_block bl inner t0 head.number head.level next filled) 0 (vars_of e head)) → head.kind ≡ Y.BeginBlock → head.line < 2 ^ 31 → around.enter ≡ M.entered e.program (suc more) → MadeDoes bl inner head next filled makes links code more body → {i : ℕ} {s : State} {v : Services} {h t : ℕ → ℕ} {aims : Aims (Unit {0})} (closed : Closed code aims) (n : Values) (f : Family) (k line : ℕ) → k < suc more + v.world.acts → 10 ≤ i → {turns0 i0 acts0 : ℕ} → Enough bl links k turns0 i0 h t acts0 aims.jumped aims.returned → acts0 ≤ v.world.acts → Linked links code i (declaring_code e head inner.words body) → nat_lt (length s.activations) most_activations ≡ true → Serving k s v line → AllHold bl.frames bl.serials (storage v) (e.level ∷ bl.depths) s block types n → ((b : Base) → At b i (Known (bl.ground n) v h t nothing b) (f b)) → ((s' : State) (v' : Services) (line' : ℕ) (n' : Values) (h' : ℕ → ℕ) (f' : Family) → Serving k s' v' line' → AllHold bl.frames bl.serials (storage v') (e.level ∷ bl.depths) s' block types n' → ((b : Base) → At b (i + size_of (declaring_code e head inner.words body)) (Known (bl.ground n') v' h' t nothing b) (f' b)) → aims.done (i + size_of (declaring_code e head inner.words body)) f' v' tt s') → Comes code i f v aims (begin_part around head body k s)
+-- constant bytes stand in the block
+abbrev pub InnerStand : {e : Environment} {block : Names} {types : Types} (bl : Block e block types) (inner : Inner bl) (head : Y.BlockHead) (next : head.level ≡ suc e.level) (filled : IsFilled bl) → Links → List Instr → Type 0
+InnerStand bl inner head next filled links code =
+    (t0 : ℕ → ℕ) (n : Values) → ConstantsStand links code ((inner_block bl inner t0 head.number head.level next filled).ground n)
+
+declaring_piece : {e : Environment} {block : Names} {types : Types} (bl : Block e block types) {links : Links} {code : List Instr} (around : Around) (more : ℕ) (head : Y.BlockHead) (body : Y.Stmts) (inner : Inner bl) → owner_level e.owner ≤ e.level → e.level < 100 → (next : head.level ≡ suc e.level) (filled : IsFilled bl) → IsKnown (begin_environment head e) → (makes : (t0 : ℕ → ℕ) → Makes (inner_block bl inner t0 head.number head.level next filled) 0 (vars_of e head)) → InnerStand bl inner head next filled links code → head.kind ≡ Y.BeginBlock → head.line < 2 ^ 31 → around.enter ≡ M.entered e.program (suc more) → MadeDoes bl inner head next filled makes links code more body → {i : ℕ} {s : State} {v : Services} {h t : ℕ → ℕ} {aims : Aims (Unit {0})} (closed : Closed code aims) (n : Values) (f : Family) (k line : ℕ) → k < suc more + v.world.acts → 10 ≤ i → {turns0 i0 acts0 : ℕ} → Enough bl links k turns0 i0 h t acts0 aims.jumped aims.returned → acts0 ≤ v.world.acts → Linked links code i (declaring_code e head inner.words body) → nat_lt (length s.activations) most_activations ≡ true → Serving k s v line → AllHold bl.frames bl.serials (storage v) (e.level ∷ bl.depths) s block types n → ((b : Base) → At b i (Known (bl.ground n) v h t nothing b) (f b)) → ((s' : State) (v' : Services) (line' : ℕ) (n' : Values) (h' : ℕ → ℕ) (f' : Family) → Serving k s' v' line' → AllHold bl.frames bl.serials (storage v') (e.level ∷ bl.depths) s' block types n' → ((b : Base) → At b (i + size_of (declaring_code e head inner.words body)) (Known (bl.ground n') v' h' t nothing b) (f' b)) → aims.done (i + size_of (declaring_code e head inner.words body)) f' v' tt s') → Comes code i f v aims (begin_part around head body k s)
 unfolding give
-declaring_piece {e} {block} {types} bl {links} {code} around more head body inner lower shallow next filled known makes kind fits enter does' {i} {s} {v} {h} {t} {aims} closed n f k line enough later {turns0} {i0} {acts0} ready less l few serving all at goal =
+declaring_piece {e} {block} {types} bl {links} {code} around more head body inner lower shallow next filled known makes stand kind fits enter does' {i} {s} {v} {h} {t} {aims} closed n f k line enough later {turns0} {i0} {acts0} ready less l few serving all at goal =
     let program = e.program in
     let here = inner_around program more head.line in
     let e' = begin_environment head e in
@@ -225,10 +235,11 @@ declaring_piece {e} {block} {types} bl {links} {code} around more head body inne
     (λ f2 at2.
     comes_on k (left false newest_ended (flow_on k (K.variables_made here 0 vars k s2) (λ u. part))) last
     (comes_ended newest_ended (flow_on k (K.variables_made here 0 vars k s2) (λ u. part))
-    (declares_from closed2 here head.line (suc more) k stmts part vars ib known (makes t) n f2 head.line refl
+    (declares_from closed2 here head.line (suc more) k stmts part vars ib known (makes t) n f2 head.line (stand t) refl
     (λ label among once. own_outlet bl inner head.number head.level next filled t ready label among once (omega (arith, less)), outer_outlets bl inner t head.number head.level next links k acts0 v.world.acts aims.jumped less bl.outer bl.enclosing ready.outs)
     (λ deep owned once. own_home bl inner head.number head.level next filled t (ready.own deep owned once), outer_homes bl inner t head.number head.level next links k aims.returned bl.outer bl.enclosing ready.homes)
-    (omega (arith, lower, next)) (omega (arith, enough)) (omega (arith, later))
+    (λ deep owned once. let no : owner_level e.owner ≡ head.level = ap owner_level owned in absurd (omega (arith, no, lower, next)))
+    (omega (arith, enough)) (omega (arith, later))
     (λ number owned once.
     let o = ready.returns number owned once in
     record {
@@ -275,9 +286,9 @@ declaring_piece {e} {block} {types} bl {links} {code} around more head body inne
           (λ b. record { pc = (at4 b).pc ∙ ap (address b) place; holds = (at4 b).holds }));
     })))))))
 
-own_declares_does : {e : Environment} {block : Names} {types : Types} (bl : Block e block types) (links : Links) (code : List Instr) (around : Around) (more : ℕ) (head : Y.BlockHead) (body : Y.Stmts) (inner : Inner bl) → owner_level e.owner ≤ e.level → e.level < 100 → (next : head.level ≡ suc e.level) (filled : IsFilled bl) → IsKnown (begin_environment head e) → (makes : (t0 : ℕ → ℕ) → Makes (inner_block bl inner t0 head.number head.level next filled) 0 (vars_of e head)) → head.kind ≡ Y.BeginBlock → head.line < 2 ^ 31 → Entering e.program around more → ((more' : ℕ) → more ≡ suc more' → suc (length bl.depths) < most_activations → MadeDoes bl inner head next filled makes links code more' body) → Does bl links code around.turns (act_code head.line ++ declaring_code e head inner.words body) (M.statement around (Y.Begin (Y.BlockOf head body)))
+own_declares_does : {e : Environment} {block : Names} {types : Types} (bl : Block e block types) (links : Links) (code : List Instr) (around : Around) (more : ℕ) (head : Y.BlockHead) (body : Y.Stmts) (inner : Inner bl) → owner_level e.owner ≤ e.level → e.level < 100 → (next : head.level ≡ suc e.level) (filled : IsFilled bl) → IsKnown (begin_environment head e) → (makes : (t0 : ℕ → ℕ) → Makes (inner_block bl inner t0 head.number head.level next filled) 0 (vars_of e head)) → InnerStand bl inner head next filled links code → head.kind ≡ Y.BeginBlock → head.line < 2 ^ 31 → Entering e.program around more → ((more' : ℕ) → more ≡ suc more' → suc (length bl.depths) < most_activations → MadeDoes bl inner head next filled makes links code more' body) → Does bl links code around.turns (act_code head.line ++ declaring_code e head inner.words body) (M.statement around (Y.Begin (Y.BlockOf head body)))
 unfolding M.statement ◌>>◌
-own_declares_does {e} bl links code around zero head body inner lower shallow next filled known makes kind fits entering does' =
+own_declares_does {e} bl links code around zero head body inner lower shallow next filled known makes stand kind fits entering does' =
     record {
       does = λ {i} {s} {v} {h} {t} {aims} closed old n f k l serving all at goal more'.
           let next' : Unit {0} → Meaning (Unit {0}) = λ u. begin_part around head body in
@@ -286,7 +297,7 @@ own_declares_does {e} bl links code around zero head body inner lower shallow ne
           (λ f1 serving1 at1.
           absurd (let e1 = more'.enough in let e2 = entering.turns in let e3 = serving1.allowed in omega (arith, e1, e2, e3))));
     }
-own_declares_does {e} bl links code around (suc more) head body inner lower shallow next filled known makes kind fits entering does' =
+own_declares_does {e} bl links code around (suc more) head body inner lower shallow next filled known makes stand kind fits entering does' =
     record {
       does = λ {i} {s} {v} {h} {t} {aims} closed old n f k l serving all at goal more'.
           let a = act_code head.line in
@@ -309,7 +320,7 @@ own_declares_does {e} bl links code around (suc more) head body inner lower shal
           (limited_piece bl head ((variables_made (begin_environment head e) head.line 0 (vars_of e head) ++ stmts_code (begin_environment head e) none_taken body) ++ inner_ended inner.words) inner shallow fits (before_closed k last closed) n f1 k head.line (omega (arith, later)) (back_of a c l) many serving1 at1)))
           (λ few.
           let deep : suc (length bl.depths) < most_activations = (let below = ltb-true (length s.activations) most_activations few in let long = entered_length s.activations (e.level ∷ bl.depths) all.entered in omega (arith, below, long)) in
-          declaring_piece bl around more head body inner lower shallow next filled known makes kind fits entering.enter (does' more refl deep) closed n f1 k head.line (omega (arith, e1, e2)) (omega (arith, later)) more' (omega arith) (back_of a c l) few serving1
+          declaring_piece bl around more head body inner lower shallow next filled known makes stand kind fits entering.enter (does' more refl deep) closed n f1 k head.line (omega (arith, e1, e2)) (omega (arith, later)) more' (omega arith) (back_of a c l) few serving1
           (counted_all (counted s.world) all)
           at1
           (λ s4 v4 line4 n4 h4 f4 serving4 all4 at4.
@@ -320,7 +331,7 @@ own_declares_does {e} bl links code around (suc more) head body inner lower shal
           (λ b. record { pc = (at4 b).pc ∙ ap (address b) place; holds = (at4 b).holds }))))));
     }
 
-pub declares_does : {e : Environment} {block : Names} {types : Types} (bl : Block e block types) (links : Links) (code : List Instr) (around : Around) (more : ℕ) (head : Y.BlockHead) (body : Y.Stmts) (inner : Inner bl) → owner_level e.owner ≤ e.level → inner.words ≡ max 0 (stmts_words body) → e.level < 100 → (next : head.level ≡ suc e.level) (filled : IsFilled bl) → IsKnown (begin_environment head e) → AreDeclaring (vars_of e head) → (makes : (t0 : ℕ → ℕ) → Makes (inner_block bl inner t0 head.number head.level next filled) 0 (vars_of e head)) → head.kind ≡ Y.BeginBlock → head.line < 2 ^ 31 → Entering e.program around more → ((more' : ℕ) → more ≡ suc more' → suc (length bl.depths) < most_activations → MadeDoes bl inner head next filled makes links code more' body) → Does bl links code around.turns (stmt_code e bl.taken (Y.Begin (Y.BlockOf head body))) (M.statement around (Y.Begin (Y.BlockOf head body)))
-declares_does {e} bl links code around more head body inner lower same shallow next filled known are makes kind fits entering does' =
+pub declares_does : {e : Environment} {block : Names} {types : Types} (bl : Block e block types) (links : Links) (code : List Instr) (around : Around) (more : ℕ) (head : Y.BlockHead) (body : Y.Stmts) (inner : Inner bl) → owner_level e.owner ≤ e.level → inner.words ≡ max 0 (stmts_words body) → e.level < 100 → (next : head.level ≡ suc e.level) (filled : IsFilled bl) → IsKnown (begin_environment head e) → AreDeclaring (vars_of e head) → (makes : (t0 : ℕ → ℕ) → Makes (inner_block bl inner t0 head.number head.level next filled) 0 (vars_of e head)) → InnerStand bl inner head next filled links code → head.kind ≡ Y.BeginBlock → head.line < 2 ^ 31 → Entering e.program around more → ((more' : ℕ) → more ≡ suc more' → suc (length bl.depths) < most_activations → MadeDoes bl inner head next filled makes links code more' body) → Does bl links code around.turns (stmt_code e bl.taken (Y.Begin (Y.BlockOf head body))) (M.statement around (Y.Begin (Y.BlockOf head body)))
+declares_does {e} bl links code around more head body inner lower same shallow next filled known are makes stand kind fits entering does' =
     subst (λ c. Does bl links code around.turns (act_code head.line ++ c) (M.statement around (Y.Begin (Y.BlockOf head body)))) (ap (λ w. declaring_code e head w body) same ∙ sym (declaring_code_is e head body next are))
-    (own_declares_does bl links code around more head body inner lower shallow next filled known makes kind fits entering does')
+    (own_declares_does bl links code around more head body inner lower shallow next filled known makes stand kind fits entering does')

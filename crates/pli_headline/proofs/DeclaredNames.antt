@@ -2,6 +2,7 @@
 use Rattle.std.proofs.Common.{◌≡◌, ℕ, zero, suc, ◌+◌, ◌-◌, ◌<◌, ◌≤◌, ◌⊎◌, inl, inr, List, [], ◌∷◌, ◌++◌, length, Some, refl, sym, ap, ◌∙◌, subst, arith}
 use Rattle.std.specs.Prelude.{cond, nat_lt, slice_get}
 use Rattle.std.proofs.lemmas.Bool.{lt-ltb, le-ltb, cases_lt}
+use Rattle.pli_language.specs.Tree as T
 use Rattle.pli_typing.specs.TypedTree as Y
 use Rattle.pli_meaning.specs.DeclaredShapes.{variables_of_block}
 use Rattle.pli_coding.specs.Environments.{Environment}
@@ -22,18 +23,19 @@ by_element P fixed bit _ is = absurd is
 pub record DeclaredAt (ds : List Y.DeclaredVariable) (i : ℕ) (kind : Kind) : Type 0 where
   pub type : Y.LeafType
   pub element : IsElementType type
+  pub initial : List T.InitialItem
   pub is : kind ≡ alone type
-  pub stands : slice_get ds i ≡ Some (plain_variable type [])
+  pub stands : slice_get ds i ≡ Some (plain_variable type initial)
 
 pub declared_by : (ds : List Y.DeclaredVariable) (i : ℕ) {kind : Kind} → AreDeclaring ds → slice_get (types_of ds) i ≡ Some kind → DeclaredAt ds i kind
 declared_by [] i are h = absurd (cc h)
 declared_by (d ∷ ds) zero {kind} are h =
     let e : declared_kind d ≡ kind = cc h in
     let o = are.0 in
-    record { type = o.type; element = o.element; is = sym e ∙ ap declared_kind o.is; stands = ap (λ u. Some u) o.is }
+    record { type = o.type; element = o.element; initial = o.items; is = sym e ∙ ap declared_kind o.is; stands = ap (λ u. Some u) o.is }
 declared_by (d ∷ ds) (suc i) are h =
     let o = declared_by ds i are.1 h in
-    record { type = o.type; element = o.element; is = o.is; stands = o.stands }
+    record { type = o.type; element = o.element; initial = o.initial; is = o.is; stands = o.stands }
 
 -- ---- places among the types
 
@@ -114,7 +116,7 @@ has_more e block types number level index d stands is has j kind at =
     (λ i kind' below at'.
     let known = has i kind' at' in
     (known.0, ap (λ (u : Spot). slice_get (variables_of_block e.program u.number) u.index) (chosen_before (length types) i (block.at i) spot below) ∙ known.1))
-    ([], ap (λ (u : Spot). slice_get (variables_of_block e.program u.number) u.index) (chosen_here (length types) (block.at (length types)) spot) ∙ stands ∙ ap (λ u. Some u) is.is ∙ ap (λ (k : Kind). Some (array_variable k.type k.bounds [])) (sym (ap declared_kind is.is)))
+    (is.items, ap (λ (u : Spot). slice_get (variables_of_block e.program u.number) u.index) (chosen_here (length types) (block.at (length types)) spot) ∙ stands ∙ ap (λ u. Some u) is.is ∙ ap (λ (k : Kind). Some (array_variable k.type k.bounds is.items)) (sym (ap declared_kind is.is)))
     j kind at
 
 has_from : (e : Environment) (block : Names) (types : Types) (number level index : ℕ) (ds : List Y.DeclaredVariable) → ((i : ℕ) → slice_get (variables_of_block e.program number) (index + i) ≡ slice_get ds i) → AreDeclaring ds → HasTypes e block types → HasTypes e (names_from block types number level index ds) (types_in types ds)

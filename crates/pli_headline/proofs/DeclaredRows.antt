@@ -1,10 +1,12 @@
 -- A program with blocks that declare scalars, one in the other, is one of those that are proved.
-use Rattle.std.proofs.Common.{ℕ, List, [], ◌∷◌, None, refl, arith, lit<, inl, inr, false}
+use Rattle.std.proofs.Common.{ℕ, List, [], ◌∷◌, None, refl, arith, lit<, inl, inr, true, false}
+use Rattle.std.specs.Prelude.{negsuc}
+use Rattle.pli_language.specs.Tree as T
 use Rattle.pli_typing.specs.TypedTree as Y
-use Rattle.pli_headline.specs.ProvedSoFar.{Names, Types, IsOwn, IsDeclaring, IsProvedNumber, IsPlain, IsProvedSoFar, main_names, names_in, alone, plain_variable}
+use Rattle.pli_headline.specs.ProvedSoFar.{Names, Types, IsOwn, IsDeclaring, AreConstants, IsProvedNumber, IsPlain, IsProvedSoFar, main_names, names_in, alone, plain_variable}
 
--- T: PROC OPTIONS(MAIN); DECLARE I FIXED BINARY(31); BEGIN; DECLARE J FIXED BINARY(15), B BIT(1); J = I;
--- BEGIN; DECLARE K FIXED BINARY(31); K = J; I = K; IF '0'B THEN GOTO L; END; END; L: END;
+-- T: PROC OPTIONS(MAIN); DECLARE I FIXED BINARY(31); BEGIN; DECLARE J FIXED BINARY(15) INITIAL(-7), B BIT(1) INITIAL('1'B); J = I;
+-- BEGIN; DECLARE K FIXED BINARY(31) INITIAL(*); K = J; I = K; IF '0'B THEN GOTO L; END; END; L: END;
 abbrev whole_at : (block level index : ℕ) → Y.Reference
 whole_at block level index =
     Y.Referring (record { class = Y.AutomaticClass; block = block; level = level; index = index }) Y.NotLocated (record { first = 0; count = 1 }) Y.NoNumber
@@ -32,11 +34,23 @@ inner_body =
 abbrev outer_body : Y.Stmts
 outer_body = Y.StmtThen [] (Y.Begin (Y.BlockOf inner_head inner_body)) (Y.EndOfList ((76 ∷ []) ∷ []))
 
+abbrev once : T.InitialValue → List T.InitialItem
+once value = record { repetition = 1; value = value } ∷ []
+
+abbrev seven : List T.InitialItem
+seven = once (T.InitialNumber (negsuc 6))
+
+abbrev one : List T.InitialItem
+one = once (T.InitialBit true)
+
+abbrev skipped : List T.InitialItem
+skipped = once T.InitialSkip
+
 abbrev inner_variables : List Y.DeclaredVariable
-inner_variables = plain_variable (Y.FixedLeaf 15) [] ∷ plain_variable Y.BitLeaf [] ∷ []
+inner_variables = plain_variable (Y.FixedLeaf 15) seven ∷ plain_variable Y.BitLeaf one ∷ []
 
 abbrev innermost_variables : List Y.DeclaredVariable
-innermost_variables = plain_variable (Y.FixedLeaf 31) [] ∷ []
+innermost_variables = plain_variable (Y.FixedLeaf 31) skipped ∷ []
 
 abbrev with_declarations : Y.Program
 with_declarations =
@@ -71,18 +85,22 @@ declaring_program =
     let nj : IsProvedNumber innermost_names innermost_types (Y.NumberIn (whole_at 2 1 0)) = (record { precision = 15; part = inl j' }, tt) in
     let nk : IsProvedNumber innermost_names innermost_types (Y.NumberIn (whole_at 3 2 0)) = (record { precision = 31; part = inl k' }, tt) in
     let long : IsPlain (plain_variable (Y.FixedLeaf 31) []) = record { type = Y.FixedLeaf 31; bounds = []; initial = []; held = (omega arith, omega arith); begins = tt; is = refl } in
-    let short : IsPlain (plain_variable (Y.FixedLeaf 15) []) = record { type = Y.FixedLeaf 15; bounds = []; initial = []; held = (omega arith, omega arith); begins = tt; is = refl } in
-    let bit : IsPlain (plain_variable Y.BitLeaf []) = record { type = Y.BitLeaf; bounds = []; initial = []; held = tt; begins = tt; is = refl } in
-    let declares_j : IsDeclaring (plain_variable (Y.FixedLeaf 15) []) = record { type = Y.FixedLeaf 15; element = (omega arith, omega arith); is = refl } in
-    let declares_b : IsDeclaring (plain_variable Y.BitLeaf []) = record { type = Y.BitLeaf; element = tt; is = refl } in
-    let declares_k : IsDeclaring (plain_variable (Y.FixedLeaf 31) []) = record { type = Y.FixedLeaf 31; element = (omega arith, omega arith); is = refl } in
+    let minus : AreConstants (Y.FixedLeaf 15) seven = (lit< tt, (refl, tt)) in
+    let set : AreConstants Y.BitLeaf one = (lit< tt, (tt, tt)) in
+    let none : AreConstants (Y.FixedLeaf 31) skipped = (lit< tt, (tt, tt)) in
+    let short : IsPlain (plain_variable (Y.FixedLeaf 15) seven) = record { type = Y.FixedLeaf 15; bounds = []; initial = seven; held = (omega arith, omega arith); begins = minus; is = refl } in
+    let bit : IsPlain (plain_variable Y.BitLeaf one) = record { type = Y.BitLeaf; bounds = []; initial = one; held = tt; begins = set; is = refl } in
+    let inmost : IsPlain (plain_variable (Y.FixedLeaf 31) skipped) = record { type = Y.FixedLeaf 31; bounds = []; initial = skipped; held = (omega arith, omega arith); begins = none; is = refl } in
+    let declares_j : IsDeclaring (plain_variable (Y.FixedLeaf 15) seven) = record { type = Y.FixedLeaf 15; element = (omega arith, omega arith); items = seven; begins = minus; is = refl } in
+    let declares_b : IsDeclaring (plain_variable Y.BitLeaf one) = record { type = Y.BitLeaf; element = tt; items = one; begins = set; is = refl } in
+    let declares_k : IsDeclaring (plain_variable (Y.FixedLeaf 31) skipped) = record { type = Y.FixedLeaf 31; element = (omega arith, omega arith); items = skipped; begins = none; is = refl } in
     record {
       head = head;
       body = outer_body;
       others = [];
       called = [];
       procedures = refl;
-      plain = (tt, ((long, tt), ((short, (bit, tt)), ((long, tt), tt))));
+      plain = (tt, ((long, tt), ((short, (bit, tt)), ((inmost, tt), tt))));
       few = lit< tt;
       block = record {
         kind = refl;

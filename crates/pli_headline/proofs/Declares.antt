@@ -3,6 +3,7 @@ use Rattle.std.proofs.Common.{◌≡◌, ℕ, zero, suc, ◌+◌, ◌*◌, ◌^�
 use Rattle.std.specs.Prelude.{ℤ, pos, cond, min, slice_get, nat_le, ◌==◌}
 use Rattle.std.proofs.lemmas.Bool.{le-leb, lt-leb, cases_lt, eq-eqb}
 use Rattle.rv_meaning.specs.declared.instr.Instr.{Instr}
+use Rattle.pli_language.specs.Tree as T
 use Rattle.pli_typing.specs.TypedTree as Y
 use Rattle.pli_meaning.specs.declared.outcome.End.TheVariants as E
 use Rattle.pli_meaning.specs.declared.outcome.Limit.TheVariants as L
@@ -13,7 +14,7 @@ use Rattle.pli_meaning.specs.DeclaredShapes.{variables_of_block}
 use Rattle.pli_meaning.specs.BasicValues.{BasicValue}
 use Rattle.pli_meaning.specs.StorageState.{State, most_automatic, automatic_in_use}
 use Rattle.pli_serving.specs.ServiceState.{Services}
-use Rattle.pli_coding.specs.Assembly.{Code, size_of}
+use Rattle.pli_coding.specs.Assembly.{Datum, Code, size_of}
 use Rattle.pli_coding.specs.Environments.{BlockOwner, Environment}
 use Rattle.rv_meaning.specs.declared.instr.Register.{Register}
 use Rattle.pli_coding.specs.Registers.{stack_register, frame_register, a0, a1, a2, a3}
@@ -24,7 +25,7 @@ use Rattle.pli_coding.specs.SignatureTable.{table_of}
 use Rattle.pli_coding.specs.Entries.{automatic_made, variables_made}
 use Rattle.pli_coding.specs.Linking.{Links}
 use Rattle.pli_headline.specs.Headline.{parts}
-use Rattle.pli_headline.specs.ProvedSoFar.{Names, Spot, Kind, Types, alone, types_of, IsElementType, AreDeclaring, IsDeclaring, plain_variable, array_variable, declared_kind, names_from, types_in, OuterBlock}
+use Rattle.pli_headline.specs.ProvedSoFar.{Names, Spot, Kind, Types, alone, types_of, IsElementType, AreConstants, AreDeclaring, IsDeclaring, plain_variable, array_variable, declared_kind, names_from, types_in, OuterBlock}
 use Rattle.pli_headline.proofs.Storages.{storage, in_use_same}
 use Rattle.pli_headline.proofs.Engine.{Base, address}
 use Rattle.pli_headline.proofs.Linking.{size_append}
@@ -35,20 +36,23 @@ use Rattle.pli_headline.proofs.Temporaries.{nothing}
 use Rattle.pli_headline.proofs.Activations.{entered_length, same_length}
 use Rattle.pli_headline.proofs.Calls.{Serving}
 use Rattle.pli_headline.proofs.Reach.{Family, Aims, Comes, Closed, before_closed, comes_on, onward}
-use Rattle.pli_headline.proofs.Scalars.{Values, place_below}
+use Rattle.pli_headline.proofs.Scalars.{Values, begin_of, place_below}
 use Rattle.pli_headline.proofs.States.{with_number_at}
 use Rattle.pli_headline.proofs.VariablePlaces.{frame_size}
 use Rattle.pli_headline.proofs.MainProcedure.{frame_fixed}
 use Rattle.pli_headline.proofs.PlainNumbers.{number_for, Numbered}
-use Rattle.pli_headline.proofs.NamesMade.{made_code, make_asked}
+use Rattle.pli_headline.proofs.NamesMade.{made_code, make_asked, made_named}
 use Rattle.pli_headline.proofs.DeclaredNames.{by_element, by_last, chosen_before, chosen_here}
 use Rattle.pli_headline.proofs.Variables.{level_of}
 use Rattle.pli_headline.proofs.OneMore.{More, more_block, more_ground, more_enclosures, around_level, not_last}
-use Rattle.pli_headline.proofs.MoreNames.{more_names, spot_of}
+use Rattle.pli_headline.proofs.Asides.{IsFresh}
+use Rattle.pli_headline.proofs.InitialRead.{start_datum, IsNamedIf}
+use Rattle.pli_headline.proofs.StandingBytes.{IsPlacedIf, Begins, ConstantsStand, constants_moved}
+use Rattle.pli_headline.proofs.MoreNames.{more_names, more_serials, spot_of}
 use Rattle.pli_headline.proofs.MoreStates.{IsNew, step_meant, made_or_ended, nested_same, more_all, fewer_all, all_same}
 use Rattle.pli_headline.proofs.MoreServed.{OwnStands, place_for, more_piece, past_piece}
 use Rattle.pli_headline.proofs.MainStates.{kind_binding}
-use Rattle.pli_headline.proofs.Statements.{Block, Enclosures, Outlets, Homes, lower_ground, AllHold, SameValues, IsKnown, IsEndMarkedOnce, Exit, Does, owner_level}
+use Rattle.pli_headline.proofs.Statements.{Block, Enclosures, Outlets, Homes, lower_ground, AllHold, SameValues, IsKnown, IsEndMarkedOnce, Exit, OwnExit, Does}
 
 -- ---- the variables still to be made
 
@@ -57,6 +61,7 @@ pub record Makes {e : Environment} {block : Names} {types : Types} (ib : Block e
   pub stand : (i : ℕ) → slice_get (variables_of_block e.program e.block) (index + i) ≡ slice_get ds i
   pub deep : 0 < e.level
   pub new : IsNew e block types index
+  pub fresh : IsFresh ib.frames.asides
   pub own : OwnStands ib
   pub places : (i : ℕ) → i ≤ length ds → ib.stack.frame + place_for e (index + i) ≡ ib.stack.free + 32 * i
   pub room : ib.stack.free + 32 * length ds + 4 ≤ 14 * 2 ^ 20
@@ -78,7 +83,8 @@ first_more {e} ib {index} d ds m =
     record {
       element = subst IsElementType (sym type) m.are.0.element;
       is = ap declared_kind m.are.0.is ∙ ap alone (sym type);
-      declared = first_here e index d ds m.stand ∙ ap (λ u. Some u) m.are.0.is ∙ ap (λ u. Some (plain_variable u [])) (sym type);
+      initial = m.are.0.items;
+      declared = first_here e index d ds m.stand ∙ ap (λ u. Some u) m.are.0.is ∙ ap (λ u. Some (plain_variable u m.are.0.items)) (sym type);
       deep = m.deep;
       place = omega (arith, p, q);
       room = omega (arith, room);
@@ -102,6 +108,7 @@ next_makes {e} {block} {types} ib {index} d ds m serial =
           (λ i kind' below at'. still_new i below (m.new i kind' at'))
           (inr (let s = ap (λ (u : Spot). u.index) (chosen_here (length types) (block.at (length types)) (spot_of e index)) in omega (arith, s)))
           j kind at;
+      fresh = m.fresh;
       own = λ n t b k held. m.own n t b k held.0;
       places = λ i below.
           let e' : suc index + i ≡ index + suc i = omega arith in
@@ -127,28 +134,34 @@ abbrev placed_by : Bool → Environment → Register → (place : ℤ) → Code
 placed_by q e r place =
     cond q [] (load_word r frame_register (display e.level)) ++ (load_word r (cond q frame_register r) own_offset ++ plus r r place)
 
-abbrev made_by : Bool → Environment → (size place n : ℕ) → Code
-made_by q e size place n =
+abbrev made_by : Bool → Environment → (size place n : ℕ) → Option Datum → Code
+made_by q e size place n start =
     placed_by q e a0 (pos place)
     ++ (number a1 n
-    ++ (initial_given a2 None
+    ++ (initial_given a2 start
     ++ (placed_by q e a3 (pos (place + name_bytes)) ++ (make_asked ++ plus stack_register frame_register (pos (min last_place (place + size)))))))
 
-own_made : (e : Environment) (line place : ℕ) (type : Y.LeafType) → IsElementType type → e.parts ≡ parts → automatic_made e line place (plain_variable type []) ≡ made_code 32 place (number_for e.table (alone type)) None
-own_made e line place type is same =
-    ap (λ q. automatic_made (record e { parts = q }) line place (plain_variable type [])) same
-    ∙ by_element (λ t. automatic_made (record e { parts = parts }) line place (plain_variable t []) ≡ made_code 32 place (number_for e.table (alone t)) None)
-    (λ p h. ap (λ q. made_by q e (frame_bytes parts (plain_variable (Y.FixedLeaf p) [])) place (number_for e.table (alone (Y.FixedLeaf p)))) (eq-eqb e.level e.level refl)
-    ∙ ap (λ n. made_code n place (number_for e.table (alone (Y.FixedLeaf p))) None) (frame_fixed p []))
-    (ap (λ q. made_by q e 32 place (number_for e.table (alone Y.BitLeaf))) (eq-eqb e.level e.level refl)) type is
+own_made : (e : Environment) (line place : ℕ) (type : Y.LeafType) (items : List T.InitialItem) → IsElementType type → e.parts ≡ parts → automatic_made e line place (plain_variable type items) ≡ made_code 32 place (number_for e.table (alone type)) (start_datum items)
+own_made e line place type items is same =
+    let start = start_datum items in
+    ap (λ q. automatic_made (record e { parts = q }) line place (plain_variable type items)) same
+    ∙ by_element (λ t. automatic_made (record e { parts = parts }) line place (plain_variable t items) ≡ made_code 32 place (number_for e.table (alone t)) start)
+    (λ p h. ap (λ q. made_by q e (frame_bytes parts (plain_variable (Y.FixedLeaf p) items)) place (number_for e.table (alone (Y.FixedLeaf p))) start) (eq-eqb e.level e.level refl)
+    ∙ ap (λ n. made_code n place (number_for e.table (alone (Y.FixedLeaf p))) start) (frame_fixed p items))
+    (ap (λ q. made_by q e 32 place (number_for e.table (alone Y.BitLeaf)) start) (eq-eqb e.level e.level refl)) type is
 
-first_made : (e : Environment) (line index : ℕ) (d : Y.DeclaredVariable) (ds : List Y.DeclaredVariable) → IsDeclaring d → e.parts ≡ parts → variables_made e line index (d ∷ ds) ≡ made_code 32 (place_for e index) (number_for e.table (declared_kind d)) None ++ variables_made e line (suc index) ds
+first_made : (e : Environment) (line index : ℕ) (d : Y.DeclaredVariable) (ds : List Y.DeclaredVariable) (is : IsDeclaring d) → e.parts ≡ parts → variables_made e line index (d ∷ ds) ≡ made_code 32 (place_for e index) (number_for e.table (declared_kind d)) (start_datum is.items) ++ variables_made e line (suc index) ds
 first_made e line index d ds is same =
     let rest = variables_made e line (suc index) ds in
     let p = place_for e index in
     ap (λ u. cond (is_automatic u.class) (automatic_made e line p u) [] ++ rest) is.is
-    ∙ ap (λ c. c ++ rest) (own_made e line p is.type is.element same)
-    ∙ ap (λ k. made_code 32 p (number_for e.table k) None ++ rest) (sym (ap declared_kind is.is))
+    ∙ ap (λ c. c ++ rest) (own_made e line p is.type is.items is.element same)
+    ∙ ap (λ k. made_code 32 p (number_for e.table k) (start_datum is.items) ++ rest) (sym (ap declared_kind is.is))
+
+-- what is named in code that is linked has a place
+placed_if : {links : Links} {code : List Instr} {i : ℕ} {xs : Code} (start : Option Datum) → Linked links code i xs → IsNamedIf start xs → IsPlacedIf start links.data'
+placed_if None l named = tt
+placed_if (Some d) l named = l.named d named
 
 pub code_joined : (xs ys zs : Code) → (xs ++ ys) ++ zs ≡ xs ++ (ys ++ zs)
 code_joined [] ys zs = refl
@@ -185,9 +198,24 @@ more_homes ib k' links k returned [] cs homes = tt
 more_homes ib k' links k returned (o ∷ os) cs homes =
     (λ deep owned once. let p = homes.0 deep owned once in record { at = p.at; place = p.place; near = p.near; later = p.later; leaves = p.leaves }, more_homes ib k' links k returned os cs.1 homes.1)
 
-pub declares_from : {links : Links} {code : List Instr} {aims : Aims (Unit {0})} (closed : Closed code aims) (around : Around) (line turns k : ℕ) (c : Code) (meaning : Meaning (Unit {0})) (ds : List Y.DeclaredVariable) {e : Environment} {block : Names} {types : Types} (ib : Block e block types) (known : IsKnown e) {index : ℕ} (m : Makes ib index ds) {i : ℕ} {s : State} {v : Services} {h t : ℕ → ℕ} (n : Values) (f : Family) (old : ℕ) → ib.labels ≡ [] → Outlets e ib.ground ib.levels ib.frames (e.level ∷ ib.depths) ib.outer ib.enclosing links k v.world.acts aims.jumped → Homes e ib.ground ib.levels ib.frames (e.level ∷ ib.depths) ib.outer ib.enclosing links k aims.returned → owner_level e.owner < e.level → k < turns + v.world.acts → 10 ≤ i → ((number : ℕ) → e.owner ≡ BlockOwner (record { number = number; level = 0 }) → IsEndMarkedOnce links number → Exit number ib.base ib.bottom.holds links k aims.returned) → Does (made_block ib ds m s.serials) links code turns c meaning → Linked links code i (variables_made e line index ds ++ c) → Serving k s v old → AllHold ib.frames ib.serials (storage v) (e.level ∷ ib.depths) s block types n → ((b : Base) → At b i (Known (ib.ground n) v h t nothing b) (f b)) → GoesOn ib k (i + size_of (variables_made e line index ds ++ c)) aims → Comes code i f v aims (flow_on k (K.variables_made around index ds k s) (λ u. meaning))
+more_exit : {e : Environment} {block : Names} {types : Types} (ib : Block e block types) (index : ℕ) (k' : Kind) (serial : ℕ) {links : Links} {k : ℕ} {returned : ℕ → Family → Services → Option BasicValue → State → Type 0} → OwnExit e block types ib.ground ib.frames ib.serials ib.depths links k returned → OwnExit e (more_names e block types index) (types ++ (k' ∷ [])) (more_ground ib k') ib.frames (more_serials ib.serials (length types) serial (suc (length ib.depths))) ib.depths links k returned
+more_exit {e} ib index k' serial o =
+    record {
+      at = o.at;
+      place = o.place;
+      near = o.near;
+      later = o.later;
+      leaves = λ s v line n h t f free serving all at.
+          o.leaves s v line n h t f free serving (fewer_all e index k' serial (suc (length ib.depths)) all)
+          (λ b. let q = (at b).holds in record {
+            pc = (at b).pc;
+            holds = record { body = record { services = q.body.services; registers = q.body.registers; bytes = q.body.bytes; memory = q.body.memory.0 }; regs = q.regs };
+          });
+    }
+
+pub declares_from : {links : Links} {code : List Instr} {aims : Aims (Unit {0})} (closed : Closed code aims) (around : Around) (line turns k : ℕ) (c : Code) (meaning : Meaning (Unit {0})) (ds : List Y.DeclaredVariable) {e : Environment} {block : Names} {types : Types} (ib : Block e block types) (known : IsKnown e) {index : ℕ} (m : Makes ib index ds) {i : ℕ} {s : State} {v : Services} {h t : ℕ → ℕ} (n : Values) (f : Family) (old : ℕ) → ((n' : Values) → ConstantsStand links code (ib.ground n')) → ib.labels ≡ [] → Outlets e ib.ground ib.levels ib.frames (e.level ∷ ib.depths) ib.outer ib.enclosing links k v.world.acts aims.jumped → Homes e ib.ground ib.levels ib.frames (e.level ∷ ib.depths) ib.outer ib.enclosing links k aims.returned → ((0 == e.level) ≡ false → e.owner ≡ BlockOwner (record { number = e.block; level = e.level }) → IsEndMarkedOnce links e.block → OwnExit e block types ib.ground ib.frames ib.serials ib.depths links k aims.returned) → k < turns + v.world.acts → 10 ≤ i → ((number : ℕ) → e.owner ≡ BlockOwner (record { number = number; level = 0 }) → IsEndMarkedOnce links number → Exit number ib.base ib.bottom.holds links k aims.returned) → Does (made_block ib ds m s.serials) links code turns c meaning → Linked links code i (variables_made e line index ds ++ c) → Serving k s v old → AllHold ib.frames ib.serials (storage v) (e.level ∷ ib.depths) s block types n → ((b : Base) → At b i (Known (ib.ground n) v h t nothing b) (f b)) → GoesOn ib k (i + size_of (variables_made e line index ds ++ c)) aims → Comes code i f v aims (flow_on k (K.variables_made around index ds k s) (λ u. meaning))
 unfolding K.variables_made give
-declares_from {links} {code} {aims} closed around line turns k c meaning [] {e} ib known m n f old none outs homes low enough later returns does' l serving all at goal =
+declares_from {links} {code} {aims} closed around line turns k c meaning [] {e} ib known m n f old stand none outs homes own enough later returns does' l serving all at goal =
     does'.does closed old n f k l serving all at
     (λ s' v' line' n' h' t' f' serving' all' stays at'. goal s' v' line' n' h' t' f' (ib.ground n').free serving' all' at')
     (record {
@@ -196,25 +224,28 @@ declares_from {links} {code} {aims} closed around line turns k c meaning [] {e} 
       jumps = λ label among once. let no : false ≡ true = sym (ap (is_among label) none) ∙ among in absurd (cc no);
       outs = outs;
       returns = returns;
-      own = λ deep owned once. let no : owner_level e.owner ≡ e.level = ap owner_level owned in absurd (omega (arith, no, low));
+      own = own;
       homes = homes;
     })
-declares_from {links} {code} {aims} closed around line turns k c meaning (d ∷ ds) {e} {block} {types} ib known {index} m {i} {s} {v} {h} {t} n f old none outs homes low enough later returns does' l serving all at goal =
+declares_from {links} {code} {aims} closed around line turns k c meaning (d ∷ ds) {e} {block} {types} ib known {index} m {i} {s} {v} {h} {t} n f old stand none outs homes own enough later returns does' l serving all at goal =
     let count = length types in
     let kind = declared_kind d in
+    let items = m.are.0.items in
+    let start = start_datum items in
     let o = first_more ib d ds m in
     let table = table_of block.program in
     let sig = number_for table kind in
-    let first = made_code 32 (place_for e index) sig None in
+    let first = made_code 32 (place_for e index) sig start in
     let rest = variables_made e line (suc index) ds in
     let tables : e.table ≡ table = known.table ∙ ap table_of (sym ib.named) in
-    let eq : variables_made e line index (d ∷ ds) ≡ first ++ rest = first_made e line index d ds m.are.0 known.parts_are ∙ ap (λ u. made_code 32 (place_for e index) (number_for u kind) None ++ rest) tables in
+    let eq : variables_made e line index (d ∷ ds) ≡ first ++ rest = first_made e line index d ds m.are.0 known.parts_are ∙ ap (λ u. made_code 32 (place_for e index) (number_for u kind) start ++ rest) tables in
     let here = first_here e index d ds m.stand in
     let numbered : Numbered table kind = subst (λ p. Numbered (table_of p) kind) (sym ib.named) (known.numbered e.block index (kind_stands (variables_of_block e.program e.block) index d here)) in
     let size = same_size kind o.element o.is in
-    let n1 = with_number_at n count (pos 0) in
-    let same : SameValues types n n1 = λ j kind' at'. (other_number (j == count) (pos 0) (n.numbers j) (not_last count j (place_below types j kind' at')), (refl, refl)) in
-    let zero' : n1.numbers count ≡ pos 0 = ap (λ q. cond q (pos 0) (n.numbers count)) (eq-eqb count count refl) in
+    let z = begin_of items in
+    let n1 = with_number_at n count z in
+    let same : SameValues types n n1 = λ j kind' at'. (other_number (j == count) z (n.numbers j) (not_last count j (place_below types j kind' at')), (refl, (refl, refl))) in
+    let begun : n1.numbers count ≡ z = ap (λ q. cond q z (n.numbers count)) (eq-eqb count count refl) in
     let all1 = all_same n1 same all in
     let at1 : (b : Base) → At b i (Known (ib.ground n1) v h t nothing b) (f b) = λ b.
     let q = (at b).holds in
@@ -238,19 +269,22 @@ declares_from {links} {code} {aims} closed around line turns k c meaning (d ∷ 
     let place : i + size_of first + size_of (rest ++ c) ≡ i + size_of (variables_made e line index (d ∷ ds) ++ c) = omega (arith, sum, sized) in
     let last : Unit {0} → Meaning (Unit {0}) = λ u. meaning in
     let next' : Unit {0} → Meaning (Unit {0}) = λ u. K.variables_made around (suc index) ds in
-    let plain : d ≡ plain_variable kind.type [] = m.are.0.is ∙ ap (λ u. plain_variable u []) (sym (ap (λ u. (declared_kind u).type) m.are.0.is)) in
-    let array : d ≡ array_variable kind.type kind.bounds [] = plain ∙ ap (λ (q : Kind). array_variable kind.type q.bounds []) (sym o.is) in
-    let T : Bool → Type 0 = λ q. Comes code i f v aims (flow_on k (flow_on k (made_or_ended s index k kind q) next') last) in
+    let type : kind.type ≡ m.are.0.type = ap (λ u. (declared_kind u).type) m.are.0.is in
+    let begins : AreConstants kind.type items = subst (λ u. AreConstants u items) (sym type) m.are.0.begins in
+    let plain : d ≡ plain_variable kind.type items = m.are.0.is ∙ ap (λ u. plain_variable u items) (sym type) in
+    let array : d ≡ array_variable kind.type kind.bounds items = plain ∙ ap (λ (q : Kind). array_variable kind.type q.bounds items) (sym o.is) in
+    let reads : Begins links code (ib.ground n1) kind items = subst (λ q. Begins links code (ib.ground n1) q items) (sym o.is) ((stand n1).begin kind.type items o.element begins (placed_if start l1 (made_named 32 (place_for e index) sig start))) in
+    let T : Bool → Type 0 = λ q. Comes code i f v aims (flow_on k (flow_on k (made_or_ended s index k kind items q) next') last) in
     let by_limit : (2 ^ 20 < automatic_in_use s.living + frame_size kind) ⊎ (automatic_in_use s.living + frame_size kind ≤ 2 ^ 20) → T (nat_le (automatic_in_use s.living + frame_size kind) most_automatic) = elim [
       | inl over ↦
           subst T (sym (lt-leb (automatic_in_use s.living + frame_size kind) (2 ^ 20) over))
           (comes_on k (flow_on k (finish {R = Unit {0}} (E.Limit L.Automatic) k s) next') last
           (comes_on k (finish {R = Unit {0}} (E.Limit L.Automatic) k s) next'
-          (past_piece ib o m.own (before_closed k next' (before_closed k last closed)) n1 f table k old numbered all.stored.table some (omega (arith, over, use')) l1 serving at1)))
+          (past_piece ib o m.own (before_closed k next' (before_closed k last closed)) n1 f table items k old reads numbered all.stored.table some (omega (arith, over, use')) l1 serving at1)))
       | inr within ↦
           subst T (sym (le-leb (automatic_in_use s.living + frame_size kind) (2 ^ 20) within))
-          (onward closed (more_piece ib o m.own i n1 v h t f table numbered size all.stored.table some (omega (arith, within, use')) zero' l1 at1) (λ f' at'.
-          declares_from closed around line turns k c meaning ds (more_block ib o (s.serials + 1)) known (next_makes ib d ds m (s.serials + 1)) n1 f' old none (more_outlets ib kind links k v.world.acts aims.jumped ib.outer ib.enclosing outs) (more_homes ib kind links k aims.returned ib.outer ib.enclosing homes) low enough (omega (arith, later)) returns does' l2
+          (onward closed (more_piece ib o m.own i n1 v h t f table items begins reads numbered size all.stored.table some (omega (arith, within, use')) begun l1 at1) (λ f' at'.
+          declares_from closed around line turns k c meaning ds (more_block ib o (s.serials + 1)) known (next_makes ib d ds m (s.serials + 1)) n1 f' old (λ n'. constants_moved (λ t'. t') (λ t' b m' q. q.0) (stand n')) none (more_outlets ib kind links k v.world.acts aims.jumped ib.outer ib.enclosing outs) (more_homes ib kind links k aims.returned ib.outer ib.enclosing homes) (λ deep owned once. more_exit ib index kind (s.serials + 1) (own deep owned once)) enough (omega (arith, later)) returns does' l2
           (record {
             world = serving.world;
             running = serving.running;
@@ -261,7 +295,7 @@ declares_from {links} {code} {aims} closed around line turns k c meaning (d ∷ 
             nested = nested_same s.activations v.activations (kind_binding kind index (s.serials + 1)) serving.nested;
             waiting = serving.waiting;
           })
-          (more_all e index kind ((ib.ground n1).frame + (place_for e index + 16)) o.element o.is numbered m.new serving.nested zero' all1)
+          (more_all e index kind items ((ib.ground n1).frame + (place_for e index + 16)) o.element begins o.is numbered m.new m.fresh serving.nested begun all1)
           at'
           (λ s' v' line' n' h' t' f'' free serving' all' at''.
           subst (λ u. aims.done u f'' v' tt s') (sym place)
@@ -271,4 +305,4 @@ declares_from {links} {code} {aims} closed around line turns k c meaning (d ∷ 
             holds = record { body = record { services = q.body.services; registers = q.body.registers; bytes = q.body.bytes; memory = q.body.memory.0 }; regs = q.regs };
           })))))
     ] in
-    subst (λ u. Comes code i f v aims (flow_on k u last)) (sym (step_meant around s index k kind d ds array numbered.held)) (by_limit (cases_lt (2 ^ 20) (automatic_in_use s.living + frame_size kind)))
+    subst (λ u. Comes code i f v aims (flow_on k u last)) (sym (step_meant around s index k kind items d ds array numbered.held)) (by_limit (cases_lt (2 ^ 20) (automatic_in_use s.living + frame_size kind)))

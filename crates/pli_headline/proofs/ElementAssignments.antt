@@ -37,23 +37,28 @@ use Rattle.pli_headline.proofs.ArrayExpressions.{AllEvaluate, subscripts_many}
 use Rattle.pli_headline.proofs.ArrayAssignments.{element_assigned_piece}
 use Rattle.pli_headline.proofs.ArrayScopes.{IsArrayAt, with_element_of, array_scope}
 use Rattle.pli_headline.proofs.ArrayStates.{scalar_apart, scalar_beside, text_beside, arrays_after}
+use Rattle.pli_headline.proofs.Asides.{asides_changed}
 use Rattle.pli_headline.proofs.Entered.{Frames}
 use Rattle.pli_headline.proofs.Statements.{Block, Standing, AllHold, scope_of, Does, counted_all, assign_number_does, assign_bit_does}
 use Rattle.pli_headline.proofs.Reach.{before_closed, comes_on}
+use Rattle.pli_headline.proofs.TextArrayMeant.{texts_aside}
+use Rattle.pli_headline.proofs.TextArrayStates.{texts_apart}
 
 -- what variables hold after an element is assigned
 pub element_all : {frames : Frames} {serials : Serials} {xs : Storage} {levels : List ℕ} {s : State} {block : Names} {types : Types} {n : Values} (j : ℕ) {type : Y.LeafType} {b : Bounds} {bs : List Bounds} (is : List ℤ) (z : ℤ) (below : IsArrayAt types j type b bs) → is_within (b ∷ bs) is ≡ true → Fits type z → (all : AllHold frames serials xs levels s block types n) → AllHold frames serials xs levels (element_state s type (b ∷ bs) (serials.of j) (all.arrays j type b bs below).values is z) block types (with_element_of n j (element_place (b ∷ bs) is) z)
-element_all {serials = serials} {s = s} {types = types} {n = n} j {type} {b} {bs} is z below within fits all =
+element_all {frames = frames} {serials = serials} {s = s} {types = types} {n = n} j {type} {b} {bs} is z below within fits all =
     let h = all.arrays j type b bs below in
     let change = P.with_element (designated_element type (b ∷ bs) (serials.of j) h.values is) (value_as type z) in
     record {
-      numbers = λ i c numeric. scalar_beside (serials.of j) change (all.stored.apart i j c.1 below (scalar_apart types i j c.0 type b bs below c.1)) (all.numbers i c numeric);
-      texts = λ i varying most at. text_beside (serials.of j) change (all.stored.apart i j at below (scalar_apart types i j (text_leaf varying most) type b bs below at)) (all.texts i varying most at);
-      arrays = λ i other c cs at. arrays_after serials.of types n is z below within fits h i other c cs at (λ e. all.stored.apart i j at below e) (all.arrays i other c cs at);
+      numbers = λ i c numeric. scalar_beside (serials.of j) change (all.stored.apart i j c.1 below.0 (scalar_apart types i j c.0 type b bs below.0 c.1)) (all.numbers i c numeric);
+      texts = λ i varying most at. text_beside (serials.of j) change (all.stored.apart i j at below.0 (scalar_apart types i j (text_leaf varying most) type b bs below.0 at)) (all.texts i varying most at);
+      arrays = λ i other c cs at. arrays_after serials.of types n is z below within fits h i other c cs at (λ e. all.stored.apart i j at.0 below.0 e) (all.arrays i other c cs at);
+      text_arrays = λ i varying most c cs at. texts_aside (serials.of j) change (all.stored.apart i j at below.0 (texts_apart types i j type b bs varying most c cs below at)) (all.text_arrays i varying most c cs at);
       entered = all.entered;
       framed = all.framed;
       kinds = all.kinds;
       units = all.units;
+      aside = asides_changed j change below.0 all.aside;
       stored = stored_changed (serials.of j) change (λ g. refl) all.stored;
     }
 
@@ -77,7 +82,7 @@ element_assign_does {e} {block} {types} bl links code routines around j {type} b
           let all1 : AllHold bl.frames bl.serials (storage v) (e.level ∷ bl.depths) s1 block types n = counted_all _ all in
           let mine = all1.arrays j type b bs below in
           let on = bl.arrays j type b bs below in
-          element_assigned_piece (λ z p. bl.ground (with_element_of n j p z)) closed routines.raises (bl.temps n) (array_scope on n mine (bl.reaches n j below)) f1 here bl.taken k due (subscripts_words (Y.NumberThen first rest)) first rest source
+          element_assigned_piece (λ z p. bl.ground (with_element_of n j p z)) closed routines.raises (bl.temps n) (array_scope on n mine (bl.reaches n j below.0)) f1 here bl.taken k due (subscripts_words (Y.NumberThen first rest)) first rest source
           (stores _ s1 k n all1 serving1) into (subscripts _ s1 k n all1 serving1) (ap (λ m. suc m) many) (subscripts_many (Y.NumberThen first rest)) (omega (arith, room, w)) (omega (arith, some, w)) serving1
           (λ z p base h'. bl.same n (with_element_of n j p z) base h')
           (λ z p fits' inside t' base m len o. on.writes n p z inside (mine.fits p inside) fits' t' base m len o)
@@ -113,10 +118,10 @@ assign_number_part_does {e} {block} {types} bl links code routines around r p x 
     by_part (inr o) =
         let xs = Y.NumberThen o.first o.rest in
         let are : AreProvedNumbers block types xs = subst (AreSubscripts block types) o.is target.1 in
-        let some = count_some (o.bound ∷ o.bounds) (bl.arrays o.index (Y.FixedLeaf p) o.bound o.bounds o.declared).bounds in
+        let some = count_some (o.bound ∷ o.bounds) (bl.arrays o.index (Y.FixedLeaf p) o.bound o.bounds (o.declared, tt)).bounds in
         subst (λ q. Does bl links code around.turns (act_code line ++ assigned_code e bl.taken q (Y.StoredNumber p x)) (M.statement around (Y.Assign q (Y.StoredNumber p x) line))) (sym o.is)
-        (element_assign_does bl links code routines around o.index o.bound o.bounds o.first o.rest (Y.StoredNumber p x) line (max 1 (number_words x)) o.declared o.many
-        (λ v s k n all serving. number_stores {e = e} {block = block} {types = types} {held = n} {around = at_line around line} p x ((all.arrays o.index (Y.FixedLeaf p) o.bound o.bounds o.declared).fits 0 some).0 (setting_at bl routines (at_line around line) n all serving) is)
+        (element_assign_does bl links code routines around o.index o.bound o.bounds o.first o.rest (Y.StoredNumber p x) line (max 1 (number_words x)) (o.declared, tt) o.many
+        (λ v s k n all serving. number_stores {e = e} {block = block} {types = types} {held = n} {around = at_line around line} p x ((all.arrays o.index (Y.FixedLeaf p) o.bound o.bounds (o.declared, tt)).fits 0 some).0 (setting_at bl routines (at_line around line) n all serving) is)
         (λ v s k n all serving. subscripts_do xs (setting_at bl routines (at_line around line) n all serving) are)
         refl room (subscripts_fit block o.index o.first o.rest r bl.taken.words bl.words o.is more) fits)
 
@@ -129,7 +134,7 @@ assign_bit_part_does {e} {block} {types} bl links code routines around r x line 
         let xs = Y.NumberThen o.first o.rest in
         let are : AreProvedNumbers block types xs = subst (AreSubscripts block types) o.is target.1 in
         subst (λ q. Does bl links code around.turns (act_code line ++ assigned_code e bl.taken q (Y.StoredBit x)) (M.statement around (Y.Assign q (Y.StoredBit x) line))) (sym o.is)
-        (element_assign_does bl links code routines around o.index o.bound o.bounds o.first o.rest (Y.StoredBit x) line (bit_words x) o.declared o.many
+        (element_assign_does bl links code routines around o.index o.bound o.bounds o.first o.rest (Y.StoredBit x) line (bit_words x) (o.declared, tt) o.many
         (λ v s k n all serving. bit_stores {e = e} {block = block} {types = types} {held = n} {around = at_line around line} x (setting_at bl routines (at_line around line) n all serving) is)
         (λ v s k n all serving. subscripts_do xs (setting_at bl routines (at_line around line) n all serving) are)
         refl room (subscripts_fit block o.index o.first o.rest r bl.taken.words bl.words o.is more) fits)

@@ -10,6 +10,7 @@ use Rattle.pli_types.specs.Templates.{Template}
 use Rattle.pli_headline.specs.ProvedSoFar.{Names, Types}
 use Rattle.pli_headline.proofs.Storages.{Storage, Serials, Stored, Alike}
 use Rattle.pli_headline.proofs.Activations.{Nested, frames_of, entered_length, same_length}
+use Rattle.pli_headline.proofs.Asides.{behind_aside}
 use Rattle.pli_headline.proofs.Entered.{Frames, behind_kind, frames_left, kinds_of, UnitsKnown}
 use Rattle.pli_headline.proofs.OuterBlocks.{Rises, risen_length, risen_least}
 use Rattle.pli_headline.proofs.BeginMeant.{Outside, ended_input, behind_first, left_below, left_storage}
@@ -84,10 +85,12 @@ none_ended s xs (y ∷ ys) frame level frames behind depths {serials} {block} {t
         numbers = all.numbers;
         texts = all.texts;
         arrays = all.arrays;
+        text_arrays = all.text_arrays;
         entered = all.entered;
         framed = framed;
         kinds = ap kinds_of (sym known) ∙ all.kinds;
         units = subst (UnitsKnown frames.known s.activations) known all.units;
+        aside = all.aside;
         stored = subst (λ ms. Stored serials xs.signatures ms xs.serials (suc (length depths)) s.living s.serials block types) (sym low) all.stored;
       };
       world = refl;
@@ -110,11 +113,11 @@ all_ended (suc m) frame level frames (f ∷ fs) [] behind depths s xs are rises 
 all_ended (suc m) frame level frames (f ∷ fs) (l ∷ []) behind depths s xs are rises beneath nested all =
     absurd (let long = risen_length m frame level fs [] behind depths rises.1 in omega (arith, long))
 all_ended (suc m) frame level frames (f ∷ fs) (l ∷ l' ∷ ls) behind depths s xs {serials} {block} {types} {n} are rises beneath nested all =
-    let below : Frames = record { list = fs; kinds = behind_kind frames.kinds; known = frames.known } in
+    let below : Frames = record { list = fs; kinds = behind_kind frames.kinds; asides = behind_aside frames.asides; known = frames.known } in
     let s' = with_world s.world (newest_ended s) in
     let long = risen_length m frame level fs (l' ∷ ls) behind depths rises.1 in
     let outside = outside_of level l l' depths serials block types rises.0.1 (risen_least m frame level fs (l' ∷ ls) behind depths rises.1) beneath in
-    let o = left_below s xs frames below (ap behind_first are) refl (λ us vs u. u) nested outside (λ j kind at. let low = (beneath j kind at).1 in omega (arith, low, long)) all in
+    let o = left_below s xs frames below (ap behind_first are) refl refl (λ us vs u. u) nested outside (λ j kind at. let low = (beneath j kind at).1 in omega (arith, low, long)) all in
     let q = all_ended m frame level below fs (l' ∷ ls) behind depths s' (left_storage xs o.rest) refl rises.1 beneath o.nested o.all in
     let first : o.newest.frame ≡ f = ap first_frame (ap frames_of (sym o.are) ∙ all.framed ∙ are) in
     let left' = entered_length s'.activations (l' ∷ ls) o.all.entered in

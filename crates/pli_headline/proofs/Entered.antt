@@ -7,20 +7,27 @@ use Rattle.pli_typing.specs.TypedTree as Y
 use Rattle.pli_meaning.specs.StorageState.{Activation, OnUnit, SystemUnit, BlockUnit, same_condition, unit_for, without_unit, first_unit, force}
 use Rattle.pli_serving.specs.ServiceState as S
 use Rattle.pli_serving.specs.OnUnits as U
+use Rattle.pli_headline.proofs.Asides.{Aside, first_aside, behind_aside}
 
--- the frames, newest first; and of the blocks in the main procedure how they are entered
+-- the frames, newest first; and of the blocks in the main procedure how they are entered, and which variables of theirs are put aside
 pub record Frames : Type 1 where
   pub list : List ℕ
   pub kinds : List S.BlockKind
+  pub asides : List (List Aside)
   pub known : (frame : ℕ) → Y.Block → (at : ℕ) → Type 0
+
+-- with some more variables of the newest block put aside
+abbrev pub put_aside : Aside → Frames → Frames
+put_aside x frames =
+    record { list = frames.list; kinds = frames.kinds; asides = (x ∷ first_aside frames.asides) ∷ behind_aside frames.asides; known = frames.known }
 
 -- a block above these
 abbrev pub atop : (at : ℕ) → S.BlockKind → Frames → Frames
-atop at kind frames = record { list = at ∷ frames.list; kinds = kind ∷ frames.kinds; known = frames.known }
+atop at kind frames = record { list = at ∷ frames.list; kinds = kind ∷ frames.kinds; asides = [] ∷ frames.asides; known = frames.known }
 
 -- the main procedure alone
 abbrev pub lone : (at : ℕ) → (known : ℕ → Y.Block → ℕ → Type 0) → Frames
-lone at known = record { list = at ∷ []; kinds = []; known = known }
+lone at known = record { list = at ∷ []; kinds = []; asides = []; known = known }
 
 -- ---- how blocks are entered
 
@@ -42,8 +49,12 @@ abbrev pub kinds_left : ℕ → List S.BlockKind → List S.BlockKind
 kinds_left zero ks = ks
 kinds_left (suc m) ks = kinds_left m (behind_kind ks)
 
+abbrev pub asides_left_behind : ℕ → List (List Aside) → List (List Aside)
+asides_left_behind zero xss = xss
+asides_left_behind (suc m) xss = asides_left_behind m (behind_aside xss)
+
 abbrev pub frames_left : (m frame : ℕ) → List ℕ → Frames → Frames
-frames_left m frame behind frames = record { list = frame ∷ behind; kinds = kinds_left m frames.kinds; known = frames.known }
+frames_left m frame behind frames = record { list = frame ∷ behind; kinds = kinds_left m frames.kinds; asides = asides_left_behind m frames.asides; known = frames.known }
 
 pub kinds_above : (x : S.Activation) (xs : List S.Activation) → 0 < length xs → kinds_of (x ∷ xs) ≡ x.kind ∷ kinds_of xs
 kinds_above x [] some = absurd (omega (arith, some))

@@ -1,30 +1,35 @@
 -- The code of expressions and assignments marks no symbols.
-use Rattle.std.proofs.Common.{◌≡◌, ℕ, [], ◌∷◌, ◌++◌, length, Bool, true, false, refl, ap, ◌∙◌, inl, inr, sym, subst}
+use Rattle.std.proofs.Common.{◌≡◌, ℕ, [], ◌∷◌, ◌++◌, length, Bool, true, false, refl, ap, ◌∙◌, inl, inr, sym, subst, suc, List, map}
 use Rattle.std.specs.Prelude.{pos, cond, ◌==◌}
 use Rattle.rv_meaning.specs.declared.instr.ImmediateOp.TheVariants as Imm
+use Rattle.rv_meaning.specs.declared.instr.RegisterOp.TheVariants as Op
+use Rattle.rv_meaning.specs.declared.instr.ShiftOp.TheVariants as Shift
 use Rattle.pli_typing.specs.TypedTree as Y
 use Rattle.pli_meaning.specs.Numbers.{is_of_precision}
 use Rattle.pli_meaning.specs.Evaluating as V
-use Rattle.pli_coding.specs.Registers.{frame_register, a0, a1, a2, u1, u3}
+use Rattle.pli_coding.specs.Registers.{frame_register, a0, a1, a2, u1, u3, u2, u4}
 use Rattle.pli_coding.specs.Assembly.{Code}
-use Rattle.pli_coding.specs.Instructions.{is_immediate, small, number, load_word, move, service, tested_service, constant, subtract, immediate}
+use Rattle.pli_coding.specs.Instructions.{is_immediate, small, number, load_word, move, service, tested_service, constant, subtract, immediate, shift, registers, add}
 use Rattle.pli_coding.specs.Frames.{display}
 use Rattle.pli_coding.specs.Environments.{Environment, Taken, with_number, save, fetch}
 use Rattle.pli_coding.specs.Arithmetic.{calculated_code, fitted_code, divided_code, signed_code, absolute_code, count_checked, sign_code, modulo_code, extreme_code, negated_code, combined_code, compared_code}
-use Rattle.pli_coding.specs.Locating.{frame_found, stored, address_offset}
-use Rattle.pli_coding.specs.Expressions.{number_code, extremes_code, text_code, bit_code, type_in, address_in, subscripts_code, BoundAsked, LowerAsked, UpperAsked, ElementsAsked}
+use Rattle.pli_coding.specs.Locating.{frame_found, stored, address_offset, frame_in, times_constant, subscripts_counted}
+use Rattle.pli_coding.specs.Expressions.{number_code, extremes_code, text_code, bit_code, type_in, address_in, subscripts_code, BoundAsked, LowerAsked, UpperAsked, ElementsAsked, given_in}
 use Rattle.pli_coding.specs.Streams.{as_text}
 use Rattle.pli_coding.specs.Storing.{word_stored, top_stored}
-use Rattle.pli_headline.specs.ProvedSoFar.{Names, Types, IsOwn, IsProvedNumber, AreProvedNumbers, IsProvedBit, IsProvedText, text_leaf, IsOwnText, alone, IsPart, IsPartNumber, IsAssigned, AreSubscripts, Kind, IsDimension}
-use Rattle.pli_headline.proofs.Scalars.{IsNumeric, element_numeric}
+use Rattle.pli_headline.specs.ProvedSoFar.{Names, Types, IsOwn, IsProvedNumber, AreProvedNumbers, IsProvedBit, IsProvedText, text_leaf, alone, IsPart, IsPartNumber, IsAssigned, AreSubscripts, Kind, IsDimension, IsPartText, IsAssignedText, constant_bounds}
+use Rattle.pli_headline.proofs.Scalars.{IsNumeric}
 use Rattle.pli_headline.proofs.Reaching.{found_by, register_by}
 use Rattle.pli_headline.proofs.TextPlaces.{text_mode, kind_asked, text_asked}
 use Rattle.pli_headline.proofs.TextVariables.{text_loaded, text_kept}
 use Rattle.pli_headline.proofs.Variables.{own, whole, data_place, base_found, scalar_loaded, scalar_stored, number_loaded, bit_loaded, scalar_found, scalar_kept, HasTypes, subscripts_in, level_of}
 use Rattle.pli_headline.proofs.SymbolsMarked.{symbols_marked, Marks, behind, either, constant_none, load_none, plus_none, saved_none, fetched_none, overflow_none, calculated_none, fitted_none, divided_none, sign_none, extreme_none, combined_none, compared_none}
-use Rattle.pli_headline.proofs.ArrayMarks.{next_none, part_none, kept_element_none}
+use Rattle.pli_headline.proofs.ArrayMarks.{next_none, part_none, kept_element_none, dimensions_none}
 use Rattle.pli_headline.proofs.ArrayDimensions.{asked_number, checked_if, answer_code, answer_is}
 use Rattle.pli_typing.specs.Signatures.{Bounds}
+use Rattle.pli_headline.proofs.TextArraysStay.{text_stride}
+use Rattle.pli_headline.proofs.TextElements.{strides_added, text_found, text_element_code, element_asked, text_element_pushed, text_element_kept}
+use Rattle.pli_headline.proofs.ArrayFrames.{held_constant}
 
 base_none : (e : Environment) (level : ℕ) → Marks (base_found e level) []
 base_none e level =
@@ -43,22 +48,25 @@ reference_none e t block types p r has is =
     ap (λ q. number_code e t (Y.NumberIn q)) is.is ∙ number_loaded e t block is.index p (has is.index (alone (Y.FixedLeaf p)) is.declared) in
     ap symbols_marked same ∙ loaded_none (Y.FixedLeaf p) e (level_of block is.index) place
 
--- what asks a service about a text of a variable
+-- what asks a service about a text
+kind_none : (n : ℕ) (varying : Bool) (most : ℕ) → Marks (kind_asked n varying most) []
+kind_none n varying most =
+    behind (number a1 most ++ small a2 (text_mode varying) ∷ []) (service n) [] (behind (number a1 most) (small a2 (text_mode varying) ∷ []) [] (constant_none a1 (pos most)) refl) refl
+
+-- a text of a variable
 asked_none : (q : Bool) (level n : ℕ) (varying : Bool) (most place : ℕ) → Marks (text_asked q level n varying most place) []
 asked_none q level n varying most place =
-    let kind = number a1 most ++ small a2 (text_mode varying) ∷ [] in
     let offset = address_offset (record { register = register_by q; displacement = pos place }) in
     behind (found_by q level) (offset ++ kind_asked n varying most) []
     (behind (cond q [] (load_word u3 frame_register (display level))) [] [] (either q [] (load_word u3 frame_register (display level)) refl (load_none u3 frame_register (display level))) refl)
-    (behind offset (kind_asked n varying most) [] (plus_none a0 a0 (pos place))
-    (behind kind (service n) [] (behind (number a1 most) (small a2 (text_mode varying) ∷ []) [] (constant_none a1 (pos most)) refl) refl))
+    (behind offset (kind_asked n varying most) [] (plus_none a0 a0 (pos place)) (kind_none n varying most))
 
-text_reference_none : (e : Environment) (t : Taken) (block : Names) (types : Types) (r : Y.Reference) → HasTypes e block types → IsOwnText block types r → Marks (text_code e t (Y.TextIn r)) []
-text_reference_none e t block types r has is =
-    let j = is.own.index in
-    let same : text_code e t (Y.TextIn r) ≡ text_asked (level_of block j == e.level) (level_of block j) 20 is.varying is.most (data_place e block j) =
-    ap (λ q. text_code e t (Y.TextIn q)) is.own.is ∙ text_loaded is.varying e t block j is.most (has j (alone (text_leaf is.varying is.most)) is.own.declared) in
-    ap symbols_marked same ∙ asked_none (level_of block j == e.level) (level_of block j) 20 is.varying is.most (data_place e block j)
+text_reference_none : (e : Environment) (t : Taken) (block : Names) (types : Types) (varying : Bool) (most : ℕ) (r : Y.Reference) → HasTypes e block types → IsOwn block types (text_leaf varying most) r → Marks (text_code e t (Y.TextIn r)) []
+text_reference_none e t block types varying most r has is =
+    let j = is.index in
+    let same : text_code e t (Y.TextIn r) ≡ text_asked (level_of block j == e.level) (level_of block j) 20 varying most (data_place e block j) =
+    ap (λ q. text_code e t (Y.TextIn q)) is.is ∙ text_loaded varying e t block j most (has j (alone (text_leaf varying most)) is.declared) in
+    ap symbols_marked same ∙ asked_none (level_of block j == e.level) (level_of block j) 20 varying most (data_place e block j)
 
 bit_reference_none : (e : Environment) (t : Taken) (block : Names) (types : Types) (r : Y.Reference) → HasTypes e block types → IsOwn block types Y.BitLeaf r → Marks (bit_code e t (Y.BitIn r)) []
 bit_reference_none e t block types r has is =
@@ -86,6 +94,41 @@ bit_part_none e t block types r has (inr o) none =
     let none' = subst (λ q. Marks (subscripts_code e t (subscripts_in q)) []) o.is none in
     subst (λ q. Marks (bit_code e t (Y.BitIn q)) []) (sym o.is) (part_none e t block o.index Y.BitLeaf (o.bound ∷ o.bounds) o.first o.rest tt (has o.index kind o.declared) none')
 
+-- the address of an element that holds a text
+strides_none : (n : ℕ) → Marks (times_constant n) []
+strides_none n =
+    either (n == 4) (shift Shift.Left u4 u4 2 ∷ []) (number u2 n ++ registers Op.Multiply u4 u4 u2 ∷ []) refl
+    (behind (number u2 n) (registers Op.Multiply u4 u4 u2 ∷ []) [] (constant_none u2 (pos n)) refl)
+
+text_found_none : (e : Environment) (level : ℕ) (varying : Bool) (most : ℕ) → Marks (text_found e level varying most) []
+text_found_none e level varying most =
+    behind (frame_found e level u3) (strides_added varying most (frame_in e level u3)) [] (either (level == e.level) [] (load_word u3 frame_register (display level)) refl (load_none u3 frame_register (display level)))
+    (behind (times_constant (text_stride varying most)) (add u3 (frame_in e level u3) u4 ∷ []) [] (strides_none (text_stride varying most)) refl)
+
+-- what asks about it
+text_element_none : (e : Environment) (t : Taken) (block : Names) (j n : ℕ) (varying : Bool) (most : ℕ) (bs : List Bounds) (first : Y.Number) (rest : Y.Numbers) → Marks (subscripts_code e t (Y.NumberThen first rest)) [] → Marks (text_element_code e t (level_of block j) varying most bs first rest ++ element_asked n (data_place e block j) varying most) []
+text_element_none e t block j n varying most bs first rest none =
+    let level = level_of block j in
+    let place = data_place e block j in
+    let counted = subscripts_counted t 0 (suc (given_in rest)) (map constant_bounds bs) in
+    let offset = address_offset (record { register = u3; displacement = pos place }) in
+    behind (text_element_code e t level varying most bs first rest) (element_asked n place varying most) []
+    (behind (subscripts_code e t (Y.NumberThen first rest)) (counted ++ text_found e level varying most) [] none
+    (behind counted (text_found e level varying most) [] (dimensions_none t 0 (suc (given_in rest)) bs) (text_found_none e level varying most)))
+    (behind offset (kind_asked n varying most) [] (plus_none a0 a0 (pos place)) (kind_none n varying most))
+
+text_part_none : (e : Environment) (t : Taken) (block : Names) (types : Types) (r : Y.Reference) → HasTypes e block types → IsPartText block types r → Marks (subscripts_code e t (subscripts_in r)) [] → Marks (text_code e t (Y.TextIn r)) []
+text_part_none e t block types r has is none = by_part is.part
+  where
+    by_part : IsPart block types (text_leaf is.varying is.most) r → Marks (text_code e t (Y.TextIn r)) []
+    by_part (inl o) = text_reference_none e t block types is.varying is.most r has o
+    by_part (inr o) =
+        let kind : Kind = record { type = text_leaf is.varying is.most; bounds = o.bound ∷ o.bounds } in
+        let none' = subst (λ q. Marks (subscripts_code e t (subscripts_in q)) []) o.is none in
+        subst (λ q. Marks (text_code e t (Y.TextIn q)) []) (sym o.is)
+        (subst (λ c. Marks c []) (sym (text_element_pushed e t block o.index is.varying is.most (o.bound ∷ o.bounds) o.first o.rest (has o.index kind o.declared)))
+        (text_element_none e t block o.index 20 is.varying is.most (o.bound ∷ o.bounds) o.first o.rest none'))
+
 -- a bound, or the number of subscripts
 answer_none : (t : Taken) (asked : BoundAsked) (b : Bounds) → Marks (answer_code t asked b) []
 answer_none t LowerAsked b = constant_none a0 b.lower
@@ -102,7 +145,7 @@ dimension_none e t block types asked r dimension has is =
     let same : number_code e t (asked_number asked r dimension) ≡ answer_code t asked is.asked =
     ap (λ q. number_code e t (asked_number asked q dimension)) is.is
     ∙ ap (λ n. number_code e t (asked_number asked (whole (own block is.index)) n)) is.dimension_is
-    ∙ answer_is asked e t block is.index is.type (is.bound ∷ is.bounds) is.place is.asked (element_numeric is.type is.element) (has is.index kind is.declared) is.among in
+    ∙ answer_is asked e t block is.index is.type (is.bound ∷ is.bounds) is.place is.asked (held_constant is.type is.held (is.bound ∷ is.bounds) []) (has is.index kind is.declared) is.among in
     ap symbols_marked same ∙ answer_none t asked is.asked
 
 -- two operands, the first of which waits
@@ -196,7 +239,8 @@ mutual
   pub text_none : (e : Environment) (t : Taken) (block : Names) (types : Types) (x : Y.Text) → HasTypes e block types → IsProvedText block types x → Marks (text_code e t x) []
   text_none e t block types (Y.TextConstant bytes) has is =
       behind (number a1 (length bytes)) (small a2 0 ∷ service 20) [] (constant_none a1 (pos (length bytes))) refl
-  text_none e t block types (Y.TextIn r) has is = text_reference_none e t block types r has is
+  text_none e t block types (Y.TextIn (Y.Referring v locator part subscripts)) has is =
+      text_part_none e t block types (Y.Referring v locator part subscripts) has is.0 (subscripts_none e t block types subscripts has is.1)
   text_none e t block types (Y.TextOfNumber precision x) has is =
       behind (number_code e t x) (as_text precision) [] (number_none e t block types x has is.1) refl
   text_none e t block types (Y.TextOfBit x) has is =
@@ -280,7 +324,17 @@ top_none e t block types varying most r has is =
     ap (top_stored e t) is.is ∙ text_kept varying e t block is.index most (has is.index (alone (text_leaf varying most)) is.declared) in
     ap symbols_marked same ∙ asked_none (level_of block is.index == e.level) (level_of block is.index) 27 varying most (data_place e block is.index)
 
+-- in a variable or an element
+pub text_target_none : (e : Environment) (t : Taken) (block : Names) (types : Types) (varying : Bool) (most : ℕ) (r : Y.Reference) → HasTypes e block types → IsPart block types (text_leaf varying most) r → AreSubscripts block types r → Marks (top_stored e t r) []
+text_target_none e t block types varying most r has (inl o) subscripts = top_none e t block types varying most r has o
+text_target_none e t block types varying most r has (inr o) subscripts =
+    let kind : Kind = record { type = text_leaf varying most; bounds = o.bound ∷ o.bounds } in
+    let are : AreProvedNumbers block types (Y.NumberThen o.first o.rest) = subst (AreSubscripts block types) o.is subscripts in
+    subst (λ q. Marks (top_stored e t q) []) (sym o.is)
+    (subst (λ c. Marks c []) (sym (text_element_kept e t block o.index varying most (o.bound ∷ o.bounds) o.first o.rest (has o.index kind o.declared)))
+    (text_element_none e t block o.index 27 varying most (o.bound ∷ o.bounds) o.first o.rest (subscripts_none e t block types (Y.NumberThen o.first o.rest) has are)))
+
 -- a text that is stored
-pub text_stored_none : (e : Environment) (t : Taken) (block : Names) (types : Types) (r : Y.Reference) (x : Y.Text) → HasTypes e block types → IsOwnText block types r → IsProvedText block types x → Marks (text_code e t x ++ top_stored e t r) []
-text_stored_none e t block types r x has own' is =
-    behind (text_code e t x) (top_stored e t r) [] (text_none e t block types x has is) (top_none e t block types own'.varying own'.most r has own'.own)
+pub text_stored_none : (e : Environment) (t : Taken) (block : Names) (types : Types) (r : Y.Reference) (x : Y.Text) → HasTypes e block types → IsAssignedText block types r → IsProvedText block types x → Marks (text_code e t x ++ top_stored e t r) []
+text_stored_none e t block types r x has target is =
+    behind (text_code e t x) (top_stored e t r) [] (text_none e t block types x has is) (text_target_none e t block types target.0.varying target.0.most r has target.0.part target.1)

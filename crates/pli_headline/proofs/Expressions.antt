@@ -23,7 +23,7 @@ use Rattle.pli_coding.specs.Environments.{Environment, Taken}
 use Rattle.pli_coding.specs.Expressions.{number_code, extremes_code, bit_code, text_code, given_in, BoundAsked, LowerAsked, UpperAsked, ElementsAsked}
 use Rattle.pli_coding.specs.Temporaries.{number_words, numbers_words, bit_words, text_words, subscripts_words}
 use Rattle.pli_coding.specs.Linking.{Links}
-use Rattle.pli_headline.specs.ProvedSoFar.{Names, Types, IsOwn, IsOwnText, IsProvedNumber, AreProvedNumbers, IsProvedBit, IsProvedText, IsPart, IsPartNumber, alone, IsDimension}
+use Rattle.pli_headline.specs.ProvedSoFar.{Names, Types, IsOwn, IsProvedNumber, AreProvedNumbers, IsProvedBit, IsProvedText, IsPart, IsPartNumber, alone, IsDimension, IsPartText, text_leaf, IsScalar}
 use Rattle.pli_headline.proofs.Engine.{Base}
 use Rattle.pli_headline.proofs.Items.{Linked, At, straight}
 use Rattle.pli_headline.proofs.Numbers.{IsWide, word_small}
@@ -52,7 +52,10 @@ use Rattle.pli_headline.proofs.Reach.{Family, Aims, Comes, Closed, onward}
 use Rattle.pli_headline.proofs.Subscripts.{none_evaluate, next_evaluate}
 use Rattle.pli_headline.proofs.ArrayScopes.{ArraysHeld}
 use Rattle.pli_headline.proofs.ArrayExpressions.{AllEvaluate, element_number_does, element_bit_does}
-use Rattle.pli_headline.proofs.ArrayDimensions.{asked_number, dimension_does}
+use Rattle.pli_headline.proofs.ArrayDimensions.{asked_number, dimension_does, BoundsScope, numbers_scope, texts_scope}
+use Rattle.pli_headline.proofs.TextArrayScopes.{TextArraysHeld}
+use Rattle.pli_headline.proofs.TextElements.{text_element_evaluates}
+use Rattle.pli_typing.specs.Signatures.{Bounds}
 
 -- the variables of a block, in the meaning and in memory
 pub record Scope (g : Ground) (e : Environment) (block : Names) (types : Types) (s : State) (held : Values) : Type 0 where
@@ -65,6 +68,7 @@ pub record Scope (g : Ground) (e : Environment) (block : Names) (types : Types) 
   pub reads : (j : ℕ) {type : Y.LeafType} → slice_get types j ≡ Some (alone type) → IsNumeric type → (t : ℕ → ℕ) (b : Base) (m : List ℕ) → g.memory t b m → extended (load_kind type) (load (load_width (load_kind type)) m (base j + data_place e block j)) ≡ word (held.numbers j)
   pub texts : TextsHeld g e block types s base held
   pub arrays : ArraysHeld g e block types s held
+  pub text_arrays : TextArraysHeld g e block types s held
 
 -- what stands around an expression
 pub record Setting (links : Links) (code : List Instr) (g : Ground) (v : Services) (s : State) (k : ℕ) (e : Environment) (block : Names) (types : Types) (held : Values) (around : Around) : Type 0 where
@@ -141,12 +145,12 @@ own_bit_does {links} {code} {g} {v} {s} {k} {e} {block} {types} {held} around r 
           subst T (sym is.is) w l goal;
     }
 
-own_text_does : {links : Links} {code : List Instr} {g : Ground} {v : Services} {s : State} {k : ℕ} {e : Environment} {block : Names} {types : Types} {held : Values} (around : Around) (r : Y.Reference) → IsOwnText block types r → Scope g e block types s held → EvaluatesText links code g v s k (text_words (Y.TextIn r)) (λ taken. text_code e taken (Y.TextIn r)) (V.text around (Y.TextIn r))
-own_text_does {links} {code} {g} {v} {s} {k} {e} {block} around r is scope =
-    let j = is.own.index in
-    let inside = (scope.places j is.own.declared).inside in
-    subst (λ u. EvaluatesText links code g v s k (text_words (Y.TextIn u)) (λ taken. text_code e taken (Y.TextIn u)) (V.text around (Y.TextIn u))) (sym is.own.is)
-    (variable_evaluates around j is.varying is.most (text_words (Y.TextIn (whole (own block j)))) is.own.declared (scope.declared j is.own.declared) (scope.reach j is.own.declared) (omega (arith, inside)) scope.texts)
+own_text_does : {links : Links} {code : List Instr} {g : Ground} {v : Services} {s : State} {k : ℕ} {e : Environment} {block : Names} {types : Types} {held : Values} (around : Around) (varying : Bool) (most : ℕ) (r : Y.Reference) → IsOwn block types (text_leaf varying most) r → Scope g e block types s held → EvaluatesText links code g v s k (text_words (Y.TextIn r)) (λ taken. text_code e taken (Y.TextIn r)) (V.text around (Y.TextIn r))
+own_text_does {links} {code} {g} {v} {s} {k} {e} {block} around varying most r is scope =
+    let j = is.index in
+    let inside = (scope.places j is.declared).inside in
+    subst (λ u. EvaluatesText links code g v s k (text_words (Y.TextIn u)) (λ taken. text_code e taken (Y.TextIn u)) (V.text around (Y.TextIn u))) (sym is.is)
+    (variable_evaluates around j varying most (text_words (Y.TextIn (whole (own block j)))) is.declared (scope.declared j is.declared) (scope.reach j is.declared) (omega (arith, inside)) scope.texts)
 
 bit_does' : {links : Links} {code : List Instr} {g : Ground} {v : Services} {s : State} {k : ℕ} (n : ℕ) (b : Bool) → n < 2 ^ 16 → n ≡ flag b → Evaluates bit_kind links code g v s k 0 (λ taken. small a0 n ∷ []) (give b)
 unfolding give
@@ -172,14 +176,32 @@ number_part_does {links} {code} {g} {v} {s} {k} {e} {block} {types} {held} {arou
     by_part (inr o) =
         let all' = subst (λ q. AllEvaluate links code g v s k e around (subscripts_in q)) o.is all in
         subst (λ q. Evaluates number_kind links code g v s k (number_words (Y.NumberIn q)) (λ taken. number_code e taken (Y.NumberIn q)) (V.number around (Y.NumberIn q))) (sym o.is)
-        (element_number_does around st.routines st.temps st.serving (st.scope.arrays o.index (Y.FixedLeaf is.precision) o.bound o.bounds o.declared) o.first o.rest all' (ap (λ n. suc n) o.many))
+        (element_number_does around st.routines st.temps st.serving (st.scope.arrays o.index (Y.FixedLeaf is.precision) o.bound o.bounds (o.declared, tt)) o.first o.rest all' (ap (λ n. suc n) o.many))
 
 bit_part_does : {links : Links} {code : List Instr} {g : Ground} {v : Services} {s : State} {k : ℕ} {e : Environment} {block : Names} {types : Types} {held : Values} {around : Around} (r : Y.Reference) → IsPart block types Y.BitLeaf r → Setting links code g v s k e block types held around → AllEvaluate links code g v s k e around (subscripts_in r) → Evaluates bit_kind links code g v s k (bit_words (Y.BitIn r)) (λ taken. bit_code e taken (Y.BitIn r)) (V.bit around (Y.BitIn r))
 bit_part_does {around = around} r (inl o) st all = own_bit_does around r (bit_words (Y.BitIn r)) o st.scope
 bit_part_does {links} {code} {g} {v} {s} {k} {e} {around = around} r (inr o) st all =
     let all' = subst (λ q. AllEvaluate links code g v s k e around (subscripts_in q)) o.is all in
     subst (λ q. Evaluates bit_kind links code g v s k (bit_words (Y.BitIn q)) (λ taken. bit_code e taken (Y.BitIn q)) (V.bit around (Y.BitIn q))) (sym o.is)
-    (element_bit_does around st.routines st.temps st.serving (st.scope.arrays o.index Y.BitLeaf o.bound o.bounds o.declared) o.first o.rest all' (ap (λ n. suc n) o.many))
+    (element_bit_does around st.routines st.temps st.serving (st.scope.arrays o.index Y.BitLeaf o.bound o.bounds (o.declared, tt)) o.first o.rest all' (ap (λ n. suc n) o.many))
+
+text_part_does : {links : Links} {code : List Instr} {g : Ground} {v : Services} {s : State} {k : ℕ} {e : Environment} {block : Names} {types : Types} {held : Values} {around : Around} (r : Y.Reference) → IsPartText block types r → Setting links code g v s k e block types held around → AllEvaluate links code g v s k e around (subscripts_in r) → EvaluatesText links code g v s k (text_words (Y.TextIn r)) (λ taken. text_code e taken (Y.TextIn r)) (V.text around (Y.TextIn r))
+text_part_does {links} {code} {g} {v} {s} {k} {e} {block} {types} {held} {around} r is st all = by_part is.part
+  where
+    by_part : IsPart block types (text_leaf is.varying is.most) r → EvaluatesText links code g v s k (text_words (Y.TextIn r)) (λ taken. text_code e taken (Y.TextIn r)) (V.text around (Y.TextIn r))
+    by_part (inl o) = own_text_does around is.varying is.most r o st.scope
+    by_part (inr o) =
+        let all' = subst (λ q. AllEvaluate links code g v s k e around (subscripts_in q)) o.is all in
+        subst (λ q. EvaluatesText links code g v s k (text_words (Y.TextIn q)) (λ taken. text_code e taken (Y.TextIn q)) (V.text around (Y.TextIn q))) (sym o.is)
+        (text_element_evaluates around st.routines st.temps st.serving (st.scope.text_arrays o.index is.varying is.most o.bound o.bounds o.declared) o.first o.rest all' (ap (λ n. suc n) o.many))
+
+-- an array, of whatever scalars
+bounds_scope : {g : Ground} {e : Environment} {block : Names} {types : Types} {s : State} {held : Values} (scope : Scope g e block types s held) (j : ℕ) (type : Y.LeafType) (b : Bounds) (bs : List Bounds) → IsScalar type → slice_get types j ≡ Some (record { type = type; bounds = b ∷ bs }) → BoundsScope e s block j type (b ∷ bs)
+bounds_scope scope j (Y.FixedLeaf p) b bs is below = numbers_scope (scope.arrays j (Y.FixedLeaf p) b bs (below, tt))
+bounds_scope scope j Y.BitLeaf b bs is below = numbers_scope (scope.arrays j Y.BitLeaf b bs (below, tt))
+bounds_scope scope j (Y.CharacterLeaf (Y.ConstantExtent (pos most))) b bs is below = texts_scope (scope.text_arrays j false most b bs below)
+bounds_scope scope j (Y.VaryingLeaf (Y.ConstantExtent (pos most))) b bs is below = texts_scope (scope.text_arrays j true most b bs below)
+bounds_scope scope j _ b bs is below = absurd is
 
 -- a bound, or the number of subscripts
 bound_asked : {links : Links} {code : List Instr} {g : Ground} {v : Services} {s : State} {k : ℕ} {e : Environment} {block : Names} {types : Types} {held : Values} {around : Around} (asked : BoundAsked) (r : Y.Reference) (dimension : ℕ) → IsDimension block types r dimension → Setting links code g v s k e block types held around → Evaluates number_kind links code g v s k (number_words (asked_number asked r dimension)) (λ taken. number_code e taken (asked_number asked r dimension)) (V.number around (asked_number asked r dimension))
@@ -187,7 +209,7 @@ bound_asked {links} {code} {g} {v} {s} {k} {e} {block} {around = around} asked r
     let T : Y.Reference → ℕ → Type 1 = λ q n. Evaluates number_kind links code g v s k (number_words (asked_number asked q n)) (λ taken. number_code e taken (asked_number asked q n)) (V.number around (asked_number asked q n)) in
     subst (λ q. T q dimension) (sym is.is)
     (subst (T (whole (own block is.index))) (sym is.dimension_is)
-    (dimension_does asked around is.place is.asked (st.scope.arrays is.index is.type is.bound is.bounds is.declared) is.among))
+    (dimension_does asked around is.place is.asked (bounds_scope st.scope is.index is.type is.bound is.bounds is.held is.declared) is.among))
 
 -- ---- expressions
 
@@ -271,7 +293,8 @@ mutual
 
   pub text_does : (x : Y.Text) {links : Links} {code : List Instr} {g : Ground} {v : Services} {s : State} {k : ℕ} {e : Environment} {block : Names} {types : Types} {held : Values} {around : Around} → Setting links code g v s k e block types held around → IsProvedText block types x → EvaluatesText links code g v s k (text_words x) (λ taken. text_code e taken x) (V.text around x)
   text_does (Y.TextConstant bytes) st is = constant_evaluates bytes st.constants is
-  text_does (Y.TextIn r) {around = around} st is = own_text_does around r is st.scope
+  text_does (Y.TextIn (Y.Referring w locator part subscripts)) st is =
+      text_part_does (Y.Referring w locator part subscripts) is.0 st (subscripts_do subscripts st is.1)
   text_does (Y.TextOfNumber precision x) st is = number_evaluates_text precision is.0 (number_does x st is.1)
   text_does (Y.TextOfBit x) st is = bit_evaluates_text (bit_does x st is)
   text_does (Y.Joined left right) {v = v} {around = around} st is =

@@ -120,13 +120,13 @@ statements_stay block count number level all blocks main outer around (Y.StmtThe
     (statement_stays block count number level all blocks main outer around first h.0, statements_stay block count number level all blocks main outer around rest h.1)
 
 -- nor calls
-statement_calls : (program : Y.Program) (block count : ℕ) (may : List ℕ) (x : Y.Stmt) → IsFirstStatement block count x → CallsAmong program may true true x
+statement_calls : (program : Y.Program) (block count : ℕ) (may : List ℕ) (x : Y.Stmt) → IsFirstStatement block count x → CallsAmong program may true 0 x
 statement_calls program block count may (Y.Null line) h = tt
 statement_calls program block count may (Y.Assign target (Y.StoredNumber precision x) line) h = tt
 statement_calls program block count may (Y.Put None pairs line) h = tt
 statement_calls program block count may _ h = absurd h
 
-pub statements_call : (program : Y.Program) (block count : ℕ) (may : List ℕ) (body : Y.Stmts) → AreFirstStatements block count body → AllCallAmong program may true true body
+pub statements_call : (program : Y.Program) (block count : ℕ) (may : List ℕ) (body : Y.Stmts) → AreFirstStatements block count body → AllCallAmong program may true 0 body
 statements_call program block count may (Y.EndOfList labels) h = tt
 statements_call program block count may (Y.StmtThen labels first rest) h =
     (statement_calls program block count may first h.0, statements_call program block count may rest h.1)

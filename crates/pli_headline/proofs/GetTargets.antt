@@ -1,5 +1,6 @@
--- An item of GET: the next data item is found, a field is taken for a number, a bit or a text, and it is stored in a variable of the block.
-use Rattle.std.proofs.Common.{◌≡◌, ℕ, suc, ◌+◌, ◌≤◌, List, [], ◌∷◌, ◌++◌, Option, Some, None, Bool, true, false, refl, sym, ap, ◌∙◌, subst, arith, lit<, ◌⊎◌, inl, inr, length}
+-- An item of GET: the next data item is found, a field is taken for a number, a bit or a text, and it is stored in a variable of the block
+-- or an element of an array.
+use Rattle.std.proofs.Common.{◌≡◌, ℕ, suc, ◌+◌, ◌≤◌, List, [], ◌∷◌, ◌++◌, Option, Some, None, Bool, true, false, refl, sym, ap, ◌∙◌, subst, arith, lit<, inl, inr, length}
 use Rattle.std.specs.Prelude.{ℤ, pos, slice_get}
 use Rattle.rv_meaning.specs.declared.instr.Instr.{Instr}
 use Rattle.rv_meaning.specs.Words.{word, flag}
@@ -32,7 +33,7 @@ use Rattle.pli_coding.specs.Storing.{word_stored, top_stored}
 use Rattle.pli_coding.specs.Streams as C
 use Rattle.pli_coding.specs.Streams.{has_fixed, has_text, controls_carried_out, awaited_before, field_awaited, field_stored, bit_got, text_got, get_item_words}
 use Rattle.pli_coding.specs.Linking.{Links}
-use Rattle.pli_headline.specs.ProvedSoFar.{Names, Types, IsReadBy, IsProvedGetItem, AreProvedFormats, HasData, HaveWidths, text_leaf, alone, IsOwn, IsElement, IsElementType, IsTarget, AreSubscripts, AreProvedNumbers}
+use Rattle.pli_headline.specs.ProvedSoFar.{Names, Types, IsReadBy, IsProvedGetItem, AreProvedFormats, HasData, HaveWidths, text_leaf, alone, IsTarget, AreSubscripts, AreProvedNumbers, IsPart}
 use Rattle.pli_headline.proofs.Storages.{storage, Storage, Serials}
 use Rattle.pli_headline.proofs.Engine.{Base, address}
 use Rattle.pli_headline.proofs.Linking.{size_append}
@@ -41,18 +42,16 @@ use Rattle.pli_headline.proofs.Numbers as N
 use Rattle.pli_headline.proofs.Scalars.{value_as, Fits, bit_back, bit_fits, bit_word, Values}
 use Rattle.pli_headline.proofs.Bodies.{Known, zero_is}
 use Rattle.pli_headline.proofs.Jumps.{front_of, back_of}
-use Rattle.pli_headline.proofs.Temporaries.{nothing, Stays, stays_same}
+use Rattle.pli_headline.proofs.Temporaries.{nothing, Stays}
 use Rattle.pli_headline.proofs.Calls.{Serving}
 use Rattle.pli_headline.proofs.Raising.{Routines, small_is}
 use Rattle.pli_headline.proofs.Operators.{valued}
 use Rattle.pli_headline.proofs.Precisions.{fitted_piece}
 use Rattle.pli_headline.proofs.Variables.{IsDeclared, whole_part, whole, own}
-use Rattle.pli_headline.proofs.States.{Holds, with_text_at}
+use Rattle.pli_headline.proofs.States.{Holds}
 use Rattle.pli_headline.proofs.TextStates.{KeepsText}
 use Rattle.pli_headline.proofs.Entered.{Frames}
 use Rattle.pli_headline.proofs.Statements.{Block, AllHold, Standing}
-use Rattle.pli_headline.proofs.TextVariables.{text_state}
-use Rattle.pli_headline.proofs.TextAssignments.{assigned_piece, text_assigned_all}
 use Rattle.pli_headline.proofs.FormatData.{items_data, true_false}
 use Rattle.pli_headline.proofs.EditTexts.{at_other_texts}
 use Rattle.pli_headline.proofs.EditChoices.{by_kinds}
@@ -65,13 +64,13 @@ use Rattle.pli_headline.proofs.GetPieces.{endfile_tested, awaited_piece}
 use Rattle.pli_headline.proofs.GetNumbers.{stored_value, rest_given, converting, converting_closed, got_and_stored, fixed_as_number, text_as_number, number_got, text_taken}
 use Rattle.pli_headline.proofs.GetTexts.{number_as_text, field_as_text}
 use Rattle.pli_headline.proofs.Reach.{Family, Aims, Comes, Closed, before, before_closed, comes_on, onward}
-use Rattle.pli_headline.proofs.TextScopes.{IsTextAt}
-use Rattle.pli_headline.proofs.TextsKept.{text_kept_as}
 use Rattle.pli_headline.proofs.ArrayMeant.{HoldsArray, element}
 use Rattle.pli_headline.proofs.Targets.{Takes, scalar_takes, element_takes, own_type, element_type, element_target}
-use Rattle.pli_headline.proofs.ArrayScopes.{IsArrayAt}
 use Rattle.pli_coding.specs.Temporaries.{reference_words, subscripts_words}
 use Rattle.std.proofs.Math.Nat.{le-max_right}
+use Rattle.pli_headline.proofs.TextArrayMeant.{HoldsTexts}
+use Rattle.pli_headline.proofs.ArrayElements.{IsDeclaredArray}
+use Rattle.pli_headline.proofs.TextTargets.{TakesText, variable_takes, text_element_takes}
 
 -- ---- what is declared
 
@@ -98,16 +97,21 @@ read_keeps change h = record { values = h.values; stands = h.stands; lives = h.l
 read_array : {s : State} {block : Names} {j serial : ℕ} {type : Y.LeafType} {bs : List Bounds} {n : ℕ → ℤ} (change : Input → Input) → HoldsArray s block j serial type bs n → HoldsArray (read_state change s) block j serial type bs n
 read_array change h = record { values = h.values; numeric = h.numeric; stands = h.stands; lives = h.lives; value = h.value; fits = h.fits }
 
+read_texts : {s : State} {block : Names} {j serial : ℕ} {varying : Bool} {most : ℕ} {bs : List Bounds} {texts : ℕ → List ℕ} (change : Input → Input) → HoldsTexts s block j serial varying most bs texts → HoldsTexts (read_state change s) block j serial varying most bs texts
+read_texts change h = record { values = h.values; stands = h.stands; lives = h.lives; value = h.value; short = h.short }
+
 pub read_all : {frames : Frames} {serials : Serials} {xs : Storage} {levels : List ℕ} {s : State} {block : Names} {types : Types} {n : Values} (change : Input → Input) → AllHold frames serials xs levels s block types n → AllHold frames serials xs levels (read_state change s) block types n
 read_all change all =
     record {
       numbers = λ j b numeric. read_holds change (all.numbers j b numeric);
       texts = λ j varying most at. read_keeps change (all.texts j varying most at);
       arrays = λ j type b bs at. read_array change (all.arrays j type b bs at);
+      text_arrays = λ j varying most b bs at. read_texts change (all.text_arrays j varying most b bs at);
       entered = all.entered;
       framed = all.framed;
       kinds = all.kinds;
       units = all.units;
+      aside = all.aside;
       stored = all.stored;
     }
 
@@ -185,36 +189,28 @@ bit_stored {e} {block} {types} bl {links} {code} {i} {v} {h} {t} {s} {aims} clos
 
 -- ---- texts
 
--- a text that waits is stored in a variable that holds texts
-text_kept_piece : {e : Environment} {block : Names} {types : Types} (bl : Block e block types) {links : Links} {code : List Instr} {i : ℕ} {v : Services} {h t : ℕ → ℕ} {s : State} {aims : Aims (Option (List FormatItem))} (closed : Closed code aims) (f : Family) (around : Around) (j : ℕ) (varying : Bool) (most : ℕ) (field : List ℕ) (n : Values) (fixed text : Bool) (all left : List FormatItem) (below : List EditPlace) (k : ℕ) → IsTextAt types j varying most → Suits fixed text left → v.edits ≡ getting all left ∷ below → Linked links code i (top_stored e bl.taken (whole (own block j))) → Serving k s v around.line → AllHold bl.frames bl.serials (storage v) (e.level ∷ bl.depths) s block types n → ((b : Base) → At b i (Known (bl.ground n) (pushed (TextEntry field) v) h t nothing b) (f b)) → ItemBehind bl k around.line h t (i + size_of (top_stored e bl.taken (whole (own block j)))) fixed text all below aims → Comes code i f (pushed (TextEntry field) v) (converting code aims k around (whole (own block j)) left) (give (BasicText field) k s)
+-- a text that waits is stored
+text_kept_piece : {e : Environment} {block : Names} {types : Types} (bl : Block e block types) {links : Links} {code : List Instr} {i : ℕ} {v : Services} {h t : ℕ → ℕ} {s : State} {aims : Aims (Option (List FormatItem))} (closed : Closed code aims) (f : Family) (around : Around) (r : Y.Reference) (takes : TakesText bl links code r) (field : List ℕ) (n : Values) (fixed text : Bool) (all left : List FormatItem) (below : List EditPlace) (k : ℕ) → Suits fixed text left → v.edits ≡ getting all left ∷ below → Linked links code i (top_stored e bl.taken r) → Serving k s v around.line → AllHold bl.frames bl.serials (storage v) (e.level ∷ bl.depths) s block types n → ((b : Base) → At b i (Known (bl.ground n) (pushed (TextEntry field) v) h t nothing b) (f b)) → ItemBehind bl k around.line h t (i + size_of (top_stored e bl.taken r)) fixed text all below aims → Comes code i f (pushed (TextEntry field) v) (converting code aims k around r left) (give (BasicText field) k s)
 unfolding give
-text_kept_piece {e} {block} {types} bl {i = i} {v = v} {h = h} {t = t} {s = s} closed f around j varying most field n fixed text all left below k at_place suits edits l serving hold at goal =
+text_kept_piece bl {v = v} closed f around r takes field n fixed text all left below k suits edits l serving hold at goal =
     record {
       to =
-          let values = (hold.texts j varying most at_place).values in
-          assigned_piece bl (before_closed k (rest_given left) closed) f around j varying most field n k at_place l hold at
-          (λ f1 at1.
-          record {
-            to =
-                goal (text_state s (text_leaf varying most) (bl.serials.of j) values field) v left (with_text_at n j (text_kept_as varying most field)) h t f1
-                (record { world = serving.world; running = serving.running; line_is = serving.line_is; input = serving.input; allowed = serving.allowed; fits = serving.fits; nested = serving.nested; waiting = serving.waiting })
-                (text_assigned_all j varying most field at_place (bl.texts.room.short j varying most at_place) hold) suits edits (stays_same bl.taken h t) at1;
-          });
+          takes.does (before_closed k (rest_given left) closed) f around field n k l serving hold at
+          (λ s1 n1 h1 t1 f1 serving1 hold1 stays1 at1. record { to = goal s1 v left n1 h1 t1 f1 serving1 hold1 suits edits stays1 at1 });
     }
 
 -- a field is read into it
-text_target : {e : Environment} {block : Names} {types : Types} (bl : Block e block types) {links : Links} {code : List Instr} {i : ℕ} {v : Services} {h t : ℕ → ℕ} {s : State} {aims : Aims (Option (List FormatItem))} (closed : Closed code aims) (routines : Routines links code) (f : Family) (around : Around) (same : around.program ≡ e.program) (j : ℕ) (varying : Bool) (most : ℕ) (fs : T.Formats) (d : DataItem) (n : Values) (all left : List FormatItem) (below : List EditPlace) (k : ℕ) → IsTextAt types j varying most → Suits (has_fixed fs) (has_text fs) (DataFormat d ∷ left) → Gets v.edits (DataFormat d) all left below → has_character v.input.marks ≡ true → Linked links code i (text_got fs ++ top_stored e bl.taken (whole (own block j))) → Serving k s v around.line → AllHold bl.frames bl.serials (storage v) (e.level ∷ bl.depths) s block types n → ((b : Base) → At b i (Known (bl.ground n) v h t (valued (E.data_number d)) b) (f b)) → ItemBehind bl k around.line h t (i + size_of (text_got fs ++ top_stored e bl.taken (whole (own block j)))) (has_fixed fs) (has_text fs) all below aims → Comes code i f v aims (got_and_stored around (whole (own block j)) left d k s)
-text_target {e} {block} {types} bl {links} {code} {i} {v} {h} {t} {s} {aims} closed routines f around same j varying most fs d n all left below k at_place suits found has l serving hold at goal =
-    let r = whole (own block j) in
+text_target : {e : Environment} {block : Names} {types : Types} (bl : Block e block types) {links : Links} {code : List Instr} {i : ℕ} {v : Services} {h t : ℕ → ℕ} {s : State} {aims : Aims (Option (List FormatItem))} (closed : Closed code aims) (routines : Routines links code) (f : Family) (around : Around) (r : Y.Reference) (takes : TakesText bl links code r) (varying : Bool) (most : ℕ) (fs : T.Formats) (d : DataItem) (n : Values) (all left : List FormatItem) (below : List EditPlace) (k : ℕ) → P.target_type around r ≡ Some (text_leaf varying most) → Suits (has_fixed fs) (has_text fs) (DataFormat d ∷ left) → Gets v.edits (DataFormat d) all left below → has_character v.input.marks ≡ true → Linked links code i (text_got fs ++ top_stored e bl.taken r) → Serving k s v around.line → AllHold bl.frames bl.serials (storage v) (e.level ∷ bl.depths) s block types n → ((b : Base) → At b i (Known (bl.ground n) v h t (valued (E.data_number d)) b) (f b)) → ItemBehind bl k around.line h t (i + size_of (text_got fs ++ top_stored e bl.taken r)) (has_fixed fs) (has_text fs) all below aims → Comes code i f v aims (got_and_stored around r left d k s)
+text_target {e} {block} {types} bl {links} {code} {i} {v} {h} {t} {s} {aims} closed routines f around r takes varying most fs d n all left below k target suits found has l serving hold at goal =
     let got = by_kinds (has_fixed fs) (has_text fs) number_as_text (service 37) in
     let last = top_stored e bl.taken r in
     let size = size_append got last in
     let place : i + size_of got + size_of last ≡ i + size_of (got ++ last) = omega (arith, size) in
-    field_as_text (all_kept bl.frames bl.serials (e.level ∷ bl.depths) block types n) closed routines f around r varying most (has_fixed fs) (has_text fs) d all left below k (target_is e around block j (text_leaf varying most) same (bl.declared j at_place)) suits.0.0 suits.1.0 found has (front_of got last l) (record { serving = serving; holds = hold }) at
+    field_as_text (all_kept bl.frames bl.serials (e.level ∷ bl.depths) block types n) closed routines f around r varying most (has_fixed fs) (has_text fs) d all left below k target suits.0.0 suits.1.0 found has (front_of got last l) (record { serving = serving; holds = hold }) at
     (λ text s1 v1 f1 o at1.
     let K : Services → Type 0 = λ w. ((b : Base) → At b (i + size_of got) (Known (bl.ground n) w h t nothing b) (f1 b)) → Comes code (i + size_of got) f1 w (converting code aims k around r left) (give (BasicText text) k s1) in
     let stores : K (pushed (TextEntry text) o.0) = λ at2.
-    text_kept_piece bl closed f1 around j varying most text n (has_fixed fs) (has_text fs) all left below k at_place (suits.0.1, suits.1.1) o.1.1.1 (back_of got last l) o.1.1.0.serving o.1.1.0.holds at2
+    text_kept_piece bl closed f1 around r takes text n (has_fixed fs) (has_text fs) all left below k (suits.0.1, suits.1.1) o.1.1.1 (back_of got last l) o.1.1.0.serving o.1.1.0.holds at2
     (λ s2 v2 rest2 n2 h2 t2 f2 serving2 hold2 suits2 edits2 stays2 at3.
     subst (λ u. aims.done u f2 v2 (Some rest2) s2) (sym place)
     (goal s2 v2 rest2 n2 h2 t2 f2 serving2 hold2 suits2 edits2 stays2 (λ b. record { pc = (at3 b).pc ∙ ap (address b) place; holds = (at3 b).holds }))) in
@@ -261,11 +257,11 @@ bit_reads : {e : Environment} {block : Names} {types : Types} (bl : Block e bloc
 bit_reads bl routines around r fs takes target read =
     record { does = λ closed f d n all left below k suits found has l serving hold at goal. bit_target bl closed routines f around r takes fs d n all left below k target read suits found has l serving hold at goal }
 
-text_reads : {e : Environment} {block : Names} {types : Types} (bl : Block e block types) {links : Links} {code : List Instr} (routines : Routines links code) (around : Around) (same : around.program ≡ e.program) (j : ℕ) (varying : Bool) (most : ℕ) (fs : T.Formats) → IsTextAt types j varying most → Reads bl links code around (whole (own block j)) (text_leaf varying most) fs
-text_reads bl routines around same j false most fs at_place =
-    record { does = λ closed f d n all left below k suits found has l serving hold at goal. text_target bl closed routines f around same j false most fs d n all left below k at_place suits found has l serving hold at goal }
-text_reads bl routines around same j true most fs at_place =
-    record { does = λ closed f d n all left below k suits found has l serving hold at goal. text_target bl closed routines f around same j true most fs d n all left below k at_place suits found has l serving hold at goal }
+text_reads : {e : Environment} {block : Names} {types : Types} (bl : Block e block types) {links : Links} {code : List Instr} (routines : Routines links code) (around : Around) (r : Y.Reference) (takes : TakesText bl links code r) (varying : Bool) (most : ℕ) (fs : T.Formats) → P.target_type around r ≡ Some (text_leaf varying most) → Reads bl links code around r (text_leaf varying most) fs
+text_reads bl routines around r takes false most fs target =
+    record { does = λ closed f d n all left below k suits found has l serving hold at goal. text_target bl closed routines f around r takes false most fs d n all left below k target suits found has l serving hold at goal }
+text_reads bl routines around r takes true most fs target =
+    record { does = λ closed f d n all left below k suits found has l serving hold at goal. text_target bl closed routines f around r takes true most fs d n all left below k target suits found has l serving hold at goal }
 
 -- a variable
 own_reads : {e : Environment} {block : Names} {types : Types} (bl : Block e block types) {links : Links} {code : List Instr} (routines : Routines links code) (around : Around) (same : around.program ≡ e.program) (j : ℕ) (type : Y.LeafType) (fs : T.Formats) → slice_get types j ≡ Some (alone type) → IsReadBy (has_fixed fs) type → bl.taken.words + 1 ≤ bl.words → Reads bl links code around (whole (own block j)) type fs
@@ -273,17 +269,23 @@ own_reads {e} {block} bl {links} {code} routines around same j (Y.FixedLeaf p) f
     number_reads bl routines around (whole (own block j)) p fs (scalar_takes bl links code j below tt room) (target_is e around block j (Y.FixedLeaf p) same (bl.declared j below)) room
 own_reads {e} {block} bl {links} {code} routines around same j Y.BitLeaf fs below read room =
     bit_reads bl routines around (whole (own block j)) fs (scalar_takes bl links code j below tt room) (target_is e around block j Y.BitLeaf same (bl.declared j below)) read
-own_reads bl routines around same j (Y.CharacterLeaf (Y.ConstantExtent (pos most))) fs below read room = text_reads bl routines around same j false most fs below
-own_reads bl routines around same j (Y.VaryingLeaf (Y.ConstantExtent (pos most))) fs below read room = text_reads bl routines around same j true most fs below
+own_reads {e} {block} bl {links} {code} routines around same j (Y.CharacterLeaf (Y.ConstantExtent (pos most))) fs below read room =
+    text_reads bl routines around (whole (own block j)) (variable_takes bl links code j false most below) false most fs (target_is e around block j (text_leaf false most) same (bl.declared j below))
+own_reads {e} {block} bl {links} {code} routines around same j (Y.VaryingLeaf (Y.ConstantExtent (pos most))) fs below read room =
+    text_reads bl routines around (whole (own block j)) (variable_takes bl links code j true most below) true most fs (target_is e around block j (text_leaf true most) same (bl.declared j below))
 own_reads bl routines around same j _ fs below read room = absurd read
 
 -- an element
-element_reads : {e : Environment} {block : Names} {types : Types} (bl : Block e block types) {links : Links} {code : List Instr} (routines : Standing bl links code) (around : Around) (same : around.program ≡ e.program) (j : ℕ) (type : Y.LeafType) (b : Bounds) (bs : List Bounds) (first : Y.Number) (rest : Y.Numbers) (fs : T.Formats) → IsElementType type → IsArrayAt types j type b bs → given_in rest ≡ length bs → AreProvedNumbers block types (Y.NumberThen first rest) → IsReadBy (has_fixed fs) type → bl.taken.words + suc (subscripts_words (Y.NumberThen first rest)) ≤ bl.words → Reads bl links code around (element block j first rest) type fs
-element_reads {e} {block} bl {links} {code} routines around same j (Y.FixedLeaf p) b bs first rest fs is below many are read room =
-    number_reads bl routines.raises around (element block j first rest) p fs (element_takes bl links code routines j b bs first rest below many are room) (element_target e around block j (Y.FixedLeaf p) (b ∷ bs) first rest same (bl.arrays j (Y.FixedLeaf p) b bs below).declared) (omega (arith, room))
-element_reads {e} {block} bl {links} {code} routines around same j Y.BitLeaf b bs first rest fs is below many are read room =
-    bit_reads bl routines.raises around (element block j first rest) fs (element_takes bl links code routines j b bs first rest below many are room) (element_target e around block j Y.BitLeaf (b ∷ bs) first rest same (bl.arrays j Y.BitLeaf b bs below).declared) read
-element_reads bl routines around same j _ b bs first rest fs is below many are read room = absurd is
+element_reads : {e : Environment} {block : Names} {types : Types} (bl : Block e block types) {links : Links} {code : List Instr} (routines : Standing bl links code) (around : Around) (same : around.program ≡ e.program) (j : ℕ) (type : Y.LeafType) (b : Bounds) (bs : List Bounds) (first : Y.Number) (rest : Y.Numbers) (fs : T.Formats) → slice_get types j ≡ Some (record { type = type; bounds = b ∷ bs }) → given_in rest ≡ length bs → AreProvedNumbers block types (Y.NumberThen first rest) → IsReadBy (has_fixed fs) type → bl.taken.words + suc (subscripts_words (Y.NumberThen first rest)) ≤ bl.words → Reads bl links code around (element block j first rest) type fs
+element_reads {e} {block} bl {links} {code} routines around same j (Y.FixedLeaf p) b bs first rest fs below many are read room =
+    number_reads bl routines.raises around (element block j first rest) p fs (element_takes bl links code routines j b bs first rest (below, tt) many are room) (element_target e around block j (Y.FixedLeaf p) (b ∷ bs) first rest same (bl.arrays j (Y.FixedLeaf p) b bs (below, tt)).declared) (omega (arith, room))
+element_reads {e} {block} bl {links} {code} routines around same j Y.BitLeaf b bs first rest fs below many are read room =
+    bit_reads bl routines.raises around (element block j first rest) fs (element_takes bl links code routines j b bs first rest (below, tt) many are room) (element_target e around block j Y.BitLeaf (b ∷ bs) first rest same (bl.arrays j Y.BitLeaf b bs (below, tt)).declared) read
+element_reads {e} {block} bl {links} {code} routines around same j (Y.CharacterLeaf (Y.ConstantExtent (pos most))) b bs first rest fs below many are read room =
+    text_reads bl routines.raises around (element block j first rest) (text_element_takes bl links code routines j false most b bs first rest below many are (omega (arith, room))) false most fs (element_target e around block j (text_leaf false most) (b ∷ bs) first rest same (bl.text_arrays j false most b bs below).declared)
+element_reads {e} {block} bl {links} {code} routines around same j (Y.VaryingLeaf (Y.ConstantExtent (pos most))) b bs first rest fs below many are read room =
+    text_reads bl routines.raises around (element block j first rest) (text_element_takes bl links code routines j true most b bs first rest below many are (omega (arith, room))) true most fs (element_target e around block j (text_leaf true most) (b ∷ bs) first rest same (bl.text_arrays j true most b bs below).declared)
+element_reads bl routines around same j _ b bs first rest fs below many are read room = absurd read
 
 -- what a reference takes is enough for its subscripts
 subscripts_few : (block : Names) (j : ℕ) (first : Y.Number) (rest : Y.Numbers) (r : Y.Reference) (taken words : ℕ) → r ≡ element block j first rest → taken + suc (reference_words r) ≤ words → taken + suc (subscripts_words (Y.NumberThen first rest)) ≤ words
@@ -292,25 +294,33 @@ subscripts_few block j first rest r taken words e room =
     let same = ap reference_words e in
     omega (arith, room, most, same)
 
+-- an array whose elements may be read
+read_declared : {e : Environment} {block : Names} {types : Types} (bl : Block e block types) (fixed : Bool) (j : ℕ) (type : Y.LeafType) (b : Bounds) (bs : List Bounds) → IsReadBy fixed type → slice_get types j ≡ Some (record { type = type; bounds = b ∷ bs }) → IsDeclaredArray e block j type (b ∷ bs)
+read_declared bl fixed j (Y.FixedLeaf p) b bs read below = (bl.arrays j (Y.FixedLeaf p) b bs (below, tt)).declared
+read_declared bl fixed j Y.BitLeaf b bs read below = (bl.arrays j Y.BitLeaf b bs (below, tt)).declared
+read_declared bl fixed j (Y.CharacterLeaf (Y.ConstantExtent (pos most))) b bs read below = (bl.text_arrays j false most b bs below).declared
+read_declared bl fixed j (Y.VaryingLeaf (Y.ConstantExtent (pos most))) b bs read below = (bl.text_arrays j true most b bs below).declared
+read_declared bl fixed j _ b bs read below = absurd read
+
 -- its type in the code
-block_type : {e : Environment} {block : Names} {types : Types} (bl : Block e block types) {fixed : Bool} (r : Y.Reference) (is : IsTarget block types fixed r) → type_in e r ≡ is.type
-block_type {e} {block} {types} bl r is = by_part is.part
+block_type : {e : Environment} {block : Names} {types : Types} (bl : Block e block types) (fixed : Bool) (r : Y.Reference) (is : IsTarget block types fixed r) → type_in e r ≡ is.type
+block_type {e} {block} {types} bl fixed r is = by_part is.part
   where
-    by_part : IsOwn block types is.type r ⊎ (IsElement block types is.type r × IsElementType is.type) → type_in e r ≡ is.type
+    by_part : IsPart block types is.type r → type_in e r ≡ is.type
     by_part (inl o) = ap (type_in e) o.is ∙ own_type e block o.index is.type (bl.declared o.index o.declared)
-    by_part (inr (o, element)) =
-        ap (type_in e) o.is ∙ element_type e block o.index is.type (o.bound ∷ o.bounds) o.first o.rest (bl.arrays o.index is.type o.bound o.bounds o.declared).declared
+    by_part (inr o) =
+        ap (type_in e) o.is ∙ element_type e block o.index is.type (o.bound ∷ o.bounds) o.first o.rest (read_declared bl fixed o.index is.type o.bound o.bounds is.read o.declared)
 
 part_reads : {e : Environment} {block : Names} {types : Types} (bl : Block e block types) {links : Links} {code : List Instr} (routines : Standing bl links code) (around : Around) (same : around.program ≡ e.program) (r : Y.Reference) (fs : T.Formats) (is : IsTarget block types (has_fixed fs) r) → bl.taken.words + suc (reference_words r) ≤ bl.words → Reads bl links code around r is.type fs
 part_reads {block = block} {types} bl {links} {code} routines around same r fs is room = by_part is.part
   where
-    by_part : IsOwn block types is.type r ⊎ (IsElement block types is.type r × IsElementType is.type) → Reads bl links code around r is.type fs
+    by_part : IsPart block types is.type r → Reads bl links code around r is.type fs
     by_part (inl o) =
         subst (λ q. Reads bl links code around q is.type fs) (sym o.is) (own_reads bl routines.raises around same o.index is.type fs o.declared is.read (omega (arith, room)))
-    by_part (inr (o, element)) =
+    by_part (inr o) =
         let are = subst (AreSubscripts block types) o.is is.subscripts in
         subst (λ q. Reads bl links code around q is.type fs) (sym o.is)
-        (element_reads bl routines around same o.index is.type o.bound o.bounds o.first o.rest fs element o.declared o.many are is.read (subscripts_few block o.index o.first o.rest r bl.taken.words bl.words o.is room))
+        (element_reads bl routines around same o.index is.type o.bound o.bounds o.first o.rest fs o.declared o.many are is.read (subscripts_few block o.index o.first o.rest r bl.taken.words bl.words o.is room))
 
 -- ---- the whole item
 
@@ -341,7 +351,7 @@ reference_piece {e} {block} {types} bl {links} {code} {i} {v} {h} {t} {s} {aims}
 pub item_piece : {e : Environment} {block : Names} {types : Types} (bl : Block e block types) {links : Links} {code : List Instr} (item : Y.GetItem) {i : ℕ} {v : Services} {h t : ℕ → ℕ} {s : State} {aims : Aims (Option (List FormatItem))} (closed : Closed code aims) (routines : Standing bl links code) (f : Family) (around : Around) (same : around.program ≡ e.program) (fs : T.Formats) (n : Values) (rest : List FormatItem) (below : List EditPlace) (behind k : ℕ) → IsProvedGetItem block types (has_fixed fs) item → bl.taken.words + get_item_words item ≤ bl.words → AreProvedFormats fs → HasData fs → HaveWidths fs → Suits (has_fixed fs) (has_text fs) rest → v.edits ≡ getting (format_items fs) rest ∷ below → Linked links code i (C.item_got e bl.taken fs item behind) → Serving k s v around.line → AllHold bl.frames bl.serials (storage v) (e.level ∷ bl.depths) s block types n → ((b : Base) → At b i (Known (bl.ground n) v h t nothing b) (f b)) → ItemBehind bl k around.line h t (i + size_of (C.item_got e bl.taken fs item behind)) (has_fixed fs) (has_text fs) (format_items fs) below aims → Comes code i f v aims (P.item_got around (format_items fs) rest item k s)
 item_piece {e} {block} {types} bl {links} {code} (Y.GetScalar r) {i} {v} {h} {t} {s} {aims} closed routines f around same fs n rest below behind k is room are has wide suits edits l serving hold at goal =
     let code_is : C.item_got e bl.taken fs (Y.GetScalar r) behind ≡ awaited_before (field_stored e bl.taken fs r is.type) behind =
-    ap (λ u. awaited_before (field_stored e bl.taken fs r u) behind) (block_type bl r is) in
+    ap (λ u. awaited_before (field_stored e bl.taken fs r u) behind) (block_type bl (has_fixed fs) r is) in
     reference_piece bl closed routines.raises f around r is.type fs (part_reads bl routines around same r fs is room) n rest below behind k are has wide suits edits (subst (Linked links code i) code_is l) serving hold at
     (subst (λ c. ItemBehind bl k around.line h t (i + size_of c) (has_fixed fs) (has_text fs) (format_items fs) below aims) code_is goal)
 item_piece bl (Y.GetAggregate r) closed routines f around same fs n rest below behind k is room are has wide suits edits l serving hold at goal = absurd is

@@ -22,6 +22,7 @@ use Rattle.pli_headline.proofs.Linking.{size_append}
 use Rattle.pli_headline.proofs.Jumps.{front_of, back_of, jump_piece}
 use Rattle.pli_headline.proofs.Acts.{acted, act_to}
 use Rattle.pli_headline.proofs.Ifs.{free_far}
+use Rattle.pli_headline.proofs.MoreStates.{restricts_all}
 use Rattle.pli_headline.proofs.Statements.{Restricts, AllSeen, Enclosing, Enclosures, Block, counted_all, IsEndMarkedOnce, HomeOf, Homes, Enough, Does}
 use Rattle.pli_headline.proofs.EndedBlocks.{all_ended}
 use Rattle.pli_headline.proofs.Returns.{unwound_services, own_end_does}
@@ -54,7 +55,7 @@ own_home_does {e} bl links code around {o} d seen line homes few fits =
           let next' : Unit {0} → Meaning (Unit {0}) = λ u. returns None in
           let l1 = back_of a c l in
           let s1 = with_world (counted s.world) s in
-          let left' = all_ended (suc d.count) d.frame o.level bl.frames bl.frames.list (e.level ∷ bl.depths) d.behind d.depths s1 (storage v) refl d.rises d.beneath serving.nested (seen bl.frames (storage v) (e.level ∷ bl.depths) s1 n (counted_all (counted s.world) all)) in
+          let left' = all_ended (suc d.count) d.frame o.level bl.frames bl.frames.list (e.level ∷ bl.depths) d.behind d.depths s1 (storage v) refl d.rises d.beneath serving.nested (restricts_all seen (counted_all (counted s.world) all)) in
           let v2 = unwound_services (acted line v) left'.activation left'.rest in
           comes_on k (act counted k s) next'
           (act_to (before_closed k next' closed) i 0 f line old k fits (omega (arith, inside, total)) (front_of a c l) serving at

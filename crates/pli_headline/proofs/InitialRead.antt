@@ -15,7 +15,7 @@ use Rattle.pli_coding.specs.Linking.{Links, links_of, place_of}
 use Rattle.pli_coding.specs.Images.{linked_code, picture_of_code}
 use Rattle.pli_meaning.specs.Pictures.{first_bytes}
 use Rattle.pli_headline.specs.Headline.{FitsMemory}
-use Rattle.pli_headline.specs.ProvedSoFar.{plain_variable, text_leaf, IsHeld, IsElementType, Kind, alone, AreConstants}
+use Rattle.pli_headline.specs.ProvedSoFar.{plain_variable, text_leaf, IsHeld, IsElementType, Kind, AreConstants, IsScalar}
 use Rattle.pli_headline.proofs.Engine.{call_at}
 use Rattle.pli_headline.proofs.DataNamed.{IsNamed}
 use Rattle.pli_headline.proofs.ArrayMeant.{array_shape}
@@ -55,22 +55,25 @@ numbers_read program fits some type bs i more element begins named =
 
 -- ---- texts
 
-texts_read : (program : Code) → FitsMemory (picture_of_code program) → 0 < length (linked_code program) → (varying : Bool) (most : ℕ) (i : T.InitialItem) (more : List T.InitialItem) → AreConstants (text_leaf varying most) (i ∷ more) → IsNamed (InitialValues (leaf_of_items (i ∷ more) ∷ [])) program → Reads (links_of program) (linked_code program) (first_bytes (picture_of_code program)) (alone (text_leaf varying most)) (i ∷ more)
-texts_read program fits some varying most i more begins named =
+texts_read : (program : Code) → FitsMemory (picture_of_code program) → 0 < length (linked_code program) → (varying : Bool) (most : ℕ) (bs : List Bounds) (i : T.InitialItem) (more : List T.InitialItem) → AreConstants (text_leaf varying most) (i ∷ more) → IsNamed (InitialValues (leaf_of_items (i ∷ more) ∷ [])) program → Reads (links_of program) (linked_code program) (first_bytes (picture_of_code program)) (record { type = text_leaf varying most; bounds = bs }) (i ∷ more)
+texts_read program fits some varying most bs i more begins named =
     record {
       small' = list_small program fits (i ∷ more) named;
-      read = λ u m size same. list_reads program fits some (kind_of [] (text_leaf varying most)) [] (i ∷ more) named u m same
+      read = λ u m size same. list_reads program fits some (kind_of [] (text_leaf varying most)) bs (i ∷ more) named u m same
           (λ at stands. text_items_read (linked_code program) u m varying most (i ∷ more) at size begins stands);
     }
 
 -- ---- all
 
+items_reads : (program : Code) → FitsMemory (picture_of_code program) → 0 < length (linked_code program) → (type : Y.LeafType) (bs : List Bounds) (i : T.InitialItem) (more : List T.InitialItem) → IsScalar type → AreConstants type (i ∷ more) → IsNamed (InitialValues (leaf_of_items (i ∷ more) ∷ [])) program → Reads (links_of program) (linked_code program) (first_bytes (picture_of_code program)) (record { type = type; bounds = bs }) (i ∷ more)
+items_reads program fits some (Y.FixedLeaf p) bs i more held begins named = numbers_read program fits some (Y.FixedLeaf p) bs i more held begins named
+items_reads program fits some Y.BitLeaf bs i more held begins named = numbers_read program fits some Y.BitLeaf bs i more tt begins named
+items_reads program fits some (Y.CharacterLeaf (Y.ConstantExtent (pos n))) bs i more held begins named = texts_read program fits some false n bs i more begins named
+items_reads program fits some (Y.VaryingLeaf (Y.ConstantExtent (pos n))) bs i more held begins named = texts_read program fits some true n bs i more begins named
+items_reads program fits some _ bs i more held begins named = absurd held
+
 pub kind_reads : (program : Code) → FitsMemory (picture_of_code program) → 0 < length (linked_code program) → (type : Y.LeafType) (bs : List Bounds) (items : List T.InitialItem) → IsHeld type bs → AreConstants type items → IsNamedIf (start_datum items) program → Reads (links_of program) (linked_code program) (first_bytes (picture_of_code program)) (record { type = type; bounds = bs }) items
 kind_reads program fits some type bs [] held begins named =
     record { small' = omega arith; read = λ u m size same. refl }
-kind_reads program fits some type (b ∷ bs) (i ∷ more) held begins named = numbers_read program fits some type (b ∷ bs) i more held.0 begins named
-kind_reads program fits some (Y.FixedLeaf p) [] (i ∷ more) held begins named = numbers_read program fits some (Y.FixedLeaf p) [] i more held begins named
-kind_reads program fits some Y.BitLeaf [] (i ∷ more) held begins named = numbers_read program fits some Y.BitLeaf [] i more tt begins named
-kind_reads program fits some (Y.CharacterLeaf (Y.ConstantExtent (pos n))) [] (i ∷ more) held begins named = texts_read program fits some false n i more begins named
-kind_reads program fits some (Y.VaryingLeaf (Y.ConstantExtent (pos n))) [] (i ∷ more) held begins named = texts_read program fits some true n i more begins named
-kind_reads program fits some _ [] (i ∷ more) held begins named = absurd held
+kind_reads program fits some type [] (i ∷ more) held begins named = items_reads program fits some type [] i more held begins named
+kind_reads program fits some type (b ∷ bs) (i ∷ more) held begins named = items_reads program fits some type (b ∷ bs) i more held.0 begins named

@@ -13,16 +13,15 @@ use Rattle.pli_meaning.specs.Raising.{Around}
 use Rattle.pli_meaning.specs.Executing as M
 use Rattle.pli_meaning.specs.Executing.{labels_in}
 use Rattle.pli_coding.specs.Assembly.{ProcedureEntry}
-use Rattle.pli_coding.specs.Environments.{BlockPlace, none_taken, Owner, Environment, in_frame, owned_by, BlockOwner}
+use Rattle.pli_coding.specs.Environments.{BlockPlace, Taken, Owner, Environment, in_frame, owned_by}
 use Rattle.pli_meaning.specs.StorageState.{most_activations}
-use Rattle.pli_coding.specs.Frames.{temporary_bytes, words_place, fixed_size, frame_end}
+use Rattle.pli_coding.specs.Frames.{temporary_bytes, words_place}
 use Rattle.pli_coding.specs.Images.{blocks_among, blocks_of, place_of_head, environment_of}
 use Rattle.pli_coding.specs.Linking.{Links}
 use Rattle.pli_coding.specs.Procedures.{procedure_environment, procedure_in}
 use Rattle.pli_coding.specs.Statements.{stmt_code, stmts_code, stmts_words}
 use Rattle.pli_headline.specs.Headline.{parts}
 use Rattle.pli_headline.specs.ProvedSoFar.{Names, Types, types_of, main_labels, main_outer, AllJumpAround, is_number, number_times, AllOnce, IsCallable, IsInner, AreInner, main_names}
-use Rattle.pli_headline.proofs.Engine.{Base}
 use Rattle.pli_headline.proofs.Numbers.{below_small}
 use Rattle.pli_headline.proofs.Linking.{times_marked}
 use Rattle.pli_headline.proofs.Items.{Linked}
@@ -35,24 +34,21 @@ use Rattle.pli_headline.proofs.Gotos.{LabelsStand}
 use Rattle.pli_headline.proofs.Marks.{others_code}
 use Rattle.pli_headline.proofs.MainProcedure.{main_procedure, IsAlone, main_environment}
 use Rattle.pli_headline.proofs.CallMeant.{plain_procedure}
-use Rattle.pli_headline.proofs.CalledFrames.{Callee, called_block}
-use Rattle.pli_headline.proofs.CallRuns.{StandsAt, called_code_is, own_call_does}
+use Rattle.pli_headline.proofs.Entered.{Frames}
+use Rattle.pli_headline.proofs.Declares.{made_block}
+use Rattle.pli_headline.proofs.StandingBytes.{constants_moved}
+use Rattle.pli_headline.proofs.DeclaredBegins.{vars_of, is_made, made_constants}
+use Rattle.pli_headline.proofs.CalledFrames.{Callee}
+use Rattle.pli_headline.proofs.CallRuns.{StandsAt, CalleeMakes, CalleeDoes, callee_block, called_code_is, own_call_does}
+use Rattle.pli_headline.proofs.CalledVariables.{called_makes, called_filled}
 use Rattle.pli_headline.proofs.ProcedurePlaces.{called_once, inner_at}
-use Rattle.pli_headline.proofs.MainOutlets.{procedure_owner, HasMain, main_of, main_enclosing, main_seen}
+use Rattle.pli_headline.proofs.MainOutlets.{procedure_owner, HasMain}
+use Rattle.pli_headline.proofs.Narrowing.{narrows_self, narrows_in}
 use Rattle.pli_headline.proofs.ProvedStatements.{Calls, Signals, body_does}
 use Rattle.pli_headline.proofs.UnitStanding.{Tells}
 use Rattle.pli_headline.proofs.InnerUnits.{Done, fewer_signals, signals_with}
 
 -- ---- the statements of a procedure that is called
-
-standing_called : {program : Y.Program} (block : ℕ) {block' : Names} {types : Types} {o : Owner} {number level : ℕ} {bl : Block (owned_by o (in_frame number level (main_environment program block))) block' types} {links : Links} {code : List Instr} (callee : Callee bl) (back : Base → ℕ) (h0 t0 : ℕ → ℕ) (head : Y.BlockHead) (next : head.level ≡ 1) (sized : frame_end parts program head.number head.level ≡ fixed_size 1 0) (main : ℕ) (mains : List Label) (has : HasMain main mains level number bl.labels bl.outer) → Standing bl links code → Standing (called_block bl callee back h0 t0 head next (main_of main mains) (main_enclosing bl callee back h0 t0 (procedure_owner head) head next main mains has) (main_seen bl callee back h0 t0 (procedure_owner head) head next main mains has)) links code
-standing_called block callee back h0 t0 head next sized main mains has s =
-    record {
-      raises = s.raises;
-      constants = λ n. record { stand = λ bytes placed t b m o. (s.constants n).stand bytes placed t0 b m o.kept.0 };
-      filled = λ owned. ap (λ u. callee.at + u) sized;
-      known = known_in (BlockOwner (record { number = head.number; level = head.level })) head.number head.level s.known;
-    }
 
 labels_called : {program : Y.Program} {block : ℕ} {links : Links} {all : List (ℕ × Label)} (head : Y.BlockHead) → head.level ≡ 1 → LabelsStand (main_environment program block) links all block true → IsAmong (place_of_head head) (blocks_of program.procedures) → LabelsStand (procedure_environment head (main_environment program block)) links all block false
 labels_called head next named among =
@@ -68,26 +64,55 @@ labels_called head next named among =
       bare = named.bare;
     }
 
--- its frame holds no more than is fixed
-abbrev called_sized : {program : Y.Program} {block : ℕ} {all : List (ℕ × Label)} {called : List ℕ} {procedure : Y.Procedure} (q : IsInner program block all called procedure) {links : Links} → LabelsStand (main_environment program block) links all block true → frame_end parts program q.head.number q.head.level ≡ fixed_size 1 0
-called_sized q named = named.bare q.head.number q.head.level q.bare ∙ ap (λ l. fixed_size l 0) q.level
-
-called_does : {program : Y.Program} {block : ℕ} {all : List (ℕ × Label)} {called : List ℕ} {procedure : Y.Procedure} (q : IsInner program block all called procedure) (can : IsCallable program called q.head q.body) {links : Links} {code : List Instr} {o : Owner} {number level : ℕ} (bl : Block (owned_by o (in_frame number level (main_environment program block))) (main_names program block) (types_of (variables_of_block program block))) (callee : Callee bl) → callee.words ≡ max 0 (stmts_words q.body) → length bl.depths < most_activations → suc (length bl.depths) < most_activations → bl.stack.free + 4000 * (500 - length bl.depths) ≤ 14 * 2 ^ 20 → Standing bl links code → (named : LabelsStand (main_environment program block) links all block true) → ((b : BlockPlace) → IsAmong b (place_of_head q.head ∷ blocks_among q.body) → IsAmong b (blocks_of program.procedures)) → IsEndMarkedOnce links q.head.number → (bound : ℕ) → Calls (main_environment program block) (main_names program block) (types_of (variables_of_block program block)) all block bound links code called → Signals (main_environment program block) (main_names program block) (types_of (variables_of_block program block)) all block bound links code called → Tells (main_environment program block) (main_names program block) (types_of (variables_of_block program block)) all block called links code bl.base bl.frames.known → (has : HasMain block (main_labels program.procedures) level number bl.labels bl.outer) → (back : Base → ℕ) (h0 t0 : ℕ → ℕ) → Does (called_block bl callee back h0 t0 q.head q.level (main_of block (main_labels program.procedures)) (main_enclosing bl callee back h0 t0 (procedure_owner q.head) q.head q.level block (main_labels program.procedures) has) (main_seen bl callee back h0 t0 (procedure_owner q.head) q.head q.level block (main_labels program.procedures) has)) links code (suc bound) (stmts_code (procedure_environment q.head (main_environment program block)) none_taken q.body) (M.list (inner_around program bound q.head.line) q.body)
-called_does {program} {block} {all} q can {links} {code} bl callee words deep deeper space standing named known ended bound calls signals tells has back h0 t0 =
-    let sized = called_sized q named in
+-- once its variables are made
+called_does : {program : Y.Program} {block : ℕ} {all : List (ℕ × Label)} {called : List ℕ} {procedure : Y.Procedure} (q : IsInner program block all called procedure) (can : IsCallable program called q.head q.body) {links : Links} {code : List Instr} {o : Owner} {number level : ℕ} (bl : Block (owned_by o (in_frame number level (main_environment program block))) (main_names program block) (types_of (variables_of_block program block))) (callee : Callee bl) → callee.words ≡ max 0 (stmts_words q.body) → length bl.depths < most_activations → suc (length bl.depths) < most_activations → bl.stack.free + 4000 * (500 - length bl.depths) ≤ 14 * 2 ^ 20 → Standing bl links code → (named : LabelsStand (main_environment program block) links all block true) → ((b : BlockPlace) → IsAmong b (place_of_head q.head ∷ blocks_among q.body) → IsAmong b (blocks_of program.procedures)) → IsEndMarkedOnce links q.head.number → (bound : ℕ) → Calls (main_environment program block) (main_names program block) (types_of (variables_of_block program block)) all block bound links code called → Signals (main_environment program block) (main_names program block) (types_of (variables_of_block program block)) all block bound links code called → Tells (main_environment program block) (main_names program block) (types_of (variables_of_block program block)) all block called links code bl.base bl.frames.known → (has : HasMain block (main_labels program.procedures) level number bl.labels bl.outer) → (makes : CalleeMakes bl callee q.head q.level block (main_labels program.procedures) has) → CalleeDoes bl callee q.head q.level block (main_labels program.procedures) has makes links code bound q.body
+called_does {program} {block} {all} {called} q can {links} {code} {o} {number} {level} bl callee words deep deeper space standing named known ended bound calls signals tells has makes back h0 t0 serial =
+    let e = owned_by o (in_frame number level (main_environment program block)) in
+    let outer = main_names program block in
+    let outers = types_of (variables_of_block program block) in
     let mains = main_labels program.procedures in
-    let cb = called_block bl callee back h0 t0 q.head q.level (main_of block mains) (main_enclosing bl callee back h0 t0 (procedure_owner q.head) q.head q.level block mains has) (main_seen bl callee back h0 t0 (procedure_owner q.head) q.head q.level block mains has) in
+    let main' = main_outer block program.procedures in
+    let blocks = blocks_of program.procedures in
+    let head = q.head in
+    let body = q.body in
     let next = q.level in
+    let vars = vars_of e head in
+    let cb = callee_block bl callee head next block mains has back h0 t0 in
+    let m = makes back h0 t0 in
+    let mb = made_block cb vars m serial in
+    let made = is_made vars cb m serial in
+    let w = made.words in
+    let free = made.free in
+    let depths = ap (λ (ds : List ℕ). length ds) made.depths in
     let place = callee.place in
     let few = can.few in
-    let most' = le-max_right 0 (stmts_words q.body) in
-    let low = most 0 (stmts_words q.body) 800 (omega arith) (omega (arith, few)) in
-    let jumps : AllJumpAround q.head.number q.head.level all (blocks_of program.procedures) (main_outer block program.procedures) (main_outer block program.procedures ∷ []) (labels_in q.body ++ []) q.body = subst (λ n. AllJumpAround q.head.number n all (blocks_of program.procedures) (main_outer block program.procedures) (main_outer block program.procedures ∷ []) (labels_in q.body ++ []) q.body) (sym next) (subst (λ ls. AllJumpAround q.head.number 1 all (blocks_of program.procedures) (main_outer block program.procedures) (main_outer block program.procedures ∷ []) ls q.body) (sym (append-nil (labels_in q.body))) q.jumps) in
-    body_does cb links code (standing_called block callee back h0 t0 q.head next sized block mains has standing) (inner_around program bound q.head.line) refl {small = true}
-    (labels_called q.head next named (known (place_of_head q.head) (inl refl))) q.body q.statements jumps (omega (arith, most', words))
-    ((omega (arith, place, words, low, space, deeper), omega (arith, few)), deeper) q.inside
-    (inner_entering program bound q.head.line) (omega arith) (λ b h. known b (inr h)) can.calls
-    (record { calls = λ bare. calls; signals = λ bare. signals; tells = λ bare. tells; makes = λ same' u at k. let no : true ≡ false = sym same' ∙ other_level q.head.level 0 next in absurd (cc no); narrow = omega (arith, words, low); ends = λ may called'. inl (other_level q.head.level 0 next, (refl, ended)); mains = λ bare. inr (inl (refl, (refl, λ label among. among))) })
+    let most' = le-max_right 0 (stmts_words body) in
+    let low = most 0 (stmts_words body) 800 (omega arith) (omega (arith, few)) in
+    let standing' : Standing mb links code = record {
+      raises = standing.raises;
+      constants = made_constants vars cb m serial (λ n. constants_moved (λ t. t0) (λ t b m' held. held.kept.0) (standing.constants n));
+      filled = called_filled bl callee head next block mains has standing.known q.declares (omega (arith, few)) makes back h0 t0 serial;
+      known = known_in (procedure_owner head) head.number head.level standing.known;
+    } in
+    let jumps : AllJumpAround head.number head.level all blocks main' mb.outer (labels_in body ++ mb.labels) body =
+    subst (λ os. AllJumpAround head.number head.level all blocks main' os (labels_in body ++ mb.labels) body) (sym made.outer)
+    (subst (λ ls. AllJumpAround head.number head.level all blocks main' (main' ∷ []) ls body) (sym (ap (λ ls. labels_in body ++ ls) made.labels ∙ append-nil (labels_in body)))
+    (subst (λ n. AllJumpAround head.number n all blocks main' (main' ∷ []) (labels_in body) body) (sym next) q.jumps)) in
+    subst (λ tk. Does mb links code (suc bound) (stmts_code (procedure_environment head e) tk body) (M.list (inner_around program bound head.line) body)) made.taken
+    (body_does mb links code standing' (inner_around program bound head.line) refl {small = true} {taken = 0} {bound = bound}
+    (labels_called head next named (known (place_of_head head) (inl refl))) body q.statements jumps (omega (arith, most', words, w, ap (λ (tk : Taken). tk.words) made.taken))
+    ((omega (arith, place, words, low, space, deeper, free, depths, few), omega (arith, few)), omega (arith, deeper, depths)) q.inside
+    (inner_entering program bound head.line) (omega arith) (λ b h. known b (inr h)) can.calls
+    (record {
+      narrows = narrows_in head vars (omega (arith, next)) (narrows_self outer outers (λ j kind at. refl));
+      calls = calls;
+      signals = signals;
+      tells = subst (λ b. Tells (main_environment program block) outer outers all block called links code b mb.frames.known) (sym made.base) (subst (λ (fs : Frames). Tells (main_environment program block) outer outers all block called links code bl.base fs.known) (sym made.frames) tells);
+      makes = λ same' u at k. let no : true ≡ false = sym same' ∙ other_level head.level 0 next in absurd (cc no);
+      narrow = omega (arith, words, low, w);
+      ends = λ may called'. inl (other_level head.level 0 next, (refl, ended));
+      mains = subst (λ os. HasMain block mains head.level head.number (labels_in body ++ mb.labels) os) (sym made.outer) (inr (inl (refl, (refl, λ label among. among))));
+    }))
 
 -- ---- the call
 
@@ -100,16 +125,17 @@ one_does program block line body alone {all} {called} {procedure} q can {links} 
     let small' = can.few in
     let low : words ≤ 800 = most 0 (stmts_words q.body) 800 (omega arith) (omega (arith, small')) in
     let callee : Callee bl = record { words = words; at = bl.stack.free + temporary_bytes words; place = refl; room = omega (arith, low, space, deep); outer = λ j kind at. refl } in
+    let makes = called_makes bl callee head q.level block (main_labels program.procedures) has standing.known q.declares (omega (arith, small', low, space, deep)) (omega (arith, small')) in
     let stands : StandsAt links code e head words q.body = record {
       entry = at;
       placed = l.has.0 (eq-eqb head.number head.number refl) once;
       behind = later;
-      linked = subst (Linked links code at) (called_code_is e head q.body q.level q.bare) l;
+      linked = subst (Linked links code at) (called_code_is e head q.body q.level q.declares) l;
     } in
     let whole : procedure_numbered head.number program.procedures ≡ Some (plain_procedure head q.body) = ap (procedure_numbered head.number) alone.are ∙ ap (λ t. cond t (Some (main_procedure block line body)) (procedure_numbered head.number alone.others)) q.apart ∙ found in
-    own_call_does bl links code around more head q.body callee stands (words_place bl.taken.words 0) line' q.level block (main_labels program.procedures) has can.kind can.line q.bare same entering whole
+    own_call_does bl links code around more head q.body callee stands (words_place bl.taken.words 0) line' q.level block (main_labels program.procedures) has can.kind can.line (known_in (procedure_owner head) head.number head.level standing.known) makes (λ back h0 t0 n. constants_moved (λ t. t0) (λ t b m' held. held.kept.0) (standing.constants n)) same entering whole
     (below_small (4 * (bl.taken.words + 0)) (omega (arith, taken, few))) fits
-    (λ m step deeper back h0 t0. called_does q can bl callee refl deep deeper space standing named known ended m (below m step).0 (below m step).1 tells has back h0 t0)
+    (λ m step deeper. called_does q can bl callee refl deep deeper space standing named known ended m (below m step).0 (below m step).1 tells has makes)
 
 -- all calls, of so many blocks in one another at most, where those of fewer do
 calls_with : (program : Y.Program) (block line : ℕ) (body : Y.Stmts) (called : List ℕ) (alone : IsAlone program block line body) {all : List (ℕ × Label)} → AreInner program block all called alone.others → AllOnce called alone.others → {links : Links} {code : List Instr} (i : ℕ) → Linked links code i (others_code program alone.others) → 10 ≤ i → ((number : ℕ) → (number == block) ≡ false → number_times number alone.others ≡ 1 → times_marked (ProcedureEntry number) links.marks ≡ 1) → ((number : ℕ) → is_number number called ≡ true → (number == block) ≡ false → number_times number alone.others ≡ 1 → IsEndMarkedOnce links number) → LabelsStand (main_environment program block) links all block true → ((b : BlockPlace) → IsAmong b (blocks_of alone.others) → IsAmong b (blocks_of program.procedures)) → (bound : ℕ) → ((m : ℕ) → suc m ≤ bound → Done (main_environment program block) (main_names program block) (types_of (variables_of_block program block)) all block m links code called) → Calls (main_environment program block) (main_names program block) (types_of (variables_of_block program block)) all block bound links code called

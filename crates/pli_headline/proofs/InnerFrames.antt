@@ -30,10 +30,12 @@ use Rattle.pli_headline.proofs.TextsKept.{kept_length, text_kept_as}
 use Rattle.pli_serving.specs.ServiceState as S
 use Rattle.pli_headline.proofs.Entered.{atop}
 use Rattle.pli_headline.proofs.OuterBlocks.{risen_over}
-use Rattle.pli_headline.proofs.Statements.{Block, IsFilled, Enclosing, Enclosures, AllSeen}
+use Rattle.pli_headline.proofs.Statements.{Block, IsFilled, Enclosing, Enclosures, AllSeen, restricts_self}
 use Rattle.pli_headline.proofs.TextScopes.{IsTextAt}
 use Rattle.pli_typing.specs.Signatures.{Bounds, element_count}
 use Rattle.pli_headline.proofs.ArrayScopes.{with_element_of, ArrayOn}
+use Rattle.pli_headline.proofs.TextArrayScopes.{TextArrayOn, with_text_of}
+use Rattle.pli_headline.proofs.TextArraysStay.{text_stride, text_within}
 
 -- the frames of the levels around it, of which the last is that of the block around
 abbrev pub inner_levels : {e : Environment} {block : Names} {types : Types} → Block e block types → ℕ → ℕ
@@ -174,6 +176,44 @@ inner_array bl inner t0 number level free over on =
       writes = λ n p z inside old fits t b m len o. inner_element_stored bl inner t0 on n p z inside old fits t b m len o;
     }
 
+-- a text is stored in an element
+inner_text_element_stored : {e : Environment} {block : Names} {types : Types} (bl : Block e block types) (inner : Inner bl) (t0 : ℕ → ℕ) {j : ℕ} {varying : Bool} {most : ℕ} {bs : List Bounds} (on : TextArrayOn e block (bl.bases j) bl.stack.free bl.ground j varying most bs) → (n : Values) (p : ℕ) (text : List ℕ) → p < element_count bs → (t : ℕ → ℕ) (b : Base) (m : List ℕ) → length m ≡ memory_size → (inner_ground bl inner t0 n).memory t b m → (inner_ground bl inner t0 (with_text_of n j p (text_kept_as varying most text))).memory t b (with_bytes (kept_bytes (text_kind_of varying most) (BasicText text)) (bl.bases j + p * text_stride varying most + data_place e block j) m)
+inner_text_element_stored {e} {block} bl inner t0 {j} {varying} {most} {bs} on n p text inside t b m len o =
+    let q = bl.bases j + p * text_stride varying most + data_place e block j in
+    let bytes = kept_bytes (text_kind_of varying most) (BasicText text) in
+    let long = kept_length varying most text in
+    let row = text_within varying most p (element_count bs) inside in
+    let under = on.under in
+    let within = on.within in
+    let above = inner_above inner.at bl.stack.free inner.words inner.place in
+    let room : q + length bytes ≤ length m = omega (arith, within, row, long, len) in
+    let ends : q + length bytes ≤ bl.stack.free = omega (arith, under, row, long) in
+    record {
+      kept = on.writes n p text inside t0 b m len o.kept;
+      below = load-with_other 4 bytes m q (inner.at + 4) room (inr (omega (arith, above, ends))) ∙ o.below;
+      own = load-with_other 4 bytes m q (inner.at + 36) room (inr (omega (arith, above, ends))) ∙ o.own;
+      shown = λ i h. load-with_other 4 bytes m q (inner.at + (144 + 4 * i)) room (inr (omega (arith, above, ends))) ∙ o.shown i h;
+      temporaries = λ i h known. load-with_other 4 bytes m q (inner.at - 4 * suc i) room (inr (omega (arith, above, ends, h))) ∙ o.temporaries i h known;
+    }
+
+-- an array of texts of the block around
+pub inner_text_array : {e : Environment} {block : Names} {types : Types} (bl : Block e block types) (inner : Inner bl) (t0 : ℕ → ℕ) (number level free : ℕ) → inner.at + 144 ≤ free → {j : ℕ} {varying : Bool} {most : ℕ} {bs : List Bounds} (on : TextArrayOn e block (bl.bases j) bl.stack.free bl.ground j varying most bs) → TextArrayOn (in_frame number level e) block (bl.bases j) free (inner_ground bl inner t0) j varying most bs
+inner_text_array bl inner t0 number level free over on =
+    let above = inner_above inner.at bl.stack.free inner.words inner.place in
+    let under = on.under in
+    record {
+      declared = on.declared;
+      bounds = on.bounds;
+      few = on.few;
+      some = on.some;
+      short = on.short;
+      high = on.high;
+      within = on.within;
+      under = omega (arith, above, under, over);
+      reads = λ n p inside t b m o. on.reads n p inside t0 b m o.kept;
+      writes = λ n p text inside t b m len o. inner_text_element_stored bl inner t0 on n p text inside t b m len o;
+    }
+
 pub inner_place : (g : Ground) (level : ℕ) → g.frame + (148 + 4 * level) ≤ 14 * 2 ^ 20 → 7 * 2 ^ 20 ≤ g.frame → PlaceOf g (display level) (g.frame + (144 + 4 * level))
 inner_place g level room high =
     let whole = g.whole in
@@ -294,7 +334,7 @@ inner_leveled {e} {block} bl at level next j kind known =
 
 -- the block inside, in a frame of the next level
 abbrev pub inner_block : {e : Environment} {block : Names} {types : Types} (bl : Block e block types) (inner : Inner bl) (t0 : ℕ → ℕ) (number level : ℕ) → level ≡ suc e.level → IsFilled bl → Block (in_frame number level e) block types
-inner_block {e} bl inner t0 number level next filled =
+inner_block {e} {block} {types} bl inner t0 number level next filled =
     let above = inner_above inner.at bl.stack.free inner.words inner.place in
     let high = bl.stack.high in
     let over = bl.stack.over in
@@ -381,7 +421,11 @@ inner_block {e} bl inner t0 number level next filled =
         writes = λ n j varying most text at t b m len o. inner_text_writes bl inner t0 n j varying most text at t b m len o;
       };
       arrays = λ j type b bs at. inner_array bl inner t0 number level (inner.at + fixed_size (suc e.level) 0) (omega arith) (bl.arrays j type b bs at);
+      text_arrays = λ j varying most b bs at. inner_text_array bl inner t0 number level (inner.at + fixed_size (suc e.level) 0) (omega arith) (bl.text_arrays j varying most b bs at);
+      array_names = λ j type b bs at.
+          let on = bl.array_names j type b bs at in
+          record { living = on.living; lives = on.lives; signature = on.signature; at = on.at; aligned = on.aligned; high = on.high; room = on.room; own = λ n t b' m o. on.own n t0 b' m o.kept; names = λ n t b' m o. on.names n t0 b' m o.kept };
       outer = record { level = e.level; number = e.block; labels = bl.labels } ∷ bl.outer;
       enclosing = (inner_own bl inner t0 number level next filled, inner_outers bl inner t0 number level next bl.outer bl.enclosing);
-      seen = (λ frames xs levels s n all. all, inner_seen bl inner t0 number level next bl.outer bl.enclosing bl.seen);
+      seen = (restricts_self bl.serials block types, inner_seen bl inner t0 number level next bl.outer bl.enclosing bl.seen);
     }

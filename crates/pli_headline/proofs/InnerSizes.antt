@@ -14,14 +14,14 @@ use Rattle.pli_coding.specs.Storing.{word_stored, stored_into}
 use Rattle.pli_coding.specs.Allocating.{act_code}
 use Rattle.pli_headline.specs.InnerWords.{inner_words, all_inner_words}
 use Rattle.pli_coding.specs.Temporaries.{number_words, bit_words, reference_words}
-use Rattle.pli_headline.specs.ProvedSoFar.{DeclaresScalars, DeclareScalars, Names, Types, ArePlain, IsProvedStatement, AreProvedStatements, IsProvedBitIf, text_leaf, names_in, types_in}
+use Rattle.pli_headline.specs.ProvedSoFar.{DeclaresScalars, DeclareScalars, Names, Types, ArePlain, IsProvedStatement, AreProvedStatements, IsProvedBitIf, names_in, types_in}
 use Rattle.pli_coding.specs.Procedures.{procedure_begun, procedure_ended, procedure_in}
 use Rattle.pli_headline.proofs.Linking.{size_append}
 use Rattle.pli_coding.specs.Entries.{frame_begun, frame_ended, block_left, entered_without_texts, variables_code}
 use Rattle.pli_coding.specs.Statements.{begin_environment, begin_code, if_met, while_met, block_words, stmt_code, stmts_code, stmt_words, stmts_words, marked, once_code, bit_if, in_turns, before_turns, number_if, start_code, limit_code, step_code, started_code, step_place, turn_of, turns_code, words_back, words_behind_limit, words_behind_condition, limit_kept, while_kept, stepped_code}
 use Rattle.pli_headline.proofs.Variables.{HasTypes}
 use Rattle.pli_headline.proofs.DeclaredNames.{named_in, has_in}
-use Rattle.pli_headline.proofs.Sizes.{most, own_words, number_size, bit_size, text_size, act_size, met_size', once_size, limit_words_size, condition_words_size, statement_size, no_variable_words, target_size, start_words_size}
+use Rattle.pli_headline.proofs.Sizes.{most, number_size, bit_size, text_size, act_size, met_size', once_size, limit_words_size, condition_words_size, statement_size, no_variable_words, target_size, start_words_size, text_target_size}
 use Rattle.pli_coding.specs.Streams.{value_words}
 
 most_more : (a b d n : ℕ) → a + d ≤ n → b + d ≤ n → max a b + d ≤ n
@@ -50,6 +50,8 @@ mutual
   inside_size e t block types named has (Y.Assign target (Y.StoredNumber precision x) line) is bare = omega arith
   inside_size e t block types named has (Y.Assign target (Y.StoredBit x) line) is bare = omega arith
   inside_size e t block types named has (Y.Assign target (Y.StoredText x) line) is bare = omega arith
+  inside_size e t block types named has (Y.AssignElements target (Y.StoredNumber precision x) line) is bare = omega arith
+  inside_size e t block types named has (Y.AssignElements target (Y.StoredBit x) line) is bare = omega arith
   inside_size e t block types named has (Y.If condition unit line) is bare =
       let test = bit_code e t condition in
       let c = stmt_code e t unit in
@@ -181,6 +183,10 @@ mutual
       let m = statement_size e t block types has (Y.Assign target (Y.StoredBit x) line) is in omega (arith, m)
   statement_inner e t block types named has (Y.Assign target (Y.StoredText x) line) is bare =
       let m = statement_size e t block types has (Y.Assign target (Y.StoredText x) line) is in omega (arith, m)
+  statement_inner e t block types named has (Y.AssignElements target (Y.StoredNumber precision x) line) is bare =
+      let m = statement_size e t block types has (Y.AssignElements target (Y.StoredNumber precision x) line) is in omega (arith, m)
+  statement_inner e t block types named has (Y.AssignElements target (Y.StoredBit x) line) is bare =
+      let m = statement_size e t block types has (Y.AssignElements target (Y.StoredBit x) line) is in omega (arith, m)
   statement_inner e t block types named has (Y.If condition unit line) is bare =
       let test = bit_code e t condition in
       let c = stmt_code e t unit in
@@ -261,7 +267,7 @@ mutual
       (most_more _ _ _ _ (omega (arith, n, m, o1, s1, s2, s3)) (omega (arith, z, four, m, o1, s1, s2, s3)))
       (most_more _ _ _ _ (omega (arith, both, m, s1, s2)) (omega (arith, m, o1, s1, s2)))
   statement_inner e t block types named has (Y.DoOnce target (Y.StoredText x) condition body line) is bare =
-      let z = own_words block types (text_leaf is.0.0.varying is.0.0.most) target is.0.0.own in
+      let z : reference_words target ≤ size_of (stored_into e t target (Y.StoredText x)) = text_target_size e t block types target is.0.0 in
       let n = text_size e t block types x is.0.1 in
       let m = statements_inner e t block types named has body is.1.1.0 bare in
       let o = once_size e t block types condition line (stmts_code e t body) is.1.0 in
@@ -275,7 +281,7 @@ mutual
       let both = once_both e t block types condition line (stmts_code e t body) is.1.0 in
       let o1 = o.1 in
       most_more _ _ _ _
-      (most_more _ _ _ _ (omega (arith, n, m, o1, s1, s2, s3)) (omega (arith, z, four, m, o1, s1, s2)))
+      (most_more _ _ _ _ (omega (arith, n, m, o1, s1, s2, s3)) (omega (arith, z, four, m, o1, s1, s2, s3)))
       (most_more _ _ _ _ (omega (arith, both, m, s1, s2)) (omega (arith, m, o1, s1, s2)))
   statement_inner e t block types named has (Y.DoCount (Y.NumberCounter precision target) start limit step condition body line) is bare =
       let counter = Y.NumberCounter precision target in

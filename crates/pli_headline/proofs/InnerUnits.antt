@@ -20,6 +20,7 @@ use Rattle.pli_coding.specs.Temporaries.{number_words, bit_words, text_words, re
 use Rattle.pli_headline.specs.ProvedSoFar.{Types, OuterBlock, main_labels, main_outer, times, IsOutward, JumpsAround, IsSimple, IsUnitBody, IsProvedStatement, AreProvedStatements, AllJumpAround, DeclaresNothing, DeclareScalars, CallsAmong, AllCallAmong, Names, inner_bytes}
 use Rattle.pli_headline.specs.InnerWords.{all_inner_words}
 use Rattle.pli_coding.specs.Images.{blocks_among}
+use Rattle.pli_headline.proofs.StandingBytes.{constants_moved}
 use Rattle.pli_headline.proofs.Sizes.{most}
 use Rattle.pli_headline.proofs.InnerLevels.{IsAmong}
 use Rattle.pli_headline.proofs.InnerFrames.{other_level}
@@ -32,7 +33,6 @@ use Rattle.pli_headline.proofs.Catching.{within, listed}
 use Rattle.pli_headline.proofs.BeginMeant.{Entering, inner_around, inner_entering}
 use Rattle.pli_headline.proofs.CalledFrames.{Callee, called_block_as}
 use Rattle.pli_headline.proofs.ElementAssignments.{assign_number_part_does, assign_bit_part_does}
-use Rattle.pli_headline.proofs.TextAssignments.{assign_text_does}
 use Rattle.pli_headline.proofs.JumpsOut.{out_does}
 use Rattle.pli_headline.proofs.Stops.{stop_does}
 use Rattle.pli_headline.proofs.Skips.{put_skip_does}
@@ -43,7 +43,9 @@ use Rattle.pli_headline.proofs.Getting.{get_does, get_skip_does}
 use Rattle.pli_headline.proofs.MainOutlets.{HasMain, main_of, main_enclosing, main_seen}
 use Rattle.pli_headline.proofs.UnitRuns.{Raisable, signal_area_does}
 use Rattle.pli_headline.proofs.UnitStanding.{program_around, words_of_unit, Tells}
+use Rattle.pli_headline.proofs.Narrowing.{narrows_self}
 use Rattle.pli_headline.proofs.ProvedStatements.{standing_within, Calls, Signals, body_does}
+use Rattle.pli_headline.proofs.TextElementAssignments.{assign_text_part_does}
 
 -- calls and signals do what they mean, so many blocks deep at most
 abbrev pub Done : Environment → (block : Names) → Types → (all : List (ℕ × Label)) → (procedure bound : ℕ) → Links → List Instr → (may : List ℕ) → Type 1
@@ -51,7 +53,7 @@ Done e block types all procedure bound links code may = Calls e block types all 
 
 -- ---- a single statement
 
-simple_does : {e : Environment} {block : Names} {types : Types} (bl : Block e block types) (links : Links) (code : List Instr) (routines : Standing bl links code) (around : Around) → around.program ≡ e.program → {all : List (ℕ × Label)} {procedure : ℕ} {may : List ℕ} {bound : ℕ} → Done e block types all procedure bound links code may → Tells e block types all procedure may links code bl.base bl.frames.known → HasMain procedure (main_labels e.program.procedures) e.level e.block bl.labels bl.outer → length bl.depths < most_activations → bl.stack.free + 4000 * (500 - length bl.depths) ≤ 14 * 2 ^ 20 → bl.words < 2 ^ 22 → {more : ℕ} → Entering e.program around more → more ≤ bound → (x : Y.Stmt) → IsSimple x → IsProvedStatement block types x → bl.taken.words + stmt_words x ≤ bl.words → CallsAmong e.program may false true x → ((number : ℕ) (label : Label) → times number label all ≡ 1 → IsMarkedOnce links number label) → e.level ≤ 100 → JumpsAround e.block e.level all e.blocks (main_outer procedure e.program.procedures) bl.outer [] x → ((level : ℕ) (label : Label) → IsOutward e.block level label all e.blocks bl.outer → level ≡ 0) → Does bl links code around.turns (stmt_code e bl.taken x) (M.statement around x)
+simple_does : {e : Environment} {block : Names} {types : Types} (bl : Block e block types) (links : Links) (code : List Instr) (routines : Standing bl links code) (around : Around) → around.program ≡ e.program → {all : List (ℕ × Label)} {procedure : ℕ} {may : List ℕ} {bound : ℕ} → Done e block types all procedure bound links code may → Tells e block types all procedure may links code bl.base bl.frames.known → HasMain procedure (main_labels e.program.procedures) e.level e.block bl.labels bl.outer → length bl.depths < most_activations → bl.stack.free + 4000 * (500 - length bl.depths) ≤ 14 * 2 ^ 20 → bl.words < 2 ^ 22 → {more : ℕ} → Entering e.program around more → more ≤ bound → (x : Y.Stmt) → IsSimple x → IsProvedStatement block types x → bl.taken.words + stmt_words x ≤ bl.words → CallsAmong e.program may false 0 x → ((number : ℕ) (label : Label) → times number label all ≡ 1 → IsMarkedOnce links number label) → e.level ≤ 100 → JumpsAround e.block e.level all e.blocks (main_outer procedure e.program.procedures) bl.outer [] x → ((level : ℕ) (label : Label) → IsOutward e.block level label all e.blocks bl.outer → level ≡ 0) → Does bl links code around.turns (stmt_code e bl.taken x) (M.statement around x)
 simple_does bl links code routines around same can tells has deep space narrow entering least (Y.Null line) simple is room calls once few jumps low = null_does bl links code around line is
 simple_does bl links code routines around same can tells has deep space narrow entering least (Y.Assign target (Y.StoredNumber precision x) line) simple is room calls once few jumps low =
     let a = le-max_left (max 1 (number_words x)) (4 + reference_words target) in
@@ -63,7 +65,8 @@ simple_does bl links code routines around same can tells has deep space narrow e
     assign_bit_part_does bl links code routines around target x line is.0 is.1.0 (omega (arith, d, room)) (omega (arith, a, room)) is.1.1
 simple_does bl links code routines around same can tells has deep space narrow entering least (Y.Assign target (Y.StoredText x) line) simple is room calls once few jumps low =
     let a = le-max_left (text_words x) (4 + reference_words target) in
-    assign_text_does bl links code routines around target x line is.0 is.1.0 (omega (arith, a, room)) is.1.1
+    let d = le-max_right (text_words x) (4 + reference_words target) in
+    assign_text_part_does bl links code routines around target x line is.0 is.1.0 (omega (arith, a, room)) (omega (arith, d, room)) is.1.1
 simple_does bl links code routines around same can tells has deep space narrow entering least (Y.Assign target source line) simple is room calls once few jumps low = absurd is
 simple_does {e} bl links code routines around same can tells has deep space narrow {more} entering least (Y.CallProcedure (Y.Calling number level Y.NoArgument) line) simple is room calls once few jumps low =
     subst (λ n. Does bl links code around.turns (stmt_code e bl.taken (Y.CallProcedure (Y.Calling number n Y.NoArgument) line)) (M.statement around (Y.CallProcedure (Y.Calling number n Y.NoArgument) line))) (sym is.0)
@@ -103,7 +106,7 @@ standing_raised : {e : Environment} {block : Names} {types : Types} {bl : Block 
 standing_raised callee kind back h0 t0 head next sized main mains has s =
     record {
       raises = s.raises;
-      constants = λ n. record { stand = λ bytes placed t b m o. (s.constants n).stand bytes placed t0 b m o.kept.0 };
+      constants = λ n. constants_moved (λ t. t0) (λ t b m o. o.kept.0) (s.constants n);
       filled = λ owned. ap (λ u. callee.at + u) (sized (owned_of (owner_of_unit head head.kind) head.level next owned));
       known = known_in (owner_of_unit head head.kind) head.number head.level s.known;
     }
@@ -120,7 +123,7 @@ bare_unit program head Y.UnitBlock is body what none = inr (is, none)
 bare_unit program head _ is body what none = absurd what
 
 -- its statements, where calls and signals in it do what they mean
-body_by : {e : Environment} {block : Names} {types : Types} (bl : Block e block types) {links : Links} {code : List Instr} (standing : Standing bl links code) {all : List (ℕ × Label)} {procedure : ℕ} {may : List ℕ} (m : ℕ) → Done e block types all procedure m links code may → Tells e block types all procedure may links code bl.base bl.frames.known → (has : HasMain procedure (main_labels e.program.procedures) e.level e.block bl.labels bl.outer) → suc (length bl.depths) < most_activations → bl.stack.free + 4000 * (500 - length bl.depths) ≤ 14 * 2 ^ 20 → (head : Y.BlockHead) (next : head.level ≡ 1) (sized : IsOwned (owner_of_unit head head.kind) → frame_end e.parts e.program head.number head.level ≡ fixed_size 1 0) (kind : Y.BlockKind) → head.kind ≡ kind → (body : Y.Stmts) → IsUnitBody kind body → AreProvedStatements block types body → AllJumpAround head.number head.level all e.blocks (main_outer procedure e.program.procedures) (main_outer procedure e.program.procedures ∷ []) (labels_in body) body → DeclareScalars e.program body → AllCallAmong e.program may false true body → 4 * (stmts_words body + all_inner_words body) + inner_bytes e.program body ≤ 3200 → ((number : ℕ) (label : Label) → times number label all ≡ 1 → IsMarkedOnce links number label) → (head.kind ≡ Y.UnitBlock → LabelsStand (unit_environment head (program_around e)) links all procedure false) → ((b : BlockPlace) → IsAmong b (blocks_among body) → IsAmong b e.blocks) → (callee : Callee bl) → callee.words ≡ words_of_unit kind (stmts_words body) → (entered : S.BlockKind) (back : Base → ℕ) (h0 t0 : ℕ → ℕ) → Does (called_block_as bl callee back h0 t0 (owner_of_unit head head.kind) entered head next (main_of procedure (main_labels e.program.procedures)) (main_enclosing bl callee back h0 t0 (owner_of_unit head head.kind) head next procedure (main_labels e.program.procedures) has) (main_seen bl callee back h0 t0 (owner_of_unit head head.kind) head next procedure (main_labels e.program.procedures) has)) links code (suc m) (stmts_code (unit_environment head e) none_taken body) (M.list (inner_around e.program m head.line) body)
+body_by : {e : Environment} {block : Names} {types : Types} (bl : Block e block types) {links : Links} {code : List Instr} (standing : Standing bl links code) {all : List (ℕ × Label)} {procedure : ℕ} {may : List ℕ} (m : ℕ) → Done e block types all procedure m links code may → Tells e block types all procedure may links code bl.base bl.frames.known → (has : HasMain procedure (main_labels e.program.procedures) e.level e.block bl.labels bl.outer) → suc (length bl.depths) < most_activations → bl.stack.free + 4000 * (500 - length bl.depths) ≤ 14 * 2 ^ 20 → (head : Y.BlockHead) (next : head.level ≡ 1) (sized : IsOwned (owner_of_unit head head.kind) → frame_end e.parts e.program head.number head.level ≡ fixed_size 1 0) (kind : Y.BlockKind) → head.kind ≡ kind → (body : Y.Stmts) → IsUnitBody kind body → AreProvedStatements block types body → AllJumpAround head.number head.level all e.blocks (main_outer procedure e.program.procedures) (main_outer procedure e.program.procedures ∷ []) (labels_in body) body → DeclareScalars e.program body → AllCallAmong e.program may false 0 body → 4 * (stmts_words body + all_inner_words body) + inner_bytes e.program body ≤ 3200 → ((number : ℕ) (label : Label) → times number label all ≡ 1 → IsMarkedOnce links number label) → (head.kind ≡ Y.UnitBlock → LabelsStand (unit_environment head (program_around e)) links all procedure false) → ((b : BlockPlace) → IsAmong b (blocks_among body) → IsAmong b e.blocks) → (callee : Callee bl) → callee.words ≡ words_of_unit kind (stmts_words body) → (entered : S.BlockKind) (back : Base → ℕ) (h0 t0 : ℕ → ℕ) → Does (called_block_as bl callee back h0 t0 (owner_of_unit head head.kind) entered head next (main_of procedure (main_labels e.program.procedures)) (main_enclosing bl callee back h0 t0 (owner_of_unit head head.kind) head next procedure (main_labels e.program.procedures) has) (main_seen bl callee back h0 t0 (owner_of_unit head head.kind) head next procedure (main_labels e.program.procedures) has)) links code (suc m) (stmts_code (unit_environment head e) none_taken body) (M.list (inner_around e.program m head.line) body)
 body_by {e} bl {links} {code} standing {all} {procedure} m can tells has deeper space head next sized Y.SimpleUnit kind (Y.StmtThen [] x (Y.EndOfList [])) what proved jumps bare calls few once labels blocks callee words entered back h0 t0 =
     let mains = main_labels e.program.procedures in
     let cb = called_block_as bl callee back h0 t0 (owner_of_unit head head.kind) entered head next (main_of procedure mains) (main_enclosing bl callee back h0 t0 (owner_of_unit head head.kind) head next procedure mains has) (main_seen bl callee back h0 t0 (owner_of_unit head head.kind) head next procedure mains has) in
@@ -128,25 +131,26 @@ body_by {e} bl {links} {code} standing {all} {procedure} m can tells has deeper 
     let place = callee.place in
     listed cb (inner_around e.program m head.line) (Y.StmtThen [] x (Y.EndOfList []))
     (simple_does (within [] cb) links code (standing_within [] (standing_raised callee entered back h0 t0 head next sized procedure mains has standing)) (inner_around e.program m head.line) refl can tells (inr (inl (refl, (refl, λ label among. among)))) deeper (omega (arith, place, words, few, space, deeper)) (omega (arith, words, few)) (inner_entering e.program m head.line) (omega arith) x what proved.0 (omega (arith, words, first)) calls.0 once (omega (arith, next)) jumps.0 (main_level head.number all e.blocks (main_of procedure mains) refl), tt)
-body_by {e} bl {links} {code} standing {all} {procedure} m can tells has deeper space head next sized Y.UnitBlock kind body what proved jumps bare calls few once labels blocks callee words entered back h0 t0 =
+body_by {e} {block} {types} bl {links} {code} standing {all} {procedure} m can tells has deeper space head next sized Y.UnitBlock kind body what proved jumps bare calls few once labels blocks callee words entered back h0 t0 =
     let mains = main_labels e.program.procedures in
     let cb = called_block_as bl callee back h0 t0 (owner_of_unit head head.kind) entered head next (main_of procedure mains) (main_enclosing bl callee back h0 t0 (owner_of_unit head head.kind) head next procedure mains has) (main_seen bl callee back h0 t0 (owner_of_unit head head.kind) head next procedure mains has) in
     let place = callee.place in
     let most' = le-max_right 0 (stmts_words body) in
     let low = most 0 (stmts_words body) 800 (omega arith) (omega (arith, few)) in
     let high : AllJumpAround head.number head.level all e.blocks (main_of procedure mains) (main_of procedure mains ∷ []) (labels_in body ++ []) body = subst (λ ls. AllJumpAround head.number head.level all e.blocks (main_of procedure mains) (main_of procedure mains ∷ []) ls body) (sym (append-nil (labels_in body))) jumps in
-    body_does cb links code (standing_raised callee entered back h0 t0 head next sized procedure mains has standing) (inner_around e.program m head.line) refl {small = true}
+    body_does cb links code (standing_raised callee entered back h0 t0 head next sized procedure mains has standing) (inner_around e.program m head.line) refl {small = true} {taken = 0}
     (labels kind) body proved high (omega (arith, most', words))
     ((omega (arith, place, words, low, space, deeper), omega (arith, few)), deeper) bare
     (inner_entering e.program m head.line) (omega arith) blocks calls
     (record {
-      calls = λ free. can.0;
-      signals = λ free. can.1;
-      tells = λ free. tells;
+      narrows = narrows_self block types callee.outer;
+      calls = can.0;
+      signals = can.1;
+      tells = tells;
       makes = λ same' u at k. let no : true ≡ false = sym same' ∙ other_level head.level 0 next in absurd (cc no);
       narrow = omega (arith, words, low);
       ends = λ no. let apart : false ≡ true = no in absurd (cc apart);
-      mains = λ free. inr (inl (refl, (refl, λ label among. among)));
+      mains = inr (inl (refl, (refl, λ label among. among)));
     })
 body_by bl standing m can tells has deeper space head next sized _ kind body what proved jumps bare calls few once labels blocks callee words entered back h0 t0 = absurd what
 

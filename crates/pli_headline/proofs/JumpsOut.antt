@@ -41,6 +41,7 @@ use Rattle.pli_headline.proofs.Calls.{called, Calling, call_done}
 use Rattle.pli_headline.proofs.Raising.{small_is}
 use Rattle.pli_headline.proofs.Acts.{acted, act_to}
 use Rattle.pli_headline.proofs.Ifs.{free_far}
+use Rattle.pli_headline.proofs.MoreStates.{restricts_all}
 use Rattle.pli_headline.proofs.Statements.{IsSized, lower_ground, Restricts, AllSeen, Enclosing, Enclosures, Block, counted_all, IsMarkedOnce, OutletOf, Outlets, Enough, Does}
 use Rattle.pli_headline.proofs.BeginDisplays.{frame_word, moved_reserved, without_two, outer_place}
 use Rattle.pli_headline.proofs.EndedBlocks.{all_ended}
@@ -206,7 +207,7 @@ own_out_does {e} {block} {types} bl links code around {o} d seen label line outs
           let frame = d.frame_is n in
           let free = d.free_is n in
           let s1 = with_world (counted s.world) s in
-          let left' = all_ended (suc d.count) d.frame o.level bl.frames bl.frames.list (e.level ∷ bl.depths) d.behind d.depths s1 (storage v) refl d.rises d.beneath serving.nested (seen bl.frames (storage v) (e.level ∷ bl.depths) s1 n (counted_all (counted s.world) all)) in
+          let left' = all_ended (suc d.count) d.frame o.level bl.frames bl.frames.list (e.level ∷ bl.depths) d.behind d.depths s1 (storage v) refl d.rises d.beneath serving.nested (restricts_all seen (counted_all (counted s.world) all)) in
           let v2 = unwound_services (acted line v) left'.activation left'.rest in
           comes_on k (act counted k s) next'
           (act_to (before_closed k next' closed) i 0 f line old k fits (omega (arith, inside, total)) (front_of a c l) serving at

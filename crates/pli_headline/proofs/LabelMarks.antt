@@ -27,7 +27,7 @@ use Rattle.pli_headline.proofs.Linking.{times_marked}
 use Rattle.pli_headline.proofs.FirstFrame.{start_of}
 use Rattle.pli_headline.proofs.Marks.{others_code, code_is}
 use Rattle.pli_headline.proofs.MainProcedure.{IsAlone, main_head, main_environment, main_plain, declared_at}
-use Rattle.pli_headline.proofs.Scalars.{by_plain, character, varying, element_numeric}
+use Rattle.pli_headline.proofs.Scalars.{by_plain, character, varying}
 use Rattle.pli_headline.proofs.Variables.{outermost, HasTypes}
 use Rattle.pli_headline.proofs.Gotos.{LabelsStand}
 use Rattle.pli_headline.proofs.ProgramSizes.{frame_filled}
@@ -35,9 +35,9 @@ use Rattle.pli_headline.proofs.SymbolsMarked.{symbols_marked, Marks, both_mark, 
 use Rattle.pli_headline.proofs.InnerLevels.{IsAmong, InOrder, among_all, among_with, in_order, last_is}
 use Rattle.pli_headline.proofs.Stands.{Stand, all_stands, labels_are, ends_apart, own_units, called_units}
 use Rattle.pli_headline.proofs.StatementMarks.{places_of, statements_mark}
-use Rattle.pli_headline.proofs.ArrayElements.{size_constant}
 use Rattle.pli_headline.proofs.ProcedurePlaces.{entry_behind, entry_times, ends_behind, ends_times}
 use Rattle.pli_headline.proofs.ProcedureMarks.{ended_marks, procedure_symbols, procedures_mark, symbol_times, times_are, labels_before, procedure_times, end_times, others_end}
+use Rattle.pli_headline.proofs.ArrayFrames.{held_constant}
 
 -- ---- the procedure
 
@@ -72,7 +72,7 @@ variables_none e line index (d ∷ ds) are =
     by_plain (λ u. Marks (variables_made (outermost e) line index (u ∷ ds)) []) (λ p i. here (plain_variable (Y.FixedLeaf p) i)) (λ i. here (plain_variable Y.BitLeaf i)) (λ n i. here (plain_variable (character n) i)) (λ n i. here (plain_variable (varying n) i))
     (λ type b bs i element are'.
     let u = array_variable type (b ∷ bs) i in
-    subst (λ q. Marks ((if q then constant_made (outermost e) place u else adjustable_made (outermost e) line place u) ++ rest) []) (sym (size_constant type (element_numeric type element) (b ∷ bs) i)) (here u)) d are.0
+    subst (λ q. Marks ((if q then constant_made (outermost e) place u else adjustable_made (outermost e) line place u) ++ rest) []) (sym (held_constant type element (b ∷ bs) i)) (here u)) d are.0
 
 begun_none : (words : ℕ) → Marks (frame_begun words 0 0 true) []
 begun_none words =
@@ -213,12 +213,12 @@ entry_stands program block line body called plain alone are bare inner number ap
     ∙ once
 
 -- and its end
-pub end_stands : (program : Y.Program) (block line : ℕ) (body : Y.Stmts) (called : List ℕ) → AllPlain program.variables → (alone : IsAlone program block line body) → AreProvedStatements (main_names program block) (types_of (variables_of_block program block)) body → AllJumpAround block 0 (all_labels block body ++ procedure_labels alone.others) (blocks_of program.procedures) (main_outer block program.procedures) [] (labels_in body) body → DeclareScalars program body → AreInner program block (all_labels block body ++ procedure_labels alone.others) called alone.others → (number : ℕ) → (number == block) ≡ false → number_times number alone.others ≡ 1 → is_number number called ≡ true → AllCallAmong program called true true body → times_marked (ReturnPlace number) (links_of (code_of parts program)).marks ≡ 1
+pub end_stands : (program : Y.Program) (block line : ℕ) (body : Y.Stmts) (called : List ℕ) → AllPlain program.variables → (alone : IsAlone program block line body) → AreProvedStatements (main_names program block) (types_of (variables_of_block program block)) body → AllJumpAround block 0 (all_labels block body ++ procedure_labels alone.others) (blocks_of program.procedures) (main_outer block program.procedures) [] (labels_in body) body → DeclareScalars program body → AreInner program block (all_labels block body ++ procedure_labels alone.others) called alone.others → (number : ℕ) → (number == block) ≡ false → number_times number alone.others ≡ 1 → is_number number called ≡ true → AllCallAmong program called true 0 body → times_marked (ReturnPlace number) (links_of (code_of parts program)).marks ≡ 1
 end_stands program block line body called plain alone are jumps bare inner number apart once among calls =
     let rest = symbol_times (ReturnPlace number) (procedure_symbols alone.others) in
     times_are (ReturnPlace number) 0 (code_of parts program)
     ∙ ap (symbol_times (ReturnPlace number)) (program_marks program block line body plain _ _ alone are bare inner)
-    ∙ ends_behind number block (all_stands block body) (procedure_symbols alone.others) (ends_apart number block body (called_units program number block 0 _ _ _ [] (labels_in body) called true true body among jumps calls))
+    ∙ ends_behind number block (all_stands block body) (procedure_symbols alone.others) (ends_apart number block body (called_units program number block 0 _ _ _ [] (labels_in body) called true 0 body among jumps calls))
     ∙ ap (λ q. cond q (suc rest) rest) apart
     ∙ ends_times number program block _ called alone.others inner
     ∙ once

@@ -16,6 +16,7 @@ pub mod Reaching
 pub mod SavedRegisters
 pub mod Activations
 pub mod OuterBlocks
+pub mod Asides
 pub mod Entered
 pub mod Storages
 pub mod Calls
@@ -75,6 +76,15 @@ pub mod States
 pub mod TextScopes
 pub mod ArrayMeant
 pub mod ArrayScopes
+pub mod TextArraysStay
+pub mod TextArrayMeant
+pub mod TextElements
+pub mod TextArrayScopes
+pub mod TextArrayStates
+pub mod TextArrayGrounds
+pub mod TextArrayInitial
+pub mod TextElementAssignments
+pub mod TextTargets
 pub mod ArraysMade
 pub mod ArrayOrder
 pub mod ArrayElements
@@ -82,6 +92,7 @@ pub mod ArrayExpressions
 pub mod ArrayDimensions
 pub mod ArrayAssignments
 pub mod ElementAssignments
+pub mod ElementsAssignments
 pub mod Targets
 pub mod TextStates
 pub mod TextGrounds
@@ -94,11 +105,18 @@ pub mod MoreStates
 pub mod OneMore
 pub mod MoreServed
 pub mod Declares
+pub mod NamesStand
 pub mod MainGround
 pub mod MainTexts
 pub mod MainBlock
 pub mod MainArrays
 pub mod ArrayGrounds
+pub mod ArrayNames
+pub mod ElementsFilled
+pub mod ElementsServed
+pub mod ElementsCode
+pub mod ElementsMarks
+pub mod ElementsPieces
 pub mod ArrayStates
 pub mod InnerFrames
 pub mod CalledFrames
@@ -111,6 +129,8 @@ pub mod CalledEntered
 pub mod CalledLeft
 pub mod CallMeant
 pub mod MainOutlets
+pub mod Narrowing
+pub mod Through
 pub mod CalledJumps
 pub mod CallRuns
 pub mod BeginMeant
@@ -177,6 +197,7 @@ pub mod PlainSignatures
 pub mod SignaturesOnce
 pub mod PlainNumbers
 pub mod PlainTables
+pub mod CalledVariables
 pub mod InnerCalls
 pub mod MainBody
 pub mod FirstFrame
@@ -191,6 +212,7 @@ pub mod VariablesMade
 pub mod Leaving
 pub mod Entering
 pub mod InitialNamed
+pub mod InitialPlaced
 pub mod MainRuns
 pub mod SymbolsMarked
 pub mod ExpressionMarks
@@ -205,6 +227,9 @@ pub mod LabelMarks
 pub mod Whole
 mod Rows
 mod DeclaredRows
+mod CallingRows
+mod TextArrayRows
+mod ElementsRows
 pub mod FirstPathDeclared
 pub mod FirstPathNames
 pub mod FirstPathExpressions

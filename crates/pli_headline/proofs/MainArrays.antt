@@ -13,6 +13,7 @@ use Rattle.pli_headline.proofs.Scalars.{Fits, load_kind, store_kind}
 use Rattle.pli_headline.proofs.VariablePlaces.{Sizes, number_place, room_next}
 use Rattle.pli_headline.proofs.ElementsStay.{with_element_at, contents_of, elements_put, element_loads}
 use Rattle.pli_headline.proofs.Holdings.{Content, Many, There, size_in, there_other}
+use Rattle.pli_headline.proofs.NamesStand.{name_kept}
 use Rattle.pli_headline.proofs.MainGround.{Frame, Stands, width_few}
 
 -- what the variables hold then
@@ -58,6 +59,7 @@ main_element_stored f first held j type count q x n below is inside' old fits t 
       variables = λ i h. element_put f.sizes (i == j) held type m f.at i j count q x n refl is inside' old fits (o.fits i h) mine room (o.variables i h);
       fits = λ i h. fits_put f.sizes (i == j) held i j count (contents_of type (with_element_at n q x)) refl (o.fits i h) mine;
       temporaries = λ i h. load-store_other w 4 m p (word x) (f.at - 4 * suc i) (inl (omega (arith, above, h))) ∙ o.temporaries i h;
+      names = λ i h. name_kept w m f.sizes f.at (word x) i j (4 * q) p (omega arith) (width_few (store_kind type)) (omega (arith, mine, inside')) (o.names i h);
     }
 
 -- and an element is found there

@@ -158,5 +158,6 @@ frame_stands f first b x top own none near len ra below mine =
       own = filled_own m f.at x top own (omega (arith, mine, inside)) (omega (arith, last, inside)) ∙ mine;
       variables = λ j h. absurd (omega (arith, none, h));
       fits = λ j h. absurd (omega (arith, none, h));
+      names = λ j h. absurd (omega (arith, none, h));
       temporaries = λ j h. load-same 4 (filled_in m f.at x top own) m (f.at - 4 * suc j) (λ k a c. keeps.under k (omega (arith, above, h, c))) ∙ start_words first (f.at - 4 * suc j) (omega (arith, above, h));
     }

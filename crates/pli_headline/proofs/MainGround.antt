@@ -17,6 +17,7 @@ use Rattle.pli_headline.proofs.Engine.{Base, address}
 use Rattle.pli_headline.proofs.Numbers.{above_sum, above_small, word_small}
 use Rattle.pli_headline.proofs.Scalars.{Fits, fits_wide, load_kind, store_kind, Values}
 use Rattle.pli_headline.proofs.VariablePlaces.{Sizes, room_of, number_place, room_before, room_next, room_even, apart_places}
+use Rattle.pli_headline.proofs.NamesStand.{NameThere, name_other, name_beside, name_place, name_kept}
 use Rattle.pli_headline.proofs.Cells.{Cell, kept_by, content, content_word, cell_stored, cell_found}
 use Rattle.pli_headline.proofs.Holdings.{Content, Counted, There, size_in, there_other, content_numeric, content_for, sizes_same, there_below}
 use Rattle.pli_headline.proofs.Bodies.{Ground, PlaceFrom}
@@ -45,6 +46,7 @@ pub record Stands (f : Frame) (first : List ℕ) (held : ℕ → Content) (t : �
   pub variables : (j : ℕ) → j < f.count → There m (f.at + number_place f.sizes j) (held j)
   pub fits : (j : ℕ) → j < f.count → 16 + size_in (held j) ≤ f.sizes.of j
   pub temporaries : (j : ℕ) → j < f.words → load 4 m (f.at - 4 * suc j) ≡ t j
+  pub names : (j : ℕ) → j < f.count → NameThere m (f.at + name_place f.sizes j) (suc j)
 
 abbrev pub ground_of : Frame → List ℕ → (ℕ → Content) → Ground
 ground_of f first held =
@@ -89,6 +91,7 @@ main_temporaries f first held =
             variables = λ i h. there_other 4 m p x (f.at + number_place f.sizes i) (held i) (inr (omega (arith, above, below))) (o.variables i h);
             fits = o.fits;
             temporaries = λ i h. word_put (i == j) m t f.at i j x f.words refl len fits h below (omega (arith, above)) (omega (arith, inside)) (o.temporaries i h);
+            names = λ i h. name_other 4 m p x (f.at + name_place f.sizes i) (suc i) (inr (omega (arith, above, below))) (o.names i h);
           };
       found = λ t b m j below known o. o.temporaries j below;
     }
@@ -102,22 +105,23 @@ width_few Store.Word = omega arith
 
 -- what stands where the variables hold these numbers and texts
 abbrev pub contents : (ℕ → Kind) → Values → ℕ → Content
-contents kind held j = content_for (kind j) (held.numbers j) (held.texts j) (held.arrays j)
+contents kind held j =
+    content_for (kind j) (held.numbers j) (held.texts j) (held.arrays j) (held.text_arrays j)
 
-number_put : (s : Sizes) (q : Bool) (kind : ℕ → Kind) (type : Y.LeafType) (m : List ℕ) (held : Values) (at i j : ℕ) (z : ℤ) → (i == j) ≡ q → kind j ≡ alone type → length m ≡ memory_size → Fits type (held.numbers j) → Fits type z → at + number_place s j + 4 ≤ memory_size → 16 + size_in (contents kind held i) ≤ s.of i → There m (at + number_place s i) (contents kind held i) → There (store (store_width (store_kind type)) m (at + number_place s j) (word z)) (at + number_place s i) (content_for (kind i) (cond q z (held.numbers i)) (held.texts i) (held.arrays i))
+number_put : (s : Sizes) (q : Bool) (kind : ℕ → Kind) (type : Y.LeafType) (m : List ℕ) (held : Values) (at i j : ℕ) (z : ℤ) → (i == j) ≡ q → kind j ≡ alone type → length m ≡ memory_size → Fits type (held.numbers j) → Fits type z → at + number_place s j + 4 ≤ memory_size → 16 + size_in (contents kind held i) ≤ s.of i → There m (at + number_place s i) (contents kind held i) → There (store (store_width (store_kind type)) m (at + number_place s j) (word z)) (at + number_place s i) (content_for (kind i) (cond q z (held.numbers i)) (held.texts i) (held.arrays i) (held.text_arrays i))
 number_put s true kind type m held at i j z e is len old fits h size o =
     let same : i ≡ j = eqb-true i j e in
     let p = at + number_place s j in
     let wide = fits_wide type z fits in
-    let whole : There m p (content_for (kind j) (held.numbers j) (held.texts j) (held.arrays j)) = subst (λ u. There m (at + number_place s u) (contents kind held u)) same o in
+    let whole : There m p (content_for (kind j) (held.numbers j) (held.texts j) (held.arrays j) (held.text_arrays j)) = subst (λ u. There m (at + number_place s u) (contents kind held u)) same o in
     let mine : There m p (Counted (content type (held.numbers j))) =
-    subst (There m p) (content_numeric type (held.numbers j) (held.texts j) old) (subst (λ k. There m p (content_for k (held.numbers j) (held.texts j) (held.arrays j))) is whole) in
+    subst (There m p) (content_numeric type (held.numbers j) (held.texts j) old) (subst (λ k. There m p (content_for k (held.numbers j) (held.texts j) (held.arrays j) (held.text_arrays j))) is whole) in
     let here : Cell m p (kept_by (store_kind type) (word (held.numbers j))) = subst (Cell m p) (content_word type (held.numbers j) (fits_wide type (held.numbers j) old)) mine in
     let m' = store (store_width (store_kind type)) m p (word z) in
     let there : Cell m' p (word (content type z)) =
     subst (Cell m' p) (sym (content_word type z wide)) (cell_stored (store_kind type) m p (word (held.numbers j)) (word z) (word_small z wide) (omega (arith, len, h)) here) in
-    subst (λ u. There m' (at + number_place s u) (content_for (kind u) z (held.texts u) (held.arrays u))) (sym same)
-    (subst (λ k. There m' p (content_for k z (held.texts j) (held.arrays j))) (sym is)
+    subst (λ u. There m' (at + number_place s u) (content_for (kind u) z (held.texts u) (held.arrays u) (held.text_arrays u))) (sym same)
+    (subst (λ k. There m' p (content_for k z (held.texts j) (held.arrays j) (held.text_arrays j))) (sym is)
     (subst (There m' p) (sym (content_numeric type z (held.texts j) fits)) there))
 number_put s false kind type m held at i j z e is len old fits h size o =
     there_other (store_width (store_kind type)) m (at + number_place s j) (word z) (at + number_place s i) (contents kind held i) (apart_places s (store_width (store_kind type)) (size_in (contents kind held i)) at i j (width_few (store_kind type)) size e) o
@@ -134,8 +138,9 @@ main_writes f first kind held j type z below is old fits t b m len o =
       below = load-store_other n 4 m p (word z) (f.at + 4) (inl (omega arith)) ∙ o.below;
       own = load-store_other n 4 m p (word z) (f.at + 36) (inl (omega arith)) ∙ o.own;
       variables = λ i h. number_put f.sizes (i == j) kind type m held f.at i j z refl is len old fits (let r = room_before f.sizes j f.count below in omega (arith, inside, r)) (o.fits i h) (o.variables i h);
-      fits = λ i h. subst (λ u. 16 + u ≤ f.sizes.of i) (sizes_same (kind i) (held.numbers i) ((with_number_at held j z).numbers i) (held.texts i) (held.texts i) (held.arrays i) (held.arrays i)) (o.fits i h);
+      fits = λ i h. subst (λ u. 16 + u ≤ f.sizes.of i) (sizes_same (kind i) (held.numbers i) ((with_number_at held j z).numbers i) (held.texts i) (held.texts i) (held.arrays i) (held.arrays i) (held.text_arrays i) (held.text_arrays i)) (o.fits i h);
       temporaries = λ i h. load-store_other n 4 m p (word z) (f.at - 4 * suc i) (inl (omega (arith, above, h))) ∙ o.temporaries i h;
+      names = λ i h. let wide = f.sizes.wide j in name_kept n m f.sizes f.at (word z) i j 0 p (omega arith) (width_few (store_kind type)) (omega (arith, wide)) (o.names i h);
     }
 
 -- what variables hold may be said otherwise
@@ -149,6 +154,7 @@ stands_same f first held held' t b m same o =
       variables = λ j h. subst (There m (f.at + number_place f.sizes j)) (same j h) (o.variables j h);
       fits = λ j h. subst (λ c. 16 + size_in c ≤ f.sizes.of j) (same j h) (o.fits j h);
       temporaries = o.temporaries;
+      names = o.names;
     }
 
 -- without variables there is nothing to hold
@@ -162,6 +168,7 @@ no_contents f first held others t b m none o =
       variables = λ j h. absurd (omega (arith, none, h));
       fits = λ j h. absurd (omega (arith, none, h));
       temporaries = o.temporaries;
+      names = λ j h. absurd (omega (arith, none, h));
     }
 
 pub place_at : (f : Frame) (j n : ℕ) → j < f.count → n ≡ number_place f.sizes j → PlaceFrom f.at (pos n) (f.at + n)
@@ -183,7 +190,7 @@ pub reads_by : (f : Frame) (first : List ℕ) (kind : ℕ → Kind) (held : Valu
 reads_by f first kind held j type below e fits t b m o =
     let p = f.at + number_place f.sizes j in
     let found : There m p (Counted (content type (held.numbers j))) =
-    subst (There m p) (content_numeric type (held.numbers j) (held.texts j) fits) (subst (λ u. There m p (content_for u (held.numbers j) (held.texts j) (held.arrays j))) e (o.variables j below)) in
+    subst (There m p) (content_numeric type (held.numbers j) (held.texts j) fits) (subst (λ u. There m p (content_for u (held.numbers j) (held.texts j) (held.arrays j) (held.text_arrays j))) e (o.variables j below)) in
     cell_found type (held.numbers j) m (f.at + number_place f.sizes j) fits (subst (Cell m (f.at + number_place f.sizes j)) (content_word type (held.numbers j) (fits_wide type (held.numbers j) fits)) found)
 
 -- what lies above the frame may change
@@ -198,6 +205,7 @@ main_keeps f first held t b m w p x over o =
       variables = λ j h. there_other w m p x (f.at + number_place f.sizes j) (held j) (inl (let r = room_next f.sizes j f.count h in let size = o.fits j h in omega (arith, over, r, size))) (o.variables j h);
       fits = o.fits;
       temporaries = λ j h. load-store_other w 4 m p x (f.at - 4 * suc j) (inl (omega (arith, over))) ∙ o.temporaries j h;
+      names = λ j h. name_other w m p x (f.at + name_place f.sizes j) (suc j) (inl (let r = room_before f.sizes j f.count h in omega (arith, over, r))) (o.names j h);
     }
 
 pub main_keeps_bytes : (f : Frame) (first : List ℕ) (held : ℕ → Content) (t : ℕ → ℕ) (b : Base) (m bytes : List ℕ) (p : ℕ) → f.at + 144 + room_of f.sizes f.count ≤ p → p + length bytes ≤ length m → Stands f first held t b m → Stands f first held t b (with_bytes bytes p m)
@@ -211,4 +219,5 @@ main_keeps_bytes f first held t b m bytes p over room o =
       variables = λ j h. there_below bytes m p (f.at + number_place f.sizes j) (held j) room (let r = room_next f.sizes j f.count h in let size = o.fits j h in omega (arith, over, r, size)) (o.variables j h);
       fits = o.fits;
       temporaries = λ j h. load-with_other 4 bytes m p (f.at - 4 * suc j) room (inl (omega (arith, over))) ∙ o.temporaries j h;
+      names = λ j h. name_beside bytes m p (f.at + name_place f.sizes j) (suc j) room (inl (let r = room_before f.sizes j f.count h in omega (arith, over, r))) (o.names j h);
     }

@@ -25,7 +25,7 @@ use Rattle.pli_headline.proofs.Temporaries.{nothing}
 use Rattle.pli_headline.proofs.Owing.{owing, jumped_owing}
 use Rattle.pli_headline.proofs.Entered.{Frames, atop, frames_left}
 use Rattle.pli_headline.proofs.OuterBlocks.{Rises, risen_over}
-use Rattle.pli_headline.proofs.Statements.{Restricts, AllSeen, Enclosing, Enclosures, Block, AllHold, listed_of, IsMarkedOnce, ended_times, OutletOf, Outlets, Enough}
+use Rattle.pli_headline.proofs.Statements.{Restricts, restricts_self, AllSeen, Enclosing, Enclosures, Block, AllHold, listed_of, IsMarkedOnce, ended_times, OutletOf, Outlets, Enough}
 use Rattle.pli_headline.proofs.InnerFrames.{level_first, inner_above}
 use Rattle.pli_headline.proofs.CalledFrames.{Callee, called_ground}
 use Rattle.pli_headline.proofs.Begins.{ended_jump}
@@ -142,7 +142,7 @@ main_enclosing bl callee back h0 t0 owner head next place mains (inl h) =
 main_enclosing bl callee back h0 t0 owner head next place mains (inr h) =
     main_among bl callee back h0 t0 owner head next place mains bl.outer bl.enclosing h
 
--- what holds of a block's variables holds of the main procedure's
+-- the main procedure's variables are the first of a block's
 abbrev pub among_seen : {e : Environment} {block : Names} {types : Types} (bl : Block e block types) (callee : Callee bl) (back : Base → ℕ) (h0 t0 : ℕ → ℕ) (owner : Owner) (head : Y.BlockHead) (next : head.level ≡ 1) (place : ℕ) (mains : List Label) (os : List OuterBlock) (cs : Enclosures e bl.ground bl.levels bl.frames.list (e.level ∷ bl.depths) os) (has : MainAround place mains os) → AllSeen e bl.ground bl.levels bl.frames.list (e.level ∷ bl.depths) os cs bl.serials block types → Restricts bl.serials block types (main_among bl callee back h0 t0 owner head next place mains os cs has).serials (main_among bl callee back h0 t0 owner head next place mains os cs has).names (main_among bl callee back h0 t0 owner head next place mains os cs has).types
 among_seen bl callee back h0 t0 owner head next place mains [] cs has seen = absurd has
 among_seen bl callee back h0 t0 owner head next place mains (o ∷ os) cs (inl h) seen = seen.0
@@ -150,7 +150,7 @@ among_seen bl callee back h0 t0 owner head next place mains (o ∷ os) cs (inr h
     among_seen bl callee back h0 t0 owner head next place mains os cs.1 h seen.1
 
 abbrev pub main_seen : {e : Environment} {block : Names} {types : Types} (bl : Block e block types) (callee : Callee bl) (back : Base → ℕ) (h0 t0 : ℕ → ℕ) (owner : Owner) (head : Y.BlockHead) (next : head.level ≡ 1) (place : ℕ) (mains : List Label) (has : HasMain place mains e.level e.block bl.labels bl.outer) → Restricts bl.serials block types (main_enclosing bl callee back h0 t0 owner head next place mains has).serials (main_enclosing bl callee back h0 t0 owner head next place mains has).names (main_enclosing bl callee back h0 t0 owner head next place mains has).types
-main_seen bl callee back h0 t0 owner head next place mains (inl h) = λ frames xs levels s n all. all
+main_seen {block = block} {types = types} bl callee back h0 t0 owner head next place mains (inl h) = restricts_self bl.serials block types
 main_seen bl callee back h0 t0 owner head next place mains (inr h) =
     among_seen bl callee back h0 t0 owner head next place mains bl.outer bl.enclosing h bl.seen
 

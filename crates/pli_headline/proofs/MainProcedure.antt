@@ -14,9 +14,9 @@ use Rattle.pli_coding.specs.Statements.{block_words, stmts_words}
 use Rattle.pli_coding.specs.Procedures.{procedure_environment}
 use Rattle.pli_coding.specs.Images.{environment_of, static_if, number_if, statics_of_block, statics_code}
 use Rattle.pli_headline.specs.Headline.{parts}
-use Rattle.pli_headline.specs.ProvedSoFar.{plain_variable, array_variable, IsPlain, ArePlain, AllPlain, Kind, declared_kind, types_of, IsProvedSoFar, IsElementType, AreBounds}
-use Rattle.pli_headline.proofs.Scalars.{by_plain, kind_at, element_numeric}
-use Rattle.pli_headline.proofs.VariablePlaces.{Sizes, room_of, room_front, frame_size, sizes_by, text_print, many_is}
+use Rattle.pli_headline.specs.ProvedSoFar.{plain_variable, array_variable, IsPlain, ArePlain, AllPlain, Kind, declared_kind, types_of, IsProvedSoFar, AreBounds, IsScalar}
+use Rattle.pli_headline.proofs.Scalars.{by_plain, kind_at}
+use Rattle.pli_headline.proofs.VariablePlaces.{Sizes, room_of, room_front, frame_size, sizes_by, text_print, elements_size}
 use Rattle.pli_headline.proofs.ArrayPlaces.{count_some}
 use Rattle.pli_headline.proofs.ArrayMeant.{bounds_back}
 use Rattle.pli_headline.proofs.ArrayFrames.{array_framed}
@@ -94,9 +94,9 @@ frame_by false = refl
 pub frame_fixed : (p : ℕ) (i : List T.InitialItem) → frame_bytes parts (plain_variable (Y.FixedLeaf p) i) ≡ 32
 frame_fixed p i = frame_by (nat_le p 15)
 
-pub frame_many : (type : Y.LeafType) (b : Bounds) (bs : List Bounds) (i : List T.InitialItem) → IsElementType type → AreBounds (b ∷ bs) → frame_bytes parts (array_variable type (b ∷ bs) i) ≡ frame_size (record { type = type; bounds = b ∷ bs })
-frame_many type b bs i element are =
-    array_framed parts type (element_numeric type element) (b ∷ bs) i ∙ sym (many_is (element_count (b ∷ bs)) (count_some (b ∷ bs) are))
+pub frame_many : (type : Y.LeafType) (b : Bounds) (bs : List Bounds) (i : List T.InitialItem) → IsScalar type → AreBounds (b ∷ bs) → frame_bytes parts (array_variable type (b ∷ bs) i) ≡ frame_size (record { type = type; bounds = b ∷ bs })
+frame_many type b bs i held are =
+    array_framed parts type held (b ∷ bs) i ∙ sym (elements_size type held (element_count (b ∷ bs)) (count_some (b ∷ bs) are))
 
 kind_many : (type : Y.LeafType) (bs : List Bounds) (i : List T.InitialItem) → record { type = type; bounds = bs } ≡ declared_kind (array_variable type bs i)
 kind_many type bs i = ap (λ cs. record { type = type; bounds = cs }) (sym (bounds_back bs))

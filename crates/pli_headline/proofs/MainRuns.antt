@@ -1,6 +1,6 @@
 -- The run of a program that is one procedure of scalars, given that its statements do what they mean: from the start of the
 -- image through the entry of the procedure to its statements, and from their end to the end of the run.
-use Rattle.std.proofs.Common.{◌≡◌, ℕ, suc, ◌+◌, ◌^◌, ◌<◌, ◌≤◌, List, [], ◌++◌, length, Option, None, Bool, true, false, refl, sym, ap, ◌∙◌, subst, arith, Some, ◌∷◌, ◌*◌}
+use Rattle.std.proofs.Common.{◌≡◌, ℕ, suc, ◌+◌, ◌^◌, ◌<◌, ◌≤◌, List, [], ◌++◌, length, map, Option, None, Bool, true, false, refl, sym, ap, ◌∙◌, subst, arith, Some, ◌∷◌, ◌*◌}
 use Rattle.std.specs.Prelude.{pos, slice_get}
 use Rattle.std.proofs.lemmas.Bool.{eq-eqb}
 use Rattle.rv_meaning.specs.declared.instr.Instr.{Instr}
@@ -17,10 +17,12 @@ use Rattle.pli_meaning.specs.Raising.{Around}
 use Rattle.pli_meaning.specs.Making as K
 use Rattle.pli_meaning.specs.Executing as M
 use Rattle.pli_serving.specs.ServiceState.{Services, first_services}
+use Rattle.pli_serving.specs.ServiceState as S
+use Rattle.pli_serving.specs.Templates.{template_of}
 use Rattle.pli_coding.specs.Assembly.{ProcedureEntry, ReturnPlace, Mark, size_of}
 use Rattle.pli_coding.specs.SignatureTable.{table_of}
 use Rattle.pli_coding.specs.Frames.{frame_end}
-use Rattle.pli_headline.proofs.Storages.{storage}
+use Rattle.pli_headline.proofs.Storages.{storage, Stored}
 use Rattle.pli_coding.specs.Environments.{none_taken}
 use Rattle.pli_coding.specs.Allocating.{act_code}
 use Rattle.pli_coding.specs.Entries.{frame_begun, variables_code}
@@ -48,15 +50,15 @@ use Rattle.pli_headline.proofs.MainProcedure.{main_head, main_procedure, IsAlone
 use Rattle.pli_headline.proofs.Holdings.{Counted}
 use Rattle.pli_headline.proofs.TextStates.{KeepsText}
 use Rattle.pli_headline.proofs.VariablePlaces.{room_of, number_place, room_before}
-use Rattle.pli_headline.proofs.Scalars.{Declared, begin_text, Typed, kind_is, place_below, IsNumeric, scalar_limited}
-use Rattle.pli_headline.proofs.PlainNumbers.{scalars_of, are_of, length_types, kind_held}
+use Rattle.pli_headline.proofs.Scalars.{Declared, begin_text, Typed, kind_is, place_below, IsNumeric, scalar_limited, scalar_element, begin_texts}
+use Rattle.pli_headline.proofs.PlainNumbers.{scalars_of, are_of, length_types, kind_held, number_for}
 use Rattle.pli_headline.proofs.VariableServed.{Ready}
 use Rattle.pli_headline.proofs.States.{Holds}
 use Rattle.pli_headline.proofs.Marks.{Placed}
 use Rattle.pli_headline.proofs.FirstFrame.{start_resume, start_family, start_ground, no_texts, finish_linked, zeros, started}
 use Rattle.pli_headline.proofs.MainFrame.{main_frame, first_words}
 use Rattle.pli_headline.proofs.Prologue.{begun}
-use Rattle.pli_headline.proofs.MainStates.{begin_numbers, begin_values, begin_contents, main_state, scalars_hold, texts_hold, main_stored, main_services, main_nested, arrays_hold}
+use Rattle.pli_headline.proofs.MainStates.{begin_numbers, begin_values, begin_contents, main_state, first_served, served_living, scalars_served, scalars_living, scalars_hold, texts_hold, main_stored, main_services, main_nested, arrays_hold, text_arrays_hold}
 use Rattle.pli_headline.proofs.VariablesMade.{variables_piece}
 use Rattle.pli_headline.proofs.Leaving.{leaving_piece}
 use Rattle.pli_headline.proofs.MainFlow.{inside, inside_closed, comes_left}
@@ -66,6 +68,8 @@ use Rattle.pli_headline.proofs.ArrayMeant.{HoldsArray}
 use Rattle.pli_headline.proofs.ArrayScopes.{IsArrayAt}
 use Rattle.pli_typing.specs.Signatures.{Bounds}
 use Rattle.pli_headline.proofs.ArrayInitial.{numbers_of}
+use Rattle.pli_headline.proofs.TextArrayMeant.{HoldsTexts}
+use Rattle.pli_headline.proofs.TextArrayScopes.{IsTextArrayAt}
 
 -- ---- in the meaning
 
@@ -117,10 +121,18 @@ pub main_sized : (program : Y.Program) (block line : ℕ) (body : Y.Stmts) → A
 main_sized program block line body all alone few =
     main_place program block line body (main_count program block) all alone (omega arith) few
 
+-- what the services keep of its variables
+abbrev pub main_served : (program : Y.Program) (block : ℕ) (body : Y.Stmts) (small' : main_words program block body ≤ most_code) (few : main_room program block ≤ 2 ^ 20) → ℕ → Option S.Living
+main_served program block body small' few =
+    first_served (table_of program) (main_kind program block) (main_frame (main_words program block body) (main_sizes program block) (main_count program block) small' few).at (main_count program block)
+
 -- its texts and arrays have room
-pub main_fit : (program : Y.Program) (block : ℕ) (body : Y.Stmts) (all : AllPlain program.variables) (small' : main_words program block body ≤ most_code) (few : main_room program block ≤ 2 ^ 20) → VariablesFit (main_frame (main_words program block body) (main_sizes program block) (main_count program block) small' few) (main_types program block)
+pub main_fit : (program : Y.Program) (block : ℕ) (body : Y.Stmts) (all : AllPlain program.variables) (small' : main_words program block body ≤ most_code) (few : main_room program block ≤ 2 ^ 20) → VariablesFit (main_frame (main_words program block body) (main_sizes program block) (main_count program block) small' few) program (main_served program block body small' few) (main_types program block)
 main_fit program block body all small' few =
-    types_fit (main_frame (main_words program block body) (main_sizes program block) (main_count program block) small' few) (main_types program block) (λ j. refl) few
+    let f = main_frame (main_words program block body) (main_sizes program block) (main_count program block) small' few in
+    types_fit f program (main_served program block body small' few) (main_types program block)
+    (λ j kind at below. served_living (table_of program) (main_kind program block) f.at (main_count program block) j below ∙ ap (λ k. Some (record { serial = suc j; owner = 1; signature = number_for (table_of program) k; at = f.at + number_place f.sizes j })) (kind_is (main_types program block) j at))
+    (λ j. refl) few
     (λ j kind at. kind_held (variables_of_block program block) j kind (main_plain program block all) at)
 
 abbrev pub block_of : (known : ℕ → Y.Block → ℕ → Type 0) (program : Y.Program) (block line : ℕ) (body : Y.Stmts) (first : List ℕ) (all : AllPlain program.variables) (alone : IsAlone program block line body) (small' : main_words program block body ≤ most_code) (few : main_room program block ≤ 2 ^ 20) → Block (main_environment program block) (main_names program block) (main_types program block)
@@ -145,7 +157,7 @@ to_finish_closed : (code : List Instr) (k : ℕ) → Closed code (to_finish code
 to_finish_closed code k =
     before_closed k (λ (u : Option BasicValue). finish {R = Unit {0}} E.Finished) (never_closed code)
 
-statements_piece : {links : Links} {code : List Instr} {i : ℕ} {h t : ℕ → ℕ} (known : ℕ → Y.Block → ℕ → Type 0) (program : Y.Program) (block line : ℕ) (body : Y.Stmts) (first : List ℕ) (all : AllPlain program.variables) (alone : IsAlone program block line body) (small' : main_words program block body ≤ most_code) (few : main_room program block ≤ 2 ^ 20) (k : ℕ) → BodyDoes known program block line body first all alone small' links code k → 10 ≤ i → Linked links code i (stmts_code (main_environment program block) none_taken body ++ procedure_ended (main_environment program block) (main_head block line) (main_words program block body) None) → Linked links code start_resume finish_code → (s : State) → {v : Services} → (g : Family) → Serving k s v line → AllHold (lone (main_frame (main_words program block body) (main_sizes program block) (main_count program block) small' few).at known) main_serials (storage v) (0 ∷ []) s (main_names program block) (main_types program block) (begin_values (main_kind program block)) → ((b : Base) → At b i (Known (ground_of (main_frame (main_words program block body) (main_sizes program block) (main_count program block) small' few) first (begin_contents (main_kind program block))) v h t nothing b) (g b)) → Comes code i g v (inside (to_finish code k) newest_ended) ((M.list (main_around program k line) body >> M.end_reached (main_around program k line) false) k s)
+statements_piece : {links : Links} {code : List Instr} {i : ℕ} {h t : ℕ → ℕ} (known : ℕ → Y.Block → ℕ → Type 0) (program : Y.Program) (block line : ℕ) (body : Y.Stmts) (first : List ℕ) (all : AllPlain program.variables) (alone : IsAlone program block line body) (small' : main_words program block body ≤ most_code) (few : main_room program block ≤ 2 ^ 20) (k : ℕ) → BodyDoes known program block line body first all alone small' links code k → 10 ≤ i → Linked links code i (stmts_code (main_environment program block) none_taken body ++ procedure_ended (main_environment program block) (main_head block line) (main_words program block body) None) → Linked links code start_resume finish_code → (s : State) → {v : Services} → (g : Family) → Serving k s v line → AllHold (lone (main_frame (main_words program block body) (main_sizes program block) (main_count program block) small' few).at known) (main_serials (main_served program block body small' few)) (storage v) (0 ∷ []) s (main_names program block) (main_types program block) (begin_values (main_kind program block)) → ((b : Base) → At b i (Known (ground_of (main_frame (main_words program block body) (main_sizes program block) (main_count program block) small' few) first (begin_contents (main_kind program block))) v h t nothing b) (g b)) → Comes code i g v (inside (to_finish code k) newest_ended) ((M.list (main_around program k line) body >> M.end_reached (main_around program k line) false) k s)
 unfolding main_block M.end_reached give ◌>>◌
 statements_piece {links = links} {code = code} {i = i} {h = h} {t = t} known program block line body first all alone small' few k does' later l finish' s g serving holds at =
     let e = main_environment program block in
@@ -232,23 +244,41 @@ main_arrays_hold : (links : Links) (code : List Instr) (first : List ℕ) (progr
 main_arrays_hold links code first program block input all ready j type b bs at =
     let kind = main_kind program block in
     let is : Kind = record { type = type; bounds = b ∷ bs } in
+    let same = kind_is (main_types program block) j at.0 in
+    let inside = main_inside program block j is at.0 in
+    let held = kind_held (variables_of_block program block) j is (main_plain program block all) at.0 in
+    let begins = subst (λ (k : Kind). AreConstants k.type (kind j).initial) same (ready j inside).begins in
+    arrays_hold kind input program block (main_count program block) j type (b ∷ bs) inside same (scalar_element type held.0 at.1) begins
+
+main_text_arrays_hold : (links : Links) (code : List Instr) (first : List ℕ) (program : Y.Program) (block : ℕ) (input : List ℕ) → AllPlain program.variables → AllReady links code first program block → (j : ℕ) (varying : Bool) (most : ℕ) (b : Bounds) (bs : List Bounds) → IsTextArrayAt (main_types program block) j varying most b bs → HoldsTexts (main_state (main_kind program block) input (main_count program block)) (main_names program block) j (suc j) varying most (b ∷ bs) (begin_texts (main_kind program block j).kind.type (main_kind program block j).initial)
+main_text_arrays_hold links code first program block input all ready j varying most b bs at =
+    let kind = main_kind program block in
+    let type = text_leaf varying most in
+    let is : Kind = record { type = type; bounds = b ∷ bs } in
     let same = kind_is (main_types program block) j at in
     let inside = main_inside program block j is at in
     let held = kind_held (variables_of_block program block) j is (main_plain program block all) at in
     let begins = subst (λ (k : Kind). AreConstants k.type (kind j).initial) same (ready j inside).begins in
-    arrays_hold kind input program block (main_count program block) j type (b ∷ bs) inside same held.0 begins
+    subst (λ (k : Kind). HoldsTexts (main_state kind input (main_count program block)) (main_names program block) j (suc j) varying most (b ∷ bs) (begin_texts k.type (kind j).initial)) (sym same)
+    (text_arrays_hold kind input program block (main_count program block) j varying most (b ∷ bs) inside same (text_few varying most held.0) begins)
 
-main_hold : (known : ℕ → Y.Block → ℕ → Type 0) (links : Links) (code : List Instr) (first : List ℕ) (program : Y.Program) (block : ℕ) (input : List ℕ) (frame at line : ℕ) → at ≡ frame → AllPlain program.variables → AllReady links code first program block → AllHold (lone frame known) main_serials (storage (main_services (table_of program) (main_kind program block) input at line (main_count program block))) (0 ∷ []) (main_state (main_kind program block) input (main_count program block)) (main_names program block) (main_types program block) (begin_values (main_kind program block))
+main_hold : (known : ℕ → Y.Block → ℕ → Type 0) (links : Links) (code : List Instr) (first : List ℕ) (program : Y.Program) (block : ℕ) (input : List ℕ) (frame at line : ℕ) → at ≡ frame → AllPlain program.variables → AllReady links code first program block → AllHold (lone frame known) (main_serials (first_served (table_of program) (main_kind program block) frame (main_count program block))) (storage (main_services (table_of program) (main_kind program block) input at line (main_count program block))) (0 ∷ []) (main_state (main_kind program block) input (main_count program block)) (main_names program block) (main_types program block) (begin_values (main_kind program block))
 main_hold known links code first program block input frame at line same all ready =
     record {
       numbers = λ j b numeric. main_holds links code first program block input all ready j b numeric;
       texts = λ j varying most at. main_texts_hold links code first program block input all ready j varying most at;
       arrays = λ j type b bs at. main_arrays_hold links code first program block input all ready j type b bs at;
+      text_arrays = λ j varying most b bs at. main_text_arrays_hold links code first program block input all ready j varying most b bs at;
       entered = refl;
       framed = ap (λ u. u ∷ []) same;
       kinds = refl;
       units = (tt, tt);
-      stored = main_stored program block (main_types program block) (main_kind program block) at (main_count program block) (λ j kind at'. main_inside program block j kind at') (λ j below. (ready j below).numbered);
+      aside = record { all = tt };
+      stored =
+          let mk = main_kind program block in
+          let mc = main_count program block in
+          subst (λ u. Stored (main_serials (first_served (table_of program) mk u mc)) (map template_of (table_of program)) (scalars_served (table_of program) mk at mc) mc 1 (scalars_living mk mc) mc (main_names program block) (main_types program block)) same
+          (main_stored program block (main_types program block) mk at mc (λ j kind at'. main_inside program block j kind at') (λ j below. (ready j below).numbered));
     }
 
 -- behind the variables: the act of the entry, and the statements

@@ -1,12 +1,12 @@
 -- The state of the main procedure when so many of its variables are made, and the services beside it.
-use Rattle.std.proofs.Common.{◌≡◌, ℕ, zero, suc, ◌+◌, ◌*◌, ◌<◌, List, [], ◌∷◌, map, Some, None, Bool, true, false, refl, sym, ap, ◌∙◌, subst, arith, ◌≤◌, lit<}
+use Rattle.std.proofs.Common.{◌≡◌, ℕ, zero, suc, ◌+◌, ◌*◌, ◌<◌, List, [], ◌∷◌, map, Option, Some, None, Bool, true, false, refl, sym, ap, ◌∙◌, subst, arith, ◌≤◌, lit<}
 use Rattle.std.specs.Prelude.{ℤ, pos, cond, nat_le, ◌==◌, nat_lt, ◌-◌, slice_get}
 use Rattle.std.proofs.lemmas.Bool.{eqb-true}
 use Rattle.std.proofs.lemmas.Bool.Decides.{nat_tests}
 use Rattle.rv_meaning.specs.Tables.{TableSignature}
 use Rattle.pli_meaning.specs.World.{first_world}
 use Rattle.pli_meaning.specs.InputLines.{first_input}
-use Rattle.pli_typing.specs.Signatures.{rounded_up, footprint, Bounds, element_count}
+use Rattle.pli_typing.specs.Signatures.{rounded_up, footprint, Bounds, element_count, data_size}
 use Rattle.pli_language.specs.Tree as T
 use Rattle.pli_typing.specs.TypedTree as Y
 use Rattle.pli_meaning.specs.Contents.{Generation, footprint_of, fresh, seen, Shape}
@@ -20,8 +20,8 @@ use Rattle.pli_serving.specs.Making as G
 use Rattle.pli_coding.specs.SignatureTable.{table_of}
 use Rattle.pli_headline.proofs.Storages.{Stored, Alike, owner_in}
 use Rattle.pli_headline.specs.ProvedSoFar.{IsConstantOf, IsScalar, text_leaf, IsHeld, Kind, alone, IsElementType, AreConstants, main_names, Types}
-use Rattle.pli_headline.proofs.Scalars.{Declared, IsNumeric, by_type, is_numeric, by_held, value_as, bit_back, constant_number, constant_text, begin_text, begin_of, begin_fits, IsLimited, Values, by_shape, element_numeric}
-use Rattle.pli_headline.proofs.VariablePlaces.{room_of, number_place, frame_size, sizes_of, text_print, scalar_size, size_for, many_is}
+use Rattle.pli_headline.proofs.Scalars.{Declared, IsNumeric, by_type, is_numeric, by_held, value_as, bit_back, constant_number, constant_text, begin_text, begin_of, begin_fits, IsLimited, Values, by_shape, element_numeric, begin_texts}
+use Rattle.pli_headline.proofs.VariablePlaces.{room_of, number_place, frame_size, sizes_of, text_print, scalar_size, size_for, elements_size}
 use Rattle.pli_headline.proofs.Holdings.{Content}
 use Rattle.pli_headline.proofs.MainGround.{contents}
 use Rattle.pli_headline.proofs.TextsBegun.{text_seen}
@@ -34,9 +34,11 @@ use Rattle.pli_headline.proofs.Activations.{Nested}
 use Rattle.pli_headline.proofs.States.{Holds}
 use Rattle.pli_headline.proofs.ArrayPlaces.{count_some}
 use Rattle.pli_headline.proofs.ArrayMeant.{array_shape, HoldsArray}
-use Rattle.pli_headline.proofs.ArraysMade.{size_by, array_room}
 use Rattle.pli_headline.proofs.ArrayInitial.{numbers_of, numbers_fit, begun_array, array_begun, all_given}
 use Rattle.pli_meaning.specs.DeclaredShapes.{kind_of}
+use Rattle.pli_headline.proofs.ArraysMade.{data_room}
+use Rattle.pli_headline.proofs.TextArrayMeant.{HoldsTexts}
+use Rattle.pli_headline.proofs.TextArrayInitial.{texts_begun, begun_short}
 
 -- ---- in the meaning
 
@@ -84,14 +86,14 @@ alone_print : (items : List T.InitialItem) (type : Y.LeafType) → IsScalar type
 alone_print items type is =
     by_held (λ t. footprint_of (fresh_scalar (record { kind = alone t; initial = items })) ≡ scalar_size t) (λ p. print_by (nat_le p 15)) refl (λ n few. text_print (suc n)) (λ n few. text_print (2 + suc n)) type is
 
-many_print : (items : List T.InitialItem) (type : Y.LeafType) → IsNumeric type → (bs : List Bounds) → footprint_of (fresh_scalar (record { kind = record { type = type; bounds = bs }; initial = items })) ≡ array_room bs
+many_print : (items : List T.InitialItem) (type : Y.LeafType) → IsScalar type → (bs : List Bounds) → footprint_of (fresh_scalar (record { kind = record { type = type; bounds = bs }; initial = items })) ≡ 16 + rounded_up 16 (data_size (array_shape type bs).signature)
 many_print items type is bs =
-    by_type (λ t. footprint_of (fresh_scalar (record { kind = record { type = t; bounds = bs }; initial = items })) ≡ array_room bs) (λ p. ap (λ n. 16 + rounded_up 16 n) (size_by (nat_le p 15) (element_count bs))) (ap (λ n. 16 + rounded_up 16 n) (size_by false (element_count bs))) type is
+    by_held (λ t. footprint_of (fresh_scalar (record { kind = record { type = t; bounds = bs }; initial = items })) ≡ 16 + rounded_up 16 (data_size (array_shape t bs).signature)) (λ p. refl) refl (λ n few. refl) (λ n few. refl) type is
 
 pub scalar_print : (s : Declared) → IsHeld s.kind.type s.kind.bounds → footprint_of (fresh_scalar s) ≡ frame_size s.kind
 scalar_print s is =
     by_shape (λ t bs. footprint_of (fresh_scalar (record { kind = record { type = t; bounds = bs }; initial = s.initial })) ≡ size_for t bs) (alone_print s.initial)
-    (λ t b bs element are few. many_print s.initial t (element_numeric t element) (b ∷ bs) ∙ sym (many_is (element_count (b ∷ bs)) (count_some (b ∷ bs) are)))
+    (λ t b bs held are few. many_print s.initial t held (b ∷ bs) ∙ data_room t held (b ∷ bs) ∙ sym (elements_size t held (element_count (b ∷ bs)) (count_some (b ∷ bs) are)))
     s.kind.type s.kind.bounds is
 
 pub scalars_in_use : (kind : ℕ → Declared) (count : ℕ) → ((i : ℕ) → i < count → IsHeld (kind i).kind.type (kind i).kind.bounds) → automatic_in_use (scalars_living kind count) ≡ room_of (sizes_of kind) count
@@ -153,7 +155,12 @@ begin_numbers kind j = begin_of (kind j).initial
 -- with the texts
 abbrev pub begin_values : (kind : ℕ → Declared) → Values
 begin_values kind =
-    record { numbers = begin_numbers kind; texts = λ j. begin_text (kind j).kind.type (kind j).initial; arrays = λ j. numbers_of (kind j).initial }
+    record {
+      numbers = begin_numbers kind;
+      texts = λ j. begin_text (kind j).kind.type (kind j).initial;
+      arrays = λ j. numbers_of (kind j).initial;
+      text_arrays = λ j. begin_texts (kind j).kind.type (kind j).initial;
+    }
 
 -- and what then stands in memory
 abbrev pub begin_contents : (kind : ℕ → Declared) → ℕ → Content
@@ -182,6 +189,17 @@ arrays_hold kind input program block count j type bs below alike is are =
       lives = scalars_live kind count j below ∙ ap (λ k. Some (fresh_scalar (record { kind = k; initial = items }))) alike;
       value = λ js inside. array_begun type bs items js is (all_given type items is are).0;
       fits = λ p inside. numbers_fit type items p is (all_given type items is are).0;
+    }
+
+pub text_arrays_hold : (kind : ℕ → Declared) (input : List ℕ) (program : Y.Program) (block count j : ℕ) (varying : Bool) (most : ℕ) (bs : List Bounds) → j < count → (kind j).kind ≡ record { type = text_leaf varying most; bounds = bs } → most ≤ 1024 → AreConstants (text_leaf varying most) (kind j).initial → HoldsTexts (main_state kind input count) (main_names program block) j (suc j) varying most bs (begin_texts (text_leaf varying most) (kind j).initial)
+text_arrays_hold kind input program block count j varying most bs below alike few are =
+    let items = (kind j).initial in
+    record {
+      values = (begun_array (text_leaf varying most) bs items).values;
+      stands = scalars_stand kind count j below ∙ ap (λ k. Some (kind_binding k j (suc j))) alike;
+      lives = scalars_live kind count j below ∙ ap (λ k. Some (fresh_scalar (record { kind = k; initial = items }))) alike;
+      value = λ js inside. texts_begun varying most bs items js are;
+      short = λ p inside. begun_short varying most items p few;
     }
 
 text_begins : (varying : Bool) (most : ℕ) (items : List T.InitialItem) → AreConstants (text_leaf varying most) items → seen (text_kind_of varying most) ((fresh_scalar (record { kind = alone (text_leaf varying most); initial = items })).values 0 []) ≡ BasicText (begin_text (text_leaf varying most) items)
@@ -224,6 +242,32 @@ abbrev pub scalars_served : List TableSignature → (kind : ℕ → Declared) �
 scalars_served table kind frame zero = []
 scalars_served table kind frame (suc j) = served_scalar table kind frame j ∷ scalars_served table kind frame j
 
+-- by their serial numbers
+abbrev pub first_served : List TableSignature → (kind : ℕ → Declared) → (frame count : ℕ) → ℕ → Option S.Living
+first_served table kind frame count n = S.living_of (scalars_served table kind frame count) n
+
+served_by : (table : List TableSignature) (kind : ℕ → Declared) (frame : ℕ) (q : Bool) (n j : ℕ) → (suc n == suc j) ≡ q → j < suc n → (j < n → first_served table kind frame n (suc j) ≡ Some (served_scalar table kind frame j)) → cond q (Some (served_scalar table kind frame n)) (first_served table kind frame n (suc j)) ≡ Some (served_scalar table kind frame j)
+served_by table kind frame true n j e below ih =
+    let same : n ≡ j = let f = eqb-true (suc n) (suc j) e in omega (arith, f) in
+    ap (λ u. Some (served_scalar table kind frame u)) same
+served_by table kind frame false n j e below ih = ih (grind (arith, nat_tests))
+
+pub served_living : (table : List TableSignature) (kind : ℕ → Declared) (frame count j : ℕ) → j < count → first_served table kind frame count (suc j) ≡ Some (served_scalar table kind frame j)
+served_living table kind frame zero j below = absurd (omega (arith, below))
+served_living table kind frame (suc n) j below = served_by table kind frame (suc n == suc j) n j refl below (served_living table kind frame n j)
+
+oldest_by : (table : List TableSignature) (kind : ℕ → Declared) (frame : ℕ) (q : Bool) (c n : ℕ) (l : S.Living) → (suc c == n) ≡ q → cond q (Some (served_scalar table kind frame c)) (first_served table kind frame c n) ≡ Some l → (first_served table kind frame c n ≡ Some l → (n ≤ c) × (l.owner ≡ 1)) → (n ≤ suc c) × (l.owner ≡ 1)
+oldest_by table kind frame true c n l e h ih =
+    let same : suc c ≡ n = eqb-true (suc c) n e in
+    let mine : served_scalar table kind frame c ≡ l = cc h in
+    (omega (arith, same), ap (λ (u : S.Living). u.owner) (sym mine))
+oldest_by table kind frame false c n l e h ih = let o = ih h in let under = o.0 in (omega (arith, under), o.1)
+
+-- all of them are the main procedure's
+pub served_first : (table : List TableSignature) (kind : ℕ → Declared) (frame count n : ℕ) (l : S.Living) → first_served table kind frame count n ≡ Some l → (n ≤ count) × (l.owner ≡ 1)
+served_first table kind frame zero n l h = absurd (cc h)
+served_first table kind frame (suc c) n l h = oldest_by table kind frame (suc c == n) c n l refl h (served_first table kind frame c n l)
+
 abbrev pub main_activation : (frame : ℕ) → S.Activation
 main_activation frame =
     record { kind = S.ProcedureBlock; frame = frame; texts = 0; edits = 0; line = 0; units = [] }
@@ -249,14 +293,14 @@ alone_shape_print : (type : Y.LeafType) → IsScalar type → G.footprint_of_sha
 alone_shape_print type is =
     by_held (λ t. G.footprint_of_shape (Some (kind_shape (alone t))) ≡ scalar_size t) (λ p. print_by (nat_le p 15)) refl (λ n few. text_print (suc n)) (λ n few. text_print (2 + suc n)) type is
 
-many_shape_print : (type : Y.LeafType) → IsNumeric type → (bs : List Bounds) → G.footprint_of_shape (Some (array_shape type bs)) ≡ array_room bs
+many_shape_print : (type : Y.LeafType) → IsScalar type → (bs : List Bounds) → G.footprint_of_shape (Some (array_shape type bs)) ≡ 16 + rounded_up 16 (data_size (array_shape type bs).signature)
 many_shape_print type is bs =
-    by_type (λ t. G.footprint_of_shape (Some (array_shape t bs)) ≡ array_room bs) (λ p. ap (λ n. 16 + rounded_up 16 n) (size_by (nat_le p 15) (element_count bs))) (ap (λ n. 16 + rounded_up 16 n) (size_by false (element_count bs))) type is
+    by_held (λ t. G.footprint_of_shape (Some (array_shape t bs)) ≡ 16 + rounded_up 16 (data_size (array_shape t bs).signature)) (λ p. refl) refl (λ n few. refl) (λ n few. refl) type is
 
 pub shape_print : (k : Kind) → IsHeld k.type k.bounds → G.footprint_of_shape (Some (kind_shape k)) ≡ frame_size k
 shape_print k is =
     by_shape (λ t bs. G.footprint_of_shape (Some (array_shape t bs)) ≡ size_for t bs) alone_shape_print
-    (λ t b bs element are few. many_shape_print t (element_numeric t element) (b ∷ bs) ∙ sym (many_is (element_count (b ∷ bs)) (count_some (b ∷ bs) are)))
+    (λ t b bs held are few. many_shape_print t held (b ∷ bs) ∙ data_room t held (b ∷ bs) ∙ sym (elements_size t held (element_count (b ∷ bs)) (count_some (b ∷ bs) are)))
     k.type k.bounds is
 
 pub served_in_use : (table : List TableSignature) (kind : ℕ → Declared) (frame count : ℕ) → ((i : ℕ) → i < count → Numbered table (kind i).kind) → G.automatic_in_use (map template_of table) (scalars_served table kind frame count) ≡ room_of (sizes_of kind) count
@@ -283,7 +327,7 @@ serials_apart : (i j : ℕ) → (i == j) ≡ false → (suc j == suc i) ≡ fals
 serials_apart i j e = grind (arith, nat_tests)
 
 -- what stands beside them
-pub main_stored : (program : Y.Program) (block : ℕ) (types : Types) (kind : ℕ → Declared) (frame count : ℕ) → ((j : ℕ) (k : Kind) → slice_get types j ≡ Some k → j < count) → ((i : ℕ) → i < count → Numbered (table_of program) (kind i).kind) → Stored (record { of = λ j. suc j; owner = λ j. 1 }) (map template_of (table_of program)) (scalars_served (table_of program) kind frame count) count 1 (scalars_living kind count) count (main_names program block) types
+pub main_stored : (program : Y.Program) (block : ℕ) (types : Types) (kind : ℕ → Declared) (frame count : ℕ) → ((j : ℕ) (k : Kind) → slice_get types j ≡ Some k → j < count) → ((i : ℕ) → i < count → Numbered (table_of program) (kind i).kind) → Stored (record { of = λ j. suc j; owner = λ j. 1; first = first_served (table_of program) kind frame count }) (map template_of (table_of program)) (scalars_served (table_of program) kind frame count) count 1 (scalars_living kind count) count (main_names program block) types
 main_stored program block types kind frame count inside are =
     record {
       owned = λ j at. scalars_owned kind count j (inside j _ at);
@@ -292,6 +336,7 @@ main_stored program block types kind frame count inside are =
       alike = main_alike (table_of program) kind frame count are;
       counted = refl;
       table = refl;
+      first = λ n l is. (is, served_first (table_of program) kind frame count n l is);
     }
 
 pub main_nested : (table : List TableSignature) (kind : ℕ → Declared) (input : List ℕ) (frame line count : ℕ) → Nested (main_state kind input count).activations (main_services table kind input frame line count).activations

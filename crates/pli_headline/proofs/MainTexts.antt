@@ -14,14 +14,16 @@ use Rattle.pli_headline.proofs.WrittenBytes.{byte-with_below, load-with_other}
 use Rattle.pli_headline.proofs.TextPlaces.{text_kind_of, text_bytes}
 use Rattle.pli_headline.proofs.TextsKept.{text_kept_as, kept_length, kept_there}
 use Rattle.pli_headline.proofs.TextsStay.{text_beside}
-use Rattle.pli_headline.proofs.Holdings.{Content, Counted, Written, Many, There, size_in, content_text, content_for}
+use Rattle.pli_headline.proofs.Holdings.{Content, Counted, Written, Many, There, size_in, content_text, content_for, ManyTexts}
 use Rattle.pli_headline.proofs.ElementsStay.{elements_beside}
+use Rattle.pli_headline.proofs.NamesStand.{name_untouched}
 use Rattle.pli_headline.proofs.MainGround.{Frame, Stands, contents}
 use Rattle.pli_headline.proofs.Scalars.{Values}
 use Rattle.pli_headline.proofs.States.{with_text_at}
+use Rattle.pli_headline.proofs.TextArraysStay.{texts_beside}
 
 -- bytes that are written elsewhere
-there_beside : (bytes m : List ℕ) (p at : ℕ) (c : Content) → p + length bytes ≤ length m → (p + length bytes ≤ at) ⊎ (at + size_in c ≤ p) → There m at c → There (with_bytes bytes p m) at c
+pub there_beside : (bytes m : List ℕ) (p at : ℕ) (c : Content) → p + length bytes ≤ length m → (p + length bytes ≤ at) ⊎ (at + size_in c ≤ p) → There m at c → There (with_bytes bytes p m) at c
 there_beside bytes m p at (Counted z) room (inl h) c =
     record {
       whole = load-with_other 4 bytes m p at room (inr h) ∙ c.whole;
@@ -38,6 +40,10 @@ there_beside bytes m p at (Written varying most text) room apart c =
     text_beside varying most at m text bytes p room apart c
 there_beside bytes m p at (Many count z) room (inl h) c = elements_beside bytes m p at count z room (inr h) c
 there_beside bytes m p at (Many count z) room (inr h) c = elements_beside bytes m p at count z room (inl h) c
+there_beside bytes m p at (ManyTexts varying most count texts) room (inl h) c =
+    texts_beside bytes m p at count varying most texts room (inr h) c
+there_beside bytes m p at (ManyTexts varying most count texts) room (inr h) c =
+    texts_beside bytes m p at count varying most texts room (inl h) c
 
 apart_by : (s : Sizes) (size n at i j : ℕ) → 16 + size ≤ s.of i → 16 + n ≤ s.of j → (i == j) ≡ false → (i < j) ⊎ (j ≤ i) → (at + number_place s j + n ≤ at + number_place s i) ⊎ (at + number_place s i + size ≤ at + number_place s j)
 apart_by s size n at i j small' few e (inl less) = let r = room_next s i j less in inr (omega (arith, r, small'))
@@ -83,6 +89,7 @@ main_written f first held j varying most old text below is few t b m len o =
       variables = λ i h. text_put f.sizes (i == j) held m f.at i j varying most text refl few (o.fits i h) mine held_in (o.variables i h);
       fits = λ i h. fits_put f.sizes (i == j) held i j varying most text refl (o.fits i h) mine;
       temporaries = λ i h. load-with_other 4 bytes m p (f.at - 4 * suc i) room (inl (omega (arith, above, h))) ∙ o.temporaries i h;
+      names = λ i h. name_untouched bytes m f.sizes f.at i j 0 p (omega arith) room (omega (arith, mine, long)) (o.names i h);
     }
 
 -- ---- by the types of the variables
@@ -97,11 +104,12 @@ stands_alike f first held others t b m alike o =
       variables = λ j h. subst (There m (f.at + number_place f.sizes j)) (alike j) (o.variables j h);
       fits = λ j h. subst (λ c. 16 + size_in c ≤ f.sizes.of j) (alike j) (o.fits j h);
       temporaries = o.temporaries;
+      names = o.names;
     }
 
-content_put : (q : Bool) (kind : ℕ → Kind) (n : Values) (i j : ℕ) (varying : Bool) (most : ℕ) (text : List ℕ) → (i == j) ≡ q → kind j ≡ alone (text_leaf varying most) → cond q (Written varying most text) (contents kind n i) ≡ content_for (kind i) (n.numbers i) (cond q text (n.texts i)) (n.arrays i)
+content_put : (q : Bool) (kind : ℕ → Kind) (n : Values) (i j : ℕ) (varying : Bool) (most : ℕ) (text : List ℕ) → (i == j) ≡ q → kind j ≡ alone (text_leaf varying most) → cond q (Written varying most text) (contents kind n i) ≡ content_for (kind i) (n.numbers i) (cond q text (n.texts i)) (n.arrays i) (n.text_arrays i)
 content_put true kind n i j varying most text e is =
-    sym (ap (λ u. content_for u (n.numbers i) text (n.arrays i)) (ap kind (eqb-true i j e) ∙ is) ∙ content_text varying most (n.numbers i) text)
+    sym (ap (λ u. content_for u (n.numbers i) text (n.arrays i) (n.text_arrays i)) (ap kind (eqb-true i j e) ∙ is) ∙ content_text varying most (n.numbers i) text)
 content_put false kind n i j varying most text e is = refl
 
 -- what the variables hold when one of them is assigned a text
@@ -109,7 +117,7 @@ pub text_writes : (f : Frame) (first : List ℕ) (kind : ℕ → Kind) (n : Valu
 text_writes f first kind n j varying most text below is few t b m len o =
     let kept = text_kept_as varying most text in
     let held = contents kind n in
-    let holds : held j ≡ Written varying most (n.texts j) = ap (λ u. content_for u (n.numbers j) (n.texts j) (n.arrays j)) is ∙ content_text varying most (n.numbers j) (n.texts j) in
+    let holds : held j ≡ Written varying most (n.texts j) = ap (λ u. content_for u (n.numbers j) (n.texts j) (n.arrays j) (n.text_arrays j)) is ∙ content_text varying most (n.numbers j) (n.texts j) in
     stands_alike f first (with_content_at held j varying most text) (contents kind (with_text_at n j kept)) t b (with_bytes (kept_bytes (text_kind_of varying most) (BasicText text)) (f.at + number_place f.sizes j) m)
     (λ i. content_put (i == j) kind n i j varying most kept refl is)
     (main_written f first held j varying most (n.texts j) text below holds few t b m len o)

@@ -13,7 +13,7 @@ more_names e block types index = names_with block (length types) (spot_of e inde
 
 abbrev pub more_serials : Serials → (count serial owner : ℕ) → Serials
 more_serials o count serial owner =
-    record { of = λ j. cond (nat_lt j count) (o.of j) serial; owner = λ j. cond (nat_lt j count) (o.owner j) owner }
+    record { of = λ j. cond (nat_lt j count) (o.of j) serial; owner = λ j. cond (nat_lt j count) (o.owner j) owner; first = o.first }
 
 pub no_text : (varying : Bool) (most : ℕ) → IsElementType (text_leaf varying most) → ⊥
 no_text true most is = is

@@ -1,5 +1,5 @@
 -- One more scalar is made by service 7, or passes the limit on automatic data.
-use Rattle.std.proofs.Common.{◌≡◌, ℕ, ◌+◌, ◌*◌, ◌^◌, ◌<◌, ◌≤◌, inr, List, [], ◌∷◌, length, map, Some, None, true, false, refl, sym, ap, ◌∙◌, subst, arith, lit<, add-one}
+use Rattle.std.proofs.Common.{◌≡◌, ℕ, ◌+◌, ◌*◌, ◌^◌, ◌<◌, ◌≤◌, inr, List, [], ◌∷◌, length, map, Option, Some, None, true, false, refl, sym, ap, ◌∙◌, subst, arith, lit<, add-one}
 use Rattle.std.specs.Prelude.{pos, cond, min, ◌==◌, nat_lt, nat_le}
 use Rattle.std.proofs.lemmas.Bool.{lt-ltb, le-ltb, le-leb}
 use Rattle.std.proofs.lemmas.Bool.Decides.{nat_tests}
@@ -9,6 +9,7 @@ use Rattle.rv_meaning.specs.Words.{word}
 use Rattle.rv_meaning.specs.Memory.{load}
 use Rattle.rv_meaning.specs.Machine.{memory_size}
 use Rattle.rv_meaning.specs.Tables.{TableSignature}
+use Rattle.pli_language.specs.Tree as T
 use Rattle.pli_meaning.specs.declared.outcome.End.TheVariants as E
 use Rattle.pli_meaning.specs.declared.outcome.Limit.TheVariants as L
 use Rattle.pli_meaning.specs.World.{ending}
@@ -26,7 +27,7 @@ use Rattle.pli_serving.specs.Arguments.{shape_of_number}
 use Rattle.pli_serving.specs.InitialValues.{initial_values}
 use Rattle.pli_serving.specs.Making as G
 use Rattle.pli_coding.specs.Registers.{stack_register, frame_register}
-use Rattle.pli_coding.specs.Assembly.{Plain, size_of}
+use Rattle.pli_coding.specs.Assembly.{Datum, Plain, size_of}
 use Rattle.pli_coding.specs.Instructions.{plus}
 use Rattle.pli_coding.specs.Environments.{Environment}
 use Rattle.pli_coding.specs.Frames.{last_place, automatic_place}
@@ -42,18 +43,20 @@ use Rattle.pli_headline.proofs.Jumps.{first_of}
 use Rattle.pli_headline.proofs.Temporaries.{nothing}
 use Rattle.pli_headline.proofs.Calls.{comes_finish, called, Calling, call_done, end_pauses, call_ends, acts, Serving}
 use Rattle.pli_headline.proofs.Reach.{Family, Reach, Aims, Comes, Closed, cost, onward, reach_then, reach_map, reached, reached_holds}
-use Rattle.pli_headline.proofs.Scalars.{Values, store_kind, fits_wide, zero_fits}
+use Rattle.pli_headline.proofs.Scalars.{Values, store_kind, fits_wide, begin_of, begin_fits}
 use Rattle.pli_headline.proofs.Cells.{Cell, kept_by, kind_bytes, kind_length, cell_written}
 use Rattle.pli_headline.proofs.WrittenBytes.{length-with_bytes, load-with_other}
 use Rattle.pli_headline.proofs.VariablePlaces.{data_size, data_fits, frame_size}
 use Rattle.pli_headline.proofs.PlainNumbers.{number_for, Numbered, numbered_shape}
-use Rattle.pli_headline.proofs.MainStates.{scalar_print}
+use Rattle.pli_headline.proofs.MainStates.{scalar_print, kind_shape}
+use Rattle.pli_headline.proofs.InitialRead.{start_datum, start_of}
+use Rattle.pli_headline.proofs.StandingBytes.{Begins}
 use Rattle.pli_headline.proofs.VariableServed.{past_limit, data_of, scalar_made, scalar_data}
 use Rattle.pli_headline.proofs.NamesMade.{made_code, asked_regs, asked_size, made_size, call_linked, rest_linked, ground_asked}
 use Rattle.pli_headline.proofs.JumpsOut.{stack_piece}
 use Rattle.pli_headline.proofs.Statements.{Block, lower_ground}
 use Rattle.pli_headline.proofs.OneMore.{More, more_ground}
-use Rattle.pli_headline.proofs.MoreStates.{fresh_kind, limited_element, none_given}
+use Rattle.pli_headline.proofs.MoreStates.{fresh_kind, limited_element}
 
 -- ---- the service
 
@@ -61,92 +64,99 @@ abbrev pub more_services : Services → (signature at : ℕ) → Services
 more_services v signature at =
     G.with_living (record { serial = v.serials + 1; owner = length v.activations; signature = signature; at = at }) v
 
-make_limited : (code : List Instr) (v : Services) (m : List ℕ) (table : List TableSignature) (k : Kind) (name place : ℕ) → v.signatures ≡ map template_of table → Numbered table k → 0 < length v.activations → U.make_served (call_at code v m) name (number_for table k) 0 place 0 ≡ U.limited (call_at code v m) name (number_for table k) place (length v.activations) (fresh_kind k)
-make_limited code v m table k name place signs numbered some =
+-- it reads there what a variable begins with
+abbrev pub ReadsAt : (code : List Instr) → Services → (m : List ℕ) → Kind → List T.InitialItem → (start : ℕ) → Type 0
+ReadsAt code v m k items start =
+    initial_values (call_at code v m) (kind_shape k).signature.leaves start ≡ Some (items ∷ [])
+
+make_limited : (code : List Instr) (v : Services) (m : List ℕ) (table : List TableSignature) (k : Kind) (items : List T.InitialItem) (name place start : ℕ) → v.signatures ≡ map template_of table → Numbered table k → 0 < length v.activations → ReadsAt code v m k items start → U.make_served (call_at code v m) name (number_for table k) start place 0 ≡ U.limited (call_at code v m) name (number_for table k) place (length v.activations) (fresh_kind k items)
+make_limited code v m table k items name place start signs numbered some read =
     let c = call_at code v m in
     let n = number_for table k in
     let high = length v.activations in
-    let last : ℕ → Shape → Answer = λ owner s. or_bad (initial_values c s.signature.leaves 0) (λ values. U.limited c name n place owner (fresh s (pos 0) values)) in
+    let last : ℕ → Shape → Answer = λ owner s. or_bad (initial_values c s.signature.leaves start) (λ values. U.limited c name n place owner (fresh s (pos 0) values)) in
     ap (λ q. or_bad (cond q (Some high) None) (λ owner. or_bad (shape_of_number c n) (last owner))) (lt-ltb 0 high some)
     ∙ ap (λ ts. or_bad (shape_at ts n) (last high)) signs
     ∙ ap (λ o. or_bad o (last high)) (numbered_shape table k numbered)
+    ∙ ap (λ o. or_bad o (λ values. U.limited c name n place high (fresh (kind_shape k) (pos 0) values))) read
 
 some_not : (n : ℕ) → 0 < n → (n == 0) ≡ false
 some_not n h = grind (arith, nat_tests)
 
-make_ends : (code : List Instr) (v : Services) (m : List ℕ) (table : List TableSignature) (k : Kind) (name place c : ℕ) → v.signatures ≡ map template_of table → Numbered table k → 0 < length v.activations → 2 ^ 20 < G.automatic_in_use v.signatures v.living + frame_size k → v.world.acts ≤ c → c + 1 < 2 ^ 64 → U.make_served (call_at code v m) name (number_for table k) 0 place 0 ≡ Ends (past_limit v)
-make_ends code v m table k name place c signs numbered some over allowed fits =
+make_ends : (code : List Instr) (v : Services) (m : List ℕ) (table : List TableSignature) (k : Kind) (items : List T.InitialItem) (name place start c : ℕ) → v.signatures ≡ map template_of table → Numbered table k → 0 < length v.activations → 2 ^ 20 < G.automatic_in_use v.signatures v.living + frame_size k → v.world.acts ≤ c → c + 1 < 2 ^ 64 → ReadsAt code v m k items start → U.make_served (call_at code v m) name (number_for table k) start place 0 ≡ Ends (past_limit v)
+make_ends code v m table k items name place start c signs numbered some over allowed fits read =
     let call = call_at code v m in
     let n = number_for table k in
     let high = length v.activations in
-    let print = scalar_print (record { kind = k; initial = [] }) numbered.held in
-    let more = U.variable_made call name n place high (v.serials + 1) (fresh_kind k) in
+    let print = scalar_print (record { kind = k; initial = items }) numbered.held in
+    let more = U.variable_made call name n place high (v.serials + 1) (fresh_kind k items) in
     let ends = N.acting v (Ends (past_limit v)) in
-    make_limited code v m table k name place signs numbered some
-    ∙ ap (λ q. cond (cond q false (nat_lt most_automatic (G.automatic_in_use v.signatures v.living + footprint_of (fresh_kind k)))) ends more) (some_not high some)
-    ∙ ap (λ q. cond q ends more) (lt-ltb most_automatic (G.automatic_in_use v.signatures v.living + footprint_of (fresh_kind k)) (omega (arith, over, print)))
+    make_limited code v m table k items name place start signs numbered some read
+    ∙ ap (λ q. cond (cond q false (nat_lt most_automatic (G.automatic_in_use v.signatures v.living + footprint_of (fresh_kind k items)))) ends more) (some_not high some)
+    ∙ ap (λ q. cond q ends more) (lt-ltb most_automatic (G.automatic_in_use v.signatures v.living + footprint_of (fresh_kind k items)) (omega (arith, over, print)))
     ∙ acts v c (Ends (past_limit v)) allowed fits
 
-abbrev pub blank_bytes : Kind → List ℕ
-blank_bytes k = kind_bytes (store_kind k.type) (word (pos 0))
+abbrev pub scalar_begun : Kind → List T.InitialItem → List ℕ
+scalar_begun k items = kind_bytes (store_kind k.type) (word (begin_of items))
 
-blank_data : (k : Kind) → IsElementType k.type → k ≡ alone k.type → data_of (record { kind = k; initial = [] }) ≡ blank_bytes k
-blank_data k element is =
-    ap (λ q. data_of (record { kind = q; initial = [] })) is ∙ scalar_data k.type (pos 0) _ (limited_element k.type element)
+begun_data : (k : Kind) (items : List T.InitialItem) → IsElementType k.type → k ≡ alone k.type → data_of (record { kind = k; initial = items }) ≡ scalar_begun k items
+begun_data k items element is =
+    ap (λ q. data_of (record { kind = q; initial = items })) is ∙ scalar_data k.type (begin_of items) _ (limited_element k.type element)
 
 -- the memory with the scalar and its name
-abbrev pub more_made : List ℕ → (name place serial : ℕ) → Kind → List ℕ
-more_made m name place serial k =
-    with_bytes (name_bytes (VariableName serial)) name (with_bytes (blank_bytes k) place m)
+abbrev pub more_made : List ℕ → (name place serial : ℕ) → Kind → List T.InitialItem → List ℕ
+more_made m name place serial k items =
+    with_bytes (name_bytes (VariableName serial)) name (with_bytes (scalar_begun k items) place m)
 
-make_made : (code : List Instr) (v : Services) (m : List ℕ) (table : List TableSignature) (k : Kind) (name place : ℕ) → IsElementType k.type → k ≡ alone k.type → v.signatures ≡ map template_of table → Numbered table k → 0 < length v.activations → G.automatic_in_use v.signatures v.living + frame_size k ≤ 2 ^ 20 → frame_size k ≡ 32 → 4 * length code ≤ name → name + 16 ≤ place → place + 16 ≤ memory_size → U.make_served (call_at code v m) name (number_for table k) 0 place 0 ≡ Done (more_services v (number_for table k) place) (more_made m name place (v.serials + 1) k) name (number_for table k)
-make_made code v m table k name place element is signs numbered some few size low behind inside =
+make_made : (code : List Instr) (v : Services) (m : List ℕ) (table : List TableSignature) (k : Kind) (items : List T.InitialItem) (name place start : ℕ) → IsElementType k.type → AreConstants k.type items → k ≡ alone k.type → v.signatures ≡ map template_of table → Numbered table k → 0 < length v.activations → G.automatic_in_use v.signatures v.living + frame_size k ≤ 2 ^ 20 → frame_size k ≡ 32 → 4 * length code ≤ name → name + 16 ≤ place → place + 16 ≤ memory_size → ReadsAt code v m k items start → U.make_served (call_at code v m) name (number_for table k) start place 0 ≡ Done (more_services v (number_for table k) place) (more_made m name place (v.serials + 1) k items) name (number_for table k)
+make_made code v m table k items name place start element begins is signs numbered some few size low behind inside read =
     let call = call_at code v m in
     let n = number_for table k in
     let high = length v.activations in
-    let print = scalar_print (record { kind = k; initial = [] }) numbered.held in
+    let print = scalar_print (record { kind = k; initial = items }) numbered.held in
     let all = data_fits k numbered.held in
-    let more = U.variable_made call name n place high (v.serials + 1) (fresh_kind k) in
+    let more = U.variable_made call name n place high (v.serials + 1) (fresh_kind k items) in
     let ends = N.acting v (Ends (past_limit v)) in
     let t2 : nat_le (4 * length code) place ≡ true = le-leb _ _ (omega (arith, low, behind)) in
     let t3 : nat_le (place + data_size k) memory_size ≡ true = le-leb _ _ (omega (arith, inside, all, size)) in
     let t4 : nat_le (4 * length code) name ≡ true = le-leb _ _ (omega (arith, low)) in
     let t5 : nat_le (name + 16) memory_size ≡ true = le-leb _ _ (omega (arith, behind, inside)) in
-    make_limited code v m table k name place signs numbered some
-    ∙ ap (λ q. cond (cond q false (nat_lt most_automatic (G.automatic_in_use v.signatures v.living + footprint_of (fresh_kind k)))) ends more) (some_not high some)
-    ∙ ap (λ q. cond q ends more) (le-ltb most_automatic (G.automatic_in_use v.signatures v.living + footprint_of (fresh_kind k)) (omega (arith, few, print)))
-    ∙ scalar_made call name n place high (v.serials + 1) (record { kind = k; initial = [] }) numbered.held (subst (λ (q : Kind). AreConstants q.type []) (sym is) (none_given k.type element))
+    make_limited code v m table k items name place start signs numbered some read
+    ∙ ap (λ q. cond (cond q false (nat_lt most_automatic (G.automatic_in_use v.signatures v.living + footprint_of (fresh_kind k items)))) ends more) (some_not high some)
+    ∙ ap (λ q. cond q ends more) (le-ltb most_automatic (G.automatic_in_use v.signatures v.living + footprint_of (fresh_kind k items)) (omega (arith, few, print)))
+    ∙ scalar_made call name n place high (v.serials + 1) (record { kind = k; initial = items }) numbered.held begins
     ∙ rw (t2, t3, t4, t5) refl
-    ∙ ap (λ bytes. Done (more_services v n place) (with_bytes (name_bytes (VariableName (v.serials + 1))) name (with_bytes bytes place m)) name n) (blank_data k element is)
+    ∙ ap (λ bytes. Done (more_services v n place) (with_bytes (name_bytes (VariableName (v.serials + 1))) name (with_bytes bytes place m)) name n) (begun_data k items element is)
 
 -- ---- what stands then
 
-more_length : (m : List ℕ) (name place serial : ℕ) (k : Kind) → name + 16 ≤ place → place + 4 ≤ length m → length (more_made m name place serial k) ≡ length m
-more_length m name place serial k behind inside =
-    let four = kind_length (store_kind k.type) (word (pos 0)) in
-    let one = length-with_bytes (blank_bytes k) m place (omega (arith, four, inside)) in
-    length-with_bytes (name_bytes (VariableName serial)) (with_bytes (blank_bytes k) place m) name (omega (arith, one, behind, inside)) ∙ one
+more_length : (m : List ℕ) (name place serial : ℕ) (k : Kind) (items : List T.InitialItem) → name + 16 ≤ place → place + 4 ≤ length m → length (more_made m name place serial k items) ≡ length m
+more_length m name place serial k items behind inside =
+    let four = kind_length (store_kind k.type) (word (begin_of items)) in
+    let one = length-with_bytes (scalar_begun k items) m place (omega (arith, four, inside)) in
+    length-with_bytes (name_bytes (VariableName serial)) (with_bytes (scalar_begun k items) place m) name (omega (arith, one, behind, inside)) ∙ one
 
-more_stands : {e : Environment} {block : Names} {types : Types} (ib : Block e block types) (k : Kind) (n : Values) → IsElementType k.type → n.numbers (length types) ≡ pos 0 → (t : ℕ → ℕ) (b : Base) (m : List ℕ) (name place serial : ℕ) → name ≡ ib.stack.free → place ≡ ib.stack.free + 16 → place + 4 ≤ length m → (ib.ground n).memory t b m → (more_ground ib k n).memory t b (more_made m name place serial k)
-more_stands {types = types} ib k n element zero' t b m name place serial here there inside held =
+more_stands : {e : Environment} {block : Names} {types : Types} (ib : Block e block types) (k : Kind) (items : List T.InitialItem) (n : Values) → IsElementType k.type → AreConstants k.type items → n.numbers (length types) ≡ begin_of items → (t : ℕ → ℕ) (b : Base) (m : List ℕ) (name place serial : ℕ) → name ≡ ib.stack.free → place ≡ ib.stack.free + 16 → place + 4 ≤ length m → (ib.ground n).memory t b m → (more_ground ib k n).memory t b (more_made m name place serial k items)
+more_stands {types = types} ib k items n element begins begun t b m name place serial here there inside held =
     let kind = store_kind k.type in
-    let w = word (pos 0) in
-    let bytes = blank_bytes k in
+    let z = begin_of items in
+    let w = word z in
+    let bytes = scalar_begun k items in
     let m1 = with_bytes bytes place m in
     let named = name_bytes (VariableName serial) in
     let four = kind_length kind w in
     let one = length-with_bytes bytes m place (omega (arith, four, inside)) in
     let room1 : place + length bytes ≤ length m = omega (arith, four, inside) in
     let room2 : name + length named ≤ length m1 = omega (arith, one, here, there, inside) in
-    let small' = word_small (pos 0) (fits_wide k.type (pos 0) (zero_fits k.type (limited_element k.type element))) in
+    let small' = word_small z (fits_wide k.type z (begin_fits k.type items (limited_element k.type element) begins)) in
     let c = cell_written kind m place w small' inside in
-    let made : Cell (more_made m name place serial k) place (kept_by kind w) = record {
+    let made : Cell (more_made m name place serial k items) place (kept_by kind w) = record {
       whole = load-with_other 4 named m1 name place room2 (inr (omega (arith, here, there))) ∙ c.whole;
       half = load-with_other 2 named m1 name place room2 (inr (omega (arith, here, there))) ∙ c.half;
       byte = load-with_other 1 named m1 name place room2 (inr (omega (arith, here, there))) ∙ c.byte;
     } in (
       ib.stack.keeps_bytes n t b m1 named name (omega (arith, here)) room2 (ib.stack.keeps_bytes n t b m bytes place (omega (arith, there)) room1 held),
-      subst (λ z. Cell (more_made m name place serial k) (ib.stack.free + 16) (kept_by kind (word z))) (sym zero') (subst (λ p. Cell (more_made m name place serial k) p (kept_by kind w)) there made),
+      subst (λ y. Cell (more_made m name place serial k items) (ib.stack.free + 16) (kept_by kind (word y))) (sym begun) (subst (λ p. Cell (more_made m name place serial k items) p (kept_by kind w)) there made),
     )
 
 -- ---- the code
@@ -171,30 +181,31 @@ own_place ib n room =
 abbrev pub place_for : Environment → (index : ℕ) → ℕ
 place_for e index = automatic_place e.parts e.program e.block e.level index
 
-asked : {e : Environment} {block : Names} {types : Types} (ib : Block e block types) {index : ℕ} {k : Kind} (o : More ib index k) (own : OwnStands ib) {links : Links} {code : List Instr} {i : ℕ} (c : ℕ) (n : Values) (v : Services) (h t : ℕ → ℕ) (f : Family) (table : List TableSignature) → Numbered table k → Linked links code i (made_code 32 (place_for e index) (number_for table k) None) → ((b : Base) → At b i (Known (ib.ground n) v h t nothing b) (f b)) → Reach code c f v (asked_size (place_for e index) (number_for table k) None c) v (λ b w. At b (asked_size (place_for e index) (number_for table k) None i) (Known (ib.ground n) v h t (asked_regs ((ib.ground n).frame + place_for e index) (number_for table k) 0 ((ib.ground n).frame + (place_for e index + 16))) b) w)
-asked {e} ib {index} {k} o own c n v h t f table numbered l at =
+asked : {e : Environment} {block : Names} {types : Types} (ib : Block e block types) {index : ℕ} {k : Kind} (o : More ib index k) (own : OwnStands ib) {links : Links} {code : List Instr} {i : ℕ} (c : ℕ) (n : Values) (v : Services) (h t : ℕ → ℕ) (f : Family) (table : List TableSignature) (start : Option Datum) → start_of links start < 2 ^ 32 → Numbered table k → Linked links code i (made_code 32 (place_for e index) (number_for table k) start) → ((b : Base) → At b i (Known (ib.ground n) v h t nothing b) (f b)) → Reach code c f v (asked_size (place_for e index) (number_for table k) start c) v (λ b w. At b (asked_size (place_for e index) (number_for table k) start i) (Known (ib.ground n) v h t (asked_regs ((ib.ground n).frame + place_for e index) (number_for table k) (start_of links start) ((ib.ground n).frame + (place_for e index + 16))) b) w)
+asked {e} ib {index} {k} o own c n v h t f table start fits numbered l at =
     let same = ib.stack.frame_is n in
     let place = o.place in
     let room = o.room in
     let above = ib.stack.above in
-    ground_asked c (ib.ground n) (own_place ib n (omega (arith, same, above, room))) (own n) v h t f 32 (place_for e index) (number_for table k) None (omega arith) numbered.few (omega (arith, same, place, room)) l at
+    ground_asked c (ib.ground n) (own_place ib n (omega (arith, same, above, room))) (own n) v h t f 32 (place_for e index) (number_for table k) start fits numbered.few (omega (arith, same, place, room)) l at
 
-calling : {e : Environment} {block : Names} {types : Types} (ib : Block e block types) (index : ℕ) {links : Links} {code : List Instr} {i : ℕ} (n : Values) (v : Services) (h t : ℕ → ℕ) (f : Family) (signature : ℕ) → Linked links code i (Plain I.Ecall ∷ []) → ((b : Base) → At b i (Known (ib.ground n) v h t (asked_regs ((ib.ground n).frame + place_for e index) signature 0 ((ib.ground n).frame + (place_for e index + 16))) b) (f b)) → Calling links code i f (λ b. U.make_served (call_at code v (f b).machine.memory) ((ib.ground n).frame + place_for e index) signature 0 ((ib.ground n).frame + (place_for e index + 16)) 0)
-calling {e} ib index {code = code} n v h t f signature l at =
+calling : {e : Environment} {block : Names} {types : Types} (ib : Block e block types) (index : ℕ) {links : Links} {code : List Instr} {i : ℕ} (n : Values) (v : Services) (h t : ℕ → ℕ) (f : Family) (signature start : ℕ) → Linked links code i (Plain I.Ecall ∷ []) → ((b : Base) → At b i (Known (ib.ground n) v h t (asked_regs ((ib.ground n).frame + place_for e index) signature start ((ib.ground n).frame + (place_for e index + 16))) b) (f b)) → Calling links code i f (λ b. U.make_served (call_at code v (f b).machine.memory) ((ib.ground n).frame + place_for e index) signature start ((ib.ground n).frame + (place_for e index + 16)) 0)
+calling {e} ib index {code = code} n v h t f signature start l at =
     record {
       linked = l;
       pc = λ b. (at b).pc;
       answers = λ b.
           let o = (at b).holds in
-          called code (f b) v 7 ((ib.ground n).frame + place_for e index) signature 0 ((ib.ground n).frame + (place_for e index + 16)) 0 (λ call x0 x1 x2 x3 x4. U.make_served call x0 x1 x2 x3 x4) o.body.services o.regs.0 o.regs.1.1.1.1.1.0 o.regs.1.1.1.1.0 o.regs.1.1.1.0 o.regs.1.1.0 o.regs.1.0 (λ call x. refl);
+          called code (f b) v 7 ((ib.ground n).frame + place_for e index) signature start ((ib.ground n).frame + (place_for e index + 16)) 0 (λ call x0 x1 x2 x3 x4. U.make_served call x0 x1 x2 x3 x4) o.body.services o.regs.0 o.regs.1.1.1.1.1.0 o.regs.1.1.1.1.0 o.regs.1.1.1.0 o.regs.1.1.0 o.regs.1.0 (λ call x. refl);
     }
 
 -- within the limit
-pub more_piece : {e : Environment} {block : Names} {types : Types} (ib : Block e block types) {index : ℕ} {k : Kind} (o : More ib index k) (own : OwnStands ib) {links : Links} {code : List Instr} {i : ℕ} (c : ℕ) (n : Values) (v : Services) (h t : ℕ → ℕ) (f : Family) (table : List TableSignature) → Numbered table k → frame_size k ≡ 32 → v.signatures ≡ map template_of table → 0 < length v.activations → G.automatic_in_use v.signatures v.living + frame_size k ≤ 2 ^ 20 → n.numbers (length types) ≡ pos 0 → Linked links code i (made_code 32 (place_for e index) (number_for table k) None) → ((b : Base) → At b i (Known (ib.ground n) v h t nothing b) (f b)) → Reach code c f v (c + size_of (made_code 32 (place_for e index) (number_for table k) None)) (more_services v (number_for table k) ((ib.ground n).frame + (place_for e index + 16))) (λ b w. At b (i + size_of (made_code 32 (place_for e index) (number_for table k) None)) (Known (more_ground ib k n) (more_services v (number_for table k) ((ib.ground n).frame + (place_for e index + 16))) h t nothing b) w)
-more_piece {e} {types = types} ib {index} {k} o own {links} {code} {i} c n v h t f table numbered size signs some few zero' l at =
+pub more_piece : {e : Environment} {block : Names} {types : Types} (ib : Block e block types) {index : ℕ} {k : Kind} (o : More ib index k) (own : OwnStands ib) {links : Links} {code : List Instr} {i : ℕ} (c : ℕ) (n : Values) (v : Services) (h t : ℕ → ℕ) (f : Family) (table : List TableSignature) (items : List T.InitialItem) → AreConstants k.type items → Begins links code (ib.ground n) k items → Numbered table k → frame_size k ≡ 32 → v.signatures ≡ map template_of table → 0 < length v.activations → G.automatic_in_use v.signatures v.living + frame_size k ≤ 2 ^ 20 → n.numbers (length types) ≡ begin_of items → Linked links code i (made_code 32 (place_for e index) (number_for table k) (start_datum items)) → ((b : Base) → At b i (Known (ib.ground n) v h t nothing b) (f b)) → Reach code c f v (c + size_of (made_code 32 (place_for e index) (number_for table k) (start_datum items))) (more_services v (number_for table k) ((ib.ground n).frame + (place_for e index + 16))) (λ b w. At b (i + size_of (made_code 32 (place_for e index) (number_for table k) (start_datum items))) (Known (more_ground ib k n) (more_services v (number_for table k) ((ib.ground n).frame + (place_for e index + 16))) h t nothing b) w)
+more_piece {e} {types = types} ib {index} {k} o own {links} {code} {i} c n v h t f table items begins reads numbered size signs some few begun l at =
     let g = ib.ground n in
     let place = place_for e index in
     let sig = number_for table k in
+    let start = start_datum items in
     let v' = more_services v sig (g.frame + (place + 16)) in
     let near = o.near in
     let counted : min last_place (place + 32) ≡ place + 32 = omega (arith, near) in
@@ -203,50 +214,51 @@ more_piece {e} {types = types} ib {index} {k} o own {links} {code} {i} c n v h t
     let here = o.place in
     let room = o.room in
     let high = ib.stack.high in
-    let total = made_size 32 place sig None in
-    let lc = call_linked 32 place sig None l in
-    let r1 = asked ib o own c n v h t f table numbered l at in
-    let m' : Base → List ℕ = λ b. more_made (reached r1 b).machine.memory (g.frame + place) (g.frame + (place + 16)) (v.serials + 1) k in
-    let call = calling ib index n v h t (reached r1) sig (first_of (Plain I.Ecall) ps lc) (reached_holds r1) in
-    let done : Calling links code (asked_size place sig None i) (reached r1) (λ b. Done v' (m' b) (g.frame + place) sig) = record {
+    let total = made_size 32 place sig start in
+    let lc = call_linked 32 place sig start l in
+    let r1 = asked ib o own c n v h t f table start reads.small' numbered l at in
+    let m' : Base → List ℕ = λ b. more_made (reached r1 b).machine.memory (g.frame + place) (g.frame + (place + 16)) (v.serials + 1) k items in
+    let call = calling ib index n v h t (reached r1) sig (start_of links start) (first_of (Plain I.Ecall) ps lc) (reached_holds r1) in
+    let done : Calling links code (asked_size place sig start i) (reached r1) (λ b. Done v' (m' b) (g.frame + place) sig) = record {
       linked = call.linked;
       pc = call.pc;
-      answers = λ b. call.answers b ∙ make_made code v (reached r1 b).machine.memory table k (g.frame + place) (g.frame + (place + 16)) o.element o.is signs numbered some few size (let s = l.small' in omega (arith, s, same, here, high)) (omega arith) (omega (arith, same, here, room));
+      answers = λ b. call.answers b ∙ make_made code v (reached r1 b).machine.memory table k items (g.frame + place) (g.frame + (place + 16)) (start_of links start) o.element begins o.is signs numbered some few size (let s = l.small' in omega (arith, s, same, here, high)) (omega arith) (omega (arith, same, here, room)) (let q = (reached_holds r1 b).holds.body in reads.read t b (reached r1 b).machine.memory q.memory q.bytes v);
     } in
-    let r2 = call_done (asked_size place sig None c) (reached r1) v v' m' (λ b. g.frame + place) (λ b. sig) (λ b. Known (lower_ground (more_ground ib k n) ib.stack.free) v' h t nothing b) (omega arith) done
+    let r2 = call_done (asked_size place sig start c) (reached r1) v v' m' (λ b. g.frame + place) (λ b. sig) (λ b. Known (lower_ground (more_ground ib k n) ib.stack.free) v' h t nothing b) (omega arith) done
     (λ b. let q = (reached_holds r1 b).holds.body in record {
       body = record {
         services = refl;
         registers = q.registers ∙ ap (λ u. 0 ∷ (b.at + u) ∷ (b.at + g.frame) ∷ h 0 ∷ h 1 ∷ h 2 ∷ h 3 ∷ h 4 ∷ h 5 ∷ h 6 ∷ []) (ib.stack.free_is n);
-        bytes = more_length (reached r1 b).machine.memory (g.frame + place) (g.frame + (place + 16)) (v.serials + 1) k (omega arith) (let long = q.bytes in omega (arith, long, same, here, room)) ∙ q.bytes;
-        memory = more_stands ib k n o.element zero' t b (reached r1 b).machine.memory (g.frame + place) (g.frame + (place + 16)) (v.serials + 1) (omega (arith, same, here)) (omega (arith, same, here)) (let long = q.bytes in omega (arith, long, same, here, room)) q.memory;
+        bytes = more_length (reached r1 b).machine.memory (g.frame + place) (g.frame + (place + 16)) (v.serials + 1) k items (omega arith) (let long = q.bytes in omega (arith, long, same, here, room)) ∙ q.bytes;
+        memory = more_stands ib k items n o.element begins begun t b (reached r1 b).machine.memory (g.frame + place) (g.frame + (place + 16)) (v.serials + 1) (omega (arith, same, here)) (omega (arith, same, here)) (let long = q.bytes in omega (arith, long, same, here, room)) q.memory;
       };
       regs = tt;
     }) in
-    let r3 = stack_piece (more_ground ib k n) ib.stack.free (min last_place (place + 32)) (asked_size place sig None c + 1) (reached r2) (omega (arith, same, here, counted)) (omega (arith, same, here, room, counted)) (rest_linked 32 place sig None l) (reached_holds r2) in
-    let e1 : asked_size place sig None c + 1 + size_of ps ≡ c + size_of (made_code 32 place sig None) = omega (arith, total) in
-    let e2 : asked_size place sig None i + 1 + size_of ps ≡ i + size_of (made_code 32 place sig None) = omega (arith, total) in
+    let r3 = stack_piece (more_ground ib k n) ib.stack.free (min last_place (place + 32)) (asked_size place sig start c + 1) (reached r2) (omega (arith, same, here, counted)) (omega (arith, same, here, room, counted)) (rest_linked 32 place sig start l) (reached_holds r2) in
+    let e1 : asked_size place sig start c + 1 + size_of ps ≡ c + size_of (made_code 32 place sig start) = omega (arith, total) in
+    let e2 : asked_size place sig start i + 1 + size_of ps ≡ i + size_of (made_code 32 place sig start) = omega (arith, total) in
     let whole' = reach_then r1 (reach_then r2 r3) in
-    let P : Base → Whole → Type 0 = λ b w. At b (i + size_of (made_code 32 place sig None)) (Known (more_ground ib k n) v' h t nothing b) w in
+    let P : Base → Whole → Type 0 = λ b w. At b (i + size_of (made_code 32 place sig start)) (Known (more_ground ib k n) v' h t nothing b) w in
     let moved = reach_map P whole' (λ b w q. record { pc = q.pc ∙ ap (address b) e2; holds = q.holds }) in
     subst (λ u. Reach code c f v u v' P) e1 moved
 
 -- past it
-pub past_piece : {e : Environment} {block : Names} {types : Types} (ib : Block e block types) {index : ℕ} {k : Kind} (o : More ib index k) (own : OwnStands ib) {links : Links} {code : List Instr} {i : ℕ} {s : State} {v : Services} {h t : ℕ → ℕ} {aims : Aims (Unit {0})} (closed : Closed code aims) (n : Values) (f : Family) (table : List TableSignature) (c line : ℕ) → Numbered table k → v.signatures ≡ map template_of table → 0 < length v.activations → 2 ^ 20 < G.automatic_in_use v.signatures v.living + frame_size k → Linked links code i (made_code 32 (place_for e index) (number_for table k) None) → Serving c s v line → ((b : Base) → At b i (Known (ib.ground n) v h t nothing b) (f b)) → Comes code i f v aims (finish {R = Unit {0}} (E.Limit L.Automatic) c s)
-past_piece {e} ib {index} {k} o own {links} {code} {i} {s} {v} {h} {t} closed n f table c line numbered signs some over l serving at =
+pub past_piece : {e : Environment} {block : Names} {types : Types} (ib : Block e block types) {index : ℕ} {k : Kind} (o : More ib index k) (own : OwnStands ib) {links : Links} {code : List Instr} {i : ℕ} {s : State} {v : Services} {h t : ℕ → ℕ} {aims : Aims (Unit {0})} (closed : Closed code aims) (n : Values) (f : Family) (table : List TableSignature) (items : List T.InitialItem) (c line : ℕ) → Begins links code (ib.ground n) k items → Numbered table k → v.signatures ≡ map template_of table → 0 < length v.activations → 2 ^ 20 < G.automatic_in_use v.signatures v.living + frame_size k → Linked links code i (made_code 32 (place_for e index) (number_for table k) (start_datum items)) → Serving c s v line → ((b : Base) → At b i (Known (ib.ground n) v h t nothing b) (f b)) → Comes code i f v aims (finish {R = Unit {0}} (E.Limit L.Automatic) c s)
+past_piece {e} ib {index} {k} o own {links} {code} {i} {s} {v} {h} {t} closed n f table items c line reads numbered signs some over l serving at =
     let g = ib.ground n in
     let place = place_for e index in
     let sig = number_for table k in
+    let start = start_datum items in
     let ps = plus stack_register frame_register (pos (min last_place (place + 32))) in
-    let lc = call_linked 32 place sig None l in
-    onward closed (asked ib o own i n v h t f table numbered l at) (λ f' at'.
-    let call = calling ib index n v h t f' sig (first_of (Plain I.Ecall) ps lc) at' in
-    let ends : Calling links code (asked_size place sig None i) f' (λ b. Ends (past_limit v)) = record {
+    let lc = call_linked 32 place sig start l in
+    onward closed (asked ib o own i n v h t f table start reads.small' numbered l at) (λ f' at'.
+    let call = calling ib index n v h t f' sig (start_of links start) (first_of (Plain I.Ecall) ps lc) at' in
+    let ends : Calling links code (asked_size place sig start i) f' (λ b. Ends (past_limit v)) = record {
       linked = call.linked;
       pc = call.pc;
-      answers = λ b. call.answers b ∙ make_ends code v (f' b).machine.memory table k (g.frame + place) (g.frame + (place + 16)) c signs numbered some over serving.allowed serving.fits;
+      answers = λ b. call.answers b ∙ make_ends code v (f' b).machine.memory table k items (g.frame + place) (g.frame + (place + 16)) (start_of links start) c signs numbered some over serving.allowed serving.fits (let held = (at' b).holds.body in reads.read t b (f' b).machine.memory held.memory held.bytes v);
     } in
-    let room : asked_size place sig None i < cost code = let inside = lc.inside in omega (arith, inside) in
+    let room : asked_size place sig start i < cost code = let inside = lc.inside in omega (arith, inside) in
     comes_finish (past_limit v) (E.Limit L.Automatic) c s serving.world (ap (ending (E.Limit L.Automatic)) serving.world)
-    (end_pauses (asked_size place sig None i) f' v (past_limit v) room serving.running (λ b. (at' b).holds.body.services) (add-one v.world.acts) ends)
-    (call_ends (asked_size place sig None i) f' v (past_limit v) (λ e'. cc e') ends))
+    (end_pauses (asked_size place sig start i) f' v (past_limit v) room serving.running (λ b. (at' b).holds.body.services) (add-one v.world.acts) ends)
+    (call_ends (asked_size place sig start i) f' v (past_limit v) (λ e'. cc e') ends))

@@ -19,8 +19,8 @@ use Rattle.pli_coding.specs.Entries.{automatic_made, variables_made, constant_ma
 use Rattle.pli_coding.specs.Extents.{initial_given}
 use Rattle.pli_coding.specs.Linking.{Links, place_of}
 use Rattle.pli_headline.specs.Headline.{parts}
-use Rattle.pli_headline.specs.ProvedSoFar.{plain_variable, IsScalar, array_variable, IsHeld, IsElementType, AreBounds, alone}
-use Rattle.pli_headline.proofs.Scalars.{Declared, by_held, character, varying, by_shape, element_numeric}
+use Rattle.pli_headline.specs.ProvedSoFar.{plain_variable, IsScalar, array_variable, IsHeld, AreBounds, alone}
+use Rattle.pli_headline.proofs.Scalars.{Declared, by_held, character, varying, by_shape}
 use Rattle.pli_headline.proofs.DataNamed.{is_named_back}
 use Rattle.pli_headline.proofs.InitialRead.{start_datum, start_of, IsNamedIf}
 use Rattle.pli_headline.proofs.Engine.{Base}
@@ -39,7 +39,7 @@ use Rattle.pli_headline.proofs.MainGround.{Frame, ground_of}
 use Rattle.pli_headline.proofs.MainProcedure.{main_environment, frame_fixed, frame_many}
 use Rattle.pli_headline.proofs.PlainNumbers.{number_for}
 use Rattle.pli_typing.specs.Signatures.{Bounds}
-use Rattle.pli_headline.proofs.ArrayElements.{size_constant}
+use Rattle.pli_headline.proofs.ArrayFrames.{held_constant}
 
 -- ---- the code of one variable
 
@@ -71,12 +71,12 @@ alone_is program block line place items type is =
     (λ n few. ap (λ m. made_code m place (number_for (table_of program) (alone (varying n))) (start_datum items)) (text_print (2 + suc n)))
     type is
 
-many_is : (program : Y.Program) (block line place : ℕ) (items : List T.InitialItem) (type : Y.LeafType) (b : Bounds) (bs : List Bounds) → IsElementType type → AreBounds (b ∷ bs) → length (b ∷ bs) ≤ 8 → automatic_made (main_environment program block) line place (array_variable type (b ∷ bs) items) ≡ made_code (size_for type (b ∷ bs)) place (number_for (table_of program) (record { type = type; bounds = b ∷ bs })) (start_datum items)
-many_is program block line place items type b bs element are few =
+many_is : (program : Y.Program) (block line place : ℕ) (items : List T.InitialItem) (type : Y.LeafType) (b : Bounds) (bs : List Bounds) → IsScalar type → AreBounds (b ∷ bs) → length (b ∷ bs) ≤ 8 → automatic_made (main_environment program block) line place (array_variable type (b ∷ bs) items) ≡ made_code (size_for type (b ∷ bs)) place (number_for (table_of program) (record { type = type; bounds = b ∷ bs })) (start_datum items)
+many_is program block line place items type b bs held are few =
     let e = main_environment program block in
     let d = array_variable type (b ∷ bs) items in
-    ap (λ q. if q then constant_made e place d else adjustable_made e line place d) (size_constant type (element_numeric type element) (b ∷ bs) items)
-    ∙ ap (λ n. made_code n place (number_for (table_of program) (record { type = type; bounds = b ∷ bs })) (start_datum items)) (frame_many type b bs items element are)
+    ap (λ q. if q then constant_made e place d else adjustable_made e line place d) (held_constant type held (b ∷ bs) items)
+    ∙ ap (λ n. made_code n place (number_for (table_of program) (record { type = type; bounds = b ∷ bs })) (start_datum items)) (frame_many type b bs items held are)
 
 made_is : (program : Y.Program) (block line place : ℕ) (s : Declared) → IsHeld s.kind.type s.kind.bounds → automatic_made (main_environment program block) line place (array_variable s.kind.type s.kind.bounds s.initial) ≡ made_code (frame_size s.kind) place (number_for (table_of program) s.kind) (start_datum s.initial)
 made_is program block line place s is =

@@ -6,7 +6,8 @@ use Rattle.std.proofs.lemmas.Bool.Decides.{nat_tests}
 use Rattle.rv_meaning.specs.Words.{word}
 use Rattle.rv_meaning.specs.Memory.{load, store}
 use Rattle.rv_meaning.specs.Machine.{memory_size, load_width, extended, store_width}
-use Rattle.pli_typing.specs.Signatures.{Bounds}
+use Rattle.pli_typing.specs.Signatures.{Bounds, element_count}
+use Rattle.pli_language.specs.Tree as T
 use Rattle.pli_typing.specs.TypedTree as Y
 use Rattle.pli_meaning.specs.BasicValues.{BasicText}
 use Rattle.pli_meaning.specs.DeclaredShapes.{variables_of_block}
@@ -29,11 +30,15 @@ use Rattle.pli_headline.proofs.States.{with_number_at, with_text_at}
 use Rattle.pli_headline.proofs.TextPlaces.{text_bytes, TextThere, text_kind_of}
 use Rattle.pli_headline.proofs.TextsKept.{text_kept_as, kept_length}
 use Rattle.pli_headline.proofs.TextScopes.{IsTextAt}
+use Rattle.pli_headline.proofs.NamesStand.{NameThere}
+use Rattle.pli_headline.proofs.ArrayNames.{ArrayNamed, place_of_name}
 use Rattle.pli_headline.proofs.ArrayScopes.{IsArrayAt, ArrayOn, with_element_of}
 use Rattle.pli_headline.proofs.MainGround.{width_few}
 use Rattle.pli_headline.proofs.Statements.{AllSeen, Enclosing, Enclosures, Block, SameValues}
 use Rattle.pli_headline.proofs.MoreNames.{spot_of, more_names, more_serials, no_text}
-use Rattle.pli_headline.proofs.MoreStates.{fewer_all}
+use Rattle.pli_headline.proofs.MoreStates.{more_restricts}
+use Rattle.pli_headline.proofs.TextArrayScopes.{IsTextArrayAt, TextArrayOn, with_text_of}
+use Rattle.pli_headline.proofs.TextArraysStay.{text_stride, text_within}
 
 -- ---- places
 
@@ -53,7 +58,8 @@ other_kept false x y e = refl
 pub record More {e : Environment} {block : Names} {types : Types} (ib : Block e block types) (index : ℕ) (k : Kind) : Type 0 where
   pub element : IsElementType k.type
   pub is : k ≡ alone k.type
-  pub declared : slice_get (variables_of_block e.program e.block) index ≡ Some (plain_variable k.type [])
+  pub initial : List T.InitialItem
+  pub declared : slice_get (variables_of_block e.program e.block) index ≡ Some (plain_variable k.type initial)
   pub deep : 0 < e.level
   pub place : ib.stack.frame + automatic_place e.parts e.program e.block e.level index ≡ ib.stack.free
   pub room : ib.stack.free + 36 ≤ 14 * 2 ^ 20
@@ -121,7 +127,7 @@ more_declared {e} {block} {types} ib {index} {k} o j type at =
     (λ i kind below at' u e'.
     let d = ib.declared i (at' ∙ ap (λ q. Some q) e') in
     (d.0, ap (λ (s : Spot). slice_get (variables_of_block e.program s.number) s.index) (around_spot e block types index i below) ∙ d.1))
-    (λ u e'. ([], ap (λ (s : Spot). slice_get (variables_of_block e.program s.number) s.index) (own_spot e block types index) ∙ o.declared ∙ ap (λ q. Some (plain_variable q [])) (own_type e')))
+    (λ u e'. (o.initial, ap (λ (s : Spot). slice_get (variables_of_block e.program s.number) s.index) (own_spot e block types index) ∙ o.declared ∙ ap (λ q. Some (plain_variable q o.initial)) (own_type e')))
     j (alone type) at type refl
 
 -- ---- it is reached
@@ -201,7 +207,7 @@ own_writes {e} {block} {types} ib {index} {k} o n z fits t b m len held =
     let p = ib.stack.free + 16 in
     let wide = fits_wide k.type z fits in
     let room = o.room in
-    let same : SameValues types n (with_number_at n count z) = λ j kind at. (other_kept (j == count) z (n.numbers j) (not_last count j (place_below types j kind at)), (refl, refl)) in (
+    let same : SameValues types n (with_number_at n count z) = λ j kind at. (other_kept (j == count) z (n.numbers j) (not_last count j (place_below types j kind at)), (refl, (refl, refl))) in (
       ib.alike n (with_number_at n count z) same t b (store w m p (word z)) (ib.stack.keeps n t b m w p (word z) (omega arith) held.0),
       subst (λ x. Cell (store w m p (word z)) p (kept_by (store_kind k.type) (word x))) (here_kept (count == count) z (n.numbers count) (eq-eqb count count refl))
           (cell_stored (store_kind k.type) m p (word (n.numbers count)) (word z) (word_small z wide) (omega (arith, room, len)) held.1),
@@ -282,8 +288,77 @@ more_array {e} {block} {types} ib index k j type bs below on =
 pub array_place : {e : Environment} {block : Names} {types : Types} (ib : Block e block types) {index : ℕ} {k : Kind} (o : More ib index k) (j : ℕ) (type : Y.LeafType) (b : Bounds) (bs : List Bounds) → IsArrayAt (types ++ (k ∷ [])) j type b bs → ArrayOn e (more_names e block types index) (more_bases ib j) (ib.stack.free + 32) (more_ground ib k) j type (b ∷ bs)
 array_place {e} {block} {types} ib {index} {k} o j type b bs at =
     by_last types k (λ i kind. kind ≡ record { type = type; bounds = b ∷ bs } → ArrayOn e (more_names e block types index) (more_bases ib i) (ib.stack.free + 32) (more_ground ib k) i type (b ∷ bs))
-    (λ i kind below at' e'. more_array ib index k i type (b ∷ bs) below (ib.arrays i type b bs (at' ∙ ap (λ q. Some q) e')))
-    (λ e'. let no : [] ≡ b ∷ bs = sym (ap (λ (q : Kind). q.bounds) o.is) ∙ ap (λ (q : Kind). q.bounds) e' in absurd (cc no)) j (record { type = type; bounds = b ∷ bs }) at refl
+    (λ i kind below at' e'. more_array ib index k i type (b ∷ bs) below (ib.arrays i type b bs (at' ∙ ap (λ q. Some q) e', at.1)))
+    (λ e'. let no : [] ≡ b ∷ bs = sym (ap (λ (q : Kind). q.bounds) o.is) ∙ ap (λ (q : Kind). q.bounds) e' in absurd (cc no)) j (record { type = type; bounds = b ∷ bs }) at.0 refl
+
+more_texts : {e : Environment} {block : Names} {types : Types} (ib : Block e block types) (index : ℕ) (k : Kind) (j : ℕ) (varying : Bool) (most : ℕ) (bs : List Bounds) → j < length types → TextArrayOn e block (ib.bases j) ib.stack.free ib.ground j varying most bs → TextArrayOn e (more_names e block types index) (more_bases ib j) (ib.stack.free + 32) (more_ground ib k) j varying most bs
+more_texts {e} {block} {types} ib index k j varying most bs below on =
+    let names = more_names e block types index in
+    let a = around_base ib j below in
+    let d = around_data e block types index j below in
+    let within = on.within in
+    let under = on.under in
+    let high = on.high in
+    let q : (p : ℕ) → more_bases ib j + p * text_stride varying most + data_place e names j ≡ ib.bases j + p * text_stride varying most + data_place e block j = λ p. omega (arith, a, d) in
+    record {
+      declared = (on.declared.0, ap (λ (s : Spot). slice_get (variables_of_block e.program s.number) s.index) (around_spot e block types index j below) ∙ on.declared.1);
+      bounds = on.bounds;
+      few = on.few;
+      some = on.some;
+      short = on.short;
+      high = omega (arith, high, a);
+      within = omega (arith, within, a, d);
+      under = omega (arith, under, a, d);
+      reads = λ n p inside t b m held.
+          subst (λ u. TextThere varying most u m (n.text_arrays j p)) (sym (q p)) (on.reads n p inside t b m held.0);
+      writes = λ n p text inside t b m len held.
+          let bytes = kept_bytes (text_kind_of varying most) (BasicText text) in
+          let long = kept_length varying most text in
+          let row = text_within varying most p (element_count bs) inside in
+          let here = ib.bases j + p * text_stride varying most + data_place e block j in
+          let room : here + length bytes ≤ length m = omega (arith, within, row, long, len) in
+          subst (λ u. (more_ground ib k (with_text_of n j p (text_kept_as varying most text))).memory t b (with_bytes bytes u m)) (sym (q p)) (
+            on.writes n p text inside t b m len held.0,
+            record {
+              whole = load-with_other 4 bytes m here (ib.stack.free + 16) room (inr (omega (arith, under, row, long))) ∙ held.1.whole;
+              half = load-with_other 2 bytes m here (ib.stack.free + 16) room (inr (omega (arith, under, row, long))) ∙ held.1.half;
+              byte = load-with_other 1 bytes m here (ib.stack.free + 16) room (inr (omega (arith, under, row, long))) ∙ held.1.byte;
+            },
+          );
+    }
+
+pub text_array_place : {e : Environment} {block : Names} {types : Types} (ib : Block e block types) {index : ℕ} {k : Kind} (o : More ib index k) (j : ℕ) (varying : Bool) (most : ℕ) (b : Bounds) (bs : List Bounds) → IsTextArrayAt (types ++ (k ∷ [])) j varying most b bs → TextArrayOn e (more_names e block types index) (more_bases ib j) (ib.stack.free + 32) (more_ground ib k) j varying most (b ∷ bs)
+text_array_place {e} {block} {types} ib {index} {k} o j varying most b bs at =
+    by_last types k (λ i kind. kind ≡ record { type = text_leaf varying most; bounds = b ∷ bs } → TextArrayOn e (more_names e block types index) (more_bases ib i) (ib.stack.free + 32) (more_ground ib k) i varying most (b ∷ bs))
+    (λ i kind below at' e'. more_texts ib index k i varying most (b ∷ bs) below (ib.text_arrays i varying most b bs (at' ∙ ap (λ q. Some q) e')))
+    (λ e'. let no : [] ≡ b ∷ bs = sym (ap (λ (q : Kind). q.bounds) o.is) ∙ ap (λ (q : Kind). q.bounds) e' in absurd (cc no)) j (record { type = text_leaf varying most; bounds = b ∷ bs }) at refl
+
+-- the names of arrays
+more_named : {e : Environment} {block : Names} {types : Types} (ib : Block e block types) (index : ℕ) (k : Kind) (serial j : ℕ) (kind : Kind) → j < length types → ArrayNamed e block (ib.bases j) ib.ground ib.serials j kind → ArrayNamed e (more_names e block types index) (more_bases ib j) (more_ground ib k) (more_serials ib.serials (length types) serial (suc (length ib.depths))) j kind
+more_named {e} {block} {types} ib index k serial j kind below on =
+    let names = more_names e block types index in
+    let a = around_base ib j below in
+    let d = around_data e block types index j below in
+    let here = on.at in
+    let mine = chosen_before (length types) j (ib.serials.of j) serial below in
+    let same : ib.bases j + place_of_name e block j ≡ more_bases ib j + place_of_name e names j = omega (arith, a, d) in
+    record {
+      living = on.living;
+      lives = ap ib.serials.first mine ∙ on.lives;
+      signature = on.signature;
+      at = omega (arith, here, a, d);
+      aligned = let h = on.aligned in omega (arith, h, a);
+      high = let h = on.high in omega (arith, h, a);
+      room = let h = on.room in omega (arith, h, a);
+      own = λ n t b m held. subst (λ u. load 4 m (u + 36) ≡ u) (sym a) (on.own n t b m held.0);
+      names = λ n t b m held. subst (NameThere m (more_bases ib j + place_of_name e names j)) (sym mine) (subst (λ p. NameThere m p (ib.serials.of j)) same (on.names n t b m held.0));
+    }
+
+pub named_place : {e : Environment} {block : Names} {types : Types} (ib : Block e block types) {index : ℕ} {k : Kind} (o : More ib index k) (serial j : ℕ) (type : Y.LeafType) (b : Bounds) (bs : List Bounds) → IsArrayAt (types ++ (k ∷ [])) j type b bs → ArrayNamed e (more_names e block types index) (more_bases ib j) (more_ground ib k) (more_serials ib.serials (length types) serial (suc (length ib.depths))) j (record { type = type; bounds = b ∷ bs })
+named_place {e} {block} {types} ib {index} {k} o serial j type b bs at =
+    by_last types k (λ i kind. kind ≡ record { type = type; bounds = b ∷ bs } → ArrayNamed e (more_names e block types index) (more_bases ib i) (more_ground ib k) (more_serials ib.serials (length types) serial (suc (length ib.depths))) i (record { type = type; bounds = b ∷ bs }))
+    (λ i kind below at' e'. more_named ib index k serial i (record { type = type; bounds = b ∷ bs }) below (ib.array_names i type b bs (at' ∙ ap (λ q. Some q) e', at.1)))
+    (λ e'. let no : [] ≡ b ∷ bs = sym (ap (λ (q : Kind). q.bounds) o.is) ∙ ap (λ (q : Kind). q.bounds) e' in absurd (cc no)) j (record { type = type; bounds = b ∷ bs }) at.0 refl
 
 -- ---- the block
 
@@ -334,7 +409,7 @@ more_enclosures ib k (o ∷ os) cs = (more_enclosing ib k o cs.0, more_enclosure
 abbrev pub more_seen : {e : Environment} {block : Names} {types : Types} (ib : Block e block types) (k : Kind) (index serial : ℕ) (os : List OuterBlock) (cs : Enclosures e ib.ground ib.levels ib.frames.list (e.level ∷ ib.depths) os) → AllSeen e ib.ground ib.levels ib.frames.list (e.level ∷ ib.depths) os cs ib.serials block types → AllSeen e (more_ground ib k) ib.levels ib.frames.list (e.level ∷ ib.depths) os (more_enclosures ib k os cs) (more_serials ib.serials (length types) serial (suc (length ib.depths))) (more_names e block types index) (types ++ (k ∷ []))
 more_seen ib k index serial [] cs seen = tt
 more_seen {e} ib k index serial (o ∷ os) cs seen = (
-  λ frames xs levels s n all. seen.0 frames xs levels s n (fewer_all e index k serial (suc (length ib.depths)) all),
+  more_restricts e index k serial (suc (length ib.depths)) seen.0,
   more_seen ib k index serial os cs.1 seen.1,
 )
 
@@ -447,6 +522,8 @@ more_block {e} {block} {types} ib {index} {k} o serial =
         writes = λ n j varying most text at t b m len held. text_place ib o (λ i. (more_ground ib k (with_text_at n i (text_kept_as varying most text))).memory t b (with_bytes (kept_bytes (text_kind_of varying most) (BasicText text)) (more_bases ib i + data_place e names i) m)) j varying most (λ i below at'. text_writes ib index k n i varying most text below at' t b m len held) at;
       };
       arrays = λ j type b bs at. array_place ib o j type b bs at;
+      text_arrays = λ j varying most b bs at. text_array_place ib o j varying most b bs at;
+      array_names = λ j type b bs at. named_place ib o serial j type b bs at;
       outer = ib.outer;
       enclosing = more_enclosures ib k ib.outer ib.enclosing;
       seen = more_seen ib k index serial ib.outer ib.enclosing ib.seen;

@@ -9,7 +9,7 @@ use Rattle.pli_typing.specs.TypedTree as Y
 use Rattle.pli_meaning.specs.DeclaredShapes.{variables_of_block}
 use Rattle.pli_serving.specs.Templates.{template_of, shape_at}
 use Rattle.pli_coding.specs.SignatureTable.{signature_of, number_in_table, table_of}
-use Rattle.pli_headline.specs.ProvedSoFar.{ArePlain, AllPlain, types_of, IsScalar, alone, array_variable, IsHeld, AreConstants, IsElementType, AreBounds, Kind, declared_kind}
+use Rattle.pli_headline.specs.ProvedSoFar.{ArePlain, AllPlain, types_of, IsScalar, alone, array_variable, IsHeld, AreConstants, AreBounds, Kind, declared_kind}
 use Rattle.pli_headline.proofs.PlainSignatures.{HasSignature, HasAll, kind_signature}
 use Rattle.pli_headline.proofs.Scalars.{kind_at, kind_is, Declared, place_below, by_shape}
 use Rattle.pli_headline.proofs.Variables.{scalar_shape}
@@ -87,7 +87,7 @@ scalar_template (Y.VaryingLeaf (Y.ConstantExtent (pos n))) is =
     rw (known) refl
 scalar_template _ is = absurd is
 
-array_template : (type : Y.LeafType) (b : Bounds) (bs : List Bounds) → IsElementType type → AreBounds (b ∷ bs) → length (b ∷ bs) ≤ 8 → shape_at (template_of (kind_signature (record { type = type; bounds = b ∷ bs })) ∷ []) 0 ≡ Some (array_shape type (b ∷ bs))
+array_template : (type : Y.LeafType) (b : Bounds) (bs : List Bounds) → IsScalar type → AreBounds (b ∷ bs) → length (b ∷ bs) ≤ 8 → shape_at (template_of (kind_signature (record { type = type; bounds = b ∷ bs })) ∷ []) 0 ≡ Some (array_shape type (b ∷ bs))
 array_template type b bs element are few =
     ap (λ g. shape_at (template_of g ∷ []) 0) (array_signed type element (b ∷ bs) []) ∙ array_shaped type element (b ∷ bs) are
 

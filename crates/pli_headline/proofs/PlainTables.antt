@@ -6,7 +6,7 @@ use Rattle.std.proofs.lemmas.Bool.{le-leb}
 use Rattle.rv_meaning.specs.Tables.{TableSignature, AreSignatures, run_time_size}
 use Rattle.pli_typing.specs.TypedTree as Y
 use Rattle.pli_coding.specs.SignatureTable.{table_of}
-use Rattle.pli_headline.specs.ProvedSoFar.{IsProvedSoFar, IsScalar, IsHeld, IsElementType, AreBounds, Kind, alone}
+use Rattle.pli_headline.specs.ProvedSoFar.{IsProvedSoFar, IsScalar, IsHeld, AreBounds, Kind, alone}
 use Rattle.pli_headline.proofs.PlainSignatures.{kind_signature, AreKinds, all_kinds}
 use Rattle.pli_headline.proofs.MainProcedure.{all_plain}
 use Rattle.pli_typing.specs.Signatures.{Bounds}
@@ -30,7 +30,7 @@ scalar_fits (Y.VaryingLeaf (Y.ConstantExtent (pos n))) is =
     (record { headed = refl; leaved = (record { sized = length_fits n is.1; few = omega arith; bounded = tt; placed = refl }, tt) }, tt)
 scalar_fits _ is = absurd is
 
-array_fits : (type : Y.LeafType) (b : Bounds) (bs : List Bounds) → IsElementType type → AreBounds (b ∷ bs) → length (b ∷ bs) ≤ 8 → AreSignatures (kind_signature (record { type = type; bounds = b ∷ bs }) ∷ [])
+array_fits : (type : Y.LeafType) (b : Bounds) (bs : List Bounds) → IsScalar type → AreBounds (b ∷ bs) → length (b ∷ bs) ≤ 8 → AreSignatures (kind_signature (record { type = type; bounds = b ∷ bs }) ∷ [])
 array_fits type b bs element are few =
     subst (λ g. AreSignatures (g ∷ [])) (sym (array_signed type element (b ∷ bs) [])) (array_kept type element (b ∷ bs) are few, tt)
 

@@ -13,26 +13,27 @@ use Rattle.pli_coding.specs.Instructions.{move, number, plus, load_word, service
 use Rattle.pli_coding.specs.Frames.{frame_below, temporary_bytes}
 use Rattle.pli_coding.specs.Environments.{Environment, none_taken}
 use Rattle.pli_coding.specs.Allocating.{act_code}
-use Rattle.pli_coding.specs.Entries.{frame_begun, block_entered, variables_made, variables_code}
+use Rattle.pli_coding.specs.Entries.{frame_begun, block_entered, variables_code}
 use Rattle.pli_coding.specs.Statements.{stmts_code, stmts_words, block_words}
 use Rattle.pli_coding.specs.Procedures.{procedure_environment, procedure_begun, procedure_ended, procedure_in, procedures_code}
 use Rattle.pli_coding.specs.Images.{blocks_of}
 use Rattle.pli_coding.specs.Linking.{marks_from}
-use Rattle.pli_headline.specs.ProvedSoFar.{Names, Types, types_of, AreProvedStatements, DeclareScalars, main_outer, IsInner, AreInner, times, block_labels, procedure_labels, main_names}
+use Rattle.pli_headline.specs.ProvedSoFar.{Names, Types, types_of, AreProvedStatements, DeclareScalars, main_outer, IsInner, AreInner, AreDeclaring, names_in, types_in, times, block_labels, procedure_labels, main_names}
 use Rattle.pli_headline.proofs.Linking.{times_marked}
 use Rattle.pli_headline.proofs.SymbolsMarked.{symbols_marked, Marks, both_mark, behind, constant_none, plus_none, act_none}
 use Rattle.pli_headline.proofs.Stands.{Stand, all_stands, labels_among, labels_are, EndsApart, ends_apart, no_units}
-use Rattle.pli_headline.proofs.StatementMarks.{places_of, called_begun_none, statements_mark}
+use Rattle.pli_headline.proofs.DeclaredNames.{named_in, has_in}
+use Rattle.pli_headline.proofs.StatementMarks.{places_of, called_begun_none, declared_none, statements_mark}
 use Rattle.pli_headline.proofs.Variables.{HasTypes}
 
 -- ---- the code of a procedure
 
-begun_none : (e : Environment) (head : Y.BlockHead) (words : ℕ) → variables_of_block e.program e.block ≡ [] → Marks (procedure_begun e head words []) []
-begun_none e head words none =
+begun_none : (e : Environment) (head : Y.BlockHead) (words : ℕ) → AreDeclaring (variables_of_block e.program e.block) → Marks (procedure_begun e head words []) []
+begun_none e head words declaring =
     let made = variables_code e head.line in
     let act = act_code head.line in
     let entered = block_entered 0 head.line in
-    let nothing : Marks made [] = ap (λ ds. symbols_marked (variables_made e head.line 0 ds)) none in
+    let nothing : Marks made [] = declared_none e head.line 0 (variables_of_block e.program e.block) declaring in
     behind (frame_begun words head.level 0 true) (move u5 a1 ∷ move a3 a2 ∷ (entered ++ (made ++ act))) [] (called_begun_none words head.level)
     (behind entered (made ++ act) [] (behind (number a2 head.line) (service 4) [] (constant_none a2 (pos head.line)) refl)
     (behind made act [] nothing (act_none head.line)))
@@ -53,8 +54,8 @@ abbrev pub procedure_symbols : List Y.Procedure → List Symbol
 procedure_symbols [] = []
 procedure_symbols (p ∷ ps) = block_symbols p.block ++ procedure_symbols ps
 
-procedure_marks : (e : Environment) (block : Names) (types : Types) (head : Y.BlockHead) (body : Y.Stmts) → block.program ≡ e.program → HasTypes e block types → variables_of_block e.program head.number ≡ [] → AreProvedStatements block types body → DeclareScalars e.program body → Marks (procedure_in (procedure_environment head e) head body [] None) (block_symbols (Y.BlockOf head body))
-procedure_marks e block types head body named has none are bare =
+procedure_marks : (e : Environment) (block : Names) (types : Types) (head : Y.BlockHead) (body : Y.Stmts) → block.program ≡ e.program → HasTypes e block types → AreDeclaring (variables_of_block e.program head.number) → AreProvedStatements (names_in block types head (variables_of_block block.program head.number)) (types_in types (variables_of_block block.program head.number)) body → DeclareScalars e.program body → Marks (procedure_in (procedure_environment head e) head body [] None) (block_symbols (Y.BlockOf head body))
+procedure_marks e block types head body named has declaring are bare =
     let e' = procedure_environment head e in
     let words = block_words e' head.number (stmts_words body) in
     let begun = procedure_begun e' head words [] in
@@ -62,8 +63,8 @@ procedure_marks e block types head body named has none are bare =
     let ended = procedure_ended e' head words None in
     let ss = places_of (all_stands head.number body) in
     ap (λ us. ProcedureEntry head.number ∷ us)
-    (behind begun (code ++ ended) (ss ++ ReturnPlace head.number ∷ []) (begun_none e' head words none)
-    (both_mark code ended ss (ReturnPlace head.number ∷ []) (statements_mark e' none_taken block types body named has are bare) (ended_marks e' head words)))
+    (behind begun (code ++ ended) (ss ++ ReturnPlace head.number ∷ []) (begun_none e' head words declaring)
+    (both_mark code ended ss (ReturnPlace head.number ∷ []) (statements_mark e' none_taken (names_in block types head (variables_of_block block.program head.number)) (types_in types (variables_of_block block.program head.number)) body (named_in block types head (variables_of_block block.program head.number) named) (has_in e block types head named declaring has) are bare) (ended_marks e' head words)))
 
 pub procedures_mark : (e : Environment) (block : ℕ) (all : List (ℕ × Label)) (called : List ℕ) (ps : List Y.Procedure) → HasTypes e (main_names e.program block) (types_of (variables_of_block e.program block)) → AreInner e.program block all called ps → Marks (procedures_code e ps) (procedure_symbols ps)
 procedures_mark e block all called [] has inner = refl
@@ -72,7 +73,7 @@ procedures_mark e block all called (p ∷ ps) has inner =
     let mine = procedure_in (procedure_environment q.head e) q.head q.body [] None in
     let marks : Marks (mine ++ procedures_code e ps) (block_symbols (Y.BlockOf q.head q.body) ++ procedure_symbols ps) =
     both_mark mine (procedures_code e ps) (block_symbols (Y.BlockOf q.head q.body)) (procedure_symbols ps)
-    (procedure_marks e (main_names e.program block) (types_of (variables_of_block e.program block)) q.head q.body refl has q.bare q.statements q.inside)
+    (procedure_marks e (main_names e.program block) (types_of (variables_of_block e.program block)) q.head q.body refl has q.declares q.statements q.inside)
     (procedures_mark e block all called ps has inner.1) in
     subst (λ (r : Y.Procedure). Marks (procedures_code e (r ∷ ps)) (procedure_symbols (r ∷ ps))) (sym q.is) marks
 

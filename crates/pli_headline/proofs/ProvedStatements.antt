@@ -1,7 +1,7 @@
 -- The statements that are proved so far: each list of them does what it means, where the constant bytes that its code names stand in
 -- memory.
 use Rattle.std.proofs.Common.{◌∷◌, ◌≡◌, ℕ, suc, ◌+◌, ◌-◌, ◌*◌, ◌^◌, ◌<◌, ◌≤◌, List, [], ◌++◌, None, Some, inl, inr, Bool, true, false, refl, sym, ap, ◌∙◌, subst, arith, append-nil, length}
-use Rattle.std.specs.Prelude.{max, ◌==◌, ◌&&◌}
+use Rattle.std.specs.Prelude.{max, ◌==◌}
 use Rattle.std.proofs.Math.Nat.{le-max_left, le-max_right}
 use Rattle.rv_meaning.specs.declared.instr.Instr.{Instr}
 use Rattle.pli_language.specs.declared.condition.Condition.TheVariants as C
@@ -18,10 +18,9 @@ use Rattle.pli_coding.specs.Statements.{owner_of_unit, unit_environment, number_
 use Rattle.pli_coding.specs.Temporaries.{number_words, bit_words, reference_words, text_words}
 use Rattle.pli_coding.specs.Images.{place_of_head, place_of_unit, blocks_in, blocks_among}
 use Rattle.pli_coding.specs.Linking.{Links}
-use Rattle.pli_headline.specs.ProvedSoFar.{Names, names_in, types_in, is_bare, AreDeclaring, bytes_in, inner_bytes, Types, OuterBlock, main_labels, main_outer, IsProvedStatement, AreProvedStatements, JumpsAround, AllJumpAround, DeclaresScalars, DeclareScalars, is_number, CallsAmong, AllCallAmong}
+use Rattle.pli_headline.specs.ProvedSoFar.{Names, names_in, types_in, IsShallow, AreDeclaring, bytes_in, inner_bytes, Types, OuterBlock, main_labels, main_outer, IsProvedStatement, AreProvedStatements, JumpsAround, AllJumpAround, DeclaresScalars, DeclareScalars, is_number, CallsAmong, AllCallAmong}
 use Rattle.pli_meaning.specs.DeclaredShapes.{variables_of_block}
 use Rattle.pli_headline.proofs.Statements.{owner_level, IsOwned, known_in, Standing, Block, Does, EachDoes, null_does, IsEndMarkedOnce}
-use Rattle.pli_headline.proofs.TextAssignments.{assign_text_does}
 use Rattle.pli_headline.proofs.Ifs.{if_does, if_else_does}
 use Rattle.pli_headline.proofs.Catching.{within, listed}
 use Rattle.pli_headline.proofs.InnerLevels.{IsAmong, among_front, among_back}
@@ -31,12 +30,14 @@ use Rattle.pli_headline.proofs.BeginMeant.{Entering, inner_around, inner_enterin
 use Rattle.pli_headline.proofs.Begins.{inner_of, begin_does}
 use Rattle.pli_headline.proofs.Declares.{made_block}
 use Rattle.pli_headline.proofs.DeclaredBegins.{is_made, made_constants, inner_makes, made_filled, declares_does}
-use Rattle.pli_headline.proofs.StandingBytes.{ConstantsStand}
+use Rattle.pli_headline.proofs.StandingBytes.{ConstantsStand, constants_moved}
 use Rattle.pli_headline.proofs.Scalars.{Values}
 use Rattle.pli_headline.proofs.JumpsOut.{out_does}
 use Rattle.pli_headline.proofs.Returns.{return_does}
 use Rattle.pli_headline.proofs.HomeReturns.{IsHome, home_does}
 use Rattle.pli_headline.proofs.MainOutlets.{HasMain, more_main}
+use Rattle.pli_headline.proofs.Narrowing.{Narrows, narrows_in, narrowed, narrowed_has}
+use Rattle.pli_headline.proofs.Through.{through_does, standing_narrowed}
 use Rattle.pli_headline.proofs.Gotos.{LabelsStand, goto_does}
 use Rattle.pli_headline.proofs.Groups.{do_does}
 use Rattle.pli_headline.proofs.Loops.{while_does}
@@ -45,20 +46,23 @@ use Rattle.pli_headline.proofs.Skips.{put_skip_does}
 use Rattle.pli_headline.proofs.Signals.{signal_does}
 use Rattle.pli_headline.proofs.SystemUnits.{on_system_does, revert_does}
 use Rattle.pli_headline.proofs.OnUnits.{on_unit_does}
+use Rattle.pli_headline.proofs.Entered.{Frames}
 use Rattle.pli_headline.proofs.UnitStanding.{program_around, UnitStands, Tells, unit_is}
 use Rattle.pli_headline.proofs.Items.{Linked}
 use Rattle.pli_headline.proofs.Onces.{once_does}
 use Rattle.pli_headline.proofs.Counts.{turning, standing_turning}
 use Rattle.pli_headline.proofs.Putting.{put_does}
 use Rattle.pli_headline.proofs.Getting.{get_does, get_skip_does}
+use Rattle.pli_headline.proofs.ElementsAssignments.{elements_number_does, elements_bit_does}
 use Rattle.pli_headline.proofs.ElementAssignments.{assign_number_part_does, assign_bit_part_does}
 use Rattle.pli_headline.proofs.CountStarts.{counted_does}
 use Rattle.pli_coding.specs.Streams.{value_words}
+use Rattle.pli_headline.proofs.TextElementAssignments.{assign_text_part_does}
 
 -- constant bytes stand in a block inside it
 standing_inner : {e : Environment} {block : Names} {types : Types} {bl : Block e block types} {links : Links} {code : List Instr} (inner : Inner bl) (t0 : ℕ → ℕ) (number level : ℕ) (next : level ≡ suc e.level) (s : Standing bl links code) → (n : Values) → ConstantsStand links code ((inner_block bl inner t0 number level next s.filled).ground n)
 standing_inner inner t0 number level next s n =
-    record { stand = λ bytes placed t b m o. (s.constants n).stand bytes placed t0 b m o.kept }
+    constants_moved (λ t. t0) (λ t b m o. o.kept) (s.constants n)
 
 pub standing_within : {e : Environment} {block : Names} {types : Types} {bl : Block e block types} {links : Links} {code : List Instr} (labels : List Label) → Standing bl links code → Standing (within labels bl) links code
 standing_within labels s = record { raises = s.raises; constants = s.constants; filled = s.filled; known = s.known }
@@ -118,101 +122,86 @@ abbrev pub Signals : Environment → (block : Names) → Types → (all : List (
 Signals e block types all procedure bound links code may =
     (o : Owner) (number level : ℕ) (b : Block (owned_by o (in_frame number level e)) block types) → length b.depths < most_activations → b.stack.free + 4000 * (500 - length b.depths) ≤ 14 * 2 ^ 20 → b.words < 2 ^ 22 → Standing b links code → Tells e block types all procedure may links code b.base b.frames.known → HasMain procedure (main_labels e.program.procedures) level number b.labels b.outer → (around : Around) → around.program ≡ e.program → (more : ℕ) → Entering e.program around more → more ≤ bound → (line : ℕ) → line < 2 ^ 31 → Does b links code around.turns (stmt_code (owned_by o (in_frame number level e)) b.taken (Y.Signal C.Area line)) (M.statement around (Y.Signal C.Area line))
 
--- they do; the units that may be in force are known, and the main procedure's own block may get one; a return in a called procedure goes
--- to its end
-pub record Ways (e : Environment) (block : Names) (types : Types) (words bound : ℕ) (small : Bool) (labels : List Label) (outer : List OuterBlock) (base : ℕ) (units : ℕ → Y.Block → ℕ → Type 0) (all : List (ℕ × Label)) (procedure : ℕ) (links : Links) (code : List Instr) (main returns bare : Bool) (may : List ℕ) : Type 1 where
-  pub calls : bare ≡ true → Calls e block types all procedure bound links code may
-  pub signals : bare ≡ true → Signals e block types all procedure bound links code may
-  pub tells : bare ≡ true → Tells e block types all procedure may links code base units
+-- they do, where the main procedure's variables alone can be named, which are the first of the block's; the units that may be in force are
+-- known, and the main procedure's own block may get one; a return in a called procedure goes to its end
+pub record Ways (e : Environment) (outer : Names) (outers : Types) (block : Names) (types : Types) (words bound : ℕ) (small : Bool) (taken : ℕ) (labels : List Label) (os : List OuterBlock) (base : ℕ) (units : ℕ → Y.Block → ℕ → Type 0) (all : List (ℕ × Label)) (procedure : ℕ) (links : Links) (code : List Instr) (main returns : Bool) (may : List ℕ) : Type 1 where
+  pub narrows : Narrows outer outers block types
+  pub calls : Calls e outer outers all procedure bound links code may
+  pub signals : Signals e outer outers all procedure bound links code may
+  pub tells : Tells e outer outers all procedure may links code base units
   pub makes : (0 == e.level) ≡ true → (u : Y.Block) (at : ℕ) → UnitStands (program_around e) block types all procedure may links code u at → units base u at
   pub narrow : words < 2 ^ 22
-  pub ends : returns ≡ true → main ≡ false → IsHome e links outer
-  pub mains : bare ≡ true → HasMain procedure (main_labels e.program.procedures) e.level e.block labels outer
+  pub ends : returns ≡ true → main ≡ false → IsHome e links os
+  pub mains : HasMain procedure (main_labels e.program.procedures) e.level e.block labels os
 
-ways_within : {e : Environment} {block : Names} {types : Types} {words bound : ℕ} {small : Bool} {labels : List Label} {outer : List OuterBlock} {base : ℕ} {units : ℕ → Y.Block → ℕ → Type 0} {all : List (ℕ × Label)} {procedure : ℕ} {links : Links} {code : List Instr} {main returns bare : Bool} {may : List ℕ} (more : List Label) → Ways e block types words bound small labels outer base units all procedure links code main returns bare may → Ways e block types words bound small (more ++ labels) outer base units all procedure links code main returns bare may
-ways_within {e} {labels = labels} {outer = outer} {procedure = procedure} more ways =
+ways_within : {e : Environment} {outer : Names} {outers : Types} {block : Names} {types : Types} {words bound : ℕ} {small : Bool} {taken : ℕ} {labels : List Label} {os : List OuterBlock} {base : ℕ} {units : ℕ → Y.Block → ℕ → Type 0} {all : List (ℕ × Label)} {procedure : ℕ} {links : Links} {code : List Instr} {main returns : Bool} {may : List ℕ} (more : List Label) → Ways e outer outers block types words bound small taken labels os base units all procedure links code main returns may → Ways e outer outers block types words bound small taken (more ++ labels) os base units all procedure links code main returns may
+ways_within {e} {labels = labels} {os = os} {procedure = procedure} more ways =
     record {
+      narrows = ways.narrows;
       calls = ways.calls;
       signals = ways.signals;
       tells = ways.tells;
       makes = ways.makes;
       narrow = ways.narrow;
       ends = ways.ends;
-      mains = λ free. more_main procedure (main_labels e.program.procedures) e.level e.block more labels outer (ways.mains free);
+      mains = more_main procedure (main_labels e.program.procedures) e.level e.block more labels os ways.mains;
     }
 
 -- ---- room
 
 -- above a block, for so many words and bytes of variables in the frames of BEGIN blocks in a part: each is small, or with those of 500
--- small frames they fit; in a block that declares variables, where no calls stand, the variables take the place of these
-abbrev pub Room : (small bare : Bool) → (free depth words own level : ℕ) → Type 0
-Room false true free depth words own level =
-    ((free + 4 * words + 700 * (101 - level) + 2000000 ≤ 14 * 2 ^ 20) × (own ≤ 1000000)) × (depth < most_activations)
-Room false false free depth words own level =
-    ((free + 4 * words + own + 700 * (101 - level) ≤ 14 * 2 ^ 20) × (own ≤ 1000000)) × (depth < most_activations)
-Room true bare free depth words own level =
+-- small frames they fit, where the variables of BEGIN blocks around, of so many bytes, take the place of some of these
+abbrev pub Room : (small : Bool) → (taken free depth words own level : ℕ) → Type 0
+Room false taken free depth words own level =
+    ((free + 4 * words + 700 * (101 - level) + 2020000 ≤ 14 * 2 ^ 20 + taken) × (taken + own ≤ 1000000)) × (depth < most_activations)
+Room true taken free depth words own level =
     ((free + 4000 * (500 - depth) ≤ 14 * 2 ^ 20) × (4 * words + own ≤ 3200)) × (depth < most_activations)
 
-room_less : (small bare : Bool) (free depth words words' own own' level : ℕ) → words' ≤ words → own' ≤ own → Room small bare free depth words own level → Room small bare free depth words' own' level
-room_less false true free depth words words' own own' level less fewer room =
+room_less : (small : Bool) (taken free depth words words' own own' level : ℕ) → words' ≤ words → own' ≤ own → Room small taken free depth words own level → Room small taken free depth words' own' level
+room_less false taken free depth words words' own own' level less fewer room =
     let r = room.0.0 in let few = room.0.1 in ((omega (arith, r, less), omega (arith, few, fewer)), room.1)
-room_less false false free depth words words' own own' level less fewer room =
-    let r = room.0.0 in let few = room.0.1 in ((omega (arith, r, less, fewer), omega (arith, few, fewer)), room.1)
-room_less true bare free depth words words' own own' level less fewer room =
+room_less true taken free depth words words' own own' level less fewer room =
     ((room.0.0, let r = room.0.1 in omega (arith, r, less, fewer)), room.1)
 
--- where no calls stand
-room_declared : (small bare : Bool) (free depth words own level : ℕ) → Room small bare free depth words own level → Room small false free depth words own level
-room_declared false true free depth words own level room =
-    let r = room.0.0 in let few = room.0.1 in ((omega (arith, r, few), few), room.1)
-room_declared false false free depth words own level room = room
-room_declared true bare free depth words own level room = room
-
 -- for a frame, with its variables
-room_frame : (small bare : Bool) (free depth words more own others level : ℕ) → level < 100 → Room small bare free depth (words + more) (own + others) level → free + 4 * words + own + 700 ≤ 14 * 2 ^ 20
-room_frame false true free depth words more own others level shallow room =
+room_frame : (small : Bool) (taken free depth words more own others level : ℕ) → level < 100 → Room small taken free depth (words + more) (own + others) level → free + 4 * words + own + 700 ≤ 14 * 2 ^ 20
+room_frame false taken free depth words more own others level shallow room =
     let r = room.0.0 in let few = room.0.1 in omega (arith, r, few, shallow)
-room_frame false false free depth words more own others level shallow room = let r = room.0.0 in omega (arith, r, shallow)
-room_frame true bare free depth words more own others level shallow room =
+room_frame true taken free depth words more own others level shallow room =
     let r = room.0.0 in let few = room.0.1 in let d = room.1 in omega (arith, r, few, d)
 
--- above it
-room_inner : (small bare : Bool) (free depth words more own level level' : ℕ) → level < 100 → level' ≡ suc level → suc depth < most_activations → Room small bare free depth (words + more) own level → Room small bare (free + temporary_bytes words + fixed_size (suc level) 0) (suc depth) more own level'
-room_inner false true free depth words more own level level' shallow next deep room =
-    let r = room.0.0 in let few = room.0.1 in ((omega (arith, r, shallow, next), few), deep)
-room_inner false false free depth words more own level level' shallow next deep room =
-    let r = room.0.0 in let few = room.0.1 in ((omega (arith, r, shallow, next), few), deep)
-room_inner true bare free depth words more own level level' shallow next deep room =
+-- above it, without variables
+room_bare : (small : Bool) (taken free depth words more own others level level' : ℕ) → level < 100 → level' ≡ suc level → suc depth < most_activations → Room small taken free depth (words + more) (own + others) level → Room small (taken + own) (free + temporary_bytes words + fixed_size (suc level) 0) (suc depth) more others level'
+room_bare false taken free depth words more own others level level' shallow next deep room =
+    let r = room.0.0 in let few = room.0.1 in ((omega (arith, r, shallow, next), omega (arith, few)), deep)
+room_bare true taken free depth words more own others level level' shallow next deep room =
     let r = room.0.0 in let few = room.0.1 in ((omega (arith, r, few, deep, shallow), omega (arith, few)), deep)
 
 -- above it and its variables
-room_made : (small : Bool) (free depth words more own others level level' : ℕ) → level < 100 → level' ≡ suc level → suc depth < most_activations → Room small false free depth (words + more) (own + others) level → Room small false (free + temporary_bytes words + fixed_size (suc level) 0 + own) (suc depth) more others level'
-room_made false free depth words more own others level level' shallow next deep room =
+room_inner : (small : Bool) (taken free depth words more own others level level' : ℕ) → level < 100 → level' ≡ suc level → suc depth < most_activations → Room small taken free depth (words + more) (own + others) level → Room small (taken + own) (free + temporary_bytes words + fixed_size (suc level) 0 + own) (suc depth) more others level'
+room_inner false taken free depth words more own others level level' shallow next deep room =
     let r = room.0.0 in let few = room.0.1 in ((omega (arith, r, shallow, next), omega (arith, few)), deep)
-room_made true free depth words more own others level level' shallow next deep room =
+room_inner true taken free depth words more own others level level' shallow next deep room =
     let r = room.0.0 in let few = room.0.1 in ((omega (arith, r, few, deep, shallow), omega (arith, few)), deep)
 
 -- for its variables
-room_few : (small bare : Bool) (free depth words own level : ℕ) → Room small bare free depth words own level → own ≤ 1000000
-room_few false true free depth words own level room = room.0.1
-room_few false false free depth words own level room = room.0.1
-room_few true bare free depth words own level room = let r = room.0.1 in omega (arith, r)
+room_few : (small : Bool) (taken free depth words own level : ℕ) → Room small taken free depth words own level → own ≤ 1000000
+room_few false taken free depth words own level room = let few = room.0.1 in omega (arith, few)
+room_few true taken free depth words own level room = let r = room.0.1 in omega (arith, r)
 
 -- for calls
-room_calls : (small bare : Bool) (free depth words own level : ℕ) → bare ≡ true → Room small bare free depth words own level → free + 4000 * (500 - depth) ≤ 14 * 2 ^ 20
-room_calls false true free depth words own level free' room = let r = room.0.0 in omega (arith, r)
-room_calls false false free depth words own level apart room = absurd (cc apart)
-room_calls true bare free depth words own level free' room = room.0.0
+room_calls : (small : Bool) (taken free depth words own level : ℕ) → IsShallow taken → Room small taken free depth words own level → free + 4000 * (500 - depth) ≤ 14 * 2 ^ 20
+room_calls false taken free depth words own level shallow room = let r = room.0.0 in omega (arith, r, shallow)
+room_calls true taken free depth words own level shallow room = room.0.0
 
-room_deep : (small bare : Bool) (free depth words own level : ℕ) → Room small bare free depth words own level → depth < most_activations
-room_deep false true free depth words own level room = room.1
-room_deep false false free depth words own level room = room.1
-room_deep true bare free depth words own level room = room.1
+room_deep : (small : Bool) (taken free depth words own level : ℕ) → Room small taken free depth words own level → depth < most_activations
+room_deep false taken free depth words own level room = room.1
+room_deep true taken free depth words own level room = room.1
 
 -- a block declares nothing, or something
-by_declared : {A : Type 1} (ds : List Y.DeclaredVariable) → (ds ≡ [] → A) → (is_bare ds ≡ false → A) → A
+by_declared : {A : Type 1} (ds : List Y.DeclaredVariable) → (ds ≡ [] → A) → A → A
 by_declared [] none some' = none refl
-by_declared (d ∷ ds) none some' = some' refl
+by_declared (d ∷ ds) none some' = some'
 
 return_by : {e : Environment} {block : Names} {types : Types} (main : Bool) (bl : Block e block types) (links : Links) (code : List Instr) (around : Around) (line number : ℕ) → line < 2 ^ 31 → e.level ≤ 100 → (main ≡ true → e.owner ≡ BlockOwner (record { number = number; level = 0 })) → (main ≡ true → IsEndMarkedOnce links number) → (main ≡ false → IsHome e links bl.outer) → Does bl links code around.turns (stmt_code e bl.taken (Y.Return line)) (M.statement around (Y.Return line))
 return_by true bl links code around line number fits few owner ended home =
@@ -221,7 +210,7 @@ return_by false bl links code around line number fits few owner ended home =
     home_does bl links code around line few fits (home refl)
 
 mutual
-  pub statement_does : {e : Environment} {block : Names} {types : Types} (bl : Block e block types) (links : Links) (code : List Instr) (routines : Standing bl links code) (around : Around) (same : around.program ≡ e.program) {all : List (ℕ × Label)} {procedure : ℕ} {main returns bare small : Bool} {may : List ℕ} {bound : ℕ} (named : LabelsStand e links all procedure main) (x : Y.Stmt) → IsProvedStatement block types x → JumpsAround e.block e.level all e.blocks (main_outer procedure e.program.procedures) bl.outer bl.labels x → bl.taken.words + stmt_words x ≤ bl.words → Room small bare bl.stack.free (length bl.depths) (inner_words x) (bytes_in e.program x) e.level → DeclaresScalars e.program x → {more : ℕ} → Entering e.program around more → more ≤ bound → ((b : BlockPlace) → IsAmong b (blocks_in x) → IsAmong b e.blocks) → CallsAmong e.program may returns bare x → Ways e block types bl.words bound small bl.labels bl.outer bl.base bl.frames.known all procedure links code main returns bare may → Does bl links code around.turns (stmt_code e bl.taken x) (M.statement around x)
+  pub statement_does : {e : Environment} {block : Names} {types : Types} (bl : Block e block types) (links : Links) (code : List Instr) (routines : Standing bl links code) (around : Around) (same : around.program ≡ e.program) {all : List (ℕ × Label)} {procedure : ℕ} {main returns small : Bool} {taken : ℕ} {may : List ℕ} {bound : ℕ} {outer : Names} {outers : Types} (named : LabelsStand e links all procedure main) (x : Y.Stmt) → IsProvedStatement block types x → JumpsAround e.block e.level all e.blocks (main_outer procedure e.program.procedures) bl.outer bl.labels x → bl.taken.words + stmt_words x ≤ bl.words → Room small taken bl.stack.free (length bl.depths) (inner_words x) (bytes_in e.program x) e.level → DeclaresScalars e.program x → {more : ℕ} → Entering e.program around more → more ≤ bound → ((b : BlockPlace) → IsAmong b (blocks_in x) → IsAmong b e.blocks) → CallsAmong e.program may returns taken x → Ways e outer outers block types bl.words bound small taken bl.labels bl.outer bl.base bl.frames.known all procedure links code main returns may → Does bl links code around.turns (stmt_code e bl.taken x) (M.statement around x)
   statement_does bl links code routines around same named (Y.Null line) is jumps room space bare entering least known calls ways = null_does bl links code around line is
   statement_does bl links code routines around same named (Y.Assign target (Y.StoredNumber precision x) line) is jumps room space bare entering least known calls ways =
       let a = le-max_left (max 1 (number_words x)) (4 + reference_words target) in
@@ -233,13 +222,18 @@ mutual
       assign_bit_part_does bl links code routines around target x line is.0 is.1.0 (omega (arith, d, room)) (omega (arith, a, room)) is.1.1
   statement_does bl links code routines around same named (Y.Assign target (Y.StoredText x) line) is jumps room space bare entering least known calls ways =
       let a = le-max_left (text_words x) (4 + reference_words target) in
-      assign_text_does bl links code routines around target x line is.0 is.1.0 (omega (arith, a, room)) is.1.1
+      let d = le-max_right (text_words x) (4 + reference_words target) in
+      assign_text_part_does bl links code routines around target x line is.0 is.1.0 (omega (arith, a, room)) (omega (arith, d, room)) is.1.1
+  statement_does bl links code routines around same named (Y.AssignElements target (Y.StoredNumber precision x) line) is jumps room space bare entering least known calls ways =
+      elements_number_does bl links code routines around target precision x line is.0 is.1.0 room is.1.1
+  statement_does bl links code routines around same named (Y.AssignElements target (Y.StoredBit x) line) is jumps room space bare entering least known calls ways =
+      elements_bit_does bl links code routines around target x line is.0 is.1.0 room is.1.1
   statement_does bl links code routines around same named (Y.If condition unit line) is jumps room space bare entering least known calls ways =
       let a = le-max_left (bit_words condition) (stmt_words unit) in
       let d = le-max_right (bit_words condition) (stmt_words unit) in
       if_does bl links code routines around condition unit line is.0 (omega (arith, a, room)) is.1.1
       (statement_does bl links code routines around same named unit is.1.0 jumps (omega (arith, d, room)) space bare entering least known calls ways)
-  statement_does {e} bl links code routines around same {all} {procedure} {main} {bare = free} {small} named (Y.IfElse condition unit otherwise line) is jumps room space bare entering least known calls ways =
+  statement_does {e} bl links code routines around same {all} {procedure} {main} {small = small} {taken = filled} named (Y.IfElse condition unit otherwise line) is jumps room space bare entering least known calls ways =
       let most = max (stmt_words unit) (stmt_words otherwise) in
       let a = le-max_left (bit_words condition) most in
       let d = le-max_right (bit_words condition) most in
@@ -251,9 +245,9 @@ mutual
       let b2 = le-max_right (bytes_in e.program unit) (bytes_in e.program otherwise) in
       if_else_does bl links code routines around condition unit otherwise line is.0 (omega (arith, a, room)) is.1.1.1
       (statement_does bl links code routines around same named unit is.1.0 jumps.0 (omega (arith, d, d1, room))
-      (room_less small free bl.stack.free (length bl.depths) (max (inner_words unit) (inner_words otherwise)) (inner_words unit) (max (bytes_in e.program unit) (bytes_in e.program otherwise)) (bytes_in e.program unit) e.level i1 b1 space) bare.0 entering least (λ b h. known b (among_front b (blocks_in unit) (blocks_in otherwise) h)) calls.0 ways)
+      (room_less small filled bl.stack.free (length bl.depths) (max (inner_words unit) (inner_words otherwise)) (inner_words unit) (max (bytes_in e.program unit) (bytes_in e.program otherwise)) (bytes_in e.program unit) e.level i1 b1 space) bare.0 entering least (λ b h. known b (among_front b (blocks_in unit) (blocks_in otherwise) h)) calls.0 ways)
       (statement_does bl links code routines around same named otherwise is.1.1.0 jumps.1 (omega (arith, d, d2, room))
-      (room_less small free bl.stack.free (length bl.depths) (max (inner_words unit) (inner_words otherwise)) (inner_words otherwise) (max (bytes_in e.program unit) (bytes_in e.program otherwise)) (bytes_in e.program otherwise) e.level i2 b2 space) bare.1 entering least (λ b h. known b (among_back b (blocks_in unit) (blocks_in otherwise) h)) calls.1 ways)
+      (room_less small filled bl.stack.free (length bl.depths) (max (inner_words unit) (inner_words otherwise)) (inner_words otherwise) (max (bytes_in e.program unit) (bytes_in e.program otherwise)) (bytes_in e.program otherwise) e.level i2 b2 space) bare.1 entering least (λ b h. known b (among_back b (blocks_in unit) (blocks_in otherwise) h)) calls.1 ways)
   statement_does bl links code routines around same named (Y.Do body line) is jumps room space bare entering least known calls ways =
       do_does bl links code around body line is.1
       (listed bl around body (each_does (within (labels_in body) bl) links code (standing_within (labels_in body) routines) around same named body is.0 jumps room space bare entering least known calls (ways_within (labels_in body) ways)))
@@ -289,10 +283,11 @@ mutual
       let a = le-max_left (assigned_words target (Y.StoredText x)) most in
       let d = le-max_right (assigned_words target (Y.StoredText x)) most in
       let a1 = le-max_left (text_words x) (4 + reference_words target) in
+      let a2 = le-max_right (text_words x) (4 + reference_words target) in
       let d1 = le-max_left (bit_if condition) (stmts_words body) in
       let d2 = le-max_right (bit_if condition) (stmts_words body) in
       once_does bl links code routines around target (Y.StoredText x) condition body line is.1.0 (omega (arith, d, d1, room)) is.1.1.1
-      (assign_text_does bl links code routines around target x line is.0.0 is.0.1 (omega (arith, a, a1, room)) is.1.1.1)
+      (assign_text_part_does bl links code routines around target x line is.0.0 is.0.1 (omega (arith, a, a1, room)) (omega (arith, a, a2, room)) is.1.1.1)
       (listed bl around body (each_does (within (labels_in body) bl) links code (standing_within (labels_in body) routines) around same named body is.1.1.0 jumps (omega (arith, d, d2, room)) space bare entering least known calls (ways_within (labels_in body) ways)))
   statement_does bl links code routines around same named (Y.DoCount (Y.NumberCounter precision target) start limit step condition body line) is jumps room space bare entering least known calls ways =
       let first = 3 + max (value_words start) (max (number_if limit) (number_words step)) in
@@ -310,14 +305,14 @@ mutual
       counted_does bl links code routines around target precision start limit step condition body line is.0.0 (omega (arith, room, m2, d0)) is.0.1 is.1.0.0 is.1.0.1 is.1.1.0
       (omega (arith, room, m1, a1)) (omega (arith, room, m1, a2, a4)) (omega (arith, room, m1, a2, a5)) (omega (arith, room, m2, d1, d2)) is.1.1.1.1
       (listed (turning bl) around body (each_does (within (labels_in body) (turning bl)) links code (standing_within (labels_in body) (standing_turning routines)) around same named body is.1.1.1.0 jumps (omega (arith, room, m2, d1, d3)) space bare entering least known calls (ways_within (labels_in body) ways)))
-  statement_does {e} {block} {types} bl links code routines around same {all} {procedure} {main} {returns} {bare = free} {small} {may} {bound} named (Y.Begin (Y.BlockOf head body)) is jumps room space bare {more} entering least known calls ways =
+  statement_does {e} {block} {types} bl links code routines around same {all} {procedure} {main} {returns} {small = small} {taken = filled} {may = may} {bound = bound} {outer = outer} {outers = outers} named (Y.Begin (Y.BlockOf head body)) is jumps room space bare {more} entering least known calls ways =
       let vars = variables_of_block e.program head.number in
       let next = jumps.0.0 in
       let deep = jumps.0.1 in
       let shallow : e.level < 100 = omega (arith, next, deep) in
       let own' : OuterBlock = record { level = e.level; number = e.block; labels = bl.labels } in
       let words = max 0 (stmts_words body) in
-      let fits = room_frame small free bl.stack.free (length bl.depths) words (all_inner_words body) (32 * length vars) (inner_bytes e.program body) e.level shallow space in
+      let fits = room_frame small filled bl.stack.free (length bl.depths) words (all_inner_words body) (32 * length vars) (inner_bytes e.program body) e.level shallow space in
       let inner = inner_of bl words shallow (omega (arith, fits)) in
       let here : (more' : ℕ) → Around = λ more'. inner_around e.program more' head.line in
       let most = le-max_right 0 (stmts_words body) in
@@ -326,7 +321,6 @@ mutual
       let here' : variables_of_block block.program head.number ≡ [] = ap (λ p. variables_of_block p head.number) bl.named ∙ none in
       let are : AreProvedStatements block types body = subst (λ ds. AreProvedStatements (names_in block types head ds) (types_in types ds) body) here' is.1.1 in
       let around' : AllJumpAround head.number head.level all e.blocks (main_outer procedure e.program.procedures) (own' ∷ bl.outer) (labels_in body) body = jumps.1 in
-      let calls' : AllCallAmong e.program may returns free body = subst (λ ds. AllCallAmong e.program may returns (is_bare ds && free) body) none calls in
       let sized : frame_end e.parts e.program head.number head.level ≡ fixed_size (suc e.level) 0 = named.bare head.number head.level none ∙ ap (λ l. fixed_size l 0) next in
       begin_does bl links code around more head body inner named.lower refl shallow next routines.filled is.0 is.1.0 none entering
       (λ more' step deeper t0.
@@ -334,17 +328,15 @@ mutual
       let high : AllJumpAround head.number head.level all e.blocks (main_outer procedure e.program.procedures) ib.outer (labels_in body ++ []) body = subst (λ ls. AllJumpAround head.number head.level all e.blocks (main_outer procedure e.program.procedures) ib.outer ls body) (sym (append-nil (labels_in body))) around' in
       listed ib (here more') body
       (each_does (within (labels_in body) ib) links code (standing_within (labels_in body) (standing_inside inner t0 head.number head.level next sized routines)) (here more') refl (inner_labels_stand named head.number head.level next deep (known (place_of_head head) (inl refl))) body are high (omega (arith, most))
-      (room_inner small free bl.stack.free (length bl.depths) words (all_inner_words body) (inner_bytes e.program body) e.level head.level shallow next deeper (room_less small free bl.stack.free (length bl.depths) (words + all_inner_words body) (words + all_inner_words body) (32 * length vars + inner_bytes e.program body) (inner_bytes e.program body) e.level (omega arith) (omega arith) space))
-      bare.1 (inner_entering e.program more' head.line) (omega (arith, least, step)) (λ b h. known b (inr h)) calls'
-      (record { calls = ways.calls; signals = ways.signals; tells = ways.tells; makes = λ same' u at k. let no : true ≡ false = sym same' ∙ other_level head.level e.level next in absurd (cc no); narrow = omega (arith, fits); ends = λ may' other. inr (ways.ends may' other); mains = λ free'. more_main procedure (main_labels e.program.procedures) head.level head.number (labels_in body) [] ib.outer (inr (ways.mains free')) }))))
-      (λ other.
-      let are' : AreDeclaring vars = bare.0 in
-      let few = room_few small free bl.stack.free (length bl.depths) (words + all_inner_words body) (32 * length vars + inner_bytes e.program body) e.level space in
+      (room_bare small filled bl.stack.free (length bl.depths) words (all_inner_words body) (32 * length vars) (inner_bytes e.program body) e.level head.level shallow next deeper space)
+      bare.1 (inner_entering e.program more' head.line) (omega (arith, least, step)) (λ b h. known b (inr h)) calls
+      (record { narrows = ways.narrows; calls = ways.calls; signals = ways.signals; tells = ways.tells; makes = λ same' u at k. let no : true ≡ false = sym same' ∙ other_level head.level e.level next in absurd (cc no); narrow = omega (arith, fits); ends = λ may' other. inr (ways.ends may' other); mains = more_main procedure (main_labels e.program.procedures) head.level head.number (labels_in body) [] ib.outer (inr ways.mains) }))))
+      (let are' : AreDeclaring vars = bare.0 in
+      let few = room_few small filled bl.stack.free (length bl.depths) (words + all_inner_words body) (32 * length vars + inner_bytes e.program body) e.level space in
       let are : AreProvedStatements (names_in block types head vars) (types_in types vars) body = subst (λ p. AreProvedStatements (names_in block types head (variables_of_block p head.number)) (types_in types (variables_of_block p head.number)) body) bl.named is.1.1 in
       let around' : AllJumpAround head.number head.level all e.blocks (main_outer procedure e.program.procedures) (own' ∷ bl.outer) (labels_in body) body = jumps.1 in
-      let calls' : AllCallAmong e.program may returns false body = subst (λ q. AllCallAmong e.program may returns (q && free) body) other calls in
       let makes = λ (t0 : ℕ → ℕ). inner_makes bl inner t0 head next routines.filled routines.known are' deep (let place = inner.place in omega (arith, fits, shallow)) (omega (arith, few)) in
-      declares_does bl links code around more head body inner named.lower refl shallow next routines.filled (known_in e.owner head.number head.level routines.known) are' makes is.0 is.1.0 entering
+      declares_does bl links code around more head body inner named.lower refl shallow next routines.filled (known_in e.owner head.number head.level routines.known) are' makes (λ t0. standing_inner inner t0 head.number head.level next routines) is.0 is.1.0 entering
       (λ more' step deeper t0 serial.
       let ib = inner_block bl inner t0 head.number head.level next routines.filled in
       let mb = made_block ib vars (makes t0) serial in
@@ -363,22 +355,25 @@ mutual
       subst (λ tk. Does mb links code (suc more') (stmts_code (in_frame head.number head.level e) tk body) (M.list (here more') body)) taken
       (listed mb (here more') body
       (each_does (within (labels_in body) mb) links code (standing_within (labels_in body) standing) (here more') refl {bound = bound} (inner_labels_stand named head.number head.level next deep (known (place_of_head head) (inl refl))) body are high (omega (arith, most, w, ap (λ (tk : Taken). tk.words) taken))
-      (subst (λ d. Room small false mb.stack.free d (all_inner_words body) (inner_bytes e.program body) head.level) (sym (ap (λ (ds : List ℕ). length ds) depths))
-      (subst (λ fr. Room small false fr (suc (length bl.depths)) (all_inner_words body) (inner_bytes e.program body) head.level) (sym free')
-      (room_made small bl.stack.free (length bl.depths) words (all_inner_words body) (32 * length vars) (inner_bytes e.program body) e.level head.level shallow next deeper (room_declared small free bl.stack.free (length bl.depths) (words + all_inner_words body) (32 * length vars + inner_bytes e.program body) e.level space))))
-      bare.1 (inner_entering e.program more' head.line) (omega (arith, least, step)) (λ b h. known b (inr h)) calls'
+      (subst (λ d. Room small (filled + 32 * length vars) mb.stack.free d (all_inner_words body) (inner_bytes e.program body) head.level) (sym (ap (λ (ds : List ℕ). length ds) depths))
+      (subst (λ fr. Room small (filled + 32 * length vars) fr (suc (length bl.depths)) (all_inner_words body) (inner_bytes e.program body) head.level) (sym free')
+      (room_inner small filled bl.stack.free (length bl.depths) words (all_inner_words body) (32 * length vars) (inner_bytes e.program body) e.level head.level shallow next deeper space)))
+      bare.1 (inner_entering e.program more' head.line) (omega (arith, least, step)) (λ b h. known b (inr h)) calls
       (record {
-        calls = λ no. let apart : false ≡ true = no in absurd (cc apart);
-        signals = λ no. let apart : false ≡ true = no in absurd (cc apart);
-        tells = λ no. let apart : false ≡ true = no in absurd (cc apart);
+        narrows = narrows_in head vars (omega (arith, next)) ways.narrows;
+        calls = ways.calls;
+        signals = ways.signals;
+        tells = subst (λ b. Tells e outer outers all procedure may links code b mb.frames.known) (sym made.base) (subst (λ (fs : Frames). Tells e outer outers all procedure may links code bl.base fs.known) (sym made.frames) ways.tells);
         makes = λ same' u at k. let no : true ≡ false = sym same' ∙ other_level head.level e.level next in absurd (cc no);
         narrow = omega (arith, fits, w);
         ends = λ may' other'. subst (IsHome (in_frame head.number head.level e) links) (sym made.outer) (inr (ways.ends may' other'));
-        mains = λ no. let apart : false ≡ true = no in absurd (cc apart);
+        mains = subst (λ os. HasMain procedure (main_labels e.program.procedures) head.level head.number (labels_in body ++ mb.labels) os) (sym made.outer) (more_main procedure (main_labels e.program.procedures) head.level head.number (labels_in body) mb.labels (own' ∷ bl.outer) (inr ways.mains));
       })))))
-  statement_does {e} bl links code routines around same {all} {procedure} {main} {bare = free} {small} named (Y.CallProcedure (Y.Calling number level Y.NoArgument) line) is jumps room space bare {more} entering least known calls ways =
+  statement_does {e} bl links code routines around same {all} {procedure} {main} {small = small} {taken = filled} named (Y.CallProcedure (Y.Calling number level Y.NoArgument) line) is jumps room space bare {more} entering least known calls ways =
+      let mains = main_labels e.program.procedures in
       subst (λ n. Does bl links code around.turns (stmt_code e bl.taken (Y.CallProcedure (Y.Calling number n Y.NoArgument) line)) (M.statement around (Y.CallProcedure (Y.Calling number n Y.NoArgument) line))) (sym is.0)
-      (ways.calls calls.0 e.owner e.block e.level bl (room_deep small free bl.stack.free (length bl.depths) 0 0 e.level space) (room_calls small free bl.stack.free (length bl.depths) 0 0 e.level calls.0 space) ways.narrow routines (ways.tells calls.0) (omega (arith, room)) (ways.mains calls.0) around same more entering least number calls.1 line is.1)
+      (through_does bl ways.narrows procedure mains ways.mains
+      (λ n0 x. ways.calls e.owner e.block e.level (narrowed bl ways.narrows n0 x procedure mains ways.mains) (room_deep small filled bl.stack.free (length bl.depths) 0 0 e.level space) (room_calls small filled bl.stack.free (length bl.depths) 0 0 e.level calls.0 space) ways.narrow (standing_narrowed ways.narrows n0 x procedure mains ways.mains routines) ways.tells (omega (arith, room)) (narrowed_has bl procedure mains ways.mains) around same more entering least number calls.1 line is.1))
   statement_does bl links code routines around same {main = main} named (Y.Return line) is jumps room space bare entering least known calls ways =
       return_by main bl links code around line _ is named.shallow named.owner named.ended (ways.ends calls)
   statement_does {e} bl links code routines around same named (Y.Goto level label line) is (inl jumps) room space bare entering least known calls ways =
@@ -386,8 +381,10 @@ mutual
   statement_does bl links code routines around same {all} named (Y.Goto level label line) is (inr jumps) room space bare entering least known calls ways =
       out_does bl links code around all level label line (λ number h. named.once number label h) (inr named.owned) named.shallow is jumps
   statement_does bl links code routines around same named (Y.Stop line) is jumps room space bare entering least known calls ways = stop_does bl links code around line is
-  statement_does {e} bl links code routines around same {bare = free} {small = small} named (Y.Signal C.Area line) is jumps room space bare {more} entering least known calls ways =
-      ways.signals calls e.owner e.block e.level bl (room_deep small free bl.stack.free (length bl.depths) 0 0 e.level space) (room_calls small free bl.stack.free (length bl.depths) 0 0 e.level calls space) ways.narrow routines (ways.tells calls) (ways.mains calls) around same more entering least line is
+  statement_does {e} bl links code routines around same {all} {procedure} {small = small} {taken = filled} named (Y.Signal C.Area line) is jumps room space bare {more} entering least known calls ways =
+      let mains = main_labels e.program.procedures in
+      through_does bl ways.narrows procedure mains ways.mains
+      (λ n0 x. ways.signals e.owner e.block e.level (narrowed bl ways.narrows n0 x procedure mains ways.mains) (room_deep small filled bl.stack.free (length bl.depths) 0 0 e.level space) (room_calls small filled bl.stack.free (length bl.depths) 0 0 e.level calls space) ways.narrow (standing_narrowed ways.narrows n0 x procedure mains ways.mains routines) ways.tells (narrowed_has bl procedure mains ways.mains) around same more entering least line is)
   statement_does bl links code routines around same named (Y.Signal C.FixedOverflow line) is jumps room space bare entering least known calls ways = signal_does bl links code routines.raises around C.FixedOverflow line refl is
   statement_does bl links code routines around same named (Y.Signal C.ZeroDivide line) is jumps room space bare entering least known calls ways = signal_does bl links code routines.raises around C.ZeroDivide line refl is
   statement_does bl links code routines around same named (Y.Signal C.Endfile line) is jumps room space bare entering least known calls ways = signal_does bl links code routines.raises around C.Endfile line refl is
@@ -426,9 +423,9 @@ mutual
       get_skip_does bl links code routines around same n pairs line is.0.0 is.0.1 is.1.0 is.1.1 room
   statement_does bl links code routines around same named _ is jumps room space bare entering least known calls ways = absurd is
 
-  pub each_does : {e : Environment} {block : Names} {types : Types} (bl : Block e block types) (links : Links) (code : List Instr) (routines : Standing bl links code) (around : Around) (same : around.program ≡ e.program) {all : List (ℕ × Label)} {procedure : ℕ} {main returns bare small : Bool} {may : List ℕ} {bound : ℕ} (named : LabelsStand e links all procedure main) (body : Y.Stmts) → AreProvedStatements block types body → AllJumpAround e.block e.level all e.blocks (main_outer procedure e.program.procedures) bl.outer bl.labels body → bl.taken.words + stmts_words body ≤ bl.words → Room small bare bl.stack.free (length bl.depths) (all_inner_words body) (inner_bytes e.program body) e.level → DeclareScalars e.program body → {more : ℕ} → Entering e.program around more → more ≤ bound → ((b : BlockPlace) → IsAmong b (blocks_among body) → IsAmong b e.blocks) → AllCallAmong e.program may returns bare body → Ways e block types bl.words bound small bl.labels bl.outer bl.base bl.frames.known all procedure links code main returns bare may → EachDoes bl links code around body
+  pub each_does : {e : Environment} {block : Names} {types : Types} (bl : Block e block types) (links : Links) (code : List Instr) (routines : Standing bl links code) (around : Around) (same : around.program ≡ e.program) {all : List (ℕ × Label)} {procedure : ℕ} {main returns small : Bool} {taken : ℕ} {may : List ℕ} {bound : ℕ} {outer : Names} {outers : Types} (named : LabelsStand e links all procedure main) (body : Y.Stmts) → AreProvedStatements block types body → AllJumpAround e.block e.level all e.blocks (main_outer procedure e.program.procedures) bl.outer bl.labels body → bl.taken.words + stmts_words body ≤ bl.words → Room small taken bl.stack.free (length bl.depths) (all_inner_words body) (inner_bytes e.program body) e.level → DeclareScalars e.program body → {more : ℕ} → Entering e.program around more → more ≤ bound → ((b : BlockPlace) → IsAmong b (blocks_among body) → IsAmong b e.blocks) → AllCallAmong e.program may returns taken body → Ways e outer outers block types bl.words bound small taken bl.labels bl.outer bl.base bl.frames.known all procedure links code main returns may → EachDoes bl links code around body
   each_does bl links code routines around same named (Y.EndOfList labels) are jumps room space bare entering least known calls ways = tt
-  each_does {e} bl links code routines around same {all} {procedure} {main} {bare = free} {small} named (Y.StmtThen labels first rest) are jumps room space bare entering least known calls ways =
+  each_does {e} bl links code routines around same {all} {procedure} {main} {small = small} {taken = filled} named (Y.StmtThen labels first rest) are jumps room space bare entering least known calls ways =
       let a = le-max_left (stmt_words first) (stmts_words rest) in
       let c = le-max_right (stmt_words first) (stmts_words rest) in
       let i1 = le-max_left (inner_words first) (all_inner_words rest) in
@@ -437,12 +434,12 @@ mutual
       let b2 = le-max_right (bytes_in e.program first) (inner_bytes e.program rest) in
       let words = max (inner_words first) (all_inner_words rest) in
       let bytes = max (bytes_in e.program first) (inner_bytes e.program rest) in (
-        statement_does bl links code routines around same named first are.0 jumps.0 (omega (arith, a, room)) (room_less small free bl.stack.free (length bl.depths) words (inner_words first) bytes (bytes_in e.program first) e.level i1 b1 space) bare.0 entering least (λ b h. known b (among_front b (blocks_in first) (blocks_among rest) h)) calls.0 ways,
-        each_does bl links code routines around same named rest are.1 jumps.1 (omega (arith, c, room)) (room_less small free bl.stack.free (length bl.depths) words (all_inner_words rest) bytes (inner_bytes e.program rest) e.level i2 b2 space) bare.1 entering least (λ b h. known b (among_back b (blocks_in first) (blocks_among rest) h)) calls.1 ways,
+        statement_does bl links code routines around same named first are.0 jumps.0 (omega (arith, a, room)) (room_less small filled bl.stack.free (length bl.depths) words (inner_words first) bytes (bytes_in e.program first) e.level i1 b1 space) bare.0 entering least (λ b h. known b (among_front b (blocks_in first) (blocks_among rest) h)) calls.0 ways,
+        each_does bl links code routines around same named rest are.1 jumps.1 (omega (arith, c, room)) (room_less small filled bl.stack.free (length bl.depths) words (all_inner_words rest) bytes (inner_bytes e.program rest) e.level i2 b2 space) bare.1 entering least (λ b h. known b (among_back b (blocks_in first) (blocks_among rest) h)) calls.1 ways,
       )
 
 -- the statements of a block
-pub body_does : {e : Environment} {block : Names} {types : Types} (bl : Block e block types) (links : Links) (code : List Instr) (routines : Standing bl links code) (around : Around) (same : around.program ≡ e.program) {all : List (ℕ × Label)} {procedure : ℕ} {main returns bare small : Bool} {may : List ℕ} {bound : ℕ} (named : LabelsStand e links all procedure main) (body : Y.Stmts) → AreProvedStatements block types body → AllJumpAround e.block e.level all e.blocks (main_outer procedure e.program.procedures) bl.outer (labels_in body ++ bl.labels) body → bl.taken.words + stmts_words body ≤ bl.words → Room small bare bl.stack.free (length bl.depths) (all_inner_words body) (inner_bytes e.program body) e.level → DeclareScalars e.program body → {more : ℕ} → Entering e.program around more → more ≤ bound → ((b : BlockPlace) → IsAmong b (blocks_among body) → IsAmong b e.blocks) → AllCallAmong e.program may returns bare body → Ways e block types bl.words bound small (labels_in body ++ bl.labels) bl.outer bl.base bl.frames.known all procedure links code main returns bare may → Does bl links code around.turns (stmts_code e bl.taken body) (M.list around body)
+pub body_does : {e : Environment} {block : Names} {types : Types} (bl : Block e block types) (links : Links) (code : List Instr) (routines : Standing bl links code) (around : Around) (same : around.program ≡ e.program) {all : List (ℕ × Label)} {procedure : ℕ} {main returns small : Bool} {taken : ℕ} {may : List ℕ} {bound : ℕ} {outer : Names} {outers : Types} (named : LabelsStand e links all procedure main) (body : Y.Stmts) → AreProvedStatements block types body → AllJumpAround e.block e.level all e.blocks (main_outer procedure e.program.procedures) bl.outer (labels_in body ++ bl.labels) body → bl.taken.words + stmts_words body ≤ bl.words → Room small taken bl.stack.free (length bl.depths) (all_inner_words body) (inner_bytes e.program body) e.level → DeclareScalars e.program body → {more : ℕ} → Entering e.program around more → more ≤ bound → ((b : BlockPlace) → IsAmong b (blocks_among body) → IsAmong b e.blocks) → AllCallAmong e.program may returns taken body → Ways e outer outers block types bl.words bound small taken (labels_in body ++ bl.labels) bl.outer bl.base bl.frames.known all procedure links code main returns may → Does bl links code around.turns (stmts_code e bl.taken body) (M.list around body)
 body_does bl links code routines around same named body are jumps room space bare entering least known calls ways =
     listed bl around body
     (each_does (within (labels_in body) bl) links code (standing_within (labels_in body) routines) around same named body are jumps room space bare entering least known calls ways)

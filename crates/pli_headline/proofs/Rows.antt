@@ -12,7 +12,7 @@ use Rattle.image_runs.specs.Runs.{Stopped, layout_of, shown_by}
 use Rattle.pli_meaning.specs.Pictures.{step_cost}
 use Rattle.pli_headline.specs.Headline.{parts}
 use Rattle.pli_meaning.specs.Executing.{labels_in}
-use Rattle.pli_headline.specs.ProvedSoFar.{IsProvedSoFar, Names, main_names, ArePlain, Types, AreProvedStatements, AllJumpAround, main_outer, all_labels, AreProvedFormats, AreProvedPairs, IsTimes, HasData, IsOwn, IsOwnText, IsTarget, plain_variable, text_leaf, alone, array_variable, IsProvedNumber, IsElement, IsDimension}
+use Rattle.pli_headline.specs.ProvedSoFar.{IsProvedSoFar, Names, main_names, ArePlain, Types, AreProvedStatements, AllJumpAround, main_outer, all_labels, AreProvedFormats, AreProvedPairs, IsTimes, HasData, IsOwn, IsAssignedText, IsTarget, plain_variable, text_leaf, alone, array_variable, IsProvedNumber, IsElement, IsDimension}
 use Rattle.pli_typing.specs.Signatures.{Bounds}
 
 -- a fault is no world
@@ -179,8 +179,8 @@ texts =
 texts_proved : AreProvedStatements names (alone (text_leaf false 5) ∷ alone (text_leaf true 8) ∷ []) texts
 texts_proved =
     let types : Types = alone (text_leaf false 5) ∷ alone (text_leaf true 8) ∷ [] in
-    let c : IsOwnText names types (whole_of 0) = record { varying = false; most = 5; own = record { index = 0; declared = refl; is = refl } } in
-    let v : IsOwnText names types (whole_of 1) = record { varying = true; most = 8; own = record { index = 1; declared = refl; is = refl } } in
+    let c : IsAssignedText names types (whole_of 0) = (record { varying = false; most = 5; part = inl (record { index = 0; declared = refl; is = refl }) }, tt) in
+    let v : IsAssignedText names types (whole_of 1) = (record { varying = true; most = 8; part = inl (record { index = 1; declared = refl; is = refl }) }, tt) in
     ((v, ((c, omega arith), lit< tt)), (((c, v), ((c, ((v, c), lit< tt)), lit< tt)), tt))
 
 -- DCL A(3, -1:1) FIXED BIN(31) INIT((4) 7, *, -7), I FIXED BIN(31);
@@ -222,7 +222,7 @@ elements_proved =
     let at : (i j : Y.Number) → IsElement names types (Y.FixedLeaf 31) (element_at i j) = λ i j.
     record { index = 0; bound = three; bounds = around_zero ∷ []; first = i; rest = Y.NumberThen j Y.NoNumber; declared = refl; many = refl; is = refl } in
     let inner : IsProvedNumber names types (Y.NumberIn (element_at (Y.NumberConstant 1) (Y.NumberIn (whole_of 1)))) = (record { precision = 31; part = inr (at (Y.NumberConstant 1) (Y.NumberIn (whole_of 1))) }, (lit< tt, (n, tt))) in
-    let lower : IsDimension names types (whole_of 0) 2 = record { index = 0; type = Y.FixedLeaf 31; element = (omega arith, omega arith); bound = three; bounds = around_zero ∷ []; declared = refl; place = 1; asked = around_zero; dimension_is = refl; among = refl; is = refl } in
+    let lower : IsDimension names types (whole_of 0) 2 = record { index = 0; type = Y.FixedLeaf 31; held = (omega arith, omega arith); bound = three; bounds = around_zero ∷ []; declared = refl; place = 1; asked = around_zero; dimension_is = refl; among = refl; is = refl } in
     (((inr (at (Y.NumberIn (element_at (Y.NumberConstant 1) (Y.NumberIn (whole_of 1)))) (Y.LowerBound (whole_of 0) 2)), (inner, (lower, tt))), (n, lit< tt)), tt)
 
 -- DO A(2, I) = 1 TO 5; I = 0; END;
@@ -527,7 +527,7 @@ procedure_program =
           is = refl;
           apart = refl;
           level = refl;
-          bare = refl;
+          declares = tt;
           statements = (((inl i, tt), (lit< tt, lit< tt)), (lit< tt, tt));
           jumps = (tt, (tt, tt));
           inside = (tt, (tt, tt));
@@ -573,7 +573,7 @@ call_program =
         line = lit< tt;
         statements = ((refl, lit< tt), tt);
         jumps = (tt, tt);
-        calls = ((refl, refl), tt);
+        calls = ((omega arith, refl), tt);
         inside = (tt, tt);
         few = omega arith;
       };
@@ -584,11 +584,11 @@ call_program =
           is = refl;
           apart = refl;
           level = refl;
-          bare = refl;
+          declares = tt;
           statements = ((refl, (lit< tt, ((refl, lit< tt), (lit< tt, tt)))), (lit< tt, tt));
           jumps = (((refl, omega arith), (tt, (tt, tt))), (tt, tt));
           inside = ((tt, (tt, (tt, tt))), (tt, tt));
-          callable = λ h. record { kind = refl; line = lit< tt; calls = (((refl, refl), (refl, tt)), (refl, tt)); few = omega arith };
+          callable = λ h. record { kind = refl; line = lit< tt; calls = (((omega arith, refl), (refl, tt)), (refl, tt)); few = omega arith };
         },
         tt,
       );
@@ -642,7 +642,7 @@ unit_program =
           (lit< tt, ((refl, (tt, (lit< tt, (lit< tt, (((inl i, tt), (lit< tt, lit< tt)), (lit< tt, tt)))))), (lit< tt, tt))),
         );
         jumps = ((refl, (refl, (tt, (tt, tt)))), (tt, ((refl, (refl, (refl, (tt, (tt, tt))))), (tt, tt))));
-        calls = (((tt, tt), (omega arith, tt)), (refl, (((tt, (tt, tt)), (omega arith, refl)), (refl, tt))));
+        calls = (((tt, tt), (omega arith, tt)), (omega arith, (((tt, (tt, tt)), (omega arith, refl)), (omega arith, tt))));
         inside = ((tt, (tt, tt)), (tt, ((refl, (tt, (tt, tt))), (tt, tt))));
         few = omega arith;
       };
@@ -688,7 +688,7 @@ leaving_program =
         line = lit< tt;
         statements = ((refl, (tt, (lit< tt, (lit< tt, ((refl, lit< tt), tt))))), (lit< tt, (lit< tt, tt)));
         jumps = ((refl, (refl, (refl, (tt, tt)))), (tt, (tt, tt)));
-        calls = ((((refl, refl), tt), (omega arith, refl)), (refl, (tt, tt)));
+        calls = ((((omega arith, refl), tt), (omega arith, refl)), (omega arith, (tt, tt)));
         inside = ((refl, (tt, tt)), (tt, (tt, tt)));
         few = omega arith;
       };
@@ -699,7 +699,7 @@ leaving_program =
           is = refl;
           apart = refl;
           level = refl;
-          bare = refl;
+          declares = tt;
           statements = (lit< tt, tt);
           jumps = (inr (inl (refl, (refl, (refl, refl)))), tt);
           inside = (tt, tt);
@@ -748,7 +748,7 @@ away_program =
           (refl, (refl, (tt, (inr (inl (refl, (refl, (refl, refl)))), tt)))),
           (tt, ((refl, (refl, (refl, (inr (inl (refl, (refl, (refl, refl)))), tt)))), (tt, tt))),
         );
-        calls = (((tt, tt), (omega arith, tt)), (refl, (((tt, tt), (omega arith, refl)), (refl, tt))));
+        calls = (((tt, tt), (omega arith, tt)), (omega arith, (((tt, tt), (omega arith, refl)), (omega arith, tt))));
         inside = ((tt, (tt, tt)), (tt, ((refl, (tt, tt)), (tt, tt))));
         few = omega arith;
       };

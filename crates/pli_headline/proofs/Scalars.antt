@@ -16,7 +16,7 @@ use Rattle.pli_meaning.specs.BasicValues.{BasicValue, BasicNumber, BasicBit}
 use Rattle.pli_meaning.specs.Numbers.{is_of_precision}
 use Rattle.pli_meaning.specs.Contents.{initial_at}
 use Rattle.pli_meaning.specs.Texts.{bit_number, fitted}
-use Rattle.pli_headline.specs.ProvedSoFar.{plain_variable, array_variable, AreBounds, IsElementType, IsScalar, IsHeld, IsConstantOf, IsPlain, Kind, Types, alone, AreConstants}
+use Rattle.pli_headline.specs.ProvedSoFar.{plain_variable, array_variable, AreBounds, IsElementType, IsScalar, IsHeld, IsConstantOf, IsPlain, Kind, Types, alone, AreConstants, text_leaf}
 use Rattle.pli_headline.proofs.Numbers.{IsWide}
 use Rattle.pli_headline.proofs.WordPrecisions.{below, below_is}
 
@@ -67,13 +67,13 @@ by_held P fixed bit padded cut (Y.VaryingLeaf (Y.ConstantExtent (pos zero))) is 
 by_held P fixed bit padded cut _ is = absurd is
 
 -- a scalar or an array
-pub by_shape : (P : Y.LeafType → List Bounds → Type 0) → ((type : Y.LeafType) → IsScalar type → P type []) → ((type : Y.LeafType) (b : Bounds) (bs : List Bounds) → IsElementType type → AreBounds (b ∷ bs) → length (b ∷ bs) ≤ 8 → P type (b ∷ bs)) → (type : Y.LeafType) (bs : List Bounds) → IsHeld type bs → P type bs
+pub by_shape : (P : Y.LeafType → List Bounds → Type 0) → ((type : Y.LeafType) → IsScalar type → P type []) → ((type : Y.LeafType) (b : Bounds) (bs : List Bounds) → IsScalar type → AreBounds (b ∷ bs) → length (b ∷ bs) ≤ 8 → P type (b ∷ bs)) → (type : Y.LeafType) (bs : List Bounds) → IsHeld type bs → P type bs
 by_shape P scalar array type [] is = scalar type is
 by_shape P scalar array type (b ∷ bs) is =
     let few = is.1.1 in
     array type b bs is.0 is.1.0 (omega (arith, few))
 
-pub by_plain : (P : Y.DeclaredVariable → Type 0) → ((p : ℕ) (i : List T.InitialItem) → P (plain_variable (Y.FixedLeaf p) i)) → ((i : List T.InitialItem) → P (plain_variable Y.BitLeaf i)) → ((n : ℕ) (i : List T.InitialItem) → P (plain_variable (character n) i)) → ((n : ℕ) (i : List T.InitialItem) → P (plain_variable (varying n) i)) → ((type : Y.LeafType) (b : Bounds) (bs : List Bounds) (i : List T.InitialItem) → IsElementType type → AreBounds (b ∷ bs) → P (array_variable type (b ∷ bs) i)) → (d : Y.DeclaredVariable) → IsPlain d → P d
+pub by_plain : (P : Y.DeclaredVariable → Type 0) → ((p : ℕ) (i : List T.InitialItem) → P (plain_variable (Y.FixedLeaf p) i)) → ((i : List T.InitialItem) → P (plain_variable Y.BitLeaf i)) → ((n : ℕ) (i : List T.InitialItem) → P (plain_variable (character n) i)) → ((n : ℕ) (i : List T.InitialItem) → P (plain_variable (varying n) i)) → ((type : Y.LeafType) (b : Bounds) (bs : List Bounds) (i : List T.InitialItem) → IsScalar type → AreBounds (b ∷ bs) → P (array_variable type (b ∷ bs) i)) → (d : Y.DeclaredVariable) → IsPlain d → P d
 by_plain P fixed bit padded cut many d is =
     subst P (sym is.is)
     (by_shape (λ t bs. P (array_variable t bs is.initial))
@@ -86,6 +86,25 @@ pub element_numeric : (type : Y.LeafType) → IsElementType type → IsNumeric t
 element_numeric (Y.FixedLeaf p) is = tt
 element_numeric Y.BitLeaf is = tt
 element_numeric _ is = absurd is
+
+-- an element of numbers is a scalar, and a scalar that holds a number may be an element of numbers
+pub element_scalar : (type : Y.LeafType) → IsElementType type → IsScalar type
+element_scalar (Y.FixedLeaf p) is = is
+element_scalar Y.BitLeaf is = is
+element_scalar _ is = absurd is
+
+pub scalar_element : (type : Y.LeafType) → IsScalar type → IsNumeric type → IsElementType type
+scalar_element (Y.FixedLeaf p) is numeric = is
+scalar_element Y.BitLeaf is numeric = is
+scalar_element _ is numeric = absurd numeric
+
+-- what holds a number, or a text
+pub by_content : (P : Y.LeafType → Type 0) → ((type : Y.LeafType) → IsElementType type → P type) → ((varying' : Bool) (most : ℕ) → 1 ≤ most → most ≤ 1024 → P (text_leaf varying' most)) → (type : Y.LeafType) → IsScalar type → P type
+by_content P number text (Y.FixedLeaf p) is = number (Y.FixedLeaf p) is
+by_content P number text Y.BitLeaf is = number Y.BitLeaf is
+by_content P number text (Y.CharacterLeaf (Y.ConstantExtent (pos n))) is = text false n is.0 is.1
+by_content P number text (Y.VaryingLeaf (Y.ConstantExtent (pos n))) is = text true n is.0 is.1
+by_content P number text _ is = absurd is
 
 -- ---- values
 
@@ -150,11 +169,13 @@ zero_fits (Y.FixedLeaf p) is = (is.1, zero_precise p)
 zero_fits Y.BitLeaf is = refl
 zero_fits _ is = absurd is
 
--- what variables hold: the numbers of those that hold numbers, the texts of others, and the numbers of arrays by the places of elements
+-- what variables hold: the numbers of those that hold numbers, the texts of others, and the numbers or texts of arrays by the places of
+-- elements
 pub record Values : Type 0 where
   pub numbers : ℕ → ℤ
   pub texts : ℕ → List ℕ
   pub arrays : ℕ → ℕ → ℤ
+  pub text_arrays : ℕ → ℕ → List ℕ
 
 -- ---- INITIAL
 
@@ -178,6 +199,12 @@ abbrev pub begin_text : Y.LeafType → List T.InitialItem → List ℕ
 begin_text (Y.CharacterLeaf (Y.ConstantExtent (pos n))) items = fitted n (constant_text (initial_at items 0))
 begin_text (Y.VaryingLeaf (Y.ConstantExtent (pos n))) items = take n (constant_text (initial_at items 0))
 begin_text _ items = []
+
+-- the texts with which the elements of an array begin, by their places
+abbrev pub begin_texts : Y.LeafType → List T.InitialItem → ℕ → List ℕ
+begin_texts (Y.CharacterLeaf (Y.ConstantExtent (pos n))) items p = fitted n (constant_text (initial_at items p))
+begin_texts (Y.VaryingLeaf (Y.ConstantExtent (pos n))) items p = take n (constant_text (initial_at items p))
+begin_texts _ items p = []
 
 -- the number with which a scalar begins
 abbrev pub begin_of : List T.InitialItem → ℤ

@@ -1,5 +1,5 @@
 -- What is proved so far takes fewer words for temporaries than its code has; and the first memory has its full length.
-use Rattle.std.proofs.Common.{◌≡◌, ℕ, suc, ◌+◌, ◌-◌, ◌*◌, ◌^◌, ◌≤◌, List, [], ◌∷◌, ◌++◌, length, None, Bool, true, false, refl, ap, ◌∙◌, arith, length-append, Option, Some, inl, inr, sym, subst, ◌⊎◌}
+use Rattle.std.proofs.Common.{◌≡◌, ℕ, suc, ◌+◌, ◌-◌, ◌*◌, ◌^◌, ◌≤◌, List, [], ◌∷◌, ◌++◌, length, None, Bool, true, false, refl, ap, ◌∙◌, arith, length-append, Option, Some, inl, inr, sym, subst}
 use Rattle.std.specs.Prelude.{ℤ, pos, cond, max, map, replicate, if◌then◌else◌}
 use Rattle.std.proofs.lemmas.Bool.Decides.{nat_tests}
 use Rattle.std.proofs.lemmas.List.{length-map, length-replicate}
@@ -21,23 +21,24 @@ use Rattle.pli_coding.specs.Frames.{words_place}
 use Rattle.pli_coding.specs.Environments.{Environment, Taken, none_taken, is_register_left, with_number, save, fetch}
 use Rattle.pli_coding.specs.Arithmetic.{signed_code, absolute_code, sign_code, calculated_code, modulo_code, divided_code, extreme_code, negated_code, combined_code, compared_code, fitted_code}
 use Rattle.pli_coding.specs.Expressions.{number_code, extremes_code, bit_code, text_code, reference_code, subscripts_code, given_in, type_in, address_in}
-use Rattle.pli_coding.specs.Storing.{stored_into, word_stored}
-use Rattle.pli_coding.specs.Streams.{has_fixed, get_item_words, get_items_words, get_words, value_put, number_put, text_put, as_text, item_put, items_put, edit_begun, edit_ended, put_pair, put_pairs, put_item_words, put_items_words, put_words, skip_option, field_stored, field_awaited, number_got, bit_got, item_got, items_got, get_pair, get_pairs, value_words}
+use Rattle.pli_coding.specs.Storing.{stored_into, word_stored, top_stored, record_code, record_given, first_leaf}
+use Rattle.pli_coding.specs.Streams.{has_fixed, get_item_words, get_items_words, get_words, value_put, number_put, text_put, as_text, item_put, items_put, edit_begun, edit_ended, put_pair, put_pairs, put_item_words, put_items_words, put_words, skip_option, field_stored, field_awaited, number_got, bit_got, item_got, items_got, get_pair, get_pairs, value_words, text_got}
 use Rattle.pli_coding.specs.Allocating.{act_code}
 use Rattle.pli_coding.specs.Statements.{if_met, while_met, block_words, stmt_code, stmts_code, stmt_words, stmts_words, marked, once_code, bit_if, in_turns, before_turns, number_if, start_code, limit_code, step_code, started_code, start_place, step_place, limit_place, turn_of, turns_code, words_back, words_behind_limit, words_behind_condition, limit_kept, while_kept, stepped_code}
 use Rattle.pli_coding.specs.Temporaries.{number_words, numbers_words, text_words, bit_words, reference_words, subscripts_words}
-use Rattle.pli_headline.specs.ProvedSoFar.{Names, ArePlain, Types, IsOwn, IsProvedNumber, AreProvedNumbers, IsProvedBit, IsProvedText, IsProvedItem, AreProvedItems, AreProvedPairs, IsProvedGetItem, AreProvedGetItems, AreProvedGetPairs, IsProvedStatement, AreProvedStatements, IsProvedBitIf, IsProvedNumberIf, text_leaf, IsPart, IsAssigned, AreSubscripts, array_variable, IsElement, IsElementType, IsDimension, IsProvedStart}
+use Rattle.pli_headline.specs.ProvedSoFar.{Names, ArePlain, Types, IsOwn, IsProvedNumber, AreProvedNumbers, IsProvedBit, IsProvedText, IsProvedItem, AreProvedItems, AreProvedPairs, IsProvedGetItem, AreProvedGetItems, AreProvedGetPairs, IsProvedStatement, AreProvedStatements, IsProvedBitIf, IsProvedNumberIf, text_leaf, IsPart, IsAssigned, AreSubscripts, array_variable, IsDimension, IsProvedStart, IsAssignedText, IsReadBy}
 use Rattle.pli_coding.specs.Entries.{variables_words}
 use Rattle.pli_coding.specs.Procedures.{procedure_begun, procedure_ended, procedure_in}
 use Rattle.pli_headline.specs.Headline.{FitsMemory}
-use Rattle.pli_headline.proofs.Scalars.{by_plain, element_numeric}
+use Rattle.pli_headline.proofs.Scalars.{by_plain}
 use Rattle.pli_headline.proofs.Linking.{size_append}
+use Rattle.pli_headline.proofs.ElementsMarks.{elements_size}
 use Rattle.pli_headline.proofs.Variables.{own, whole_part, HasTypes, subscripts_in}
 use Rattle.pli_headline.proofs.ArrayMeant.{element}
-use Rattle.pli_coding.specs.Locating.{loaded, stored, reached}
-use Rattle.pli_headline.proofs.ArrayElements.{size_constant}
+use Rattle.pli_coding.specs.Locating.{loaded, stored, reached, text_pushed, text_stored}
 use Rattle.pli_coding.specs.Extents.{extents_words}
 use Rattle.pli_headline.proofs.Targets.{part_type}
+use Rattle.pli_headline.proofs.ArrayFrames.{held_constant}
 
 -- ---- words of expressions
 
@@ -202,7 +203,9 @@ mutual
   -- a text takes what its parts take
   pub text_size : (e : Environment) (t : Taken) (block : Names) (types : Types) (x : Y.Text) → IsProvedText block types x → text_words x ≤ size_of (text_code e t x) + 1
   text_size e t block types (Y.TextConstant bytes) is = omega arith
-  text_size e t block types (Y.TextIn r) is = let z = own_words block types (text_leaf is.varying is.most) r is.own in omega (arith, z)
+  text_size e t block types (Y.TextIn (Y.Referring v locator part subscripts)) is =
+      let r = Y.Referring v locator part subscripts in
+      part_size e t block types (text_leaf is.0.varying is.0.most) r (text_pushed (type_in e r) (address_in e r)) is.0.part (subscripts_size e t block types subscripts is.1)
   text_size e t block types (Y.TextOfNumber precision x) is =
       let n = number_size e t block types x is.1 in
       let s = size_append (number_code e t x) (as_text precision) in
@@ -338,31 +341,47 @@ target_size e t block types type r is = by_part is.0
         let s2 = size_append (reference_code e (with_number t) r) last in
         omega (arith, m, s1, s2)
 
+pub text_target_size : (e : Environment) (t : Taken) (block : Names) (types : Types) (r : Y.Reference) → IsAssignedText block types r → reference_words r ≤ size_of (top_stored e t r)
+text_target_size e t block types r is = by_part is.0.part
+  where
+    by_part : IsPart block types (text_leaf is.0.varying is.0.most) r → reference_words r ≤ size_of (top_stored e t r)
+    by_part (inl o) = let z = own_words block types (text_leaf is.0.varying is.0.most) r o in omega (arith, z)
+    by_part (inr o) =
+        let xs = Y.NumberThen o.first o.rest in
+        let are : AreProvedNumbers block types xs = subst (AreSubscripts block types) o.is is.1 in
+        let n = subscripts_size e t block types xs are in
+        let m = subst (λ q. reference_words q ≤ size_of (reference_code e t q)) (sym o.is) (element_size e t block o.index o.first o.rest n) in
+        let s = size_append (reference_code e t r) (text_stored (type_in e r) (address_in e r)) in
+        omega (arith, m, s)
+
 -- a field's target is stored in the code of the field
-field_size : (e : Environment) (t : Taken) (formats : T.Formats) (type : Y.LeafType) (r : Y.Reference) → IsElementType type → size_of (word_stored e t r) ≤ size_of (field_stored e t formats r type)
-field_size e t formats (Y.FixedLeaf p) r is =
+field_size : (e : Environment) (t : Taken) (block : Names) (types : Types) (formats : T.Formats) (type : Y.LeafType) (r : Y.Reference) → IsReadBy (has_fixed formats) type → IsPart block types type r → AreSubscripts block types r → reference_words r ≤ size_of (field_stored e t formats r type)
+field_size e t block types formats (Y.FixedLeaf p) r read part subscripts =
+    let z = target_size e t block types (Y.FixedLeaf p) r (part, subscripts) in
     let s1 = size_append (number_got formats) (fitted_code t p ++ word_stored e t r) in
     let s2 = size_append (fitted_code t p) (word_stored e t r) in
-    omega (arith, s1, s2)
-field_size e t formats Y.BitLeaf r is = let s = size_append bit_got (word_stored e t r) in omega (arith, s)
-field_size e t formats _ r is = absurd is
+    omega (arith, z, s1, s2)
+field_size e t block types formats Y.BitLeaf r read part subscripts =
+    let z = target_size e t block types Y.BitLeaf r (part, subscripts) in
+    let s = size_append bit_got (word_stored e t r) in
+    omega (arith, z, s)
+field_size e t block types formats (Y.CharacterLeaf (Y.ConstantExtent (pos most))) r read part subscripts =
+    let z = text_target_size e t block types r (record { varying = false; most = most; part = part }, subscripts) in
+    let s = size_append (text_got formats) (top_stored e t r) in
+    omega (arith, z, s)
+field_size e t block types formats (Y.VaryingLeaf (Y.ConstantExtent (pos most))) r read part subscripts =
+    let z = text_target_size e t block types r (record { varying = true; most = most; part = part }, subscripts) in
+    let s = size_append (text_got formats) (top_stored e t r) in
+    omega (arith, z, s)
+field_size e t block types formats _ r read part subscripts = absurd read
 
 got_item_words : (e : Environment) (t : Taken) (block : Names) (types : Types) (has : HasTypes e block types) (formats : T.Formats) (after : ℕ) (i : Y.GetItem) → IsProvedGetItem block types (has_fixed formats) i → get_item_words i ≤ size_of (item_got e t formats i after)
-got_item_words e t block types has formats after (Y.GetScalar r) is = by_part is.part
-  where
-    by_part : IsOwn block types is.type r ⊎ (IsElement block types is.type r × IsElementType is.type) → suc (reference_words r) ≤ size_of (item_got e t formats (Y.GetScalar r) after)
-    by_part (inl o) =
-        let z = own_words block types is.type r o in
-        let c = field_stored e t formats r (type_in e r) in
-        let s = size_append (field_awaited (size_of c + after)) c in
-        omega (arith, z, s)
-    by_part (inr (o, element)) =
-        let type = part_type e block types is.type r has (inr (o, element)) in
-        let z = target_size e t block types is.type r (inr o, is.subscripts) in
-        let f = subst (λ u. size_of (word_stored e t r) ≤ size_of (field_stored e t formats r u)) (sym type) (field_size e t formats is.type r element) in
-        let c = field_stored e t formats r (type_in e r) in
-        let s = size_append (field_awaited (size_of c + after)) c in
-        omega (arith, z, f, s)
+got_item_words e t block types has formats after (Y.GetScalar r) is =
+    let type = part_type e block types is.type r has is.part in
+    let f = subst (λ u. reference_words r ≤ size_of (field_stored e t formats r u)) (sym type) (field_size e t block types formats is.type r is.read is.part is.subscripts) in
+    let c = field_stored e t formats r (type_in e r) in
+    let s = size_append (field_awaited (size_of c + after)) c in
+    omega (arith, f, s)
 got_item_words e t block types has formats after (Y.GetAggregate r) is = absurd is
 
 got_items_words : (e : Environment) (t : Taken) (block : Names) (types : Types) (has : HasTypes e block types) (formats : T.Formats) (after : ℕ) (is : List Y.GetItem) → AreProvedGetItems block types (has_fixed formats) is → get_items_words is ≤ size_of (items_got e t formats after is)
@@ -410,14 +429,36 @@ mutual
       let s2 = size_append code into in
       most _ _ _ (omega (arith, n, s1, s2)) (omega (arith, z, four, s1, s2))
   statement_size e t block types has (Y.Assign target (Y.StoredText x) line) is =
-      let z = own_words block types (text_leaf is.0.varying is.0.most) target is.0.own in
+      let z : reference_words target ≤ size_of (stored_into e t target (Y.StoredText x)) = text_target_size e t block types target is.0 in
       let n = text_size e t block types x is.1.0 in
       let four = act_size line in
       let code = text_code e t x in
       let into = stored_into e t target (Y.StoredText x) in
       let s1 = size_append (act_code line) (code ++ into) in
       let s2 = size_append code into in
-      most _ _ _ (omega (arith, n, s1, s2)) (omega (arith, z, four, s1))
+      most _ _ _ (omega (arith, n, s1, s2)) (omega (arith, z, four, s1, s2))
+  statement_size e t block types has (Y.AssignElements target (Y.StoredNumber precision x) line) is =
+      let z = elements_size e t block types (Y.FixedLeaf precision) target tt has is.0 in
+      let none = ap reference_words is.0.is in
+      let n = number_size e t block types x is.1.0 in
+      let four = act_size line in
+      let code = number_code e t x in
+      let fitted = fitted_code t precision in
+      let into = save a0 t ++ (record_code e (with_number t) target ++ (record_given e (with_number t) ++ (number a1 (first_leaf target) ++ (fetch a2 t ++ service 41)))) in
+      let s1 = size_append (act_code line) ((code ++ fitted) ++ into) in
+      let s2 = size_append (code ++ fitted) into in
+      let s3 = size_append code fitted in
+      most _ _ _ (most _ _ _ (omega arith) (omega (arith, n, s1, s2, s3))) (omega (arith, z, none, four, s1, s2))
+  statement_size e t block types has (Y.AssignElements target (Y.StoredBit x) line) is =
+      let z = elements_size e t block types Y.BitLeaf target tt has is.0 in
+      let none = ap reference_words is.0.is in
+      let n = bit_size e t block types x is.1.0 in
+      let four = act_size line in
+      let code = bit_code e t x in
+      let into = save a0 t ++ (record_code e (with_number t) target ++ (record_given e (with_number t) ++ (number a1 (first_leaf target) ++ (fetch a2 t ++ service 41)))) in
+      let s1 = size_append (act_code line) (code ++ into) in
+      let s2 = size_append code into in
+      most _ _ _ (omega (arith, n, s1, s2)) (omega (arith, z, none, four, s1, s2))
   statement_size e t block types has (Y.If condition unit line) is =
       let test = bit_code e t condition in
       let c = stmt_code e t unit in
@@ -491,7 +532,7 @@ mutual
       (most _ _ _ (omega (arith, n, s1, s2, s3)) (omega (arith, z, four, s1, s2, s3)))
       (most _ _ _ (let o0 = o.0 in omega (arith, o0, s1, s2)) (let o1 = o.1 in omega (arith, m, o1, s1, s2)))
   statement_size e t block types has (Y.DoOnce target (Y.StoredText x) condition body line) is =
-      let z = own_words block types (text_leaf is.0.0.varying is.0.0.most) target is.0.0.own in
+      let z : reference_words target ≤ size_of (stored_into e t target (Y.StoredText x)) = text_target_size e t block types target is.0.0 in
       let n = text_size e t block types x is.0.1 in
       let m = statements_size e t block types has body is.1.1.0 in
       let o = once_size e t block types condition line (stmts_code e t body) is.1.0 in
@@ -503,7 +544,7 @@ mutual
       let s2 = size_append (code ++ into) rest in
       let s3 = size_append code into in
       most _ _ _
-      (most _ _ _ (omega (arith, n, s1, s2, s3)) (omega (arith, z, four, s1)))
+      (most _ _ _ (omega (arith, n, s1, s2, s3)) (omega (arith, z, four, s1, s2, s3)))
       (most _ _ _ (let o0 = o.0 in omega (arith, o0, s1, s2)) (let o1 = o.1 in omega (arith, m, o1, s1, s2)))
   statement_size e t block types has (Y.DoCount (Y.NumberCounter precision target) start limit step condition body line) is =
       let counter = Y.NumberCounter precision target in
@@ -587,7 +628,7 @@ pub no_variable_words : (ds : List Y.DeclaredVariable) → ArePlain ds → varia
 no_variable_words [] are = refl
 no_variable_words (d ∷ ds) are =
     by_plain (λ u. variables_words (u ∷ ds) ≡ max 0 (variables_words ds)) (λ p i. refl) (λ i. refl) (λ n i. refl) (λ n i. refl)
-    (λ type b bs i element are'. ap (λ q. max (if q then 0 else extents_words (array_variable type (b ∷ bs) i)) (variables_words ds)) (size_constant type (element_numeric type element) (b ∷ bs) i)) d are.0
+    (λ type b bs i held are'. ap (λ q. max (if q then 0 else extents_words (array_variable type (b ∷ bs) i)) (variables_words ds)) (held_constant type held (b ∷ bs) i)) d are.0
     ∙ ap (λ n. max 0 n) (no_variable_words ds are.1)
 
 -- they are fewer than the words of its code

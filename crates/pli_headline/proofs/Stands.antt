@@ -216,27 +216,27 @@ apart_of number may head Y.ProcedureBlock among new = new_by (number == head.num
 apart_of number may head Y.BeginBlock among new = new_by (number == head.number) number head.number may refl among new
 
 mutual
-  called_unit : (program : Y.Program) (number block level : ℕ) (all : List (ℕ × Label)) (blocks : List BlockPlace) (main : OuterBlock) (outer : List OuterBlock) (around : List Label) (may : List ℕ) (returns bare : Bool) (x : Y.Stmt) → is_number number may ≡ true → JumpsAround block level all blocks main outer around x → CallsAmong program may returns bare x → UnitsApart number x
-  called_unit program number block level all blocks main outer around may returns bare (Y.If condition unit line) among jumps calls = called_unit program number block level all blocks main outer around may returns bare unit among jumps calls
-  called_unit program number block level all blocks main outer around may returns bare (Y.IfElse condition unit otherwise line) among jumps calls = (
-    called_unit program number block level all blocks main outer around may returns bare unit among jumps.0 calls.0,
-    called_unit program number block level all blocks main outer around may returns bare otherwise among jumps.1 calls.1,
+  called_unit : (program : Y.Program) (number block level : ℕ) (all : List (ℕ × Label)) (blocks : List BlockPlace) (main : OuterBlock) (outer : List OuterBlock) (around : List Label) (may : List ℕ) (returns : Bool) (bytes : ℕ) (x : Y.Stmt) → is_number number may ≡ true → JumpsAround block level all blocks main outer around x → CallsAmong program may returns bytes x → UnitsApart number x
+  called_unit program number block level all blocks main outer around may returns bytes (Y.If condition unit line) among jumps calls = called_unit program number block level all blocks main outer around may returns bytes unit among jumps calls
+  called_unit program number block level all blocks main outer around may returns bytes (Y.IfElse condition unit otherwise line) among jumps calls = (
+    called_unit program number block level all blocks main outer around may returns bytes unit among jumps.0 calls.0,
+    called_unit program number block level all blocks main outer around may returns bytes otherwise among jumps.1 calls.1,
   )
-  called_unit program number block level all blocks main outer around may returns bare (Y.Do body line) among jumps calls = called_units program number block level all blocks main outer (labels_in body ++ around) may returns bare body among jumps calls
-  called_unit program number block level all blocks main outer around may returns bare (Y.DoWhile condition body line) among jumps calls = called_units program number block level all blocks main outer (labels_in body ++ around) may returns bare body among jumps calls
-  called_unit program number block level all blocks main outer around may returns bare (Y.DoOnce target start condition body line) among jumps calls = called_units program number block level all blocks main outer (labels_in body ++ around) may returns bare body among jumps calls
-  called_unit program number block level all blocks main outer around may returns bare (Y.DoCount counter start limit step condition body line) among jumps calls = called_units program number block level all blocks main outer (labels_in body ++ around) may returns bare body among jumps calls
-  called_unit program number block level all blocks main outer around may returns bare (Y.Begin (Y.BlockOf head body)) among jumps calls =
+  called_unit program number block level all blocks main outer around may returns bytes (Y.Do body line) among jumps calls = called_units program number block level all blocks main outer (labels_in body ++ around) may returns bytes body among jumps calls
+  called_unit program number block level all blocks main outer around may returns bytes (Y.DoWhile condition body line) among jumps calls = called_units program number block level all blocks main outer (labels_in body ++ around) may returns bytes body among jumps calls
+  called_unit program number block level all blocks main outer around may returns bytes (Y.DoOnce target start condition body line) among jumps calls = called_units program number block level all blocks main outer (labels_in body ++ around) may returns bytes body among jumps calls
+  called_unit program number block level all blocks main outer around may returns bytes (Y.DoCount counter start limit step condition body line) among jumps calls = called_units program number block level all blocks main outer (labels_in body ++ around) may returns bytes body among jumps calls
+  called_unit program number block level all blocks main outer around may returns bytes (Y.Begin (Y.BlockOf head body)) among jumps calls =
       no_units number head.number head.level all blocks main (record { level = level; number = block; labels = around } ∷ outer) (labels_in body) body (other_level head.level level jumps.0.0) jumps.1
-  called_unit program number block level all blocks main outer around may returns bare (Y.OnUnit condition (Y.BlockOf head body) line) among jumps calls = (
+  called_unit program number block level all blocks main outer around may returns bytes (Y.OnUnit condition (Y.BlockOf head body) line) among jumps calls = (
     apart_of number may head head.kind among calls.1.1,
-    called_units program number head.number head.level all blocks main (main ∷ []) (labels_in body) may false true body among jumps.1.1.1 calls.0,
+    called_units program number head.number head.level all blocks main (main ∷ []) (labels_in body) may false 0 body among jumps.1.1.1 calls.0,
   )
-  called_unit program number block level all blocks main outer around may returns bare _ among jumps calls = tt
+  called_unit program number block level all blocks main outer around may returns bytes _ among jumps calls = tt
 
-  pub called_units : (program : Y.Program) (number block level : ℕ) (all : List (ℕ × Label)) (blocks : List BlockPlace) (main : OuterBlock) (outer : List OuterBlock) (around : List Label) (may : List ℕ) (returns bare : Bool) (body : Y.Stmts) → is_number number may ≡ true → AllJumpAround block level all blocks main outer around body → AllCallAmong program may returns bare body → AllUnitsApart number body
-  called_units program number block level all blocks main outer around may returns bare (Y.EndOfList labels) among jumps calls = tt
-  called_units program number block level all blocks main outer around may returns bare (Y.StmtThen labels first rest) among jumps calls = (
-    called_unit program number block level all blocks main outer around may returns bare first among jumps.0 calls.0,
-    called_units program number block level all blocks main outer around may returns bare rest among jumps.1 calls.1,
+  pub called_units : (program : Y.Program) (number block level : ℕ) (all : List (ℕ × Label)) (blocks : List BlockPlace) (main : OuterBlock) (outer : List OuterBlock) (around : List Label) (may : List ℕ) (returns : Bool) (bytes : ℕ) (body : Y.Stmts) → is_number number may ≡ true → AllJumpAround block level all blocks main outer around body → AllCallAmong program may returns bytes body → AllUnitsApart number body
+  called_units program number block level all blocks main outer around may returns bytes (Y.EndOfList labels) among jumps calls = tt
+  called_units program number block level all blocks main outer around may returns bytes (Y.StmtThen labels first rest) among jumps calls = (
+    called_unit program number block level all blocks main outer around may returns bytes first among jumps.0 calls.0,
+    called_units program number block level all blocks main outer around may returns bytes rest among jumps.1 calls.1,
   )

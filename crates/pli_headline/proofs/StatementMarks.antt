@@ -5,18 +5,21 @@ use Rattle.rv_meaning.specs.declared.instr.Instr.TheVariants as I
 use Rattle.rv_meaning.specs.declared.instr.BranchTest.TheVariants as Test
 use Rattle.pli_language.specs.declared.condition.Condition.{Condition}
 use Rattle.pli_language.specs.declared.condition.Condition.TheVariants as C
+use Rattle.pli_language.specs.Tree as T
 use Rattle.pli_typing.specs.TypedTree as Y
 use Rattle.pli_meaning.specs.Control.{Label}
 use Rattle.pli_coding.specs.Registers.{zero_register, stack_register, frame_register, a0, a1, a2, u0, u1, u2, a3, a4}
-use Rattle.pli_coding.specs.Assembly.{Symbol, Plain, BaseIn, ProcedureEntry, LabelPlace, ReturnPlace, JumpTo, CallTo, JumpAhead, JumpBack, Code, size_of}
+use Rattle.pli_coding.specs.Extents.{initial_given, initial_code}
+use Rattle.pli_coding.specs.StaticForms.{initial_datum}
+use Rattle.pli_coding.specs.Assembly.{Datum, Symbol, Plain, BaseIn, ProcedureEntry, LabelPlace, ReturnPlace, JumpTo, CallTo, JumpAhead, JumpBack, Code, size_of}
 use Rattle.pli_coding.specs.Instructions.{add, move, subtract, small, number, plus, load_word, store_word, skip_where, service, tested_service}
-use Rattle.pli_coding.specs.Environments.{Owner, BlockOwner, UnitOwner, Environment, in_frame, owned_by, Taken, none_taken, block_around}
+use Rattle.pli_coding.specs.Environments.{Owner, BlockOwner, UnitOwner, Environment, in_frame, owned_by, Taken, none_taken, block_around, with_number, save, fetch}
 use Rattle.pli_coding.specs.Frames.{frame_below, own_offset, lower_top, display, fixed_size, frame_end, temporary_bytes, words_place, name_bytes, frame_bytes, automatic_place, last_place, is_automatic}
 use Rattle.pli_coding.specs.Entries.{registers_restored, all_saved, display_copied, display_made, frame_begun, block_left, entered_without_texts, variables_made, variables_code, constant_made, automatic_made}
 use Rattle.pli_meaning.specs.DeclaredShapes.{variables_of_block}
 use Rattle.pli_coding.specs.Arithmetic.{sum_code, fitted_code}
 use Rattle.pli_coding.specs.Expressions.{frame_given, number_code, bit_code, call_code}
-use Rattle.pli_coding.specs.Storing.{word_stored, assigned_code}
+use Rattle.pli_coding.specs.Storing.{word_stored, assigned_code, record_code, record_given, first_leaf}
 use Rattle.pli_coding.specs.Streams.{put_pairs, get_pairs, edit_ended, skip_option}
 use Rattle.pli_coding.specs.Allocating.{act_code}
 use Rattle.pli_coding.specs.Statements.{if_met, while_met, once_code, in_turns, before_turns, limit_place, step_place, start_place, start_code, limit_code, step_code, start_loaded, started_code, count_begun, limit_tested, limit_kept, while_kept, stepped_code, turn_of, turns_code, words_behind_limit, words_behind_condition, words_back, signal_code, unwound_to, returned_by, goto_outer, goto_code, marked, stmt_code, stmts_code, stmts_words, block_words, begin_environment, begin_code, condition_given, unit_established, unit_left, unit_variables, owner_of_unit, unit_words, unit_mark}
@@ -31,6 +34,7 @@ use Rattle.pli_headline.proofs.GetMarks.{gets_none, get_skip_none}
 use Rattle.pli_headline.proofs.Variables.{HasTypes}
 use Rattle.pli_headline.proofs.OnUnits.{unit_by}
 use Rattle.pli_headline.proofs.Targets.{assigned_read}
+use Rattle.pli_headline.proofs.ElementsMarks.{elements_none}
 use Rattle.pli_headline.proofs.ExpressionMarks.{number_none, bit_none, assigned_none, text_stored_none, number_assigned_none, bit_assigned_none, text_none}
 
 -- the place of a label, or of the end of a block
@@ -118,18 +122,22 @@ called_begun_none words level =
     (behind made (own ++ raised) [] (display_none level) (behind own raised [] refl (plus_none stack_register frame_register (pos (fixed_size level 0))))))
 
 -- what makes a variable
-one_none : (e : Environment) (place : ℕ) (type : Y.LeafType) → IsElementType type → Marks (constant_made e place (plain_variable type [])) []
-one_none e place type element =
-    let d = plain_variable type [] in
+given_none : (r : Register) (start : Option Datum) → Marks (initial_given r start) []
+given_none r None = refl
+given_none r (Some d) = refl
+
+one_none : (e : Environment) (place : ℕ) (type : Y.LeafType) (items : List T.InitialItem) → IsElementType type → Marks (constant_made e place (plain_variable type items)) []
+one_none e place type items element =
+    let d = plain_variable type items in
     let own = own_place e a0 (pos place) in
     let named = number a1 (table_number e d) in
-    let first = small a2 0 ∷ [] in
+    let first = initial_code a2 d in
     let second = own_place e a3 (pos (place + name_bytes)) in
     let asked = small a4 0 ∷ service 7 in
     let up = plus stack_register frame_register (pos (min last_place (place + frame_bytes e.parts d))) in
     behind own (named ++ (first ++ (second ++ (asked ++ up)))) [] (own_place_none e a0 place)
     (behind named (first ++ (second ++ (asked ++ up))) [] (constant_none a1 (pos (table_number e d)))
-    (behind first (second ++ (asked ++ up)) [] refl
+    (behind first (second ++ (asked ++ up)) [] (given_none a2 (initial_datum d))
     (behind second (asked ++ up) [] (own_place_none e a3 (place + name_bytes))
     (behind asked up [] refl (plus_none stack_register frame_register (pos (min last_place (place + frame_bytes e.parts d))))))))
   where
@@ -144,13 +152,14 @@ one_none e place type element =
         behind found (loaded ++ plus r r (pos n)) [] (found_none e' r (e'.level == e'.level))
         (behind loaded (plus r r (pos n)) [] (load_none r (frame_in e' e'.level r) own_offset) (plus_none r r (pos n)))
 
-declared_none : (e : Environment) (line index : ℕ) (ds : List Y.DeclaredVariable) → AreDeclaring ds → Marks (variables_made e line index ds) []
+pub declared_none : (e : Environment) (line index : ℕ) (ds : List Y.DeclaredVariable) → AreDeclaring ds → Marks (variables_made e line index ds) []
 declared_none e line index [] are = refl
 declared_none e line index (d ∷ ds) are =
     let place = automatic_place e.parts e.program e.block e.level index in
     let rest = variables_made e line (suc index) ds in
+    let items = are.0.items in
     let T : Y.DeclaredVariable → Type 0 = λ u. Marks ((if is_automatic u.class then automatic_made e line place u else []) ++ rest) [] in
-    subst T (sym are.0.is) (by_element (λ t. T (plain_variable t [])) (λ p element. behind (constant_made e place (plain_variable (Y.FixedLeaf p) [])) rest [] (one_none e place (Y.FixedLeaf p) element) (declared_none e line (suc index) ds are.1)) (behind (constant_made e place (plain_variable Y.BitLeaf [])) rest [] (one_none e place Y.BitLeaf tt) (declared_none e line (suc index) ds are.1)) are.0.type are.0.element)
+    subst T (sym are.0.is) (by_element (λ t. T (plain_variable t items)) (λ p element. behind (constant_made e place (plain_variable (Y.FixedLeaf p) items)) rest [] (one_none e place (Y.FixedLeaf p) items element) (declared_none e line (suc index) ds are.1)) (behind (constant_made e place (plain_variable Y.BitLeaf items)) rest [] (one_none e place Y.BitLeaf items tt) (declared_none e line (suc index) ds are.1)) are.0.type are.0.element)
 
 begin_marks : (e : Environment) (head : Y.BlockHead) (words : ℕ) (c : Code) (ss : List Symbol) → AreDeclaring (variables_of_block e.program head.number) → Marks c ss → Marks (begin_code e head words c) ss
 begin_marks e head words c ss declaring h =
@@ -305,6 +314,15 @@ mutual
       behind (act_code line) (assigned_code e t target (Y.StoredBit x)) [] (act_none line) (bit_assigned_none e t block types target x has is.0 is.1.0)
   statement_marks e t block types (Y.Assign target (Y.StoredText x) line) named has is bare =
       behind (act_code line) (assigned_code e t target (Y.StoredText x)) [] (act_none line) (text_stored_none e t block types target x has is.0 is.1.0)
+  statement_marks e t block types (Y.AssignElements target (Y.StoredNumber precision x) line) named has is bare =
+      let value = number_code e t x ++ fitted_code t precision in
+      let into = save a0 t ++ (record_code e (with_number t) target ++ (record_given e (with_number t) ++ (number a1 (first_leaf target) ++ (fetch a2 t ++ service 41)))) in
+      behind (act_code line) (value ++ into) [] (act_none line)
+      (behind value into [] (behind (number_code e t x) (fitted_code t precision) [] (number_none e t block types x has is.1.0) (fitted_none t precision)) (elements_none e t block types (Y.FixedLeaf precision) target tt has is.0))
+  statement_marks e t block types (Y.AssignElements target (Y.StoredBit x) line) named has is bare =
+      let into = save a0 t ++ (record_code e (with_number t) target ++ (record_given e (with_number t) ++ (number a1 (first_leaf target) ++ (fetch a2 t ++ service 41)))) in
+      behind (act_code line) (bit_code e t x ++ into) [] (act_none line)
+      (behind (bit_code e t x) into [] (bit_none e t block types x has is.1.0) (elements_none e t block types Y.BitLeaf target tt has is.0))
   statement_marks e t block types (Y.If condition unit line) named has is bare =
       tested_marks e t block types condition line (if_met (stmt_code e t unit)) (places_of (inner_stands e.block unit)) has is.0 (statement_marks e t block types unit named has is.1.0 bare)
   statement_marks e t block types (Y.IfElse condition unit otherwise line) named has is bare =

@@ -31,7 +31,7 @@ use Rattle.pli_coding.specs.SignatureTable.{table_of}
 use Rattle.pli_meaning.specs.DeclaredShapes.{variables_of_block}
 use Rattle.pli_headline.specs.Headline.{parts}
 use Rattle.pli_headline.proofs.PlainNumbers.{Numbered}
-use Rattle.pli_headline.specs.ProvedSoFar.{Names, Kind, Types, OuterBlock, IsOwn, IsProvedNumber, IsProvedBit, alone, types_of}
+use Rattle.pli_headline.specs.ProvedSoFar.{Names, Kind, Types, OuterBlock, IsOwn, IsProvedNumber, IsProvedBit, alone, types_of, text_leaf}
 use Rattle.image_runs.specs.Runs.{Whole}
 use Rattle.pli_headline.proofs.Storages.{storage, Storage, Serials, Stored, stored_changed}
 use Rattle.pli_headline.proofs.Engine.{Base, address, most_code}
@@ -44,6 +44,7 @@ use Rattle.pli_headline.proofs.Temporaries.{Temporaries, Stays, stays_same, stay
 use Rattle.pli_headline.proofs.Reaching.{Reaches}
 use Rattle.pli_headline.proofs.Activations.{frames_of, RestOn, levels_of}
 use Rattle.pli_headline.proofs.OuterBlocks.{Rises}
+use Rattle.pli_headline.proofs.Asides.{StandAside, asides_changed}
 use Rattle.pli_headline.proofs.Entered.{Frames, frames_left, kinds_of, UnitsKnown}
 use Rattle.pli_headline.proofs.Calls.{Serving}
 use Rattle.pli_headline.proofs.Raising.{Routines}
@@ -61,7 +62,10 @@ use Rattle.pli_headline.proofs.Reach.{Family, Aims, Comes, Closed, before_closed
 use Rattle.pli_typing.specs.Signatures.{Bounds}
 use Rattle.pli_headline.proofs.ArrayMeant.{HoldsArray}
 use Rattle.pli_headline.proofs.ArrayScopes.{IsArrayAt, ArraysOn, array_scope}
+use Rattle.pli_headline.proofs.ArrayNames.{ArraysNamed}
 use Rattle.pli_headline.proofs.ArrayStates.{array_apart, arrays_beside}
+use Rattle.pli_headline.proofs.TextArrayMeant.{HoldsTexts, texts_aside}
+use Rattle.pli_headline.proofs.TextArrayScopes.{IsTextArrayAt, TextArraysOn, text_array_scope}
 
 -- ---- a block
 
@@ -85,7 +89,7 @@ owned_of owner level next (inr owned) = owned
 -- these variables hold the same
 abbrev pub SameValues : Types → Values → Values → Type 0
 SameValues types n n' =
-    (j : ℕ) (kind : Kind) → slice_get types j ≡ Some kind → (n.numbers j ≡ n'.numbers j) × ((n.texts j ≡ n'.texts j) × (n.arrays j ≡ n'.arrays j))
+    (j : ℕ) (kind : Kind) → slice_get types j ≡ Some kind → (n.numbers j ≡ n'.numbers j) × ((n.texts j ≡ n'.texts j) × ((n.arrays j ≡ n'.arrays j) × (n.text_arrays j ≡ n'.text_arrays j)))
 
 -- the stack above a block's frame, where blocks inside it have theirs
 pub record Stack (e : Environment) (block : Names) (types : Types) (base : ℕ) (bases : ℕ → ℕ) (ground : Values → Ground) : Type 0 where
@@ -123,22 +127,32 @@ lower_ground g free =
       inside = g.inside;
     }
 
--- blocks of these levels are entered, which have these frames and units, variables hold these numbers and texts and arrays theirs, and
--- what lives in the meaning lives among the services
+-- blocks of these levels are entered, which have these frames and units, variables hold these numbers and texts and arrays theirs, those
+-- that are put aside stay as they were, and what lives in the meaning lives among the services
 pub record AllHold (frames : Frames) (serials : Serials) (xs : Storage) (levels : List ℕ) (s : State) (block : Names) (types : Types) (n : Values) : Type 0 where
   pub numbers : (j : ℕ) (b : Typed types j) → IsNumeric b.0 → Holds s block j (serials.of j) b.0 (n.numbers j)
   pub texts : (j : ℕ) (varying : Bool) (most : ℕ) → IsTextAt types j varying most → KeepsText s block j (serials.of j) varying most (n.texts j)
   pub arrays : (j : ℕ) (type : Y.LeafType) (b : Bounds) (bs : List Bounds) → IsArrayAt types j type b bs → HoldsArray s block j (serials.of j) type (b ∷ bs) (n.arrays j)
+  pub text_arrays : (j : ℕ) (varying : Bool) (most : ℕ) (b : Bounds) (bs : List Bounds) → IsTextArrayAt types j varying most b bs → HoldsTexts s block j (serials.of j) varying most (b ∷ bs) (n.text_arrays j)
   pub entered : levels_of s.activations ≡ levels
   pub framed : frames_of xs.activations ≡ frames.list
   pub kinds : kinds_of xs.activations ≡ frames.kinds
   pub units : UnitsKnown frames.known s.activations xs.activations
+  pub aside : StandAside frames.asides serials types s.activations s.living s.serials
   pub stored : Stored serials xs.signatures xs.living xs.serials (length levels) s.living s.serials block types
 
--- what holds of some variables holds of others
-abbrev pub Restricts : Serials → Names → Types → Serials → Names → Types → Type 1
-Restricts serials block types serials' block' types' =
-    (frames : Frames) (xs : Storage) (levels : List ℕ) (s : State) (n : Values) → AllHold frames serials xs levels s block types n → AllHold frames serials' xs levels s block' types' n
+-- some variables are the first of others
+pub record Restricts (serials : Serials) (block : Names) (types : Types) (serials' : Serials) (block' : Names) (types' : Types) : Type 0 where
+  pub program : block'.program ≡ block.program
+  pub among : (j : ℕ) {kind : Kind} → slice_get types' j ≡ Some kind → slice_get types j ≡ Some kind
+  pub spots : (j : ℕ) {kind : Kind} → slice_get types' j ≡ Some kind → block'.at j ≡ block.at j
+  pub of : (j : ℕ) {kind : Kind} → slice_get types' j ≡ Some kind → serials'.of j ≡ serials.of j
+  pub owner : (j : ℕ) {kind : Kind} → slice_get types' j ≡ Some kind → serials'.owner j ≡ serials.owner j
+  pub first : serials'.first ≡ serials.first
+
+pub restricts_self : (serials : Serials) (block : Names) (types : Types) → Restricts serials block types serials block types
+restricts_self serials block types =
+    record { program = refl; among = λ j at. at; spots = λ j at. refl; of = λ j at. refl; owner = λ j at. refl; first = refl }
 
 -- variables of blocks of these levels at most, whose activations are no higher
 abbrev pub Beneath : (level height : ℕ) → Serials → Names → Types → Type 0
@@ -176,9 +190,9 @@ Enclosures e ground shows frames levels [] = Unit {1}
 Enclosures e ground shows frames levels (o ∷ os) =
     Enclosing e o ground shows frames levels × Enclosures e ground shows frames levels os
 
--- what holds of the variables of a block holds of those of the blocks around
-abbrev pub AllSeen : (e : Environment) (ground : Values → Ground) (shows : ℕ → ℕ) (frames levels : List ℕ) (os : List OuterBlock) → Enclosures e ground shows frames levels os → Serials → Names → Types → Type 1
-AllSeen e ground shows frames levels [] cs serials block types = Unit {1}
+-- the variables of the blocks around are the first of a block's
+abbrev pub AllSeen : (e : Environment) (ground : Values → Ground) (shows : ℕ → ℕ) (frames levels : List ℕ) (os : List OuterBlock) → Enclosures e ground shows frames levels os → Serials → Names → Types → Type 0
+AllSeen e ground shows frames levels [] cs serials block types = Unit {0}
 AllSeen e ground shows frames levels (o ∷ os) cs serials block types =
     Restricts serials block types cs.0.serials cs.0.names cs.0.types × AllSeen e ground shows frames levels os cs.1 serials block types
 
@@ -229,6 +243,8 @@ pub record Block (e : Environment) (block : Names) (types : Types) : Type 1 wher
   pub leveled : (j : ℕ) {kind : Kind} → slice_get types j ≡ Some kind → cond (level_of block j == e.level) stack.frame (levels (level_of block j)) ≡ bases j
   pub texts : TextsStand e block types bases stack.free ground
   pub arrays : ArraysOn e block types bases stack.free ground
+  pub text_arrays : TextArraysOn e block types bases stack.free ground
+  pub array_names : ArraysNamed e block types bases ground serials
   pub outer : List OuterBlock
   pub enclosing : Enclosures e ground levels frames.list (e.level ∷ depths) outer
   pub seen : AllSeen e ground levels frames.list (e.level ∷ depths) outer enclosing serials block types
@@ -271,7 +287,8 @@ scope_of b n all =
         holds = λ j varying most at. holds_text (all.texts j varying most at);
         reads = λ j varying most at. b.texts.reads n j varying most at;
       };
-      arrays = λ j type c cs at. array_scope (b.arrays j type c cs at) n (all.arrays j type c cs at) (b.reaches n j at);
+      arrays = λ j type c cs at. array_scope (b.arrays j type c cs at) n (all.arrays j type c cs at) (b.reaches n j at.0);
+      text_arrays = λ j varying most c cs at. text_array_scope (b.text_arrays j varying most c cs at) n (all.text_arrays j varying most c cs at) (b.reaches n j at);
     }
 
 -- ---- what a statement's code does
@@ -421,59 +438,70 @@ counted_keeps w h = record { values = h.values; stands = h.stands; lives = h.liv
 counted_array : {s : State} {block : Names} {j serial : ℕ} {type : Y.LeafType} {bs : List Bounds} {n : ℕ → ℤ} (w : World) → HoldsArray s block j serial type bs n → HoldsArray (with_world w s) block j serial type bs n
 counted_array w h = record { values = h.values; numeric = h.numeric; stands = h.stands; lives = h.lives; value = h.value; fits = h.fits }
 
+counted_texts : {s : State} {block : Names} {j serial : ℕ} {varying : Bool} {most : ℕ} {bs : List Bounds} {texts : ℕ → List ℕ} (w : World) → HoldsTexts s block j serial varying most bs texts → HoldsTexts (with_world w s) block j serial varying most bs texts
+counted_texts w h = record { values = h.values; stands = h.stands; lives = h.lives; value = h.value; short = h.short }
+
 pub counted_all : {frames : Frames} {serials : Serials} {xs : Storage} {levels : List ℕ} {s : State} {block : Names} {types : Types} {n : Values} (w : World) → AllHold frames serials xs levels s block types n → AllHold frames serials xs levels (with_world w s) block types n
 counted_all w all =
     record {
       numbers = λ j b numeric. counted_holds w (all.numbers j b numeric);
       texts = λ j varying most at. counted_keeps w (all.texts j varying most at);
       arrays = λ j type b bs at. counted_array w (all.arrays j type b bs at);
+      text_arrays = λ j varying most b bs at. counted_texts w (all.text_arrays j varying most b bs at);
       entered = all.entered;
       framed = all.framed;
       kinds = all.kinds;
       units = all.units;
+      aside = all.aside;
       stored = all.stored;
     }
 
 -- of frames that have another list, which is the same
-pub listed_as : (frames : Frames) (list : List ℕ) {serials : Serials} {xs : Storage} {levels : List ℕ} {s : State} {block : Names} {types : Types} {n : Values} → frames.list ≡ list → AllHold frames serials xs levels s block types n → AllHold (record { list = list; kinds = frames.kinds; known = frames.known }) serials xs levels s block types n
+pub listed_as : (frames : Frames) (list : List ℕ) {serials : Serials} {xs : Storage} {levels : List ℕ} {s : State} {block : Names} {types : Types} {n : Values} → frames.list ≡ list → AllHold frames serials xs levels s block types n → AllHold (record { list = list; kinds = frames.kinds; asides = frames.asides; known = frames.known }) serials xs levels s block types n
 listed_as frames list same all =
     record {
       numbers = all.numbers;
       texts = all.texts;
       arrays = all.arrays;
+      text_arrays = all.text_arrays;
       entered = all.entered;
       framed = all.framed ∙ same;
       kinds = all.kinds;
       units = all.units;
+      aside = all.aside;
       stored = all.stored;
     }
 
-pub listed_of : (frames : Frames) (list : List ℕ) {serials : Serials} {xs : Storage} {levels : List ℕ} {s : State} {block : Names} {types : Types} {n : Values} → frames.list ≡ list → AllHold (record { list = list; kinds = frames.kinds; known = frames.known }) serials xs levels s block types n → AllHold frames serials xs levels s block types n
+pub listed_of : (frames : Frames) (list : List ℕ) {serials : Serials} {xs : Storage} {levels : List ℕ} {s : State} {block : Names} {types : Types} {n : Values} → frames.list ≡ list → AllHold (record { list = list; kinds = frames.kinds; asides = frames.asides; known = frames.known }) serials xs levels s block types n → AllHold frames serials xs levels s block types n
 listed_of frames list same all =
     record {
       numbers = all.numbers;
       texts = all.texts;
       arrays = all.arrays;
+      text_arrays = all.text_arrays;
       entered = all.entered;
       framed = all.framed ∙ sym same;
       kinds = all.kinds;
       units = all.units;
+      aside = all.aside;
       stored = all.stored;
     }
 
 -- the numbers after one is assigned
 pub assigned_all : {frames : Frames} {serials : Serials} {xs : Storage} {levels : List ℕ} {s : State} {block : Names} {types : Types} {n : Values} (j : ℕ) {type : Y.LeafType} (z : ℤ) (below : slice_get types j ≡ Some (alone type)) (fits : Fits type z) (all : AllHold frames serials xs levels s block types n) → AllHold frames serials xs levels (assigned_state s type (serials.of j) (all.numbers j (type, below) (fits_numeric type z fits)).values z) block types (with_number_at n j z)
-assigned_all {serials = serials} {s = s} {types = types} {n = n} j {type} z below fits all =
+assigned_all {frames = frames} {serials = serials} {s = s} {types = types} {n = n} j {type} z below fits all =
     let numeric' = fits_numeric type z fits in
     let mine = all.numbers j (type, below) numeric' in
     record {
       numbers = λ i b numeric. holds_assigned serials.of types n z below fits mine (λ i' b' e. all.stored.apart i' j b'.1 below e) all.numbers i b numeric;
       texts = λ i varying most at. keeps_beside z (all.stored.apart i j at below (text_apart types i j type varying most below numeric' at)) mine (all.texts i varying most at);
-      arrays = λ i other b bs at. arrays_beside type (serials.of j) mine.values z (all.stored.apart i j at below (array_apart types i j type other b bs below at)) (all.arrays i other b bs at);
+      arrays = λ i other b bs at. arrays_beside type (serials.of j) mine.values z (all.stored.apart i j at.0 below (array_apart types i j type other b bs below at.0)) (all.arrays i other b bs at);
+      text_arrays = λ i varying most b bs at. texts_aside (serials.of j) (P.with_element (designated_scalar type (serials.of j) mine.values) (value_as type z)) (all.stored.apart i j at below (array_apart types i j type (text_leaf varying most) b bs below at)) (all.text_arrays i varying most b bs at);
       entered = all.entered;
       framed = all.framed;
       kinds = all.kinds;
       units = all.units;
+      aside = asides_changed j (P.with_element (designated_scalar type (serials.of j) mine.values) (value_as type z)) below all.aside;
       stored = stored_changed (serials.of j) (P.with_element (designated_scalar type (serials.of j) mine.values) (value_as type z)) (λ g. refl) all.stored;
     }
 

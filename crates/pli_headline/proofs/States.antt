@@ -15,11 +15,11 @@ use Rattle.pli_headline.proofs.Assignments.{assigned_state}
 -- what variables hold when one is assigned a number, or a text
 abbrev pub with_number_at : Values → ℕ → ℤ → Values
 with_number_at n j z =
-    record { numbers = λ i. if i == j then z else n.numbers i; texts = n.texts; arrays = n.arrays }
+    record { numbers = λ i. if i == j then z else n.numbers i; texts = n.texts; arrays = n.arrays; text_arrays = n.text_arrays }
 
 abbrev pub with_text_at : Values → ℕ → List ℕ → Values
 with_text_at n j text =
-    record { numbers = n.numbers; texts = λ i. if i == j then text else n.texts i; arrays = n.arrays }
+    record { numbers = n.numbers; texts = λ i. if i == j then text else n.texts i; arrays = n.arrays; text_arrays = n.text_arrays }
 
 -- a variable of the block stands for a generation that holds the value of a number
 pub record Holds (s : State) (block : Names) (j serial : ℕ) (type : Y.LeafType) (z : ℤ) : Type 0 where

@@ -1,7 +1,7 @@
 -- What lives, in the meaning and among the services, side by side; and the serial numbers of variables, with the heights of those that own them.
 use Rattle.std.proofs.Common.{◌≡◌, ℕ, suc, ◌+◌, ◌≤◌, List, [], ◌∷◌, Option, None, Some, Bool, true, false, refl, sym, ap, ◌∙◌, subst, arith}
 use Rattle.std.specs.Prelude.{cond, ◌==◌, nat_le, filter, map, slice_get}
-use Rattle.std.proofs.lemmas.Bool.{eqb-true}
+use Rattle.std.proofs.lemmas.Bool.{eqb-true, le-leb}
 use Rattle.std.proofs.lemmas.Bool.Decides.{nat_tests}
 use Rattle.pli_meaning.specs.Contents.{Generation, footprint_of}
 use Rattle.pli_meaning.specs.StorageState.{Living, living_of, living_changed, generation_of, generation_changed, automatic_in_use, without_owner}
@@ -23,10 +23,11 @@ pub record Storage : Type 0 where
 abbrev pub storage : Services → Storage
 storage v = record { activations = v.activations; signatures = v.signatures; living = v.living; serials = v.serials }
 
--- the serial number of each variable, and the height of the activation that owns it
+-- the serial number of each variable, the height of the activation that owns it, and what the services keep of the oldest one's variables
 pub record Serials : Type 0 where
   pub of : ℕ → ℕ
   pub owner : ℕ → ℕ
+  pub first : ℕ → Option S.Living
 
 -- ---- side by side
 
@@ -83,7 +84,7 @@ owner_by false true change l ls ls' n h e =
 owner_by false false change l ls ls' n h e =
     ap (λ t. owner_in (cond t (Some l) (living_of ls' n))) e ∙ h ∙ sym (ap (λ t. owner_in (cond t (Some l) (living_of ls n))) e)
 
-owner_changed : (serial : ℕ) (change : Generation → Generation) (ls : List Living) (n : ℕ) → owner_in (living_of (living_changed serial (generation_changed change) ls) n) ≡ owner_in (living_of ls n)
+pub owner_changed : (serial : ℕ) (change : Generation → Generation) (ls : List Living) (n : ℕ) → owner_in (living_of (living_changed serial (generation_changed change) ls) n) ≡ owner_in (living_of ls n)
 owner_changed serial change [] n = refl
 owner_changed serial change (l ∷ ls) n =
     owner_by (l.serial == serial) (l.serial == n) change l ls (living_changed serial (generation_changed change) ls) n (owner_changed serial change ls n) refl
@@ -97,6 +98,7 @@ pub record Stored (o : Serials) (templates : List Template) (kept : List S.Livin
   pub alike : Alike templates most living kept
   pub counted : made ≡ serials
   pub table : templates ≡ map template_of (table_of block.program)
+  pub first : (n : ℕ) (l : S.Living) → o.first n ≡ Some l → (S.living_of kept n ≡ Some l) × ((n ≤ serials) × (l.owner ≡ 1))
 
 pub stored_changed : {o : Serials} {templates : List Template} {kept : List S.Living} {made most : ℕ} {living : List Living} {serials : ℕ} {block : Names} {types : Types} (serial : ℕ) (change : Generation → Generation) → ((g : Generation) → footprint_of (change g) ≡ footprint_of g) → Stored o templates kept made most living serials block types → Stored o templates kept made most (living_changed serial (generation_changed change) living) serials block types
 stored_changed {o} {templates} {kept} {made} {most} {living} serial change keeps h =
@@ -107,6 +109,7 @@ stored_changed {o} {templates} {kept} {made} {most} {living} serial change keeps
       alike = alike_changed templates most serial change keeps living kept h.alike;
       counted = h.counted;
       table = h.table;
+      first = λ n l is. h.first n l is;
     }
 
 -- ---- a block is entered and left
@@ -127,6 +130,7 @@ stored_higher {templates = templates} {kept} {made} {most} {living} h =
       alike = alike_higher templates most living kept h.alike;
       counted = h.counted;
       table = h.table;
+      first = λ n l is. h.first n l is;
     }
 
 left_alike : (q : Bool) (templates : List Template) (most : ℕ) (l : Living) (m : S.Living) (ls : List Living) (ms : List S.Living) → (l.owner == suc most) ≡ q → IsAlike templates (suc most) l m → Alike templates most ls ms → Alike templates most (cond q ls (l ∷ ls)) (cond (nat_le m.owner most) (m ∷ ms) ms)
@@ -165,7 +169,7 @@ stays_by read false false height owner n l ls e f h other ih =
     let behind : owner_in (living_of ls n) ≡ Some owner = sym (ap (λ t. owner_in (cond t (Some l) (living_of ls n))) f) ∙ h in
     ap (λ t. read (cond t (Some l) (living_of (without_owner height ls) n))) f ∙ ih behind ∙ sym (ap (λ t. read (cond t (Some l) (living_of ls n))) f)
 
-stays_left : {A : Type 0} (read : Option Living → Option A) (height owner n : ℕ) (ls : List Living) → owner_in (living_of ls n) ≡ Some owner → (owner == height) ≡ false → read (living_of (without_owner height ls) n) ≡ read (living_of ls n)
+pub stays_left : {A : Type 0} (read : Option Living → Option A) (height owner n : ℕ) (ls : List Living) → owner_in (living_of ls n) ≡ Some owner → (owner == height) ≡ false → read (living_of (without_owner height ls) n) ≡ read (living_of ls n)
 stays_left read height owner n [] h other = refl
 stays_left read height owner n (l ∷ ls) h other =
     stays_by read (l.owner == height) (l.serial == n) height owner n l ls refl refl h other (λ g. stays_left read height owner n ls g other)
@@ -173,12 +177,26 @@ stays_left read height owner n (l ∷ ls) h other =
 pub generation_left : (height owner n : ℕ) (ls : List Living) → owner_in (living_of ls n) ≡ Some owner → (owner == height) ≡ false → generation_of (living_of (without_owner height ls) n) ≡ generation_of (living_of ls n)
 generation_left height owner n ls h other = stays_left generation_of height owner n ls h other
 
-below_high : (owner most : ℕ) → owner ≤ most → (owner == suc most) ≡ false
+pub below_high : (owner most : ℕ) → owner ≤ most → (owner == suc most) ≡ false
 below_high owner most h = grind (arith, nat_tests)
 
+-- the services still know what is of no higher owner
+found_by : (q r : Bool) (most n : ℕ) (l m : S.Living) (ms : List S.Living) → (m.serial == n) ≡ q → nat_le m.owner most ≡ r → cond q (Some m) (S.living_of ms n) ≡ Some l → nat_le l.owner most ≡ true → (S.living_of ms n ≡ Some l → S.living_of (filter (λ u. nat_le u.owner most) ms) n ≡ Some l) → S.living_of (cond r (m ∷ filter (λ u. nat_le u.owner most) ms) (filter (λ u. nat_le u.owner most) ms)) n ≡ Some l
+found_by true true most n l m ms e f h low later = ap (λ t. cond t (Some m) (S.living_of (filter (λ u. nat_le u.owner most) ms) n)) e ∙ h
+found_by true false most n l m ms e f h low later =
+    let same : m ≡ l = cc h in
+    let no : false ≡ true = sym f ∙ ap (λ (u : S.Living). nat_le u.owner most) same ∙ low in
+    absurd (cc no)
+found_by false true most n l m ms e f h low later = ap (λ t. cond t (Some m) (S.living_of (filter (λ u. nat_le u.owner most) ms) n)) e ∙ later h
+found_by false false most n l m ms e f h low later = later h
+
+found_left : (ms : List S.Living) (most n : ℕ) (l : S.Living) → S.living_of ms n ≡ Some l → nat_le l.owner most ≡ true → S.living_of (filter (λ u. nat_le u.owner most) ms) n ≡ Some l
+found_left [] most n l h low = absurd (cc h)
+found_left (m ∷ ms) most n l h low = found_by (m.serial == n) (nat_le m.owner most) most n l m ms refl refl h low (λ h'. found_left ms most n l h' low)
+
 -- the newest activation ends, which owns none of these variables
-pub stored_left : {o : Serials} {templates : List Template} {kept : List S.Living} {made most : ℕ} {living : List Living} {serials : ℕ} {block : Names} {types : Types} → ((j : ℕ) (kind : Kind) → slice_get types j ≡ Some kind → o.owner j ≤ most) → Stored o templates kept made (suc most) living serials block types → Stored o templates (filter (λ m. nat_le m.owner most) kept) made most (without_owner (suc most) living) serials block types
-stored_left {o} {templates} {kept} {made} {most} {living} low h =
+pub stored_left : {o : Serials} {templates : List Template} {kept : List S.Living} {made most : ℕ} {living : List Living} {serials : ℕ} {block : Names} {types : Types} → 1 ≤ most → ((j : ℕ) (kind : Kind) → slice_get types j ≡ Some kind → o.owner j ≤ most) → Stored o templates kept made (suc most) living serials block types → Stored o templates (filter (λ m. nat_le m.owner most) kept) made most (without_owner (suc most) living) serials block types
+stored_left {o} {templates} {kept} {made} {most} {living} some low h =
     record {
       owned = λ j at. stays_left owner_in (suc most) (o.owner j) (o.of j) living (h.owned j at) (below_high (o.owner j) most (low j _ at)) ∙ h.owned j at;
       apart = λ i j at at' e. h.apart i j at at' e;
@@ -186,6 +204,7 @@ stored_left {o} {templates} {kept} {made} {most} {living} low h =
       alike = alike_left templates most living kept h.alike;
       counted = h.counted;
       table = h.table;
+      first = λ n l is. let old = h.first n l is in let mine = old.1.1 in (found_left kept most n l old.0 (le-leb l.owner most (omega (arith, mine, some))), old.1);
     }
 
 -- what another variable holds stays

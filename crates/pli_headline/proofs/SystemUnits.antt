@@ -6,7 +6,7 @@ use Rattle.pli_language.specs.declared.condition.Condition.TheVariants as C
 use Rattle.rv_meaning.specs.declared.instr.Instr.{Instr}
 use Rattle.pli_typing.specs.TypedTree as Y
 use Rattle.pli_meaning.specs.World.{counted}
-use Rattle.pli_meaning.specs.StorageState.{State, OnUnit, SystemUnit, Activation, with_world, with_activations, same_condition, without_unit, established, reverted, newest_height, ancestor, binding_of, binding_in}
+use Rattle.pli_meaning.specs.StorageState.{State, OnUnit, SystemUnit, Activation, Living, with_world, with_activations, same_condition, without_unit, established, reverted, newest_height, ancestor, binding_of, binding_in}
 use Rattle.pli_meaning.specs.Control.{Meaning, act, stored, ◌>>◌}
 use Rattle.pli_meaning.specs.Raising.{Around}
 use Rattle.pli_meaning.specs.Executing as M
@@ -32,6 +32,7 @@ use Rattle.pli_headline.proofs.Bodies.{Known, zero_is}
 use Rattle.pli_headline.proofs.Jumps.{front_of, back_of}
 use Rattle.pli_headline.proofs.Temporaries.{stays_same}
 use Rattle.pli_headline.proofs.Activations.{AllUnits, Nested, frames_of, levels_of}
+use Rattle.pli_headline.proofs.Asides.{Aside, StandAside, asides_seen}
 use Rattle.pli_headline.proofs.Entered.{Frames, kinds_of, IsKnown, AreKnown, UnitsKnown, less_known}
 use Rattle.pli_headline.proofs.Calls.{Serving}
 use Rattle.pli_headline.proofs.Raising.{small_is}
@@ -148,6 +149,11 @@ changed_kinds q u c [] = refl
 changed_kinds q u c (x ∷ []) = refl
 changed_kinds q u c (x ∷ y ∷ xs) = refl
 
+changed_asides : {xss : List (List Aside)} {o : Serials} {types : Types} {living : List Living} {count : ℕ} (q : Bool) (u : OnUnit) (c : Condition) (as' : List Activation) → StandAside xss o types as' living count → StandAside xss o types (newest_changed q u c as') living count
+changed_asides q u c [] all = all
+changed_asides q u c (a ∷ as') all =
+    asides_seen a (record a { units = changed q u c a.units }) as' (λ level i. binding_kept q u c (a ∷ as') level i) all
+
 pub changed_all : {frames : Frames} {serials : Serials} {xs : Storage} {levels : List ℕ} {s : State} {block : Names} {types : Types} {n : Values} (q : Bool) (u : OnUnit) (w : S.OnUnit) (c : Condition) → NewestKnown frames.known u w s.activations xs.activations → AllHold frames serials xs levels s block types n → AllHold frames serials (record xs { activations = newest_served q w c xs.activations }) levels (changed_state q u c s) block types n
 changed_all {frames = frames} {xs = xs} {s = s} {block = block} q u w c new all =
     record {
@@ -160,10 +166,14 @@ changed_all {frames = frames} {xs = xs} {s = s} {block = block} q u w c new all 
       arrays = λ j type b bs at.
           let h = all.arrays j type b bs at in
           record { values = h.values; numeric = h.numeric; stands = binding_kept q u c s.activations (block.at j).level (block.at j).index ∙ h.stands; lives = h.lives; value = h.value; fits = h.fits };
+      text_arrays = λ j varying most b bs at.
+          let h = all.text_arrays j varying most b bs at in
+          record { values = h.values; stands = binding_kept q u c s.activations (block.at j).level (block.at j).index ∙ h.stands; lives = h.lives; value = h.value; short = h.short };
       entered = changed_levels q u c s.activations ∙ all.entered;
       framed = changed_frames q w c xs.activations ∙ all.framed;
       kinds = changed_kinds q w c xs.activations ∙ all.kinds;
       units = changed_units frames.known q u w c s.activations xs.activations new all.units;
+      aside = changed_asides q u c s.activations all.aside;
       stored = all.stored;
     }
 

@@ -1,5 +1,5 @@
 -- What a value in a register is assigned to: a scalar of the block, or an element of an array.
-use Rattle.std.proofs.Common.{◌≡◌, ◌⊎◌, ℕ, suc, ◌+◌, ◌≤◌, inl, inr, List, ◌∷◌, length, Some, ap, ◌∙◌, arith}
+use Rattle.std.proofs.Common.{◌≡◌, ℕ, suc, ◌+◌, ◌≤◌, inl, inr, List, ◌∷◌, length, Some, ap, ◌∙◌, arith}
 use Rattle.std.specs.Prelude.{ℤ, slice_get}
 use Rattle.rv_meaning.specs.declared.instr.Instr.{Instr}
 use Rattle.rv_meaning.specs.Words.{word}
@@ -19,7 +19,7 @@ use Rattle.pli_coding.specs.Expressions.{given_in, type_in}
 use Rattle.pli_coding.specs.Storing.{word_stored}
 use Rattle.pli_coding.specs.Temporaries.{subscripts_words}
 use Rattle.pli_coding.specs.Linking.{Links}
-use Rattle.pli_headline.specs.ProvedSoFar.{Names, Types, Kind, alone, IsOwn, IsElement, IsElementType, IsAssigned, IsProvedNumber, AreProvedNumbers}
+use Rattle.pli_headline.specs.ProvedSoFar.{Names, Types, Kind, alone, IsAssigned, IsProvedNumber, AreProvedNumbers, IsPart}
 use Rattle.pli_headline.proofs.Storages.{storage, Storage}
 use Rattle.pli_headline.proofs.Engine.{Base}
 use Rattle.pli_headline.proofs.Items.{Linked, At}
@@ -50,10 +50,10 @@ own_type e block j type declared = ap type_by declared.1
 pub element_type : (e : Environment) (block : Names) (j : ℕ) (type : Y.LeafType) (bs : List Bounds) (first : Y.Number) (rest : Y.Numbers) → IsDeclaredArray e block j type bs → type_in e (element block j first rest) ≡ type
 element_type e block j type bs first rest declared = ap type_by declared.1
 
-pub part_type : (e : Environment) (block : Names) (types : Types) (type : Y.LeafType) (r : Y.Reference) → HasTypes e block types → IsOwn block types type r ⊎ (IsElement block types type r × IsElementType type) → type_in e r ≡ type
+pub part_type : (e : Environment) (block : Names) (types : Types) (type : Y.LeafType) (r : Y.Reference) → HasTypes e block types → IsPart block types type r → type_in e r ≡ type
 part_type e block types type r has (inl o) =
     ap (type_in e) o.is ∙ own_type e block o.index type (has o.index (alone type) o.declared)
-part_type e block types type r has (inr (o, is)) =
+part_type e block types type r has (inr o) =
     let kind : Kind = record { type = type; bounds = o.bound ∷ o.bounds } in
     ap (type_in e) o.is ∙ element_type e block o.index type (o.bound ∷ o.bounds) o.first o.rest (has o.index kind o.declared)
 
@@ -103,7 +103,7 @@ element_takes {e} {block} {types} bl links code routines j {type} b bs first res
       does = λ {i} {v} {h} {t} {s} {aims} closed f around z n k fits l serving hold at goal.
           let w = bl.words_are n in
           let mine = hold.arrays j type b bs below in
-          element_stored_piece (λ p. bl.ground (with_element_of n j p z)) closed routines.raises (bl.temps n) (array_scope on n mine (bl.reaches n j below)) f around bl.taken z k (subscripts_words xs) first rest
+          element_stored_piece (λ p. bl.ground (with_element_of n j p z)) closed routines.raises (bl.temps n) (array_scope on n mine (bl.reaches n j below.0)) f around bl.taken z k (subscripts_words xs) first rest
           (subscripts_do xs (setting_at bl routines around n hold serving) are) (ap (λ m. suc m) many) (subscripts_many xs) fits (omega (arith, room, w)) serving
           (λ p base h'. bl.same n (with_element_of n j p z) base h')
           (λ p inside t' base m len o. on.writes n p z inside (mine.fits p inside) fits t' base m len o) l at

@@ -20,7 +20,7 @@ use Rattle.pli_coding.specs.Expressions.{text_code}
 use Rattle.pli_coding.specs.Storing.{top_stored, assigned_code}
 use Rattle.pli_coding.specs.Temporaries.{text_words}
 use Rattle.pli_coding.specs.Linking.{Links}
-use Rattle.pli_headline.specs.ProvedSoFar.{Names, Types, IsProvedText, text_leaf, IsOwnText}
+use Rattle.pli_headline.specs.ProvedSoFar.{Names, Types, IsProvedText, text_leaf, IsOwn}
 use Rattle.pli_headline.proofs.Storages.{storage, Storage, Serials, stored_changed}
 use Rattle.pli_headline.proofs.Engine.{Base, address}
 use Rattle.pli_headline.proofs.Linking.{size_append}
@@ -39,24 +39,28 @@ use Rattle.pli_headline.proofs.TextVariables.{text_state, text_stored_piece}
 use Rattle.pli_headline.proofs.TextsKept.{text_kept_as, kept_length}
 use Rattle.pli_headline.proofs.TextScopes.{IsTextAt}
 use Rattle.pli_headline.proofs.TextStates.{holds_text, holds_other, number_apart, keeps_all}
+use Rattle.pli_headline.proofs.Asides.{asides_changed}
 use Rattle.pli_headline.proofs.Entered.{Frames}
 use Rattle.pli_headline.proofs.Statements.{Block, Standing, AllHold, Does, counted_all}
 use Rattle.pli_headline.proofs.Ifs.{setting}
 use Rattle.pli_headline.proofs.Reach.{Family, Aims, Comes, Closed, before_closed, comes_on}
 use Rattle.pli_headline.proofs.ArrayStates.{array_apart, arrays_beside_text}
+use Rattle.pli_headline.proofs.TextArrayMeant.{texts_aside}
 
 -- what the variables hold when one is assigned a text
 pub text_assigned_all : {frames : Frames} {serials : Serials} {xs : Storage} {levels : List ℕ} {s : State} {block : Names} {types : Types} {n : Values} (j : ℕ) (varying : Bool) (most : ℕ) (text : List ℕ) (below : IsTextAt types j varying most) → most ≤ 1024 → (all : AllHold frames serials xs levels s block types n) → AllHold frames serials xs levels (text_state s (text_leaf varying most) (serials.of j) (all.texts j varying most below).values text) block types (with_text_at n j (text_kept_as varying most text))
-text_assigned_all {serials = serials} {s = s} {types = types} {n = n} j varying most text below few all =
+text_assigned_all {frames = frames} {serials = serials} {s = s} {types = types} {n = n} j varying most text below few all =
     let h = all.texts j varying most below in
     record {
       numbers = λ i b numeric. holds_other text (all.stored.apart i j b.1 below (number_apart types i j b.0 varying most below b.1 numeric)) h (all.numbers i b numeric);
       texts = λ i other most' at. keeps_all serials.of types n text below few h i other most' at (λ e. all.stored.apart i j at below e) (all.texts i other most' at);
-      arrays = λ i type b bs at. arrays_beside_text (text_leaf varying most) (serials.of j) h.values text (all.stored.apart i j at below (array_apart types i j (text_leaf varying most) type b bs below at)) (all.arrays i type b bs at);
+      arrays = λ i type b bs at. arrays_beside_text (text_leaf varying most) (serials.of j) h.values text (all.stored.apart i j at.0 below (array_apart types i j (text_leaf varying most) type b bs below at.0)) (all.arrays i type b bs at);
+      text_arrays = λ i other most' b bs at. texts_aside (serials.of j) (P.with_element (designated_scalar (text_leaf varying most) (serials.of j) h.values) (BasicText text)) (all.stored.apart i j at below (array_apart types i j (text_leaf varying most) (text_leaf other most') b bs below at)) (all.text_arrays i other most' b bs at);
       entered = all.entered;
       framed = all.framed;
       kinds = all.kinds;
       units = all.units;
+      aside = asides_changed j (P.with_element (designated_scalar (text_leaf varying most) (serials.of j) h.values) (BasicText text)) below all.aside;
       stored = stored_changed (serials.of j) (P.with_element (designated_scalar (text_leaf varying most) (serials.of j) h.values) (BasicText text)) (λ g. refl) all.stored;
     }
 
@@ -119,7 +123,7 @@ text_assigned_does {e} {block} {types} bl links code routines around j varying m
           })))));
     }
 
-pub assign_text_does : {e : Environment} {block : Names} {types : Types} (bl : Block e block types) (links : Links) (code : List Instr) (routines : Standing bl links code) (around : Around) (r : Y.Reference) (x : Y.Text) (line : ℕ) → IsOwnText block types r → IsProvedText block types x → bl.taken.words + text_words x ≤ bl.words → line < 2 ^ 31 → Does bl links code around.turns (act_code line ++ assigned_code e bl.taken r (Y.StoredText x)) (M.statement around (Y.Assign r (Y.StoredText x) line))
-assign_text_does {e} bl links code routines around r x line own' is room fits =
-    subst (λ q. Does bl links code around.turns (act_code line ++ assigned_code e bl.taken q (Y.StoredText x)) (M.statement around (Y.Assign q (Y.StoredText x) line))) (sym own'.own.is)
-    (text_assigned_does bl links code routines around own'.own.index own'.varying own'.most x line own'.own.declared is room fits)
+pub assign_text_does : {e : Environment} {block : Names} {types : Types} (bl : Block e block types) (links : Links) (code : List Instr) (routines : Standing bl links code) (around : Around) (varying : Bool) (most : ℕ) (r : Y.Reference) (x : Y.Text) (line : ℕ) → IsOwn block types (text_leaf varying most) r → IsProvedText block types x → bl.taken.words + text_words x ≤ bl.words → line < 2 ^ 31 → Does bl links code around.turns (act_code line ++ assigned_code e bl.taken r (Y.StoredText x)) (M.statement around (Y.Assign r (Y.StoredText x) line))
+assign_text_does {e} bl links code routines around varying most r x line own' is room fits =
+    subst (λ q. Does bl links code around.turns (act_code line ++ assigned_code e bl.taken q (Y.StoredText x)) (M.statement around (Y.Assign q (Y.StoredText x) line))) (sym own'.is)
+    (text_assigned_does bl links code routines around own'.index varying most x line own'.declared is room fits)

@@ -101,7 +101,7 @@ kept_answer true code v m at most text few low high =
 
 -- ---- pieces
 
-offset_is : (x base frame : ℕ) → x ≡ base + frame → base + frame < 2 ^ 32 → (x + (2 ^ 32 - base)) % 2 ^ 32 ≡ frame
+pub offset_is : (x base frame : ℕ) → x ≡ base + frame → base + frame < 2 ^ 32 → (x + (2 ^ 32 - base)) % 2 ^ 32 ≡ frame
 offset_is x base frame e h = omega (arith, e, h)
 
 summed : (x y z : ℕ) → y ≡ z → x + z < 2 ^ 32 → sum x y ≡ x + z
@@ -138,7 +138,21 @@ base_piece {i = i} {g = g} {v = v} {h = h} {t = t} false level c f base reaches 
     )) in
     reach_moved (omega (arith, size)) (omega (arith, size)) (reach_then r1 r2)
 
--- that of a place of it
+-- that of a place behind an offset in a0
+pub behind_piece : {X : Type 0} {links : Links} {code : List Instr} {i : ℕ} {g : Ground} {v : Services} {h t : ℕ → ℕ} {aims : Aims X} {flow : Flow X} (closed : Closed code aims) (f : Family) (base place : ℕ) → base + place < memory_size → Linked links code i (plus a0 a0 (pos place)) → ((b : Base) → At b i (Known g v h t (valued base) b) (f b)) → ((f' : Family) → ((b : Base) → At b (i + size_of (plus a0 a0 (pos place))) (Known g v h t (valued (base + place)) b) (f' b)) → Comes code (i + size_of (plus a0 a0 (pos place))) f' v aims flow) → Comes code i f v aims flow
+behind_piece {i = i} {g = g} {v = v} {h = h} {t = t} closed f base place inside l at next' =
+    let few : place < 2 ^ 31 = omega (arith, inside) in
+    let free_a0 : Free nothing 10 = record { reserved_stay = λ y u. refl; known_stay = λ b y u k. k; set = λ y u. refl } in
+    let free_far : Free (valued base) 31 = record { reserved_stay = λ y u. refl; known_stay = λ b y u k. k; set = λ y u. refl } in
+    onward closed (displaced_by (is_immediate (pos place)) i f (λ s d. I.Immediate Imm.Add a0 s d) a0 (pos place) (λ b. base) (λ b. Known g v h t (valued base) b) (λ b. Known g v h t (valued (base + place)) b) (word_fits place few) (λ b. omega (arith, inside)) (λ y u. refl) (λ b. (at b).holds.regs.0) (omega arith)
+    (record {
+      does = λ b j w s d o e. set_known w 10 (sum (w.machine.registers s.index) (word d)) _ (λ b'. base + place) free_a0 (e ∙ summed base (word (pos place)) place (word_is place few) (omega (arith, inside))) (record { body = o.body; regs = tt });
+      lost = λ b w u j o. lose_known w 31 u j free_far o;
+    })
+    l at)
+    next'
+
+-- that of a place of the frame
 pub offset_piece : {X : Type 0} {links : Links} {code : List Instr} {i : ℕ} {g : Ground} {v : Services} {h t : ℕ → ℕ} {aims : Aims X} {flow : Flow X} (q : Bool) (level : ℕ) (closed : Closed code aims) (f : Family) (base place : ℕ) → Reaches q level g base → base + place < memory_size → Linked links code i (based_offset q level place) → ((b : Base) → At b i (Known g v h t nothing b) (f b)) → ((f' : Family) → ((b : Base) → At b (i + size_of (based_offset q level place)) (Known g v h t (valued (base + place)) b) (f' b)) → Comes code (i + size_of (based_offset q level place)) f' v aims flow) → Comes code i f v aims flow
 offset_piece {links = links} {code = code} {i = i} {g = g} {v = v} {h = h} {t = t} {aims = aims} {flow = flow} q level closed f base place reaches inside l at next' =
     let front = found_by q level ++ (BaseIn u0 ∷ subtract a0 (register_by q) u0 ∷ []) in
@@ -148,16 +162,9 @@ offset_piece {links = links} {code = code} {i = i} {g = g} {v = v} {h = h} {t = 
     let e1 = size_append front last in
     let e2 = ap size_of nested in
     let there : i + size_of front + size_of last ≡ i + size_of (based_offset q level place) = omega (arith, e1, e2) in
-    let few : place < 2 ^ 31 = omega (arith, inside) in
-    let free_a0 : Free nothing 10 = record { reserved_stay = λ y u. refl; known_stay = λ b y u k. k; set = λ y u. refl } in
-    let free_far : Free (valued base) 31 = record { reserved_stay = λ y u. refl; known_stay = λ b y u k. k; set = λ y u. refl } in
-    onward closed (base_piece q level i f base reaches (omega (arith, inside)) (front_of front last l') at) (λ f1 at1.
-    onward closed (displaced_by (is_immediate (pos place)) (i + size_of front) f1 (λ s d. I.Immediate Imm.Add a0 s d) a0 (pos place) (λ b. base) (λ b. Known g v h t (valued base) b) (λ b. Known g v h t (valued (base + place)) b) (word_fits place few) (λ b. omega (arith, inside)) (λ y u. refl) (λ b. (at1 b).holds.regs.0) (omega arith)
-    (record {
-      does = λ b j w s d o e. set_known w 10 (sum (w.machine.registers s.index) (word d)) _ (λ b'. base + place) free_a0 (e ∙ summed base (word (pos place)) place (word_is place few) (omega (arith, inside))) (record { body = o.body; regs = tt });
-      lost = λ b w u j o. lose_known w 31 u j free_far o;
-    })
-    (back_of front last l') at1)
+    onward closed (base_piece q level i f base reaches (omega (arith, inside)) (front_of front last l') at)
+    (λ f1 at1.
+    behind_piece closed f1 base place inside (back_of front last l') at1
     (λ f2 at2.
     subst (λ n. Comes code n f2 v aims flow) (sym there)
     (next' f2 (λ b. record { pc = (at2 b).pc ∙ ap (address b) there; holds = (at2 b).holds }))))
@@ -166,38 +173,28 @@ mode_small : (varying : Bool) → text_mode varying < 2 ^ 32
 mode_small false = omega arith
 mode_small true = omega arith
 
--- a service is asked about it, which may change memory
-pub asked_piece : {R : Type 0} {links : Links} {code : List Instr} {i : ℕ} {g : Ground} (g' : Ground) {v : Services} (v' : Services) {h t : ℕ → ℕ} {aims : Aims R} {flow : Flow R} (q : Bool) (level : ℕ) (closed : Closed code aims) (f : Family) (n : ℕ) (G : Call → ℕ → ℕ → ℕ → ℕ → ℕ → Answer) (varying : Bool) (most base place : ℕ) (change : List ℕ → List ℕ) (x y : ℕ) → n < 2 ^ 31 → ((c : Call) (r : ℕ → ℕ) → S.served n c r ≡ G c (r 10) (r 11) (r 12) (r 13) (r 14)) → v.world.acts ≤ v'.world.acts → most ≤ 1024 → Reaches q level g base → base + place < memory_size → ((b : Base) (h' : ℕ → ℕ) → reserved_are b g h' ≡ reserved_are b g' h') → ((b : Base) (m : List ℕ) (x3 x4 : ℕ) → g.memory t b m → G (call_at code v m) (base + place) most (text_mode varying) x3 x4 ≡ Done v' (change m) x y) → ((b : Base) (m : List ℕ) → length m ≡ memory_size → g.memory t b m → (length (change m) ≡ memory_size) × g'.memory t b (change m)) → Linked links code i (text_asked q level n varying most place) → ((b : Base) → At b i (Known g v h t nothing b) (f b)) → ((f' : Family) → ((b : Base) → At b (i + size_of (text_asked q level n varying most place)) (Known g' v' h t nothing b) (f' b)) → Comes code (i + size_of (text_asked q level n varying most place)) f' v' aims flow) → Comes code i f v aims flow
-asked_piece {links = links} {code = code} {i = i} {g = g} g' {v = v} v' {h = h} {t = t} {aims = aims} {flow = flow} q level closed f n G varying most base place change x y fits is more short reaches inside same answers changed l at next' =
-    let o = base + place in
+-- a service is asked about the text at an offset in a0, which may change memory
+pub kind_piece : {R : Type 0} {links : Links} {code : List Instr} {i : ℕ} {g : Ground} (g' : Ground) {v : Services} (v' : Services) {h t : ℕ → ℕ} {aims : Aims R} {flow : Flow R} (closed : Closed code aims) (f : Family) (n : ℕ) (G : Call → ℕ → ℕ → ℕ → ℕ → ℕ → Answer) (varying : Bool) (most o : ℕ) (change : List ℕ → List ℕ) (x y : ℕ) → n < 2 ^ 31 → ((c : Call) (r : ℕ → ℕ) → S.served n c r ≡ G c (r 10) (r 11) (r 12) (r 13) (r 14)) → v.world.acts ≤ v'.world.acts → most ≤ 1024 → ((b : Base) (h' : ℕ → ℕ) → reserved_are b g h' ≡ reserved_are b g' h') → ((b : Base) (m : List ℕ) (x3 x4 : ℕ) → g.memory t b m → G (call_at code v m) o most (text_mode varying) x3 x4 ≡ Done v' (change m) x y) → ((b : Base) (m : List ℕ) → length m ≡ memory_size → g.memory t b m → (length (change m) ≡ memory_size) × g'.memory t b (change m)) → Linked links code i (kind_asked n varying most) → ((b : Base) → At b i (Known g v h t (valued o) b) (f b)) → ((f' : Family) → ((b : Base) → At b (i + size_of (kind_asked n varying most)) (Known g' v' h t nothing b) (f' b)) → Comes code (i + size_of (kind_asked n varying most)) f' v' aims flow) → Comes code i f v aims flow
+kind_piece {links = links} {code = code} {i = i} {g = g} g' {v = v} v' {h = h} {t = t} {aims = aims} {flow = flow} closed f n G varying most o change x y fits is more short same answers changed l at next' =
     let mode = text_mode varying in
-    let first = based_offset q level place in
     let second = number a1 most in
     let third = small a2 mode ∷ small a7 n ∷ [] in
     let last = Plain I.Ecall ∷ [] in
-    let rest = kind_asked n varying most in
-    let joined = append_assoc (found_by q level) (address_offset (record { register = register_by q; displacement = pos place })) rest in
     let nested = append_assoc second (small a2 mode ∷ []) (service n) in
-    let j = i + size_of first in
-    let l0 = subst (Linked links code i) (sym joined) l in
-    let l1 = subst (Linked links code j) nested (back_of first rest l0) in
+    let l1 = subst (Linked links code i) nested l in
     let l2 = back_of second (third ++ last) l1 in
-    let e0 = ap size_of joined in
-    let e1 = size_append first rest in
     let e2 = size_append second (third ++ last) in
     let e3 = ap size_of nested in
     let few : most < 2 ^ 31 = omega (arith, short) in
-    offset_piece q level closed f base place reaches inside (front_of first rest l0) at
-    (λ f1 at1.
-    onward closed (constant_piece j f1 a1 (pos most) (word_fits most few) (record { reserved_stay = λ z u. refl; known_stay = λ b z u k. k; set = λ z u. refl }) (front_of second (third ++ last) l1) at1)
+    onward closed (constant_piece i f a1 (pos most) (word_fits most few) (record { reserved_stay = λ z u. refl; known_stay = λ b z u k. k; set = λ z u. refl }) (front_of second (third ++ last) l1) at)
     (λ f2 at2.
-    let r3 = straight (j + size_of second) f2 v v (λ b. Known g v h t (λ b'. (10, o) ∷ (11, most) ∷ (12, mode) ∷ (17, n) ∷ []) b) (front_of third last l2) (omega arith) (λ b. (at2 b).pc)
+    let r3 = straight (i + size_of second) f2 v v (λ b. Known g v h t (λ b'. (10, o) ∷ (11, most) ∷ (12, mode) ∷ (17, n) ∷ []) b) (front_of third last l2) (omega arith) (λ b. (at2 b).pc)
     (λ b. let k = (at2 b).holds in let z = zero_is k.body in record {
       body = record { services = k.body.services; registers = k.body.registers; bytes = k.body.bytes; memory = k.body.memory };
       regs = (k.regs.1.0, (k.regs.0 ∙ word_is most few, (small_is _ mode z (mode_small varying), (small_is _ n z (omega (arith, fits)), tt))));
     }) in
     onward closed r3 (λ f3 at3.
-    let calling : Calling _ code (j + size_of second + 2) f3 (λ b. Done v' (change (f3 b).machine.memory) x y) = record {
+    let calling : Calling _ code (i + size_of second + 2) f3 (λ b. Done v' (change (f3 b).machine.memory) x y) = record {
       linked = back_of third last l2;
       pc = λ b. (at3 b).pc;
       answers = λ b.
@@ -205,9 +202,26 @@ asked_piece {links = links} {code = code} {i = i} {g = g} g' {v = v} v' {h = h} 
           called code (f3 b) v n o most mode _ _ G k.body.services k.regs.1.1.1.0 k.regs.0 k.regs.1.0 k.regs.1.1.0 refl refl is
           ∙ answers b (f3 b).machine.memory _ _ k.body.memory;
     } in
-    let done = call_done (j + size_of second + 2) f3 v v' (λ b. change (f3 b).machine.memory) (λ b. x) (λ b. y) (λ b. Known g' v' h t nothing b) more calling
+    let done = call_done (i + size_of second + 2) f3 v v' (λ b. change (f3 b).machine.memory) (λ b. x) (λ b. y) (λ b. Known g' v' h t nothing b) more calling
     (λ b. let p = (at3 b).holds.body in let c = changed b (f3 b).machine.memory p.bytes p.memory in record { body = record { services = refl; registers = p.registers ∙ same b h; bytes = c.0; memory = c.1 }; regs = tt }) in
     onward closed done (λ f4 at4.
-    let there : j + size_of second + 2 + 1 ≡ i + size_of (text_asked q level n varying most place) = omega (arith, e0, e1, e2, e3) in
+    let there : i + size_of second + 2 + 1 ≡ i + size_of (kind_asked n varying most) = omega (arith, e2, e3) in
     subst (λ u. Comes code u f4 v' aims flow) (sym there)
-    (next' f4 (λ b. record { pc = (at4 b).pc ∙ ap (address b) there; holds = (at4 b).holds }))))))
+    (next' f4 (λ b. record { pc = (at4 b).pc ∙ ap (address b) there; holds = (at4 b).holds })))))
+
+-- about the text at a place of the frame
+pub asked_piece : {R : Type 0} {links : Links} {code : List Instr} {i : ℕ} {g : Ground} (g' : Ground) {v : Services} (v' : Services) {h t : ℕ → ℕ} {aims : Aims R} {flow : Flow R} (q : Bool) (level : ℕ) (closed : Closed code aims) (f : Family) (n : ℕ) (G : Call → ℕ → ℕ → ℕ → ℕ → ℕ → Answer) (varying : Bool) (most base place : ℕ) (change : List ℕ → List ℕ) (x y : ℕ) → n < 2 ^ 31 → ((c : Call) (r : ℕ → ℕ) → S.served n c r ≡ G c (r 10) (r 11) (r 12) (r 13) (r 14)) → v.world.acts ≤ v'.world.acts → most ≤ 1024 → Reaches q level g base → base + place < memory_size → ((b : Base) (h' : ℕ → ℕ) → reserved_are b g h' ≡ reserved_are b g' h') → ((b : Base) (m : List ℕ) (x3 x4 : ℕ) → g.memory t b m → G (call_at code v m) (base + place) most (text_mode varying) x3 x4 ≡ Done v' (change m) x y) → ((b : Base) (m : List ℕ) → length m ≡ memory_size → g.memory t b m → (length (change m) ≡ memory_size) × g'.memory t b (change m)) → Linked links code i (text_asked q level n varying most place) → ((b : Base) → At b i (Known g v h t nothing b) (f b)) → ((f' : Family) → ((b : Base) → At b (i + size_of (text_asked q level n varying most place)) (Known g' v' h t nothing b) (f' b)) → Comes code (i + size_of (text_asked q level n varying most place)) f' v' aims flow) → Comes code i f v aims flow
+asked_piece {links = links} {code = code} {i = i} g' v' {aims = aims} {flow = flow} q level closed f n G varying most base place change x y fits is more short reaches inside same answers changed l at next' =
+    let first = based_offset q level place in
+    let rest = kind_asked n varying most in
+    let joined = append_assoc (found_by q level) (address_offset (record { register = register_by q; displacement = pos place })) rest in
+    let l0 = subst (Linked links code i) (sym joined) l in
+    let e0 = ap size_of joined in
+    let e1 = size_append first rest in
+    let there : i + size_of first + size_of rest ≡ i + size_of (text_asked q level n varying most place) = omega (arith, e0, e1) in
+    offset_piece q level closed f base place reaches inside (front_of first rest l0) at
+    (λ f1 at1.
+    kind_piece g' v' closed f1 n G varying most (base + place) change x y fits is more short same answers changed (back_of first rest l0) at1
+    (λ f2 at2.
+    subst (λ u. Comes code u f2 v' aims flow) (sym there)
+    (next' f2 (λ b. record { pc = (at2 b).pc ∙ ap (address b) there; holds = (at2 b).holds }))))

@@ -83,7 +83,7 @@ holds_other {s} {serial = serial} {other' = other'} {varying} {most} text e h o 
 
 -- ---- among the variables of a block
 
-not_numeric : (varying : Bool) (most : ℕ) → IsNumeric (text_leaf varying most) → ⊥
+pub not_numeric : (varying : Bool) (most : ℕ) → IsNumeric (text_leaf varying most) → ⊥
 not_numeric false most h = h
 not_numeric true most h = h
 
@@ -107,7 +107,7 @@ keeps_beside {s} {serial = serial} {other' = other'} {type} z apart h o =
     let change = P.with_element (designated_scalar type serial h.values) (value_as type z) in
     record { values = o.values; stands = o.stands; lives = changed_other s.living serial other' change apart ∙ o.lives; value = o.value; short = o.short }
 
-leaf_same : (varying other : Bool) (most most' : ℕ) → text_leaf varying most ≡ text_leaf other most' → (varying ≡ other) × (most ≡ most')
+pub leaf_same : (varying other : Bool) (most most' : ℕ) → text_leaf varying most ≡ text_leaf other most' → (varying ≡ other) × (most ≡ most')
 leaf_same false false most most' e =
     let f : Y.CharacterLeaf (Y.ConstantExtent (pos most)) ≡ Y.CharacterLeaf (Y.ConstantExtent (pos most')) = e in
     (refl, cc f)

@@ -24,7 +24,7 @@ text_constant false most _ h = absurd h
 text_constant true most _ h = absurd h
 
 -- what INITIAL gives the element at a place
-given_at : (varying : Bool) (most : ℕ) (items : List T.InitialItem) (p : ℕ) → AreConstants (text_leaf varying most) items → IsTextConstant (initial_at items p)
+pub given_at : (varying : Bool) (most : ℕ) (items : List T.InitialItem) (p : ℕ) → AreConstants (text_leaf varying most) items → IsTextConstant (initial_at items p)
 given_at varying most [] p h = tt
 given_at varying most (i ∷ more) p h =
     by_test (nat_lt p i.repetition) (given_at varying most more (p - i.repetition) h.1.1)
@@ -39,7 +39,7 @@ none_taken : (n : ℕ) → take {A = ℕ} n [] ≡ []
 none_taken zero = refl
 none_taken (suc n) = refl
 
-constant_begun : (varying : Bool) (most : ℕ) (v : T.InitialValue) → IsTextConstant v → initial_of (text_kind_of varying most) v ≡ BasicText (text_kept_as varying most (constant_text v))
+pub constant_begun : (varying : Bool) (most : ℕ) (v : T.InitialValue) → IsTextConstant v → initial_of (text_kind_of varying most) v ≡ BasicText (text_kept_as varying most (constant_text v))
 constant_begun false most (T.InitialText t) h = ap BasicText (fitted_alone most t)
 constant_begun true most (T.InitialText t) h = refl
 constant_begun false most T.InitialSkip h = ap BasicText (sym (blanks_taken most))
@@ -47,7 +47,7 @@ constant_begun true most T.InitialSkip h = ap BasicText (sym (none_taken most))
 constant_begun false most _ h = absurd h
 constant_begun true most _ h = absurd h
 
-kept_is_seen : (varying : Bool) (most : ℕ) (t : List ℕ) → seen (text_kind_of varying most) (BasicText (text_kept_as varying most t)) ≡ BasicText (text_kept_as varying most t)
+pub kept_is_seen : (varying : Bool) (most : ℕ) (t : List ℕ) → seen (text_kind_of varying most) (BasicText (text_kept_as varying most t)) ≡ BasicText (text_kept_as varying most t)
 kept_is_seen false most t = ap BasicText (all_taken most (text_kept_as false most t) (fitted_length most t))
 kept_is_seen true most t = refl
 

@@ -41,7 +41,7 @@ pub record UnitStands (e : Environment) (block : Names) (types : Types) (all : L
   pub proved : AreProvedStatements block types body
   pub jumps : AllJumpAround head.number head.level all e.blocks (main_outer procedure e.program.procedures) (main_outer procedure e.program.procedures ∷ []) (labels_in body) body
   pub bare : DeclaresNothing e.program head head.kind × DeclareScalars e.program body
-  pub calls : AllCallAmong e.program may false true body
+  pub calls : AllCallAmong e.program may false 0 body
   pub few : 4 * (stmts_words body + all_inner_words body) + inner_bytes e.program body ≤ 3200
   pub once : (number : ℕ) (label : Label) → times number label all ≡ 1 → IsMarkedOnce links number label
   pub labels : head.kind ≡ Y.UnitBlock → LabelsStand (unit_environment head e) links all procedure false

@@ -1,12 +1,13 @@
 -- Where the variables of a frame stand behind one another: places are sums of the bytes that each takes.
-use Rattle.std.proofs.Common.{◌≡◌, ℕ, zero, suc, ◌+◌, ◌*◌, ◌-◌, ◌%◌, ◌<◌, ◌≤◌, ◌⊎◌, inl, inr, List, [], ◌∷◌, false, ap, subst, arith}
+use Rattle.std.proofs.Common.{◌≡◌, ℕ, zero, suc, ◌+◌, ◌*◌, ◌-◌, ◌%◌, ◌<◌, ◌≤◌, ◌⊎◌, inl, inr, List, [], ◌∷◌, false, ap, subst, arith, refl}
 use Rattle.std.specs.Prelude.{pos, ◌==◌}
 use Rattle.std.proofs.lemmas.Bool.{cases_lt}
 use Rattle.std.proofs.lemmas.Bool.Decides.{nat_tests}
 use Rattle.pli_typing.specs.Signatures.{Bounds, rounded_up, element_count}
 use Rattle.pli_typing.specs.TypedTree as Y
 use Rattle.pli_headline.specs.ProvedSoFar.{IsScalar, IsHeld, Kind}
-use Rattle.pli_headline.proofs.Scalars.{Declared, by_held, by_shape}
+use Rattle.pli_headline.proofs.Scalars.{Declared, by_held, by_shape, IsNumeric, by_type}
+use Rattle.pli_headline.proofs.ArrayPlaces.{suc-times}
 
 -- ---- sizes
 
@@ -77,26 +78,27 @@ scalar_size (Y.CharacterLeaf (Y.ConstantExtent (pos (suc n)))) = 16 + rounded_up
 scalar_size (Y.VaryingLeaf (Y.ConstantExtent (pos n))) = 16 + rounded_up 16 (rounded_up 4 (2 + n))
 scalar_size _ = 32
 
--- so many elements, of which there is one at least
+-- so many bytes of elements, of which there is one at least
 abbrev pub many_size : ℕ → ℕ
-many_size n = 16 + rounded_up 16 (4 * suc (n - 1))
+many_size n = 16 + rounded_up 16 (suc (n - 1))
 
-abbrev pub size_for : Y.LeafType → List Bounds → ℕ
-size_for type [] = scalar_size type
-size_for type (b ∷ bs) = many_size (element_count (b ∷ bs))
-
-abbrev pub frame_size : Kind → ℕ
-frame_size k = size_for k.type k.bounds
-
--- the data alone
+-- the data of a scalar, or of an element, in whole words
 abbrev pub scalar_data_size : Y.LeafType → ℕ
 scalar_data_size (Y.CharacterLeaf (Y.ConstantExtent (pos n))) = rounded_up 4 n
 scalar_data_size (Y.VaryingLeaf (Y.ConstantExtent (pos n))) = rounded_up 4 (2 + n)
 scalar_data_size _ = 4
 
+abbrev pub size_for : Y.LeafType → List Bounds → ℕ
+size_for type [] = scalar_size type
+size_for type (b ∷ bs) = many_size (scalar_data_size type * element_count (b ∷ bs))
+
+abbrev pub frame_size : Kind → ℕ
+frame_size k = size_for k.type k.bounds
+
+-- the data alone
 abbrev pub data_size_for : Y.LeafType → List Bounds → ℕ
 data_size_for type [] = scalar_data_size type
-data_size_for type (b ∷ bs) = 4 * element_count (b ∷ bs)
+data_size_for type (b ∷ bs) = scalar_data_size type * element_count (b ∷ bs)
 
 abbrev pub data_size : Kind → ℕ
 data_size k = data_size_for k.type k.bounds
@@ -105,15 +107,32 @@ pub scalar_data_fits : (type : Y.LeafType) → IsScalar type → 16 + scalar_dat
 scalar_data_fits type is =
     by_held (λ t. 16 + scalar_data_size t ≤ scalar_size t) (λ p. omega arith) (omega arith) (λ n few. omega arith) (λ n few. omega arith) type is
 
-pub many_fits : (n : ℕ) → 16 + 4 * n ≤ many_size n
+pub many_fits : (n : ℕ) → 16 + n ≤ many_size n
 many_fits n = omega arith
 
-pub many_is : (n : ℕ) → 0 < n → many_size n ≡ 16 + rounded_up 16 (4 * n)
-many_is n some = let e : suc (n - 1) ≡ n = omega (arith, some) in ap (λ u. 16 + rounded_up 16 (4 * u)) e
+pub many_is : (n : ℕ) → 0 < n → many_size n ≡ 16 + rounded_up 16 n
+many_is n some = let e : suc (n - 1) ≡ n = omega (arith, some) in ap (λ u. 16 + rounded_up 16 u) e
+
+-- numbers and bits take a word each
+pub word_each : (type : Y.LeafType) → IsNumeric type → scalar_data_size type ≡ 4
+word_each type is = by_type (λ t. scalar_data_size t ≡ 4) (λ p. refl) refl type is
+
+pub data_some : (type : Y.LeafType) → IsScalar type → 0 < scalar_data_size type
+data_some type is =
+    by_held (λ t. 0 < scalar_data_size t) (λ p. omega arith) (omega arith) (λ n few. omega arith) (λ n few. omega arith) type is
+
+product_some : (m n : ℕ) → 0 < m → 0 < n → 0 < m * n
+product_some zero n some more = absurd (omega (arith, some))
+product_some (suc m) n some more = let e = suc-times m n in omega (arith, e, more)
+
+-- the bytes of all elements, where there is one at least
+pub elements_size : (type : Y.LeafType) → IsScalar type → (count : ℕ) → 0 < count → many_size (scalar_data_size type * count) ≡ 16 + rounded_up 16 (scalar_data_size type * count)
+elements_size type is count some =
+    many_is (scalar_data_size type * count) (product_some (scalar_data_size type) count (data_some type is) some)
 
 pub data_fits : (k : Kind) → IsHeld k.type k.bounds → 16 + data_size k ≤ frame_size k
 data_fits k is =
-    by_shape (λ t bs. 16 + data_size_for t bs ≤ size_for t bs) scalar_data_fits (λ t b bs element are few. many_fits (element_count (b ∷ bs))) k.type k.bounds is
+    by_shape (λ t bs. 16 + data_size_for t bs ≤ size_for t bs) scalar_data_fits (λ t b bs element are few. many_fits (scalar_data_size t * element_count (b ∷ bs))) k.type k.bounds is
 
 scalar_wide : (type : Y.LeafType) → 32 ≤ scalar_size type
 scalar_wide (Y.CharacterLeaf (Y.ConstantExtent (pos (suc n)))) = omega arith
@@ -133,11 +152,11 @@ many_even n = omega arith
 
 wide_for : (type : Y.LeafType) (bs : List Bounds) → 32 ≤ size_for type bs
 wide_for type [] = scalar_wide type
-wide_for type (b ∷ bs) = many_wide (element_count (b ∷ bs))
+wide_for type (b ∷ bs) = many_wide (scalar_data_size type * element_count (b ∷ bs))
 
 even_for : (type : Y.LeafType) (bs : List Bounds) → size_for type bs % 4 ≡ 0
 even_for type [] = scalar_even type
-even_for type (b ∷ bs) = many_even (element_count (b ∷ bs))
+even_for type (b ∷ bs) = many_even (scalar_data_size type * element_count (b ∷ bs))
 
 pub frame_wide : (k : Kind) → 32 ≤ frame_size k
 frame_wide k = wide_for k.type k.bounds

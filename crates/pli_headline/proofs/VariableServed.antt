@@ -20,10 +20,10 @@ use Rattle.pli_meaning.specs.Contents.{footprint_of, fresh, initial_at}
 use Rattle.pli_meaning.specs.StorageState.{most_automatic}
 use Rattle.pli_serving.specs.Bytes.{is_data, with_bytes, number_bytes, name_bytes}
 use Rattle.pli_serving.specs.Templates.{template_of}
-use Rattle.pli_serving.specs.Values.{value_bytes, element_bytes, generation_bytes}
+use Rattle.pli_serving.specs.Values.{value_bytes, element_bytes}
 use Rattle.pli_meaning.specs.DeclaredShapes.{kind_of}
 use Rattle.pli_coding.specs.Linking.{Links}
-use Rattle.pli_headline.specs.ProvedSoFar.{AreConstants, IsScalar, text_leaf, IsHeld, Kind, alone}
+use Rattle.pli_headline.specs.ProvedSoFar.{AreConstants, IsScalar, text_leaf, IsHeld, Kind, alone, IsElementType}
 use Rattle.rv_meaning.specs.declared.instr.StoreKind.TheVariants as Store
 use Rattle.rv_meaning.specs.Words.{word}
 use Rattle.pli_serving.specs.ServiceState.{Services}
@@ -37,10 +37,11 @@ use Rattle.pli_serving.specs.Making as G
 use Rattle.pli_headline.proofs.Unlimited as U
 use Rattle.pli_headline.proofs.Engine.{Base, most_code, call_at}
 use Rattle.pli_headline.proofs.Calls.{acts}
-use Rattle.pli_headline.proofs.VariablePlaces.{Sizes, room_of, number_place, room_next, data_size, data_fits, element_alone, sizes_of, scalar_data_size, data_size_for}
+use Rattle.pli_headline.proofs.VariablePlaces.{Sizes, room_of, number_place, room_next, room_before, room_counts, data_size, data_fits, element_alone, sizes_of, scalar_data_size, data_size_for}
+use Rattle.pli_headline.proofs.NamesStand.{NameThere, name_place, name_beside, name_written}
 use Rattle.pli_headline.proofs.MainGround.{Stands}
 use Rattle.pli_headline.proofs.MainFrame.{main_frame}
-use Rattle.pli_headline.proofs.Scalars.{Declared, by_type, is_numeric, by_held, value_as, bit_of, bit_word, Fits, fits_wide, constant_text, begin_text, begin_of, begin_fits, store_kind, IsLimited, by_shape, element_numeric}
+use Rattle.pli_headline.proofs.Scalars.{Declared, by_type, is_numeric, by_held, value_as, bit_of, bit_word, Fits, fits_wide, constant_text, begin_text, begin_of, begin_fits, store_kind, IsLimited, by_shape, begin_texts}
 use Rattle.pli_headline.proofs.Numbers.{word_small}
 use Rattle.pli_headline.proofs.InitialRead.{start_datum, start_of, Reads}
 use Rattle.pli_headline.proofs.Cells.{Cell, kept_by, kind_bytes, kind_length, cell_written, content, content_word}
@@ -48,7 +49,7 @@ use Rattle.pli_headline.proofs.TextsKept.{fitted_length, taken_most, padded_ther
 use Rattle.pli_headline.proofs.TextsBegun.{text_begun}
 use Rattle.pli_headline.proofs.TextPlaces.{TextThere}
 use Rattle.pli_headline.proofs.TextsStay.{text_beside}
-use Rattle.pli_headline.proofs.Holdings.{Content, Counted, Written, Many, There, size_in, content_of, content_numeric, content_fits, content_by}
+use Rattle.pli_headline.proofs.Holdings.{Content, Counted, Written, Many, There, size_in, content_of, content_numeric, content_fits, content_by, ManyTexts, many_content}
 use Rattle.pli_headline.proofs.ElementsStay.{elements_beside, contents_of}
 use Rattle.pli_headline.proofs.PlainNumbers.{number_for, Numbered, numbered_shape}
 use Rattle.pli_headline.proofs.Variables.{scalar_shape}
@@ -58,6 +59,9 @@ use Rattle.pli_headline.proofs.ArrayMeant.{array_shape}
 use Rattle.pli_headline.proofs.ArraysMade.{array_size}
 use Rattle.pli_headline.proofs.ArrayOrder.{bytes_of, bytes_long, elements_written}
 use Rattle.pli_headline.proofs.ArrayInitial.{numbers_of, numbers_fit, begun_array, begun_bytes, all_given}
+use Rattle.std.proofs.Math.Nat.{mul_comm}
+use Rattle.pli_headline.proofs.TextArraysStay.{texts_beside}
+use Rattle.pli_headline.proofs.TextArrayInitial.{bytes_of_texts, texts_long, texts_written, text_array_bytes, begin_kept}
 
 -- ---- what the service answers
 
@@ -108,9 +112,14 @@ data_by (Y.VaryingLeaf (Y.ConstantExtent (pos n))) z text = (element_bytes (Vary
 data_by type z text = kind_bytes (store_kind type) (word z)
 
 -- of an array, those of its elements
+abbrev pub many_data : Y.LeafType → List T.InitialItem → (count : ℕ) → List ℕ
+many_data (Y.CharacterLeaf (Y.ConstantExtent (pos n))) items count = bytes_of_texts false n (begin_texts (text_leaf false n) items) count
+many_data (Y.VaryingLeaf (Y.ConstantExtent (pos n))) items count = bytes_of_texts true n (begin_texts (text_leaf true n) items) count
+many_data type items count = bytes_of type (numbers_of items) count
+
 abbrev pub data_for : Y.LeafType → List Bounds → List T.InitialItem → List ℕ
 data_for type [] items = data_by type (begin_of items) (begin_text type items)
-data_for type (b ∷ bs) items = bytes_of type (numbers_of items) (element_count (b ∷ bs))
+data_for type (b ∷ bs) items = many_data type items (element_count (b ∷ bs))
 
 abbrev pub data_of : Declared → List ℕ
 data_of s = data_for s.kind.type s.kind.bounds s.initial
@@ -138,7 +147,7 @@ alone_size c type is =
 
 kind_size : (c : Call) (k : Kind) → IsHeld k.type k.bounds → data_bytes c.keeper (kind_shape k) ≡ data_size k
 kind_size c k is =
-    by_shape (λ t bs. data_bytes c.keeper (array_shape t bs) ≡ data_size_for t bs) (alone_size c) (λ t b bs element are few. array_size c t (element_numeric t element) (b ∷ bs)) k.type k.bounds is
+    by_shape (λ t bs. data_bytes c.keeper (array_shape t bs) ≡ data_size_for t bs) (alone_size c) (λ t b bs held are few. array_size c t held (b ∷ bs)) k.type k.bounds is
 
 padded_length : (n : ℕ) (xs : List ℕ) → length xs ≡ n → length (((xs ++ replicate (rounded_up 4 n - n) 0) ++ []) ++ []) ≡ rounded_up 4 n
 padded_length n xs e =
@@ -159,10 +168,19 @@ alone_length type z text is =
     (λ n few. padded_length (2 + suc n) (value_bytes (Varying (suc n)) (BasicText text)) (varying_length (suc n) text))
     type is
 
+many_length : (type : Y.LeafType) (items : List T.InitialItem) (count : ℕ) → IsScalar type → length (many_data type items count) ≡ scalar_data_size type * count
+many_length (Y.FixedLeaf p) items count is = bytes_long (Y.FixedLeaf p) (numbers_of items) count
+many_length Y.BitLeaf items count is = bytes_long Y.BitLeaf (numbers_of items) count
+many_length (Y.CharacterLeaf (Y.ConstantExtent (pos n))) items count is =
+    texts_long false n (begin_texts (text_leaf false n) items) count ∙ mul_comm count (rounded_up 4 n)
+many_length (Y.VaryingLeaf (Y.ConstantExtent (pos n))) items count is =
+    texts_long true n (begin_texts (text_leaf true n) items) count ∙ mul_comm count (rounded_up 4 (2 + n))
+many_length _ items count is = absurd is
+
 pub data_length : (s : Declared) → IsHeld s.kind.type s.kind.bounds → length (data_of s) ≡ data_size s.kind
 data_length s is =
     by_shape (λ t bs. length (data_for t bs s.initial) ≡ data_size_for t bs) (λ t held. alone_length t (begin_of s.initial) (begin_text t s.initial) held)
-    (λ t b bs element are few. bytes_long t (numbers_of s.initial) (element_count (b ∷ bs)))
+    (λ t b bs held are few. many_length t s.initial (element_count (b ∷ bs)) held)
     s.kind.type s.kind.bounds is
 
 bytes_by : (q : Bool) (w : ℕ) → ((number_bytes (cond q 2 4) w ++ replicate (rounded_up 4 (cond q 2 4) - cond q 2 4) 0) ++ []) ++ [] ≡ kind_bytes (cond q Store.Half Store.Word) w
@@ -192,12 +210,18 @@ held_bytes c place (Y.CharacterLeaf (Y.ConstantExtent (pos n))) items is begins 
 held_bytes c place (Y.VaryingLeaf (Y.ConstantExtent (pos n))) items is begins = text_bytes_by c place true n items begins
 held_bytes c place _ items is begins = absurd is
 
+-- those of the elements of an array
+many_bytes_made : (c : Call) (place : ℕ) (type : Y.LeafType) (bs : List Bounds) (items : List T.InitialItem) → IsScalar type → AreConstants type items → G.bytes_made c place (begun_array type bs items) (capacity_of (array_shape type bs)) ≡ many_data type items (element_count bs)
+many_bytes_made c place (Y.FixedLeaf p) bs items is begins = begun_bytes (Y.FixedLeaf p) bs items is (all_given (Y.FixedLeaf p) items is begins).0
+many_bytes_made c place Y.BitLeaf bs items is begins = begun_bytes Y.BitLeaf bs items is (all_given Y.BitLeaf items is begins).0
+many_bytes_made c place (Y.CharacterLeaf (Y.ConstantExtent (pos n))) bs items is begins = text_array_bytes false n bs items begins
+many_bytes_made c place (Y.VaryingLeaf (Y.ConstantExtent (pos n))) bs items is begins = text_array_bytes true n bs items begins
+many_bytes_made c place _ bs items is begins = absurd is
+
 -- the bytes with which a variable begins
 kind_bytes_made : (c : Call) (place : ℕ) (type : Y.LeafType) (bs : List Bounds) (items : List T.InitialItem) → IsHeld type bs → AreConstants type items → G.bytes_made c place (fresh_scalar (record { kind = record { type = type; bounds = bs }; initial = items })) (capacity_of (array_shape type bs)) ≡ data_for type bs items
 kind_bytes_made c place type [] items is begins = held_bytes c place type items is begins
-kind_bytes_made c place type (b ∷ bs) items is begins =
-    by_type (λ t. G.bytes_made c place (begun_array t (b ∷ bs) items) (capacity_of (array_shape t (b ∷ bs))) ≡ generation_bytes (begun_array t (b ∷ bs) items)) (λ p. refl) refl type (element_numeric type is.0)
-    ∙ begun_bytes type (b ∷ bs) items is.0 (all_given type items is.0 begins).0
+kind_bytes_made c place type (b ∷ bs) items is begins = many_bytes_made c place type (b ∷ bs) items is.0 begins
 
 abbrev pub made_bytes : Call → (name n place owner serial size : ℕ) → List ℕ → Answer
 made_bytes c name n place owner serial size bytes =
@@ -309,6 +333,10 @@ made_there m bytes at o j q (Many count z) room below c =
     let one = length-with_bytes bytes m (at + (144 + o + 16)) (omega (arith, room)) in
     elements_beside (name_bytes (VariableName (j + 1))) (with_bytes bytes (at + (144 + o + 16)) m) (at + (144 + o)) q count z (omega (arith, room, one)) (inl below)
     (elements_beside bytes m (at + (144 + o + 16)) q count z (omega (arith, room)) (inl (omega (arith, below))) c)
+made_there m bytes at o j q (ManyTexts varying most count texts) room below c =
+    let one = length-with_bytes bytes m (at + (144 + o + 16)) (omega (arith, room)) in
+    texts_beside (name_bytes (VariableName (j + 1))) (with_bytes bytes (at + (144 + o + 16)) m) (at + (144 + o)) q count varying most texts (omega (arith, room, one)) (inl below)
+    (texts_beside bytes m (at + (144 + o + 16)) q count varying most texts (omega (arith, room)) (inl (omega (arith, below))) c)
 
 variable_by : (s : Sizes) (q : Bool) (m bytes : List ℕ) (held : ℕ → Content) (at i j : ℕ) → (i == j) ≡ q → at + 200 + room_of s j + length bytes ≤ length m → 16 + size_in (held i) ≤ s.of i → There (with_number_made m at (room_of s j) j bytes) (at + number_place s j) (held j) → i < suc j → (i < j → There m (at + number_place s i) (held i)) → There (with_number_made m at (room_of s j) j bytes) (at + number_place s i) (held i)
 variable_by s true m bytes held at i j e room size mine below o =
@@ -367,12 +395,48 @@ array_there m at o j count type z fits room =
     subst (λ q. There (with_number_made m at o j bytes) q (Many count (contents_of type z))) here
     (elements_beside (name_bytes (VariableName (j + 1))) (with_bytes bytes place m) (at + (144 + o)) place count (contents_of type z) (omega (arith, room, one)) (inr (omega arith)) (elements_written type z m place count (omega (arith, room)) fits))
 
-made_kind : (m : List ℕ) (at o j : ℕ) (type : Y.LeafType) (bs : List Bounds) (items : List T.InitialItem) → IsHeld type bs → AreConstants type items → at + 200 + o + length (data_for type bs items) ≤ length m → There (with_number_made m at o j (data_for type bs items)) (at + (160 + o)) (content_by type bs (begin_of items) (begin_text type items) (numbers_of items))
-made_kind m at o j type [] items is begins room = made_content m at o j type items is begins room
-made_kind m at o j type (b ∷ bs) items is begins room =
-    let count = element_count (b ∷ bs) in
+texts_there : (m : List ℕ) (at o j count : ℕ) (varying : Bool) (most : ℕ) (items : List T.InitialItem) → most ≤ 1024 → at + 200 + o + length (bytes_of_texts varying most (begin_texts (text_leaf varying most) items) count) ≤ length m → There (with_number_made m at o j (bytes_of_texts varying most (begin_texts (text_leaf varying most) items) count)) (at + (160 + o)) (ManyTexts varying most count (begin_texts (text_leaf varying most) items))
+texts_there m at o j count varying most items few room =
+    let texts = begin_texts (text_leaf varying most) items in
+    let bytes = bytes_of_texts varying most texts count in
+    let long = texts_long varying most texts count in
+    let place = at + (144 + o + 16) in
+    let one = length-with_bytes bytes m place (omega (arith, room)) in
+    let here : place ≡ at + (160 + o) = omega arith in
+    subst (λ q. There (with_number_made m at o j bytes) q (ManyTexts varying most count texts)) here
+    (texts_beside (name_bytes (VariableName (j + 1))) (with_bytes bytes place m) (at + (144 + o)) place count varying most texts (omega (arith, room, one)) (inr (omega arith))
+    (texts_written varying most texts m place count few (λ p. begin_kept varying most items p) (omega (arith, room, long))))
+
+numbers_there : (m : List ℕ) (at o j count : ℕ) (type : Y.LeafType) (items : List T.InitialItem) → IsElementType type → AreConstants type items → at + 200 + o + length (bytes_of type (numbers_of items) count) ≤ length m → There (with_number_made m at o j (bytes_of type (numbers_of items) count)) (at + (160 + o)) (Many count (contents_of type (numbers_of items)))
+numbers_there m at o j count type items is begins room =
     let long = bytes_long type (numbers_of items) count in
-    array_there m at o j count type (numbers_of items) (λ p below. numbers_fit type items p is.0 (all_given type items is.0 begins).0) (omega (arith, room, long))
+    array_there m at o j count type (numbers_of items) (λ p below. numbers_fit type items p is (all_given type items is begins).0) (omega (arith, room, long))
+
+made_many : (m : List ℕ) (at o j count : ℕ) (type : Y.LeafType) (items : List T.InitialItem) → IsScalar type → AreConstants type items → at + 200 + o + length (many_data type items count) ≤ length m → There (with_number_made m at o j (many_data type items count)) (at + (160 + o)) (many_content type count (numbers_of items) (begin_texts type items))
+made_many m at o j count (Y.FixedLeaf p) items is begins room = numbers_there m at o j count (Y.FixedLeaf p) items is begins room
+made_many m at o j count Y.BitLeaf items is begins room = numbers_there m at o j count Y.BitLeaf items is begins room
+made_many m at o j count (Y.CharacterLeaf (Y.ConstantExtent (pos n))) items is begins room = texts_there m at o j count false n items is.1 room
+made_many m at o j count (Y.VaryingLeaf (Y.ConstantExtent (pos n))) items is begins room = texts_there m at o j count true n items is.1 room
+made_many m at o j count _ items is begins room = absurd is
+
+made_kind : (m : List ℕ) (at o j : ℕ) (type : Y.LeafType) (bs : List Bounds) (items : List T.InitialItem) → IsHeld type bs → AreConstants type items → at + 200 + o + length (data_for type bs items) ≤ length m → There (with_number_made m at o j (data_for type bs items)) (at + (160 + o)) (content_by type bs (begin_of items) (begin_text type items) (numbers_of items) (begin_texts type items))
+made_kind m at o j type [] items is begins room = made_content m at o j type items is begins room
+made_kind m at o j type (b ∷ bs) items is begins room = made_many m at o j (element_count (b ∷ bs)) type items is.0 begins room
+
+-- the names of all variables, and that of the one that is made
+name_made : (s : Sizes) (q : Bool) (m bytes : List ℕ) (at i j : ℕ) → (i == j) ≡ q → j < 2 ^ 31 → at + 200 + room_of s j + length bytes ≤ length m → i < suc j → (i < j → NameThere m (at + name_place s i) (suc i)) → NameThere (with_number_made m at (room_of s j) j bytes) (at + name_place s i) (suc i)
+name_made s true m bytes at i j e few room below o =
+    let m' = with_number_made m at (room_of s j) j bytes in
+    let one = length-with_bytes bytes m (at + (144 + room_of s j + 16)) (omega (arith, room)) in
+    subst (λ u. NameThere m' (at + name_place s u) (suc u)) (sym (eqb-true i j e))
+    (subst (NameThere m' (at + name_place s j)) (add-one j)
+    (name_written (with_bytes bytes (at + (144 + room_of s j + 16)) m) (at + (144 + room_of s j)) (j + 1) (omega (arith, few)) (omega (arith, room, one))))
+name_made s false m bytes at i j e few room below o =
+    let less : i < j = grind (arith, nat_tests) in
+    let r = room_before s i j less in
+    let one = length-with_bytes bytes m (at + (144 + room_of s j + 16)) (omega (arith, room)) in
+    name_beside (name_bytes (VariableName (j + 1))) (with_bytes bytes (at + (144 + room_of s j + 16)) m) (at + (144 + room_of s j)) (at + name_place s i) (suc i) (omega (arith, room, one)) (inl (omega (arith, r)))
+    (name_beside bytes m (at + (144 + room_of s j + 16)) (at + name_place s i) (suc i) (omega (arith, room)) (inl (omega (arith, r))) (o less))
 
 -- the frame with one more variable
 pub more_stands : (kind : ℕ → Declared) (words j : ℕ) (small' : words ≤ most_code) (few : room_of (sizes_of kind) j ≤ 2 ^ 20) (few' : room_of (sizes_of kind) (suc j) ≤ 2 ^ 20) (first : List ℕ) (t : ℕ → ℕ) (b : Base) (m : List ℕ) → ((i : ℕ) → i < suc j → IsHeld (kind i).kind.type (kind i).kind.bounds) → AreConstants (kind j).kind.type (kind j).initial → length m ≡ memory_size → Stands (main_frame words (sizes_of kind) j small' few) first (begin_contents kind) t b m → Stands (main_frame words (sizes_of kind) (suc j) small' few') first (begin_contents kind) t b (with_number_made m (main_frame words (sizes_of kind) j small' few).at (room_of (sizes_of kind) j) j (data_of (kind j)))
@@ -386,7 +450,7 @@ more_stands kind words j small' few few' first t b m held begins len o =
     let size = data_length (kind j) mine in
     let all = data_fits (kind j).kind mine in
     let room : f.at + 200 + room_of (sizes_of kind) j + length bytes ≤ length m = omega (arith, behind, len, size, all) in
-    let held_fits : (i : ℕ) → i < suc j → 16 + size_in (begin_contents kind i) ≤ (sizes_of kind).of i = λ i h. content_fits (kind i).kind (begin_numbers kind i) (begin_text (kind i).kind.type (kind i).initial) (numbers_of (kind i).initial) (held i h) in
+    let held_fits : (i : ℕ) → i < suc j → 16 + size_in (begin_contents kind i) ≤ (sizes_of kind).of i = λ i h. content_fits (kind i).kind (begin_numbers kind i) (begin_text (kind i).kind.type (kind i).initial) (numbers_of (kind i).initial) (begin_texts (kind i).kind.type (kind i).initial) (held i h) in
     record {
       statics = λ k h. made_below m bytes f.at (room_of (sizes_of kind) j) j k room (omega (arith, above, h)) ∙ o.statics k h;
       resumes = made_load 4 m bytes f.at (room_of (sizes_of kind) j) j f.at room (omega arith) ∙ o.resumes;
@@ -395,4 +459,5 @@ more_stands kind words j small' few few' first t b m held begins len o =
       variables = λ i h. variable_by (sizes_of kind) (i == j) m bytes (begin_contents kind) f.at i j refl room (held_fits i h) (made_kind m f.at (room_of (sizes_of kind) j) j (kind j).kind.type (kind j).kind.bounds (kind j).initial mine begins room) h (o.variables i);
       fits = held_fits;
       temporaries = λ i h. made_load 4 m bytes f.at (room_of (sizes_of kind) j) j (f.at - 4 * suc i) room (omega arith) ∙ o.temporaries i h;
+      names = λ i h. name_made (sizes_of kind) (i == j) m bytes f.at i j refl (let c = room_counts (sizes_of kind) j in omega (arith, c, few)) room h (o.names i);
     }

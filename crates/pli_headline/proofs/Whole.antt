@@ -20,7 +20,7 @@ use Rattle.pli_headline.specs.Headline.{parts, FitsMemory, HeadlineSoFar}
 use Rattle.pli_headline.proofs.Engine.{most_code}
 use Rattle.pli_headline.proofs.Items.{Linked}
 use Rattle.pli_headline.proofs.Promises.{Laws, Comes_at, from_flow, Works, promised}
-use Rattle.pli_headline.proofs.Statics.{constant_stands}
+use Rattle.pli_headline.proofs.InitialPlaced.{data_stand}
 use Rattle.pli_headline.proofs.Marks.{others_code, others_of, Placed, placed}
 use Rattle.pli_headline.proofs.Sizes.{procedure_size, first_length}
 use Rattle.pli_headline.specs.InnerWords.{all_inner_words}
@@ -117,7 +117,7 @@ calls_done program is fits k =
     (labels_of program is)
     (λ b h. others_known program block line is.body alone b h) k
 
-room_for : (program : Y.Program) (is : IsProvedSoFar program) (fits : FitsMemory (picture_of parts program)) (few : main_room program (block_in is) ≤ 2 ^ 20) → (main_frame (main_words program (block_in is) is.body) (main_sizes program (block_in is)) (main_count program (block_in is)) (few_words program is fits) few).at + 144 + main_room program (block_in is) + 4 * all_inner_words is.body + 700 * 101 + 2000000 ≤ 14 * 2 ^ 20
+room_for : (program : Y.Program) (is : IsProvedSoFar program) (fits : FitsMemory (picture_of parts program)) (few : main_room program (block_in is) ≤ 2 ^ 20) → (main_frame (main_words program (block_in is) is.body) (main_sizes program (block_in is)) (main_count program (block_in is)) (few_words program is fits) few).at + 144 + main_room program (block_in is) + 4 * all_inner_words is.body + 700 * 101 + 2020000 ≤ 14 * 2 ^ 20
 room_for program is fits few =
     let p = (placed_for program is fits).procedure in
     let inside = p.inside in
@@ -143,7 +143,7 @@ body_done program is fits k few =
     (labels_of program is) is.block.statements is.block.jumps
     (le-max_right (variables_words (variables_of_block program block)) (stmts_words is.body))
     (room_for program is fits few) is.block.few is.block.inside (record { enter = refl; turns = refl }) (omega arith) (blocks_known program block line is.body alone) is.block.calls (calls_done program is fits k) (λ frame u at k'. k') (λ u at k'. (refl, k'))
-    (constant_stands (code_of parts program) fits)
+    (data_stand (code_of parts program) fits (some_code program is fits))
 
 -- ---- its runs
 

@@ -1,12 +1,12 @@
 -- The programs for which the headline is proved so far: a main procedure with scalars of FIXED BINARY, BIT(1) and CHARACTER of
--- constant lengths, VARYING or not, with or without INITIAL, arrays of FIXED BINARY and BIT(1) with constant bounds, with or without
--- INITIAL, procedures inside it that declare nothing, without parameters and results, and BEGIN blocks in these and in one another that
--- declare nothing, or scalars of FIXED BINARY and BIT(1) without INITIAL; expressions of numbers, bits and texts, and elements of arrays
--- in them; assignments of these, CALL of these procedures, also by themselves, IF, groups, DO WHILE, DO with a variable, GOTO to a label
--- of a list around it in its block, in a block around it up to the procedure's own, or of the main procedure's own list, RETURN, STOP,
--- SIGNAL, ON with SYSTEM, ON for AREA with a single statement or a BEGIN block in the main procedure's own block, REVERT, PUT EDIT of
--- numbers, bits and texts, and GET EDIT of such scalars and elements, by lists of F, A, X, SKIP and COLUMN items. Each form that is
--- proved takes a line off.
+-- constant lengths, VARYING or not, with or without INITIAL, arrays of these with constant bounds, with or without
+-- INITIAL, procedures inside it, without parameters and results, and BEGIN blocks in these and in one another, which declare nothing,
+-- or scalars of FIXED BINARY and BIT(1), with or without INITIAL; expressions of numbers, bits and texts, and elements of arrays
+-- in them; assignments of these, and of one number or bit to all elements of an array, CALL of these procedures, also by themselves, IF,
+-- groups, DO WHILE, DO with a variable, GOTO to a label of a list around it in its block, in a block around it up to the procedure's own,
+-- or of the main procedure's own list, RETURN, STOP, SIGNAL, ON with SYSTEM, ON for AREA with a single statement or a BEGIN block in the
+-- main procedure's own block, REVERT, PUT EDIT of numbers, bits and texts, and GET EDIT of such scalars and elements, by lists of F, A, X,
+-- SKIP and COLUMN items. Each form that is proved takes a line off.
 use Rattle.std.specs.Prelude.{◌≡◌, ℕ, suc, int_le, ◌<◌, ◌≤◌, ◌^◌, List, [], ◌∷◌, ◌++◌, length, map, max, nat_lt, ◌*◌, slice_get, Bool, Option, None, Some, true, false, if◌then◌else◌, ⊤, ◌==◌, ◌&&◌, ◌⊎◌, pos, ◌+◌}
 use Rattle.pli_language.specs.Keywords.{same_bytes}
 use Rattle.pli_language.specs.declared.condition.Condition.TheVariants as C
@@ -99,10 +99,10 @@ IsElementType (Y.FixedLeaf p) = (1 ≤ p) × (p ≤ 31)
 IsElementType Y.BitLeaf = ⊤
 IsElementType _ = ⊥
 
--- a scalar, or an array of up to eight dimensions
+-- a scalar, or an array of scalars of up to eight dimensions
 abbrev pub IsHeld : Y.LeafType → List Bounds → Type 0
 IsHeld type [] = IsScalar type
-IsHeld type (b ∷ bs) = IsElementType type × ((IsBounds b × AreBounds bs) × (length bs ≤ 7))
+IsHeld type (b ∷ bs) = IsScalar type × ((IsBounds b × AreBounds bs) × (length bs ≤ 7))
 
 pub record IsPlain (d : Y.DeclaredVariable) : Type 0 where
   pub type : Y.LeafType
@@ -195,6 +195,14 @@ pub record IsElement (names : Names) (types : Types) (type : Y.LeafType) (r : Y.
   pub many : given_in rest ≡ length bounds
   pub is : r ≡ Y.Referring (variable_at names index) Y.NotLocated (record { first = 0; count = 1 }) (Y.NumberThen first rest)
 
+-- an array of the block, all of it
+pub record IsWhole (names : Names) (types : Types) (type : Y.LeafType) (r : Y.Reference) : Type 0 where
+  pub index : ℕ
+  pub bound : Bounds
+  pub bounds : List Bounds
+  pub declared : slice_get types index ≡ Some (record { type = type; bounds = bound ∷ bounds })
+  pub is : r ≡ Y.Referring (variable_at names index) Y.NotLocated (record { first = 0; count = 1 }) Y.NoNumber
+
 -- a scalar, or an element
 abbrev pub IsPart : (names : Names) (types : Types) (type : Y.LeafType) (r : Y.Reference) → Type 0
 IsPart names types type r = IsOwn names types type r ⊎ IsElement names types type r
@@ -208,7 +216,7 @@ pub record IsPartNumber (names : Names) (types : Types) (r : Y.Reference) : Type
 pub record IsDimension (names : Names) (types : Types) (r : Y.Reference) (dimension : ℕ) : Type 0 where
   pub index : ℕ
   pub type : Y.LeafType
-  pub element : IsElementType type
+  pub held : IsScalar type
   pub bound : Bounds
   pub bounds : List Bounds
   pub declared : slice_get types index ≡ Some (record { type = type; bounds = bound ∷ bounds })
@@ -218,11 +226,11 @@ pub record IsDimension (names : Names) (types : Types) (r : Y.Reference) (dimens
   pub among : slice_get (bound ∷ bounds) place ≡ Some asked
   pub is : r ≡ Y.Referring (variable_at names index) Y.NotLocated (record { first = 0; count = 1 }) Y.NoNumber
 
--- a variable that holds a text
-pub record IsOwnText (names : Names) (types : Types) (r : Y.Reference) : Type 0 where
+-- one that holds a text
+pub record IsPartText (names : Names) (types : Types) (r : Y.Reference) : Type 0 where
   pub varying : Bool
   pub most : ℕ
-  pub own : IsOwn names types (text_leaf varying most) r
+  pub part : IsPart names types (text_leaf varying most) r
 
 -- the places of a number as a text go by its precision
 abbrev pub IsPrecision : ℕ → Type 0
@@ -268,10 +276,11 @@ abbrev mutual
   IsProvedBit names types (Y.BitsCompared comparison left right) = IsProvedBit names types left × IsProvedBit names types right
   IsProvedBit names types _ = ⊥
 
-  -- constants of 1,024 bytes at most, variables, numbers and bits as texts, texts that are joined, and their parts
+  -- constants of 1,024 bytes at most, variables, elements, numbers and bits as texts, texts that are joined, and their parts
   pub IsProvedText : (names : Names) (types : Types) → Y.Text → Type 0
   IsProvedText names types (Y.TextConstant bytes) = length bytes ≤ 1024
-  IsProvedText names types (Y.TextIn r) = IsOwnText names types r
+  IsProvedText names types (Y.TextIn (Y.Referring v locator part subscripts)) =
+      IsPartText names types (Y.Referring v locator part subscripts) × AreProvedNumbers names types subscripts
   IsProvedText names types (Y.TextOfNumber precision x) = IsPrecision precision × IsProvedNumber names types x
   IsProvedText names types (Y.TextOfBit x) = IsProvedBit names types x
   IsProvedText names types (Y.Joined left right) = IsProvedText names types left × IsProvedText names types right
@@ -286,6 +295,9 @@ AreSubscripts names types (Y.Referring v locator part subscripts) = AreProvedNum
 
 abbrev pub IsAssigned : (names : Names) (types : Types) → Y.LeafType → Y.Reference → Type 0
 IsAssigned names types type r = IsPart names types type r × AreSubscripts names types r
+
+abbrev pub IsAssignedText : (names : Names) (types : Types) → Y.Reference → Type 0
+IsAssignedText names types r = IsPartText names types r × AreSubscripts names types r
 
 abbrev pub IsProvedNumberIf : (names : Names) (types : Types) → Option Y.Number → Type 0
 IsProvedNumberIf names types None = ⊤
@@ -388,7 +400,7 @@ IsReadBy fixed _ = ⊥
 -- a variable of the block that is read by items of a list, or an element
 pub record IsTarget (names : Names) (types : Types) (fixed : Bool) (r : Y.Reference) : Type 0 where
   pub type : Y.LeafType
-  pub part : IsOwn names types type r ⊎ (IsElement names types type r × IsElementType type)
+  pub part : IsPart names types type r
   pub read : IsReadBy fixed type
   pub subscripts : AreSubscripts names types r
 
@@ -441,7 +453,11 @@ abbrev mutual
   IsProvedStatement names types (Y.Assign target (Y.StoredBit x) line) =
       IsAssigned names types Y.BitLeaf target × (IsProvedBit names types x × IsLine line)
   IsProvedStatement names types (Y.Assign target (Y.StoredText x) line) =
-      IsOwnText names types target × (IsProvedText names types x × IsLine line)
+      IsAssignedText names types target × (IsProvedText names types x × IsLine line)
+  IsProvedStatement names types (Y.AssignElements target (Y.StoredNumber precision x) line) =
+      IsWhole names types (Y.FixedLeaf precision) target × (IsProvedNumber names types x × IsLine line)
+  IsProvedStatement names types (Y.AssignElements target (Y.StoredBit x) line) =
+      IsWhole names types Y.BitLeaf target × (IsProvedBit names types x × IsLine line)
   IsProvedStatement names types (Y.If condition unit line) =
       IsProvedBit names types condition × (IsProvedStatement names types unit × IsLine line)
   IsProvedStatement names types (Y.IfElse condition unit otherwise line) =
@@ -454,7 +470,7 @@ abbrev mutual
   IsProvedStatement names types (Y.DoOnce target (Y.StoredBit x) condition body line) =
       (IsAssigned names types Y.BitLeaf target × IsProvedBit names types x) × (IsProvedBitIf names types condition × (AreProvedStatements names types body × IsLine line))
   IsProvedStatement names types (Y.DoOnce target (Y.StoredText x) condition body line) =
-      (IsOwnText names types target × IsProvedText names types x) × (IsProvedBitIf names types condition × (AreProvedStatements names types body × IsLine line))
+      (IsAssignedText names types target × IsProvedText names types x) × (IsProvedBitIf names types condition × (AreProvedStatements names types body × IsLine line))
   IsProvedStatement names types (Y.DoCount (Y.NumberCounter precision target) start limit step condition body line) =
       (IsAssigned names types (Y.FixedLeaf precision) target × IsProvedStart names types start)
       × ((IsProvedNumberIf names types limit × IsProvedNumber names types step) × (IsProvedBitIf names types condition × (AreProvedStatements names types body × IsLine line)))
@@ -580,33 +596,32 @@ abbrev pub IsUnitNew : (may : List ℕ) → Y.BlockHead → Y.BlockKind → Type
 IsUnitNew may head Y.SimpleUnit = ⊤
 IsUnitNew may head _ = is_number head.number may ≡ false
 
--- none are declared
-abbrev pub is_bare : List Y.DeclaredVariable → Bool
-is_bare [] = true
-is_bare (d ∷ ds) = false
+-- where calls stand, variables of BEGIN blocks around take few bytes in frames, so that 500 frames fit the stacks above them
+abbrev pub IsShallow : (bytes : ℕ) → Type 0
+IsShallow bytes = bytes ≤ 20000
 
--- calls name one of some numbers, and they and SIGNAL of AREA stand in no block that declares variables; an on-unit has no RETURN and few
--- bytes for temporaries and variables, as a procedure that is called
+-- calls name one of some numbers, and they and SIGNAL of AREA stand where variables of BEGIN blocks around take few bytes; an on-unit has
+-- no RETURN and few bytes for temporaries and variables, as a procedure that is called
 abbrev mutual
-  pub CallsAmong : Y.Program → (may : List ℕ) → (returns bare : Bool) → Y.Stmt → Type 0
-  CallsAmong program may returns bare (Y.If condition unit line) = CallsAmong program may returns bare unit
-  CallsAmong program may returns bare (Y.IfElse condition unit otherwise line) = CallsAmong program may returns bare unit × CallsAmong program may returns bare otherwise
-  CallsAmong program may returns bare (Y.Do body line) = AllCallAmong program may returns bare body
-  CallsAmong program may returns bare (Y.DoWhile condition body line) = AllCallAmong program may returns bare body
-  CallsAmong program may returns bare (Y.DoOnce target start condition body line) = AllCallAmong program may returns bare body
-  CallsAmong program may returns bare (Y.DoCount counter start limit step condition body line) = AllCallAmong program may returns bare body
-  CallsAmong program may returns bare (Y.Begin (Y.BlockOf head body)) =
-      AllCallAmong program may returns (is_bare (variables_of_block program head.number) && bare) body
-  CallsAmong program may returns bare (Y.CallProcedure (Y.Calling procedure level _) line) = (bare ≡ true) × (is_number procedure may ≡ true)
-  CallsAmong program may returns bare (Y.Return line) = returns ≡ true
-  CallsAmong program may returns bare (Y.Signal C.Area line) = bare ≡ true
-  CallsAmong program may returns bare (Y.OnUnit condition (Y.BlockOf head body) line) =
-      AllCallAmong program may false true body × ((4 * (stmts_words body + all_inner_words body) + inner_bytes program body ≤ 3200) × IsUnitNew may head head.kind)
-  CallsAmong program may returns bare _ = ⊤
+  pub CallsAmong : Y.Program → (may : List ℕ) → (returns : Bool) → (bytes : ℕ) → Y.Stmt → Type 0
+  CallsAmong program may returns bytes (Y.If condition unit line) = CallsAmong program may returns bytes unit
+  CallsAmong program may returns bytes (Y.IfElse condition unit otherwise line) = CallsAmong program may returns bytes unit × CallsAmong program may returns bytes otherwise
+  CallsAmong program may returns bytes (Y.Do body line) = AllCallAmong program may returns bytes body
+  CallsAmong program may returns bytes (Y.DoWhile condition body line) = AllCallAmong program may returns bytes body
+  CallsAmong program may returns bytes (Y.DoOnce target start condition body line) = AllCallAmong program may returns bytes body
+  CallsAmong program may returns bytes (Y.DoCount counter start limit step condition body line) = AllCallAmong program may returns bytes body
+  CallsAmong program may returns bytes (Y.Begin (Y.BlockOf head body)) =
+      AllCallAmong program may returns (bytes + 32 * length (variables_of_block program head.number)) body
+  CallsAmong program may returns bytes (Y.CallProcedure (Y.Calling procedure level _) line) = IsShallow bytes × (is_number procedure may ≡ true)
+  CallsAmong program may returns bytes (Y.Return line) = returns ≡ true
+  CallsAmong program may returns bytes (Y.Signal C.Area line) = IsShallow bytes
+  CallsAmong program may returns bytes (Y.OnUnit condition (Y.BlockOf head body) line) =
+      AllCallAmong program may false 0 body × ((4 * (stmts_words body + all_inner_words body) + inner_bytes program body ≤ 3200) × IsUnitNew may head head.kind)
+  CallsAmong program may returns bytes _ = ⊤
 
-  pub AllCallAmong : Y.Program → (may : List ℕ) → (returns bare : Bool) → Y.Stmts → Type 0
-  AllCallAmong program may returns bare (Y.EndOfList labels) = ⊤
-  AllCallAmong program may returns bare (Y.StmtThen labels first rest) = CallsAmong program may returns bare first × AllCallAmong program may returns bare rest
+  pub AllCallAmong : Y.Program → (may : List ℕ) → (returns : Bool) → (bytes : ℕ) → Y.Stmts → Type 0
+  AllCallAmong program may returns bytes (Y.EndOfList labels) = ⊤
+  AllCallAmong program may returns bytes (Y.StmtThen labels first rest) = CallsAmong program may returns bytes first × AllCallAmong program may returns bytes rest
 
 -- how many procedures have a number
 abbrev pub number_of_block : Y.Block → ℕ
@@ -623,11 +638,13 @@ AllOnce (n ∷ ns) others = (number_times n others ≡ 1) × AllOnce ns others
 
 -- ---- blocks inside the procedure
 
--- AUTOMATIC scalars of numbers and bits, without INITIAL
+-- AUTOMATIC scalars of numbers and bits, with what INITIAL gives them
 pub record IsDeclaring (d : Y.DeclaredVariable) : Type 0 where
   pub type : Y.LeafType
   pub element : IsElementType type
-  pub is : d ≡ plain_variable type []
+  pub items : List T.InitialItem
+  pub begins : AreConstants type items
+  pub is : d ≡ plain_variable type items
 
 abbrev pub AreDeclaring : List Y.DeclaredVariable → Type 0
 AreDeclaring [] = ⊤
@@ -686,18 +703,19 @@ main_outer block procedures = record { level = 0; number = block; labels = main_
 pub record IsCallable (program : Y.Program) (called : List ℕ) (head : Y.BlockHead) (body : Y.Stmts) : Type 0 where
   pub kind : head.kind ≡ Y.ProcedureBlock
   pub line : IsLine head.line
-  pub calls : AllCallAmong program called true true body
-  pub few : 4 * (stmts_words body + all_inner_words body) + inner_bytes program body ≤ 3200
+  pub calls : AllCallAmong program called true 0 body
+  pub few : 4 * (stmts_words body + all_inner_words body) + (32 * length (variables_of_block program head.number) + inner_bytes program body) ≤ 3200
 
--- a procedure inside the main one, whose number is the given block's: it declares nothing, and has no parameters and no result
+-- a procedure inside the main one, whose number is the given block's: it declares scalars as BEGIN blocks do, and has no parameters and no
+-- result
 pub record IsInner (program : Y.Program) (block : ℕ) (all : List (ℕ × Label)) (called : List ℕ) (p : Y.Procedure) : Type 0 where
   pub head : Y.BlockHead
   pub body : Y.Stmts
   pub is : p ≡ record { block = Y.BlockOf head body; parameters = []; result = None }
   pub apart : (block == head.number) ≡ false
   pub level : head.level ≡ 1
-  pub bare : variables_of_block program head.number ≡ []
-  pub statements : AreProvedStatements (main_names program block) (types_of (variables_of_block program block)) body
+  pub declares : AreDeclaring (variables_of_block program head.number)
+  pub statements : AreProvedStatements (names_in (main_names program block) (types_of (variables_of_block program block)) head (variables_of_block program head.number)) (types_in (types_of (variables_of_block program block)) (variables_of_block program head.number)) body
   pub jumps : AllJumpAround head.number 1 all (blocks_of program.procedures) (main_outer block program.procedures) (main_outer block program.procedures ∷ []) (labels_in body) body
   pub inside : DeclareScalars program body
   pub callable : is_number head.number called ≡ true → IsCallable program called head body
@@ -712,7 +730,7 @@ pub record IsProvedBlock (program : Y.Program) (head : Y.BlockHead) (body : Y.St
   pub line : IsLine head.line
   pub statements : AreProvedStatements (main_names program head.number) (types_of (variables_of_block program head.number)) body
   pub jumps : AllJumpAround head.number 0 (all_labels head.number body ++ procedure_labels others) (blocks_of program.procedures) (main_outer head.number program.procedures) [] (labels_in body) body
-  pub calls : AllCallAmong program called true true body
+  pub calls : AllCallAmong program called true 0 body
   pub inside : DeclareScalars program body
   pub few : inner_bytes program body ≤ 1000000
 

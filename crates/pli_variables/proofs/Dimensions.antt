@@ -3,10 +3,13 @@ use Rattle.std.proofs.Common.{◌≡◌, ◌≢◌, ◌+◌, ℕ, List, [], ◌�
 use Rattle.std.specs.Prelude.{min}
 use Rattle.std.specs.List.{flat_map, sum_by}
 use Rattle.std.proofs.lemmas.List.{length-append}
+use Rattle.std.proofs.lemmas.Grind.{flat_map-append}
 use Rattle.std.proofs.lemmas.List.Sums.{sum_by-cons}
 use Rattle.pli_language.specs.Declarations.{Held, Variable, dimensions_of}
 use Rattle.pli_language.specs.Declaring.{own_dimensions, inherited_dimensions}
-use Rattle.pli_declare.specs.Levels.{dimensions_in}
+use Rattle.pli_declare.specs.declared.above.Levels.{Levels as LevelsHeld}
+use Rattle.pli_declare.specs.Levels.{dimensions_in, levels_of}
+use Rattle.pli_declaring.proofs.Alone.{outermost_alone}
 use Rattle.pli_typing.specs.Variables.{all_dimensions}
 
 length_of_all : {X Y : Type 0} (f : X → List Y) (xs : List X) → length (flat_map f xs) ≡ sum_by (λ x. length (f x)) xs
@@ -29,4 +32,14 @@ none_of_none (x ∷ xs) h = absurd (omega (arith, h))
 pub none_inherited : (vs : List Variable) → dimensions_in vs ≡ 0 → flat_map dimensions_of vs ≡ []
 none_inherited vs h = none_of_none (flat_map dimensions_of vs) (length_of_all dimensions_of vs ∙ h)
 
-pub ruleset inherited = (none_inherited, append-nil)
+-- a structure without dimensions adds none
+pub none_more : (vs : List Variable) (v : Variable) (n : ℕ) → n ≡ length (dimensions_of v) → n ≡ 0 → flat_map dimensions_of (vs ++ v ∷ []) ≡ flat_map dimensions_of vs
+none_more vs v n own few =
+    flat_map-append dimensions_of vs (v ∷ []) ∙ ap (λ bs. flat_map dimensions_of vs ++ bs) (append-nil (dimensions_of v) ∙ none_of_none (dimensions_of v) (sym own ∙ few))
+    ∙ append-nil (flat_map dimensions_of vs)
+
+-- the dimensions of structures of which the outermost alone has any
+pub alone : (first : Variable) (l : LevelsHeld) (n : ℕ) → n ≡ dimensions_in (levels_of first l) → n ≡ length (dimensions_of first) → flat_map dimensions_of (levels_of first l) ≡ dimensions_of first
+alone first l n all own = outermost_alone first l (sym all ∙ own)
+
+pub ruleset inherited = (none_inherited, append-nil, alone)

@@ -17,7 +17,7 @@ use crate::meant::Meant;
 use crate::members::is_leaf;
 use pli_declare::above::{Above, Levels};
 use pli_declare::scope::{Held, Variable};
-use pli_declaring::held::{all_dimensions, own_attributes};
+use pli_declaring::held::{all_dimensions, dimensions_of, own_attributes};
 use pli_language::declaration::{Attribute, Bound, InitialItem};
 use pli_typing::typed::{Bounds, Leaf};
 use std::alloc::{AllocError, Global};
@@ -50,8 +50,9 @@ fn put_own_bounds(
     put_bounds(out, written, &variable.item.dimensions)
 }
 
-/// The bounds of these structures, the outermost first.
-#[tactic(auto, using(crate::proofs::Extents::gathered))]
+/// The bounds of these structures, the outermost first. Where one has no dimensions the call is the last thing that is done, so that
+/// many of these are a loop.
+#[tactic(auto, using(crate::proofs::Extents::gathered, crate::proofs::Dimensions::none_more))]
 fn put_bounds_above(
     out: &mut Vec<Bounds>,
     written: &[WrittenExtent],
@@ -66,6 +67,9 @@ fn put_bounds_above(
             above,
             ..
         } => {
+            if dimensions_of(*structure) == 0 {
+                return put_bounds_above(out, written, outermost, above);
+            }
             put_bounds_above(out, written, outermost, above)?;
             put_own_bounds(out, written, *structure)
         }
@@ -73,7 +77,8 @@ fn put_bounds_above(
     }
 }
 
-/// The bounds of the structures that hold a variable.
+/// The bounds of the structures that hold a variable. Mostly the outermost alone has dimensions: then the others aren't looked
+/// through.
 #[tactic(auto, using(crate::proofs::Dimensions::inherited))]
 fn put_inherited_bounds(
     out: &mut Vec<Bounds>,
@@ -85,10 +90,13 @@ fn put_inherited_bounds(
     if above.dimensions() == 0 {
         return Ok(());
     }
-    match above.outermost {
-        Some(outermost) => put_bounds_above(out, written, outermost, &above.levels),
-        None => Ok(()),
+    let Some(outermost) = above.outermost else {
+        return Ok(());
+    };
+    if above.dimensions() == dimensions_of(outermost) {
+        return put_own_bounds(out, written, outermost);
     }
+    put_bounds_above(out, written, outermost, &above.levels)
 }
 
 /// The bounds of a variable, those of the structures that hold it first.
