@@ -4,6 +4,7 @@ pub mod Legs
 pub mod Loading
 pub mod Operations
 pub mod Outcomes
+pub mod Places
 pub mod Placing
 pub mod Refusals
 pub mod Steps
