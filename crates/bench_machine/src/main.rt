@@ -1,4 +1,4 @@
-// How fast a machine runs: two loops, run a little for their results, or long for the time with the argument `time`.
+// How fast a machine runs: three loops, run a little for their results, or long for the time with the argument `time`.
 #![tactic(auto)]
 
 mod programs;
@@ -6,7 +6,7 @@ mod programs;
 ghost use Rattle.std.specs.Prelude.{◌≡◌, ℕ, ◌^◌, ◌<◌, List, length, slice_index};
 
 use anyhow::anyhow;
-use programs::{arithmetic_loop, memory_loop};
+use programs::{arithmetic_loop, compiled_loop, memory_loop};
 use raw_storage::storage::Storage;
 use rv_image::image::{Image, is_loadable};
 use rv_isa::code::Code;
@@ -57,34 +57,35 @@ fn image(alloc: Global, words: &[u32]) -> anyhow::Result<Image> {
     Ok(Image::from_code(code))
 }
 
-fn main(rt: HostRuntime) -> anyhow::Result<()> {
+fn run(rt: HostRuntime, timed: bool, name: &str, words: &[u32]) -> anyhow::Result<()> {
     let alloc = rt.alloc();
-    let timed = env::args(&rt)?.count() > 1;
-    let count = if timed { LONG } else { SHORT };
-    for (name, words) in [
-        ("memory", memory_loop(count)),
-        ("arithmetic", arithmetic_loop(count)),
-    ] {
-        let mut machine = Machine::new(alloc, &image(alloc, &words)?, BASE)?;
-        let mut results = Results {
-            first: 0,
-            second: 0,
-        };
-        let start = Instant::now(&rt)?;
-        let stretch = machine.run_for(&mut results, INSTRUCTIONS);
-        if timed {
-            let micros = start.elapsed(&rt)?.as_micros();
-            println!(rt;
-                "{name}: {} instructions in {micros} microseconds",
-                stretch.ran
-            )?;
-        } else {
-            let ended = stretch.last == Step::Ended;
-            println!(rt;
-                "{name}: {} instructions, {} and {}, ended: {ended}",
-                stretch.ran, results.first, results.second
-            )?;
-        }
+    let mut machine = Machine::new(alloc, &image(alloc, words)?, BASE)?;
+    let mut results = Results {
+        first: 0,
+        second: 0,
+    };
+    let start = Instant::now(&rt)?;
+    let stretch = machine.run_for(&mut results, INSTRUCTIONS);
+    if timed {
+        let micros = start.elapsed(&rt)?.as_micros();
+        println!(rt;
+            "{name}: {} instructions in {micros} microseconds",
+            stretch.ran
+        )?;
+    } else {
+        let ended = stretch.last == Step::Ended;
+        println!(rt;
+            "{name}: {} instructions, {} and {}, ended: {ended}",
+            stretch.ran, results.first, results.second
+        )?;
     }
     Ok(())
+}
+
+fn main(rt: HostRuntime) -> anyhow::Result<()> {
+    let timed = env::args(&rt)?.count() > 1;
+    let count = if timed { LONG } else { SHORT };
+    run(rt, timed, "memory", &memory_loop(count))?;
+    run(rt, timed, "arithmetic", &arithmetic_loop(count))?;
+    run(rt, timed, "compiled", &compiled_loop(count))
 }

@@ -41,3 +41,35 @@ pub fn arithmetic_loop(count: u32) -> [u32; 12]
         0x0000_8067, // jalr x0, 0(x1)
     ]
 }
+
+/// What compiled programs are made of: constants for a call, variables far in the frame, moves, a sum with its test of overflow.
+pub fn compiled_loop(count: u32) -> [u32; 24]
+    requires { count < 2 ^ 20 }
+{
+    [
+        (count << 12) + 0x2b7, // lui x5, count
+        0x0000_8417, // auipc x8, 8
+        0x0070_0513, // addi x10, x0, 7
+        0x0010_0593, // addi x11, x0, 1
+        0x0010_0893, // addi x17, x0, 1
+        0x0000_2fb7, // lui x31, 2
+        0x008f_8fb3, // add x31, x31, x8
+        0x0b0f_a503, // lw x10, 176(x31)
+        0x0005_0493, // addi x9, x10, 0
+        0x0004_8313, // addi x6, x9, 0
+        0x0000_2537, // lui x10, 2
+        0xffe5_0513, // addi x10, x10, -2
+        0x00a3_03b3, // add x7, x6, x10
+        0x0063_ae33, // slt x28, x7, x6
+        0x0005_2e93, // slti x29, x10, 0
+        0x0003_8513, // addi x10, x7, 0
+        0x01de_0463, // beq x28, x29, 8
+        0x0000_0513, // addi x10, x0, 0
+        0x0000_2fb7, // lui x31, 2
+        0x008f_8fb3, // add x31, x31, x8
+        0x0aaf_a823, // sw x10, 176(x31)
+        0xfff2_8293, // addi x5, x5, -1
+        0xfa02_98e3, // bne x5, x0, -80
+        0x0000_0073, // ecall
+    ]
+}

@@ -1,5 +1,6 @@
 pub mod Fitting
 pub mod Halts
+pub mod Joining
 pub mod Legs
 pub mod Loading
 pub mod Operations
@@ -7,3 +8,5 @@ pub mod Outcomes
 pub mod Placing
 pub mod Refusals
 pub mod Steps
+pub mod Strides
+pub mod Targets
