@@ -2,7 +2,7 @@
 use Rattle.std.specs.Prelude.{ℕ, ◌+◌, List, [], ◌∷◌, map, length, Option, Some, None}
 use Rattle.std.specs.List.{flat_map}
 use Rattle.std.specs.Borrow.{Bor}
-use Rattle.pli_language.specs.declared.stmt.Items.{Items}
+use Rattle.pli_language.specs.declared.expr.Name.{Name}
 use Rattle.pli_language.specs.Declarations.{blocks_in}
 use Rattle.pli_language.specs.declared.expr.Place.{Place}
 use Rattle.pli_typing.specs.Assigning.{Scalar, computational_operand, counter_of}
@@ -20,18 +20,15 @@ use Rattle.pli_tree.specs.declared.listed.Part.{Part as PartHeld}
 
 -- ---- where a statement stands
 
-abbrev pub labels_of_list : Bor Items → List T.Name
-labels_of_list b = S.labels_in (items_of b.now)
+-- labels that stand together, and those of several statements
+abbrev pub labels_of_group : Bor (List Name) → List T.Name
+labels_of_group b = map name_of b.now
 
-abbrev pub labels_of_lists : List (Bor Items) → List T.Name
-labels_of_lists lists = flat_map labels_of_list lists
-
-abbrev pub labels_if : Option (Bor Items) → List T.Name
-labels_if None = []
-labels_if (Some b) = labels_of_list b
+abbrev pub labels_of_groups : List (Bor (List Name)) → List T.Name
+labels_of_groups groups = flat_map labels_of_group groups
 
 abbrev pub context_of : ContextHeld → S.Context
-context_of c = record { scope = scope_of c.scope; around = c.around.items; outermost = labels_if c.outermost; inner = labels_of_lists c.inner.items; outer = labels_of_lists c.outer.items }
+context_of c = record { scope = scope_of c.scope; around = c.around.items; outermost = labels_of_groups c.outermost.items; inner = labels_of_groups c.inner.items; outer = labels_of_groups c.outer.items }
 
 -- the labels of one item of a list
 abbrev pub labels_of_item : T.Item → List T.Name

@@ -1,26 +1,26 @@
 // Where a statement stands, and the labels that a GOTO there may name.
 
-ghost use Rattle.std.specs.Prelude.{◌≡◌, ◌++◌, map, IfOk};
+ghost use Rattle.std.specs.Prelude.{◌≡◌, ◌++◌, map, IfOk, OnOk};
 ghost use Rattle.std.specs.List.{list_any};
 ghost use Rattle.pli_language.specs.Declaring.{same_place};
 ghost use Rattle.pli_typing.specs.SingleStatements as S;
 ghost use Rattle.pli_language.specs.View.{item_of, items_of, name_of};
-ghost use Rattle.pli_tree.specs.Shown.{context_of, labels_of_item, labels_of_lists};
+ghost use Rattle.pli_tree.specs.Shown.{context_of, labels_of_groups, labels_of_item};
 
 use pli_language::expr::{Name, Place};
 use pli_language::stmt::{Item, Items};
 use pli_reference::scope::Scope;
 use std::alloc::{AllocError, Global};
 
-/// The scope of a statement, the blocks around it from the innermost on, and the lists whose labels it may name: the outermost
-/// of its block, those inside that one from the innermost on, and those of blocks around.
+/// The scope of a statement, the blocks around it from the innermost on, and the labels that it may name, those of one statement
+/// together: of the outermost list of its block, of the lists inside that one from the innermost on, and of blocks around.
 #[derive(Drop)]
 pub struct Context<'t, 's, 'a> {
     pub scope: Scope<'t, 's, 'a>,
     pub around: Vec<usize>,
-    pub outermost: Option<&'a Items>,
-    pub inner: Vec<&'a Items>,
-    pub outer: Vec<&'a Items>,
+    pub outermost: Vec<&'a [Name]>,
+    pub inner: Vec<&'a [Name]>,
+    pub outer: Vec<&'a [Name]>,
 }
 
 /// A label stands at the place.
@@ -37,10 +37,28 @@ fn any_label(labels: &[Name], place: Place) -> bool
     labels.iter().any(|label| stands_at(label, place))
 }
 
-/// A label of a list's own statements, or of its END, stands at the place.
-#[tactic(auto, using(crate::proofs::Labels::labels))]
-fn has_label(items: &Items, place: Place) -> bool
-    ensures { result ≡ list_any (λ n. same_place n.place place) (S.labels_in (items_of items.now)) }
+/// One of these has a label at the place.
+fn any_has(groups: &[&[Name]], place: Place) -> bool
+    ensures { result ≡ list_any (λ n. same_place n.place place) (labels_of_groups groups.now) }
+{
+    groups.iter().any(|labels| any_label(labels, place))
+}
+
+/// The labels of one item.
+#[tactic(auto, using(pli_language::proofs::Views::views))]
+fn labels_of(item: &Item) -> &[Name]
+    ensures { map name_of result.now ≡ labels_of_item (item_of item.now) }
+{
+    match item {
+        Item::Procedure { .. } | Item::Declare { .. } => &[],
+        Item::Statement { labels, .. } | Item::EndLabels { labels, .. } => labels,
+    }
+}
+
+/// The labels of a list's own statements and of its END, behind others.
+#[tactic(auto, using(crate::proofs::Labels::labels, crate::proofs::Labels::lists, crate::proofs::Labels::no_names))]
+fn put_labels<'a>(out: &mut Vec<&'a [Name]>, items: &'a Items) -> Result<(), AllocError>
+    ensures { OnOk result (labels_of_groups out.new.items ≡ labels_of_groups out.old.items ++ S.labels_in (items_of items.now)) }
 {
     let mut rest = items;
     while let Items::More {
@@ -48,30 +66,13 @@ fn has_label(items: &Items, place: Place) -> bool
         rest: behind,
     } = rest
     {
-        if item_has(first, place) {
-            return true;
+        let labels = labels_of(first);
+        if !labels.is_empty() {
+            out.push(labels)?;
         }
         rest = behind;
     }
-    false
-}
-
-/// A label of one item stands at the place.
-#[tactic(auto, using(pli_language::proofs::Views::views))]
-fn item_has(item: &Item, place: Place) -> bool
-    ensures { result ≡ list_any (λ n. same_place n.place place) (labels_of_item (item_of item.now)) }
-{
-    match item {
-        Item::Procedure { .. } | Item::Declare { .. } => false,
-        Item::Statement { labels, .. } | Item::EndLabels { labels, .. } => any_label(labels, place),
-    }
-}
-
-/// One of these lists has a label at the place.
-fn any_has(lists: &[&Items], place: Place) -> bool
-    ensures { result ≡ list_any (λ n. same_place n.place place) (labels_of_lists lists.now) }
-{
-    lists.iter().any(|items| has_label(items, place))
+    Ok(())
 }
 
 impl<'t, 's, 'a> Context<'t, 's, 'a> {
@@ -80,43 +81,41 @@ impl<'t, 's, 'a> Context<'t, 's, 'a> {
     pub fn is_target(&self, place: Place) -> bool
         ensures { result ≡ S.is_target (context_of self.now) place }
     {
-        let in_outermost = match self.outermost {
-            Some(items) => has_label(items, place),
-            None => false,
-        };
-        any_has(&self.inner, place) || in_outermost || any_has(&self.outer, place)
+        any_has(&self.inner, place)
+            || any_has(&self.outermost, place)
+            || any_has(&self.outer, place)
     }
 
     /// In the list of a group.
+    #[tactic(auto, using(crate::proofs::Labels::lists))]
     pub fn in_list(&self, alloc: Global, body: &'a Items) -> Result<Context<'t, 's, 'a>, AllocError>
         ensures { IfOk result (λ c. context_of c ≡ S.in_list (context_of self.now) (S.labels_in (items_of body.now))) }
     {
         let mut inner = Vec::new(alloc);
-        inner.push(body)?;
+        put_labels(&mut inner, body)?;
         inner.extend_from_slice(&self.inner)?;
         Ok(Context {
             scope: self.scope,
             around: self.around.to_vec(alloc)?,
-            outermost: self.outermost,
+            outermost: self.outermost.to_vec(alloc)?,
             inner,
             outer: self.outer.to_vec(alloc)?,
         })
     }
 
-    /// The lists whose labels may be named here.
+    /// The labels that may be named here.
     #[tactic(auto, using(crate::proofs::Labels::lists))]
-    fn visible(&self, alloc: Global) -> Result<Vec<&'a Items>, AllocError>
-        ensures { IfOk result (λ v. labels_of_lists v.items ≡ (context_of self.now).inner ++ (context_of self.now).outermost ++ (context_of self.now).outer) }
+    fn visible(&self, alloc: Global) -> Result<Vec<&'a [Name]>, AllocError>
+        ensures { IfOk result (λ v. labels_of_groups v.items ≡ (context_of self.now).inner ++ (context_of self.now).outermost ++ (context_of self.now).outer) }
     {
-        let mut lists = self.inner.to_vec(alloc)?;
-        if let Some(items) = self.outermost {
-            lists.push(items)?;
-        }
-        lists.extend_from_slice(&self.outer)?;
-        Ok(lists)
+        let mut labels = self.inner.to_vec(alloc)?;
+        labels.extend_from_slice(&self.outermost)?;
+        labels.extend_from_slice(&self.outer)?;
+        Ok(labels)
     }
 
     /// In a block with this number.
+    #[tactic(auto, using(crate::proofs::Labels::lists))]
     pub fn in_block(
         &self,
         alloc: Global,
@@ -128,13 +127,15 @@ impl<'t, 's, 'a> Context<'t, 's, 'a> {
         let mut around = Vec::new(alloc);
         around.push(number)?;
         around.extend_from_slice(&self.around)?;
+        let mut outermost = Vec::new(alloc);
+        put_labels(&mut outermost, body)?;
         Ok(Context {
             scope: Scope {
                 tables: self.scope.tables,
                 block: number,
             },
             around,
-            outermost: Some(body),
+            outermost,
             inner: Vec::new(alloc),
             outer: self.visible(alloc)?,
         })
@@ -147,7 +148,7 @@ impl<'t, 's, 'a> Context<'t, 's, 'a> {
         Ok(Context {
             scope: self.scope,
             around: self.around.to_vec(alloc)?,
-            outermost: self.outermost,
+            outermost: self.outermost.to_vec(alloc)?,
             inner: Vec::new(alloc),
             outer: self.outer.to_vec(alloc)?,
         })

@@ -47,7 +47,7 @@ fn outermost<'t, 's, 'a>(
     Ok(Context {
         scope: Scope { tables, block: 0 },
         around,
-        outermost: None,
+        outermost: Vec::new(alloc),
         inner: Vec::new(alloc),
         outer: Vec::new(alloc),
     })

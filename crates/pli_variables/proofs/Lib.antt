@@ -9,3 +9,4 @@ pub mod Procedures
 pub mod Keeping
 pub mod Counts
 pub mod Ordered
+pub mod Ascending

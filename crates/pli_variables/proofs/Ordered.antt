@@ -14,10 +14,10 @@ use Rattle.pli_variables.proofs.Amounts.{index_here, index_on}
 
 -- ---- places
 
-before_on : (p q r : Place) → stands_before p q ≡ true → stands_before q r ≡ true → stands_before p r ≡ true
+pub before_on : (p q r : Place) → stands_before p q ≡ true → stands_before q r ≡ true → stands_before p r ≡ true
 before_on p q r e g = grind (arith, nat_tests, e, g)
 
-not_before : (p q x : Place) → stands_before p q ≡ true → same_place x q ≡ true → same_place x p ≡ false
+pub not_before : (p q x : Place) → stands_before p q ≡ true → same_place x q ≡ true → same_place x p ≡ false
 not_before p q x e g = grind (arith, nat_tests, e, g)
 
 -- ---- variables of level 1

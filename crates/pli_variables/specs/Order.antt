@@ -1,5 +1,6 @@
--- Variables of level 1 that stand in source order.
+-- Variables of level 1 that stand in source order, and the members of each.
 use Rattle.std.specs.Prelude.{Bool, true, false, ◌&&◌, List, [], ◌∷◌}
+use Rattle.std.specs.List.{list_all}
 use Rattle.pli_language.specs.Declarations.{Held}
 use Rattle.pli_typing.specs.Variables.{stands_before}
 
@@ -21,3 +22,15 @@ ahead_of_next members (next ∷ groups) = begins_ahead members next
 abbrev pub are_in_order : List (List Held) → Bool
 are_in_order [] = true
 are_in_order (members ∷ groups) = ahead_of_next members groups && are_in_order groups
+
+-- members: each is declared before the next
+abbrev pub ahead_of_rest : Held → List Held → Bool
+ahead_of_rest h [] = true
+ahead_of_rest h (k ∷ members) = stands_before h.variable.declared.name.place k.variable.declared.name.place
+
+abbrev pub ascend : List Held → Bool
+ascend [] = true
+ascend (h ∷ members) = ahead_of_rest h members && ascend members
+
+abbrev pub all_ascend : List (List Held) → Bool
+all_ascend groups = list_all ascend groups

@@ -5,26 +5,28 @@ ghost use Rattle.pli_typing.specs.Variables.{leaves_of};
 ghost use Rattle.pli_declare.specs.ShownBlocks.{block_of};
 ghost use Rattle.pli_variables.specs.Counts.{counts_in};
 ghost use Rattle.pli_variables.specs.Held.{groups_held};
-ghost use Rattle.pli_variables.specs.Order.{are_in_order};
+ghost use Rattle.pli_variables.specs.Order.{all_ascend, are_in_order};
 ghost use Rattle.pli_variables.specs.Rows.{blocks_shown};
 
 use crate::leaves::Leaves;
 use crate::meant::Meant;
 use crate::members::variables_in;
-use crate::order::are_in_order;
+use crate::order::{all_ascend, are_in_order};
 use pli_declare::scope::{Block, Held};
 use std::alloc::{AllocError, Global};
 
-/// A block with its number, its variables of level 1 with their members, whether these stand in source order, and the leaves
-/// of each.
+/// A block with its number, its variables of level 1 with their members, whether those stand in source order, and these, and the
+/// leaves of each.
 #[derive(Drop)]
 pub struct Home<'b, 'a> {
     pub block: &'b Block<'a>,
     pub number: usize,
     pub groups: Vec<Vec<Held<'a>>>,
     pub in_order: bool,
+    pub members_in_order: bool,
     pub leaves: Vec<Leaves<'a>>,
     ghost ordered: { in_order ≡ are_in_order (groups_held groups.items) },
+    ghost members_ordered: { members_in_order ≡ all_ascend (groups_held groups.items) },
 }
 
 impl<'b, 'a> Home<'b, 'a> {
@@ -63,6 +65,7 @@ impl<'b, 'a> Home<'b, 'a> {
             block,
             number,
             in_order: are_in_order(&groups),
+            members_in_order: all_ascend(&groups),
             groups,
             leaves,
         })

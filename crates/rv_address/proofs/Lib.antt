@@ -5,4 +5,5 @@ pub mod Framing
 pub mod Numbering
 pub mod Open
 pub mod Placing
+pub mod Summed
 pub mod Tabled

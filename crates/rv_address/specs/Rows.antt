@@ -1,5 +1,5 @@
 -- What is kept of the variables of each block.
-use Rattle.std.specs.Prelude.{ℕ, ◌+◌, suc, List, [], ◌∷◌, map, Vec, unwrap_or, if◌then◌else◌}
+use Rattle.std.specs.Prelude.{ℕ, ◌+◌, suc, min, List, [], ◌∷◌, map, Vec, unwrap_or, if◌then◌else◌}
 use Rattle.std.specs.declared.alloc.Global.{Global}
 use Rattle.rv_meaning.specs.Tables.{TableSignature, signature_words}
 use Rattle.pli_language.specs.Keywords.{same_bytes}
@@ -9,7 +9,9 @@ use Rattle.pli_typing.specs.TypedStatementView.{declared_variable_of}
 use Rattle.pli_meaning.specs.DeclaredShapes.{declared_variable}
 use Rattle.pli_coding.specs.Environments.{no_declaration}
 use Rattle.pli_coding.specs.SignatureTable.{signature_of, number_in_table, table_of}
+use Rattle.pli_coding.specs.Frames.{frame_bytes, last_place}
 use Rattle.pli_coding.specs.Locating.{controlled_among, is_controlled}
+use Rattle.pli_frames.specs.Parts.{parts}
 
 abbrev pub rows_of : List (Vec DeclaredVariable Global) → List (List Y.DeclaredVariable)
 rows_of rows = map (λ b. map declared_variable_of b.items) rows
@@ -62,3 +64,11 @@ number_rows table rows = map (numbers_in_words table) rows
 -- that of a variable
 abbrev pub number_at : Y.Program → Y.Variable → ℕ
 number_at program v = number_in_table (signature_of (unwrap_or (declared_variable program v) no_declaration)) (table_of program)
+
+-- the bytes of a frame before each variable of a block, and those of all, as far as a frame counts them
+abbrev pub sums_from : ℕ → List Y.DeclaredVariable → List ℕ
+sums_from sum [] = sum ∷ []
+sums_from sum (d ∷ ds) = sum ∷ sums_from (min last_place (sum + frame_bytes parts d)) ds
+
+abbrev pub sum_rows : List (List Y.DeclaredVariable) → List (List ℕ)
+sum_rows rows = map (sums_from 0) rows

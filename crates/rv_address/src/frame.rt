@@ -1,19 +1,18 @@
 // Places of a frame that are a variable's own: of an AUTOMATIC one, and of a parameter.
 
-ghost use Rattle.std.specs.Prelude.{◌≡◌, ◌+◌, ◌≤◌, map, length, IfOk};
+ghost use Rattle.std.specs.Prelude.{◌≡◌, length, IfOk};
 ghost use Rattle.pli_typing.specs.TypedView.{variable_of};
-ghost use Rattle.pli_typing.specs.TypedStatementView.{declared_variable_of, program_of};
+ghost use Rattle.pli_typing.specs.TypedStatementView.{program_of};
 ghost use Rattle.pli_coding.specs.Frames as form;
 ghost use Rattle.pli_coding.specs.Locating as locating;
 ghost use Rattle.pli_frames.specs.Parts.{parts};
 ghost use Rattle.rv_address.specs.Around.{environment_of};
 
-use crate::environment::{Environment, variables_of_block};
+use crate::environment::Environment;
 use pli_frames::fixed::parameter_place;
 use pli_frames::frame::fixed_size;
-use pli_frames::size::{LAST_PLACE, frame_bytes};
 use pli_typing::statement::Typed;
-use pli_typing::typed::{DeclaredVariable, Variable};
+use pli_typing::typed::Variable;
 use std::alloc::AllocError;
 
 /// The parameters of a block, by their places among its variables; none where it is no procedure.
@@ -53,23 +52,6 @@ pub fn name_of_parameter(environment: &Environment, variable: Variable) -> Resul
     parameter_place(variable.level, place_among(variable.index, parameters))
 }
 
-/// The place of the variable of an index, where the first one stands at the start.
-#[tactic(auto, using(crate::proofs::Framing::next_place, crate::proofs::Framing::reached_place, std::proofs::lemmas::List::drop_all))]
-fn variable_place(start: u32, variables: &[DeclaredVariable], index: usize) -> u32
-    ensures { result ≡ form.variable_place parts start (map declared_variable_of variables.now) index }
-{
-    let mut at = start;
-    let mut left = index;
-    for variable in variables {
-        if left == 0 {
-            return at;
-        }
-        at = LAST_PLACE.min(u64::from(at) + frame_bytes(variable)) as u32;
-        left -= 1;
-    }
-    at
-}
-
 /// The place of an AUTOMATIC variable's name, in bytes from the frame's address.
 pub fn automatic_place(environment: &Environment, variable: Variable) -> Result<u32, AllocError>
     ensures { IfOk result (λ n. n ≡ form.automatic_place parts (environment_of environment.now).program (variable_of variable).block (variable_of variable).level (variable_of variable).index) }
@@ -77,6 +59,5 @@ pub fn automatic_place(environment: &Environment, variable: Variable) -> Result<
     let typed = environment.known.typed;
     let parameters = parameters_of_block(typed, variable.block);
     let start = fixed_size(variable.level, parameters.len())?;
-    let variables = variables_of_block(typed, variable.block)?;
-    Ok(variable_place(start, variables, variable.index))
+    environment.known.place(start, variable)
 }
