@@ -103,6 +103,9 @@ pub mod Statements
 pub mod MoreNames
 pub mod MoreStates
 pub mod OneMore
+pub mod MorePlaces
+pub mod MoreArrays
+pub mod BegunValues
 pub mod MoreServed
 pub mod Declares
 pub mod NamesStand

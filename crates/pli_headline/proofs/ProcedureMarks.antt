@@ -18,7 +18,7 @@ use Rattle.pli_coding.specs.Statements.{stmts_code, stmts_words, block_words}
 use Rattle.pli_coding.specs.Procedures.{procedure_environment, procedure_begun, procedure_ended, procedure_in, procedures_code}
 use Rattle.pli_coding.specs.Images.{blocks_of}
 use Rattle.pli_coding.specs.Linking.{marks_from}
-use Rattle.pli_headline.specs.ProvedSoFar.{Names, Types, types_of, AreProvedStatements, DeclareScalars, main_outer, IsInner, AreInner, AreDeclaring, names_in, types_in, times, block_labels, procedure_labels, main_names}
+use Rattle.pli_headline.specs.ProvedSoFar.{Names, Types, types_of, AreProvedStatements, DeclareScalars, main_outer, IsInner, AreInner, ArePlain, names_in, types_in, times, block_labels, procedure_labels, main_names}
 use Rattle.pli_headline.proofs.Linking.{times_marked}
 use Rattle.pli_headline.proofs.SymbolsMarked.{symbols_marked, Marks, both_mark, behind, constant_none, plus_none, act_none}
 use Rattle.pli_headline.proofs.Stands.{Stand, all_stands, labels_among, labels_are, EndsApart, ends_apart, no_units}
@@ -28,7 +28,7 @@ use Rattle.pli_headline.proofs.Variables.{HasTypes}
 
 -- ---- the code of a procedure
 
-begun_none : (e : Environment) (head : Y.BlockHead) (words : ℕ) → AreDeclaring (variables_of_block e.program e.block) → Marks (procedure_begun e head words []) []
+begun_none : (e : Environment) (head : Y.BlockHead) (words : ℕ) → ArePlain (variables_of_block e.program e.block) → Marks (procedure_begun e head words []) []
 begun_none e head words declaring =
     let made = variables_code e head.line in
     let act = act_code head.line in
@@ -54,7 +54,7 @@ abbrev pub procedure_symbols : List Y.Procedure → List Symbol
 procedure_symbols [] = []
 procedure_symbols (p ∷ ps) = block_symbols p.block ++ procedure_symbols ps
 
-procedure_marks : (e : Environment) (block : Names) (types : Types) (head : Y.BlockHead) (body : Y.Stmts) → block.program ≡ e.program → HasTypes e block types → AreDeclaring (variables_of_block e.program head.number) → AreProvedStatements (names_in block types head (variables_of_block block.program head.number)) (types_in types (variables_of_block block.program head.number)) body → DeclareScalars e.program body → Marks (procedure_in (procedure_environment head e) head body [] None) (block_symbols (Y.BlockOf head body))
+procedure_marks : (e : Environment) (block : Names) (types : Types) (head : Y.BlockHead) (body : Y.Stmts) → block.program ≡ e.program → HasTypes e block types → ArePlain (variables_of_block e.program head.number) → AreProvedStatements (names_in block types head (variables_of_block block.program head.number)) (types_in types (variables_of_block block.program head.number)) body → DeclareScalars e.program body → Marks (procedure_in (procedure_environment head e) head body [] None) (block_symbols (Y.BlockOf head body))
 procedure_marks e block types head body named has declaring are bare =
     let e' = procedure_environment head e in
     let words = block_words e' head.number (stmts_words body) in

@@ -18,7 +18,7 @@ use Rattle.pli_coding.specs.Statements.{owner_of_unit, unit_environment, number_
 use Rattle.pli_coding.specs.Temporaries.{number_words, bit_words, reference_words, text_words}
 use Rattle.pli_coding.specs.Images.{place_of_head, place_of_unit, blocks_in, blocks_among}
 use Rattle.pli_coding.specs.Linking.{Links}
-use Rattle.pli_headline.specs.ProvedSoFar.{Names, names_in, types_in, unit_declares, IsShallow, AreDeclaring, bytes_of, bytes_in, inner_bytes, Types, OuterBlock, main_labels, main_outer, IsProvedStatement, AreProvedStatements, JumpsAround, AllJumpAround, DeclaresScalars, DeclareScalars, is_number, CallsAmong, AllCallAmong}
+use Rattle.pli_headline.specs.ProvedSoFar.{Names, names_in, types_in, unit_declares, IsShallow, ArePlain, bytes_of, bytes_in, inner_bytes, Types, OuterBlock, main_labels, main_outer, IsProvedStatement, AreProvedStatements, JumpsAround, AllJumpAround, DeclaresScalars, DeclareScalars, is_number, CallsAmong, AllCallAmong}
 use Rattle.pli_meaning.specs.DeclaredShapes.{variables_of_block}
 use Rattle.pli_headline.proofs.Statements.{owner_level, IsOwned, known_in, Standing, Block, Does, EachDoes, null_does, IsEndMarkedOnce}
 use Rattle.pli_headline.proofs.Ifs.{if_does, if_else_does}
@@ -331,7 +331,7 @@ mutual
       (room_bare small filled bl.stack.free (length bl.depths) words (all_inner_words body) (bytes_of vars) (inner_bytes e.program body) e.level head.level shallow next deeper space)
       bare.1 (inner_entering e.program more' head.line) (omega (arith, least, step)) (λ b h. known b (inr h)) calls
       (record { narrows = ways.narrows; calls = ways.calls; signals = ways.signals; tells = ways.tells; makes = λ same' u at k. let no : true ≡ false = sym same' ∙ other_level head.level e.level next in absurd (cc no); narrow = omega (arith, fits); ends = λ may' other. inr (ways.ends may' other); mains = more_main procedure (main_labels e.program.procedures) head.level head.number (labels_in body) [] ib.outer (inr ways.mains) }))))
-      (let are' : AreDeclaring vars = bare.0 in
+      (let are' : ArePlain vars = bare.0 in
       let few = room_few small filled bl.stack.free (length bl.depths) (words + all_inner_words body) (bytes_of vars + inner_bytes e.program body) e.level space in
       let are : AreProvedStatements (names_in block types head vars) (types_in types vars) body = subst (λ p. AreProvedStatements (names_in block types head (variables_of_block p head.number)) (types_in types (variables_of_block p head.number)) body) bl.named is.1.1 in
       let around' : AllJumpAround head.number head.level all e.blocks (main_outer procedure e.program.procedures) (own' ∷ bl.outer) (labels_in body) body = jumps.1 in

@@ -12,7 +12,7 @@ use Rattle.pli_language.specs.Keywords.{same_bytes}
 use Rattle.pli_language.specs.declared.condition.Condition.TheVariants as C
 use Rattle.pli_language.specs.Tree as T
 use Rattle.pli_language.specs.Formats.{formats_move_data}
-use Rattle.pli_typing.specs.Signatures.{Bounds, rounded_up}
+use Rattle.pli_typing.specs.Signatures.{Bounds, element_count, rounded_up}
 use Rattle.pli_typing.specs.TypedTree as Y
 use Rattle.pli_meaning.specs.Numbers.{is_of_precision}
 use Rattle.pli_meaning.specs.Control.{Label, is_among}
@@ -195,9 +195,10 @@ pub record IsElement (names : Names) (types : Types) (type : Y.LeafType) (r : Y.
   pub many : given_in rest ≡ length bounds
   pub is : r ≡ Y.Referring (variable_at names index) Y.NotLocated (record { first = 0; count = 1 }) (Y.NumberThen first rest)
 
--- an array of the block, all of it
+-- an array of the main procedure, all of it
 pub record IsWhole (names : Names) (types : Types) (type : Y.LeafType) (r : Y.Reference) : Type 0 where
   pub index : ℕ
+  pub outermost : (names.at index).level ≡ 0
   pub bound : Bounds
   pub bounds : List Bounds
   pub declared : slice_get types index ≡ Some (record { type = type; bounds = bound ∷ bounds })
@@ -580,15 +581,19 @@ abbrev mutual
 
 -- ---- what the variables of blocks in a part take in frames
 
--- a scalar: 16 bytes for its name, and its data in whole pieces of 16
-abbrev pub bytes_for : Y.LeafType → ℕ
-bytes_for (Y.CharacterLeaf (Y.ConstantExtent (pos n))) = 16 + rounded_up 16 n
-bytes_for (Y.VaryingLeaf (Y.ConstantExtent (pos n))) = 16 + rounded_up 16 (2 + n)
-bytes_for _ = 32
+-- a scalar, or an element of an array: whole words
+abbrev pub bytes_each : Y.LeafType → ℕ
+bytes_each (Y.CharacterLeaf (Y.ConstantExtent (pos n))) = rounded_up 4 n
+bytes_each (Y.VaryingLeaf (Y.ConstantExtent (pos n))) = rounded_up 4 (2 + n)
+bytes_each _ = 4
+
+-- a variable: 16 bytes for its name, and its data in whole pieces of 16
+abbrev pub bytes_for : Kind → ℕ
+bytes_for k = 16 + rounded_up 16 (bytes_each k.type * element_count k.bounds)
 
 abbrev pub bytes_of : List Y.DeclaredVariable → ℕ
 bytes_of [] = 0
-bytes_of (d ∷ ds) = bytes_for (declared_kind d).type + bytes_of ds
+bytes_of (d ∷ ds) = bytes_for (declared_kind d) + bytes_of ds
 
 abbrev mutual
   pub bytes_in : Y.Program → Y.Stmt → ℕ
@@ -660,18 +665,6 @@ AllOnce (n ∷ ns) others = (number_times n others ≡ 1) × AllOnce ns others
 
 -- ---- blocks inside the procedure
 
--- AUTOMATIC scalars, with what INITIAL gives them
-pub record IsDeclaring (d : Y.DeclaredVariable) : Type 0 where
-  pub type : Y.LeafType
-  pub held : IsScalar type
-  pub items : List T.InitialItem
-  pub begins : AreConstants type items
-  pub is : d ≡ plain_variable type items
-
-abbrev pub AreDeclaring : List Y.DeclaredVariable → Type 0
-AreDeclaring [] = ⊤
-AreDeclaring (d ∷ ds) = IsDeclaring d × AreDeclaring ds
-
 -- blocks declare such variables alone
 abbrev mutual
   pub DeclaresScalars : Y.Program → Y.Stmt → Type 0
@@ -682,9 +675,9 @@ abbrev mutual
   DeclaresScalars program (Y.DoOnce target start condition body line) = DeclareScalars program body
   DeclaresScalars program (Y.DoCount counter start limit step condition body line) = DeclareScalars program body
   DeclaresScalars program (Y.Begin (Y.BlockOf head body)) =
-      AreDeclaring (variables_of_block program head.number) × DeclareScalars program body
+      ArePlain (variables_of_block program head.number) × DeclareScalars program body
   DeclaresScalars program (Y.OnUnit condition (Y.BlockOf head body) line) =
-      AreDeclaring (unit_declares program head head.kind) × DeclareScalars program body
+      ArePlain (unit_declares program head head.kind) × DeclareScalars program body
   DeclaresScalars program _ = ⊤
 
   pub DeclareScalars : Y.Program → Y.Stmts → Type 0
@@ -732,7 +725,7 @@ pub record IsInner (program : Y.Program) (block : ℕ) (all : List (ℕ × Label
   pub is : p ≡ record { block = Y.BlockOf head body; parameters = []; result = None }
   pub apart : (block == head.number) ≡ false
   pub level : head.level ≡ 1
-  pub declares : AreDeclaring (variables_of_block program head.number)
+  pub declares : ArePlain (variables_of_block program head.number)
   pub statements : AreProvedStatements (names_in (main_names program block) (types_of (variables_of_block program block)) head (variables_of_block program head.number)) (types_in (types_of (variables_of_block program block)) (variables_of_block program head.number)) body
   pub jumps : AllJumpAround head.number 1 all (blocks_of program.procedures) (main_outer block program.procedures) (main_outer block program.procedures ∷ []) (labels_in body) body
   pub inside : DeclareScalars program body
