@@ -233,6 +233,7 @@ mod Rows
 mod DeclaredRows
 mod CallingRows
 mod UnitRows
+mod BlockArrayRows
 mod TextArrayRows
 mod ElementsRows
 pub mod FirstPathDeclared
