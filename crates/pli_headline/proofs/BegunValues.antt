@@ -1,5 +1,5 @@
 -- What variables hold when one more is made: it begins with what INITIAL gives it, or with 0, blank or empty, and the others hold the same.
-use Rattle.std.proofs.Common.{◌≡◌, ℕ, Bool, true, false, List, refl, ap}
+use Rattle.std.proofs.Common.{◌≡◌, ℕ, Bool, true, false, List, refl}
 use Rattle.std.specs.Prelude.{cond, ◌==◌}
 use Rattle.std.proofs.lemmas.Bool.{eq-eqb}
 use Rattle.pli_language.specs.Tree as T

@@ -26,7 +26,7 @@ use Rattle.pli_coding.specs.Frames.{fixed_size, last_place, frame_bytes, variabl
 use Rattle.pli_coding.specs.Linking.{Links}
 use Rattle.pli_coding.specs.Statements.{begin_environment, begin_code, block_words, stmts_words, stmt_code, stmts_code}
 use Rattle.pli_headline.specs.Headline.{parts}
-use Rattle.pli_headline.specs.ProvedSoFar.{Names, Types, ArePlain, declared_kind, bytes_for, bytes_of, alone, array_variable}
+use Rattle.pli_headline.specs.ProvedSoFar.{Names, Types, ArePlain, declared_kind, bytes_for, bytes_of, array_variable}
 use Rattle.pli_headline.proofs.Engine.{Base, address}
 use Rattle.pli_headline.proofs.Linking.{size_append}
 use Rattle.pli_headline.proofs.Items.{Linked, At}

@@ -1,8 +1,8 @@
 -- The programs for which the headline is proved so far: a main procedure with scalars of FIXED BINARY, BIT(1) and CHARACTER of
 -- constant lengths, VARYING or not, with or without INITIAL, arrays of these with constant bounds, with or without
--- INITIAL, procedures inside it, without parameters and results, and BEGIN blocks in these and in one another, which declare nothing,
--- or such scalars, with or without INITIAL; expressions of numbers, bits and texts, and elements of arrays
--- in them; assignments of these, and of one number or bit to all elements of an array, CALL of these procedures, also by themselves, IF,
+-- INITIAL, procedures inside it, without parameters and results, and BEGIN blocks in these and in one another, which declare such
+-- scalars and arrays, too; expressions of numbers, bits and texts, and elements of arrays in them; assignments of these, and of one
+-- number or bit to all elements of an array of the main procedure, CALL of these procedures, also by themselves, IF,
 -- groups, DO WHILE, DO with a variable, GOTO to a label of a list around it in its block, in a block around it up to the procedure's own,
 -- or of the main procedure's own list, RETURN, STOP, SIGNAL, ON with SYSTEM, ON for AREA with a single statement or a BEGIN block, which
 -- declares as others do, in the main procedure's own block, REVERT, PUT EDIT of numbers, bits and texts, and GET EDIT of such scalars and
@@ -665,7 +665,7 @@ AllOnce (n ∷ ns) others = (number_times n others ≡ 1) × AllOnce ns others
 
 -- ---- blocks inside the procedure
 
--- blocks declare such variables alone
+-- blocks declare variables as the main procedure does
 abbrev mutual
   pub DeclaresScalars : Y.Program → Y.Stmt → Type 0
   DeclaresScalars program (Y.If condition unit line) = DeclaresScalars program unit
@@ -717,8 +717,8 @@ pub record IsCallable (program : Y.Program) (called : List ℕ) (head : Y.BlockH
   pub calls : AllCallAmong program called true 0 body
   pub few : 4 * (stmts_words body + all_inner_words body) + (bytes_of (variables_of_block program head.number) + inner_bytes program body) ≤ 3200
 
--- a procedure inside the main one, whose number is the given block's: it declares scalars as BEGIN blocks do, and has no parameters and no
--- result
+-- a procedure inside the main one, whose number is the given block's: it declares variables as BEGIN blocks do, and has no parameters and
+-- no result
 pub record IsInner (program : Y.Program) (block : ℕ) (all : List (ℕ × Label)) (called : List ℕ) (p : Y.Procedure) : Type 0 where
   pub head : Y.BlockHead
   pub body : Y.Stmts
