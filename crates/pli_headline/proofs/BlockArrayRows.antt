@@ -177,7 +177,6 @@ block_arrays_program =
         );
         jumps = ((refl, (refl, (refl, (tt, (tt, tt))))), (((refl, omega arith), (tt, (tt, (tt, (tt, tt))))), tt));
         calls = (((tt, (tt, tt)), (omega arith, refl)), ((tt, (tt, ((omega arith, refl), (omega arith, tt)))), tt));
-        inside = (((plain_d, tt), (tt, (tt, tt))), (((plain_a, tt), (tt, (tt, (tt, (tt, tt))))), tt));
         few = omega arith;
       };
       inner = (
@@ -187,10 +186,8 @@ block_arrays_program =
           is = refl;
           apart = refl;
           level = refl;
-          declares = (plain_s, tt);
           statements = (((s_text counter, (called_counter, tt)), (((s_text one, (lit< tt, tt)), omega arith), lit< tt)), (((inl in_called, tt), (last_proved, lit< tt)), tt));
           jumps = (tt, (tt, tt));
-          inside = (tt, (tt, tt));
           callable = λ h. record { kind = refl; line = lit< tt; calls = (tt, (tt, tt)); few = omega arith };
         },
         tt,

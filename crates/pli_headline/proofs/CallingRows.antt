@@ -85,7 +85,6 @@ calling_program =
         statements = ((refl, (lit< tt, (((inl j, tt), (ni, lit< tt)), ((refl, lit< tt), (lit< tt, (((inl i, tt), (nj, lit< tt)), tt)))))), tt);
         jumps = (((refl, omega arith), (tt, (tt, (tt, (tt, tt))))), tt);
         calls = ((tt, ((omega arith, refl), (omega arith, (tt, tt)))), tt);
-        inside = (((plain, tt), (tt, (tt, (tt, (tt, tt))))), tt);
         few = omega arith;
       };
       inner = (
@@ -95,10 +94,8 @@ calling_program =
           is = refl;
           apart = refl;
           level = refl;
-          declares = (plain, tt);
           statements = (((inl k, tt), (ni', lit< tt)), (((inl i', tt), (nk, lit< tt)), tt));
           jumps = (tt, (tt, tt));
-          inside = (tt, (tt, tt));
           callable = λ h. record { kind = refl; line = lit< tt; calls = (tt, (tt, tt)); few = omega arith };
         },
         tt,

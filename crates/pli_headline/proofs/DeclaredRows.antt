@@ -118,7 +118,6 @@ declaring_program =
         );
         jumps = (((refl, omega arith), (tt, (((refl, omega arith), (tt, (tt, (tt, (inr (inr (inl (refl, (refl, (refl, refl))))), tt))))), tt))), tt);
         calls = ((tt, ((tt, (tt, (tt, (tt, tt)))), tt)), tt);
-        inside = (((short, (bit, tt)), (tt, (((inmost, (written, tt)), (tt, (tt, (tt, (tt, tt))))), tt))), tt);
         few = omega arith;
       };
       inner = tt;

@@ -104,7 +104,6 @@ elements_program =
         );
         jumps = (tt, (((refl, omega arith), (tt, tt)), tt));
         calls = (tt, ((tt, tt), tt));
-        inside = (tt, ((tt, (tt, tt)), tt));
         few = omega arith;
       };
       inner = tt;

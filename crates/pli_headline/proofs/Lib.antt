@@ -193,6 +193,7 @@ pub mod InitialRead
 pub mod Sizes
 pub mod InnerSizes
 pub mod MainProcedure
+pub mod PlainInside
 pub mod ArraySignatures
 pub mod ArrayInitial
 pub mod ArrayRead

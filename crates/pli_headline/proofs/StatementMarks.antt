@@ -26,7 +26,7 @@ use Rattle.pli_coding.specs.Locating.{own_place, frame_found, frame_in, table_nu
 use Rattle.rv_meaning.specs.declared.instr.Register.{Register}
 use Rattle.pli_headline.proofs.DeclaredNames.{named_in, has_in}
 use Rattle.pli_headline.proofs.Scalars.{character, varying, by_plain}
-use Rattle.pli_headline.specs.ProvedSoFar.{Names, Types, IsAssigned, IsProvedNumber, IsProvedNumberIf, IsProvedBit, IsProvedBitIf, IsProvedStatement, AreProvedStatements, DeclaresScalars, DeclareScalars, IsProvedStart, names_in, types_in, ArePlain, plain_variable, unit_declares, array_variable}
+use Rattle.pli_headline.specs.ProvedSoFar.{Names, Types, IsAssigned, IsProvedNumber, IsProvedNumberIf, IsProvedBit, IsProvedBitIf, IsProvedStatement, AreProvedStatements, IsProvedStart, names_in, types_in, ArePlain, plain_variable, unit_declares, array_variable}
 use Rattle.pli_headline.proofs.Stands.{Stand, stands_of, end_of, inner_stands, all_stands}
 use Rattle.pli_headline.proofs.SymbolsMarked.{symbols_marked, Marks, both_mark, behind, before, either, constant_none, load_none, store_none, plus_none, overflow_none, act_none, fitted_none}
 use Rattle.pli_headline.proofs.PutMarks.{pairs_none, skip_none}
@@ -37,6 +37,7 @@ use Rattle.pli_headline.proofs.Targets.{assigned_read}
 use Rattle.pli_headline.proofs.ElementsMarks.{elements_none}
 use Rattle.pli_headline.proofs.ExpressionMarks.{number_none, bit_none, assigned_none, text_stored_none, number_assigned_none, bit_assigned_none, text_none}
 use Rattle.pli_headline.proofs.ArrayFrames.{held_constant}
+use Rattle.pli_headline.proofs.PlainInside.{DeclaresPlain, DeclarePlain}
 
 -- the place of a label, or of the end of a block
 abbrev pub place_symbol : ℕ → Option Label → Symbol
@@ -315,7 +316,7 @@ unit_marks e head body are marks =
 -- ---- the statements
 
 mutual
-  pub statement_marks : (e : Environment) (t : Taken) (block : Names) (types : Types) (x : Y.Stmt) → block.program ≡ e.program → HasTypes e block types → IsProvedStatement block types x → DeclaresScalars e.program x → Marks (stmt_code e t x) (places_of (inner_stands e.block x))
+  pub statement_marks : (e : Environment) (t : Taken) (block : Names) (types : Types) (x : Y.Stmt) → block.program ≡ e.program → HasTypes e block types → IsProvedStatement block types x → DeclaresPlain e.program x → Marks (stmt_code e t x) (places_of (inner_stands e.block x))
   statement_marks e t block types (Y.Null line) named has is bare = act_none line
   statement_marks e t block types (Y.Assign target (Y.StoredNumber precision x) line) named has is bare =
       behind (act_code line) (assigned_code e t target (Y.StoredNumber precision x)) [] (act_none line) (number_assigned_none e t block types precision target x has is.0 is.1.0)
@@ -425,7 +426,7 @@ mutual
       behind (act_code line) (skip_option 0 (Some n) ++ got) [] (act_none line) (behind (skip_option 0 (Some n)) got [] (get_skip_none n) (gets_none e t block types pairs has is.1.0))
   statement_marks e t block types _ named has is bare = absurd is
 
-  pub statements_mark : (e : Environment) (t : Taken) (block : Names) (types : Types) (body : Y.Stmts) → block.program ≡ e.program → HasTypes e block types → AreProvedStatements block types body → DeclareScalars e.program body → Marks (stmts_code e t body) (places_of (all_stands e.block body))
+  pub statements_mark : (e : Environment) (t : Taken) (block : Names) (types : Types) (body : Y.Stmts) → block.program ≡ e.program → HasTypes e block types → AreProvedStatements block types body → DeclarePlain e.program body → Marks (stmts_code e t body) (places_of (all_stands e.block body))
   statements_mark e t block types (Y.EndOfList labels) named has are bare = marked_places e.block labels
   statements_mark e t block types (Y.StmtThen labels first rest) named has are bare =
       let c = stmt_code e t first in

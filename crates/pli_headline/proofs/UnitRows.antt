@@ -108,7 +108,6 @@ unit_program =
           (tt, ((refl, (refl, (tt, (tt, tt)))), (tt, tt))),
         );
         calls = (((tt, (tt, (tt, tt))), (omega arith, refl)), (omega arith, (((tt, tt), (omega arith, tt)), (omega arith, tt))));
-        inside = (((plain_j, (plain_b, tt)), (tt, (tt, (tt, tt)))), (tt, ((tt, (tt, tt)), (tt, tt))));
         few = omega arith;
       };
       inner = tt;

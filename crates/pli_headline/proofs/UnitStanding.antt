@@ -13,7 +13,7 @@ use Rattle.pli_coding.specs.Environments.{BlockPlace, UnitOwner, Environment, in
 use Rattle.pli_coding.specs.Images.{blocks_among}
 use Rattle.pli_coding.specs.Statements.{unit_environment, unit_variables, unit_words, unit_mark, unit_left, stmts_words, stmts_code}
 use Rattle.pli_coding.specs.Linking.{Links}
-use Rattle.pli_headline.specs.ProvedSoFar.{Types, main_outer, times, IsLine, IsUnitBody, AreProvedStatements, AllJumpAround, AllCallAmong, ArePlain, DeclareScalars, Names, names_in, types_in, unit_declares, inner_bytes, bytes_of}
+use Rattle.pli_headline.specs.ProvedSoFar.{Types, main_outer, times, IsLine, IsUnitBody, AreProvedStatements, AllJumpAround, AllCallAmong, ArePlain, Names, names_in, types_in, unit_declares, inner_bytes, bytes_of}
 use Rattle.pli_headline.specs.InnerWords.{all_inner_words}
 use Rattle.pli_headline.proofs.Items.{Linked}
 use Rattle.pli_headline.proofs.InnerLevels.{IsAmong}
@@ -23,6 +23,7 @@ use Rattle.pli_headline.proofs.Declares.{code_joined}
 use Rattle.pli_headline.proofs.DeclaredBegins.{no_words}
 use Rattle.pli_headline.proofs.UnitRuns.{unit_with, unit_made}
 use Rattle.pli_headline.proofs.OnUnits.{unit_by}
+use Rattle.pli_headline.proofs.PlainInside.{DeclarePlain}
 
 -- the program around a block, whatever the block
 abbrev pub program_around : Environment → Environment
@@ -43,7 +44,7 @@ pub record UnitStands (e : Environment) (block : Names) (types : Types) (all : L
   pub proved : AreProvedStatements (names_in block types head (unit_declares e.program head head.kind)) (types_in types (unit_declares e.program head head.kind)) body
   pub jumps : AllJumpAround head.number head.level all e.blocks (main_outer procedure e.program.procedures) (main_outer procedure e.program.procedures ∷ []) (labels_in body) body
   pub declares : ArePlain (unit_declares e.program head head.kind)
-  pub inside : DeclareScalars e.program body
+  pub inside : DeclarePlain e.program body
   pub calls : AllCallAmong e.program may false 0 body
   pub few : 4 * (stmts_words body + all_inner_words body) + (bytes_of (unit_declares e.program head head.kind) + inner_bytes e.program body) ≤ 3200
   pub once : (number : ℕ) (label : Label) → times number label all ≡ 1 → IsMarkedOnce links number label

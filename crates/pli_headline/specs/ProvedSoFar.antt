@@ -663,29 +663,9 @@ abbrev pub AllOnce : List ℕ → List Y.Procedure → Type 0
 AllOnce [] others = ⊤
 AllOnce (n ∷ ns) others = (number_times n others ≡ 1) × AllOnce ns others
 
--- ---- blocks inside the procedure
-
--- blocks declare variables as the main procedure does
-abbrev mutual
-  pub DeclaresScalars : Y.Program → Y.Stmt → Type 0
-  DeclaresScalars program (Y.If condition unit line) = DeclaresScalars program unit
-  DeclaresScalars program (Y.IfElse condition unit otherwise line) = DeclaresScalars program unit × DeclaresScalars program otherwise
-  DeclaresScalars program (Y.Do body line) = DeclareScalars program body
-  DeclaresScalars program (Y.DoWhile condition body line) = DeclareScalars program body
-  DeclaresScalars program (Y.DoOnce target start condition body line) = DeclareScalars program body
-  DeclaresScalars program (Y.DoCount counter start limit step condition body line) = DeclareScalars program body
-  DeclaresScalars program (Y.Begin (Y.BlockOf head body)) =
-      ArePlain (variables_of_block program head.number) × DeclareScalars program body
-  DeclaresScalars program (Y.OnUnit condition (Y.BlockOf head body) line) =
-      ArePlain (unit_declares program head head.kind) × DeclareScalars program body
-  DeclaresScalars program _ = ⊤
-
-  pub DeclareScalars : Y.Program → Y.Stmts → Type 0
-  DeclareScalars program (Y.EndOfList labels) = ⊤
-  DeclareScalars program (Y.StmtThen labels first rest) = DeclaresScalars program first × DeclareScalars program rest
-
 -- ---- programs
 
+-- in all blocks
 abbrev pub AllPlain : List (List Y.DeclaredVariable) → Type 0
 AllPlain [] = ⊤
 AllPlain (ds ∷ rest) = ArePlain ds × AllPlain rest
@@ -717,18 +697,15 @@ pub record IsCallable (program : Y.Program) (called : List ℕ) (head : Y.BlockH
   pub calls : AllCallAmong program called true 0 body
   pub few : 4 * (stmts_words body + all_inner_words body) + (bytes_of (variables_of_block program head.number) + inner_bytes program body) ≤ 3200
 
--- a procedure inside the main one, whose number is the given block's: it declares variables as BEGIN blocks do, and has no parameters and
--- no result
+-- a procedure inside the main one, whose number is the given block's: it has no parameters and no result
 pub record IsInner (program : Y.Program) (block : ℕ) (all : List (ℕ × Label)) (called : List ℕ) (p : Y.Procedure) : Type 0 where
   pub head : Y.BlockHead
   pub body : Y.Stmts
   pub is : p ≡ record { block = Y.BlockOf head body; parameters = []; result = None }
   pub apart : (block == head.number) ≡ false
   pub level : head.level ≡ 1
-  pub declares : ArePlain (variables_of_block program head.number)
   pub statements : AreProvedStatements (names_in (main_names program block) (types_of (variables_of_block program block)) head (variables_of_block program head.number)) (types_in (types_of (variables_of_block program block)) (variables_of_block program head.number)) body
   pub jumps : AllJumpAround head.number 1 all (blocks_of program.procedures) (main_outer block program.procedures) (main_outer block program.procedures ∷ []) (labels_in body) body
-  pub inside : DeclareScalars program body
   pub callable : is_number head.number called ≡ true → IsCallable program called head body
 
 abbrev pub AreInner : Y.Program → (block : ℕ) → (all : List (ℕ × Label)) → (called : List ℕ) → List Y.Procedure → Type 0
@@ -742,7 +719,6 @@ pub record IsProvedBlock (program : Y.Program) (head : Y.BlockHead) (body : Y.St
   pub statements : AreProvedStatements (main_names program head.number) (types_of (variables_of_block program head.number)) body
   pub jumps : AllJumpAround head.number 0 (all_labels head.number body ++ procedure_labels others) (blocks_of program.procedures) (main_outer head.number program.procedures) [] (labels_in body) body
   pub calls : AllCallAmong program called true 0 body
-  pub inside : DeclareScalars program body
   pub few : inner_bytes program body ≤ 1000000
 
 -- the main procedure, without parameters and without a result, and procedures inside it, of which those of some numbers are called; the
