@@ -36,7 +36,7 @@ use Rattle.pli_headline.proofs.ElementsStay.{contents_of, element_loads, element
 use Rattle.pli_headline.proofs.MainBlock.{text_data, text_some}
 use Rattle.std.proofs.Math.Nat.{mul-le-mul_left, mul_comm}
 
--- ---- arrays are those around
+-- ---- of numbers and bits
 
 more_array : {e : Environment} {block : Names} {types : Types} (ib : Block e block types) (index : ℕ) (k : Kind) (j : ℕ) (type : Y.LeafType) (bs : List Bounds) → j < length types → ArrayOn e block (ib.bases j) ib.stack.free ib.ground j type bs → ArrayOn e (more_names e block types index) (more_bases ib j) (ib.stack.free + frame_size k) (more_ground ib k) j type bs
 more_array {e} {block} {types} ib index k j type bs below on =
@@ -70,8 +70,8 @@ more_array {e} {block} {types} ib index k j type bs below on =
     }
 
 -- the variable itself
-own_elements : {k : Kind} (type : Y.LeafType) (b : Bounds) (bs : List Bounds) (m : List ℕ) (p : ℕ) (z : ℤ) (text : List ℕ) (z' : ℕ → ℤ) (texts : ℕ → List ℕ) → k ≡ record { type = type; bounds = b ∷ bs } → IsNumeric type → content_for k z text z' texts ≡ Many (element_count (b ∷ bs)) (contents_of type z')
-own_elements type b bs m p z text z' texts is numeric =
+own_elements : {k : Kind} (type : Y.LeafType) (b : Bounds) (bs : List Bounds) (z : ℤ) (text : List ℕ) (z' : ℕ → ℤ) (texts : ℕ → List ℕ) → k ≡ record { type = type; bounds = b ∷ bs } → IsNumeric type → content_for k z text z' texts ≡ Many (element_count (b ∷ bs)) (contents_of type z')
+own_elements type b bs z text z' texts is numeric =
     ap (λ q. content_for q z text z' texts) is ∙ many_numeric type (element_count (b ∷ bs)) z' texts numeric
 
 own_array_on : {e : Environment} {block : Names} {types : Types} (ib : Block e block types) {index : ℕ} {k : Kind} (o : More ib index k) (type : Y.LeafType) (b : Bounds) (bs : List Bounds) → k ≡ record { type = type; bounds = b ∷ bs } → IsNumeric type → ArrayOn e (more_names e block types index) (more_bases ib (length types)) (ib.stack.free + frame_size k) (more_ground ib k) (length types) type (b ∷ bs)
@@ -105,11 +105,11 @@ own_array_on {e} {block} {types} ib {index} {k} o type b bs is numeric =
         above_code = omega (arith, above, a);
       };
       reads = λ n p inside fits t b' m held'.
-          let there : There m (ib.stack.free + 16) (Many c (contents_of type (n.arrays count))) = subst (There m (ib.stack.free + 16)) (own_elements type b bs m p (n.numbers count) (n.texts count) (n.arrays count) (n.text_arrays count) is numeric) held'.1 in
+          let there : There m (ib.stack.free + 16) (Many c (contents_of type (n.arrays count))) = subst (There m (ib.stack.free + 16)) (own_elements type b bs (n.numbers count) (n.texts count) (n.arrays count) (n.text_arrays count) is numeric) held'.1 in
           let q : more_bases ib count + 4 * p + data_place e names count ≡ ib.stack.free + 16 + 4 * p = omega (arith, own) in
           ap (λ u. extended (load_kind type) (load (load_width (load_kind type)) m u)) q ∙ element_loads type m (ib.stack.free + 16) c p (n.arrays count) inside fits there;
       writes = λ n p z inside old fits t b' m len held'.
-          let there : There m (ib.stack.free + 16) (Many c (contents_of type (n.arrays count))) = subst (There m (ib.stack.free + 16)) (own_elements type b bs m p (n.numbers count) (n.texts count) (n.arrays count) (n.text_arrays count) is numeric) held'.1 in
+          let there : There m (ib.stack.free + 16) (Many c (contents_of type (n.arrays count))) = subst (There m (ib.stack.free + 16)) (own_elements type b bs (n.numbers count) (n.texts count) (n.arrays count) (n.text_arrays count) is numeric) held'.1 in
           let w = store_width (store_kind type) in
           let n' = with_element_of n count p z in
           let q : more_bases ib count + 4 * p + data_place e names count ≡ ib.stack.free + 16 + 4 * p = omega (arith, own) in
@@ -118,7 +118,7 @@ own_array_on {e} {block} {types} ib {index} {k} o type b bs is numeric =
           subst (λ u. (more_ground ib k n').memory t b' (store w m u (word z))) (sym q) (
             ib.alike n n' same t b' m' (ib.stack.keeps n t b' m w (ib.stack.free + 16 + 4 * p) (word z) (omega arith) held'.0),
             subst (λ x. There m' (ib.stack.free + 16) (content_for k (n.numbers count) (n.texts count) x (n.text_arrays count))) (here_kept (count == count) (with_element_at (n.arrays count) p z) (n.arrays count) (eq-eqb count count refl))
-                (subst (There m' (ib.stack.free + 16)) (sym (own_elements type b bs m p (n.numbers count) (n.texts count) (with_element_at (n.arrays count) p z) (n.text_arrays count) is numeric))
+                (subst (There m' (ib.stack.free + 16)) (sym (own_elements type b bs (n.numbers count) (n.texts count) (with_element_at (n.arrays count) p z) (n.text_arrays count) is numeric))
                 (elements_put type m (ib.stack.free + 16) c p z (n.arrays count) inside (omega (arith, room, size, rows, all, len)) old fits there)),
           );
     }
@@ -128,6 +128,8 @@ array_place {e} {block} {types} ib {index} {k} o j type b bs at =
     by_last types k (λ i kind. kind ≡ record { type = type; bounds = b ∷ bs } → ArrayOn e (more_names e block types index) (more_bases ib i) (ib.stack.free + frame_size k) (more_ground ib k) i type (b ∷ bs))
     (λ i kind below at' e'. more_array ib index k i type (b ∷ bs) below (ib.arrays i type b bs (at' ∙ ap (λ q. Some q) e', at.1)))
     (λ e'. own_array_on ib o type b bs e' at.1) j (record { type = type; bounds = b ∷ bs }) at.0 refl
+
+-- ---- of texts
 
 more_texts : {e : Environment} {block : Names} {types : Types} (ib : Block e block types) (index : ℕ) (k : Kind) (j : ℕ) (varying : Bool) (most : ℕ) (bs : List Bounds) → j < length types → TextArrayOn e block (ib.bases j) ib.stack.free ib.ground j varying most bs → TextArrayOn e (more_names e block types index) (more_bases ib j) (ib.stack.free + frame_size k) (more_ground ib k) j varying most bs
 more_texts {e} {block} {types} ib index k j varying most bs below on =

@@ -1,4 +1,4 @@
--- One more scalar is made, in the meaning: it begins with what INITIAL gives it, or 0, and the others hold what they held.
+-- One more variable is made, in the meaning: it begins with what INITIAL gives it, or 0, blank or empty, and the others hold what they held.
 use Rattle.std.proofs.Common.{◌≡◌, ℕ, suc, ◌+◌, ◌<◌, ◌≤◌, ◌⊎◌, inl, inr, List, [], ◌∷◌, ◌++◌, length, Option, Some, Bool, true, false, refl, sym, ap, ◌∙◌, subst, arith, add-one}
 use Rattle.std.specs.Prelude.{ℤ, pos, cond, map, nat_le, slice_get, ◌==◌}
 use Rattle.std.proofs.lemmas.Bool.{eq-eqb}

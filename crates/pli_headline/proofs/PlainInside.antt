@@ -24,7 +24,7 @@ abbrev mutual
   DeclarePlain program (Y.EndOfList labels) = ⊤
   DeclarePlain program (Y.StmtThen labels first rest) = DeclaresPlain program first × DeclarePlain program rest
 
-pub unit_plain : (program : Y.Program) (head : Y.BlockHead) (kind : Y.BlockKind) → AllPlain program.variables → ArePlain (unit_declares program head kind)
+unit_plain : (program : Y.Program) (head : Y.BlockHead) (kind : Y.BlockKind) → AllPlain program.variables → ArePlain (unit_declares program head kind)
 unit_plain program head Y.SimpleUnit all = tt
 unit_plain program head Y.UnitBlock all = main_plain program head.number all
 unit_plain program head Y.ProcedureBlock all = main_plain program head.number all
