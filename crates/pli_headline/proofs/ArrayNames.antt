@@ -1,4 +1,4 @@
--- Arrays of a block by their names: the name stands before the data, and services know by its serial number where the data stands, and
+-- Arrays of the main procedure by their names: the name stands before the data, and services know by its serial number where the data stands, and
 -- its signature.
 use Rattle.std.proofs.Common.{◌≡◌, ℕ, ◌+◌, ◌%◌, ◌^◌, ◌≤◌, List, ◌∷◌, Some}
 use Rattle.rv_meaning.specs.Memory.{load}
@@ -14,7 +14,7 @@ use Rattle.pli_headline.proofs.Engine.{Base}
 use Rattle.pli_headline.proofs.Scalars.{Values}
 use Rattle.pli_headline.proofs.Bodies.{Ground}
 use Rattle.pli_headline.proofs.Storages.{Serials}
-use Rattle.pli_headline.proofs.Variables.{data_place}
+use Rattle.pli_headline.proofs.Variables.{data_place, level_of}
 use Rattle.pli_headline.proofs.PlainNumbers.{number_for}
 use Rattle.pli_headline.proofs.NamesStand.{NameThere}
 use Rattle.pli_headline.proofs.ArrayScopes.{IsArrayAt}
@@ -37,4 +37,4 @@ pub record ArrayNamed (e : Environment) (block : Names) (base : ℕ) (ground : V
 
 abbrev pub ArraysNamed : Environment → (block : Names) → Types → (bases : ℕ → ℕ) → (Values → Ground) → Serials → Type 0
 ArraysNamed e block types bases ground serials =
-    (j : ℕ) (type : Y.LeafType) (b : Bounds) (bs : List Bounds) → IsArrayAt types j type b bs → ArrayNamed e block (bases j) ground serials j (record { type = type; bounds = b ∷ bs })
+    (j : ℕ) (type : Y.LeafType) (b : Bounds) (bs : List Bounds) → IsArrayAt types j type b bs → level_of block j ≡ 0 → ArrayNamed e block (bases j) ground serials j (record { type = type; bounds = b ∷ bs })

@@ -32,7 +32,7 @@ use Rattle.pli_coding.specs.Expressions.{frame_given}
 use Rattle.pli_coding.specs.Statements.{stmts_words, stmts_code}
 use Rattle.pli_coding.specs.Procedures.{procedure_environment, procedure_in}
 use Rattle.pli_coding.specs.Linking.{Links, place_of}
-use Rattle.pli_headline.specs.ProvedSoFar.{Names, Types, AreDeclaring}
+use Rattle.pli_headline.specs.ProvedSoFar.{Names, Types, ArePlain}
 use Rattle.pli_headline.proofs.Storages.{storage}
 use Rattle.pli_headline.proofs.Engine.{Base, address, most_code}
 use Rattle.pli_headline.proofs.Linking.{size_append}
@@ -92,7 +92,7 @@ joined frame enter made act code ended =
     ∙ ap (λ c. frame ++ c) (code_joined enter (made ++ act) (code ++ ended))
     ∙ ap (λ c. frame ++ (enter ++ c)) (code_joined made act (code ++ ended) ∙ ap (λ c. made ++ c) (sym (code_joined act code ended)) ∙ sym (code_joined made (act ++ code) ended))
 
-pub called_code_is : (e : Environment) (head : Y.BlockHead) (body : Y.Stmts) → head.level ≡ 1 → AreDeclaring (vars_of e head) → procedure_in (procedure_environment head e) head body [] None ≡ called_code e head (max 0 (stmts_words body)) body
+pub called_code_is : (e : Environment) (head : Y.BlockHead) (body : Y.Stmts) → head.level ≡ 1 → ArePlain (vars_of e head) → procedure_in (procedure_environment head e) head body [] None ≡ called_code e head (max 0 (stmts_words body)) body
 called_code_is e head body next are =
     let words = max 0 (stmts_words body) in
     ap (λ n. code_with e head body head.level (max n (stmts_words body))) (no_words (vars_of e head) are)

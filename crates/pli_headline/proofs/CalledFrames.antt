@@ -335,8 +335,8 @@ called_block_as {e} bl callee back h0 t0 owner kind head next o c seen =
       };
       arrays = λ j type b bs at. called_array bl callee back h0 t0 owner head (callee.at + fixed_size 1 0) (omega arith) (bl.arrays j type b bs at);
       text_arrays = λ j varying most b bs at. called_text_array bl callee back h0 t0 owner head (callee.at + fixed_size 1 0) (omega arith) (bl.text_arrays j varying most b bs at);
-      array_names = λ j type b bs at.
-          let on = bl.array_names j type b bs at in
+      array_names = λ j type b bs at outermost.
+          let on = bl.array_names j type b bs at outermost in
           record { living = on.living; lives = on.lives; signature = on.signature; at = on.at; aligned = on.aligned; high = on.high; room = on.room; own = λ n t b' m o. on.own n t0 b' m o.kept.0; names = λ n t b' m o. on.names n t0 b' m o.kept.0 };
       outer = o ∷ [];
       enclosing = (c, tt);

@@ -6,7 +6,7 @@ use Rattle.pli_coding.specs.Environments.{Environment}
 use Rattle.pli_coding.specs.Procedures.{procedure_environment}
 use Rattle.pli_typing.specs.TypedTree as Y
 use Rattle.pli_meaning.specs.Control.{Label}
-use Rattle.pli_headline.specs.ProvedSoFar.{Names, Types, AreDeclaring, bytes_of}
+use Rattle.pli_headline.specs.ProvedSoFar.{Names, Types, ArePlain, bytes_of}
 use Rattle.pli_headline.proofs.Engine.{Base}
 use Rattle.pli_headline.proofs.Statements.{Block, IsFilled, IsKnown}
 use Rattle.pli_headline.proofs.MoreServed.{place_for}
@@ -16,7 +16,7 @@ use Rattle.pli_headline.proofs.CalledFrames.{Callee}
 use Rattle.pli_headline.proofs.MainOutlets.{HasMain}
 use Rattle.pli_headline.proofs.CallRuns.{callee_block, CalleeMakes}
 
-pub called_makes : {e : Environment} {block : Names} {types : Types} (bl : Block e block types) (callee : Callee bl) (head : Y.BlockHead) (next : head.level ≡ 1) (main : ℕ) (mains : List Label) (has : HasMain main mains e.level e.block bl.labels bl.outer) → IsKnown e → AreDeclaring (vars_of e head) → callee.at + fixed_size 1 0 + bytes_of (vars_of e head) + 4 ≤ 14 * 2 ^ 20 → bytes_of (vars_of e head) ≤ 2 ^ 20 → CalleeMakes bl callee head next main mains has
+pub called_makes : {e : Environment} {block : Names} {types : Types} (bl : Block e block types) (callee : Callee bl) (head : Y.BlockHead) (next : head.level ≡ 1) (main : ℕ) (mains : List Label) (has : HasMain main mains e.level e.block bl.labels bl.outer) → IsKnown e → ArePlain (vars_of e head) → callee.at + fixed_size 1 0 + bytes_of (vars_of e head) + 4 ≤ 14 * 2 ^ 20 → bytes_of (vars_of e head) ≤ 2 ^ 20 → CalleeMakes bl callee head next main mains has
 called_makes {e} bl callee head next main mains has known are room few back h0 t0 =
     let ds = vars_of e head in
     let e' = procedure_environment head e in
@@ -38,7 +38,7 @@ called_makes {e} bl callee head next main mains has known are room few back h0 t
       near = omega (arith, first, few, next);
     }
 
-pub called_filled : {e : Environment} {block : Names} {types : Types} (bl : Block e block types) (callee : Callee bl) (head : Y.BlockHead) (next : head.level ≡ 1) (main : ℕ) (mains : List Label) (has : HasMain main mains e.level e.block bl.labels bl.outer) → IsKnown e → AreDeclaring (vars_of e head) → bytes_of (vars_of e head) ≤ 2 ^ 20 → (makes : CalleeMakes bl callee head next main mains has) (back : Base → ℕ) (h0 t0 : ℕ → ℕ) (serial : ℕ) → IsFilled (made_block (callee_block bl callee head next main mains has back h0 t0) (vars_of e head) (makes back h0 t0) serial)
+pub called_filled : {e : Environment} {block : Names} {types : Types} (bl : Block e block types) (callee : Callee bl) (head : Y.BlockHead) (next : head.level ≡ 1) (main : ℕ) (mains : List Label) (has : HasMain main mains e.level e.block bl.labels bl.outer) → IsKnown e → ArePlain (vars_of e head) → bytes_of (vars_of e head) ≤ 2 ^ 20 → (makes : CalleeMakes bl callee head next main mains has) (back : Base → ℕ) (h0 t0 : ℕ → ℕ) (serial : ℕ) → IsFilled (made_block (callee_block bl callee head next main mains has back h0 t0) (vars_of e head) (makes back h0 t0) serial)
 called_filled {e} bl callee head next main mains has known are few makes back h0 t0 serial owned =
     let ds = vars_of e head in
     let o = is_made ds (callee_block bl callee head next main mains has back h0 t0) (makes back h0 t0) serial in

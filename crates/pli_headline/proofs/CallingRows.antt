@@ -2,7 +2,7 @@
 use Rattle.std.proofs.Common.{ℕ, [], ◌∷◌, None, refl, arith, lit<, inl}
 use Rattle.pli_language.specs.declared.condition.Condition.TheVariants as C
 use Rattle.pli_typing.specs.TypedTree as Y
-use Rattle.pli_headline.specs.ProvedSoFar.{Names, Types, IsOwn, IsDeclaring, IsProvedNumber, IsPlain, IsProvedSoFar, main_names, names_in, alone, plain_variable}
+use Rattle.pli_headline.specs.ProvedSoFar.{Names, Types, IsOwn, IsProvedNumber, IsPlain, IsProvedSoFar, main_names, names_in, alone, plain_variable}
 
 -- T: PROC OPTIONS(MAIN); DECLARE I FIXED BINARY(31); BEGIN; DECLARE J FIXED BINARY(31); J = I; CALL P; SIGNAL AREA; I = J; END;
 -- P: PROC; DECLARE K FIXED BINARY(31); K = I; I = K; END; END;
@@ -70,7 +70,6 @@ calling_program =
     let ni' : IsProvedNumber called_names inner_types (Y.NumberIn (whole_at 1 0 0)) = (record { precision = 31; part = inl i' }, tt) in
     let nk : IsProvedNumber called_names inner_types (Y.NumberIn (whole_at 3 1 0)) = (record { precision = 31; part = inl k }, tt) in
     let plain : IsPlain number = record { type = Y.FixedLeaf 31; bounds = []; initial = []; held = (omega arith, omega arith); begins = tt; is = refl } in
-    let declares : IsDeclaring number = record { type = Y.FixedLeaf 31; held = (omega arith, omega arith); items = []; begins = tt; is = refl } in
     record {
       head = head;
       body = outer_body;
@@ -86,7 +85,6 @@ calling_program =
         statements = ((refl, (lit< tt, (((inl j, tt), (ni, lit< tt)), ((refl, lit< tt), (lit< tt, (((inl i, tt), (nj, lit< tt)), tt)))))), tt);
         jumps = (((refl, omega arith), (tt, (tt, (tt, (tt, tt))))), tt);
         calls = ((tt, ((omega arith, refl), (omega arith, (tt, tt)))), tt);
-        inside = (((declares, tt), (tt, (tt, (tt, (tt, tt))))), tt);
         few = omega arith;
       };
       inner = (
@@ -96,10 +94,8 @@ calling_program =
           is = refl;
           apart = refl;
           level = refl;
-          declares = (declares, tt);
           statements = (((inl k, tt), (ni', lit< tt)), (((inl i', tt), (nk, lit< tt)), tt));
           jumps = (tt, (tt, tt));
-          inside = (tt, (tt, tt));
           callable = λ h. record { kind = refl; line = lit< tt; calls = (tt, (tt, tt)); few = omega arith };
         },
         tt,

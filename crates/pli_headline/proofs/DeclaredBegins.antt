@@ -1,6 +1,6 @@
--- Begin blocks that declare scalars: they are entered, their variables are made one behind the other, their statements run, and they are left.
+-- Begin blocks that declare variables: they are entered, their variables are made one behind the other, their statements run, and they are left.
 use Rattle.std.proofs.Common.{◌≡◌, ℕ, zero, suc, ◌+◌, ◌*◌, ◌^◌, ◌<◌, ◌≤◌, inl, inr, List, [], ◌∷◌, ◌++◌, length, Option, true, false, refl, sym, ap, ◌∙◌, subst, arith}
-use Rattle.std.specs.Prelude.{max, min, nat_lt, slice_get}
+use Rattle.std.specs.Prelude.{max, min, nat_lt, slice_get, if◌then◌else◌}
 use Rattle.std.proofs.lemmas.Bool.{ltb-true}
 use Rattle.rv_meaning.specs.declared.instr.Instr.{Instr}
 use Rattle.pli_typing.specs.TypedTree as Y
@@ -20,19 +20,20 @@ use Rattle.pli_coding.specs.Instructions.{move}
 use Rattle.pli_coding.specs.Registers.{frame_register, a0}
 use Rattle.pli_coding.specs.Allocating.{act_code}
 use Rattle.pli_coding.specs.Entries.{frame_begun, entered_without_texts, variables_made, variables_words}
+use Rattle.pli_coding.specs.Extents.{extents_words}
 use Rattle.pli_coding.specs.Environments.{Environment, none_taken, in_frame}
 use Rattle.pli_coding.specs.Frames.{fixed_size, last_place, frame_bytes, variable_place, parameters_of_block}
 use Rattle.pli_coding.specs.Linking.{Links}
 use Rattle.pli_coding.specs.Statements.{begin_environment, begin_code, block_words, stmts_words, stmt_code, stmts_code}
 use Rattle.pli_headline.specs.Headline.{parts}
-use Rattle.pli_headline.specs.ProvedSoFar.{Names, Types, AreDeclaring, IsDeclaring, IsPlain, plain_variable, declared_kind, bytes_for, bytes_of}
+use Rattle.pli_headline.specs.ProvedSoFar.{Names, Types, ArePlain, declared_kind, bytes_for, bytes_of, array_variable}
 use Rattle.pli_headline.proofs.Engine.{Base, address}
 use Rattle.pli_headline.proofs.Linking.{size_append}
 use Rattle.pli_headline.proofs.Items.{Linked, At}
 use Rattle.pli_headline.proofs.Jumps.{front_of, back_of}
 use Rattle.pli_headline.proofs.Bodies.{Known}
 use Rattle.pli_headline.proofs.Temporaries.{nothing}
-use Rattle.pli_headline.proofs.Scalars.{Values, by_held}
+use Rattle.pli_headline.proofs.Scalars.{Values, by_plain}
 use Rattle.pli_headline.proofs.Calls.{Serving}
 use Rattle.pli_headline.proofs.Acts.{acted, act_piece}
 use Rattle.pli_headline.proofs.Storages.{storage}
@@ -49,6 +50,7 @@ use Rattle.pli_headline.proofs.BeginEntered.{entered_activation, entered_service
 use Rattle.pli_headline.proofs.BeginMeant.{Entering, inner_around, begin_part, inner_part, begin_declares, begin_limited, entered_state, entered_nested, entered_all, ended_input, left_all, Outside}
 use Rattle.pli_headline.proofs.Begins.{by_test, ending_closed, comes_ended, own_outlet, outer_outlets, own_home, outer_homes, limited_piece}
 use Rattle.pli_headline.proofs.Reach.{Family, Aims, Comes, Closed, before_closed, comes_on, onward}
+use Rattle.pli_headline.proofs.ArrayFrames.{held_constant}
 
 -- ---- what a block has once its variables are made
 
@@ -82,22 +84,18 @@ made_constants (d ∷ ds) ib m serial stand n =
 
 -- ---- places in the frame
 
-plain_declaring : (d : Y.DeclaredVariable) → IsDeclaring d → IsPlain d
-plain_declaring d is =
-    record { type = is.type; bounds = []; initial = is.items; held = is.held; begins = is.begins; is = is.is }
-
-places_of : (at : ℕ) (ds : List Y.DeclaredVariable) (i : ℕ) → AreDeclaring ds → i ≤ length ds → at + bytes_of ds ≤ last_place → variable_place parts at ds i ≡ at + bytes_before ds i
+places_of : (at : ℕ) (ds : List Y.DeclaredVariable) (i : ℕ) → ArePlain ds → i ≤ length ds → at + bytes_of ds ≤ last_place → variable_place parts at ds i ≡ at + bytes_before ds i
 places_of at [] zero are h fits = omega arith
 places_of at [] (suc i) are h fits = absurd (omega (arith, h))
 places_of at (d ∷ ds) zero are h fits = omega arith
 places_of at (d ∷ ds) (suc i) are h fits =
-    let n = bytes_for (declared_kind d).type in
-    let bytes : frame_bytes parts d ≡ n = frame_plain d (plain_declaring d are.0) ∙ sym (declared_bytes d are.0) in
+    let n = bytes_for (declared_kind d) in
+    let bytes : frame_bytes parts d ≡ n = frame_plain d are.0 ∙ sym (declared_bytes d are.0) in
     let next' : min last_place (at + frame_bytes parts d) ≡ at + n = omega (arith, fits, bytes) in
     ap (λ p. variable_place parts p ds i) next' ∙ places_of (at + n) ds i are.1 (omega (arith, h)) (omega (arith, fits)) ∙ omega arith
 
 -- from the fixed part of the frame on
-pub declared_place : (e : Environment) (number level i : ℕ) → IsKnown e → AreDeclaring (variables_of_block e.program number) → i ≤ length (variables_of_block e.program number) → fixed_size level 0 + bytes_of (variables_of_block e.program number) ≤ last_place → place_for (in_frame number level e) i ≡ fixed_size level 0 + bytes_before (variables_of_block e.program number) i
+pub declared_place : (e : Environment) (number level i : ℕ) → IsKnown e → ArePlain (variables_of_block e.program number) → i ≤ length (variables_of_block e.program number) → fixed_size level 0 + bytes_of (variables_of_block e.program number) ≤ last_place → place_for (in_frame number level e) i ≡ fixed_size level 0 + bytes_before (variables_of_block e.program number) i
 declared_place e number level i known are h fits =
     let ds = variables_of_block e.program number in
     ap (λ p. variable_place p (fixed_size level (length (parameters_of_block e.program number))) ds i) known.parts_are
@@ -109,7 +107,7 @@ declared_place e number level i known are h fits =
 abbrev pub vars_of : Environment → Y.BlockHead → List Y.DeclaredVariable
 vars_of e head = variables_of_block e.program head.number
 
-pub inner_makes : {e : Environment} {block : Names} {types : Types} (bl : Block e block types) (inner : Inner bl) (t0 : ℕ → ℕ) (head : Y.BlockHead) (next : head.level ≡ suc e.level) (filled : IsFilled bl) → IsKnown e → AreDeclaring (vars_of e head) → head.level ≤ 100 → inner.at + fixed_size (suc e.level) 0 + bytes_of (vars_of e head) + 4 ≤ 14 * 2 ^ 20 → bytes_of (vars_of e head) ≤ 2 ^ 20 → Makes (inner_block bl inner t0 head.number head.level next filled) 0 (vars_of e head)
+pub inner_makes : {e : Environment} {block : Names} {types : Types} (bl : Block e block types) (inner : Inner bl) (t0 : ℕ → ℕ) (head : Y.BlockHead) (next : head.level ≡ suc e.level) (filled : IsFilled bl) → IsKnown e → ArePlain (vars_of e head) → head.level ≤ 100 → inner.at + fixed_size (suc e.level) 0 + bytes_of (vars_of e head) + 4 ≤ 14 * 2 ^ 20 → bytes_of (vars_of e head) ≤ 2 ^ 20 → Makes (inner_block bl inner t0 head.number head.level next filled) 0 (vars_of e head)
 inner_makes {e} bl inner t0 head next filled known are shallow room few =
     let ds = vars_of e head in
     let place : (i : ℕ) → i ≤ length ds → place_for (in_frame head.number head.level e) i ≡ fixed_size head.level 0 + bytes_before ds i = λ i h. declared_place e head.number head.level i known are h (omega (arith, few, shallow)) in
@@ -131,7 +129,7 @@ inner_makes {e} bl inner t0 head next filled known are shallow room few =
     }
 
 -- all of them stand in its frame
-pub made_filled : {e : Environment} {block : Names} {types : Types} (bl : Block e block types) (inner : Inner bl) (t0 : ℕ → ℕ) (head : Y.BlockHead) (next : head.level ≡ suc e.level) (filled : IsFilled bl) → IsKnown e → (are : AreDeclaring (vars_of e head)) → head.level ≤ 100 → bytes_of (vars_of e head) ≤ 2 ^ 20 → (m : Makes (inner_block bl inner t0 head.number head.level next filled) 0 (vars_of e head)) (serial : ℕ) → IsFilled (made_block (inner_block bl inner t0 head.number head.level next filled) (vars_of e head) m serial)
+pub made_filled : {e : Environment} {block : Names} {types : Types} (bl : Block e block types) (inner : Inner bl) (t0 : ℕ → ℕ) (head : Y.BlockHead) (next : head.level ≡ suc e.level) (filled : IsFilled bl) → IsKnown e → (are : ArePlain (vars_of e head)) → head.level ≤ 100 → bytes_of (vars_of e head) ≤ 2 ^ 20 → (m : Makes (inner_block bl inner t0 head.number head.level next filled) 0 (vars_of e head)) (serial : ℕ) → IsFilled (made_block (inner_block bl inner t0 head.number head.level next filled) (vars_of e head) m serial)
 made_filled {e} bl inner t0 head next filled known are shallow few m serial owned =
     let ds = vars_of e head in
     let o = is_made ds (inner_block bl inner t0 head.number head.level next filled) m serial in
@@ -150,14 +148,14 @@ declaring_code e head words body =
     ++ ((variables_made (begin_environment head e) head.line 0 (vars_of e head) ++ stmts_code (begin_environment head e) none_taken body) ++ inner_ended words))
 
 -- no temporaries are needed for them
-pub no_words : (ds : List Y.DeclaredVariable) → AreDeclaring ds → variables_words ds ≡ 0
+pub no_words : (ds : List Y.DeclaredVariable) → ArePlain ds → variables_words ds ≡ 0
 no_words [] are = refl
 no_words (d ∷ ds) are =
-    ap (λ u. variables_words (u ∷ ds)) are.0.is
-    ∙ by_held (λ t. variables_words (plain_variable t are.0.items ∷ ds) ≡ max 0 (variables_words ds)) (λ p. refl) refl (λ n few. refl) (λ n few. refl) are.0.type are.0.held
+    by_plain (λ u. variables_words (u ∷ ds) ≡ max 0 (variables_words ds)) (λ p i. refl) (λ i. refl) (λ n i. refl) (λ n i. refl)
+    (λ type b bs i held are'. ap (λ q. max (if q then 0 else extents_words (array_variable type (b ∷ bs) i)) (variables_words ds)) (held_constant type held (b ∷ bs) i)) d are.0
     ∙ ap (λ n. max 0 n) (no_words ds are.1)
 
-declaring_code_is : (e : Environment) (head : Y.BlockHead) (body : Y.Stmts) → head.level ≡ suc e.level → AreDeclaring (vars_of e head) → begin_code e head (block_words e head.number (stmts_words body)) (stmts_code (begin_environment head e) none_taken body) ≡ declaring_code e head (max 0 (stmts_words body)) body
+declaring_code_is : (e : Environment) (head : Y.BlockHead) (body : Y.Stmts) → head.level ≡ suc e.level → ArePlain (vars_of e head) → begin_code e head (block_words e head.number (stmts_words body)) (stmts_code (begin_environment head e) none_taken body) ≡ declaring_code e head (max 0 (stmts_words body)) body
 declaring_code_is e head body next are =
     let e' = begin_environment head e in
     let code = stmts_code e' none_taken body in
@@ -332,7 +330,7 @@ own_declares_does {e} bl links code around (suc more) head body inner lower shal
           (λ b. record { pc = (at4 b).pc ∙ ap (address b) place; holds = (at4 b).holds }))))));
     }
 
-pub declares_does : {e : Environment} {block : Names} {types : Types} (bl : Block e block types) (links : Links) (code : List Instr) (around : Around) (more : ℕ) (head : Y.BlockHead) (body : Y.Stmts) (inner : Inner bl) → owner_level e.owner ≤ e.level → inner.words ≡ max 0 (stmts_words body) → e.level < 100 → (next : head.level ≡ suc e.level) (filled : IsFilled bl) → IsKnown (begin_environment head e) → AreDeclaring (vars_of e head) → (makes : (t0 : ℕ → ℕ) → Makes (inner_block bl inner t0 head.number head.level next filled) 0 (vars_of e head)) → InnerStand bl inner head next filled links code → head.kind ≡ Y.BeginBlock → head.line < 2 ^ 31 → Entering e.program around more → ((more' : ℕ) → more ≡ suc more' → suc (length bl.depths) < most_activations → MadeDoes bl inner head next filled makes links code more' body) → Does bl links code around.turns (stmt_code e bl.taken (Y.Begin (Y.BlockOf head body))) (M.statement around (Y.Begin (Y.BlockOf head body)))
+pub declares_does : {e : Environment} {block : Names} {types : Types} (bl : Block e block types) (links : Links) (code : List Instr) (around : Around) (more : ℕ) (head : Y.BlockHead) (body : Y.Stmts) (inner : Inner bl) → owner_level e.owner ≤ e.level → inner.words ≡ max 0 (stmts_words body) → e.level < 100 → (next : head.level ≡ suc e.level) (filled : IsFilled bl) → IsKnown (begin_environment head e) → ArePlain (vars_of e head) → (makes : (t0 : ℕ → ℕ) → Makes (inner_block bl inner t0 head.number head.level next filled) 0 (vars_of e head)) → InnerStand bl inner head next filled links code → head.kind ≡ Y.BeginBlock → head.line < 2 ^ 31 → Entering e.program around more → ((more' : ℕ) → more ≡ suc more' → suc (length bl.depths) < most_activations → MadeDoes bl inner head next filled makes links code more' body) → Does bl links code around.turns (stmt_code e bl.taken (Y.Begin (Y.BlockOf head body))) (M.statement around (Y.Begin (Y.BlockOf head body)))
 declares_does {e} bl links code around more head body inner lower same shallow next filled known are makes stand kind fits entering does' =
     subst (λ c. Does bl links code around.turns (act_code head.line ++ c) (M.statement around (Y.Begin (Y.BlockOf head body)))) (ap (λ w. declaring_code e head w body) same ∙ sym (declaring_code_is e head body next are))
     (own_declares_does bl links code around more head body inner lower shallow next filled known makes stand kind fits entering does')

@@ -1,4 +1,4 @@
--- The names and types of a block that declares scalars: those around it, and behind them its own.
+-- The names and types of a block that declares variables: those around it, and behind them its own.
 use Rattle.std.proofs.Common.{◌≡◌, ℕ, zero, suc, ◌+◌, ◌-◌, ◌<◌, ◌≤◌, ◌⊎◌, inl, inr, List, [], ◌∷◌, ◌++◌, length, Some, refl, sym, ap, ◌∙◌, subst, arith}
 use Rattle.std.specs.Prelude.{cond, nat_lt, slice_get}
 use Rattle.std.proofs.lemmas.Bool.{lt-ltb, le-ltb, cases_lt}
@@ -6,9 +6,10 @@ use Rattle.pli_typing.specs.TypedTree as Y
 use Rattle.pli_meaning.specs.DeclaredShapes.{variables_of_block}
 use Rattle.pli_coding.specs.Environments.{Environment}
 use Rattle.pli_coding.specs.Statements.{begin_environment}
-use Rattle.pli_headline.specs.ProvedSoFar.{Names, Spot, Kind, Types, IsDeclaring, AreDeclaring, names_with, names_from, names_in, types_in, declared_kind, array_variable}
+use Rattle.pli_headline.specs.ProvedSoFar.{Names, Spot, Kind, Types, IsPlain, ArePlain, names_with, names_from, names_in, types_in, declared_kind}
 use Rattle.pli_headline.proofs.Scalars.{place_below}
 use Rattle.pli_headline.proofs.Variables.{IsDeclaredAs, HasTypes}
+use Rattle.pli_headline.proofs.MainProcedure.{typed_plain}
 
 -- ---- places among the types
 
@@ -82,17 +83,17 @@ named_from block types number level index (d ∷ ds) named =
 pub named_in : (block : Names) (types : Types) (head : Y.BlockHead) (ds : List Y.DeclaredVariable) {program : Y.Program} → block.program ≡ program → (names_in block types head ds).program ≡ program
 named_in block types head ds named = named_from block types head.number head.level 0 ds named
 
-has_more : (e : Environment) (block : Names) (types : Types) (number level index : ℕ) (d : Y.DeclaredVariable) → slice_get (variables_of_block e.program number) index ≡ Some d → IsDeclaring d → HasTypes e block types → HasTypes e (names_with block (length types) (record { number = number; level = level; index = index })) (types ++ (declared_kind d ∷ []))
+has_more : (e : Environment) (block : Names) (types : Types) (number level index : ℕ) (d : Y.DeclaredVariable) → slice_get (variables_of_block e.program number) index ≡ Some d → IsPlain d → HasTypes e block types → HasTypes e (names_with block (length types) (record { number = number; level = level; index = index })) (types ++ (declared_kind d ∷ []))
 has_more e block types number level index d stands is has j kind at =
     let spot : Spot = record { number = number; level = level; index = index } in
     by_last types (declared_kind d) (λ i kind'. IsDeclaredAs e (names_with block (length types) spot) i kind')
     (λ i kind' below at'.
     let known = has i kind' at' in
     (known.0, ap (λ (u : Spot). slice_get (variables_of_block e.program u.number) u.index) (chosen_before (length types) i (block.at i) spot below) ∙ known.1))
-    (is.items, ap (λ (u : Spot). slice_get (variables_of_block e.program u.number) u.index) (chosen_here (length types) (block.at (length types)) spot) ∙ stands ∙ ap (λ u. Some u) is.is ∙ ap (λ (k : Kind). Some (array_variable k.type k.bounds is.items)) (sym (ap declared_kind is.is)))
+    (is.initial, ap (λ (u : Spot). slice_get (variables_of_block e.program u.number) u.index) (chosen_here (length types) (block.at (length types)) spot) ∙ stands ∙ ap (λ u. Some u) (typed_plain d (declared_kind d) is refl))
     j kind at
 
-has_from : (e : Environment) (block : Names) (types : Types) (number level index : ℕ) (ds : List Y.DeclaredVariable) → ((i : ℕ) → slice_get (variables_of_block e.program number) (index + i) ≡ slice_get ds i) → AreDeclaring ds → HasTypes e block types → HasTypes e (names_from block types number level index ds) (types_in types ds)
+has_from : (e : Environment) (block : Names) (types : Types) (number level index : ℕ) (ds : List Y.DeclaredVariable) → ((i : ℕ) → slice_get (variables_of_block e.program number) (index + i) ≡ slice_get ds i) → ArePlain ds → HasTypes e block types → HasTypes e (names_from block types number level index ds) (types_in types ds)
 has_from e block types number level index [] stand are has = has
 has_from e block types number level index (d ∷ ds) stand are has =
     let here : index + 0 ≡ index = omega arith in
@@ -101,7 +102,7 @@ has_from e block types number level index (d ∷ ds) stand are has =
     (has_more e block types number level index d (ap (λ n. slice_get (variables_of_block e.program number) n) (sym here) ∙ stand 0) are.0 has)
 
 -- all of them are declared
-pub has_in : (e : Environment) (block : Names) (types : Types) (head : Y.BlockHead) → block.program ≡ e.program → AreDeclaring (variables_of_block e.program head.number) → HasTypes e block types → HasTypes (begin_environment head e) (names_in block types head (variables_of_block block.program head.number)) (types_in types (variables_of_block block.program head.number))
+pub has_in : (e : Environment) (block : Names) (types : Types) (head : Y.BlockHead) → block.program ≡ e.program → ArePlain (variables_of_block e.program head.number) → HasTypes e block types → HasTypes (begin_environment head e) (names_in block types head (variables_of_block block.program head.number)) (types_in types (variables_of_block block.program head.number))
 has_in e block types head named declaring has =
     subst (λ p. HasTypes (begin_environment head e) (names_in block types head (variables_of_block p head.number)) (types_in types (variables_of_block p head.number))) (sym named)
     (has_from (begin_environment head e) block types head.number head.level 0 (variables_of_block e.program head.number) (λ i. let z : 0 + i ≡ i = omega arith in ap (λ n. slice_get (variables_of_block e.program head.number) n) z) declaring has)

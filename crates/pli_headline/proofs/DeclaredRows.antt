@@ -3,7 +3,7 @@ use Rattle.std.proofs.Common.{ℕ, List, [], ◌∷◌, None, refl, arith, lit<,
 use Rattle.std.specs.Prelude.{negsuc}
 use Rattle.pli_language.specs.Tree as T
 use Rattle.pli_typing.specs.TypedTree as Y
-use Rattle.pli_headline.specs.ProvedSoFar.{Names, Types, IsOwn, IsPartText, IsDeclaring, AreConstants, IsProvedNumber, IsPlain, IsProvedSoFar, main_names, names_in, alone, text_leaf, plain_variable}
+use Rattle.pli_headline.specs.ProvedSoFar.{Names, Types, IsOwn, IsPartText, AreConstants, IsProvedNumber, IsPlain, IsProvedSoFar, main_names, names_in, alone, text_leaf, plain_variable}
 
 -- T: PROC OPTIONS(MAIN); DECLARE I FIXED BINARY(31); BEGIN; DECLARE J FIXED BINARY(15) INITIAL(-7), B BIT(1) INITIAL('1'B); J = I;
 -- BEGIN; DECLARE K FIXED BINARY(31) INITIAL(*), S CHARACTER(5) VARYING INITIAL('AB'); K = J; S = S || 'C'; I = K;
@@ -100,10 +100,6 @@ declaring_program =
     let bit : IsPlain (plain_variable Y.BitLeaf one) = record { type = Y.BitLeaf; bounds = []; initial = one; held = tt; begins = set; is = refl } in
     let inmost : IsPlain (plain_variable (Y.FixedLeaf 31) skipped) = record { type = Y.FixedLeaf 31; bounds = []; initial = skipped; held = (omega arith, omega arith); begins = none; is = refl } in
     let written : IsPlain (plain_variable (text_leaf true 5) letters) = record { type = text_leaf true 5; bounds = []; initial = letters; held = (omega arith, omega arith); begins = given; is = refl } in
-    let declares_j : IsDeclaring (plain_variable (Y.FixedLeaf 15) seven) = record { type = Y.FixedLeaf 15; held = (omega arith, omega arith); items = seven; begins = minus; is = refl } in
-    let declares_b : IsDeclaring (plain_variable Y.BitLeaf one) = record { type = Y.BitLeaf; held = tt; items = one; begins = set; is = refl } in
-    let declares_k : IsDeclaring (plain_variable (Y.FixedLeaf 31) skipped) = record { type = Y.FixedLeaf 31; held = (omega arith, omega arith); items = skipped; begins = none; is = refl } in
-    let declares_s : IsDeclaring (plain_variable (text_leaf true 5) letters) = record { type = text_leaf true 5; held = (omega arith, omega arith); items = letters; begins = given; is = refl } in
     record {
       head = head;
       body = outer_body;
@@ -122,7 +118,6 @@ declaring_program =
         );
         jumps = (((refl, omega arith), (tt, (((refl, omega arith), (tt, (tt, (tt, (inr (inr (inl (refl, (refl, (refl, refl))))), tt))))), tt))), tt);
         calls = ((tt, ((tt, (tt, (tt, (tt, tt)))), tt)), tt);
-        inside = (((declares_j, (declares_b, tt)), (tt, (((declares_k, (declares_s, tt)), (tt, (tt, (tt, (tt, tt))))), tt))), tt);
         few = omega arith;
       };
       inner = tt;

@@ -1,6 +1,6 @@
--- The scalars of a block are made, one behind the other, and its statements run behind them.
+-- The variables of a block are made, one behind the other, and its statements run behind them.
 use Rattle.std.proofs.Common.{◌≡◌, ℕ, zero, suc, ◌+◌, ◌*◌, ◌^◌, ◌<◌, ◌≤◌, ◌⊎◌, inl, inr, List, [], ◌∷◌, ◌++◌, length, Some, None, Bool, true, false, refl, sym, ap, ◌∙◌, subst, arith, Option}
-use Rattle.std.specs.Prelude.{ℤ, pos, cond, min, slice_get, nat_le, ◌==◌}
+use Rattle.std.specs.Prelude.{ℤ, pos, cond, min, slice_get, nat_le, ◌==◌, if◌then◌else◌}
 use Rattle.std.proofs.lemmas.Bool.{le-leb, lt-leb, cases_lt, eq-eqb}
 use Rattle.rv_meaning.specs.declared.instr.Instr.{Instr}
 use Rattle.pli_language.specs.Tree as T
@@ -22,10 +22,10 @@ use Rattle.pli_coding.specs.Instructions.{number, plus, load_word}
 use Rattle.pli_coding.specs.Extents.{initial_given}
 use Rattle.pli_coding.specs.Frames.{frame_bytes, last_place, is_automatic, display, own_offset, name_bytes}
 use Rattle.pli_coding.specs.SignatureTable.{table_of}
-use Rattle.pli_coding.specs.Entries.{automatic_made, variables_made}
+use Rattle.pli_coding.specs.Entries.{automatic_made, variables_made, adjustable_made, constant_made}
 use Rattle.pli_coding.specs.Linking.{Links}
 use Rattle.pli_headline.specs.Headline.{parts}
-use Rattle.pli_headline.specs.ProvedSoFar.{Names, Spot, Kind, Types, alone, types_of, IsScalar, bytes_for, bytes_of, AreConstants, AreDeclaring, IsDeclaring, plain_variable, array_variable, declared_kind, names_from, types_in, OuterBlock}
+use Rattle.pli_headline.specs.ProvedSoFar.{Names, Spot, Kind, Types, alone, types_of, IsScalar, bytes_for, bytes_of, AreConstants, ArePlain, IsPlain, plain_variable, array_variable, declared_kind, names_from, types_in, OuterBlock, AreBounds, IsHeld}
 use Rattle.pli_headline.proofs.Storages.{storage, in_use_same}
 use Rattle.pli_headline.proofs.Engine.{Base, address}
 use Rattle.pli_headline.proofs.Linking.{size_append}
@@ -36,15 +36,15 @@ use Rattle.pli_headline.proofs.Temporaries.{nothing}
 use Rattle.pli_headline.proofs.Activations.{entered_length, same_length}
 use Rattle.pli_headline.proofs.Calls.{Serving}
 use Rattle.pli_headline.proofs.Reach.{Family, Aims, Comes, Closed, before_closed, comes_on, onward}
-use Rattle.pli_headline.proofs.Scalars.{Values, begin_of, begin_text, place_below, by_held, character, varying}
-use Rattle.pli_headline.proofs.States.{with_number_at, with_text_at}
-use Rattle.pli_headline.proofs.VariablePlaces.{frame_size, scalar_size, counted_size, text_print}
-use Rattle.pli_headline.proofs.MainProcedure.{frame_fixed}
+use Rattle.pli_headline.proofs.Scalars.{Values, place_below, by_held, character, varying, by_shape}
+use Rattle.pli_headline.proofs.VariablePlaces.{frame_size, scalar_size, counted_size, text_print, size_for}
+use Rattle.pli_headline.proofs.MainProcedure.{frame_fixed, frame_many, plain_kind, typed_plain}
 use Rattle.pli_headline.proofs.PlainNumbers.{number_for, Numbered}
 use Rattle.pli_headline.proofs.NamesMade.{made_code, make_asked, made_named}
 use Rattle.pli_headline.proofs.DeclaredNames.{by_last, chosen_before, chosen_here}
 use Rattle.pli_headline.proofs.Variables.{level_of}
-use Rattle.pli_headline.proofs.OneMore.{More, more_block, more_ground, more_enclosures, around_level, not_last}
+use Rattle.pli_headline.proofs.OneMore.{more_block, more_enclosures}
+use Rattle.pli_headline.proofs.MorePlaces.{More, more_ground, around_level, not_last}
 use Rattle.pli_headline.proofs.Asides.{IsFresh}
 use Rattle.pli_headline.proofs.InitialRead.{start_datum, IsNamedIf}
 use Rattle.pli_headline.proofs.StandingBytes.{IsPlacedIf, Begins, ConstantsStand, constants_moved}
@@ -53,6 +53,9 @@ use Rattle.pli_headline.proofs.MoreStates.{IsNew, step_meant, made_or_ended, nes
 use Rattle.pli_headline.proofs.MoreServed.{OwnStands, place_for, more_piece, past_piece}
 use Rattle.pli_headline.proofs.MainStates.{kind_binding}
 use Rattle.pli_headline.proofs.Statements.{Block, Enclosures, Outlets, Homes, lower_ground, AllHold, SameValues, IsKnown, IsEndMarkedOnce, Exit, OwnExit, Does}
+use Rattle.pli_headline.proofs.BegunValues.{AreBegun, begun_beside, begun_here, begun_values}
+use Rattle.pli_headline.proofs.ArrayFrames.{held_constant}
+use Rattle.pli_typing.specs.Signatures.{Bounds}
 
 -- ---- what they take
 
@@ -60,20 +63,22 @@ use Rattle.pli_headline.proofs.Statements.{Block, Enclosures, Outlets, Homes, lo
 abbrev pub bytes_before : List Y.DeclaredVariable → (i : ℕ) → ℕ
 bytes_before ds zero = 0
 bytes_before [] (suc i) = 0
-bytes_before (d ∷ ds) (suc i) = bytes_for (declared_kind d).type + bytes_before ds i
+bytes_before (d ∷ ds) (suc i) = bytes_for (declared_kind d) + bytes_before ds i
 
 pub bytes_all : (ds : List Y.DeclaredVariable) → bytes_before ds (length ds) ≡ bytes_of ds
 bytes_all [] = refl
-bytes_all (d ∷ ds) = ap (λ n. bytes_for (declared_kind d).type + n) (bytes_all ds)
+bytes_all (d ∷ ds) = ap (λ n. bytes_for (declared_kind d) + n) (bytes_all ds)
 
-pub declared_bytes : (d : Y.DeclaredVariable) → IsDeclaring d → bytes_for (declared_kind d).type ≡ frame_size (declared_kind d)
-declared_bytes d is =
-    ap (λ u. bytes_for (declared_kind u).type) is.is ∙ counted_size is.type is.held ∙ sym (ap (λ u. frame_size (declared_kind u)) is.is)
+plain_held : (d : Y.DeclaredVariable) (is : IsPlain d) → IsHeld (declared_kind d).type (declared_kind d).bounds
+plain_held d is = subst (λ (k : Kind). IsHeld k.type k.bounds) (plain_kind d is) is.held
+
+pub declared_bytes : (d : Y.DeclaredVariable) → IsPlain d → bytes_for (declared_kind d) ≡ frame_size (declared_kind d)
+declared_bytes d is = counted_size (declared_kind d) (plain_held d is)
 
 -- ---- the variables still to be made
 
 pub record Makes {e : Environment} {block : Names} {types : Types} (ib : Block e block types) (index : ℕ) (ds : List Y.DeclaredVariable) : Type 0 where
-  pub are : AreDeclaring ds
+  pub are : ArePlain ds
   pub stand : (i : ℕ) → i < length ds → slice_get (variables_of_block e.program e.block) (index + i) ≡ slice_get ds i
   pub deep : 0 < e.level
   pub new : IsNew e block types index
@@ -90,7 +95,6 @@ first_here e index d ds stand =
 
 pub first_more : {e : Environment} {block : Names} {types : Types} (ib : Block e block types) {index : ℕ} (d : Y.DeclaredVariable) (ds : List Y.DeclaredVariable) → Makes ib index (d ∷ ds) → More ib index (declared_kind d)
 first_more {e} ib {index} d ds m =
-    let type : (declared_kind d).type ≡ m.are.0.type = ap (λ u. (declared_kind u).type) m.are.0.is in
     let here : index + 0 ≡ index = omega arith in
     let p = m.places 0 (omega arith) in
     let q : place_for e (index + 0) ≡ place_for e index = ap (place_for e) here in
@@ -98,10 +102,9 @@ first_more {e} ib {index} d ds m =
     let near = m.near in
     let size = declared_bytes d m.are.0 in
     record {
-      held = subst IsScalar (sym type) m.are.0.held;
-      is = ap declared_kind m.are.0.is ∙ ap alone (sym type);
-      initial = m.are.0.items;
-      declared = first_here e index d ds m.stand ∙ ap (λ u. Some u) m.are.0.is ∙ ap (λ u. Some (plain_variable u m.are.0.items)) (sym type);
+      held = plain_held d m.are.0;
+      initial = m.are.0.initial;
+      declared = first_here e index d ds m.stand ∙ ap (λ u. Some u) (typed_plain d (declared_kind d) m.are.0 refl);
       deep = m.deep;
       place = omega (arith, p, q);
       room = omega (arith, room, size);
@@ -159,8 +162,8 @@ made_by q e size place n start =
     ++ (initial_given a2 start
     ++ (placed_by q e a3 (pos (place + name_bytes)) ++ (make_asked ++ plus stack_register frame_register (pos (min last_place (place + size)))))))
 
-own_made : (e : Environment) (line place : ℕ) (type : Y.LeafType) (items : List T.InitialItem) → IsScalar type → e.parts ≡ parts → automatic_made e line place (plain_variable type items) ≡ made_code (scalar_size type) place (number_for e.table (alone type)) (start_datum items)
-own_made e line place type items is same =
+alone_made : (e : Environment) (line place : ℕ) (items : List T.InitialItem) (type : Y.LeafType) → IsScalar type → e.parts ≡ parts → automatic_made e line place (plain_variable type items) ≡ made_code (scalar_size type) place (number_for e.table (alone type)) (start_datum items)
+alone_made e line place items type is same =
     let start = start_datum items in
     let code : Y.LeafType → ℕ → Code = λ t n. made_code n place (number_for e.table (alone t)) start in
     let asked : Y.LeafType → Bool → Code = λ t q. made_by q e (frame_bytes parts (plain_variable t items)) place (number_for e.table (alone t)) start in
@@ -172,13 +175,27 @@ own_made e line place type items is same =
     (λ n few. ap (asked (varying n)) (eq-eqb e.level e.level refl) ∙ ap (code (varying n)) (text_print (2 + suc n)))
     type is
 
-first_made : (e : Environment) (line index : ℕ) (d : Y.DeclaredVariable) (ds : List Y.DeclaredVariable) (is : IsDeclaring d) → e.parts ≡ parts → variables_made e line index (d ∷ ds) ≡ made_code (frame_size (declared_kind d)) (place_for e index) (number_for e.table (declared_kind d)) (start_datum is.items) ++ variables_made e line (suc index) ds
+many_made : (e : Environment) (line place : ℕ) (items : List T.InitialItem) (type : Y.LeafType) (b : Bounds) (bs : List Bounds) → IsScalar type → AreBounds (b ∷ bs) → e.parts ≡ parts → automatic_made e line place (array_variable type (b ∷ bs) items) ≡ made_code (size_for type (b ∷ bs)) place (number_for e.table (record { type = type; bounds = b ∷ bs })) (start_datum items)
+many_made e line place items type b bs held are same =
+    let e' = record e { parts = parts } in
+    let d = array_variable type (b ∷ bs) items in
+    let n = number_for e.table (record { type = type; bounds = b ∷ bs }) in
+    ap (λ q. automatic_made (record e { parts = q }) line place d) same
+    ∙ ap (λ q. if q then constant_made e' place d else adjustable_made e' line place d) (held_constant type held (b ∷ bs) items)
+    ∙ ap (λ q. made_by q e (frame_bytes parts d) place n (start_datum items)) (eq-eqb e.level e.level refl)
+    ∙ ap (λ size. made_code size place n (start_datum items)) (frame_many type b bs items held are)
+
+own_made : (e : Environment) (line place : ℕ) (k : Kind) (items : List T.InitialItem) → IsHeld k.type k.bounds → e.parts ≡ parts → automatic_made e line place (array_variable k.type k.bounds items) ≡ made_code (frame_size k) place (number_for e.table k) (start_datum items)
+own_made e line place k items is same =
+    by_shape (λ t bs. automatic_made e line place (array_variable t bs items) ≡ made_code (size_for t bs) place (number_for e.table (record { type = t; bounds = bs })) (start_datum items))
+    (λ t held. alone_made e line place items t held same) (λ t b bs held are few. many_made e line place items t b bs held are same) k.type k.bounds is
+
+first_made : (e : Environment) (line index : ℕ) (d : Y.DeclaredVariable) (ds : List Y.DeclaredVariable) (is : IsPlain d) → e.parts ≡ parts → variables_made e line index (d ∷ ds) ≡ made_code (frame_size (declared_kind d)) (place_for e index) (number_for e.table (declared_kind d)) (start_datum is.initial) ++ variables_made e line (suc index) ds
 first_made e line index d ds is same =
     let rest = variables_made e line (suc index) ds in
     let p = place_for e index in
-    ap (λ u. cond (is_automatic u.class) (automatic_made e line p u) [] ++ rest) is.is
-    ∙ ap (λ c. c ++ rest) (own_made e line p is.type is.items is.held same)
-    ∙ ap (λ k. made_code (frame_size k) p (number_for e.table k) (start_datum is.items) ++ rest) (sym (ap declared_kind is.is))
+    ap (λ u. cond (is_automatic u.class) (automatic_made e line p u) [] ++ rest) (typed_plain d (declared_kind d) is refl)
+    ∙ ap (λ c. c ++ rest) (own_made e line p (declared_kind d) is.initial (plain_held d is) same)
 
 -- what is named in code that is linked has a place
 placed_if : {links : Links} {code : List Instr} {i : ℕ} {xs : Code} (start : Option Datum) → Linked links code i xs → IsNamedIf start xs → IsPlacedIf start links.data'
@@ -200,10 +217,6 @@ kind_stands (u ∷ us) (suc i) d h = kind_stands us i d h
 abbrev pub GoesOn : {e : Environment} {block : Names} {types : Types} → Block e block types → (k i : ℕ) → Aims (Unit {0}) → Type 0
 GoesOn {e} {block} {types} ib k i aims =
     (s : State) (v : Services) (line : ℕ) (n : Values) (h t : ℕ → ℕ) (f : Family) (free : ℕ) → Serving k s v line → AllHold ib.frames ib.serials (storage v) (e.level ∷ ib.depths) s block types n → ((b : Base) → At b i (Known (lower_ground (ib.ground n) free) v h t nothing b) (f b)) → aims.done i f v tt s
-
-other_value : {A : Type 0} (q : Bool) (x y : A) → q ≡ false → y ≡ cond q x y
-other_value true x y e = absurd (cc e)
-other_value false x y e = refl
 
 -- a jump or a return out goes on as it does from the block with fewer variables
 more_outlets : {e : Environment} {block : Names} {types : Types} (ib : Block e block types) (k' : Kind) (links : Links) (k acts : ℕ) (jumped : ℕ → Family → Services → ℕ → Label → State → Type 0) (os : List OuterBlock) (cs : Enclosures e ib.ground ib.levels ib.frames.list (e.level ∷ ib.depths) os) → Outlets e ib.ground ib.levels ib.frames (e.level ∷ ib.depths) os cs links k acts jumped → Outlets e (more_ground ib k') ib.levels ib.frames (e.level ∷ ib.depths) os (more_enclosures ib k' os cs) links k acts jumped
@@ -248,7 +261,7 @@ declares_from {links} {code} {aims} closed around line turns k c meaning [] {e} 
 declares_from {links} {code} {aims} closed around line turns k c meaning (d ∷ ds) {e} {block} {types} ib known {index} m {i} {s} {v} {h} {t} n f old stand none outs homes own enough later returns does' l serving all at goal =
     let count = length types in
     let kind = declared_kind d in
-    let items = m.are.0.items in
+    let items = m.are.0.initial in
     let start = start_datum items in
     let o = first_more ib d ds m in
     let table = table_of block.program in
@@ -259,12 +272,9 @@ declares_from {links} {code} {aims} closed around line turns k c meaning (d ∷ 
     let eq : variables_made e line index (d ∷ ds) ≡ first ++ rest = first_made e line index d ds m.are.0 known.parts_are ∙ ap (λ u. made_code (frame_size kind) (place_for e index) (number_for u kind) start ++ rest) tables in
     let here = first_here e index d ds m.stand in
     let numbered : Numbered table kind = subst (λ p. Numbered (table_of p) kind) (sym ib.named) (known.numbered e.block index (kind_stands (variables_of_block e.program e.block) index d here)) in
-    let z = begin_of items in
-    let text = begin_text kind.type items in
-    let n1 = with_text_at (with_number_at n count z) count text in
-    let same : SameValues types n n1 = λ j kind' at'. (let other = not_last count j (place_below types j kind' at') in (other_value (j == count) z (n.numbers j) other, (other_value (j == count) text (n.texts j) other, (refl, refl)))) in
-    let begun : n1.numbers count ≡ z = ap (λ q. cond q z (n.numbers count)) (eq-eqb count count refl) in
-    let written : n1.texts count ≡ text = ap (λ q. cond q text (n.texts count)) (eq-eqb count count refl) in
+    let n1 = begun_values n count kind.type items in
+    let same : SameValues types n n1 = λ j kind' at'. begun_beside n count kind.type items j (not_last count j (place_below types j kind' at')) in
+    let begun : AreBegun n1 count kind.type items = begun_here n count kind.type items in
     let all1 = all_same n1 same all in
     let at1 : (b : Base) → At b i (Known (ib.ground n1) v h t nothing b) (f b) = λ b.
     let q = (at b).holds in
@@ -288,11 +298,9 @@ declares_from {links} {code} {aims} closed around line turns k c meaning (d ∷ 
     let place : i + size_of first + size_of (rest ++ c) ≡ i + size_of (variables_made e line index (d ∷ ds) ++ c) = omega (arith, sum, sized) in
     let last : Unit {0} → Meaning (Unit {0}) = λ u. meaning in
     let next' : Unit {0} → Meaning (Unit {0}) = λ u. K.variables_made around (suc index) ds in
-    let type : kind.type ≡ m.are.0.type = ap (λ u. (declared_kind u).type) m.are.0.is in
-    let begins : AreConstants kind.type items = subst (λ u. AreConstants u items) (sym type) m.are.0.begins in
-    let plain : d ≡ plain_variable kind.type items = m.are.0.is ∙ ap (λ u. plain_variable u items) (sym type) in
-    let array : d ≡ array_variable kind.type kind.bounds items = plain ∙ ap (λ (q : Kind). array_variable kind.type q.bounds items) (sym o.is) in
-    let reads : Begins links code (ib.ground n1) kind items = subst (λ q. Begins links code (ib.ground n1) q items) (sym o.is) ((stand n1).begin kind.type items o.held begins (placed_if start l1 (made_named (frame_size kind) (place_for e index) sig start))) in
+    let begins : AreConstants kind.type items = subst (λ (k' : Kind). AreConstants k'.type items) (plain_kind d m.are.0) m.are.0.begins in
+    let array : d ≡ array_variable kind.type kind.bounds items = typed_plain d kind m.are.0 refl in
+    let reads : Begins links code (ib.ground n1) kind items = (stand n1).begin kind items o.held begins (placed_if start l1 (made_named (frame_size kind) (place_for e index) sig start)) in
     let T : Bool → Type 0 = λ q. Comes code i f v aims (flow_on k (flow_on k (made_or_ended s index k kind items q) next') last) in
     let by_limit : (2 ^ 20 < automatic_in_use s.living + frame_size kind) ⊎ (automatic_in_use s.living + frame_size kind ≤ 2 ^ 20) → T (nat_le (automatic_in_use s.living + frame_size kind) most_automatic) = elim [
       | inl over ↦
@@ -302,7 +310,7 @@ declares_from {links} {code} {aims} closed around line turns k c meaning (d ∷ 
           (past_piece ib o m.own (before_closed k next' (before_closed k last closed)) n1 f table items k old reads numbered all.stored.table some (omega (arith, over, use')) l1 serving at1)))
       | inr within ↦
           subst T (sym (le-leb (automatic_in_use s.living + frame_size kind) (2 ^ 20) within))
-          (onward closed (more_piece ib o m.own i n1 v h t f table items begins reads numbered all.stored.table some (omega (arith, within, use')) begun written l1 at1) (λ f' at'.
+          (onward closed (more_piece ib o m.own i n1 v h t f table items begins reads numbered all.stored.table some (omega (arith, within, use')) begun l1 at1) (λ f' at'.
           declares_from closed around line turns k c meaning ds (more_block ib o (s.serials + 1)) known (next_makes ib d ds m (s.serials + 1)) n1 f' old (λ n'. constants_moved (λ t'. t') (λ t' b m' q. q.0) (stand n')) none (more_outlets ib kind links k v.world.acts aims.jumped ib.outer ib.enclosing outs) (more_homes ib kind links k aims.returned ib.outer ib.enclosing homes) (λ deep owned once. more_exit ib index kind (s.serials + 1) (own deep owned once)) enough (omega (arith, later)) returns does' l2
           (record {
             world = serving.world;
@@ -314,7 +322,7 @@ declares_from {links} {code} {aims} closed around line turns k c meaning (d ∷ 
             nested = nested_same s.activations v.activations (kind_binding kind index (s.serials + 1)) serving.nested;
             waiting = serving.waiting;
           })
-          (more_all e index kind items ((ib.ground n1).frame + (place_for e index + 16)) o.held begins o.is numbered m.new m.fresh serving.nested begun written all1)
+          (more_all e index kind items ((ib.ground n1).frame + (place_for e index + 16)) o.held begins numbered m.new m.fresh serving.nested begun all1)
           at'
           (λ s' v' line' n' h' t' f'' free serving' all' at''.
           subst (λ u. aims.done u f'' v' tt s') (sym place)

@@ -136,9 +136,9 @@ number_taken t = words_by (is_register_left t) t
 
 -- ---- the statement
 
-elements_does : {e : Environment} {block : Names} {types : Types} (bl : Block e block types) (links : Links) (code : List Instr) (routines : Standing bl links code) (around : Around) (j : ℕ) {type : Y.LeafType} (b : Bounds) (bs : List Bounds) (source : Y.Stored) (line due : ℕ) (below : IsArrayAt types j type b bs) → ((v : Services) (s : State) (k : ℕ) (n : Values) → AllHold bl.frames bl.serials (storage v) (e.level ∷ bl.depths) s block types n → Serving k s v line → Stores links code (bl.ground n) v s k due type (λ taken. stored_code e taken source) (V.stored_value (at_line around line) source)) → elements_code e bl.taken (whole (own block j)) source ≡ stored_code e bl.taken source ++ (save a0 bl.taken ++ (record_code e (with_number bl.taken) (whole (own block j)) ++ (record_given e (with_number bl.taken) ++ (number a1 0 ++ (fetch a2 bl.taken ++ service 41))))) → bl.taken.words + due ≤ bl.words → bl.taken.words + 5 ≤ bl.words → line < 2 ^ 31 → Does bl links code around.turns (act_code line ++ elements_code e bl.taken (whole (own block j)) source) (M.statement around (Y.AssignElements (whole (own block j)) source line))
+elements_does : {e : Environment} {block : Names} {types : Types} (bl : Block e block types) (links : Links) (code : List Instr) (routines : Standing bl links code) (around : Around) (j : ℕ) {type : Y.LeafType} (b : Bounds) (bs : List Bounds) (source : Y.Stored) (line due : ℕ) (below : IsArrayAt types j type b bs) → level_of block j ≡ 0 → ((v : Services) (s : State) (k : ℕ) (n : Values) → AllHold bl.frames bl.serials (storage v) (e.level ∷ bl.depths) s block types n → Serving k s v line → Stores links code (bl.ground n) v s k due type (λ taken. stored_code e taken source) (V.stored_value (at_line around line) source)) → elements_code e bl.taken (whole (own block j)) source ≡ stored_code e bl.taken source ++ (save a0 bl.taken ++ (record_code e (with_number bl.taken) (whole (own block j)) ++ (record_given e (with_number bl.taken) ++ (number a1 0 ++ (fetch a2 bl.taken ++ service 41))))) → bl.taken.words + due ≤ bl.words → bl.taken.words + 5 ≤ bl.words → line < 2 ^ 31 → Does bl links code around.turns (act_code line ++ elements_code e bl.taken (whole (own block j)) source) (M.statement around (Y.AssignElements (whole (own block j)) source line))
 unfolding M.statement ◌>>=◌ ◌>>◌
-elements_does {e} {block} {types} bl links code routines around j {type} b bs source line due below stores into room some fits =
+elements_does {e} {block} {types} bl links code routines around j {type} b bs source line due below outermost stores into room some fits =
     record {
       does = λ {i} {s} {v} {h} {t} {aims} closed old n f k l serving all at goal more.
           let front = act_code line in
@@ -152,7 +152,7 @@ elements_does {e} {block} {types} bl links code routines around j {type} b bs so
           let place = place_of_name e block j in
           let base = bl.bases j in
           let on = bl.arrays j type b bs below in
-          let na = bl.array_names j type b bs below in
+          let na = bl.array_names j type b bs below outermost in
           let numbered = array_numbered routines j type (b ∷ bs) on.declared in
           let a = stored_code e taken source in
           let fill = filling taken (with_number taken) (level == e.level) level place num in
@@ -231,7 +231,7 @@ elements_number_does {e} {block} {types} bl links code routines around r p x lin
     let at : IsArrayAt types o.index (Y.FixedLeaf p) o.bound o.bounds = (o.declared, tt) in
     let some = count_some (o.bound ∷ o.bounds) (bl.arrays o.index (Y.FixedLeaf p) o.bound o.bounds at).bounds in
     subst (λ q. Does bl links code around.turns (act_code line ++ elements_code e bl.taken q (Y.StoredNumber p x)) (M.statement around (Y.AssignElements q (Y.StoredNumber p x) line))) (sym o.is)
-    (elements_does bl links code routines around o.index o.bound o.bounds (Y.StoredNumber p x) line (max 1 (number_words x)) at
+    (elements_does bl links code routines around o.index o.bound o.bounds (Y.StoredNumber p x) line (max 1 (number_words x)) at o.outermost
     (λ v s k n all serving. number_stores {e = e} {block = block} {types = types} {held = n} {around = at_line around line} p x ((all.arrays o.index (Y.FixedLeaf p) o.bound o.bounds at).fits 0 some).0 (setting_at bl routines (at_line around line) n all serving) is)
     refl (omega (arith, a, room)) (omega (arith, d, room)) fits)
 
@@ -241,6 +241,6 @@ elements_bit_does {e} {block} {types} bl links code routines around r x line o i
     let d = le-max_right (bit_words x) (4 + (4 + reference_words r)) in
     let at : IsArrayAt types o.index Y.BitLeaf o.bound o.bounds = (o.declared, tt) in
     subst (λ q. Does bl links code around.turns (act_code line ++ elements_code e bl.taken q (Y.StoredBit x)) (M.statement around (Y.AssignElements q (Y.StoredBit x) line))) (sym o.is)
-    (elements_does bl links code routines around o.index o.bound o.bounds (Y.StoredBit x) line (bit_words x) at
+    (elements_does bl links code routines around o.index o.bound o.bounds (Y.StoredBit x) line (bit_words x) at o.outermost
     (λ v s k n all serving. bit_stores {e = e} {block = block} {types = types} {held = n} {around = at_line around line} x (setting_at bl routines (at_line around line) n all serving) is)
     refl (omega (arith, a, room)) (omega (arith, d, room)) fits)

@@ -1,5 +1,5 @@
 -- The code that stores one number in all elements of an array marks no symbols, and has enough instructions for the words that it takes.
-use Rattle.std.proofs.Common.{◌≡◌, ℕ, ◌+◌, ◌≤◌, [], ◌∷◌, ◌++◌, Bool, refl, sym, subst, arith}
+use Rattle.std.proofs.Common.{ℕ, ◌≤◌, [], ◌∷◌, ◌++◌, Bool, refl, sym, subst, arith}
 use Rattle.std.specs.Prelude.{pos, cond, ◌==◌}
 use Rattle.pli_typing.specs.TypedTree as Y
 use Rattle.pli_coding.specs.Registers.{zero_register, frame_register, a0, a1, a2}

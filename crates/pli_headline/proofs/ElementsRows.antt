@@ -76,10 +76,10 @@ element_proved =
     (record { precision = 31; part = inr element }, (counter_proved, tt))
 
 numbers : IsWhole names types (Y.FixedLeaf 31) (variable 0 Y.NoNumber)
-numbers = record { index = 0; bound = three; bounds = []; declared = refl; is = refl }
+numbers = record { index = 0; outermost = refl; bound = three; bounds = []; declared = refl; is = refl }
 
 bits : IsWhole names types Y.BitLeaf (variable 1 Y.NoNumber)
-bits = record { index = 1; bound = around_zero; bounds = two ∷ []; declared = refl; is = refl }
+bits = record { index = 1; outermost = refl; bound = around_zero; bounds = two ∷ []; declared = refl; is = refl }
 
 elements_program : IsProvedSoFar with_elements
 elements_program =
@@ -104,7 +104,6 @@ elements_program =
         );
         jumps = (tt, (((refl, omega arith), (tt, tt)), tt));
         calls = (tt, ((tt, tt), tt));
-        inside = (tt, ((tt, (tt, tt)), tt));
         few = omega arith;
       };
       inner = tt;

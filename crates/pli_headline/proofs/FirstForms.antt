@@ -8,9 +8,10 @@ use Rattle.std.specs.List.{flat_map}
 use Rattle.pli_coding.specs.Environments.{BlockPlace}
 use Rattle.pli_coding.specs.SignatureTable.{signature_of, with_signature, with_signatures}
 use Rattle.pli_coding.specs.Streams.{has_text}
-use Rattle.pli_headline.specs.ProvedSoFar.{IsPlain, ArePlain, AllPlain, Types, types_of, IsOwn, HavePrecisions, IsProvedNumber, IsProvedItem, AreProvedItems, AreProvedPairs, IsProvedStatement, AreProvedStatements, OuterBlock, JumpsAround, AllJumpAround, DeclaresScalars, DeclareScalars, IsProvedSoFar, alone, AreSubscripts, declared_kind, CallsAmong, AllCallAmong, main_names, bytes_in, inner_bytes}
+use Rattle.pli_headline.specs.ProvedSoFar.{IsPlain, ArePlain, AllPlain, Types, types_of, IsOwn, HavePrecisions, IsProvedNumber, IsProvedItem, AreProvedItems, AreProvedPairs, IsProvedStatement, AreProvedStatements, OuterBlock, JumpsAround, AllJumpAround, IsProvedSoFar, alone, AreSubscripts, declared_kind, CallsAmong, AllCallAmong, main_names, bytes_in, inner_bytes}
 use Rattle.pli_headline.proofs.FormatData.{true_false}
 use Rattle.pli_headline.specs.FirstForms.{plain_number, AreNumbers, AllNumbers, IsFirstReference, IsFirstNumber, IsFirstItem, AreFirstItems, AreFirstPairs, IsFirstStatement, AreFirstStatements, IsFirstProgram}
+use Rattle.pli_headline.proofs.PlainInside.{DeclaresPlain, DeclarePlain}
 
 -- ---- declarations
 
@@ -132,17 +133,6 @@ statements_call program block count may (Y.StmtThen labels first rest) h =
     (statement_calls program block count may first h.0, statements_call program block count may rest h.1)
 
 -- and none is a block
-statement_bare : (block count : ℕ) (program : Y.Program) (x : Y.Stmt) → IsFirstStatement block count x → DeclaresScalars program x
-statement_bare block count program (Y.Null line) h = tt
-statement_bare block count program (Y.Assign target (Y.StoredNumber precision x) line) h = tt
-statement_bare block count program (Y.Put None pairs line) h = tt
-statement_bare block count program _ h = absurd h
-
-pub statements_bare : (block count : ℕ) (program : Y.Program) (body : Y.Stmts) → AreFirstStatements block count body → DeclareScalars program body
-statements_bare block count program (Y.EndOfList labels) h = tt
-statements_bare block count program (Y.StmtThen labels first rest) h =
-    (statement_bare block count program first h.0, statements_bare block count program rest h.1)
-
 statement_few : (block count : ℕ) (program : Y.Program) (x : Y.Stmt) → IsFirstStatement block count x → bytes_in program x ≡ 0
 statement_few block count program (Y.Null line) h = refl
 statement_few block count program (Y.Assign target (Y.StoredNumber precision x) line) h = refl
@@ -172,7 +162,6 @@ program_wider program is =
         statements = statements_wider program is.head.number (length (variables_of_block program is.head.number)) (types_of (variables_of_block program is.head.number)) is.body (numbers_typed (variables_of_block program is.head.number) (block_numbers program.variables is.head.number is.plain)) is.block.statements;
         jumps = statements_stay _ _ _ _ _ _ _ _ _ is.body is.block.statements;
         calls = statements_call program _ _ [] is.body is.block.statements;
-        inside = statements_bare _ _ program is.body is.block.statements;
         few = (let none = statements_few _ _ program is.body is.block.statements in omega (arith, none));
       };
       inner = tt;

@@ -154,5 +154,5 @@ pub data_stand : (program : Code) → FitsMemory (picture_of_code program) → 0
 data_stand program fits some =
     record {
       bytes = constant_stands program fits;
-      lists = λ type items element begins placed. kind_reads program fits some type [] items element begins (items_named program items placed);
+      lists = λ k items held begins placed. kind_reads program fits some k.type k.bounds items held begins (items_named program items placed);
     }

@@ -32,7 +32,7 @@ use Rattle.pli_headline.proofs.InnerFrames.{other_level}
 use Rattle.pli_headline.proofs.BeginMeant.{Entering, inner_around, inner_entering}
 use Rattle.pli_headline.proofs.Gotos.{LabelsStand}
 use Rattle.pli_headline.proofs.Marks.{others_code}
-use Rattle.pli_headline.proofs.MainProcedure.{main_procedure, IsAlone, main_environment}
+use Rattle.pli_headline.proofs.MainProcedure.{main_procedure, IsAlone, main_environment, main_plain}
 use Rattle.pli_headline.proofs.CallMeant.{plain_procedure}
 use Rattle.pli_headline.proofs.Entered.{Frames}
 use Rattle.pli_headline.proofs.Declares.{made_block}
@@ -47,6 +47,7 @@ use Rattle.pli_headline.proofs.Narrowing.{narrows_self, narrows_in}
 use Rattle.pli_headline.proofs.ProvedStatements.{Calls, Signals, body_does}
 use Rattle.pli_headline.proofs.UnitStanding.{Tells}
 use Rattle.pli_headline.proofs.InnerUnits.{Done, fewer_signals, signals_with}
+use Rattle.pli_headline.proofs.PlainInside.{declare_plain}
 
 -- ---- the statements of a procedure that is called
 
@@ -91,7 +92,7 @@ called_does {program} {block} {all} {called} q can {links} {code} {o} {number} {
     let standing' : Standing mb links code = record {
       raises = standing.raises;
       constants = made_constants vars cb m serial (λ n. constants_moved (λ t. t0) (λ t b m' held. held.kept.0) (standing.constants n));
-      filled = called_filled bl callee head next block mains has standing.known q.declares (omega (arith, few)) makes back h0 t0 serial;
+      filled = called_filled bl callee head next block mains has standing.known (main_plain program q.head.number standing.known.plain) (omega (arith, few)) makes back h0 t0 serial;
       known = known_in (procedure_owner head) head.number head.level standing.known;
     } in
     let jumps : AllJumpAround head.number head.level all blocks main' mb.outer (labels_in body ++ mb.labels) body =
@@ -101,7 +102,7 @@ called_does {program} {block} {all} {called} q can {links} {code} {o} {number} {
     subst (λ tk. Does mb links code (suc bound) (stmts_code (procedure_environment head e) tk body) (M.list (inner_around program bound head.line) body)) made.taken
     (body_does mb links code standing' (inner_around program bound head.line) refl {small = true} {taken = 0} {bound = bound}
     (labels_called head next named (known (place_of_head head) (inl refl))) body q.statements jumps (omega (arith, most', words, w, ap (λ (tk : Taken). tk.words) made.taken))
-    ((omega (arith, place, words, low, space, deeper, free, depths, few), omega (arith, few)), omega (arith, deeper, depths)) q.inside
+    ((omega (arith, place, words, low, space, deeper, free, depths, few), omega (arith, few)), omega (arith, deeper, depths)) (declare_plain program body standing.known.plain)
     (inner_entering program bound head.line) (omega arith) (λ b h. known b (inr h)) can.calls
     (record {
       narrows = narrows_in head vars (omega (arith, next)) (narrows_self outer outers (λ j kind at. refl));
@@ -125,12 +126,12 @@ one_does program block line body alone {all} {called} {procedure} q can {links} 
     let small' = can.few in
     let low : words ≤ 800 = most 0 (stmts_words q.body) 800 (omega arith) (omega (arith, small')) in
     let callee : Callee bl = record { words = words; at = bl.stack.free + temporary_bytes words; place = refl; room = omega (arith, low, space, deep); outer = λ j kind at. refl } in
-    let makes = called_makes bl callee head q.level block (main_labels program.procedures) has standing.known q.declares (omega (arith, small', low, space, deep)) (omega (arith, small')) in
+    let makes = called_makes bl callee head q.level block (main_labels program.procedures) has standing.known (main_plain program q.head.number standing.known.plain) (omega (arith, small', low, space, deep)) (omega (arith, small')) in
     let stands : StandsAt links code e head words q.body = record {
       entry = at;
       placed = l.has.0 (eq-eqb head.number head.number refl) once;
       behind = later;
-      linked = subst (Linked links code at) (called_code_is e head q.body q.level q.declares) l;
+      linked = subst (Linked links code at) (called_code_is e head q.body q.level (main_plain program q.head.number standing.known.plain)) l;
     } in
     let whole : procedure_numbered head.number program.procedures ≡ Some (plain_procedure head q.body) = ap (procedure_numbered head.number) alone.are ∙ ap (λ t. cond t (Some (main_procedure block line body)) (procedure_numbered head.number alone.others)) q.apart ∙ found in
     own_call_does bl links code around more head q.body callee stands (words_place bl.taken.words 0) line' q.level block (main_labels program.procedures) has can.kind can.line (known_in (procedure_owner head) head.number head.level standing.known) makes (λ back h0 t0 n. constants_moved (λ t. t0) (λ t b m' held. held.kept.0) (standing.constants n)) same entering whole

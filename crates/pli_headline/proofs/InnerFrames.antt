@@ -422,8 +422,8 @@ inner_block {e} {block} {types} bl inner t0 number level next filled =
       };
       arrays = λ j type b bs at. inner_array bl inner t0 number level (inner.at + fixed_size (suc e.level) 0) (omega arith) (bl.arrays j type b bs at);
       text_arrays = λ j varying most b bs at. inner_text_array bl inner t0 number level (inner.at + fixed_size (suc e.level) 0) (omega arith) (bl.text_arrays j varying most b bs at);
-      array_names = λ j type b bs at.
-          let on = bl.array_names j type b bs at in
+      array_names = λ j type b bs at outermost.
+          let on = bl.array_names j type b bs at outermost in
           record { living = on.living; lives = on.lives; signature = on.signature; at = on.at; aligned = on.aligned; high = on.high; room = on.room; own = λ n t b' m o. on.own n t0 b' m o.kept; names = λ n t b' m o. on.names n t0 b' m o.kept };
       outer = record { level = e.level; number = e.block; labels = bl.labels } ∷ bl.outer;
       enclosing = (inner_own bl inner t0 number level next filled, inner_outers bl inner t0 number level next bl.outer bl.enclosing);

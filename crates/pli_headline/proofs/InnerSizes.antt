@@ -14,7 +14,7 @@ use Rattle.pli_coding.specs.Storing.{word_stored, stored_into}
 use Rattle.pli_coding.specs.Allocating.{act_code}
 use Rattle.pli_headline.specs.InnerWords.{inner_words, all_inner_words}
 use Rattle.pli_coding.specs.Temporaries.{number_words, bit_words, reference_words}
-use Rattle.pli_headline.specs.ProvedSoFar.{DeclaresScalars, DeclareScalars, Names, Types, ArePlain, IsProvedStatement, AreProvedStatements, IsProvedBitIf, names_in, types_in}
+use Rattle.pli_headline.specs.ProvedSoFar.{Names, Types, ArePlain, IsProvedStatement, AreProvedStatements, IsProvedBitIf, names_in, types_in}
 use Rattle.pli_coding.specs.Procedures.{procedure_begun, procedure_ended, procedure_in}
 use Rattle.pli_headline.proofs.Linking.{size_append}
 use Rattle.pli_coding.specs.Entries.{frame_begun, frame_ended, block_left, entered_without_texts, variables_code}
@@ -23,6 +23,7 @@ use Rattle.pli_headline.proofs.Variables.{HasTypes}
 use Rattle.pli_headline.proofs.DeclaredNames.{named_in, has_in}
 use Rattle.pli_headline.proofs.Sizes.{most, number_size, bit_size, text_size, act_size, met_size', once_size, limit_words_size, condition_words_size, statement_size, no_variable_words, target_size, start_words_size, text_target_size}
 use Rattle.pli_coding.specs.Streams.{value_words}
+use Rattle.pli_headline.proofs.PlainInside.{DeclaresPlain, DeclarePlain}
 
 most_more : (a b d n : ℕ) → a + d ≤ n → b + d ≤ n → max a b + d ≤ n
 most_more a b d n h i = grind (arith, nat_tests)
@@ -45,7 +46,7 @@ once_both e t block types (Some x) line c is =
 
 mutual
   -- the words of blocks inside alone
-  inside_size : (e : Environment) (t : Taken) (block : Names) (types : Types) (named : block.program ≡ e.program) (has : HasTypes e block types) (x : Y.Stmt) → IsProvedStatement block types x → DeclaresScalars e.program x → inner_words x ≤ size_of (stmt_code e t x)
+  inside_size : (e : Environment) (t : Taken) (block : Names) (types : Types) (named : block.program ≡ e.program) (has : HasTypes e block types) (x : Y.Stmt) → IsProvedStatement block types x → DeclaresPlain e.program x → inner_words x ≤ size_of (stmt_code e t x)
   inside_size e t block types named has (Y.Null line) is bare = omega arith
   inside_size e t block types named has (Y.Assign target (Y.StoredNumber precision x) line) is bare = omega arith
   inside_size e t block types named has (Y.Assign target (Y.StoredBit x) line) is bare = omega arith
@@ -165,7 +166,7 @@ mutual
   inside_size e t block types named has (Y.Get (Some n) pairs line) is bare = omega arith
   inside_size e t block types named has _ is bare = absurd is
 
-  all_inside_size : (e : Environment) (t : Taken) (block : Names) (types : Types) (named : block.program ≡ e.program) (has : HasTypes e block types) (body : Y.Stmts) → AreProvedStatements block types body → DeclareScalars e.program body → all_inner_words body ≤ size_of (stmts_code e t body)
+  all_inside_size : (e : Environment) (t : Taken) (block : Names) (types : Types) (named : block.program ≡ e.program) (has : HasTypes e block types) (body : Y.Stmts) → AreProvedStatements block types body → DeclarePlain e.program body → all_inner_words body ≤ size_of (stmts_code e t body)
   all_inside_size e t block types named has (Y.EndOfList labels) are bare = omega arith
   all_inside_size e t block types named has (Y.StmtThen labels first rest) are bare =
       let a = inside_size e t block types named has first are.0 bare.0 in
@@ -175,7 +176,7 @@ mutual
       most _ _ _ (omega (arith, a, s1, s2)) (omega (arith, c, s1, s2))
 
   -- with those of the statements around it
-  statement_inner : (e : Environment) (t : Taken) (block : Names) (types : Types) (named : block.program ≡ e.program) (has : HasTypes e block types) (x : Y.Stmt) → IsProvedStatement block types x → DeclaresScalars e.program x → stmt_words x + inner_words x ≤ size_of (stmt_code e t x) + 1
+  statement_inner : (e : Environment) (t : Taken) (block : Names) (types : Types) (named : block.program ≡ e.program) (has : HasTypes e block types) (x : Y.Stmt) → IsProvedStatement block types x → DeclaresPlain e.program x → stmt_words x + inner_words x ≤ size_of (stmt_code e t x) + 1
   statement_inner e t block types named has (Y.Null line) is bare = let m = statement_size e t block types has (Y.Null line) is in omega (arith, m)
   statement_inner e t block types named has (Y.Assign target (Y.StoredNumber precision x) line) is bare =
       let m = statement_size e t block types has (Y.Assign target (Y.StoredNumber precision x) line) is in omega (arith, m)
@@ -354,7 +355,7 @@ mutual
       let m = statement_size e t block types has (Y.Get (Some n) pairs line) is in omega (arith, m)
   statement_inner e t block types named has _ is bare = absurd is
 
-  statements_inner : (e : Environment) (t : Taken) (block : Names) (types : Types) (named : block.program ≡ e.program) (has : HasTypes e block types) (body : Y.Stmts) → AreProvedStatements block types body → DeclareScalars e.program body → stmts_words body + all_inner_words body ≤ size_of (stmts_code e t body) + 1
+  statements_inner : (e : Environment) (t : Taken) (block : Names) (types : Types) (named : block.program ≡ e.program) (has : HasTypes e block types) (body : Y.Stmts) → AreProvedStatements block types body → DeclarePlain e.program body → stmts_words body + all_inner_words body ≤ size_of (stmts_code e t body) + 1
   statements_inner e t block types named has (Y.EndOfList labels) are bare = omega arith
   statements_inner e t block types named has (Y.StmtThen labels first rest) are bare =
       let a = statement_inner e t block types named has first are.0 bare.0 in
@@ -366,7 +367,7 @@ mutual
       both_most _ _ _ _ _ (omega (arith, a, s1, s2)) (omega (arith, c, s1, s2)) (omega (arith, a, c', s1, s2)) (omega (arith, a', c, s1, s2))
 
 -- they are fewer than the words of the procedure's code
-pub procedure_inner : (e : Environment) (head : Y.BlockHead) (block : Names) (types : Types) (body : Y.Stmts) → block.program ≡ e.program → HasTypes e block types → ArePlain (variables_of_block e.program head.number) → AreProvedStatements block types body → DeclareScalars e.program body → block_words e head.number (stmts_words body) + all_inner_words body ≤ size_of (procedure_in e head body [] None)
+pub procedure_inner : (e : Environment) (head : Y.BlockHead) (block : Names) (types : Types) (body : Y.Stmts) → block.program ≡ e.program → HasTypes e block types → ArePlain (variables_of_block e.program head.number) → AreProvedStatements block types body → DeclarePlain e.program body → block_words e head.number (stmts_words body) + all_inner_words body ≤ size_of (procedure_in e head body [] None)
 procedure_inner e head block types body named has plain are bare =
     let words = block_words e head.number (stmts_words body) in
     let begun = procedure_begun e head words [] in

@@ -22,7 +22,7 @@ use Rattle.pli_coding.specs.Procedures.{procedure_begun, procedure_ended, proced
 use Rattle.pli_coding.specs.Images.{blocks_among, blocks_of_procedure, with_blocks, blocks_of, environment_of, raise_code, code_of}
 use Rattle.pli_coding.specs.Linking.{links_of}
 use Rattle.pli_headline.specs.Headline.{parts}
-use Rattle.pli_headline.specs.ProvedSoFar.{plain_variable, ArePlain, AllPlain, types_of, AreProvedStatements, DeclareScalars, all_labels, array_variable, AllJumpAround, main_outer, number_times, AreInner, procedure_labels, times, is_number, AllCallAmong, main_names}
+use Rattle.pli_headline.specs.ProvedSoFar.{plain_variable, ArePlain, AllPlain, types_of, AreProvedStatements, all_labels, array_variable, AllJumpAround, main_outer, number_times, AreInner, procedure_labels, times, is_number, AllCallAmong, main_names}
 use Rattle.pli_headline.proofs.Linking.{times_marked}
 use Rattle.pli_headline.proofs.FirstFrame.{start_of}
 use Rattle.pli_headline.proofs.Marks.{others_code, code_is}
@@ -38,6 +38,7 @@ use Rattle.pli_headline.proofs.StatementMarks.{places_of, statements_mark}
 use Rattle.pli_headline.proofs.ProcedurePlaces.{entry_behind, entry_times, ends_behind, ends_times}
 use Rattle.pli_headline.proofs.ProcedureMarks.{ended_marks, procedure_symbols, procedures_mark, symbol_times, times_are, labels_before, procedure_times, end_times, others_end}
 use Rattle.pli_headline.proofs.ArrayFrames.{held_constant}
+use Rattle.pli_headline.proofs.PlainInside.{DeclarePlain}
 
 -- ---- the procedure
 
@@ -96,7 +97,7 @@ program_symbols block labels others =
     ∷ ProcedureEntry block
     ∷ ((places_of labels ++ ReturnPlace block ∷ []) ++ procedure_symbols others)
 
-program_marks : (program : Y.Program) (block line : ℕ) (body : Y.Stmts) → AllPlain program.variables → (all : List (ℕ × Label)) (called : List ℕ) (alone : IsAlone program block line body) → AreProvedStatements (main_names program block) (types_of (variables_of_block program block)) body → DeclareScalars program body → AreInner program block all called alone.others → Marks (code_of parts program) (program_symbols block (all_stands block body) alone.others)
+program_marks : (program : Y.Program) (block line : ℕ) (body : Y.Stmts) → AllPlain program.variables → (all : List (ℕ × Label)) (called : List ℕ) (alone : IsAlone program block line body) → AreProvedStatements (main_names program block) (types_of (variables_of_block program block)) body → DeclarePlain program body → AreInner program block all called alone.others → Marks (code_of parts program) (program_symbols block (all_stands block body) alone.others)
 program_marks program block line body plain all called alone are bare others =
     let e = main_environment program block in
     let words = block_words e block (stmts_words body) in
@@ -114,7 +115,7 @@ program_marks program block line body plain all called alone are bare others =
     ∙ behind (start_of block) (raise_code ++ (main ++ rest)) (program_symbols block (all_stands block body) alone.others) refl
     (both_mark raise_code (main ++ rest) (RaiseCondition ∷ RaiseError ∷ ErrorEnd ∷ []) (ProcedureEntry block ∷ (ss ++ procedure_symbols alone.others)) refl
     (both_mark main rest (ProcedureEntry block ∷ ss) (procedure_symbols alone.others) (ap (λ us. ProcedureEntry block ∷ us) inside)
-    (procedures_mark (environment_of parts program) block all called alone.others has others)))
+    (procedures_mark (environment_of parts program) block all called alone.others plain has others)))
 
 -- ---- its blocks
 
@@ -179,7 +180,7 @@ bare_sized program block line body all called alone inner number level none =
 
 -- ---- the labels
 
-pub labels_stand : (program : Y.Program) (block line : ℕ) (body : Y.Stmts) (called : List ℕ) → AllPlain program.variables → (alone : IsAlone program block line body) → AreProvedStatements (main_names program block) (types_of (variables_of_block program block)) body → DeclareScalars program body → AllJumpAround block 0 (all_labels block body ++ procedure_labels alone.others) (blocks_of program.procedures) (main_outer block program.procedures) [] (labels_in body) body → AreInner program block (all_labels block body ++ procedure_labels alone.others) called alone.others → LabelsStand (main_environment program block) (links_of (code_of parts program)) (all_labels block body ++ procedure_labels alone.others) block true
+pub labels_stand : (program : Y.Program) (block line : ℕ) (body : Y.Stmts) (called : List ℕ) → AllPlain program.variables → (alone : IsAlone program block line body) → AreProvedStatements (main_names program block) (types_of (variables_of_block program block)) body → DeclarePlain program body → AllJumpAround block 0 (all_labels block body ++ procedure_labels alone.others) (blocks_of program.procedures) (main_outer block program.procedures) [] (labels_in body) body → AreInner program block (all_labels block body ++ procedure_labels alone.others) called alone.others → LabelsStand (main_environment program block) (links_of (code_of parts program)) (all_labels block body ++ procedure_labels alone.others) block true
 labels_stand program block line body called plain alone are bare jumps inner =
     record {
       own = own_block program block line body alone;
@@ -202,7 +203,7 @@ labels_stand program block line body called plain alone are bare jumps inner =
     }
 
 -- the entry of a procedure inside it is marked once
-pub entry_stands : (program : Y.Program) (block line : ℕ) (body : Y.Stmts) (called : List ℕ) → AllPlain program.variables → (alone : IsAlone program block line body) → AreProvedStatements (main_names program block) (types_of (variables_of_block program block)) body → DeclareScalars program body → AreInner program block (all_labels block body ++ procedure_labels alone.others) called alone.others → (number : ℕ) → (number == block) ≡ false → number_times number alone.others ≡ 1 → times_marked (ProcedureEntry number) (links_of (code_of parts program)).marks ≡ 1
+pub entry_stands : (program : Y.Program) (block line : ℕ) (body : Y.Stmts) (called : List ℕ) → AllPlain program.variables → (alone : IsAlone program block line body) → AreProvedStatements (main_names program block) (types_of (variables_of_block program block)) body → DeclarePlain program body → AreInner program block (all_labels block body ++ procedure_labels alone.others) called alone.others → (number : ℕ) → (number == block) ≡ false → number_times number alone.others ≡ 1 → times_marked (ProcedureEntry number) (links_of (code_of parts program)).marks ≡ 1
 entry_stands program block line body called plain alone are bare inner number apart once =
     let rest = symbol_times (ProcedureEntry number) ((places_of (all_stands block body) ++ ReturnPlace block ∷ []) ++ procedure_symbols alone.others) in
     times_are (ProcedureEntry number) 0 (code_of parts program)
@@ -213,7 +214,7 @@ entry_stands program block line body called plain alone are bare inner number ap
     ∙ once
 
 -- and its end
-pub end_stands : (program : Y.Program) (block line : ℕ) (body : Y.Stmts) (called : List ℕ) → AllPlain program.variables → (alone : IsAlone program block line body) → AreProvedStatements (main_names program block) (types_of (variables_of_block program block)) body → AllJumpAround block 0 (all_labels block body ++ procedure_labels alone.others) (blocks_of program.procedures) (main_outer block program.procedures) [] (labels_in body) body → DeclareScalars program body → AreInner program block (all_labels block body ++ procedure_labels alone.others) called alone.others → (number : ℕ) → (number == block) ≡ false → number_times number alone.others ≡ 1 → is_number number called ≡ true → AllCallAmong program called true 0 body → times_marked (ReturnPlace number) (links_of (code_of parts program)).marks ≡ 1
+pub end_stands : (program : Y.Program) (block line : ℕ) (body : Y.Stmts) (called : List ℕ) → AllPlain program.variables → (alone : IsAlone program block line body) → AreProvedStatements (main_names program block) (types_of (variables_of_block program block)) body → AllJumpAround block 0 (all_labels block body ++ procedure_labels alone.others) (blocks_of program.procedures) (main_outer block program.procedures) [] (labels_in body) body → DeclarePlain program body → AreInner program block (all_labels block body ++ procedure_labels alone.others) called alone.others → (number : ℕ) → (number == block) ≡ false → number_times number alone.others ≡ 1 → is_number number called ≡ true → AllCallAmong program called true 0 body → times_marked (ReturnPlace number) (links_of (code_of parts program)).marks ≡ 1
 end_stands program block line body called plain alone are jumps bare inner number apart once among calls =
     let rest = symbol_times (ReturnPlace number) (procedure_symbols alone.others) in
     times_are (ReturnPlace number) 0 (code_of parts program)

@@ -103,6 +103,9 @@ pub mod Statements
 pub mod MoreNames
 pub mod MoreStates
 pub mod OneMore
+pub mod MorePlaces
+pub mod MoreArrays
+pub mod BegunValues
 pub mod MoreServed
 pub mod Declares
 pub mod NamesStand
@@ -190,6 +193,7 @@ pub mod InitialRead
 pub mod Sizes
 pub mod InnerSizes
 pub mod MainProcedure
+pub mod PlainInside
 pub mod ArraySignatures
 pub mod ArrayInitial
 pub mod ArrayRead
@@ -230,6 +234,7 @@ mod Rows
 mod DeclaredRows
 mod CallingRows
 mod UnitRows
+mod BlockArrayRows
 mod TextArrayRows
 mod ElementsRows
 pub mod FirstPathDeclared

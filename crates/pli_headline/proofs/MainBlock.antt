@@ -54,11 +54,11 @@ pub text_few : (varying : Bool) (most : ℕ) → IsScalar (text_leaf varying mos
 text_few false most is = is.1
 text_few true most is = is.1
 
-text_some : (varying : Bool) (most : ℕ) → IsScalar (text_leaf varying most) → 1 ≤ most
+pub text_some : (varying : Bool) (most : ℕ) → IsScalar (text_leaf varying most) → 1 ≤ most
 text_some false most is = is.0
 text_some true most is = is.0
 
-text_data : (varying : Bool) (most : ℕ) → scalar_data_size (text_leaf varying most) ≡ text_stride varying most
+pub text_data : (varying : Bool) (most : ℕ) → scalar_data_size (text_leaf varying most) ≡ text_stride varying most
 text_data false most = refl
 text_data true most = refl
 
@@ -172,7 +172,7 @@ abbrev pub main_serials : (served : ℕ → Option S.Living) → Serials
 main_serials served = record { of = λ j. suc j; owner = λ j. 1; first = served }
 
 abbrev main_named : {served : ℕ → Option S.Living} (f : Frame) (first : List ℕ) (e : Environment) (block : Names) (types : Types) → ((j : ℕ) (kind : Kind) → slice_get types j ≡ Some kind → j < f.count) → ((j : ℕ) → j < f.count → data_place e block j ≡ number_place f.sizes j) → VariablesFit f e.program served types → ArraysNamed e block types (λ j. f.at) (λ n. ground_of f first (contents (kind_at types) n)) (main_serials served)
-main_named f first e block types inside placed fit j type b bs at =
+main_named f first e block types inside placed fit j type b bs at outermost =
     let kind : Kind = record { type = type; bounds = b ∷ bs } in
     let here = inside j kind at.0 in
     let stands = placed j here in

@@ -1,4 +1,4 @@
--- The names of a block with one more scalar, and its serial numbers.
+-- The names of a block with one more variable, and its serial numbers.
 use Rattle.std.proofs.Common.{ℕ, length}
 use Rattle.std.specs.Prelude.{cond, nat_lt}
 use Rattle.pli_coding.specs.Environments.{Environment}

@@ -1,4 +1,4 @@
--- One more scalar is made by service 7, or passes the limit on automatic data.
+-- One more variable is made by service 7, or passes the limit on automatic data.
 use Rattle.std.proofs.Common.{◌≡◌, ℕ, ◌+◌, ◌-◌, ◌*◌, ◌^◌, ◌<◌, ◌≤◌, List, [], ◌∷◌, length, map, Option, Some, None, true, false, refl, sym, ap, ◌∙◌, subst, arith, lit<, add-one}
 use Rattle.std.specs.Prelude.{pos, cond, min, ◌==◌, nat_lt, nat_le}
 use Rattle.std.proofs.lemmas.Bool.{lt-ltb, le-ltb, le-leb}
@@ -32,7 +32,7 @@ use Rattle.pli_coding.specs.Environments.{Environment}
 use Rattle.pli_coding.specs.Frames.{last_place, automatic_place}
 use Rattle.pli_coding.specs.Linking.{Links}
 use Rattle.image_runs.specs.Runs.{Whole}
-use Rattle.pli_headline.specs.ProvedSoFar.{Names, Kind, Types, alone, IsScalar, AreConstants}
+use Rattle.pli_headline.specs.ProvedSoFar.{Names, Kind, Types, AreConstants, IsHeld}
 use Rattle.pli_headline.proofs.Unlimited as U
 use Rattle.pli_headline.proofs.Engine.{Base, address, call_at}
 use Rattle.pli_headline.proofs.Items.{Linked, At}
@@ -42,20 +42,22 @@ use Rattle.pli_headline.proofs.Jumps.{first_of}
 use Rattle.pli_headline.proofs.Temporaries.{nothing}
 use Rattle.pli_headline.proofs.Calls.{comes_finish, called, Calling, call_done, end_pauses, call_ends, acts, Serving}
 use Rattle.pli_headline.proofs.Reach.{Family, Reach, Aims, Comes, Closed, cost, onward, reach_then, reach_map, reached, reached_holds}
-use Rattle.pli_headline.proofs.Scalars.{Values, begin_of, begin_text}
-use Rattle.pli_headline.proofs.Holdings.{There, content_of}
+use Rattle.pli_headline.proofs.Scalars.{Values, begin_of, begin_text, begin_texts}
+use Rattle.pli_headline.proofs.Holdings.{There, Content, content_for}
 use Rattle.pli_headline.proofs.WrittenBytes.{length-with_bytes}
-use Rattle.pli_headline.proofs.VariablePlaces.{data_size, data_fits, frame_size, frame_wide, scalar_data_fits}
+use Rattle.pli_headline.proofs.VariablePlaces.{data_size, data_fits, frame_size, frame_wide}
 use Rattle.pli_headline.proofs.PlainNumbers.{number_for, Numbered, numbered_shape}
 use Rattle.pli_headline.proofs.MainStates.{scalar_print, kind_shape}
 use Rattle.pli_headline.proofs.InitialRead.{start_datum, start_of}
 use Rattle.pli_headline.proofs.StandingBytes.{Begins}
-use Rattle.pli_headline.proofs.VariableServed.{past_limit, data_by, data_of, scalar_made, alone_length, made_content}
+use Rattle.pli_headline.proofs.VariableServed.{past_limit, data_of, scalar_made, data_length, made_kind}
 use Rattle.pli_headline.proofs.NamesMade.{made_code, asked_regs, asked_size, made_size, call_linked, rest_linked, ground_asked}
 use Rattle.pli_headline.proofs.JumpsOut.{stack_piece}
 use Rattle.pli_headline.proofs.Statements.{Block, lower_ground}
-use Rattle.pli_headline.proofs.OneMore.{More, more_ground}
+use Rattle.pli_headline.proofs.MorePlaces.{More, more_ground}
 use Rattle.pli_headline.proofs.MoreStates.{fresh_kind}
+use Rattle.pli_headline.proofs.BegunValues.{AreBegun}
+use Rattle.pli_headline.proofs.ArrayInitial.{numbers_of}
 
 -- ---- the service
 
@@ -95,27 +97,24 @@ make_ends code v m table k items name place start c signs numbered some over all
     ∙ ap (λ q. cond q ends more) (lt-ltb most_automatic (G.automatic_in_use v.signatures v.living + footprint_of (fresh_kind k items)) (omega (arith, over, print)))
     ∙ acts v c (Ends (past_limit v)) allowed fits
 
-abbrev pub scalar_begun : Kind → List T.InitialItem → List ℕ
-scalar_begun k items = data_by k.type (begin_of items) (begin_text k.type items)
-
-begun_data : (k : Kind) (items : List T.InitialItem) → k ≡ alone k.type → data_of (record { kind = k; initial = items }) ≡ scalar_begun k items
-begun_data k items is = ap (λ q. data_of (record { kind = q; initial = items })) is
+-- the bytes with which it begins
+abbrev pub begun_of : Kind → List T.InitialItem → List ℕ
+begun_of k items = data_of (record { kind = k; initial = items })
 
 -- they fit what the frame has for them
-begun_fits : (k : Kind) (items : List T.InitialItem) → IsScalar k.type → k ≡ alone k.type → 16 + length (scalar_begun k items) ≤ frame_size k
-begun_fits k items scalar is =
-    let long = alone_length k.type (begin_of items) (begin_text k.type items) scalar in
-    let fits = scalar_data_fits k.type scalar in
-    let same = ap frame_size is in
-    omega (arith, long, fits, same)
+begun_fits : (k : Kind) (items : List T.InitialItem) → IsHeld k.type k.bounds → 16 + length (begun_of k items) ≤ frame_size k
+begun_fits k items held =
+    let long = data_length (record { kind = k; initial = items }) held in
+    let fits = data_fits k held in
+    omega (arith, long, fits)
 
--- the memory with the scalar and its name
+-- the memory with the variable and its name
 abbrev pub more_made : List ℕ → (name place serial : ℕ) → Kind → List T.InitialItem → List ℕ
 more_made m name place serial k items =
-    with_bytes (name_bytes (VariableName serial)) name (with_bytes (scalar_begun k items) place m)
+    with_bytes (name_bytes (VariableName serial)) name (with_bytes (begun_of k items) place m)
 
-make_made : (code : List Instr) (v : Services) (m : List ℕ) (table : List TableSignature) (k : Kind) (items : List T.InitialItem) (name place start : ℕ) → AreConstants k.type items → k ≡ alone k.type → v.signatures ≡ map template_of table → Numbered table k → 0 < length v.activations → G.automatic_in_use v.signatures v.living + frame_size k ≤ 2 ^ 20 → 4 * length code ≤ name → name + 16 ≤ place → place + frame_size k ≤ memory_size + 16 → ReadsAt code v m k items start → U.make_served (call_at code v m) name (number_for table k) start place 0 ≡ Done (more_services v (number_for table k) place) (more_made m name place (v.serials + 1) k items) name (number_for table k)
-make_made code v m table k items name place start begins is signs numbered some few low behind inside read =
+make_made : (code : List Instr) (v : Services) (m : List ℕ) (table : List TableSignature) (k : Kind) (items : List T.InitialItem) (name place start : ℕ) → AreConstants k.type items → v.signatures ≡ map template_of table → Numbered table k → 0 < length v.activations → G.automatic_in_use v.signatures v.living + frame_size k ≤ 2 ^ 20 → 4 * length code ≤ name → name + 16 ≤ place → place + frame_size k ≤ memory_size + 16 → ReadsAt code v m k items start → U.make_served (call_at code v m) name (number_for table k) start place 0 ≡ Done (more_services v (number_for table k) place) (more_made m name place (v.serials + 1) k items) name (number_for table k)
+make_made code v m table k items name place start begins signs numbered some few low behind inside read =
     let call = call_at code v m in
     let n = number_for table k in
     let high = length v.activations in
@@ -133,30 +132,32 @@ make_made code v m table k items name place start begins is signs numbered some 
     ∙ ap (λ q. cond q ends more) (le-ltb most_automatic (G.automatic_in_use v.signatures v.living + footprint_of (fresh_kind k items)) (omega (arith, few, print)))
     ∙ scalar_made call name n place high (v.serials + 1) (record { kind = k; initial = items }) numbered.held begins
     ∙ rw (t2, t3, t4, t5) refl
-    ∙ ap (λ bytes. Done (more_services v n place) (with_bytes (name_bytes (VariableName (v.serials + 1))) name (with_bytes bytes place m)) name n) (begun_data k items is)
 
 -- ---- what stands then
 
-more_length : (m : List ℕ) (name place serial : ℕ) (k : Kind) (items : List T.InitialItem) → name + 16 ≤ place → place + length (scalar_begun k items) ≤ length m → length (more_made m name place serial k items) ≡ length m
+more_length : (m : List ℕ) (name place serial : ℕ) (k : Kind) (items : List T.InitialItem) → name + 16 ≤ place → place + length (begun_of k items) ≤ length m → length (more_made m name place serial k items) ≡ length m
 more_length m name place serial k items behind inside =
-    let one = length-with_bytes (scalar_begun k items) m place inside in
-    length-with_bytes (name_bytes (VariableName serial)) (with_bytes (scalar_begun k items) place m) name (omega (arith, one, behind, inside)) ∙ one
+    let one = length-with_bytes (begun_of k items) m place inside in
+    length-with_bytes (name_bytes (VariableName serial)) (with_bytes (begun_of k items) place m) name (omega (arith, one, behind, inside)) ∙ one
 
 -- behind a name, wherever that stands
-begun_there : (k : Kind) (items : List T.InitialItem) (m : List ℕ) (at serials : ℕ) → IsScalar k.type → AreConstants k.type items → at + 200 + length (scalar_begun k items) ≤ length m → There (more_made m (at + 144) (at + 160) (serials + 1) k items) (at + 160) (content_of k.type (begin_of items) (begin_text k.type items))
-begun_there k items m at serials scalar begins room =
+abbrev begun_content : Kind → List T.InitialItem → Content
+begun_content k items = content_for k (begin_of items) (begin_text k.type items) (numbers_of items) (begin_texts k.type items)
+
+begun_there : (k : Kind) (items : List T.InitialItem) (m : List ℕ) (at serials : ℕ) → IsHeld k.type k.bounds → AreConstants k.type items → at + 200 + length (begun_of k items) ≤ length m → There (more_made m (at + 144) (at + 160) (serials + 1) k items) (at + 160) (begun_content k items)
+begun_there k items m at serials held begins room =
     let a : at + (144 + 0) ≡ at + 144 = omega arith in
     let b : at + (144 + 0 + 16) ≡ at + 160 = omega arith in
     let c : at + (160 + 0) ≡ at + 160 = omega arith in
-    let content = content_of k.type (begin_of items) (begin_text k.type items) in
+    let content = begun_content k items in
     subst (λ p. There (more_made m (at + 144) (at + 160) (serials + 1) k items) p content) c
-    (subst (λ p. There (with_bytes (name_bytes (VariableName (serials + 1))) (at + 144) (with_bytes (scalar_begun k items) p m)) (at + (160 + 0)) content) b
-    (subst (λ p. There (with_bytes (name_bytes (VariableName (serials + 1))) p (with_bytes (scalar_begun k items) (at + (144 + 0 + 16)) m)) (at + (160 + 0)) content) a
-    (made_content m at 0 serials k.type items scalar begins (omega (arith, room)))))
+    (subst (λ p. There (with_bytes (name_bytes (VariableName (serials + 1))) (at + 144) (with_bytes (begun_of k items) p m)) (at + (160 + 0)) content) b
+    (subst (λ p. There (with_bytes (name_bytes (VariableName (serials + 1))) p (with_bytes (begun_of k items) (at + (144 + 0 + 16)) m)) (at + (160 + 0)) content) a
+    (made_kind m at 0 serials k.type k.bounds items held begins (omega (arith, room)))))
 
-more_stands : {e : Environment} {block : Names} {types : Types} (ib : Block e block types) (k : Kind) (items : List T.InitialItem) (n : Values) → IsScalar k.type → AreConstants k.type items → n.numbers (length types) ≡ begin_of items → n.texts (length types) ≡ begin_text k.type items → (t : ℕ → ℕ) (b : Base) (m : List ℕ) (name place serials : ℕ) → name ≡ ib.stack.free → place ≡ ib.stack.free + 16 → place + length (scalar_begun k items) + 40 ≤ length m → (ib.ground n).memory t b m → (more_ground ib k n).memory t b (more_made m name place (serials + 1) k items)
-more_stands {types = types} ib k items n scalar begins begun written t b m name place serials here there inside held =
-    let bytes = scalar_begun k items in
+more_stands : {e : Environment} {block : Names} {types : Types} (ib : Block e block types) (k : Kind) (items : List T.InitialItem) (n : Values) → IsHeld k.type k.bounds → AreConstants k.type items → AreBegun n (length types) k.type items → (t : ℕ → ℕ) (b : Base) (m : List ℕ) (name place serials : ℕ) → name ≡ ib.stack.free → place ≡ ib.stack.free + 16 → place + length (begun_of k items) + 40 ≤ length m → (ib.ground n).memory t b m → (more_ground ib k n).memory t b (more_made m name place (serials + 1) k items)
+more_stands {types = types} ib k items n limits begins begun t b m name place serials here there inside held =
+    let bytes = begun_of k items in
     let m1 = with_bytes bytes place m in
     let named = name_bytes (VariableName (serials + 1)) in
     let one = length-with_bytes bytes m place (omega (arith, inside)) in
@@ -165,15 +166,19 @@ more_stands {types = types} ib k items n scalar begins begun written t b m name 
     let e1 : at + 144 ≡ name = omega (arith, here, high) in
     let e2 : at + 160 ≡ place = omega (arith, there, high) in
     let e3 : at + 160 ≡ ib.stack.free + 16 = omega (arith, high) in
-    let content = content_of k.type (begin_of items) (begin_text k.type items) in
+    let content = begun_content k items in
     let made : There (more_made m name place (serials + 1) k items) (ib.stack.free + 16) content =
     subst (λ q. There (more_made m q place (serials + 1) k items) (ib.stack.free + 16) content) e1
     (subst (λ q. There (more_made m (at + 144) q (serials + 1) k items) (ib.stack.free + 16) content) e2
     (subst (λ q. There (more_made m (at + 144) (at + 160) (serials + 1) k items) q content) e3
-    (begun_there k items m at serials scalar begins (omega (arith, e2, inside))))) in (
+    (begun_there k items m at serials limits begins (omega (arith, e2, inside))))) in
+    let m' = more_made m name place (serials + 1) k items in
+    let count = length types in (
       ib.stack.keeps_bytes n t b m1 named name (omega (arith, here)) (omega (arith, one, here, there, inside)) (ib.stack.keeps_bytes n t b m bytes place (omega (arith, there)) (omega (arith, inside)) held),
-      subst (λ y. There (more_made m name place (serials + 1) k items) (ib.stack.free + 16) (content_of k.type (n.numbers (length types)) y)) (sym written)
-          (subst (λ y. There (more_made m name place (serials + 1) k items) (ib.stack.free + 16) (content_of k.type y (begin_text k.type items))) (sym begun) made),
+      subst (λ y. There m' (ib.stack.free + 16) (content_for k (n.numbers count) (n.texts count) (n.arrays count) y)) (sym begun.texts)
+          (subst (λ y. There m' (ib.stack.free + 16) (content_for k (n.numbers count) (n.texts count) y (begin_texts k.type items))) (sym begun.array)
+          (subst (λ y. There m' (ib.stack.free + 16) (content_for k (n.numbers count) y (numbers_of items) (begin_texts k.type items))) (sym begun.text)
+          (subst (λ y. There m' (ib.stack.free + 16) (content_for k y (begin_text k.type items) (numbers_of items) (begin_texts k.type items))) (sym begun.number) made))),
     )
 
 -- ---- the code
@@ -218,8 +223,8 @@ calling {e} ib index {code = code} n v h t f signature start l at =
     }
 
 -- within the limit
-pub more_piece : {e : Environment} {block : Names} {types : Types} (ib : Block e block types) {index : ℕ} {k : Kind} (o : More ib index k) (own : OwnStands ib) {links : Links} {code : List Instr} {i : ℕ} (c : ℕ) (n : Values) (v : Services) (h t : ℕ → ℕ) (f : Family) (table : List TableSignature) (items : List T.InitialItem) → AreConstants k.type items → Begins links code (ib.ground n) k items → Numbered table k → v.signatures ≡ map template_of table → 0 < length v.activations → G.automatic_in_use v.signatures v.living + frame_size k ≤ 2 ^ 20 → n.numbers (length types) ≡ begin_of items → n.texts (length types) ≡ begin_text k.type items → Linked links code i (made_code (frame_size k) (place_for e index) (number_for table k) (start_datum items)) → ((b : Base) → At b i (Known (ib.ground n) v h t nothing b) (f b)) → Reach code c f v (c + size_of (made_code (frame_size k) (place_for e index) (number_for table k) (start_datum items))) (more_services v (number_for table k) ((ib.ground n).frame + (place_for e index + 16))) (λ b w. At b (i + size_of (made_code (frame_size k) (place_for e index) (number_for table k) (start_datum items))) (Known (more_ground ib k n) (more_services v (number_for table k) ((ib.ground n).frame + (place_for e index + 16))) h t nothing b) w)
-more_piece {e} {types = types} ib {index} {k} o own {links} {code} {i} c n v h t f table items begins reads numbered signs some few begun written l at =
+pub more_piece : {e : Environment} {block : Names} {types : Types} (ib : Block e block types) {index : ℕ} {k : Kind} (o : More ib index k) (own : OwnStands ib) {links : Links} {code : List Instr} {i : ℕ} (c : ℕ) (n : Values) (v : Services) (h t : ℕ → ℕ) (f : Family) (table : List TableSignature) (items : List T.InitialItem) → AreConstants k.type items → Begins links code (ib.ground n) k items → Numbered table k → v.signatures ≡ map template_of table → 0 < length v.activations → G.automatic_in_use v.signatures v.living + frame_size k ≤ 2 ^ 20 → AreBegun n (length types) k.type items → Linked links code i (made_code (frame_size k) (place_for e index) (number_for table k) (start_datum items)) → ((b : Base) → At b i (Known (ib.ground n) v h t nothing b) (f b)) → Reach code c f v (c + size_of (made_code (frame_size k) (place_for e index) (number_for table k) (start_datum items))) (more_services v (number_for table k) ((ib.ground n).frame + (place_for e index + 16))) (λ b w. At b (i + size_of (made_code (frame_size k) (place_for e index) (number_for table k) (start_datum items))) (Known (more_ground ib k n) (more_services v (number_for table k) ((ib.ground n).frame + (place_for e index + 16))) h t nothing b) w)
+more_piece {e} {types = types} ib {index} {k} o own {links} {code} {i} c n v h t f table items begins reads numbered signs some few begun l at =
     let g = ib.ground n in
     let place = place_for e index in
     let sig = number_for table k in
@@ -232,7 +237,7 @@ more_piece {e} {types = types} ib {index} {k} o own {links} {code} {i} c n v h t
     let here = o.place in
     let room = o.room in
     let high = ib.stack.high in
-    let size = begun_fits k items o.held o.is in
+    let size = begun_fits k items o.held in
     let total = made_size (frame_size k) place sig start in
     let lc = call_linked (frame_size k) place sig start l in
     let r1 = asked ib o own c n v h t f table start reads.small' numbered l at in
@@ -241,7 +246,7 @@ more_piece {e} {types = types} ib {index} {k} o own {links} {code} {i} c n v h t
     let done : Calling links code (asked_size place sig start i) (reached r1) (λ b. Done v' (m' b) (g.frame + place) sig) = record {
       linked = call.linked;
       pc = call.pc;
-      answers = λ b. call.answers b ∙ make_made code v (reached r1 b).machine.memory table k items (g.frame + place) (g.frame + (place + 16)) (start_of links start) begins o.is signs numbered some few (let s = l.small' in omega (arith, s, same, here, high)) (omega arith) (omega (arith, same, here, room)) (let q = (reached_holds r1 b).holds.body in reads.read t b (reached r1 b).machine.memory q.memory q.bytes v);
+      answers = λ b. call.answers b ∙ make_made code v (reached r1 b).machine.memory table k items (g.frame + place) (g.frame + (place + 16)) (start_of links start) begins signs numbered some few (let s = l.small' in omega (arith, s, same, here, high)) (omega arith) (omega (arith, same, here, room)) (let q = (reached_holds r1 b).holds.body in reads.read t b (reached r1 b).machine.memory q.memory q.bytes v);
     } in
     let r2 = call_done (asked_size place sig start c) (reached r1) v v' m' (λ b. g.frame + place) (λ b. sig) (λ b. Known (lower_ground (more_ground ib k n) ib.stack.free) v' h t nothing b) (omega arith) done
     (λ b. let q = (reached_holds r1 b).holds.body in record {
@@ -249,7 +254,7 @@ more_piece {e} {types = types} ib {index} {k} o own {links} {code} {i} c n v h t
         services = refl;
         registers = q.registers ∙ ap (λ u. 0 ∷ (b.at + u) ∷ (b.at + g.frame) ∷ h 0 ∷ h 1 ∷ h 2 ∷ h 3 ∷ h 4 ∷ h 5 ∷ h 6 ∷ []) (ib.stack.free_is n);
         bytes = more_length (reached r1 b).machine.memory (g.frame + place) (g.frame + (place + 16)) (v.serials + 1) k items (omega arith) (let long = q.bytes in omega (arith, long, same, here, room, size)) ∙ q.bytes;
-        memory = more_stands ib k items n o.held begins begun written t b (reached r1 b).machine.memory (g.frame + place) (g.frame + (place + 16)) v.serials (omega (arith, same, here)) (omega (arith, same, here)) (let long = q.bytes in omega (arith, long, same, here, room, size)) q.memory;
+        memory = more_stands ib k items n o.held begins begun t b (reached r1 b).machine.memory (g.frame + place) (g.frame + (place + 16)) v.serials (omega (arith, same, here)) (omega (arith, same, here)) (let long = q.bytes in omega (arith, long, same, here, room, size)) q.memory;
       };
       regs = tt;
     }) in

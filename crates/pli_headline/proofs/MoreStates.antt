@@ -1,4 +1,4 @@
--- One more scalar is made, in the meaning: it begins with what INITIAL gives it, or 0, and the others hold what they held.
+-- One more variable is made, in the meaning: it begins with what INITIAL gives it, or 0, blank or empty, and the others hold what they held.
 use Rattle.std.proofs.Common.{◌≡◌, ℕ, suc, ◌+◌, ◌<◌, ◌≤◌, ◌⊎◌, inl, inr, List, [], ◌∷◌, ◌++◌, length, Option, Some, Bool, true, false, refl, sym, ap, ◌∙◌, subst, arith, add-one}
 use Rattle.std.specs.Prelude.{ℤ, pos, cond, map, nat_le, slice_get, ◌==◌}
 use Rattle.std.proofs.lemmas.Bool.{eq-eqb}
@@ -19,9 +19,9 @@ use Rattle.pli_serving.specs.ServiceState as S
 use Rattle.pli_serving.specs.Making as G
 use Rattle.pli_coding.specs.Environments.{Environment}
 use Rattle.pli_coding.specs.SignatureTable.{table_of}
-use Rattle.pli_headline.specs.ProvedSoFar.{Names, Spot, Kind, Types, alone, text_leaf, IsScalar, AreConstants, IsHeld, array_variable}
+use Rattle.pli_headline.specs.ProvedSoFar.{Names, Spot, Kind, Types, alone, text_leaf, AreConstants, IsHeld, array_variable}
 use Rattle.pli_headline.proofs.Activations.{Nested, levels_of, newest_level, newest_of_levels, newest_is, entered_length, same_length}
-use Rattle.pli_headline.proofs.Scalars.{Values, Fits, begin_of, begin_text, begin_fits, IsNumeric, scalar_limited, text_limit, value_as, place_below}
+use Rattle.pli_headline.proofs.Scalars.{Values, Fits, begin_text, begin_fits, IsNumeric, scalar_limited, text_limit, value_as, place_below, begin_texts, own_array, own_scalar, scalar_element}
 use Rattle.pli_headline.proofs.Variables.{level_of, own, scalar_binding}
 use Rattle.pli_headline.proofs.VariablePlaces.{frame_size}
 use Rattle.pli_headline.proofs.PlainNumbers.{number_for, Numbered, numbered_shape}
@@ -36,6 +36,9 @@ use Rattle.pli_headline.proofs.Asides.{Aside, StandAside, IsFresh, asides_by, as
 use Rattle.pli_headline.proofs.Statements.{AllHold, SameValues, Restricts, restricts_self}
 use Rattle.pli_headline.proofs.Entered.{Frames, UnitsKnown}
 use Rattle.pli_headline.proofs.TextArrayMeant.{HoldsTexts}
+use Rattle.pli_headline.proofs.BegunValues.{AreBegun}
+use Rattle.pli_headline.proofs.ArrayInitial.{all_given, array_begun, numbers_fit}
+use Rattle.pli_headline.proofs.TextArrayInitial.{begun_short, texts_begun}
 
 -- ---- in the meaning
 
@@ -270,8 +273,8 @@ asides_bound : {xss : List (List Aside)} {serials : Serials} {types : Types} {li
 asides_bound b [] fresh all = all
 asides_bound b (a ∷ as') fresh all = asides_other a (record a { bindings = b ∷ a.bindings }) as' fresh all
 
-pub more_all : {frames : Frames} {serials : Serials} {xs : Storage} {levels : List ℕ} {s : State} {block : Names} {types : Types} {n : Values} (e : Environment) (index : ℕ) (k : Kind) (items : List T.InitialItem) (at : ℕ) → IsScalar k.type → AreConstants k.type items → k ≡ alone k.type → Numbered (table_of block.program) k → IsNew e block types index → IsFresh frames.asides → Nested s.activations xs.activations → n.numbers (length types) ≡ begin_of items → n.texts (length types) ≡ begin_text k.type items → AllHold frames serials xs (e.level ∷ levels) s block types n → AllHold frames (more_serials serials (length types) (s.serials + 1) (suc (length levels))) (more_storage xs (number_for (table_of block.program) k) at) (e.level ∷ levels) (more_state s index k items) (more_names e block types index) (types ++ (k ∷ [])) n
-more_all {frames = frames} {serials = serials} {xs} {levels} {s} {block} {types} {n} e index k items at scalar begins is numbered new fresh nested begun written all =
+pub more_all : {frames : Frames} {serials : Serials} {xs : Storage} {levels : List ℕ} {s : State} {block : Names} {types : Types} {n : Values} (e : Environment) (index : ℕ) (k : Kind) (items : List T.InitialItem) (at : ℕ) → IsHeld k.type k.bounds → AreConstants k.type items → Numbered (table_of block.program) k → IsNew e block types index → IsFresh frames.asides → Nested s.activations xs.activations → AreBegun n (length types) k.type items → AllHold frames serials xs (e.level ∷ levels) s block types n → AllHold frames (more_serials serials (length types) (s.serials + 1) (suc (length levels))) (more_storage xs (number_for (table_of block.program) k) at) (e.level ∷ levels) (more_state s index k items) (more_names e block types index) (types ++ (k ∷ [])) n
+more_all {frames = frames} {serials = serials} {xs} {levels} {s} {block} {types} {n} e index k items at held begins numbered new fresh nested begun all =
     let count = length types in
     let serial = s.serials + 1 in
     let s' = more_state s index k items in
@@ -289,6 +292,16 @@ more_all {frames = frames} {serials = serials} {xs} {levels} {s} {block} {types}
     ∙ seen_beside s.activations b (level_of block j) (block.at j).index (apart_by e block index j (newest_level s.activations) newest (new j kind at')) in
     let lives : (j : ℕ) (kind : Kind) → j < count → slice_get types j ≡ Some kind → generation_of (living_of s'.living (o.of j)) ≡ generation_of (living_of s.living (serials.of j)) = λ j kind below at'.
     ap (λ m. generation_of (living_of s'.living m)) (same j below) ∙ ap generation_of (new_other l s.living (serials.of j) (newer (serials.of j) s.serials (all.stored.older j at'))) in
+    let new_stands : (q : Kind) → k ≡ q → standing_for s' (own names count) ≡ Some (kind_binding q (names.at count).index (o.of count)) = λ q e'.
+    ap (λ (u : Spot). binding_in (ancestor s'.activations (newest_height s'.activations) u.level) u.index) (chosen_here count (block.at count) (spot_of e index))
+    ∙ seen_new s.activations b e.level (omega (arith, long)) newest
+    ∙ ap (λ u. Some (kind_binding u index serial)) e'
+    ∙ ap (λ (u : Spot). Some (kind_binding q u.index serial)) (sym (chosen_here count (block.at count) (spot_of e index)))
+    ∙ ap (λ m. Some (kind_binding q (names.at count).index m)) (sym (chosen_here count (serials.of count) serial)) in
+    let new_lives : (q : Kind) → k ≡ q → generation_of (living_of s'.living (o.of count)) ≡ Some (fresh_kind q items) = λ q e'.
+    ap (λ m. generation_of (living_of s'.living m)) (chosen_here count (serials.of count) serial)
+    ∙ ap generation_of (new_here l s.living)
+    ∙ ap (λ u. Some (fresh_kind u items)) e' in
     record {
       numbers = λ j t numeric.
           by_last types k (λ i kind. (u : Y.LeafType) → kind ≡ alone u → IsNumeric u → Holds s' names i (o.of i) u (n.numbers i))
@@ -297,20 +310,14 @@ more_all {frames = frames} {serials = serials} {xs} {levels} {s} {block} {types}
           holds_moved (spot i below) (same i below) (stands i kind below at') (lives i kind below at') (all.numbers i (u, here) numeric'))
           (λ u e' numeric'.
           let type = ap (λ (q : Kind). q.type) e' in
-          let limited = scalar_limited u (subst IsScalar type scalar) numeric' in
+          let limited = scalar_limited u (own_scalar e' held) numeric' in
           let begins' = subst (λ q. AreConstants q items) type begins in
           record {
             values = (fresh_kind (alone u) items).values;
-            stands = ap (λ (q : Spot). binding_in (ancestor s'.activations (newest_height s'.activations) q.level) q.index) (chosen_here count (block.at count) (spot_of e index))
-                ∙ seen_new s.activations b e.level (omega (arith, long)) newest
-                ∙ ap (λ q. Some (kind_binding q index serial)) e'
-                ∙ ap (λ (q : Spot). Some (scalar_binding u q.index serial)) (sym (chosen_here count (block.at count) (spot_of e index)))
-                ∙ ap (λ m. Some (scalar_binding u (names.at count).index m)) (sym (chosen_here count (serials.of count) serial));
-            lives = ap (λ m. generation_of (living_of s'.living m)) (chosen_here count (serials.of count) serial)
-                ∙ ap generation_of (new_here l s.living)
-                ∙ ap (λ q. Some (fresh_kind q items)) e';
-            value = begins_as u items numeric' begins' ∙ ap (value_as u) (sym begun);
-            fits = subst (Fits u) (sym begun) (begin_fits u items limited begins');
+            stands = new_stands _ e';
+            lives = new_lives _ e';
+            value = begins_as u items numeric' begins' ∙ ap (value_as u) (sym begun.number);
+            fits = subst (Fits u) (sym begun.number) (begin_fits u items limited begins');
           }) j (alone t.0) t.1 t.0 refl numeric;
       texts = λ j varying most at'.
           by_last types k (λ i kind. kind ≡ alone (text_leaf varying most) → KeepsText s' names i (o.of i) varying most (n.texts i))
@@ -319,28 +326,41 @@ more_all {frames = frames} {serials = serials} {xs} {levels} {s} {block} {types}
           let u = text_leaf varying most in
           let type = ap (λ (q : Kind). q.type) e' in
           let begins' = subst (λ q. AreConstants q items) type begins in
-          let same' : begin_text u items ≡ n.texts count = sym (written ∙ ap (λ q. begin_text q items) type) in
+          let same' : begin_text u items ≡ n.texts count = sym (begun.text ∙ ap (λ q. begin_text q items) type) in
           subst (KeepsText s' names count (o.of count) varying most) same' (record {
             values = (fresh_kind (alone u) items).values;
-            stands = ap (λ (q : Spot). binding_in (ancestor s'.activations (newest_height s'.activations) q.level) q.index) (chosen_here count (block.at count) (spot_of e index))
-                ∙ seen_new s.activations b e.level (omega (arith, long)) newest
-                ∙ ap (λ q. Some (kind_binding q index serial)) e'
-                ∙ ap (λ (q : Spot). Some (scalar_binding u q.index serial)) (sym (chosen_here count (block.at count) (spot_of e index)))
-                ∙ ap (λ m. Some (scalar_binding u (names.at count).index m)) (sym (chosen_here count (serials.of count) serial));
-            lives = ap (λ m. generation_of (living_of s'.living m)) (chosen_here count (serials.of count) serial)
-                ∙ ap generation_of (new_here l s.living)
-                ∙ ap (λ q. Some (fresh_kind q items)) e';
+            stands = new_stands _ e';
+            lives = new_lives _ e';
             value = text_begins varying most items begins';
-            short = text_short varying most items (text_limit varying most (subst IsScalar type scalar));
+            short = text_short varying most items (text_limit varying most (own_scalar e' held));
           })) j (alone (text_leaf varying most)) at' refl;
       arrays = λ j type c cs at'.
           by_last types k (λ i kind. kind ≡ record { type = type; bounds = c ∷ cs } → HoldsArray s' names i (o.of i) type (c ∷ cs) (n.arrays i))
           (λ i kind below at'' e'. array_moved (spot i below) (same i below) (stands i kind below at'') (lives i kind below at'') (all.arrays i type c cs (at'' ∙ ap (λ q. Some q) e', at'.1)))
-          (λ e'. let no : [] ≡ c ∷ cs = sym (ap (λ (q : Kind). q.bounds) is) ∙ ap (λ (q : Kind). q.bounds) e' in absurd (cc no)) j (record { type = type; bounds = c ∷ cs }) at'.0 refl;
+          (λ e'.
+          let constants = all_given type items (scalar_element type (own_array e' held).0 at'.1) (subst (λ (q : Kind). AreConstants q.type items) e' begins) in
+          let element = scalar_element type (own_array e' held).0 at'.1 in
+          subst (HoldsArray s' names count (o.of count) type (c ∷ cs)) (sym begun.array) (record {
+            values = (fresh_kind (record { type = type; bounds = c ∷ cs }) items).values;
+            numeric = at'.1;
+            stands = new_stands _ e';
+            lives = new_lives _ e';
+            value = λ js inside. array_begun type (c ∷ cs) items js element constants.0;
+            fits = λ p inside. numbers_fit type items p element constants.0;
+          })) j (record { type = type; bounds = c ∷ cs }) at'.0 refl;
       text_arrays = λ j varying most c cs at'.
           by_last types k (λ i kind. kind ≡ record { type = text_leaf varying most; bounds = c ∷ cs } → HoldsTexts s' names i (o.of i) varying most (c ∷ cs) (n.text_arrays i))
           (λ i kind below at'' e'. texts_moved (spot i below) (same i below) (stands i kind below at'') (lives i kind below at'') (all.text_arrays i varying most c cs (at'' ∙ ap (λ q. Some q) e')))
-          (λ e'. let no : [] ≡ c ∷ cs = sym (ap (λ (q : Kind). q.bounds) is) ∙ ap (λ (q : Kind). q.bounds) e' in absurd (cc no)) j (record { type = text_leaf varying most; bounds = c ∷ cs }) at' refl;
+          (λ e'.
+          let type = ap (λ (q : Kind). q.type) e' in
+          let same' : begin_texts (text_leaf varying most) items ≡ n.text_arrays count = sym (begun.texts ∙ ap (λ q. begin_texts q items) type) in
+          subst (HoldsTexts s' names count (o.of count) varying most (c ∷ cs)) same' (record {
+            values = (fresh_kind (record { type = text_leaf varying most; bounds = c ∷ cs }) items).values;
+            stands = new_stands _ e';
+            lives = new_lives _ e';
+            value = λ js inside. texts_begun varying most (c ∷ cs) items js (subst (λ q. AreConstants q items) type begins);
+            short = λ p inside. begun_short varying most items p (text_limit varying most (own_array e' held).0);
+          })) j (record { type = text_leaf varying most; bounds = c ∷ cs }) at' refl;
       entered = levels_same s.activations b ∙ all.entered;
       framed = all.framed;
       kinds = all.kinds;

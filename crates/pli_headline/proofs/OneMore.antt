@@ -1,227 +1,65 @@
--- A block with one more scalar, which stands behind its frame and all its other variables.
-use Rattle.std.proofs.Common.{◌≡◌, ℕ, suc, ◌+◌, ◌-◌, ◌*◌, ◌%◌, ◌^◌, ◌<◌, ◌≤◌, inl, inr, List, [], ◌∷◌, ◌++◌, length, Some, Bool, true, false, refl, sym, ap, ◌∙◌, subst, arith}
-use Rattle.std.specs.Prelude.{ℤ, pos, cond, nat_lt, slice_get, ◌==◌}
+-- A block with one more variable, which stands behind its frame and all its other variables, is a block.
+use Rattle.std.proofs.Common.{◌≡◌, ℕ, suc, ◌+◌, ◌-◌, ◌*◌, ◌<◌, ◌≤◌, inl, inr, List, [], ◌∷◌, ◌++◌, length, Some, Bool, refl, sym, ap, ◌∙◌, subst, arith}
+use Rattle.std.specs.Prelude.{ℤ, pos, cond, slice_get, ◌==◌}
 use Rattle.std.proofs.lemmas.Bool.{eqb-true, eq-eqb}
-use Rattle.std.proofs.lemmas.Bool.Decides.{nat_tests}
 use Rattle.rv_meaning.specs.Words.{word}
 use Rattle.rv_meaning.specs.Memory.{load, store}
 use Rattle.rv_meaning.specs.Machine.{memory_size, load_width, extended, store_width}
-use Rattle.pli_typing.specs.Signatures.{Bounds, element_count}
-use Rattle.pli_language.specs.Tree as T
 use Rattle.pli_typing.specs.TypedTree as Y
 use Rattle.pli_meaning.specs.BasicValues.{BasicText}
-use Rattle.pli_meaning.specs.DeclaredShapes.{variables_of_block}
 use Rattle.pli_serving.specs.Bytes.{with_bytes}
 use Rattle.pli_serving.specs.Stored.{kept_bytes}
 use Rattle.pli_coding.specs.Environments.{Environment}
-use Rattle.pli_coding.specs.Frames.{last_place, automatic_place}
-use Rattle.pli_headline.specs.ProvedSoFar.{OuterBlock, Names, Spot, Kind, Types, alone, text_leaf, IsScalar, plain_variable}
+use Rattle.pli_headline.specs.ProvedSoFar.{OuterBlock, Names, Kind, Types, alone, text_leaf, IsHeld}
 use Rattle.pli_headline.proofs.Engine.{Base, most_code}
-use Rattle.pli_headline.proofs.Numbers.{above_sum, above_small, word_small}
-use Rattle.pli_headline.proofs.Scalars.{Values, Fits, fits_wide, load_kind, store_kind, place_below, text_limit}
+use Rattle.pli_headline.proofs.Numbers.{word_small}
+use Rattle.pli_headline.proofs.Scalars.{Values, Fits, fits_wide, load_kind, store_kind, place_below, text_limit, own_scalar}
 use Rattle.pli_headline.proofs.Cells.{Cell, kept_by, content, content_word, cell_stored, cell_found}
 use Rattle.pli_headline.proofs.VariablePlaces.{frame_size, frame_wide, frame_even}
-use Rattle.pli_headline.proofs.Holdings.{Content, Counted, There, size_in, content_of, content_numeric, content_text, scalar_fits, there_other, there_below}
+use Rattle.pli_headline.proofs.Holdings.{Counted, There, size_in, content_of, content_numeric, content_text, scalar_fits, there_other, there_below, content_for}
 use Rattle.pli_headline.proofs.MainTexts.{there_beside}
 use Rattle.pli_headline.proofs.TextGrounds.{TextsStand}
-use Rattle.pli_headline.proofs.Bodies.{Ground, PlaceFrom}
 use Rattle.pli_headline.proofs.Temporaries.{Temporaries}
-use Rattle.pli_headline.proofs.Reaching.{Reaches}
-use Rattle.pli_headline.proofs.Variables.{IsDeclared, data_place, level_of}
+use Rattle.pli_headline.proofs.Variables.{data_place, level_of}
 use Rattle.pli_headline.proofs.DeclaredNames.{kind_around, by_last, last_kind, chosen_before, chosen_here}
 use Rattle.pli_headline.proofs.States.{with_number_at, with_text_at}
 use Rattle.pli_headline.proofs.TextPlaces.{text_bytes, TextThere, text_kind_of}
 use Rattle.pli_headline.proofs.TextsKept.{text_kept_as, kept_length, kept_there}
 use Rattle.pli_headline.proofs.TextScopes.{IsTextAt}
-use Rattle.pli_headline.proofs.NamesStand.{NameThere}
-use Rattle.pli_headline.proofs.ArrayNames.{ArrayNamed, place_of_name}
-use Rattle.pli_headline.proofs.ArrayScopes.{IsArrayAt, ArrayOn, with_element_of}
 use Rattle.pli_headline.proofs.MainGround.{width_few}
 use Rattle.pli_headline.proofs.Statements.{AllSeen, Enclosing, Enclosures, Block, SameValues}
-use Rattle.pli_headline.proofs.MoreNames.{spot_of, more_names, more_serials}
+use Rattle.pli_headline.proofs.MoreNames.{more_names, more_serials}
 use Rattle.pli_headline.proofs.MoreStates.{more_restricts}
-use Rattle.pli_headline.proofs.TextArrayScopes.{IsTextArrayAt, TextArrayOn, with_text_of}
-use Rattle.pli_headline.proofs.TextArraysStay.{text_stride, text_within}
+use Rattle.pli_headline.proofs.MorePlaces.{More, above_code, around_address, around_base, around_level, here_kept, last_not, more_bases, more_declared, more_ground, more_places, more_reached, not_last, other_kept, own_address, own_base, own_content, own_level, own_size, still_reached}
+use Rattle.pli_headline.proofs.MoreArrays.{array_place, named_place, text_array_place}
 
--- ---- places
-
-pub not_last : (count j : ℕ) → j < count → (j == count) ≡ false
-not_last count j below = grind (arith, nat_tests)
-
-pub last_not : (count j : ℕ) → j < count → (count == j) ≡ false
-last_not count j below = grind (arith, nat_tests)
-
-other_kept : {A : Type 0} (q : Bool) (x y : A) → q ≡ false → y ≡ cond q x y
-other_kept true x y e = absurd (cc e)
-other_kept false x y e = refl
-
-here_kept : {A : Type 0} (q : Bool) (x y : A) → q ≡ true → x ≡ cond q x y
-here_kept true x y e = refl
-here_kept false x y e = absurd (cc e)
-
--- ---- the variable
-
--- a variable of a block of its own level, behind so many others
-pub record More {e : Environment} {block : Names} {types : Types} (ib : Block e block types) (index : ℕ) (k : Kind) : Type 0 where
-  pub held : IsScalar k.type
-  pub is : k ≡ alone k.type
-  pub initial : List T.InitialItem
-  pub declared : slice_get (variables_of_block e.program e.block) index ≡ Some (plain_variable k.type initial)
-  pub deep : 0 < e.level
-  pub place : ib.stack.frame + automatic_place e.parts e.program e.block e.level index ≡ ib.stack.free
-  pub room : ib.stack.free + frame_size k + 4 ≤ 14 * 2 ^ 20
-  pub near : automatic_place e.parts e.program e.block e.level index + frame_size k ≤ last_place
-
-abbrev pub more_bases : {e : Environment} {block : Names} {types : Types} → Block e block types → ℕ → ℕ
-more_bases {types = types} ib j = cond (nat_lt j (length types)) (ib.bases j) ib.stack.frame
-
--- what stands there
-abbrev pub own_content : Kind → Values → (count : ℕ) → Content
-own_content k n count = content_of k.type (n.numbers count) (n.texts count)
-
-abbrev pub more_ground : {e : Environment} {block : Names} {types : Types} (ib : Block e block types) (k : Kind) → Values → Ground
-more_ground {types = types} ib k n =
-    record {
-      frame = (ib.ground n).frame;
-      free = ib.stack.free + frame_size k;
-      words = (ib.ground n).words;
-      memory = λ t b m. (ib.ground n).memory t b m × There m (ib.stack.free + 16) (own_content k n (length types));
-      whole = (ib.ground n).whole;
-      above_code = (ib.ground n).above_code;
-      inside = (ib.ground n).inside;
-    }
-
--- ---- where it stands, and the others
-
-around_spot : (e : Environment) (block : Names) (types : Types) (index j : ℕ) → j < length types → (more_names e block types index).at j ≡ block.at j
-around_spot e block types index j below = chosen_before (length types) j (block.at j) (spot_of e index) below
-
-own_spot : (e : Environment) (block : Names) (types : Types) (index : ℕ) → (more_names e block types index).at (length types) ≡ spot_of e index
-own_spot e block types index = chosen_here (length types) (block.at (length types)) (spot_of e index)
-
-pub around_level : (e : Environment) (block : Names) (types : Types) (index j : ℕ) → j < length types → level_of (more_names e block types index) j ≡ level_of block j
-around_level e block types index j below = ap (λ (u : Spot). u.level) (around_spot e block types index j below)
-
-pub own_level : (e : Environment) (block : Names) (types : Types) (index : ℕ) → level_of (more_names e block types index) (length types) ≡ e.level
-own_level e block types index = ap (λ (u : Spot). u.level) (own_spot e block types index)
-
-around_data : (e : Environment) (block : Names) (types : Types) (index j : ℕ) → j < length types → data_place e (more_names e block types index) j ≡ data_place e block j
-around_data e block types index j below =
-    ap (λ (u : Spot). automatic_place e.parts e.program u.number u.level u.index + 16 + 0) (around_spot e block types index j below)
-
-own_data : (e : Environment) (block : Names) (types : Types) (index : ℕ) → data_place e (more_names e block types index) (length types) ≡ automatic_place e.parts e.program e.block e.level index + 16 + 0
-own_data e block types index =
-    ap (λ (u : Spot). automatic_place e.parts e.program u.number u.level u.index + 16 + 0) (own_spot e block types index)
-
-pub around_base : {e : Environment} {block : Names} {types : Types} (ib : Block e block types) (j : ℕ) → j < length types → more_bases ib j ≡ ib.bases j
-around_base {types = types} ib j below = chosen_before (length types) j (ib.bases j) ib.stack.frame below
-
-pub own_base : {e : Environment} {block : Names} {types : Types} (ib : Block e block types) → more_bases ib (length types) ≡ ib.stack.frame
-own_base {types = types} ib = chosen_here (length types) (ib.bases (length types)) ib.stack.frame
-
-pub around_address : {e : Environment} {block : Names} {types : Types} (ib : Block e block types) (index j : ℕ) → j < length types → more_bases ib j + data_place e (more_names e block types index) j ≡ ib.bases j + data_place e block j
-around_address {e} {block} {types} ib index j below =
-    let a = around_base ib j below in let d = around_data e block types index j below in omega (arith, a, d)
-
-own_address : {e : Environment} {block : Names} {types : Types} (ib : Block e block types) {index : ℕ} {k : Kind} (o : More ib index k) → more_bases ib (length types) + data_place e (more_names e block types index) (length types) ≡ ib.stack.free + 16
-own_address {e} {block} {types} ib {index} o =
-    let a = own_base ib in let d = own_data e block types index in let p = o.place in omega (arith, a, d, p)
-
-own_type : {k : Kind} {type : Y.LeafType} → k ≡ alone type → k.type ≡ type
-own_type e = ap (λ (q : Kind). q.type) e
-
-pub own_size : (k : Kind) (n : Values) (count : ℕ) → IsScalar k.type → k ≡ alone k.type → 16 + size_in (own_content k n count) ≤ frame_size k
-own_size k n count held is =
-    subst (λ u. 16 + size_in (own_content k n count) ≤ u) (sym (ap frame_size is)) (scalar_fits k.type (n.numbers count) (n.texts count) held)
+-- ---- what it holds
 
 -- a number in its cell
 own_number : {k : Kind} {type : Y.LeafType} {m : List ℕ} {p : ℕ} (n : Values) (count : ℕ) → k ≡ alone type → Fits type (n.numbers count) → There m p (own_content k n count) → Cell m p (kept_by (store_kind type) (word (n.numbers count)))
 own_number {k} {type} {m} {p} n count e fits o =
     let z = n.numbers count in
-    let mine : There m p (Counted (content type z)) = subst (There m p) (content_numeric type z (n.texts count) fits) (subst (λ t. There m p (content_of t z (n.texts count))) (own_type e) o) in
+    let mine : There m p (Counted (content type z)) = subst (There m p) (content_numeric type z (n.texts count) fits) (subst (λ q. There m p (own_content q n count)) e o) in
     subst (Cell m p) (content_word type z (fits_wide type z fits)) mine
 
-there_number : {k : Kind} {type : Y.LeafType} {m : List ℕ} {p : ℕ} (z : ℤ) (text : List ℕ) → k ≡ alone type → Fits type z → Cell m p (kept_by (store_kind type) (word z)) → There m p (content_of k.type z text)
-there_number {k} {type} {m} {p} z text e fits o =
+there_number : {k : Kind} {type : Y.LeafType} {m : List ℕ} {p : ℕ} (z : ℤ) (n : Values) (count : ℕ) → k ≡ alone type → Fits type z → Cell m p (kept_by (store_kind type) (word z)) → There m p (content_for k z (n.texts count) (n.arrays count) (n.text_arrays count))
+there_number {k} {type} {m} {p} z n count e fits o =
     let mine : There m p (Counted (content type z)) = subst (Cell m p) (sym (content_word type z (fits_wide type z fits))) o in
-    subst (λ t. There m p (content_of t z text)) (sym (own_type e)) (subst (There m p) (sym (content_numeric type z text fits)) mine)
+    subst (λ q. There m p (content_for q z (n.texts count) (n.arrays count) (n.text_arrays count))) (sym e) (subst (There m p) (sym (content_numeric type z (n.texts count) fits)) mine)
 
 -- a text
 own_text : {k : Kind} (varying : Bool) (most : ℕ) (m : List ℕ) (p : ℕ) (n : Values) (count : ℕ) → k ≡ alone (text_leaf varying most) → There m p (own_content k n count) → TextThere varying most p m (n.texts count)
 own_text {k} varying most m p n count e o =
-    subst (There m p) (content_text varying most (n.numbers count) (n.texts count)) (subst (λ t. There m p (content_of t (n.numbers count) (n.texts count))) (own_type e) o)
+    subst (There m p) (content_text varying most (n.numbers count) (n.texts count)) (subst (λ q. There m p (own_content q n count)) e o)
 
-there_text : {k : Kind} (varying : Bool) (most : ℕ) (m : List ℕ) (p : ℕ) (z : ℤ) (text : List ℕ) → k ≡ alone (text_leaf varying most) → TextThere varying most p m text → There m p (content_of k.type z text)
-there_text {k} varying most m p z text e o =
-    subst (λ t. There m p (content_of t z text)) (sym (own_type e)) (subst (There m p) (sym (content_text varying most z text)) o)
+there_text : {k : Kind} (varying : Bool) (most : ℕ) (m : List ℕ) (p : ℕ) (n : Values) (count : ℕ) (text : List ℕ) → k ≡ alone (text_leaf varying most) → TextThere varying most p m text → There m p (content_for k (n.numbers count) text (n.arrays count) (n.text_arrays count))
+there_text {k} varying most m p n count text e o =
+    subst (λ q. There m p (content_for q (n.numbers count) text (n.arrays count) (n.text_arrays count))) (sym e) (subst (There m p) (sym (content_text varying most (n.numbers count) text)) o)
 
-text_room : {k : Kind} (varying : Bool) (most : ℕ) → IsScalar k.type → k ≡ alone (text_leaf varying most) → 16 + text_bytes varying most ≤ frame_size k
+text_room : {k : Kind} (varying : Bool) (most : ℕ) → IsHeld k.type k.bounds → k ≡ alone (text_leaf varying most) → 16 + text_bytes varying most ≤ frame_size k
 text_room {k} varying most held e =
     subst (λ c. 16 + size_in c ≤ frame_size k) (content_text varying most (pos 0) [])
-    (subst (λ u. 16 + size_in (content_of (text_leaf varying most) (pos 0) []) ≤ u) (sym (ap frame_size e)) (scalar_fits (text_leaf varying most) (pos 0) [] (subst IsScalar (own_type e) held)))
-
--- a block's frame lies above the code
-above_code : {e : Environment} {block : Names} {types : Types} (ib : Block e block types) → 4 * most_code ≤ ib.stack.frame
-above_code ib =
-    let n : Values = record { numbers = λ j. pos 0; texts = λ j. []; arrays = λ j p. pos 0; text_arrays = λ j p. [] } in
-    let same = ib.stack.frame_is n in
-    let above = (ib.ground n).above_code in
-    omega (arith, same, above)
-
--- ---- it is declared
-
-pub more_declared : {e : Environment} {block : Names} {types : Types} (ib : Block e block types) {index : ℕ} {k : Kind} (o : More ib index k) (j : ℕ) (type : Y.LeafType) → slice_get (types ++ (k ∷ [])) j ≡ Some (alone type) → IsDeclared e (more_names e block types index) j type
-more_declared {e} {block} {types} ib {index} {k} o j type at =
-    by_last types k (λ i kind. (u : Y.LeafType) → kind ≡ alone u → IsDeclared e (more_names e block types index) i u)
-    (λ i kind below at' u e'.
-    let d = ib.declared i (at' ∙ ap (λ q. Some q) e') in
-    (d.0, ap (λ (s : Spot). slice_get (variables_of_block e.program s.number) s.index) (around_spot e block types index i below) ∙ d.1))
-    (λ u e'. (o.initial, ap (λ (s : Spot). slice_get (variables_of_block e.program s.number) s.index) (own_spot e block types index) ∙ o.declared ∙ ap (λ q. Some (plain_variable q o.initial)) (own_type e')))
-    j (alone type) at type refl
-
--- ---- it is reached
-
-pub still_reached : {e : Environment} {block : Names} {types : Types} (ib : Block e block types) (k : Kind) (n : Values) (q : Bool) (level base : ℕ) → Reaches q level (ib.ground n) base → Reaches q level (more_ground ib k n) base
-still_reached ib k n true level base r = r
-still_reached ib k n false level base r = (r.0, λ t b m o. r.1 t b m o.0)
-
-pub more_reached : {e : Environment} {block : Names} {types : Types} (ib : Block e block types) (index : ℕ) (k : Kind) (n : Values) (j : ℕ) (kind : Kind) → slice_get (types ++ (k ∷ [])) j ≡ Some kind → Reaches (level_of (more_names e block types index) j == e.level) (level_of (more_names e block types index) j) (more_ground ib k n) (more_bases ib j)
-more_reached {e} {block} {types} ib index k n j kind at =
-    let names = more_names e block types index in
-    let g = more_ground ib k n in
-    by_last types k (λ i kind'. Reaches (level_of names i == e.level) (level_of names i) g (more_bases ib i))
-    (λ i kind' below at'.
-    let l = level_of block i in
-    subst (λ u. Reaches (u == e.level) u g (more_bases ib i)) (sym (around_level e block types index i below))
-    (subst (λ w. Reaches (l == e.level) l g w) (sym (around_base ib i below)) (still_reached ib k n (l == e.level) l (ib.bases i) (ib.reaches n i at'))))
-    (subst (λ u. Reaches (u == e.level) u g (more_bases ib (length types))) (sym (own_level e block types index))
-    (subst (λ q. Reaches q e.level g (more_bases ib (length types))) (sym (eq-eqb e.level e.level refl)) (ib.stack.frame_is n ∙ sym (own_base ib))))
-    j kind at
-
-place_behind : (frame place free : ℕ) → frame + place ≡ free → free % 4 ≡ 0 → 7 * 2 ^ 20 ≤ free → free + 36 ≤ 14 * 2 ^ 20 → PlaceFrom frame (pos (place + 16 + 0)) (frame + (place + 16 + 0))
-place_behind frame place free e whole high room =
-    record {
-      small' = above_small (place + 16 + 0) (omega (arith, e, room));
-      sums = λ b. above_sum b.at frame (place + 16 + 0) b.valid.1 (omega (arith, e, room));
-      aligned = omega (arith, e, whole);
-      inside = omega (arith, e, room);
-      above_code = omega (arith, e, high);
-    }
-
-pub more_places : {e : Environment} {block : Names} {types : Types} (ib : Block e block types) {index : ℕ} {k : Kind} (o : More ib index k) (j : ℕ) (type : Y.LeafType) → slice_get (types ++ (k ∷ [])) j ≡ Some (alone type) → PlaceFrom (more_bases ib j) (pos (data_place e (more_names e block types index) j)) (more_bases ib j + data_place e (more_names e block types index) j)
-more_places {e} {block} {types} ib {index} {k} o j type at =
-    let names = more_names e block types index in
-    by_last types k (λ i kind. (u : Y.LeafType) → kind ≡ alone u → PlaceFrom (more_bases ib i) (pos (data_place e names i)) (more_bases ib i + data_place e names i))
-    (λ i kind below at' u e'.
-    subst (λ w. PlaceFrom w (pos (data_place e names i)) (w + data_place e names i)) (sym (around_base ib i below))
-    (subst (λ x. PlaceFrom (ib.bases i) (pos x) (ib.bases i + x)) (sym (around_data e block types index i below)) (ib.places i (at' ∙ ap (λ q. Some q) e'))))
-    (λ u e'.
-    subst (λ w. PlaceFrom w (pos (data_place e names (length types))) (w + data_place e names (length types))) (sym (own_base ib))
-    (subst (λ x. PlaceFrom ib.stack.frame (pos x) (ib.stack.frame + x)) (sym (own_data e block types index))
-    (place_behind ib.stack.frame (automatic_place e.parts e.program e.block e.level index) ib.stack.free o.place ib.stack.aligned ib.stack.high (let room = o.room in let wide = frame_wide k in omega (arith, room, wide)))))
-    j (alone type) at type refl
-
--- ---- what it holds
+    (subst (λ u. 16 + size_in (content_of (text_leaf varying most) (pos 0) []) ≤ u) (sym (ap frame_size e)) (scalar_fits (text_leaf varying most) (pos 0) [] (own_scalar e held)))
 
 pub more_reads : {e : Environment} {block : Names} {types : Types} (ib : Block e block types) {index : ℕ} {k : Kind} (o : More ib index k) (n : Values) (j : ℕ) (type : Y.LeafType) → slice_get (types ++ (k ∷ [])) j ≡ Some (alone type) → Fits type (n.numbers j) → (t : ℕ → ℕ) (b : Base) (m : List ℕ) → (more_ground ib k n).memory t b m → extended (load_kind type) (load (load_width (load_kind type)) m (more_bases ib j + data_place e (more_names e block types index) j)) ≡ word (n.numbers j)
 more_reads {e} {block} {types} ib {index} {k} o n j type at fits t b m held =
@@ -241,7 +79,7 @@ around_writes {e} {block} {types} ib k n j z {type} below at old fits t b m len 
     let few = width_few (store_kind type) in
     let under = ib.stack.under j at in (
       ib.writes n j z at old fits t b m len held.0,
-      subst (λ x. There (store w m p (word z)) (ib.stack.free + 16) (content_of k.type x (n.texts (length types)))) (other_kept (length types == j) z (n.numbers (length types)) (last_not (length types) j below))
+      subst (λ x. There (store w m p (word z)) (ib.stack.free + 16) (content_for k x (n.texts (length types)) (n.arrays (length types)) (n.text_arrays (length types)))) (other_kept (length types == j) z (n.numbers (length types)) (last_not (length types) j below))
           (there_other w m p (word z) (ib.stack.free + 16) (own_content k n (length types)) (inr (omega (arith, few, under))) held.1),
     )
 
@@ -255,8 +93,8 @@ own_writes {e} {block} {types} ib {index} {k} o n z type is old fits t b m len h
     let size = frame_wide k in
     let same : SameValues types n (with_number_at n count z) = λ j kind at. (other_kept (j == count) z (n.numbers j) (not_last count j (place_below types j kind at)), (refl, (refl, refl))) in (
       ib.alike n (with_number_at n count z) same t b (store w m p (word z)) (ib.stack.keeps n t b m w p (word z) (omega arith) held.0),
-      subst (λ x. There (store w m p (word z)) p (content_of k.type x (n.texts count))) (here_kept (count == count) z (n.numbers count) (eq-eqb count count refl))
-          (there_number z (n.texts count) is fits (cell_stored (store_kind type) m p (word (n.numbers count)) (word z) (word_small z wide) (omega (arith, room, size, len)) (own_number n count is old held.1))),
+      subst (λ x. There (store w m p (word z)) p (content_for k x (n.texts count) (n.arrays count) (n.text_arrays count))) (here_kept (count == count) z (n.numbers count) (eq-eqb count count refl))
+          (there_number z n count is fits (cell_stored (store_kind type) m p (word (n.numbers count)) (word z) (word_small z wide) (omega (arith, room, size, len)) (own_number n count is old held.1))),
     )
 
 pub more_writes : {e : Environment} {block : Names} {types : Types} (ib : Block e block types) {index : ℕ} {k : Kind} (o : More ib index k) (n : Values) (j : ℕ) (z : ℤ) (type : Y.LeafType) → slice_get (types ++ (k ∷ [])) j ≡ Some (alone type) → Fits type (n.numbers j) → Fits type z → (t : ℕ → ℕ) (b : Base) (m : List ℕ) → length m ≡ memory_size → (more_ground ib k n).memory t b m → (more_ground ib k (with_number_at n j z)).memory t b (store (store_width (store_kind type)) m (more_bases ib j + data_place e (more_names e block types index) j) (word z))
@@ -298,7 +136,7 @@ around_text {e} {block} {types} ib index k n j varying most text below at t b m 
     let room : p + length bytes ≤ length m = omega (arith, inside, long, len) in
     subst (λ q. (more_ground ib k (with_text_at n j kept)).memory t b (with_bytes bytes q m)) (sym (around_address ib index j below)) (
       ib.texts.writes n j varying most text at t b m len held.0,
-      subst (λ x. There (with_bytes bytes p m) (ib.stack.free + 16) (content_of k.type (n.numbers count) x)) (other_kept (count == j) kept (n.texts count) (last_not count j below))
+      subst (λ x. There (with_bytes bytes p m) (ib.stack.free + 16) (content_for k (n.numbers count) x (n.arrays count) (n.text_arrays count))) (other_kept (count == j) kept (n.texts count) (last_not count j below))
           (there_beside bytes m p (ib.stack.free + 16) (own_content k n count) room (inl (omega (arith, under, long))) held.1),
     )
 
@@ -311,14 +149,14 @@ own_text_writes {e} {block} {types} ib {index} {k} o n varying most text is t b 
     let long = kept_length varying most text in
     let size = text_room varying most o.held is in
     let behind = o.room in
-    let few = text_limit varying most (subst IsScalar (own_type is) o.held) in
+    let few = text_limit varying most (own_scalar is o.held) in
     let inside : p + text_bytes varying most ≤ length m = omega (arith, behind, size, len) in
     let room : p + length bytes ≤ length m = omega (arith, inside, long) in
     let same : SameValues types n (with_text_at n count kept) = λ j kind at. (refl, (other_kept (j == count) kept (n.texts j) (not_last count j (place_below types j kind at)), (refl, refl))) in
     subst (λ q. (more_ground ib k (with_text_at n count kept)).memory t b (with_bytes bytes q m)) (sym (own_address ib o)) (
       ib.alike n (with_text_at n count kept) same t b (with_bytes bytes p m) (ib.stack.keeps_bytes n t b m bytes p (omega arith) room held.0),
-      subst (λ x. There (with_bytes bytes p m) p (content_of k.type (n.numbers count) x)) (here_kept (count == count) kept (n.texts count) (eq-eqb count count refl))
-          (there_text varying most (with_bytes bytes p m) p (n.numbers count) kept is (kept_there varying most p m text few inside)),
+      subst (λ x. There (with_bytes bytes p m) p (content_for k (n.numbers count) x (n.arrays count) (n.text_arrays count))) (here_kept (count == count) kept (n.texts count) (eq-eqb count count refl))
+          (there_text varying most (with_bytes bytes p m) p n count kept is (kept_there varying most p m text few inside)),
     )
 
 pub more_text_stand : {e : Environment} {block : Names} {types : Types} (ib : Block e block types) {index : ℕ} {k : Kind} (o : More ib index k) → TextsStand e (more_names e block types index) (types ++ (k ∷ [])) (more_bases ib) (ib.stack.free + frame_size k) (more_ground ib k)
@@ -333,7 +171,7 @@ more_text_stand {e} {block} {types} ib {index} {k} o =
             (λ i below at'. let a = around_base ib i below in let h = ib.texts.room.high i varying most at' in omega (arith, a, h))
             (λ e'. let a = own_base ib in let h = above_code ib in omega (arith, a, h)) at;
         short = λ j varying most at. text_place ib o (λ i. most ≤ 1024) j varying most (λ i below at'. ib.texts.room.short i varying most at')
-            (λ e'. text_limit varying most (subst IsScalar (own_type e') o.held)) at;
+            (λ e'. text_limit varying most (own_scalar e' o.held)) at;
         inside = λ j varying most at. text_place ib o (λ i. more_bases ib i + data_place e names i + text_bytes varying most ≤ memory_size) j varying most
             (λ i below at'. let a = around_address ib index i below in let h = ib.texts.room.inside i varying most at' in omega (arith, a, h))
             (λ e'. let size = text_room varying most o.held e' in omega (arith, own, size, behind)) at;
@@ -349,108 +187,14 @@ more_text_stand {e} {block} {types} ib {index} {k} o =
           (λ e'. own_text_writes ib o n varying most text e' t b m len held) at;
     }
 
--- ---- arrays are those around
-
-more_array : {e : Environment} {block : Names} {types : Types} (ib : Block e block types) (index : ℕ) (k : Kind) (j : ℕ) (type : Y.LeafType) (bs : List Bounds) → j < length types → ArrayOn e block (ib.bases j) ib.stack.free ib.ground j type bs → ArrayOn e (more_names e block types index) (more_bases ib j) (ib.stack.free + frame_size k) (more_ground ib k) j type bs
-more_array {e} {block} {types} ib index k j type bs below on =
-    let names = more_names e block types index in
-    let a = around_base ib j below in
-    let d = around_data e block types index j below in
-    let within = on.within in
-    let under = on.under in
-    record {
-      declared = (on.declared.0, ap (λ (s : Spot). slice_get (variables_of_block e.program s.number) s.index) (around_spot e block types index j below) ∙ on.declared.1);
-      bounds = on.bounds;
-      few = on.few;
-      within = omega (arith, within, a);
-      under = omega (arith, under, a, d);
-      places = λ p inside.
-          subst (λ w. PlaceFrom (w + 4 * p) (pos (data_place e names j)) (w + 4 * p + data_place e names j)) (sym a)
-          (subst (λ x. PlaceFrom (ib.bases j + 4 * p) (pos x) (ib.bases j + 4 * p + x)) (sym d) (on.places p inside));
-      reads = λ n p inside fits t b m held.
-          let q : more_bases ib j + 4 * p + data_place e names j ≡ ib.bases j + 4 * p + data_place e block j = omega (arith, a, d) in
-          ap (λ u. extended (load_kind type) (load (load_width (load_kind type)) m u)) q ∙ on.reads n p inside fits t b m held.0;
-      writes = λ n p z inside old fits t b m len held.
-          let q : more_bases ib j + 4 * p + data_place e names j ≡ ib.bases j + 4 * p + data_place e block j = omega (arith, a, d) in
-          let few = width_few (store_kind type) in
-          subst (λ u. (more_ground ib k (with_element_of n j p z)).memory t b (store (store_width (store_kind type)) m u (word z))) (sym q) (
-            on.writes n p z inside old fits t b m len held.0,
-            there_other (store_width (store_kind type)) m (ib.bases j + 4 * p + data_place e block j) (word z) (ib.stack.free + 16) (own_content k n (length types)) (inr (omega (arith, few, under, inside))) held.1,
-          );
-    }
-
-pub array_place : {e : Environment} {block : Names} {types : Types} (ib : Block e block types) {index : ℕ} {k : Kind} (o : More ib index k) (j : ℕ) (type : Y.LeafType) (b : Bounds) (bs : List Bounds) → IsArrayAt (types ++ (k ∷ [])) j type b bs → ArrayOn e (more_names e block types index) (more_bases ib j) (ib.stack.free + frame_size k) (more_ground ib k) j type (b ∷ bs)
-array_place {e} {block} {types} ib {index} {k} o j type b bs at =
-    by_last types k (λ i kind. kind ≡ record { type = type; bounds = b ∷ bs } → ArrayOn e (more_names e block types index) (more_bases ib i) (ib.stack.free + frame_size k) (more_ground ib k) i type (b ∷ bs))
-    (λ i kind below at' e'. more_array ib index k i type (b ∷ bs) below (ib.arrays i type b bs (at' ∙ ap (λ q. Some q) e', at.1)))
-    (λ e'. let no : [] ≡ b ∷ bs = sym (ap (λ (q : Kind). q.bounds) o.is) ∙ ap (λ (q : Kind). q.bounds) e' in absurd (cc no)) j (record { type = type; bounds = b ∷ bs }) at.0 refl
-
-more_texts : {e : Environment} {block : Names} {types : Types} (ib : Block e block types) (index : ℕ) (k : Kind) (j : ℕ) (varying : Bool) (most : ℕ) (bs : List Bounds) → j < length types → TextArrayOn e block (ib.bases j) ib.stack.free ib.ground j varying most bs → TextArrayOn e (more_names e block types index) (more_bases ib j) (ib.stack.free + frame_size k) (more_ground ib k) j varying most bs
-more_texts {e} {block} {types} ib index k j varying most bs below on =
-    let names = more_names e block types index in
-    let a = around_base ib j below in
-    let d = around_data e block types index j below in
-    let within = on.within in
-    let under = on.under in
-    let high = on.high in
-    let q : (p : ℕ) → more_bases ib j + p * text_stride varying most + data_place e names j ≡ ib.bases j + p * text_stride varying most + data_place e block j = λ p. omega (arith, a, d) in
-    record {
-      declared = (on.declared.0, ap (λ (s : Spot). slice_get (variables_of_block e.program s.number) s.index) (around_spot e block types index j below) ∙ on.declared.1);
-      bounds = on.bounds;
-      few = on.few;
-      some = on.some;
-      short = on.short;
-      high = omega (arith, high, a);
-      within = omega (arith, within, a, d);
-      under = omega (arith, under, a, d);
-      reads = λ n p inside t b m held.
-          subst (λ u. TextThere varying most u m (n.text_arrays j p)) (sym (q p)) (on.reads n p inside t b m held.0);
-      writes = λ n p text inside t b m len held.
-          let bytes = kept_bytes (text_kind_of varying most) (BasicText text) in
-          let long = kept_length varying most text in
-          let row = text_within varying most p (element_count bs) inside in
-          let here = ib.bases j + p * text_stride varying most + data_place e block j in
-          let room : here + length bytes ≤ length m = omega (arith, within, row, long, len) in
-          subst (λ u. (more_ground ib k (with_text_of n j p (text_kept_as varying most text))).memory t b (with_bytes bytes u m)) (sym (q p)) (
-            on.writes n p text inside t b m len held.0,
-            there_beside bytes m here (ib.stack.free + 16) (own_content k n (length types)) room (inl (omega (arith, under, row, long))) held.1,
-          );
-    }
-
-pub text_array_place : {e : Environment} {block : Names} {types : Types} (ib : Block e block types) {index : ℕ} {k : Kind} (o : More ib index k) (j : ℕ) (varying : Bool) (most : ℕ) (b : Bounds) (bs : List Bounds) → IsTextArrayAt (types ++ (k ∷ [])) j varying most b bs → TextArrayOn e (more_names e block types index) (more_bases ib j) (ib.stack.free + frame_size k) (more_ground ib k) j varying most (b ∷ bs)
-text_array_place {e} {block} {types} ib {index} {k} o j varying most b bs at =
-    by_last types k (λ i kind. kind ≡ record { type = text_leaf varying most; bounds = b ∷ bs } → TextArrayOn e (more_names e block types index) (more_bases ib i) (ib.stack.free + frame_size k) (more_ground ib k) i varying most (b ∷ bs))
-    (λ i kind below at' e'. more_texts ib index k i varying most (b ∷ bs) below (ib.text_arrays i varying most b bs (at' ∙ ap (λ q. Some q) e')))
-    (λ e'. let no : [] ≡ b ∷ bs = sym (ap (λ (q : Kind). q.bounds) o.is) ∙ ap (λ (q : Kind). q.bounds) e' in absurd (cc no)) j (record { type = text_leaf varying most; bounds = b ∷ bs }) at refl
-
--- the names of arrays
-more_named : {e : Environment} {block : Names} {types : Types} (ib : Block e block types) (index : ℕ) (k : Kind) (serial j : ℕ) (kind : Kind) → j < length types → ArrayNamed e block (ib.bases j) ib.ground ib.serials j kind → ArrayNamed e (more_names e block types index) (more_bases ib j) (more_ground ib k) (more_serials ib.serials (length types) serial (suc (length ib.depths))) j kind
-more_named {e} {block} {types} ib index k serial j kind below on =
-    let names = more_names e block types index in
-    let a = around_base ib j below in
-    let d = around_data e block types index j below in
-    let here = on.at in
-    let mine = chosen_before (length types) j (ib.serials.of j) serial below in
-    let same : ib.bases j + place_of_name e block j ≡ more_bases ib j + place_of_name e names j = omega (arith, a, d) in
-    record {
-      living = on.living;
-      lives = ap ib.serials.first mine ∙ on.lives;
-      signature = on.signature;
-      at = omega (arith, here, a, d);
-      aligned = let h = on.aligned in omega (arith, h, a);
-      high = let h = on.high in omega (arith, h, a);
-      room = let h = on.room in omega (arith, h, a);
-      own = λ n t b m held. subst (λ u. load 4 m (u + 36) ≡ u) (sym a) (on.own n t b m held.0);
-      names = λ n t b m held. subst (NameThere m (more_bases ib j + place_of_name e names j)) (sym mine) (subst (λ p. NameThere m p (ib.serials.of j)) same (on.names n t b m held.0));
-    }
-
-pub named_place : {e : Environment} {block : Names} {types : Types} (ib : Block e block types) {index : ℕ} {k : Kind} (o : More ib index k) (serial j : ℕ) (type : Y.LeafType) (b : Bounds) (bs : List Bounds) → IsArrayAt (types ++ (k ∷ [])) j type b bs → ArrayNamed e (more_names e block types index) (more_bases ib j) (more_ground ib k) (more_serials ib.serials (length types) serial (suc (length ib.depths))) j (record { type = type; bounds = b ∷ bs })
-named_place {e} {block} {types} ib {index} {k} o serial j type b bs at =
-    by_last types k (λ i kind. kind ≡ record { type = type; bounds = b ∷ bs } → ArrayNamed e (more_names e block types index) (more_bases ib i) (more_ground ib k) (more_serials ib.serials (length types) serial (suc (length ib.depths))) i (record { type = type; bounds = b ∷ bs }))
-    (λ i kind below at' e'. more_named ib index k serial i (record { type = type; bounds = b ∷ bs }) below (ib.array_names i type b bs (at' ∙ ap (λ q. Some q) e', at.1)))
-    (λ e'. let no : [] ≡ b ∷ bs = sym (ap (λ (q : Kind). q.bounds) o.is) ∙ ap (λ (q : Kind). q.bounds) e' in absurd (cc no)) j (record { type = type; bounds = b ∷ bs }) at.0 refl
-
 -- ---- the block
+
+pub there_alike : (k : Kind) (n n' : Values) (count : ℕ) (m : List ℕ) (p : ℕ) → (n.numbers count ≡ n'.numbers count) × ((n.texts count ≡ n'.texts count) × ((n.arrays count ≡ n'.arrays count) × (n.text_arrays count ≡ n'.text_arrays count))) → There m p (own_content k n count) → There m p (own_content k n' count)
+there_alike k n n' count m p same o =
+    subst (λ x. There m p (content_for k (n'.numbers count) (n'.texts count) (n'.arrays count) x)) same.1.1.1
+    (subst (λ x. There m p (content_for k (n'.numbers count) (n'.texts count) x (n.text_arrays count))) same.1.1.0
+    (subst (λ x. There m p (content_for k (n'.numbers count) x (n.arrays count) (n.text_arrays count))) same.1.0
+    (subst (λ x. There m p (content_for k x (n.texts count) (n.arrays count) (n.text_arrays count))) same.0 o)))
 
 pub more_temporaries : {e : Environment} {block : Names} {types : Types} (ib : Block e block types) (k : Kind) (n : Values) → Temporaries (more_ground ib k n)
 more_temporaries {types = types} ib k n =
@@ -526,8 +270,7 @@ more_block {e} {block} {types} ib {index} {k} o serial =
       temps = more_temporaries ib k;
       alike = λ n n' same t b m held. (
         ib.alike n n' (λ j kind at. same j kind (kind_around types (k ∷ []) j at)) t b m held.0,
-        subst (λ x. There m (ib.stack.free + 16) (content_of k.type (n'.numbers count) x)) (same count k (last_kind types k)).1.0
-            (subst (λ x. There m (ib.stack.free + 16) (content_of k.type x (n.texts count))) (same count k (last_kind types k)).0 held.1),
+        there_alike k n n' count m (ib.stack.free + 16) (same count k (last_kind types k)) held.1,
       );
       declared = λ j at. more_declared ib o j _ at;
       reach = λ n. still_reached ib k n (0 == e.level) 0 ib.base (ib.reach n);
@@ -583,11 +326,11 @@ more_block {e} {block} {types} ib {index} {k} o serial =
         over = omega (arith, over);
         keeps = λ n t b m w p x over' held. (
           ib.stack.keeps n t b m w p x (omega (arith, over')) held.0,
-          there_other w m p x (ib.stack.free + 16) (own_content k n count) (inl (let size = own_size k n count o.held o.is in omega (arith, over', size))) held.1,
+          there_other w m p x (ib.stack.free + 16) (own_content k n count) (inl (let size = own_size k n count o.held in omega (arith, over', size))) held.1,
         );
         keeps_bytes = λ n t b m bytes p over' room' held. (
           ib.stack.keeps_bytes n t b m bytes p (omega (arith, over')) room' held.0,
-          there_below bytes m p (ib.stack.free + 16) (own_content k n count) room' (let size = own_size k n count o.held o.is in omega (arith, over', size)) held.1,
+          there_below bytes m p (ib.stack.free + 16) (own_content k n count) room' (let size = own_size k n count o.held in omega (arith, over', size)) held.1,
         );
         under = λ j at. more_under ib o j _ at;
       };
@@ -602,7 +345,7 @@ more_block {e} {block} {types} ib {index} {k} o serial =
       texts = more_text_stand ib o;
       arrays = λ j type b bs at. array_place ib o j type b bs at;
       text_arrays = λ j varying most b bs at. text_array_place ib o j varying most b bs at;
-      array_names = λ j type b bs at. named_place ib o serial j type b bs at;
+      array_names = λ j type b bs at outermost. named_place ib o serial j type b bs at outermost;
       outer = ib.outer;
       enclosing = more_enclosures ib k ib.outer ib.enclosing;
       seen = more_seen ib k index serial ib.outer ib.enclosing ib.seen;

@@ -18,17 +18,19 @@ use Rattle.pli_coding.specs.Statements.{stmts_code, stmts_words, block_words}
 use Rattle.pli_coding.specs.Procedures.{procedure_environment, procedure_begun, procedure_ended, procedure_in, procedures_code}
 use Rattle.pli_coding.specs.Images.{blocks_of}
 use Rattle.pli_coding.specs.Linking.{marks_from}
-use Rattle.pli_headline.specs.ProvedSoFar.{Names, Types, types_of, AreProvedStatements, DeclareScalars, main_outer, IsInner, AreInner, AreDeclaring, names_in, types_in, times, block_labels, procedure_labels, main_names}
+use Rattle.pli_headline.specs.ProvedSoFar.{Names, Types, types_of, AreProvedStatements, main_outer, IsInner, AreInner, ArePlain, names_in, types_in, times, block_labels, procedure_labels, main_names, AllPlain}
 use Rattle.pli_headline.proofs.Linking.{times_marked}
 use Rattle.pli_headline.proofs.SymbolsMarked.{symbols_marked, Marks, both_mark, behind, constant_none, plus_none, act_none}
 use Rattle.pli_headline.proofs.Stands.{Stand, all_stands, labels_among, labels_are, EndsApart, ends_apart, no_units}
 use Rattle.pli_headline.proofs.DeclaredNames.{named_in, has_in}
 use Rattle.pli_headline.proofs.StatementMarks.{places_of, called_begun_none, declared_none, statements_mark}
 use Rattle.pli_headline.proofs.Variables.{HasTypes}
+use Rattle.pli_headline.proofs.PlainInside.{DeclarePlain, declare_plain}
+use Rattle.pli_headline.proofs.MainProcedure.{main_plain}
 
 -- ---- the code of a procedure
 
-begun_none : (e : Environment) (head : Y.BlockHead) (words : ℕ) → AreDeclaring (variables_of_block e.program e.block) → Marks (procedure_begun e head words []) []
+begun_none : (e : Environment) (head : Y.BlockHead) (words : ℕ) → ArePlain (variables_of_block e.program e.block) → Marks (procedure_begun e head words []) []
 begun_none e head words declaring =
     let made = variables_code e head.line in
     let act = act_code head.line in
@@ -54,7 +56,7 @@ abbrev pub procedure_symbols : List Y.Procedure → List Symbol
 procedure_symbols [] = []
 procedure_symbols (p ∷ ps) = block_symbols p.block ++ procedure_symbols ps
 
-procedure_marks : (e : Environment) (block : Names) (types : Types) (head : Y.BlockHead) (body : Y.Stmts) → block.program ≡ e.program → HasTypes e block types → AreDeclaring (variables_of_block e.program head.number) → AreProvedStatements (names_in block types head (variables_of_block block.program head.number)) (types_in types (variables_of_block block.program head.number)) body → DeclareScalars e.program body → Marks (procedure_in (procedure_environment head e) head body [] None) (block_symbols (Y.BlockOf head body))
+procedure_marks : (e : Environment) (block : Names) (types : Types) (head : Y.BlockHead) (body : Y.Stmts) → block.program ≡ e.program → HasTypes e block types → ArePlain (variables_of_block e.program head.number) → AreProvedStatements (names_in block types head (variables_of_block block.program head.number)) (types_in types (variables_of_block block.program head.number)) body → DeclarePlain e.program body → Marks (procedure_in (procedure_environment head e) head body [] None) (block_symbols (Y.BlockOf head body))
 procedure_marks e block types head body named has declaring are bare =
     let e' = procedure_environment head e in
     let words = block_words e' head.number (stmts_words body) in
@@ -66,15 +68,15 @@ procedure_marks e block types head body named has declaring are bare =
     (behind begun (code ++ ended) (ss ++ ReturnPlace head.number ∷ []) (begun_none e' head words declaring)
     (both_mark code ended ss (ReturnPlace head.number ∷ []) (statements_mark e' none_taken (names_in block types head (variables_of_block block.program head.number)) (types_in types (variables_of_block block.program head.number)) body (named_in block types head (variables_of_block block.program head.number) named) (has_in e block types head named declaring has) are bare) (ended_marks e' head words)))
 
-pub procedures_mark : (e : Environment) (block : ℕ) (all : List (ℕ × Label)) (called : List ℕ) (ps : List Y.Procedure) → HasTypes e (main_names e.program block) (types_of (variables_of_block e.program block)) → AreInner e.program block all called ps → Marks (procedures_code e ps) (procedure_symbols ps)
-procedures_mark e block all called [] has inner = refl
-procedures_mark e block all called (p ∷ ps) has inner =
+pub procedures_mark : (e : Environment) (block : ℕ) (all : List (ℕ × Label)) (called : List ℕ) (ps : List Y.Procedure) → AllPlain e.program.variables → HasTypes e (main_names e.program block) (types_of (variables_of_block e.program block)) → AreInner e.program block all called ps → Marks (procedures_code e ps) (procedure_symbols ps)
+procedures_mark e block all called [] plain has inner = refl
+procedures_mark e block all called (p ∷ ps) plain has inner =
     let q = inner.0 in
     let mine = procedure_in (procedure_environment q.head e) q.head q.body [] None in
     let marks : Marks (mine ++ procedures_code e ps) (block_symbols (Y.BlockOf q.head q.body) ++ procedure_symbols ps) =
     both_mark mine (procedures_code e ps) (block_symbols (Y.BlockOf q.head q.body)) (procedure_symbols ps)
-    (procedure_marks e (main_names e.program block) (types_of (variables_of_block e.program block)) q.head q.body refl has q.declares q.statements q.inside)
-    (procedures_mark e block all called ps has inner.1) in
+    (procedure_marks e (main_names e.program block) (types_of (variables_of_block e.program block)) q.head q.body refl has (main_plain e.program q.head.number plain) q.statements (declare_plain e.program q.body plain))
+    (procedures_mark e block all called ps plain has inner.1) in
     subst (λ (r : Y.Procedure). Marks (procedures_code e (r ∷ ps)) (procedure_symbols (r ∷ ps))) (sym q.is) marks
 
 -- ---- how often a symbol is marked

@@ -18,7 +18,7 @@ use Rattle.pli_coding.specs.Statements.{owner_of_unit, unit_environment, number_
 use Rattle.pli_coding.specs.Temporaries.{number_words, bit_words, reference_words, text_words}
 use Rattle.pli_coding.specs.Images.{place_of_head, place_of_unit, blocks_in, blocks_among}
 use Rattle.pli_coding.specs.Linking.{Links}
-use Rattle.pli_headline.specs.ProvedSoFar.{Names, names_in, types_in, unit_declares, IsShallow, AreDeclaring, bytes_of, bytes_in, inner_bytes, Types, OuterBlock, main_labels, main_outer, IsProvedStatement, AreProvedStatements, JumpsAround, AllJumpAround, DeclaresScalars, DeclareScalars, is_number, CallsAmong, AllCallAmong}
+use Rattle.pli_headline.specs.ProvedSoFar.{Names, names_in, types_in, unit_declares, IsShallow, ArePlain, bytes_of, bytes_in, inner_bytes, Types, OuterBlock, main_labels, main_outer, IsProvedStatement, AreProvedStatements, JumpsAround, AllJumpAround, is_number, CallsAmong, AllCallAmong}
 use Rattle.pli_meaning.specs.DeclaredShapes.{variables_of_block}
 use Rattle.pli_headline.proofs.Statements.{owner_level, IsOwned, known_in, Standing, Block, Does, EachDoes, null_does, IsEndMarkedOnce}
 use Rattle.pli_headline.proofs.Ifs.{if_does, if_else_does}
@@ -58,6 +58,7 @@ use Rattle.pli_headline.proofs.ElementAssignments.{assign_number_part_does, assi
 use Rattle.pli_headline.proofs.CountStarts.{counted_does}
 use Rattle.pli_coding.specs.Streams.{value_words}
 use Rattle.pli_headline.proofs.TextElementAssignments.{assign_text_part_does}
+use Rattle.pli_headline.proofs.PlainInside.{DeclaresPlain, DeclarePlain}
 
 -- constant bytes stand in a block inside it
 standing_inner : {e : Environment} {block : Names} {types : Types} {bl : Block e block types} {links : Links} {code : List Instr} (inner : Inner bl) (t0 : ℕ → ℕ) (number level : ℕ) (next : level ≡ suc e.level) (s : Standing bl links code) → (n : Values) → ConstantsStand links code ((inner_block bl inner t0 number level next s.filled).ground n)
@@ -210,7 +211,7 @@ return_by false bl links code around line number fits few owner ended home =
     home_does bl links code around line few fits (home refl)
 
 mutual
-  pub statement_does : {e : Environment} {block : Names} {types : Types} (bl : Block e block types) (links : Links) (code : List Instr) (routines : Standing bl links code) (around : Around) (same : around.program ≡ e.program) {all : List (ℕ × Label)} {procedure : ℕ} {main returns small : Bool} {taken : ℕ} {may : List ℕ} {bound : ℕ} {outer : Names} {outers : Types} (named : LabelsStand e links all procedure main) (x : Y.Stmt) → IsProvedStatement block types x → JumpsAround e.block e.level all e.blocks (main_outer procedure e.program.procedures) bl.outer bl.labels x → bl.taken.words + stmt_words x ≤ bl.words → Room small taken bl.stack.free (length bl.depths) (inner_words x) (bytes_in e.program x) e.level → DeclaresScalars e.program x → {more : ℕ} → Entering e.program around more → more ≤ bound → ((b : BlockPlace) → IsAmong b (blocks_in x) → IsAmong b e.blocks) → CallsAmong e.program may returns taken x → Ways e outer outers block types bl.words bound small taken bl.labels bl.outer bl.base bl.frames.known all procedure links code main returns may → Does bl links code around.turns (stmt_code e bl.taken x) (M.statement around x)
+  pub statement_does : {e : Environment} {block : Names} {types : Types} (bl : Block e block types) (links : Links) (code : List Instr) (routines : Standing bl links code) (around : Around) (same : around.program ≡ e.program) {all : List (ℕ × Label)} {procedure : ℕ} {main returns small : Bool} {taken : ℕ} {may : List ℕ} {bound : ℕ} {outer : Names} {outers : Types} (named : LabelsStand e links all procedure main) (x : Y.Stmt) → IsProvedStatement block types x → JumpsAround e.block e.level all e.blocks (main_outer procedure e.program.procedures) bl.outer bl.labels x → bl.taken.words + stmt_words x ≤ bl.words → Room small taken bl.stack.free (length bl.depths) (inner_words x) (bytes_in e.program x) e.level → DeclaresPlain e.program x → {more : ℕ} → Entering e.program around more → more ≤ bound → ((b : BlockPlace) → IsAmong b (blocks_in x) → IsAmong b e.blocks) → CallsAmong e.program may returns taken x → Ways e outer outers block types bl.words bound small taken bl.labels bl.outer bl.base bl.frames.known all procedure links code main returns may → Does bl links code around.turns (stmt_code e bl.taken x) (M.statement around x)
   statement_does bl links code routines around same named (Y.Null line) is jumps room space bare entering least known calls ways = null_does bl links code around line is
   statement_does bl links code routines around same named (Y.Assign target (Y.StoredNumber precision x) line) is jumps room space bare entering least known calls ways =
       let a = le-max_left (max 1 (number_words x)) (4 + reference_words target) in
@@ -331,7 +332,7 @@ mutual
       (room_bare small filled bl.stack.free (length bl.depths) words (all_inner_words body) (bytes_of vars) (inner_bytes e.program body) e.level head.level shallow next deeper space)
       bare.1 (inner_entering e.program more' head.line) (omega (arith, least, step)) (λ b h. known b (inr h)) calls
       (record { narrows = ways.narrows; calls = ways.calls; signals = ways.signals; tells = ways.tells; makes = λ same' u at k. let no : true ≡ false = sym same' ∙ other_level head.level e.level next in absurd (cc no); narrow = omega (arith, fits); ends = λ may' other. inr (ways.ends may' other); mains = more_main procedure (main_labels e.program.procedures) head.level head.number (labels_in body) [] ib.outer (inr ways.mains) }))))
-      (let are' : AreDeclaring vars = bare.0 in
+      (let are' : ArePlain vars = bare.0 in
       let few = room_few small filled bl.stack.free (length bl.depths) (words + all_inner_words body) (bytes_of vars + inner_bytes e.program body) e.level space in
       let are : AreProvedStatements (names_in block types head vars) (types_in types vars) body = subst (λ p. AreProvedStatements (names_in block types head (variables_of_block p head.number)) (types_in types (variables_of_block p head.number)) body) bl.named is.1.1 in
       let around' : AllJumpAround head.number head.level all e.blocks (main_outer procedure e.program.procedures) (own' ∷ bl.outer) (labels_in body) body = jumps.1 in
@@ -424,7 +425,7 @@ mutual
       get_skip_does bl links code routines around same n pairs line is.0.0 is.0.1 is.1.0 is.1.1 room
   statement_does bl links code routines around same named _ is jumps room space bare entering least known calls ways = absurd is
 
-  pub each_does : {e : Environment} {block : Names} {types : Types} (bl : Block e block types) (links : Links) (code : List Instr) (routines : Standing bl links code) (around : Around) (same : around.program ≡ e.program) {all : List (ℕ × Label)} {procedure : ℕ} {main returns small : Bool} {taken : ℕ} {may : List ℕ} {bound : ℕ} {outer : Names} {outers : Types} (named : LabelsStand e links all procedure main) (body : Y.Stmts) → AreProvedStatements block types body → AllJumpAround e.block e.level all e.blocks (main_outer procedure e.program.procedures) bl.outer bl.labels body → bl.taken.words + stmts_words body ≤ bl.words → Room small taken bl.stack.free (length bl.depths) (all_inner_words body) (inner_bytes e.program body) e.level → DeclareScalars e.program body → {more : ℕ} → Entering e.program around more → more ≤ bound → ((b : BlockPlace) → IsAmong b (blocks_among body) → IsAmong b e.blocks) → AllCallAmong e.program may returns taken body → Ways e outer outers block types bl.words bound small taken bl.labels bl.outer bl.base bl.frames.known all procedure links code main returns may → EachDoes bl links code around body
+  pub each_does : {e : Environment} {block : Names} {types : Types} (bl : Block e block types) (links : Links) (code : List Instr) (routines : Standing bl links code) (around : Around) (same : around.program ≡ e.program) {all : List (ℕ × Label)} {procedure : ℕ} {main returns small : Bool} {taken : ℕ} {may : List ℕ} {bound : ℕ} {outer : Names} {outers : Types} (named : LabelsStand e links all procedure main) (body : Y.Stmts) → AreProvedStatements block types body → AllJumpAround e.block e.level all e.blocks (main_outer procedure e.program.procedures) bl.outer bl.labels body → bl.taken.words + stmts_words body ≤ bl.words → Room small taken bl.stack.free (length bl.depths) (all_inner_words body) (inner_bytes e.program body) e.level → DeclarePlain e.program body → {more : ℕ} → Entering e.program around more → more ≤ bound → ((b : BlockPlace) → IsAmong b (blocks_among body) → IsAmong b e.blocks) → AllCallAmong e.program may returns taken body → Ways e outer outers block types bl.words bound small taken bl.labels bl.outer bl.base bl.frames.known all procedure links code main returns may → EachDoes bl links code around body
   each_does bl links code routines around same named (Y.EndOfList labels) are jumps room space bare entering least known calls ways = tt
   each_does {e} bl links code routines around same {all} {procedure} {main} {small = small} {taken = filled} named (Y.StmtThen labels first rest) are jumps room space bare entering least known calls ways =
       let a = le-max_left (stmt_words first) (stmts_words rest) in
@@ -440,7 +441,7 @@ mutual
       )
 
 -- the statements of a block
-pub body_does : {e : Environment} {block : Names} {types : Types} (bl : Block e block types) (links : Links) (code : List Instr) (routines : Standing bl links code) (around : Around) (same : around.program ≡ e.program) {all : List (ℕ × Label)} {procedure : ℕ} {main returns small : Bool} {taken : ℕ} {may : List ℕ} {bound : ℕ} {outer : Names} {outers : Types} (named : LabelsStand e links all procedure main) (body : Y.Stmts) → AreProvedStatements block types body → AllJumpAround e.block e.level all e.blocks (main_outer procedure e.program.procedures) bl.outer (labels_in body ++ bl.labels) body → bl.taken.words + stmts_words body ≤ bl.words → Room small taken bl.stack.free (length bl.depths) (all_inner_words body) (inner_bytes e.program body) e.level → DeclareScalars e.program body → {more : ℕ} → Entering e.program around more → more ≤ bound → ((b : BlockPlace) → IsAmong b (blocks_among body) → IsAmong b e.blocks) → AllCallAmong e.program may returns taken body → Ways e outer outers block types bl.words bound small taken (labels_in body ++ bl.labels) bl.outer bl.base bl.frames.known all procedure links code main returns may → Does bl links code around.turns (stmts_code e bl.taken body) (M.list around body)
+pub body_does : {e : Environment} {block : Names} {types : Types} (bl : Block e block types) (links : Links) (code : List Instr) (routines : Standing bl links code) (around : Around) (same : around.program ≡ e.program) {all : List (ℕ × Label)} {procedure : ℕ} {main returns small : Bool} {taken : ℕ} {may : List ℕ} {bound : ℕ} {outer : Names} {outers : Types} (named : LabelsStand e links all procedure main) (body : Y.Stmts) → AreProvedStatements block types body → AllJumpAround e.block e.level all e.blocks (main_outer procedure e.program.procedures) bl.outer (labels_in body ++ bl.labels) body → bl.taken.words + stmts_words body ≤ bl.words → Room small taken bl.stack.free (length bl.depths) (all_inner_words body) (inner_bytes e.program body) e.level → DeclarePlain e.program body → {more : ℕ} → Entering e.program around more → more ≤ bound → ((b : BlockPlace) → IsAmong b (blocks_among body) → IsAmong b e.blocks) → AllCallAmong e.program may returns taken body → Ways e outer outers block types bl.words bound small taken (labels_in body ++ bl.labels) bl.outer bl.base bl.frames.known all procedure links code main returns may → Does bl links code around.turns (stmts_code e bl.taken body) (M.list around body)
 body_does bl links code routines around same named body are jumps room space bare entering least known calls ways =
     listed bl around body
     (each_does (within (labels_in body) bl) links code (standing_within (labels_in body) routines) around same named body are jumps room space bare entering least known calls ways)

@@ -415,7 +415,6 @@ small_program =
         );
         jumps = (tt, (tt, tt));
         calls = (tt, (tt, tt));
-        inside = (tt, (tt, tt));
         few = omega arith;
       };
       inner = tt;
@@ -471,7 +470,6 @@ block_program =
         );
         jumps = (((refl, omega arith), (tt, (((refl, omega arith), (inl (refl, (refl, refl)), (inr (inr (inl (refl, (refl, (refl, refl))))), (tt, tt)))), tt))), tt);
         calls = ((tt, ((tt, (tt, (refl, tt))), tt)), tt);
-        inside = ((tt, (tt, ((tt, (tt, (tt, (tt, tt)))), tt))), tt);
         few = omega arith;
       };
       inner = tt;
@@ -517,7 +515,6 @@ procedure_program =
         statements = (lit< tt, tt);
         jumps = (inl (refl, (refl, refl)), tt);
         calls = (tt, tt);
-        inside = (tt, tt);
         few = omega arith;
       };
       inner = (
@@ -527,10 +524,8 @@ procedure_program =
           is = refl;
           apart = refl;
           level = refl;
-          declares = tt;
           statements = (((inl i, tt), (lit< tt, lit< tt)), (lit< tt, tt));
           jumps = (tt, (tt, tt));
-          inside = (tt, (tt, tt));
           callable = λ h. let no : false ≡ true = h in absurd (cc no);
         },
         tt,
@@ -574,7 +569,6 @@ call_program =
         statements = ((refl, lit< tt), tt);
         jumps = (tt, tt);
         calls = ((omega arith, refl), tt);
-        inside = (tt, tt);
         few = omega arith;
       };
       inner = (
@@ -584,10 +578,8 @@ call_program =
           is = refl;
           apart = refl;
           level = refl;
-          declares = tt;
           statements = ((refl, (lit< tt, ((refl, lit< tt), (lit< tt, tt)))), (lit< tt, tt));
           jumps = (((refl, omega arith), (tt, (tt, tt))), (tt, tt));
-          inside = ((tt, (tt, (tt, tt))), (tt, tt));
           callable = λ h. record { kind = refl; line = lit< tt; calls = (((omega arith, refl), (refl, tt)), (refl, tt)); few = omega arith };
         },
         tt,
@@ -643,7 +635,6 @@ unit_program =
         );
         jumps = ((refl, (refl, (tt, (tt, tt)))), (tt, ((refl, (refl, (refl, (tt, (tt, tt))))), (tt, tt))));
         calls = (((tt, tt), (omega arith, tt)), (omega arith, (((tt, (tt, tt)), (omega arith, refl)), (omega arith, tt))));
-        inside = ((tt, (tt, tt)), (tt, ((tt, (tt, (tt, tt))), (tt, tt))));
         few = omega arith;
       };
       inner = tt;
@@ -689,7 +680,6 @@ leaving_program =
         statements = ((refl, (tt, (lit< tt, (lit< tt, ((refl, lit< tt), tt))))), (lit< tt, (lit< tt, tt)));
         jumps = ((refl, (refl, (refl, (tt, tt)))), (tt, (tt, tt)));
         calls = ((((omega arith, refl), tt), (omega arith, refl)), (omega arith, (tt, tt)));
-        inside = ((tt, (tt, tt)), (tt, (tt, tt)));
         few = omega arith;
       };
       inner = (
@@ -699,10 +689,8 @@ leaving_program =
           is = refl;
           apart = refl;
           level = refl;
-          declares = tt;
           statements = (lit< tt, tt);
           jumps = (inr (inl (refl, (refl, (refl, refl)))), tt);
-          inside = (tt, tt);
           callable = λ h. record { kind = refl; line = lit< tt; calls = (tt, tt); few = omega arith };
         },
         tt,
@@ -749,7 +737,6 @@ away_program =
           (tt, ((refl, (refl, (refl, (inr (inl (refl, (refl, (refl, refl)))), tt)))), (tt, tt))),
         );
         calls = (((tt, tt), (omega arith, tt)), (omega arith, (((tt, tt), (omega arith, refl)), (omega arith, tt))));
-        inside = ((tt, (tt, tt)), (tt, ((tt, (tt, tt)), (tt, tt))));
         few = omega arith;
       };
       inner = tt;

@@ -105,6 +105,13 @@ pub text_limit : (varying' : Bool) (most : ℕ) → IsScalar (text_leaf varying'
 text_limit false most is = is.1
 text_limit true most is = is.1
 
+-- a kind's limits, where it is known to be that of a scalar, or of an array
+pub own_scalar : {k : Kind} {type : Y.LeafType} → k ≡ alone type → IsHeld k.type k.bounds → IsScalar type
+own_scalar e held = subst (λ (q : Kind). IsHeld q.type q.bounds) e held
+
+pub own_array : {k : Kind} {type : Y.LeafType} {b : Bounds} {bs : List Bounds} → k ≡ record { type = type; bounds = b ∷ bs } → IsHeld k.type k.bounds → IsHeld type (b ∷ bs)
+own_array e held = subst (λ (q : Kind). IsHeld q.type q.bounds) e held
+
 -- ---- values
 
 -- 0 is the bit that isn't set

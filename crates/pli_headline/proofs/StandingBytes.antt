@@ -4,13 +4,12 @@ use Rattle.std.specs.Prelude.{slice_index}
 use Rattle.rv_meaning.specs.declared.instr.Instr.{Instr}
 use Rattle.rv_meaning.specs.Machine.{memory_size}
 use Rattle.pli_language.specs.Tree as T
-use Rattle.pli_typing.specs.TypedTree as Y
 use Rattle.pli_serving.specs.ServiceState.{Services}
 use Rattle.pli_serving.specs.InitialValues.{initial_values}
 use Rattle.pli_coding.specs.Assembly.{Datum, ConstantBytes, DataPlace}
 use Rattle.pli_coding.specs.StaticData.{PlacedDatum}
 use Rattle.pli_coding.specs.Linking.{Links, place_of}
-use Rattle.pli_headline.specs.ProvedSoFar.{Kind, alone, IsScalar, AreConstants}
+use Rattle.pli_headline.specs.ProvedSoFar.{Kind, AreConstants, IsHeld}
 use Rattle.pli_headline.proofs.Engine.{Base, call_at}
 use Rattle.pli_headline.proofs.Bodies.{Ground}
 use Rattle.pli_headline.proofs.DataNamed.{IsPlaced, BytesStand}
@@ -29,12 +28,12 @@ pub record Begins (links : Links) (code : List Instr) (g : Ground) (k : Kind) (i
 -- where the links have them, in every memory of a ground
 pub record ConstantsStand (links : Links) (code : List Instr) (g : Ground) : Type 0 where
   pub stand : (bytes : List ℕ) → IsPlaced (ConstantBytes bytes) links.data' → (t : ℕ → ℕ) (b : Base) (m : List ℕ) → g.memory t b m → BytesStand code m (place_of links (DataPlace (ConstantBytes bytes))) bytes
-  pub begin : (type : Y.LeafType) (items : List T.InitialItem) → IsScalar type → AreConstants type items → IsPlacedIf (start_datum items) links.data' → Begins links code g (alone type) items
+  pub begin : (k : Kind) (items : List T.InitialItem) → IsHeld k.type k.bounds → AreConstants k.type items → IsPlacedIf (start_datum items) links.data' → Begins links code g k items
 
 -- they stand in the first memory
 pub record DataStand (links : Links) (code : List Instr) (first : List ℕ) : Type 0 where
   pub bytes : (bytes : List ℕ) → IsPlaced (ConstantBytes bytes) links.data' → BytesStand code first (place_of links (DataPlace (ConstantBytes bytes))) bytes
-  pub lists : (type : Y.LeafType) (items : List T.InitialItem) → IsScalar type → AreConstants type items → IsPlacedIf (start_datum items) links.data' → Reads links code first (alone type) items
+  pub lists : (k : Kind) (items : List T.InitialItem) → IsHeld k.type k.bounds → AreConstants k.type items → IsPlacedIf (start_datum items) links.data' → Reads links code first k items
 
 -- code and static data stay as they are in the first memory
 abbrev pub KeepsStatics : Ground → (first : List ℕ) → Type 0
@@ -53,8 +52,8 @@ constants_stand links code first g keeps stands =
             inside = inside;
             bytes_are = λ k below. keeps t b m o (at + k) (omega (arith, below, inside)) ∙ s.bytes_are k below;
           };
-      begin = λ type items element begins placed.
-          let r = stands.lists type items element begins placed in
+      begin = λ k items held begins placed.
+          let r = stands.lists k items held begins placed in
           record { small' = r.small'; read = λ t b m o size v. r.read v m size (λ k below. keeps t b m o k below) };
     }
 
@@ -63,7 +62,7 @@ pub constants_moved : {links : Links} {code : List Instr} {g g' : Ground} (u : (
 constants_moved u kept c =
     record {
       stand = λ bytes placed t b m o. c.stand bytes placed (u t) b m (kept t b m o);
-      begin = λ type items element begins placed.
-          let r = c.begin type items element begins placed in
+      begin = λ k items held begins placed.
+          let r = c.begin k items held begins placed in
           record { small' = r.small'; read = λ t b m o size v. r.read (u t) b m (kept t b m o) size v };
     }

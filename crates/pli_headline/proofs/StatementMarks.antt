@@ -5,7 +5,6 @@ use Rattle.rv_meaning.specs.declared.instr.Instr.TheVariants as I
 use Rattle.rv_meaning.specs.declared.instr.BranchTest.TheVariants as Test
 use Rattle.pli_language.specs.declared.condition.Condition.{Condition}
 use Rattle.pli_language.specs.declared.condition.Condition.TheVariants as C
-use Rattle.pli_language.specs.Tree as T
 use Rattle.pli_typing.specs.TypedTree as Y
 use Rattle.pli_meaning.specs.Control.{Label}
 use Rattle.pli_coding.specs.Registers.{zero_register, stack_register, frame_register, a0, a1, a2, u0, u1, u2, a3, a4}
@@ -15,7 +14,7 @@ use Rattle.pli_coding.specs.Assembly.{Datum, Symbol, Plain, BaseIn, ProcedureEnt
 use Rattle.pli_coding.specs.Instructions.{add, move, subtract, small, number, plus, load_word, store_word, skip_where, service, tested_service}
 use Rattle.pli_coding.specs.Environments.{Owner, BlockOwner, UnitOwner, Environment, in_frame, owned_by, Taken, none_taken, block_around, with_number, save, fetch}
 use Rattle.pli_coding.specs.Frames.{frame_below, own_offset, lower_top, display, fixed_size, frame_end, temporary_bytes, words_place, name_bytes, frame_bytes, automatic_place, last_place, is_automatic}
-use Rattle.pli_coding.specs.Entries.{registers_restored, all_saved, display_copied, display_made, frame_begun, block_left, entered_without_texts, variables_made, variables_code, constant_made, automatic_made}
+use Rattle.pli_coding.specs.Entries.{registers_restored, all_saved, display_copied, display_made, frame_begun, block_left, entered_without_texts, variables_made, variables_code, constant_made, automatic_made, adjustable_made}
 use Rattle.pli_meaning.specs.DeclaredShapes.{variables_of_block}
 use Rattle.pli_coding.specs.Arithmetic.{sum_code, fitted_code}
 use Rattle.pli_coding.specs.Expressions.{frame_given, number_code, bit_code, call_code}
@@ -26,8 +25,8 @@ use Rattle.pli_coding.specs.Statements.{if_met, while_met, once_code, in_turns, 
 use Rattle.pli_coding.specs.Locating.{own_place, frame_found, frame_in, table_number}
 use Rattle.rv_meaning.specs.declared.instr.Register.{Register}
 use Rattle.pli_headline.proofs.DeclaredNames.{named_in, has_in}
-use Rattle.pli_headline.proofs.Scalars.{by_held, character, varying}
-use Rattle.pli_headline.specs.ProvedSoFar.{Names, Types, IsAssigned, IsProvedNumber, IsProvedNumberIf, IsProvedBit, IsProvedBitIf, IsProvedStatement, AreProvedStatements, DeclaresScalars, DeclareScalars, IsProvedStart, names_in, types_in, AreDeclaring, plain_variable, unit_declares}
+use Rattle.pli_headline.proofs.Scalars.{character, varying, by_plain}
+use Rattle.pli_headline.specs.ProvedSoFar.{Names, Types, IsAssigned, IsProvedNumber, IsProvedNumberIf, IsProvedBit, IsProvedBitIf, IsProvedStatement, AreProvedStatements, IsProvedStart, names_in, types_in, ArePlain, plain_variable, unit_declares, array_variable}
 use Rattle.pli_headline.proofs.Stands.{Stand, stands_of, end_of, inner_stands, all_stands}
 use Rattle.pli_headline.proofs.SymbolsMarked.{symbols_marked, Marks, both_mark, behind, before, either, constant_none, load_none, store_none, plus_none, overflow_none, act_none, fitted_none}
 use Rattle.pli_headline.proofs.PutMarks.{pairs_none, skip_none}
@@ -37,6 +36,8 @@ use Rattle.pli_headline.proofs.OnUnits.{unit_by}
 use Rattle.pli_headline.proofs.Targets.{assigned_read}
 use Rattle.pli_headline.proofs.ElementsMarks.{elements_none}
 use Rattle.pli_headline.proofs.ExpressionMarks.{number_none, bit_none, assigned_none, text_stored_none, number_assigned_none, bit_assigned_none, text_none}
+use Rattle.pli_headline.proofs.ArrayFrames.{held_constant}
+use Rattle.pli_headline.proofs.PlainInside.{DeclaresPlain, DeclarePlain}
 
 -- the place of a label, or of the end of a block
 abbrev pub place_symbol : ℕ → Option Label → Symbol
@@ -127,9 +128,8 @@ given_none : (r : Register) (start : Option Datum) → Marks (initial_given r st
 given_none r None = refl
 given_none r (Some d) = refl
 
-one_none : (e : Environment) (place : ℕ) (type : Y.LeafType) (items : List T.InitialItem) → Marks (constant_made e place (plain_variable type items)) []
-one_none e place type items =
-    let d = plain_variable type items in
+one_none : (e : Environment) (place : ℕ) (d : Y.DeclaredVariable) → Marks (constant_made e place d) []
+one_none e place d =
     let own = own_place e a0 (pos place) in
     let named = number a1 (table_number e d) in
     let first = initial_code a2 d in
@@ -153,17 +153,18 @@ one_none e place type items =
         behind found (loaded ++ plus r r (pos n)) [] (found_none e' r (e'.level == e'.level))
         (behind loaded (plus r r (pos n)) [] (load_none r (frame_in e' e'.level r) own_offset) (plus_none r r (pos n)))
 
-pub declared_none : (e : Environment) (line index : ℕ) (ds : List Y.DeclaredVariable) → AreDeclaring ds → Marks (variables_made e line index ds) []
+pub declared_none : (e : Environment) (line index : ℕ) (ds : List Y.DeclaredVariable) → ArePlain ds → Marks (variables_made e line index ds) []
 declared_none e line index [] are = refl
 declared_none e line index (d ∷ ds) are =
     let place = automatic_place e.parts e.program e.block e.level index in
     let rest = variables_made e line (suc index) ds in
-    let items = are.0.items in
-    let T : Y.DeclaredVariable → Type 0 = λ u. Marks ((if is_automatic u.class then automatic_made e line place u else []) ++ rest) [] in
-    let here : (type : Y.LeafType) → Marks (constant_made e place (plain_variable type items) ++ rest) [] = λ type. behind (constant_made e place (plain_variable type items)) rest [] (one_none e place type items) (declared_none e line (suc index) ds are.1) in
-    subst T (sym are.0.is) (by_held (λ t. T (plain_variable t items)) (λ p. here (Y.FixedLeaf p)) (here Y.BitLeaf) (λ n few. here (character n)) (λ n few. here (varying n)) are.0.type are.0.held)
+    let here : (u : Y.DeclaredVariable) → Marks (constant_made e place u ++ rest) [] = λ u. behind (constant_made e place u) rest [] (one_none e place u) (declared_none e line (suc index) ds are.1) in
+    by_plain (λ u. Marks ((if is_automatic u.class then automatic_made e line place u else []) ++ rest) []) (λ p i. here (plain_variable (Y.FixedLeaf p) i)) (λ i. here (plain_variable Y.BitLeaf i)) (λ n i. here (plain_variable (character n) i)) (λ n i. here (plain_variable (varying n) i))
+    (λ type b bs i held are'.
+    let u = array_variable type (b ∷ bs) i in
+    subst (λ q. Marks ((if q then constant_made e place u else adjustable_made e line place u) ++ rest) []) (sym (held_constant type held (b ∷ bs) i)) (here u)) d are.0
 
-begin_marks : (e : Environment) (head : Y.BlockHead) (words : ℕ) (c : Code) (ss : List Symbol) → AreDeclaring (variables_of_block e.program head.number) → Marks c ss → Marks (begin_code e head words c) ss
+begin_marks : (e : Environment) (head : Y.BlockHead) (words : ℕ) (c : Code) (ss : List Symbol) → ArePlain (variables_of_block e.program head.number) → Marks c ss → Marks (begin_code e head words c) ss
 begin_marks e head words c ss declaring h =
     let e' = begin_environment head e in
     let enter = entered_without_texts 1 head.line in
@@ -273,14 +274,14 @@ unit_left_none words =
     (behind (up ++ below) last [] (behind up below [] (plus_none stack_register frame_register z) refl) refl))
 
 -- its variables are declared
-unit_has : (e : Environment) (block : Names) (types : Types) (head : Y.BlockHead) (kind : Y.BlockKind) → block.program ≡ e.program → AreDeclaring (unit_declares e.program head kind) → HasTypes e block types → HasTypes e (names_in block types head (unit_declares block.program head kind)) (types_in types (unit_declares block.program head kind))
+unit_has : (e : Environment) (block : Names) (types : Types) (head : Y.BlockHead) (kind : Y.BlockKind) → block.program ≡ e.program → ArePlain (unit_declares e.program head kind) → HasTypes e block types → HasTypes e (names_in block types head (unit_declares block.program head kind)) (types_in types (unit_declares block.program head kind))
 unit_has e block types head Y.SimpleUnit named are has = has
 unit_has e block types head Y.UnitBlock named are has = has_in e block types head named are has
 unit_has e block types head Y.ProcedureBlock named are has = has_in e block types head named are has
 unit_has e block types head Y.BeginBlock named are has = has_in e block types head named are has
 
 -- a unit marks what its statements mark, and its end where it is a block
-made_none : (e : Environment) (head : Y.BlockHead) (kind : Y.BlockKind) → AreDeclaring (unit_declares e.program head kind) → e.block ≡ head.number → Marks (unit_variables e head kind) []
+made_none : (e : Environment) (head : Y.BlockHead) (kind : Y.BlockKind) → ArePlain (unit_declares e.program head kind) → e.block ≡ head.number → Marks (unit_variables e head kind) []
 made_none e head Y.SimpleUnit are same = refl
 made_none e head Y.UnitBlock are same = ap (λ n. symbols_marked (variables_made e head.line 0 (variables_of_block e.program n))) same ∙ declared_none e head.line 0 (variables_of_block e.program head.number) are
 made_none e head Y.ProcedureBlock are same = ap (λ n. symbols_marked (variables_made e head.line 0 (variables_of_block e.program n))) same ∙ declared_none e head.line 0 (variables_of_block e.program head.number) are
@@ -292,7 +293,7 @@ mark_marks head Y.UnitBlock = refl
 mark_marks head Y.ProcedureBlock = refl
 mark_marks head Y.BeginBlock = refl
 
-unit_marks : (e : Environment) (head : Y.BlockHead) (body : Y.Stmts) → AreDeclaring (unit_declares e.program head head.kind) → Marks (stmts_code (owned_by (owner_of_unit head head.kind) (in_frame head.number head.level e)) none_taken body) (places_of (all_stands head.number body)) → Marks (unit_by e head body head.kind head.level) (places_of (all_stands head.number body ++ end_of head head.kind))
+unit_marks : (e : Environment) (head : Y.BlockHead) (body : Y.Stmts) → ArePlain (unit_declares e.program head head.kind) → Marks (stmts_code (owned_by (owner_of_unit head head.kind) (in_frame head.number head.level e)) none_taken body) (places_of (all_stands head.number body)) → Marks (unit_by e head body head.kind head.level) (places_of (all_stands head.number body ++ end_of head head.kind))
 unit_marks e head body are marks =
     let e' = owned_by (owner_of_unit head head.kind) (in_frame head.number head.level e) in
     let c = stmts_code e' none_taken body in
@@ -315,7 +316,7 @@ unit_marks e head body are marks =
 -- ---- the statements
 
 mutual
-  pub statement_marks : (e : Environment) (t : Taken) (block : Names) (types : Types) (x : Y.Stmt) → block.program ≡ e.program → HasTypes e block types → IsProvedStatement block types x → DeclaresScalars e.program x → Marks (stmt_code e t x) (places_of (inner_stands e.block x))
+  pub statement_marks : (e : Environment) (t : Taken) (block : Names) (types : Types) (x : Y.Stmt) → block.program ≡ e.program → HasTypes e block types → IsProvedStatement block types x → DeclaresPlain e.program x → Marks (stmt_code e t x) (places_of (inner_stands e.block x))
   statement_marks e t block types (Y.Null line) named has is bare = act_none line
   statement_marks e t block types (Y.Assign target (Y.StoredNumber precision x) line) named has is bare =
       behind (act_code line) (assigned_code e t target (Y.StoredNumber precision x)) [] (act_none line) (number_assigned_none e t block types precision target x has is.0 is.1.0)
@@ -425,7 +426,7 @@ mutual
       behind (act_code line) (skip_option 0 (Some n) ++ got) [] (act_none line) (behind (skip_option 0 (Some n)) got [] (get_skip_none n) (gets_none e t block types pairs has is.1.0))
   statement_marks e t block types _ named has is bare = absurd is
 
-  pub statements_mark : (e : Environment) (t : Taken) (block : Names) (types : Types) (body : Y.Stmts) → block.program ≡ e.program → HasTypes e block types → AreProvedStatements block types body → DeclareScalars e.program body → Marks (stmts_code e t body) (places_of (all_stands e.block body))
+  pub statements_mark : (e : Environment) (t : Taken) (block : Names) (types : Types) (body : Y.Stmts) → block.program ≡ e.program → HasTypes e block types → AreProvedStatements block types body → DeclarePlain e.program body → Marks (stmts_code e t body) (places_of (all_stands e.block body))
   statements_mark e t block types (Y.EndOfList labels) named has are bare = marked_places e.block labels
   statements_mark e t block types (Y.StmtThen labels first rest) named has are bare =
       let c = stmt_code e t first in

@@ -31,7 +31,7 @@ use Rattle.pli_coding.specs.SignatureTable.{table_of}
 use Rattle.pli_meaning.specs.DeclaredShapes.{variables_of_block}
 use Rattle.pli_headline.specs.Headline.{parts}
 use Rattle.pli_headline.proofs.PlainNumbers.{Numbered}
-use Rattle.pli_headline.specs.ProvedSoFar.{Names, Kind, Types, OuterBlock, IsOwn, IsProvedNumber, IsProvedBit, alone, types_of, text_leaf}
+use Rattle.pli_headline.specs.ProvedSoFar.{Names, Kind, Types, OuterBlock, IsOwn, IsProvedNumber, IsProvedBit, alone, types_of, text_leaf, AllPlain}
 use Rattle.image_runs.specs.Runs.{Whole}
 use Rattle.pli_headline.proofs.Storages.{storage, Storage, Serials, Stored, stored_changed}
 use Rattle.pli_headline.proofs.Engine.{Base, address, most_code}
@@ -249,17 +249,18 @@ pub record Block (e : Environment) (block : Names) (types : Types) : Type 1 wher
   pub enclosing : Enclosures e ground levels frames.list (e.level ∷ depths) outer
   pub seen : AllSeen e ground levels frames.list (e.level ∷ depths) outer enclosing serials block types
 
--- all variables of the program have numbers in its table, and no block has parameters
+-- all variables of the program are plain and have numbers in its table, and no block has parameters
 pub record IsKnown (e : Environment) : Type 0 where
   pub table : e.table ≡ table_of e.program
   pub parts_are : e.parts ≡ parts
   pub numbered : (number j : ℕ) {kind : Kind} → slice_get (types_of (variables_of_block e.program number)) j ≡ Some kind → Numbered (table_of e.program) kind
   pub none : (number : ℕ) → parameters_of_block e.program number ≡ []
+  pub plain : AllPlain e.program.variables
 
 -- of any block of the program
 pub known_in : {e : Environment} (owner : Owner) (number level : ℕ) → IsKnown e → IsKnown (owned_by owner (in_frame number level e))
 known_in owner number level known =
-    record { table = known.table; parts_are = known.parts_are; numbered = known.numbered; none = known.none }
+    record { table = known.table; parts_are = known.parts_are; numbered = known.numbered; none = known.none; plain = known.plain }
 
 -- all variables of its own stand in its frame
 abbrev pub IsFilled : {e : Environment} {block : Names} {types : Types} → Block e block types → Type 0

@@ -142,7 +142,6 @@ text_arrays_program =
         );
         jumps = (tt, (tt, (tt, tt)));
         calls = (tt, (tt, (tt, tt)));
-        inside = (tt, (tt, (tt, tt)));
         few = omega arith;
       };
       inner = tt;

@@ -5,7 +5,7 @@ use Rattle.pli_language.specs.Tree as T
 use Rattle.pli_language.specs.declared.condition.Condition.TheVariants as C
 use Rattle.pli_typing.specs.Signatures.{Bounds}
 use Rattle.pli_typing.specs.TypedTree as Y
-use Rattle.pli_headline.specs.ProvedSoFar.{Names, Types, IsOwn, IsWhole, IsDeclaring, AreConstants, IsProvedNumber, IsPlain, IsProvedSoFar, main_names, names_in, alone, plain_variable, array_variable}
+use Rattle.pli_headline.specs.ProvedSoFar.{Names, Types, IsOwn, IsWhole, AreConstants, IsProvedNumber, IsPlain, IsProvedSoFar, main_names, names_in, alone, plain_variable, array_variable}
 
 -- T: PROC OPTIONS(MAIN); DECLARE I FIXED BINARY(31), A(3) FIXED BINARY(31);
 -- ON AREA BEGIN; DECLARE J FIXED BINARY(15) INITIAL(-7), B BIT(1); J = I; I = J; IF B THEN GOTO L; END; SIGNAL AREA;
@@ -79,7 +79,7 @@ unit_program =
     let i : IsOwn unit_names unit_types (Y.FixedLeaf 31) (whole_at 1 0 0) = record { index = 0; declared = refl; is = refl } in
     let j : IsOwn unit_names unit_types (Y.FixedLeaf 15) (whole_at 2 1 0) = record { index = 2; declared = refl; is = refl } in
     let b : IsOwn unit_names unit_types Y.BitLeaf (whole_at 2 1 1) = record { index = 3; declared = refl; is = refl } in
-    let a : IsWhole (main_names with_unit 1) outer_types (Y.FixedLeaf 31) (whole_at 1 0 1) = record { index = 1; bound = three; bounds = []; declared = refl; is = refl } in
+    let a : IsWhole (main_names with_unit 1) outer_types (Y.FixedLeaf 31) (whole_at 1 0 1) = record { index = 1; outermost = refl; bound = three; bounds = []; declared = refl; is = refl } in
     let ni : IsProvedNumber unit_names unit_types (Y.NumberIn (whole_at 1 0 0)) = (record { precision = 31; part = inl i }, tt) in
     let nj : IsProvedNumber unit_names unit_types (Y.NumberIn (whole_at 2 1 0)) = (record { precision = 15; part = inl j }, tt) in
     let minus : AreConstants (Y.FixedLeaf 15) seven = (lit< tt, (refl, tt)) in
@@ -87,8 +87,6 @@ unit_program =
     let plain_a : IsPlain numbers = record { type = Y.FixedLeaf 31; bounds = three ∷ []; initial = []; held = ((omega arith, omega arith), (((refl, (refl, refl)), tt), omega arith)); begins = tt; is = refl } in
     let plain_j : IsPlain short = record { type = Y.FixedLeaf 15; bounds = []; initial = seven; held = (omega arith, omega arith); begins = minus; is = refl } in
     let plain_b : IsPlain bit = record { type = Y.BitLeaf; bounds = []; initial = []; held = tt; begins = tt; is = refl } in
-    let declares_j : IsDeclaring short = record { type = Y.FixedLeaf 15; held = (omega arith, omega arith); items = seven; begins = minus; is = refl } in
-    let declares_b : IsDeclaring bit = record { type = Y.BitLeaf; held = tt; items = []; begins = tt; is = refl } in
     record {
       head = head;
       body = outer_body;
@@ -110,7 +108,6 @@ unit_program =
           (tt, ((refl, (refl, (tt, (tt, tt)))), (tt, tt))),
         );
         calls = (((tt, (tt, (tt, tt))), (omega arith, refl)), (omega arith, (((tt, tt), (omega arith, tt)), (omega arith, tt))));
-        inside = (((declares_j, (declares_b, tt)), (tt, (tt, (tt, tt)))), (tt, ((tt, (tt, tt)), (tt, tt))));
         few = omega arith;
       };
       inner = tt;

@@ -1,5 +1,5 @@
 -- Units of the main procedure that may be in force: what is proved of them, and where their code stands.
-use Rattle.std.proofs.Common.{◌≡◌, ℕ, ◌+◌, ◌*◌, ◌≤◌, List, [], ◌∷◌, ◌++◌, length, true, false, refl, sym, ap, ◌∙◌}
+use Rattle.std.proofs.Common.{◌≡◌, ℕ, ◌+◌, ◌*◌, ◌≤◌, List, [], ◌∷◌, ◌++◌, true, false, refl, sym, ap, ◌∙◌}
 use Rattle.std.specs.Prelude.{max}
 use Rattle.rv_meaning.specs.declared.instr.Instr.{Instr}
 use Rattle.pli_typing.specs.TypedTree as Y
@@ -13,7 +13,7 @@ use Rattle.pli_coding.specs.Environments.{BlockPlace, UnitOwner, Environment, in
 use Rattle.pli_coding.specs.Images.{blocks_among}
 use Rattle.pli_coding.specs.Statements.{unit_environment, unit_variables, unit_words, unit_mark, unit_left, stmts_words, stmts_code}
 use Rattle.pli_coding.specs.Linking.{Links}
-use Rattle.pli_headline.specs.ProvedSoFar.{Types, main_outer, times, IsLine, IsUnitBody, AreProvedStatements, AllJumpAround, AllCallAmong, AreDeclaring, DeclareScalars, Names, names_in, types_in, unit_declares, inner_bytes, bytes_of}
+use Rattle.pli_headline.specs.ProvedSoFar.{Types, main_outer, times, IsLine, IsUnitBody, AreProvedStatements, AllJumpAround, AllCallAmong, ArePlain, Names, names_in, types_in, unit_declares, inner_bytes, bytes_of}
 use Rattle.pli_headline.specs.InnerWords.{all_inner_words}
 use Rattle.pli_headline.proofs.Items.{Linked}
 use Rattle.pli_headline.proofs.InnerLevels.{IsAmong}
@@ -23,6 +23,7 @@ use Rattle.pli_headline.proofs.Declares.{code_joined}
 use Rattle.pli_headline.proofs.DeclaredBegins.{no_words}
 use Rattle.pli_headline.proofs.UnitRuns.{unit_with, unit_made}
 use Rattle.pli_headline.proofs.OnUnits.{unit_by}
+use Rattle.pli_headline.proofs.PlainInside.{DeclarePlain}
 
 -- the program around a block, whatever the block
 abbrev pub program_around : Environment → Environment
@@ -42,8 +43,8 @@ pub record UnitStands (e : Environment) (block : Names) (types : Types) (all : L
   pub line : IsLine head.line
   pub proved : AreProvedStatements (names_in block types head (unit_declares e.program head head.kind)) (types_in types (unit_declares e.program head head.kind)) body
   pub jumps : AllJumpAround head.number head.level all e.blocks (main_outer procedure e.program.procedures) (main_outer procedure e.program.procedures ∷ []) (labels_in body) body
-  pub declares : AreDeclaring (unit_declares e.program head head.kind)
-  pub inside : DeclareScalars e.program body
+  pub declares : ArePlain (unit_declares e.program head head.kind)
+  pub inside : DeclarePlain e.program body
   pub calls : AllCallAmong e.program may false 0 body
   pub few : 4 * (stmts_words body + all_inner_words body) + (bytes_of (unit_declares e.program head head.kind) + inner_bytes e.program body) ≤ 3200
   pub once : (number : ℕ) (label : Label) → times number label all ≡ 1 → IsMarkedOnce links number label
@@ -67,7 +68,7 @@ code_with head made statements mark words level =
     ++ (entered_without_texts 2 head.line ++ (made ++ (act_code head.line ++ (statements ++ (mark ++ unit_left words)))))
 
 -- no words are needed for its variables
-words_are : (e : Environment) (head : Y.BlockHead) (kind : Y.BlockKind) (body : ℕ) → AreDeclaring (unit_declares e.program head kind) → unit_words e head kind body ≡ words_of_unit kind body
+words_are : (e : Environment) (head : Y.BlockHead) (kind : Y.BlockKind) (body : ℕ) → ArePlain (unit_declares e.program head kind) → unit_words e head kind body ≡ words_of_unit kind body
 words_are e head Y.SimpleUnit body are = refl
 words_are e head Y.UnitBlock body are = ap (λ n. max n body) (no_words (variables_of_block e.program head.number) are)
 words_are e head Y.ProcedureBlock body are = ap (λ n. max n body) (no_words (variables_of_block e.program head.number) are)
@@ -83,7 +84,7 @@ joined : (frame enter made act statements ended : Code) → frame ++ (enter ++ (
 joined frame enter made act statements ended =
     ap (λ c. frame ++ (enter ++ c)) (ap (λ c. made ++ c) (sym (code_joined act statements ended)) ∙ sym (code_joined made (act ++ statements) ended))
 
-pub unit_is : (e : Environment) (head : Y.BlockHead) (body : Y.Stmts) → AreDeclaring (unit_declares e.program head head.kind) → head.level ≡ 1 → unit_by e head body head.kind head.level ≡ unit_with (words_of_unit head.kind (stmts_words body)) head.line (unit_made e head head.kind) (stmts_code (unit_environment head e) none_taken body) (unit_mark head head.kind)
+pub unit_is : (e : Environment) (head : Y.BlockHead) (body : Y.Stmts) → ArePlain (unit_declares e.program head head.kind) → head.level ≡ 1 → unit_by e head body head.kind head.level ≡ unit_with (words_of_unit head.kind (stmts_words body)) head.line (unit_made e head head.kind) (stmts_code (unit_environment head e) none_taken body) (unit_mark head head.kind)
 unit_is e head body are level =
     let st = stmts_code (unit_environment head e) none_taken body in
     let mark = unit_mark head head.kind in

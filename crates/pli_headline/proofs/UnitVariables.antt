@@ -9,7 +9,7 @@ use Rattle.pli_coding.specs.Frames.{fixed_size, frame_end, variable_place, param
 use Rattle.pli_coding.specs.Environments.{Environment, in_frame}
 use Rattle.pli_coding.specs.Statements.{owner_of_unit, unit_environment}
 use Rattle.pli_headline.specs.Headline.{parts}
-use Rattle.pli_headline.specs.ProvedSoFar.{Names, Types, AreDeclaring, IsUnitBody, bytes_of, unit_declares}
+use Rattle.pli_headline.specs.ProvedSoFar.{Names, Types, ArePlain, IsUnitBody, bytes_of, unit_declares}
 use Rattle.pli_headline.proofs.Engine.{Base}
 use Rattle.pli_headline.proofs.Statements.{Block, IsOwned, IsFilled, IsKnown, owned_of}
 use Rattle.pli_headline.proofs.MoreServed.{place_for}
@@ -36,7 +36,7 @@ first_place e number level known =
     ∙ ap (λ (ns : List ℕ). variable_place parts (fixed_size level (length ns)) ds 0) (known.none number)
     ∙ (at_first (fixed_size level 0) ds ∙ ap (λ n. fixed_size level 0 + n) (none_before ds))
 
-unit_place : (e : Environment) (head : Y.BlockHead) (kind : Y.BlockKind) (i : ℕ) → IsKnown e → AreDeclaring (unit_declares e.program head kind) → i ≤ length (unit_declares e.program head kind) → head.level ≡ 1 → bytes_of (unit_declares e.program head kind) ≤ 2 ^ 20 → place_for (in_frame head.number head.level e) i ≡ fixed_size head.level 0 + bytes_before (unit_declares e.program head kind) i
+unit_place : (e : Environment) (head : Y.BlockHead) (kind : Y.BlockKind) (i : ℕ) → IsKnown e → ArePlain (unit_declares e.program head kind) → i ≤ length (unit_declares e.program head kind) → head.level ≡ 1 → bytes_of (unit_declares e.program head kind) ≤ 2 ^ 20 → place_for (in_frame head.number head.level e) i ≡ fixed_size head.level 0 + bytes_before (unit_declares e.program head kind) i
 unit_place e head Y.SimpleUnit zero known are h next few = first_place e head.number head.level known
 unit_place e head Y.SimpleUnit (suc i) known are h next few = absurd (omega (arith, h))
 unit_place e head Y.UnitBlock i known are h next few = declared_place e head.number head.level i known are h (omega (arith, few, next))
@@ -51,7 +51,7 @@ unit_stand program head Y.BeginBlock i below = refl
 
 -- ---- in its frame
 
-pub unit_makes : {e : Environment} {block : Names} {types : Types} (bl : Block e block types) (callee : Callee bl) (head : Y.BlockHead) (next : head.level ≡ 1) (main : ℕ) (mains : List Label) (has : HasMain main mains e.level e.block bl.labels bl.outer) → IsKnown e → AreDeclaring (unit_declares e.program head head.kind) → callee.at + fixed_size 1 0 + bytes_of (unit_declares e.program head head.kind) + 4 ≤ 14 * 2 ^ 20 → bytes_of (unit_declares e.program head head.kind) ≤ 2 ^ 20 → UnitMakes bl callee head next main mains has (unit_declares e.program head head.kind)
+pub unit_makes : {e : Environment} {block : Names} {types : Types} (bl : Block e block types) (callee : Callee bl) (head : Y.BlockHead) (next : head.level ≡ 1) (main : ℕ) (mains : List Label) (has : HasMain main mains e.level e.block bl.labels bl.outer) → IsKnown e → ArePlain (unit_declares e.program head head.kind) → callee.at + fixed_size 1 0 + bytes_of (unit_declares e.program head head.kind) + 4 ≤ 14 * 2 ^ 20 → bytes_of (unit_declares e.program head head.kind) ≤ 2 ^ 20 → UnitMakes bl callee head next main mains has (unit_declares e.program head head.kind)
 unit_makes {e} bl callee head next main mains has known are room few kind back h0 t0 =
     let ds = unit_declares e.program head head.kind in
     let e' = unit_environment head e in
@@ -74,7 +74,7 @@ unit_makes {e} bl callee head next main mains has known are room few kind back h
     }
 
 -- the end of its frame is known where it is a block
-pub unit_sized : (e : Environment) (head : Y.BlockHead) (kind : Y.BlockKind) (body : Y.Stmts) → IsUnitBody kind body → IsKnown e → AreDeclaring (unit_declares e.program head kind) → head.level ≡ 1 → bytes_of (unit_declares e.program head kind) ≤ 2 ^ 20 → IsOwned (owner_of_unit head kind) → frame_end e.parts e.program head.number head.level ≡ fixed_size head.level 0 + bytes_of (unit_declares e.program head kind)
+pub unit_sized : (e : Environment) (head : Y.BlockHead) (kind : Y.BlockKind) (body : Y.Stmts) → IsUnitBody kind body → IsKnown e → ArePlain (unit_declares e.program head kind) → head.level ≡ 1 → bytes_of (unit_declares e.program head kind) ≤ 2 ^ 20 → IsOwned (owner_of_unit head kind) → frame_end e.parts e.program head.number head.level ≡ fixed_size head.level 0 + bytes_of (unit_declares e.program head kind)
 unit_sized e head Y.SimpleUnit body what known are next few owned = absurd owned
 unit_sized e head Y.UnitBlock body what known are next few owned =
     let ds = variables_of_block e.program head.number in

@@ -1,13 +1,13 @@
 -- Where the variables of a frame stand behind one another: places are sums of the bytes that each takes.
-use Rattle.std.proofs.Common.{◌≡◌, ℕ, zero, suc, ◌+◌, ◌*◌, ◌-◌, ◌%◌, ◌<◌, ◌≤◌, ◌⊎◌, inl, inr, List, [], ◌∷◌, false, ap, subst, arith, refl}
+use Rattle.std.proofs.Common.{◌≡◌, ℕ, zero, suc, ◌+◌, ◌*◌, ◌-◌, ◌%◌, ◌<◌, ◌≤◌, ◌⊎◌, inl, inr, List, [], ◌∷◌, false, ap, subst, arith, refl, sym}
 use Rattle.std.specs.Prelude.{pos, ◌==◌}
 use Rattle.std.proofs.lemmas.Bool.{cases_lt}
 use Rattle.std.proofs.lemmas.Bool.Decides.{nat_tests}
 use Rattle.pli_typing.specs.Signatures.{Bounds, rounded_up, element_count}
 use Rattle.pli_typing.specs.TypedTree as Y
-use Rattle.pli_headline.specs.ProvedSoFar.{IsScalar, IsHeld, Kind, bytes_for}
+use Rattle.pli_headline.specs.ProvedSoFar.{IsScalar, IsHeld, Kind, bytes_each, bytes_for}
 use Rattle.pli_headline.proofs.Scalars.{Declared, by_held, by_shape, IsNumeric, by_type}
-use Rattle.pli_headline.proofs.ArrayPlaces.{suc-times}
+use Rattle.pli_headline.proofs.ArrayPlaces.{count_some, suc-times}
 
 -- ---- sizes
 
@@ -78,20 +78,13 @@ scalar_size (Y.CharacterLeaf (Y.ConstantExtent (pos (suc n)))) = 16 + rounded_up
 scalar_size (Y.VaryingLeaf (Y.ConstantExtent (pos n))) = 16 + rounded_up 16 (rounded_up 4 (2 + n))
 scalar_size _ = 32
 
--- as many as the specification counts
-pub counted_size : (type : Y.LeafType) → IsScalar type → bytes_for type ≡ scalar_size type
-counted_size type is =
-    by_held (λ t. bytes_for t ≡ scalar_size t) (λ p. refl) refl (λ n few. omega arith) (λ n few. omega arith) type is
-
 -- so many bytes of elements, of which there is one at least
 abbrev pub many_size : ℕ → ℕ
 many_size n = 16 + rounded_up 16 (suc (n - 1))
 
 -- the data of a scalar, or of an element, in whole words
 abbrev pub scalar_data_size : Y.LeafType → ℕ
-scalar_data_size (Y.CharacterLeaf (Y.ConstantExtent (pos n))) = rounded_up 4 n
-scalar_data_size (Y.VaryingLeaf (Y.ConstantExtent (pos n))) = rounded_up 4 (2 + n)
-scalar_data_size _ = 4
+scalar_data_size type = bytes_each type
 
 abbrev pub size_for : Y.LeafType → List Bounds → ℕ
 size_for type [] = scalar_size type
@@ -134,6 +127,14 @@ product_some (suc m) n some more = let e = suc-times m n in omega (arith, e, mor
 pub elements_size : (type : Y.LeafType) → IsScalar type → (count : ℕ) → 0 < count → many_size (scalar_data_size type * count) ≡ 16 + rounded_up 16 (scalar_data_size type * count)
 elements_size type is count some =
     many_is (scalar_data_size type * count) (product_some (scalar_data_size type) count (data_some type is) some)
+
+-- as many as the specification counts
+pub counted_size : (k : Kind) → IsHeld k.type k.bounds → bytes_for k ≡ frame_size k
+counted_size k is =
+    by_shape (λ t bs. 16 + rounded_up 16 (bytes_each t * element_count bs) ≡ size_for t bs)
+    (by_held (λ t. 16 + rounded_up 16 (bytes_each t * 1) ≡ scalar_size t) (λ p. refl) refl (λ n few. omega arith) (λ n few. omega arith))
+    (λ t b bs held are few. sym (elements_size t held (element_count (b ∷ bs)) (count_some (b ∷ bs) are)))
+    k.type k.bounds is
 
 pub data_fits : (k : Kind) → IsHeld k.type k.bounds → 16 + data_size k ≤ frame_size k
 data_fits k is =

@@ -419,7 +419,7 @@ made_many m at o j count (Y.CharacterLeaf (Y.ConstantExtent (pos n))) items is b
 made_many m at o j count (Y.VaryingLeaf (Y.ConstantExtent (pos n))) items is begins room = texts_there m at o j count true n items is.1 room
 made_many m at o j count _ items is begins room = absurd is
 
-made_kind : (m : List ℕ) (at o j : ℕ) (type : Y.LeafType) (bs : List Bounds) (items : List T.InitialItem) → IsHeld type bs → AreConstants type items → at + 200 + o + length (data_for type bs items) ≤ length m → There (with_number_made m at o j (data_for type bs items)) (at + (160 + o)) (content_by type bs (begin_of items) (begin_text type items) (numbers_of items) (begin_texts type items))
+pub made_kind : (m : List ℕ) (at o j : ℕ) (type : Y.LeafType) (bs : List Bounds) (items : List T.InitialItem) → IsHeld type bs → AreConstants type items → at + 200 + o + length (data_for type bs items) ≤ length m → There (with_number_made m at o j (data_for type bs items)) (at + (160 + o)) (content_by type bs (begin_of items) (begin_text type items) (numbers_of items) (begin_texts type items))
 made_kind m at o j type [] items is begins room = made_content m at o j type items is begins room
 made_kind m at o j type (b ∷ bs) items is begins room = made_many m at o j (element_count (b ∷ bs)) type items is.0 begins room
 

@@ -39,6 +39,7 @@ use Rattle.pli_headline.proofs.InitialNamed.{all_ready}
 use Rattle.pli_headline.proofs.MainRuns.{main_around, main_count, main_room, main_types, main_data, main_sized, BodyDoes, main_runs, main_fit}
 use Rattle.pli_headline.proofs.Statements.{IsKnown}
 use Rattle.pli_headline.proofs.PlainNumbers.{main_numbered}
+use Rattle.pli_headline.proofs.PlainInside.{declare_plain}
 
 -- ---- the procedure of a program
 
@@ -78,7 +79,7 @@ some_code program is fits =
 
 labels_of : (program : Y.Program) (is : IsProvedSoFar program) → LabelsStand (main_environment program (block_in is)) (links_of (code_of parts program)) (all_labels (block_in is) is.body ++ procedure_labels is.others) (block_in is) true
 labels_of program is =
-    labels_stand program (block_in is) (line_in is) is.body is.called is.plain (alone_of program is) is.block.statements is.block.inside is.block.jumps is.inner
+    labels_stand program (block_in is) (line_in is) is.body is.called is.plain (alone_of program is) is.block.statements (declare_plain program is.body is.plain) is.block.jumps is.inner
 
 -- the program of its environment
 known_of : (program : Y.Program) (is : IsProvedSoFar program) → IsKnown (main_environment program (block_in is))
@@ -87,6 +88,7 @@ known_of program is =
       table = refl;
       parts_are = refl;
       numbered = λ number j at. main_numbered program number j is.plain is.few at;
+      plain = is.plain;
       none = λ number. none_known program (block_in is) (line_in is) is.body _ is.called (alone_of program is) is.inner number;
     }
 
@@ -112,8 +114,8 @@ calls_done program is fits k =
     let alone = alone_of program is in
     let behind = (placed_for program is fits).behind in
     inner_calls program block line is.body is.called alone is.inner is.once (others_at program is fits) (others_stand program is fits) (omega (arith, behind))
-    (λ number apart once. entry_stands program block line is.body is.called is.plain alone is.block.statements is.block.inside is.inner number apart once)
-    (λ number among apart once. end_stands program block line is.body is.called is.plain alone is.block.statements is.block.jumps is.block.inside is.inner number apart once among is.block.calls)
+    (λ number apart once. entry_stands program block line is.body is.called is.plain alone is.block.statements (declare_plain program is.body is.plain) is.inner number apart once)
+    (λ number among apart once. end_stands program block line is.body is.called is.plain alone is.block.statements is.block.jumps (declare_plain program is.body is.plain) is.inner number apart once among is.block.calls)
     (labels_of program is)
     (λ b h. others_known program block line is.body alone b h) k
 
@@ -122,7 +124,7 @@ room_for program is fits few =
     let p = (placed_for program is fits).procedure in
     let inside = p.inside in
     let small' = p.small' in
-    let n = procedure_inner (main_environment program (block_in is)) (main_head (block_in is) (line_in is)) (main_names program (block_in is)) (main_types program (block_in is)) is.body refl (λ j kind at. declared_at (variables_of_block program (block_in is)) j (main_plain program (block_in is) is.plain) at) (main_plain program (block_in is) is.plain) is.block.statements is.block.inside in
+    let n = procedure_inner (main_environment program (block_in is)) (main_head (block_in is) (line_in is)) (main_names program (block_in is)) (main_types program (block_in is)) is.body refl (λ j kind at. declared_at (variables_of_block program (block_in is)) j (main_plain program (block_in is) is.plain) at) (main_plain program (block_in is) is.plain) is.block.statements (declare_plain program is.body is.plain) in
     omega (arith, inside, small', n, few)
 
 body_done : (program : Y.Program) (is : IsProvedSoFar program) (fits : FitsMemory (picture_of parts program)) (k : ℕ) → BodyDoes (units_of program is) program (block_in is) (line_in is) is.body (memory_for program) is.plain (alone_of program is) (few_words program is fits) (links_of (code_of parts program)) (code_for program) k
@@ -142,7 +144,7 @@ body_done program is fits k few =
     (placed_for program is fits).routines (known_of program is) (main_around program k line) refl is.called k
     (labels_of program is) is.block.statements is.block.jumps
     (le-max_right (variables_words (variables_of_block program block)) (stmts_words is.body))
-    (room_for program is fits few) is.block.few is.block.inside (record { enter = refl; turns = refl }) (omega arith) (blocks_known program block line is.body alone) is.block.calls (calls_done program is fits k) (λ frame u at k'. k') (λ u at k'. (refl, k'))
+    (room_for program is fits few) is.block.few (declare_plain program is.body is.plain) (record { enter = refl; turns = refl }) (omega arith) (blocks_known program block line is.body alone) is.block.calls (calls_done program is fits k) (λ frame u at k'. k') (λ u at k'. (refl, k'))
     (data_stand (code_of parts program) fits (some_code program is fits))
 
 -- ---- its runs

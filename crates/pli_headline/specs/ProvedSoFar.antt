@@ -1,8 +1,8 @@
 -- The programs for which the headline is proved so far: a main procedure with scalars of FIXED BINARY, BIT(1) and CHARACTER of
 -- constant lengths, VARYING or not, with or without INITIAL, arrays of these with constant bounds, with or without
--- INITIAL, procedures inside it, without parameters and results, and BEGIN blocks in these and in one another, which declare nothing,
--- or such scalars, with or without INITIAL; expressions of numbers, bits and texts, and elements of arrays
--- in them; assignments of these, and of one number or bit to all elements of an array, CALL of these procedures, also by themselves, IF,
+-- INITIAL, procedures inside it, without parameters and results, and BEGIN blocks in these and in one another, which declare such
+-- scalars and arrays, too; expressions of numbers, bits and texts, and elements of arrays in them; assignments of these, and of one
+-- number or bit to all elements of an array of the main procedure, CALL of these procedures, also by themselves, IF,
 -- groups, DO WHILE, DO with a variable, GOTO to a label of a list around it in its block, in a block around it up to the procedure's own,
 -- or of the main procedure's own list, RETURN, STOP, SIGNAL, ON with SYSTEM, ON for AREA with a single statement or a BEGIN block, which
 -- declares as others do, in the main procedure's own block, REVERT, PUT EDIT of numbers, bits and texts, and GET EDIT of such scalars and
@@ -12,7 +12,7 @@ use Rattle.pli_language.specs.Keywords.{same_bytes}
 use Rattle.pli_language.specs.declared.condition.Condition.TheVariants as C
 use Rattle.pli_language.specs.Tree as T
 use Rattle.pli_language.specs.Formats.{formats_move_data}
-use Rattle.pli_typing.specs.Signatures.{Bounds, rounded_up}
+use Rattle.pli_typing.specs.Signatures.{Bounds, element_count, rounded_up}
 use Rattle.pli_typing.specs.TypedTree as Y
 use Rattle.pli_meaning.specs.Numbers.{is_of_precision}
 use Rattle.pli_meaning.specs.Control.{Label, is_among}
@@ -195,9 +195,10 @@ pub record IsElement (names : Names) (types : Types) (type : Y.LeafType) (r : Y.
   pub many : given_in rest ≡ length bounds
   pub is : r ≡ Y.Referring (variable_at names index) Y.NotLocated (record { first = 0; count = 1 }) (Y.NumberThen first rest)
 
--- an array of the block, all of it
+-- an array of the main procedure, all of it
 pub record IsWhole (names : Names) (types : Types) (type : Y.LeafType) (r : Y.Reference) : Type 0 where
   pub index : ℕ
+  pub outermost : (names.at index).level ≡ 0
   pub bound : Bounds
   pub bounds : List Bounds
   pub declared : slice_get types index ≡ Some (record { type = type; bounds = bound ∷ bounds })
@@ -580,15 +581,19 @@ abbrev mutual
 
 -- ---- what the variables of blocks in a part take in frames
 
--- a scalar: 16 bytes for its name, and its data in whole pieces of 16
-abbrev pub bytes_for : Y.LeafType → ℕ
-bytes_for (Y.CharacterLeaf (Y.ConstantExtent (pos n))) = 16 + rounded_up 16 n
-bytes_for (Y.VaryingLeaf (Y.ConstantExtent (pos n))) = 16 + rounded_up 16 (2 + n)
-bytes_for _ = 32
+-- a scalar, or an element of an array: whole words
+abbrev pub bytes_each : Y.LeafType → ℕ
+bytes_each (Y.CharacterLeaf (Y.ConstantExtent (pos n))) = rounded_up 4 n
+bytes_each (Y.VaryingLeaf (Y.ConstantExtent (pos n))) = rounded_up 4 (2 + n)
+bytes_each _ = 4
+
+-- a variable: 16 bytes for its name, and its data in whole pieces of 16
+abbrev pub bytes_for : Kind → ℕ
+bytes_for k = 16 + rounded_up 16 (bytes_each k.type * element_count k.bounds)
 
 abbrev pub bytes_of : List Y.DeclaredVariable → ℕ
 bytes_of [] = 0
-bytes_of (d ∷ ds) = bytes_for (declared_kind d).type + bytes_of ds
+bytes_of (d ∷ ds) = bytes_for (declared_kind d) + bytes_of ds
 
 abbrev mutual
   pub bytes_in : Y.Program → Y.Stmt → ℕ
@@ -658,41 +663,9 @@ abbrev pub AllOnce : List ℕ → List Y.Procedure → Type 0
 AllOnce [] others = ⊤
 AllOnce (n ∷ ns) others = (number_times n others ≡ 1) × AllOnce ns others
 
--- ---- blocks inside the procedure
-
--- AUTOMATIC scalars, with what INITIAL gives them
-pub record IsDeclaring (d : Y.DeclaredVariable) : Type 0 where
-  pub type : Y.LeafType
-  pub held : IsScalar type
-  pub items : List T.InitialItem
-  pub begins : AreConstants type items
-  pub is : d ≡ plain_variable type items
-
-abbrev pub AreDeclaring : List Y.DeclaredVariable → Type 0
-AreDeclaring [] = ⊤
-AreDeclaring (d ∷ ds) = IsDeclaring d × AreDeclaring ds
-
--- blocks declare such variables alone
-abbrev mutual
-  pub DeclaresScalars : Y.Program → Y.Stmt → Type 0
-  DeclaresScalars program (Y.If condition unit line) = DeclaresScalars program unit
-  DeclaresScalars program (Y.IfElse condition unit otherwise line) = DeclaresScalars program unit × DeclaresScalars program otherwise
-  DeclaresScalars program (Y.Do body line) = DeclareScalars program body
-  DeclaresScalars program (Y.DoWhile condition body line) = DeclareScalars program body
-  DeclaresScalars program (Y.DoOnce target start condition body line) = DeclareScalars program body
-  DeclaresScalars program (Y.DoCount counter start limit step condition body line) = DeclareScalars program body
-  DeclaresScalars program (Y.Begin (Y.BlockOf head body)) =
-      AreDeclaring (variables_of_block program head.number) × DeclareScalars program body
-  DeclaresScalars program (Y.OnUnit condition (Y.BlockOf head body) line) =
-      AreDeclaring (unit_declares program head head.kind) × DeclareScalars program body
-  DeclaresScalars program _ = ⊤
-
-  pub DeclareScalars : Y.Program → Y.Stmts → Type 0
-  DeclareScalars program (Y.EndOfList labels) = ⊤
-  DeclareScalars program (Y.StmtThen labels first rest) = DeclaresScalars program first × DeclareScalars program rest
-
 -- ---- programs
 
+-- in all blocks
 abbrev pub AllPlain : List (List Y.DeclaredVariable) → Type 0
 AllPlain [] = ⊤
 AllPlain (ds ∷ rest) = ArePlain ds × AllPlain rest
@@ -724,18 +697,15 @@ pub record IsCallable (program : Y.Program) (called : List ℕ) (head : Y.BlockH
   pub calls : AllCallAmong program called true 0 body
   pub few : 4 * (stmts_words body + all_inner_words body) + (bytes_of (variables_of_block program head.number) + inner_bytes program body) ≤ 3200
 
--- a procedure inside the main one, whose number is the given block's: it declares scalars as BEGIN blocks do, and has no parameters and no
--- result
+-- a procedure inside the main one, whose number is the given block's: it has no parameters and no result
 pub record IsInner (program : Y.Program) (block : ℕ) (all : List (ℕ × Label)) (called : List ℕ) (p : Y.Procedure) : Type 0 where
   pub head : Y.BlockHead
   pub body : Y.Stmts
   pub is : p ≡ record { block = Y.BlockOf head body; parameters = []; result = None }
   pub apart : (block == head.number) ≡ false
   pub level : head.level ≡ 1
-  pub declares : AreDeclaring (variables_of_block program head.number)
   pub statements : AreProvedStatements (names_in (main_names program block) (types_of (variables_of_block program block)) head (variables_of_block program head.number)) (types_in (types_of (variables_of_block program block)) (variables_of_block program head.number)) body
   pub jumps : AllJumpAround head.number 1 all (blocks_of program.procedures) (main_outer block program.procedures) (main_outer block program.procedures ∷ []) (labels_in body) body
-  pub inside : DeclareScalars program body
   pub callable : is_number head.number called ≡ true → IsCallable program called head body
 
 abbrev pub AreInner : Y.Program → (block : ℕ) → (all : List (ℕ × Label)) → (called : List ℕ) → List Y.Procedure → Type 0
@@ -749,7 +719,6 @@ pub record IsProvedBlock (program : Y.Program) (head : Y.BlockHead) (body : Y.St
   pub statements : AreProvedStatements (main_names program head.number) (types_of (variables_of_block program head.number)) body
   pub jumps : AllJumpAround head.number 0 (all_labels head.number body ++ procedure_labels others) (blocks_of program.procedures) (main_outer head.number program.procedures) [] (labels_in body) body
   pub calls : AllCallAmong program called true 0 body
-  pub inside : DeclareScalars program body
   pub few : inner_bytes program body ≤ 1000000
 
 -- the main procedure, without parameters and without a result, and procedures inside it, of which those of some numbers are called; the
