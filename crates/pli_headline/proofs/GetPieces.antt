@@ -10,13 +10,15 @@ use Rattle.pli_language.specs.declared.condition.Condition.TheVariants as C
 use Rattle.pli_meaning.specs.Codes.{conversion_code, endfile_code}
 use Rattle.pli_meaning.specs.World.{counted}
 use Rattle.pli_meaning.specs.InputLines.{Input, has_character, field_of, behind_field}
-use Rattle.pli_meaning.specs.StorageState.{State, with_input}
+use Rattle.pli_meaning.specs.StorageState.{State, SystemUnit, with_input, force}
 use Rattle.pli_meaning.specs.Control.{Flow, Meaning, act, stored, looked, choose, give, ◌>>=◌, ◌>>◌}
 use Rattle.pli_meaning.specs.Raising as R
 use Rattle.pli_meaning.specs.Raising.{Around}
 use Rattle.pli_meaning.specs.Streaming as P
 use Rattle.pli_meaning.specs.Streaming.{FormatItem, DataFormat, DataItem, FixedItem, TextItem, Field}
+use Rattle.pli_serving.specs.ServiceState as S
 use Rattle.pli_serving.specs.ServiceState.{Services}
+use Rattle.pli_serving.specs.OnUnits as U
 use Rattle.pli_serving.specs.Answers.{Answer, Done}
 use Rattle.pli_serving.specs.Finding.{Call}
 use Rattle.pli_serving.specs.FormatLists.{formats_at}
@@ -34,9 +36,10 @@ use Rattle.pli_headline.proofs.Items.{Linked, At, straight}
 use Rattle.pli_headline.proofs.Bodies.{Ground, Known, zero_is}
 use Rattle.pli_headline.proofs.Jumps.{front_of, back_of, rest_of, skip_taken, skip_passed, jump_piece}
 use Rattle.pli_headline.proofs.Temporaries.{nothing}
+use Rattle.pli_headline.proofs.Activations.{OnlyIf}
 use Rattle.pli_headline.proofs.Calls.{Serving, comes_act, called, Calling, call_acts, call_pauses}
 use Rattle.pli_headline.proofs.Raising.{Routines, small_is, error_piece}
-use Rattle.pli_headline.proofs.Operators.{valued, raised_piece}
+use Rattle.pli_headline.proofs.Operators.{valued, raised_alone}
 use Rattle.pli_headline.proofs.EditItems.{at_places}
 use Rattle.pli_headline.proofs.EditPieces.{argued, quiet_piece}
 use Rattle.pli_headline.proofs.GetItems.{getting, number_in, read_state, begin_answer, field_number, number_status}
@@ -88,23 +91,23 @@ field_some around width k s some =
     ap (λ q. cond q (((act counted) >> ((stored (with_input (behind_field width))) >> (give (Some (field_of width s.input))))) k s) (((R.raised around C.Endfile endfile_code) >> (give None)) k s)) some
 
 -- ENDFILE is raised, and ends the run
-ended_piece : {links : Links} {code : List Instr} {i : ℕ} {g : Ground} {v : Services} {h t : ℕ → ℕ} {rs : Base → List (ℕ × ℕ)} {s : State} {aims : Aims (Option (List ℕ))} (closed : Closed code aims) (routines : Routines links code) (f : Family) (around : Around) (width behind k : ℕ) → has_character s.input.marks ≡ false → Linked links code i (endfile_code_raised behind) → Serving k s v around.line → ((b : Base) → At b i (Known g v h t rs b) (f b)) → Comes code i f v aims (P.field_taken around width k s)
+ended_piece : {links : Links} {code : List Instr} {i : ℕ} {g : Ground} {v : Services} {h t : ℕ → ℕ} {rs : Base → List (ℕ × ℕ)} {s : State} {aims : Aims (Option (List ℕ))} (closed : Closed code aims) (routines : Routines links code) (f : Family) (around : Around) (width behind k : ℕ) → has_character s.input.marks ≡ false → OnlyIf SystemUnit (force s.activations C.Endfile) → OnlyIf S.SystemUnit (U.force v.activations C.Endfile) → Linked links code i (endfile_code_raised behind) → Serving k s v around.line → ((b : Base) → At b i (Known g v h t rs b) (f b)) → Comes code i f v aims (P.field_taken around width k s)
 unfolding ◌>>◌
-ended_piece {code = code} {i = i} {v = v} {s = s} {aims = aims} closed routines f around width behind k none l serving at =
+ended_piece {code = code} {i = i} {v = v} {s = s} {aims = aims} closed routines f around width behind k none only served l serving at =
     let next' : Unit {0} → Meaning (Option (List ℕ)) = λ u. give None in
     subst (Comes code i f v aims) (sym (field_none around width k s none))
     (comes_on k (R.raised around C.Endfile endfile_code k s) next'
-    (raised_piece (before_closed k next' closed) routines f around C.Endfile 4 endfile_code (JumpAhead behind ∷ []) k refl refl (lit< tt) (lit< tt) l serving at))
+    (raised_alone (before_closed k next' closed) routines f around C.Endfile 4 endfile_code (JumpAhead behind ∷ []) k refl (lit< tt) (lit< tt) only served l serving at))
 
-ended_field : {links : Links} {code : List Instr} {i : ℕ} {g : Ground} {v : Services} {h t : ℕ → ℕ} {rs : Base → List (ℕ × ℕ)} {s : State} {aims : Aims (Option Field)} (closed : Closed code aims) (routines : Routines links code) (f : Family) (around : Around) (d : DataItem) (behind k : ℕ) → IsWide d → has_character s.input.marks ≡ false → Linked links code i (endfile_code_raised behind) → Serving k s v around.line → ((b : Base) → At b i (Known g v h t rs b) (f b)) → Comes code i f v aims (P.field_got around d k s)
+ended_field : {links : Links} {code : List Instr} {i : ℕ} {g : Ground} {v : Services} {h t : ℕ → ℕ} {rs : Base → List (ℕ × ℕ)} {s : State} {aims : Aims (Option Field)} (closed : Closed code aims) (routines : Routines links code) (f : Family) (around : Around) (d : DataItem) (behind k : ℕ) → IsWide d → has_character s.input.marks ≡ false → OnlyIf SystemUnit (force s.activations C.Endfile) → OnlyIf S.SystemUnit (U.force v.activations C.Endfile) → Linked links code i (endfile_code_raised behind) → Serving k s v around.line → ((b : Base) → At b i (Known g v h t rs b) (f b)) → Comes code i f v aims (P.field_got around d k s)
 unfolding P.field_got ◌>>=◌
-ended_field {s = s} closed routines f around (FixedItem width) behind k is none l serving at =
+ended_field {s = s} closed routines f around (FixedItem width) behind k is none only served l serving at =
     let next' : Option (List ℕ) → Meaning (Option Field) = λ t. P.number_got around t in
-    comes_on k (P.field_taken around width k s) next' (ended_piece (before_closed k next' closed) routines f around width behind k none l serving at)
-ended_field {s = s} closed routines f around (TextItem (Some width)) behind k is none l serving at =
+    comes_on k (P.field_taken around width k s) next' (ended_piece (before_closed k next' closed) routines f around width behind k none only served l serving at)
+ended_field {s = s} closed routines f around (TextItem (Some width)) behind k is none only served l serving at =
     let next' : Option (List ℕ) → Meaning (Option Field) = λ t. give (P.text_got t) in
-    comes_on k (P.field_taken around width k s) next' (ended_piece (before_closed k next' closed) routines f around width behind k none l serving at)
-ended_field closed routines f around (TextItem None) behind k is none l serving at = absurd is
+    comes_on k (P.field_taken around width k s) next' (ended_piece (before_closed k next' closed) routines f around width behind k none only served l serving at)
+ended_field closed routines f around (TextItem None) behind k is none only served l serving at = absurd is
 
 -- a number beside 3
 abbrev threed : (x : ℕ) → Base → List (ℕ × ℕ)
@@ -117,20 +120,20 @@ data_not_three (TextItem width) x y e e' = ap (λ u. if u == y then false else t
 three_three : (x y : ℕ) → x ≡ 3 → y ≡ 3 → (if x == y then false else true) ≡ false
 three_three x y e e' = ap (λ u. if u == y then false else true) e ∙ ap (λ u. if 3 == u then false else true) e'
 
-tested_piece : (q : Bool) {R : Type 0} {links : Links} {code : List Instr} {i : ℕ} {g : Ground} {v : Services} {h t : ℕ → ℕ} {s : State} {aims : Aims R} (next1 : Option Field → Meaning R) (closed : Closed code aims) (routines : Routines links code) (f : Family) (around : Around) (d : DataItem) (behind k : ℕ) → has_character v.input.marks ≡ q → IsWide d → Linked links code i (skip_where Test.NotEqual a0 u1 (endfile_code_raised behind)) → Serving k s v around.line → ((b : Base) → At b i (Known g v h t (threed (cond q (E.data_number d) 3)) b) (f b)) → (q ≡ true → (f' : Family) → ((b : Base) → At b (i + 7) (Known g v h t (valued (E.data_number d)) b) (f' b)) → Comes code (i + 7) f' v aims (((P.field_got around d) >>= next1) k s)) → Comes code i f v aims (((P.field_got around d) >>= next1) k s)
+tested_piece : (q : Bool) {R : Type 0} {links : Links} {code : List Instr} {i : ℕ} {g : Ground} {v : Services} {h t : ℕ → ℕ} {s : State} {aims : Aims R} (next1 : Option Field → Meaning R) (closed : Closed code aims) (routines : Routines links code) (f : Family) (around : Around) (d : DataItem) (behind k : ℕ) → has_character v.input.marks ≡ q → IsWide d → OnlyIf SystemUnit (force s.activations C.Endfile) → OnlyIf S.SystemUnit (U.force v.activations C.Endfile) → Linked links code i (skip_where Test.NotEqual a0 u1 (endfile_code_raised behind)) → Serving k s v around.line → ((b : Base) → At b i (Known g v h t (threed (cond q (E.data_number d) 3)) b) (f b)) → (q ≡ true → (f' : Family) → ((b : Base) → At b (i + 7) (Known g v h t (valued (E.data_number d)) b) (f' b)) → Comes code (i + 7) f' v aims (((P.field_got around d) >>= next1) k s)) → Comes code i f v aims (((P.field_got around d) >>= next1) k s)
 unfolding ◌>>=◌
-tested_piece true next1 closed routines f around d behind k has is l serving at next' =
+tested_piece true next1 closed routines f around d behind k has is only served l serving at next' =
     onward closed (skip_taken _ f Test.NotEqual a0 u1 (endfile_code_raised behind) l at (λ b. data_not_three d _ _ (at b).holds.regs.0 (at b).holds.regs.1.0))
     (λ f1 at1. next' refl f1 (λ b. record { pc = (at1 b).pc; holds = record { body = (at1 b).holds.body; regs = ((at1 b).holds.regs.0, tt) } }))
-tested_piece false {i = i} {s = s} next1 closed routines f around d behind k has is l serving at next' =
+tested_piece false {i = i} {s = s} next1 closed routines f around d behind k has is only served l serving at next' =
     let none : has_character s.input.marks ≡ false = ap (λ (u : Input). has_character u.marks) (sym serving.input) ∙ has in
     onward closed (skip_passed i f Test.NotEqual a0 u1 (endfile_code_raised behind) l at (λ b. three_three _ _ (at b).holds.regs.0 (at b).holds.regs.1.0))
     (λ f1 at1.
-    comes_on k (P.field_got around d k s) next1 (ended_field (before_closed k next1 closed) routines f1 around d behind k is none (rest_of _ (endfile_code_raised behind) l) serving at1))
+    comes_on k (P.field_got around d k s) next1 (ended_field (before_closed k next1 closed) routines f1 around d behind k is none only served (rest_of _ (endfile_code_raised behind) l) serving at1))
 
 -- a field is there, or ENDFILE is raised
-pub awaited_piece : {R : Type 0} {links : Links} {code : List Instr} {i : ℕ} {g : Ground} {v : Services} {h t : ℕ → ℕ} {s : State} {aims : Aims R} (next1 : Option Field → Meaning R) (closed : Closed code aims) (routines : Routines links code) (f : Family) (around : Around) (d : DataItem) (behind k : ℕ) → IsWide d → Linked links code i (endfile_tested behind) → Serving k s v around.line → ((b : Base) → At b i (Known g v h t (valued (number_in v.input (DataFormat d))) b) (f b)) → (has_character v.input.marks ≡ true → (f' : Family) → ((b : Base) → At b (i + 8) (Known g v h t (valued (E.data_number d)) b) (f' b)) → Comes code (i + 8) f' v aims (((P.field_got around d) >>= next1) k s)) → Comes code i f v aims (((P.field_got around d) >>= next1) k s)
-awaited_piece {code = code} {i = i} {g = g} {v = v} {h = h} {t = t} {s = s} {aims = aims} next1 closed routines f around d behind k is l serving at next' =
+pub awaited_piece : {R : Type 0} {links : Links} {code : List Instr} {i : ℕ} {g : Ground} {v : Services} {h t : ℕ → ℕ} {s : State} {aims : Aims R} (next1 : Option Field → Meaning R) (closed : Closed code aims) (routines : Routines links code) (f : Family) (around : Around) (d : DataItem) (behind k : ℕ) → IsWide d → OnlyIf SystemUnit (force s.activations C.Endfile) → OnlyIf S.SystemUnit (U.force v.activations C.Endfile) → Linked links code i (endfile_tested behind) → Serving k s v around.line → ((b : Base) → At b i (Known g v h t (valued (number_in v.input (DataFormat d))) b) (f b)) → (has_character v.input.marks ≡ true → (f' : Family) → ((b : Base) → At b (i + 8) (Known g v h t (valued (E.data_number d)) b) (f' b)) → Comes code (i + 8) f' v aims (((P.field_got around d) >>= next1) k s)) → Comes code i f v aims (((P.field_got around d) >>= next1) k s)
+awaited_piece {code = code} {i = i} {g = g} {v = v} {h = h} {t = t} {s = s} {aims = aims} next1 closed routines f around d behind k is only served l serving at next' =
     let front = small u1 3 ∷ [] in
     let last = skip_where Test.NotEqual a0 u1 (endfile_code_raised behind) in
     let q = has_character v.input.marks in
@@ -140,7 +143,7 @@ awaited_piece {code = code} {i = i} {g = g} {v = v} {h = h} {t = t} {s = s} {aim
       regs = (o.regs.0, (small_is _ 3 (zero_is o.body) (lit< tt), tt));
     }) in
     onward closed r (λ f1 at1.
-    tested_piece q next1 closed routines f1 around d behind k refl is (back_of front last l) serving at1
+    tested_piece q next1 closed routines f1 around d behind k refl is only served (back_of front last l) serving at1
     (λ has f2 at2.
     let e : i + 1 + 7 ≡ i + 8 = omega arith in
     subst (λ u. Comes code u f2 v aims (((P.field_got around d) >>= next1) k s)) (sym e)

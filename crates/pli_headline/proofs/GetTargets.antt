@@ -6,6 +6,7 @@ use Rattle.rv_meaning.specs.declared.instr.Instr.{Instr}
 use Rattle.rv_meaning.specs.Words.{word, flag}
 use Rattle.pli_language.specs.Tree as T
 use Rattle.pli_typing.specs.Signatures.{Bit, Bounds}
+use Rattle.pli_language.specs.declared.condition.Condition.TheVariants as Conditions
 use Rattle.pli_typing.specs.TypedTree as Y
 use Rattle.pli_meaning.specs.BasicValues.{BasicValue, BasicNumber, BasicBit, BasicText}
 use Rattle.pli_meaning.specs.Codes.{conversion_code}
@@ -13,7 +14,8 @@ use Rattle.pli_meaning.specs.Numbers.{checked}
 use Rattle.pli_meaning.specs.Texts.{bit_number, bit_in_text}
 use Rattle.pli_meaning.specs.InputLines.{Input, has_character, field_of}
 use Rattle.pli_meaning.specs.DeclaredShapes.{variables_of_block}
-use Rattle.pli_meaning.specs.StorageState.{State}
+use Rattle.pli_meaning.specs.StorageState.{State, force}
+use Rattle.pli_serving.specs.OnUnits as U
 use Rattle.pli_meaning.specs.Control.{Meaning, give, ◌>>=◌}
 use Rattle.pli_meaning.specs.Raising as R
 use Rattle.pli_meaning.specs.Raising.{Around}
@@ -50,7 +52,7 @@ use Rattle.pli_headline.proofs.Precisions.{fitted_piece}
 use Rattle.pli_headline.proofs.Variables.{IsDeclared, whole_part, whole, own}
 use Rattle.pli_headline.proofs.States.{Holds}
 use Rattle.pli_headline.proofs.TextStates.{KeepsText}
-use Rattle.pli_headline.proofs.Entered.{Frames}
+use Rattle.pli_headline.proofs.Entered.{Frames, NoUnit, none_in_force, both_in_force}
 use Rattle.pli_headline.proofs.Statements.{Block, AllHold, Standing}
 use Rattle.pli_headline.proofs.FormatData.{items_data, true_false}
 use Rattle.pli_headline.proofs.EditTexts.{at_other_texts}
@@ -324,9 +326,9 @@ part_reads {block = block} {types} bl {links} {code} routines around same r fs i
 
 -- ---- the whole item
 
-reference_piece : {e : Environment} {block : Names} {types : Types} (bl : Block e block types) {links : Links} {code : List Instr} {i : ℕ} {v : Services} {h t : ℕ → ℕ} {s : State} {aims : Aims (Option (List FormatItem))} (closed : Closed code aims) (routines : Routines links code) (f : Family) (around : Around) (r : Y.Reference) (type : Y.LeafType) (fs : T.Formats) (reads : Reads bl links code around r type fs) (n : Values) (rest : List FormatItem) (below : List EditPlace) (behind k : ℕ) → AreProvedFormats fs → HasData fs → HaveWidths fs → Suits (has_fixed fs) (has_text fs) rest → v.edits ≡ getting (format_items fs) rest ∷ below → Linked links code i (awaited_before (field_stored e bl.taken fs r type) behind) → Serving k s v around.line → AllHold bl.frames bl.serials (storage v) (e.level ∷ bl.depths) s block types n → ((b : Base) → At b i (Known (bl.ground n) v h t nothing b) (f b)) → ItemBehind bl k around.line h t (i + size_of (awaited_before (field_stored e bl.taken fs r type) behind)) (has_fixed fs) (has_text fs) (format_items fs) below aims → Comes code i f v aims (P.item_got around (format_items fs) rest (Y.GetScalar r) k s)
+reference_piece : {e : Environment} {block : Names} {types : Types} (bl : Block e block types) {links : Links} {code : List Instr} {i : ℕ} {v : Services} {h t : ℕ → ℕ} {s : State} {aims : Aims (Option (List FormatItem))} (closed : Closed code aims) (routines : Routines links code) (f : Family) (around : Around) (r : Y.Reference) (type : Y.LeafType) (fs : T.Formats) (reads : Reads bl links code around r type fs) (n : Values) (rest : List FormatItem) (below : List EditPlace) (behind k : ℕ) → NoUnit (bl.frames.known Conditions.Endfile) → AreProvedFormats fs → HasData fs → HaveWidths fs → Suits (has_fixed fs) (has_text fs) rest → v.edits ≡ getting (format_items fs) rest ∷ below → Linked links code i (awaited_before (field_stored e bl.taken fs r type) behind) → Serving k s v around.line → AllHold bl.frames bl.serials (storage v) (e.level ∷ bl.depths) s block types n → ((b : Base) → At b i (Known (bl.ground n) v h t nothing b) (f b)) → ItemBehind bl k around.line h t (i + size_of (awaited_before (field_stored e bl.taken fs r type) behind)) (has_fixed fs) (has_text fs) (format_items fs) below aims → Comes code i f v aims (P.item_got around (format_items fs) rest (Y.GetScalar r) k s)
 unfolding P.item_got ◌>>=◌
-reference_piece {e} {block} {types} bl {links} {code} {i} {v} {h} {t} {s} {aims} closed routines f around r type fs reads n rest below behind k are has wide suits edits l serving hold at goal =
+reference_piece {e} {block} {types} bl {links} {code} {i} {v} {h} {t} {s} {aims} closed routines f around r type fs reads n rest below behind k none are has wide suits edits l serving hold at goal =
     let all = format_items fs in
     let c = field_stored e bl.taken fs r type in
     let b0 = size_of c + behind in
@@ -341,17 +343,18 @@ reference_piece {e} {block} {types} bl {links} {code} {i} {v} {h} {t} {s} {aims}
     comes_on k (P.next_item P.control_got all rest k s) nextn
     (next_piece (all_kept bl.frames bl.serials (e.level ∷ bl.depths) block types n) (before_closed k nextn closed) (has_fixed fs) (has_text fs) f all rest below k (items_data fs are has) (formats_suited fs wide) suits edits (front_of controls_carried_out (endfile_tested b0) l1) (record { serving = serving; holds = hold }) at
     (λ s1 v1 f1 d left under1 found1 suits1 at1.
-    awaited_piece (λ u. next1 u left) closed routines f1 around d b0 k suits1.1.0 (back_of controls_carried_out (endfile_tested b0) l1) under1.serving at1
+    let alone = none_in_force (bl.frames.known Conditions.Endfile) (force s1.activations Conditions.Endfile) (U.force v1.activations Conditions.Endfile) none (both_in_force bl.frames.known s1.activations v1.activations Conditions.Endfile under1.holds.units) in
+    awaited_piece (λ u. next1 u left) closed routines f1 around d b0 k suits1.1.0 alone.0 alone.1 (back_of controls_carried_out (endfile_tested b0) l1) under1.serving at1
     (λ some f2 at2.
     reads.does closed f2 d n all left below k suits1 found1 some l2 under1.serving under1.holds at2
     (λ s3 v3 rest3 n3 h3 t3 f3 serving3 hold3 suits3 edits3 stays3 at3.
     subst (λ u. aims.done u f3 v3 (Some rest3) s3) (sym place)
     (goal s3 v3 rest3 n3 h3 t3 f3 serving3 hold3 suits3 edits3 stays3 (λ b. record { pc = (at3 b).pc ∙ ap (address b) place; holds = (at3 b).holds }))))))
 
-pub item_piece : {e : Environment} {block : Names} {types : Types} (bl : Block e block types) {links : Links} {code : List Instr} (item : Y.GetItem) {i : ℕ} {v : Services} {h t : ℕ → ℕ} {s : State} {aims : Aims (Option (List FormatItem))} (closed : Closed code aims) (routines : Standing bl links code) (f : Family) (around : Around) (same : around.program ≡ e.program) (fs : T.Formats) (n : Values) (rest : List FormatItem) (below : List EditPlace) (behind k : ℕ) → IsProvedGetItem block types (has_fixed fs) item → bl.taken.words + get_item_words item ≤ bl.words → AreProvedFormats fs → HasData fs → HaveWidths fs → Suits (has_fixed fs) (has_text fs) rest → v.edits ≡ getting (format_items fs) rest ∷ below → Linked links code i (C.item_got e bl.taken fs item behind) → Serving k s v around.line → AllHold bl.frames bl.serials (storage v) (e.level ∷ bl.depths) s block types n → ((b : Base) → At b i (Known (bl.ground n) v h t nothing b) (f b)) → ItemBehind bl k around.line h t (i + size_of (C.item_got e bl.taken fs item behind)) (has_fixed fs) (has_text fs) (format_items fs) below aims → Comes code i f v aims (P.item_got around (format_items fs) rest item k s)
-item_piece {e} {block} {types} bl {links} {code} (Y.GetScalar r) {i} {v} {h} {t} {s} {aims} closed routines f around same fs n rest below behind k is room are has wide suits edits l serving hold at goal =
+pub item_piece : {e : Environment} {block : Names} {types : Types} (bl : Block e block types) {links : Links} {code : List Instr} (item : Y.GetItem) {i : ℕ} {v : Services} {h t : ℕ → ℕ} {s : State} {aims : Aims (Option (List FormatItem))} (closed : Closed code aims) (routines : Standing bl links code) (f : Family) (around : Around) (same : around.program ≡ e.program) (fs : T.Formats) (n : Values) (rest : List FormatItem) (below : List EditPlace) (behind k : ℕ) → NoUnit (bl.frames.known Conditions.Endfile) → IsProvedGetItem block types (has_fixed fs) item → bl.taken.words + get_item_words item ≤ bl.words → AreProvedFormats fs → HasData fs → HaveWidths fs → Suits (has_fixed fs) (has_text fs) rest → v.edits ≡ getting (format_items fs) rest ∷ below → Linked links code i (C.item_got e bl.taken fs item behind) → Serving k s v around.line → AllHold bl.frames bl.serials (storage v) (e.level ∷ bl.depths) s block types n → ((b : Base) → At b i (Known (bl.ground n) v h t nothing b) (f b)) → ItemBehind bl k around.line h t (i + size_of (C.item_got e bl.taken fs item behind)) (has_fixed fs) (has_text fs) (format_items fs) below aims → Comes code i f v aims (P.item_got around (format_items fs) rest item k s)
+item_piece {e} {block} {types} bl {links} {code} (Y.GetScalar r) {i} {v} {h} {t} {s} {aims} closed routines f around same fs n rest below behind k none is room are has wide suits edits l serving hold at goal =
     let code_is : C.item_got e bl.taken fs (Y.GetScalar r) behind ≡ awaited_before (field_stored e bl.taken fs r is.type) behind =
     ap (λ u. awaited_before (field_stored e bl.taken fs r u) behind) (block_type bl (has_fixed fs) r is) in
-    reference_piece bl closed routines.raises f around r is.type fs (part_reads bl routines around same r fs is room) n rest below behind k are has wide suits edits (subst (Linked links code i) code_is l) serving hold at
+    reference_piece bl closed routines.raises f around r is.type fs (part_reads bl routines around same r fs is room) n rest below behind k none are has wide suits edits (subst (Linked links code i) code_is l) serving hold at
     (subst (λ c. ItemBehind bl k around.line h t (i + size_of c) (has_fixed fs) (has_text fs) (format_items fs) below aims) code_is goal)
-item_piece bl (Y.GetAggregate r) closed routines f around same fs n rest below behind k is room are has wide suits edits l serving hold at goal = absurd is
+item_piece bl (Y.GetAggregate r) closed routines f around same fs n rest below behind k none is room are has wide suits edits l serving hold at goal = absurd is

@@ -230,6 +230,7 @@ mod Rows
 mod DeclaredRows
 mod CallingRows
 mod UnitRows
+mod EndfileRows
 mod TextArrayRows
 mod ElementsRows
 pub mod FirstPathDeclared
