@@ -10,10 +10,28 @@ use Rattle.pli_serving.specs.OnUnits as U
 use Rattle.pli_headline.proofs.Activations.{OnlyIf, same_is}
 use Rattle.pli_headline.proofs.Asides.{Aside, first_aside, behind_aside}
 
+-- how a block was entered; of an on-unit also how many places in format lists stood below it
+abbrev pub Way : Type 0
+Way = S.BlockKind × ℕ
+
+abbrev pub held_by : S.BlockKind → (own further : ℕ) → ℕ
+held_by S.ProcedureBlock own further = further
+held_by S.BeginBlock own further = further
+held_by (S.OnUnitBlock code resume) own further = own
+
+abbrev pub way_of : S.Activation → Way
+way_of x = (x.kind, held_by x.kind x.edits 0)
+
+abbrev pub procedure_way : Way
+procedure_way = (S.ProcedureBlock, 0)
+
+abbrev pub begin_way : Way
+begin_way = (S.BeginBlock, 0)
+
 -- the frames, newest first; and of the blocks in the main procedure how they are entered, and which variables of theirs are put aside
 pub record Frames : Type 1 where
   pub list : List ℕ
-  pub kinds : List S.BlockKind
+  pub kinds : List Way
   pub asides : List (List Aside)
   pub known : Condition → (frame : ℕ) → Y.Block → (at : ℕ) → Type 0
 
@@ -23,7 +41,7 @@ put_aside x frames =
     record { list = frames.list; kinds = frames.kinds; asides = (x ∷ first_aside frames.asides) ∷ behind_aside frames.asides; known = frames.known }
 
 -- a block above these
-abbrev pub atop : (at : ℕ) → S.BlockKind → Frames → Frames
+abbrev pub atop : (at : ℕ) → Way → Frames → Frames
 atop at kind frames = record { list = at ∷ frames.list; kinds = kind ∷ frames.kinds; asides = [] ∷ frames.asides; known = frames.known }
 
 -- the main procedure alone
@@ -32,21 +50,21 @@ lone at known = record { list = at ∷ []; kinds = []; asides = []; known = know
 
 -- ---- how blocks are entered
 
-abbrev pub kinds_of : List S.Activation → List S.BlockKind
+abbrev pub kinds_of : List S.Activation → List Way
 kinds_of [] = []
 kinds_of (x ∷ []) = []
-kinds_of (x ∷ y ∷ ys) = x.kind ∷ kinds_of (y ∷ ys)
+kinds_of (x ∷ y ∷ ys) = way_of x ∷ kinds_of (y ∷ ys)
 
-abbrev pub behind_kind : List S.BlockKind → List S.BlockKind
+abbrev pub behind_kind : List Way → List Way
 behind_kind [] = []
 behind_kind (k ∷ ks) = ks
 
-abbrev pub first_kind : List S.BlockKind → S.BlockKind
-first_kind [] = S.ProcedureBlock
+abbrev pub first_kind : List Way → Way
+first_kind [] = procedure_way
 first_kind (k ∷ ks) = k
 
 -- once so many blocks have ended, a frame and those behind it are left
-abbrev pub kinds_left : ℕ → List S.BlockKind → List S.BlockKind
+abbrev pub kinds_left : ℕ → List Way → List Way
 kinds_left zero ks = ks
 kinds_left (suc m) ks = kinds_left m (behind_kind ks)
 
@@ -57,7 +75,7 @@ asides_left_behind (suc m) xss = asides_left_behind m (behind_aside xss)
 abbrev pub frames_left : (m frame : ℕ) → List ℕ → Frames → Frames
 frames_left m frame behind frames = record { list = frame ∷ behind; kinds = kinds_left m frames.kinds; asides = asides_left_behind m frames.asides; known = frames.known }
 
-pub kinds_above : (x : S.Activation) (xs : List S.Activation) → 0 < length xs → kinds_of (x ∷ xs) ≡ x.kind ∷ kinds_of xs
+pub kinds_above : (x : S.Activation) (xs : List S.Activation) → 0 < length xs → kinds_of (x ∷ xs) ≡ way_of x ∷ kinds_of xs
 kinds_above x [] some = absurd (omega (arith, some))
 kinds_above x (y ∷ ys) some = refl
 

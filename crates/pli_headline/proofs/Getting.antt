@@ -30,6 +30,7 @@ use Rattle.pli_coding.specs.Streams.{has_fixed, has_text, edit_begun, edit_ended
 use Rattle.pli_coding.specs.Statements.{stmt_code}
 use Rattle.pli_coding.specs.Linking.{Links}
 use Rattle.pli_headline.specs.ProvedSoFar.{Names, Types, AreProvedFormats, HasData, HaveWidths, AreProvedGetItems, AreProvedGetPairs}
+use Rattle.pli_headline.proofs.HeldPlaces.{places_grown, places_same}
 use Rattle.pli_headline.proofs.Storages.{storage}
 use Rattle.pli_headline.proofs.Engine.{Base, address, call_at}
 use Rattle.pli_headline.proofs.Linking.{size_append}
@@ -123,13 +124,13 @@ pairs_piece {e} {block} {types} bl {links} {code} (p ∷ pairs) {i} {v} {h} {t} 
     begin_piece {links = links} {code = code} {i = i} {g = bl.ground n} {v = v} {h = h} {t = t} {aims = aims} closed f fs whole (λ b m o. formats_found fs code v m _ are has ((routines.constants n).stand bytes placed t b m o)) (front_of begun (items ++ edit_ended) lp) at
     (λ f1 at1.
     comes_on k (P.items_got around whole whole p.items k s) next'
-    (items_piece bl p.items (before_closed k next' closed) routines f1 around same fs n whole v.edits (2 + behind) k none is.0 (omega (arith, m1, room)) are has wide (formats_suited fs wide) refl (front_of items edit_ended l2) (at_other_places _ serving) all at1
+    (items_piece bl p.items (before_closed k next' closed) routines f1 around same fs n whole v.edits (2 + behind) k none is.0 (omega (arith, m1, room)) are has wide (formats_suited fs wide) refl (front_of items edit_ended l2) (at_other_places _ (places_grown (length v.edits) v.activations serving.places) serving) all at1
     (λ s2 v2 rest2 n2 h2 t2 f2 serving2 all2 edits2 stays2 at2.
     end_piece closed f2 (getting whole rest2) v.edits edits2 l3 at2
     (λ f3 at3.
     let v3 = at_places v.edits v2 in
     subst (λ u. Comes code u f3 v3 aims (P.pairs_got around pairs k s2)) (sym here)
-    (pairs_piece bl pairs closed routines f3 around same n2 k none is.1.1 (omega (arith, m2, room)) (back_of pair c l) (omega (arith, place, inside)) (at_other_places v.edits serving2) all2
+    (pairs_piece bl pairs closed routines f3 around same n2 k none is.1.1 (omega (arith, m2, room)) (back_of pair c l) (omega (arith, place, inside)) (at_other_places v.edits (places_same (length v.edits) (length v2.edits) v.activations v2.activations (all2.kinds ∙ sym all.kinds) serving.places serving2.places) serving2) all2
     (λ b. record { pc = (at3 b).pc ∙ ap (address b) here; holds = (at3 b).holds })
     (λ s4 v4 line4 n4 h4 t4 f4 serving4 all4 stays4 at4.
     subst (λ u. aims.done u f4 v4 tt s4) (sym place)
@@ -181,7 +182,7 @@ skip_piece {code = code} {i = i} {g = g} {v = v} {h = h} {t = t} {s = s} closed 
     comes_read change k s serving.world pauses
     (λ below.
     closed.done r3 tt _
-    (goal (reached r3) (at_other_places v.edits (read_serving change v.edits serving below))
+    (goal (reached r3) (at_other_places v.edits serving.places (read_serving change v.edits serving.places serving below))
     (λ b. record { pc = (reached_holds r3 b).pc ∙ ap (address b) place; holds = (reached_holds r3 b).holds })))))
 
 -- ---- the statement

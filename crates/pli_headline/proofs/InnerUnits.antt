@@ -32,7 +32,7 @@ use Rattle.pli_headline.proofs.Declares.{Makes, made_block}
 use Rattle.pli_headline.proofs.DeclaredBegins.{is_made, made_constants}
 use Rattle.pli_headline.proofs.UnitVariables.{unit_makes, unit_sized, unit_filled}
 use Rattle.pli_headline.proofs.ElementsAssignments.{elements_number_does, elements_bit_does}
-use Rattle.pli_headline.proofs.Entered.{Frames}
+use Rattle.pli_headline.proofs.Entered.{Frames, Way}
 use Rattle.pli_headline.proofs.Scalars.{Values}
 use Rattle.pli_headline.proofs.Engine.{Base}
 use Rattle.pli_headline.proofs.Variables.{AllOutermost}
@@ -116,12 +116,12 @@ main_level : (block : ℕ) (all : List (ℕ × Label)) (blocks : List BlockPlace
 main_level block all blocks main lowest level label (inl jumps) = sym jumps.0 ∙ lowest
 main_level block all blocks main lowest level label (inr jumps) = absurd jumps
 
-constants_raised : {e : Environment} {block : Names} {types : Types} {bl : Block e block types} {links : Links} {code : List Instr} (callee : Callee bl) (kind : S.BlockKind) (back : Base → ℕ) (h0 t0 : ℕ → ℕ) (head : Y.BlockHead) (next : head.level ≡ 1) (main : ℕ) (mains : List Label) (has : HasMain main mains e.level e.block bl.labels bl.outer) → Standing bl links code → (n : Values) → ConstantsStand links code ((unit_block bl callee kind back h0 t0 head next main mains has).ground n)
+constants_raised : {e : Environment} {block : Names} {types : Types} {bl : Block e block types} {links : Links} {code : List Instr} (callee : Callee bl) (kind : Way) (back : Base → ℕ) (h0 t0 : ℕ → ℕ) (head : Y.BlockHead) (next : head.level ≡ 1) (main : ℕ) (mains : List Label) (has : HasMain main mains e.level e.block bl.labels bl.outer) → Standing bl links code → (n : Values) → ConstantsStand links code ((unit_block bl callee kind back h0 t0 head next main mains has).ground n)
 constants_raised callee kind back h0 t0 head next main mains has s n =
     constants_moved (λ t. t0) (λ t b m o. o.kept.0) (s.constants n)
 
 -- once its variables are made
-standing_raised : {e : Environment} {block : Names} {types : Types} {bl : Block e block types} {links : Links} {code : List Instr} (callee : Callee bl) (kind : S.BlockKind) (back : Base → ℕ) (h0 t0 : ℕ → ℕ) (head : Y.BlockHead) (next : head.level ≡ 1) (main : ℕ) (mains : List Label) (has : HasMain main mains e.level e.block bl.labels bl.outer) (ds : List Y.DeclaredVariable) → (IsOwned (owner_of_unit head head.kind) → frame_end e.parts e.program head.number head.level ≡ fixed_size head.level 0 + bytes_of ds) → (makes : Makes (unit_block bl callee kind back h0 t0 head next main mains has) 0 ds) (serial : ℕ) → Standing bl links code → Standing (made_block (unit_block bl callee kind back h0 t0 head next main mains has) ds makes serial) links code
+standing_raised : {e : Environment} {block : Names} {types : Types} {bl : Block e block types} {links : Links} {code : List Instr} (callee : Callee bl) (kind : Way) (back : Base → ℕ) (h0 t0 : ℕ → ℕ) (head : Y.BlockHead) (next : head.level ≡ 1) (main : ℕ) (mains : List Label) (has : HasMain main mains e.level e.block bl.labels bl.outer) (ds : List Y.DeclaredVariable) → (IsOwned (owner_of_unit head head.kind) → frame_end e.parts e.program head.number head.level ≡ fixed_size head.level 0 + bytes_of ds) → (makes : Makes (unit_block bl callee kind back h0 t0 head next main mains has) 0 ds) (serial : ℕ) → Standing bl links code → Standing (made_block (unit_block bl callee kind back h0 t0 head next main mains has) ds makes serial) links code
 standing_raised {bl = bl} callee kind back h0 t0 head next main mains has ds sized makes serial s =
     record {
       raises = s.raises;
@@ -142,7 +142,7 @@ is_unit Y.UnitBlock body what = inr refl
 is_unit _ body what = absurd what
 
 -- its statements, where calls and signals in it do what they mean
-body_by : {e : Environment} {block : Names} {types : Types} (bl : Block e block types) {links : Links} {code : List Instr} (standing : Standing bl links code) {all : List (ℕ × Label)} {procedure : ℕ} {may : List ℕ} (m : ℕ) → Done e block types all procedure m links code may → Tells e block types all procedure may links code bl.base bl.frames.known → (has : HasMain procedure (main_labels e.program.procedures) e.level e.block bl.labels bl.outer) → suc (length bl.depths) < most_activations → bl.stack.free + 4000 * (500 - length bl.depths) ≤ 14 * 2 ^ 20 → (head : Y.BlockHead) (next : head.level ≡ 1) (ds : List Y.DeclaredVariable) → (IsOwned (owner_of_unit head head.kind) → frame_end e.parts e.program head.number head.level ≡ fixed_size head.level 0 + bytes_of ds) → (kind : Y.BlockKind) → head.kind ≡ kind → ds ≡ unit_declares e.program head kind → (body : Y.Stmts) → IsUnitBody kind body → AreProvedStatements (names_in block types head (unit_declares e.program head kind)) (types_in types (unit_declares e.program head kind)) body → AllJumpAround head.number head.level all e.blocks (main_outer procedure e.program.procedures) (main_outer procedure e.program.procedures ∷ []) (labels_in body) body → DeclareScalars e.program body → AllCallAmong e.program may false 0 body → 4 * (stmts_words body + all_inner_words body) + (bytes_of ds + inner_bytes e.program body) ≤ 3200 → ((number : ℕ) (label : Label) → times number label all ≡ 1 → IsMarkedOnce links number label) → (head.kind ≡ Y.UnitBlock → LabelsStand (unit_environment head (program_around e)) links all procedure false) → ((b : BlockPlace) → IsAmong b (blocks_among body) → IsAmong b e.blocks) → (callee : Callee bl) → callee.words ≡ words_of_unit kind (stmts_words body) → (entered : S.BlockKind) (back : Base → ℕ) (h0 t0 : ℕ → ℕ) (makes : Makes (unit_block bl callee entered back h0 t0 head next procedure (main_labels e.program.procedures) has) 0 ds) (serial : ℕ) → Does (made_block (unit_block bl callee entered back h0 t0 head next procedure (main_labels e.program.procedures) has) ds makes serial) links code (suc m) (stmts_code (unit_environment head e) none_taken body) (M.list (inner_around e.program m head.line) body)
+body_by : {e : Environment} {block : Names} {types : Types} (bl : Block e block types) {links : Links} {code : List Instr} (standing : Standing bl links code) {all : List (ℕ × Label)} {procedure : ℕ} {may : List ℕ} (m : ℕ) → Done e block types all procedure m links code may → Tells e block types all procedure may links code bl.base bl.frames.known → (has : HasMain procedure (main_labels e.program.procedures) e.level e.block bl.labels bl.outer) → suc (length bl.depths) < most_activations → bl.stack.free + 4000 * (500 - length bl.depths) ≤ 14 * 2 ^ 20 → (head : Y.BlockHead) (next : head.level ≡ 1) (ds : List Y.DeclaredVariable) → (IsOwned (owner_of_unit head head.kind) → frame_end e.parts e.program head.number head.level ≡ fixed_size head.level 0 + bytes_of ds) → (kind : Y.BlockKind) → head.kind ≡ kind → ds ≡ unit_declares e.program head kind → (body : Y.Stmts) → IsUnitBody kind body → AreProvedStatements (names_in block types head (unit_declares e.program head kind)) (types_in types (unit_declares e.program head kind)) body → AllJumpAround head.number head.level all e.blocks (main_outer procedure e.program.procedures) (main_outer procedure e.program.procedures ∷ []) (labels_in body) body → DeclareScalars e.program body → AllCallAmong e.program may false 0 body → 4 * (stmts_words body + all_inner_words body) + (bytes_of ds + inner_bytes e.program body) ≤ 3200 → ((number : ℕ) (label : Label) → times number label all ≡ 1 → IsMarkedOnce links number label) → (head.kind ≡ Y.UnitBlock → LabelsStand (unit_environment head (program_around e)) links all procedure false) → ((b : BlockPlace) → IsAmong b (blocks_among body) → IsAmong b e.blocks) → (callee : Callee bl) → callee.words ≡ words_of_unit kind (stmts_words body) → (entered : Way) (back : Base → ℕ) (h0 t0 : ℕ → ℕ) (makes : Makes (unit_block bl callee entered back h0 t0 head next procedure (main_labels e.program.procedures) has) 0 ds) (serial : ℕ) → Does (made_block (unit_block bl callee entered back h0 t0 head next procedure (main_labels e.program.procedures) has) ds makes serial) links code (suc m) (stmts_code (unit_environment head e) none_taken body) (M.list (inner_around e.program m head.line) body)
 body_by {e} bl {links} {code} standing {all} {procedure} m can tells has deeper space head next ds sized Y.SimpleUnit kind none (Y.StmtThen [] x (Y.EndOfList [])) what proved jumps inside calls few once labels blocks callee words entered back h0 t0 makes serial =
     let mains = main_labels e.program.procedures in
     let body = Y.StmtThen [] x (Y.EndOfList []) in

@@ -171,6 +171,7 @@ pub mod GetTexts
 pub mod GetTargets
 pub mod Getting
 pub mod Signals
+pub mod HeldPlaces
 pub mod UnitMeant
 pub mod UnitRaised
 pub mod UnitEntered

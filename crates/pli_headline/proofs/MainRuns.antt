@@ -213,6 +213,7 @@ serving_first table kind input at line count k fits =
       fits = fits;
       nested = main_nested table kind input at line count;
       waiting = refl;
+      places = (omega arith, tt);
     }
 
 -- each variable holds what it begins with

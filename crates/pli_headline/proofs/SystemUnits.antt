@@ -24,6 +24,7 @@ use Rattle.pli_coding.specs.Environments.{Environment}
 use Rattle.pli_coding.specs.Statements.{condition_given, stmt_code}
 use Rattle.pli_coding.specs.Linking.{Links}
 use Rattle.pli_headline.specs.ProvedSoFar.{Names, Types}
+use Rattle.pli_headline.proofs.HeldPlaces.{PlacesHeld}
 use Rattle.pli_headline.proofs.Storages.{storage, Storage, Serials}
 use Rattle.pli_headline.proofs.Engine.{Base, address, call_at}
 use Rattle.pli_headline.proofs.Linking.{size_append}
@@ -127,6 +128,11 @@ changed_state q u c s = with_world s.world (with_activations (newest_changed q u
 abbrev pub changed_services : Bool → S.OnUnit → Condition → Services → Services
 changed_services q u c v = record v { activations = newest_served q u c v.activations }
 
+changed_places : (q : Bool) (u : S.OnUnit) (c : Condition) (n : ℕ) (xs : List S.Activation) → PlacesHeld n xs → PlacesHeld n (newest_served q u c xs)
+changed_places q u c n [] held = held
+changed_places q u c n (x ∷ []) held = held
+changed_places q u c n (x ∷ y ∷ xs) held = held
+
 pub changed_serving : {k : ℕ} {s : State} {v : Services} {line : ℕ} (q : Bool) (u : OnUnit) (w : S.OnUnit) (c : Condition) → IsNew c u w → Serving k s v line → Serving k (changed_state q u c s) (changed_services q w c v) line
 changed_serving {s = s} {v = v} q u w c new o =
     record {
@@ -138,6 +144,7 @@ changed_serving {s = s} {v = v} q u w c new o =
       fits = o.fits;
       nested = changed_nested q u w c s.activations v.activations new o.nested;
       waiting = o.waiting;
+      places = changed_places q w c (length v.edits) v.activations o.places;
     }
 
 changed_frames : (q : Bool) (u : S.OnUnit) (c : Condition) (xs : List S.Activation) → frames_of (newest_served q u c xs) ≡ frames_of xs

@@ -31,6 +31,7 @@ use Rattle.pli_coding.specs.Environments.{BlockOwner, Environment, none_taken}
 use Rattle.pli_coding.specs.Statements.{owner_of_unit, unit_environment, unit_mark, unit_left, stmt_code, stmts_code}
 use Rattle.pli_coding.specs.Linking.{Links, place_of}
 use Rattle.pli_headline.specs.ProvedSoFar.{Types, Names, unit_declares}
+use Rattle.pli_headline.proofs.HeldPlaces.{places_entered, PlacesHeld, places_left, places_behind}
 use Rattle.pli_headline.proofs.Engine.{Base, address, most_code}
 use Rattle.pli_headline.proofs.Linking.{size_append}
 use Rattle.pli_headline.proofs.Items.{Linked, At}
@@ -38,7 +39,7 @@ use Rattle.pli_headline.proofs.Bodies.{Known}
 use Rattle.pli_headline.proofs.Jumps.{front_of, back_of, linked_at}
 use Rattle.pli_headline.proofs.Temporaries.{nothing}
 use Rattle.pli_headline.proofs.Activations.{may_have_unit, IsOrdinary, OnlyIf, same_length, entered_length, first_level, levels_of}
-use Rattle.pli_headline.proofs.Entered.{atop, AreBoth, both_in_force, NoUnit}
+use Rattle.pli_headline.proofs.Entered.{atop, AreBoth, both_in_force, NoUnit, Way}
 use Rattle.pli_headline.proofs.Calls.{Serving}
 use Rattle.pli_headline.proofs.Raising.{Routines, with_act}
 use Rattle.pli_headline.proofs.Operators.{raised_alone}
@@ -81,14 +82,14 @@ abbrev pub unit_made : Environment → Y.BlockHead → Y.BlockKind → Code
 unit_made e head kind = variables_made (unit_environment head e) head.line 0 (unit_declares e.program head kind)
 
 -- its block, before they are
-abbrev pub unit_block : {e : Environment} {block : Names} {types : Types} (bl : Block e block types) (callee : Callee bl) (kind : S.BlockKind) (back : Base → ℕ) (h0 t0 : ℕ → ℕ) (head : Y.BlockHead) → (next : head.level ≡ 1) (main : ℕ) (mains : List Label) (has : HasMain main mains e.level e.block bl.labels bl.outer) → Block (unit_environment head e) block types
+abbrev pub unit_block : {e : Environment} {block : Names} {types : Types} (bl : Block e block types) (callee : Callee bl) (kind : Way) (back : Base → ℕ) (h0 t0 : ℕ → ℕ) (head : Y.BlockHead) → (next : head.level ≡ 1) (main : ℕ) (mains : List Label) (has : HasMain main mains e.level e.block bl.labels bl.outer) → Block (unit_environment head e) block types
 unit_block bl callee kind back h0 t0 head next main mains has =
     called_block_as bl callee back h0 t0 (owner_of_unit head head.kind) kind head next (main_of main mains) (main_enclosing bl callee back h0 t0 (owner_of_unit head head.kind) head next main mains has) (main_seen bl callee back h0 t0 (owner_of_unit head head.kind) head next main mains has)
 
 -- so many variables are made in it
 abbrev pub UnitMakes : {e : Environment} {block : Names} {types : Types} (bl : Block e block types) (callee : Callee bl) (head : Y.BlockHead) → (next : head.level ≡ 1) (main : ℕ) (mains : List Label) (has : HasMain main mains e.level e.block bl.labels bl.outer) → List Y.DeclaredVariable → Type 0
 UnitMakes bl callee head next main mains has ds =
-    (kind : S.BlockKind) (back : Base → ℕ) (h0 t0 : ℕ → ℕ) → Makes (unit_block bl callee kind back h0 t0 head next main mains has) 0 ds
+    (kind : Way) (back : Base → ℕ) (h0 t0 : ℕ → ℕ) → Makes (unit_block bl callee kind back h0 t0 head next main mains has) 0 ds
 
 -- what owns its statements isn't the main procedure
 pub unit_apart : (head : Y.BlockHead) (kind : Y.BlockKind) → head.level ≡ 1 → (number : ℕ) → owner_of_unit head kind ≡ BlockOwner (record { number = number; level = 0 }) → ⊥
@@ -126,19 +127,24 @@ pub record Raisable {e : Environment} {block : Names} {types : Types} (bl : Bloc
   pub later : 19 ≤ index
   pub linked : Linked links code index (unit_with callee.words head.line (unit_made e head head.kind) (stmts_code (unit_environment head e) none_taken body) (unit_mark head head.kind))
   pub makes : UnitMakes bl callee head level main mains has (unit_declares e.program head head.kind)
-  pub stand : (kind' : S.BlockKind) (back : Base → ℕ) (h0 t0 : ℕ → ℕ) (n : Values) → ConstantsStand links code ((unit_block bl callee kind' back h0 t0 head level main mains has).ground n)
-  pub does : (m : ℕ) → more ≡ suc m → suc (length bl.depths) < most_activations → (kind' : S.BlockKind) (back : Base → ℕ) (h0 t0 : ℕ → ℕ) (serial : ℕ) → Does (made_block (unit_block bl callee kind' back h0 t0 head level main mains has) (unit_declares e.program head head.kind) (makes kind' back h0 t0) serial) links code (suc m) (stmts_code (unit_environment head e) none_taken body) (M.list (inner_around e.program m head.line) body)
+  pub stand : (kind' : Way) (back : Base → ℕ) (h0 t0 : ℕ → ℕ) (n : Values) → ConstantsStand links code ((unit_block bl callee kind' back h0 t0 head level main mains has).ground n)
+  pub does : (m : ℕ) → more ≡ suc m → suc (length bl.depths) < most_activations → (kind' : Way) (back : Base → ℕ) (h0 t0 : ℕ → ℕ) (serial : ℕ) → Does (made_block (unit_block bl callee kind' back h0 t0 head level main mains has) (unit_declares e.program head head.kind) (makes kind' back h0 t0) serial) links code (suc m) (stmts_code (unit_environment head e) none_taken body) (M.list (inner_around e.program m head.line) body)
 
 -- ---- behind the statements of the unit
 
+-- behind a raise, where its unit has ended: as many places in format lists are there as before it
+abbrev pub Resumed : {e : Environment} {block : Names} {types : Types} → Block e block types → (k count : ℕ) → (t : ℕ → ℕ) → (i : ℕ) → Aims (Unit {0}) → Type 0
+Resumed {e} {block} {types} bl k count t i aims =
+    (s : State) (v : Services) (line : ℕ) (n : Values) (h : ℕ → ℕ) (f : Family) → Serving k s v line → AllHold bl.frames bl.serials (storage v) (e.level ∷ bl.depths) s block types n → length v.edits ≡ count → ((b : Base) → At b i (Known (bl.ground n) v h t nothing b) (f b)) → aims.done i f v tt s
+
 -- it is left, and the run goes on where its raise said with the credits of that place
-leave_piece : {e : Environment} {block : Names} {types : Types} (bl : Block e block types) {links : Links} {code : List Instr} {level : ℕ} (callee : Callee bl) (k i resume oncode : ℕ) (h t : ℕ → ℕ) {aims : Aims (Unit {0})} (closed : Closed code aims) → resume ≤ most_code → i + 2 + size_of (registers_restored 0 7) + size_of (frame_ended callee.words) + 4 ≤ resume + length code → Linked links code i (unit_left callee.words) → ((s' : State) (v' : Services) (line' : ℕ) (n' : Values) (h' : ℕ → ℕ) (f' : Family) → Serving k s' v' line' → AllHold bl.frames bl.serials (storage v') (e.level ∷ bl.depths) s' block types n' → ((b : Base) → At b resume (Known (bl.ground n') v' h' t nothing b) (f' b)) → aims.done resume f' v' tt s') → (s : State) (v : Services) (line : ℕ) (n : Values) (h1 t1 : ℕ → ℕ) (f : Family) (free : ℕ) → Serving k s v line → AllHold (atop callee.at (S.OnUnitBlock oncode (4 * resume)) bl.frames) bl.serials (storage v) (level ∷ e.level ∷ bl.depths) s block types n → ((b : Base) → At b i (Known (ending_ground bl callee (λ b'. address b' resume) h t n free) v h1 t1 nothing b) (f b)) → (owing code (length code) aims).done i f v tt (with_world s.world (newest_ended s))
-leave_piece {e} {block} {types} bl {code = code} callee k i resume oncode h t closed near few l goal s v line n h1 t1 f free serving all at =
+leave_piece : {e : Environment} {block : Names} {types : Types} (bl : Block e block types) {links : Links} {code : List Instr} {level : ℕ} (callee : Callee bl) (k i resume oncode count : ℕ) (h t : ℕ → ℕ) {aims : Aims (Unit {0})} (closed : Closed code aims) → resume ≤ most_code → i + 2 + size_of (registers_restored 0 7) + size_of (frame_ended callee.words) + 4 ≤ resume + length code → Linked links code i (unit_left callee.words) → Resumed bl k count t resume aims → (s : State) (v : Services) (line : ℕ) (n : Values) (h1 t1 : ℕ → ℕ) (f : Family) (free : ℕ) → Serving k s v line → AllHold (atop callee.at (S.OnUnitBlock oncode (4 * resume), count) bl.frames) bl.serials (storage v) (level ∷ e.level ∷ bl.depths) s block types n → ((b : Base) → At b i (Known (ending_ground bl callee (λ b'. address b' resume) h t n free) v h1 t1 nothing b) (f b)) → (owing code (length code) aims).done i f v tt (with_world s.world (newest_ended s))
+leave_piece {e} {block} {types} bl {code = code} callee k i resume oncode count h t closed near few l goal s v line n h1 t1 f free serving all at =
     let o = left_all s (storage v) serving.nested (inl callee.outer) (λ j kind at'. bl.owners j at') all in
     let kind = newest_kind o.newest o.rest o.are o.some all in
     let v' = ended_services v o.newest o.rest in
     let s' = with_world s.world (newest_ended s) in
-    done_owing closed (length code) resume few (unit_left_piece bl callee (λ b'. address b' resume) resume n free i f o.newest o.rest oncode near o.are kind l at) tt s'
+    done_owing closed (length code) resume few (unit_left_piece bl callee (λ b'. address b' resume) resume n free i f o.newest o.rest oncode near o.are (ap (λ (w : Way). w.0) kind) l at) tt s'
     (λ f' at'.
     goal s' v' o.newest.line n (held_again h 0 7 h1) f'
     (record {
@@ -150,8 +156,9 @@ leave_piece {e} {block} {types} bl {code = code} callee k i resume oncode h t cl
       fits = serving.fits;
       nested = o.nested;
       waiting = serving.waiting;
+      places = places_left v.edits o.newest o.rest (subst (PlacesHeld (length v.edits)) o.are serving.places);
     })
-    o.all at')
+    o.all (places_behind v.edits o.newest v.activations oncode (4 * resume) count bl.frames.kinds kind all.kinds serving.places) at')
 
 -- ---- behind its act
 
@@ -164,7 +171,7 @@ unfolding looked ◌>>=◌
 found_is around c n k s a u found = ap (λ o. R.unit_run around n o k s) found
 
 -- the unit runs, from its first instruction on
-unit_piece : {e : Environment} {block : Names} {types : Types} (bl : Block e block types) {links : Links} {code : List Instr} (main : ℕ) (mains : List Label) (has : HasMain main mains e.level e.block bl.labels bl.outer) (around : Around) (more m : ℕ) {frame : ℕ} {u : Y.Block} {at' : ℕ} (can : Raisable bl main mains has links code more frame u at') → more ≡ suc m → around.enter ≡ M.entered e.program (suc m) → {s : State} {v : Services} {h t : ℕ → ℕ} {aims : Aims (Unit {0})} (closed : Closed code aims) (n : Values) (f : Family) (k line resume oncode : ℕ) (a : Activation) → oncode < 2 ^ 16 → (oncode == 0) ≡ false → k < suc m + v.world.acts → (turns0 start0 acts0 : ℕ) → Enough bl links k turns0 start0 h t acts0 aims.jumped aims.returned → acts0 ≤ v.world.acts → 19 ≤ length code → resume ≤ length code → a.height ≡ 1 → suc (length bl.depths) < most_activations → nat_lt (length s.activations) most_activations ≡ true → Serving k s v line → AllHold bl.frames bl.serials (storage v) (e.level ∷ bl.depths) s block types n → ((b : Base) → At b can.index (Known (bl.ground n) (record v { waiting = Some (record { code = oncode; resume = 4 * resume; line = v.line }) }) h t (entry_with bl.base (4 * resume) (λ b'. address b' resume)) b) (f b)) → ((s' : State) (v' : Services) (line' : ℕ) (n' : Values) (h' : ℕ → ℕ) (f' : Family) → Serving k s' v' line' → AllHold bl.frames bl.serials (storage v') (e.level ∷ bl.depths) s' block types n' → ((b : Base) → At b resume (Known (bl.ground n') v' h' t nothing b) (f' b)) → aims.done resume f' v' tt s') → Comes code 19 f (record v { waiting = Some (record { code = oncode; resume = 4 * resume; line = v.line }) }) (owing code (length code) aims) (unit_part around oncode a can.head can.body k s)
+unit_piece : {e : Environment} {block : Names} {types : Types} (bl : Block e block types) {links : Links} {code : List Instr} (main : ℕ) (mains : List Label) (has : HasMain main mains e.level e.block bl.labels bl.outer) (around : Around) (more m : ℕ) {frame : ℕ} {u : Y.Block} {at' : ℕ} (can : Raisable bl main mains has links code more frame u at') → more ≡ suc m → around.enter ≡ M.entered e.program (suc m) → {s : State} {v : Services} {h t : ℕ → ℕ} {aims : Aims (Unit {0})} (closed : Closed code aims) (n : Values) (f : Family) (k line resume oncode : ℕ) (a : Activation) → oncode < 2 ^ 16 → (oncode == 0) ≡ false → k < suc m + v.world.acts → (turns0 start0 acts0 : ℕ) → Enough bl links k turns0 start0 h t acts0 aims.jumped aims.returned → acts0 ≤ v.world.acts → 19 ≤ length code → resume ≤ length code → a.height ≡ 1 → suc (length bl.depths) < most_activations → nat_lt (length s.activations) most_activations ≡ true → Serving k s v line → AllHold bl.frames bl.serials (storage v) (e.level ∷ bl.depths) s block types n → ((b : Base) → At b can.index (Known (bl.ground n) (record v { waiting = Some (record { code = oncode; resume = 4 * resume; line = v.line }) }) h t (entry_with bl.base (4 * resume) (λ b'. address b' resume)) b) (f b)) → Resumed bl k (length v.edits) t resume aims → Comes code 19 f (record v { waiting = Some (record { code = oncode; resume = 4 * resume; line = v.line }) }) (owing code (length code) aims) (unit_part around oncode a can.head can.body k s)
 unfolding M.end_reached give ◌>>◌
 unit_piece {e} {block} {types} bl {links} {code} main mains has around more m can next enter {s} {v} {h} {t} {aims} closed n f k line resume oncode a small' other enough turns0 start0 acts0 ready less long near parent deep few serving all at goal =
     let program = e.program in
@@ -215,10 +222,10 @@ unit_piece {e} {block} {types} bl {links} {code} main mains has around more m ca
     let direct : head.level ≡ suc (first_level (levels_of s.activations)) → 1 ≡ length s.activations = λ inside. called_direct bl head.level (levels_of s.activations) (length s.activations) all.entered lengths level inside in
     let ordinary : IsOrdinary oncode x = record { kind = λ further. ap (λ q. cond q further oncode) (sym other); units = tt } in
     let last : Option BasicValue → Meaning (Unit {0}) = λ r. give tt in
-    let ub = unit_block bl callee (S.OnUnitBlock oncode (4 * resume)) back h t head level main mains has in
-    let makes = can.makes (S.OnUnitBlock oncode (4 * resume)) back h t in
+    let ub = unit_block bl callee (S.OnUnitBlock oncode (4 * resume), length v.edits) back h t head level main mains has in
+    let makes = can.makes (S.OnUnitBlock oncode (4 * resume), length v.edits) back h t in
     let flow = unit_flow program m head body head.kind k s2 in
-    let leave = leave_piece bl callee k i4 resume oncode h t closed (omega (arith, near, small2)) (omega (arith, room, n1, n2)) ll goal in
+    let leave = leave_piece bl callee k i4 resume oncode (length v.edits) h t closed (omega (arith, near, small2)) (omega (arith, room, n1, n2)) ll goal in
     let closed0 = owing_closed code debt aims in
     let closed1 = ending_closed newest_ended (before_closed k last closed0) in
     subst (Comes code 19 f v1 (owing code debt aims)) (sym (unit_meant program around m head body oncode k a s enter can.kind parent few))
@@ -228,8 +235,8 @@ unit_piece {e} {block} {types} bl {links} {code} main mains has around more m ca
     (λ f3 at3.
     comes_on k (left true newest_ended flow) last
     (comes_called newest_ended flow
-    (declares_from closed1 here head.line (suc m) k st (called_part program m head body) vars ub can.known makes n f3 head.line (can.stand (S.OnUnitBlock oncode (4 * resume)) back h t) refl
-    (λ label among once. owed_outlet closed (atop callee.at (S.OnUnitBlock oncode (4 * resume)) bl.frames) (main_enclosing bl callee back h t (owner_of_unit head head.kind) head level main mains has) label (main_outlet bl callee back h (owner_of_unit head head.kind) (S.OnUnitBlock oncode (4 * resume)) head level main mains has links k turns0 start0 h t acts0 v2.world.acts aims.jumped aims.returned ready label among once (omega (arith, less))), tt)
+    (declares_from closed1 here head.line (suc m) k st (called_part program m head body) vars ub can.known makes n f3 head.line (can.stand (S.OnUnitBlock oncode (4 * resume), length v.edits) back h t) refl
+    (λ label among once. owed_outlet closed (atop callee.at (S.OnUnitBlock oncode (4 * resume), length v.edits) bl.frames) (main_enclosing bl callee back h t (owner_of_unit head head.kind) head level main mains has) label (main_outlet bl callee back h (owner_of_unit head head.kind) (S.OnUnitBlock oncode (4 * resume), length v.edits) head level main mains has links k turns0 start0 h t acts0 v2.world.acts aims.jumped aims.returned ready label among once (omega (arith, less))), tt)
     (λ deep' owned once. let no : true ≡ false = deep' in absurd (cc no), tt)
     (λ inner owned once. record {
       at = i4;
@@ -240,7 +247,7 @@ unit_piece {e} {block} {types} bl {links} {code} main mains has around more m ca
     })
     (omega (arith, enough)) (omega (arith, behind))
     (λ number' owned once. absurd (unit_apart head head.kind level number' owned))
-    (acted_does (made_block ub vars makes s2.serials) head.line can.line (ended_does (made_block ub vars makes s2.serials) here (can.does m next deep (S.OnUnitBlock oncode (4 * resume)) back h t s2.serials)))
+    (acted_does (made_block ub vars makes s2.serials) head.line can.line (ended_does (made_block ub vars makes s2.serials) here (can.does m next deep (S.OnUnitBlock oncode (4 * resume), length v.edits) back h t s2.serials)))
     ls
     (record {
       world = serving.world;
@@ -251,6 +258,7 @@ unit_piece {e} {block} {types} bl {links} {code} main mains has around more m ca
       fits = serving.fits;
       nested = raised_nested head entry s v.activations x small' some (omega (arith, lengths)) (omega arith) (omega (arith, lengths)) direct ordinary serving.nested;
       waiting = refl;
+      places = places_entered (length v.edits) (x) v.activations refl serving.places;
     })
     (raised_all head entry s (storage v) x small' some (omega arith) (omega (arith, lengths)) direct ordinary refl (inl callee.outer) serving.nested all)
     at3
@@ -289,7 +297,7 @@ limited_piece {e} bl {code = code} main mains has around more m can enter {s} {v
     (entry_limited bl callee back (4 * resume) n (19 + size_of fb) f2 (before_closed k last closed0) s k head.line w can.line (omega (arith, room, total, long)) many' le refl serving.world serving.running serving.allowed serving.fits at2)))
 
 -- the raise, with a unit in force
-raised_unit : {e : Environment} {block : Names} {types : Types} (bl : Block e block types) {links : Links} {code : List Instr} (routines : Routines links code) (main : ℕ) (mains : List Label) (has : HasMain main mains e.level e.block bl.labels bl.outer) (around : Around) (more m : ℕ) {frame : ℕ} {u : Y.Block} {at' : ℕ} (can : Raisable bl main mains has links code more frame u at') → more ≡ suc m → around.enter ≡ M.entered e.program (suc m) → {i : ℕ} {s : State} {v : Services} {h t : ℕ → ℕ} {aims : Aims (Unit {0})} (closed : Closed code aims) (n : Values) (f : Family) (credits k line : ℕ) (c : Condition) (oncode : ℕ) (a : Activation) (x : S.Activation) → oncode < 2 ^ 16 → (oncode == 0) ≡ false → k < suc m + v.world.acts → (turns0 start0 acts0 : ℕ) → Enough bl links k turns0 start0 h t acts0 aims.jumped aims.returned → acts0 ≤ v.world.acts → credits + 8 < cost code → Linked links code i (raised c oncode) → force s.activations c ≡ Some (a, BlockUnit u) → U.force v.activations c ≡ Some (x, S.CodeUnit at') → a.height ≡ 1 → x.frame ≡ frame → Serving k s v line → AllHold bl.frames bl.serials (storage v) (e.level ∷ bl.depths) s block types n → ((b : Base) → At b i (Known (bl.ground n) v h t nothing b) (f b)) → ((s' : State) (v' : Services) (line' : ℕ) (n' : Values) (h' : ℕ → ℕ) (f' : Family) → Serving k s' v' line' → AllHold bl.frames bl.serials (storage v') (e.level ∷ bl.depths) s' block types n' → ((b : Base) → At b (i + 2 + 2) (Known (bl.ground n') v' h' t nothing b) (f' b)) → aims.done (i + 2 + 2) f' v' tt s') → Comes code credits f v (owing code (length code) aims) (R.raised around c oncode k s)
+raised_unit : {e : Environment} {block : Names} {types : Types} (bl : Block e block types) {links : Links} {code : List Instr} (routines : Routines links code) (main : ℕ) (mains : List Label) (has : HasMain main mains e.level e.block bl.labels bl.outer) (around : Around) (more m : ℕ) {frame : ℕ} {u : Y.Block} {at' : ℕ} (can : Raisable bl main mains has links code more frame u at') → more ≡ suc m → around.enter ≡ M.entered e.program (suc m) → {i : ℕ} {s : State} {v : Services} {h t : ℕ → ℕ} {aims : Aims (Unit {0})} (closed : Closed code aims) (n : Values) (f : Family) (credits k line : ℕ) (c : Condition) (oncode : ℕ) (a : Activation) (x : S.Activation) → oncode < 2 ^ 16 → (oncode == 0) ≡ false → k < suc m + v.world.acts → (turns0 start0 acts0 : ℕ) → Enough bl links k turns0 start0 h t acts0 aims.jumped aims.returned → acts0 ≤ v.world.acts → credits + 8 < cost code → Linked links code i (raised c oncode) → force s.activations c ≡ Some (a, BlockUnit u) → U.force v.activations c ≡ Some (x, S.CodeUnit at') → a.height ≡ 1 → x.frame ≡ frame → Serving k s v line → AllHold bl.frames bl.serials (storage v) (e.level ∷ bl.depths) s block types n → ((b : Base) → At b i (Known (bl.ground n) v h t nothing b) (f b)) → Resumed bl k (length v.edits) t (i + 2 + 2) aims → Comes code credits f v (owing code (length code) aims) (R.raised around c oncode k s)
 unfolding R.raised ◌>>◌
 raised_unit {e} {block} {types} bl {links} {code} routines main mains has around more m {frame} {u} can next enter {i} {s} {v} {h} {t} {aims} closed n f credits k line c oncode a x small' other enough turns0 start0 acts0 ready less paid l found served parent framed serving all at goal =
     let resume = i + 2 + 2 in
@@ -335,14 +343,9 @@ by_force known (Some (a, BlockUnit u)) (Some (x, S.CodeUnit at)) both alone unit
 
 -- ---- raises
 
--- behind a raise, where its unit has ended
-abbrev pub Resumed : {e : Environment} {block : Names} {types : Types} → Block e block types → (k : ℕ) → (t : ℕ → ℕ) → (i : ℕ) → Aims (Unit {0}) → Type 0
-Resumed {e} {block} {types} bl k t i aims =
-    (s : State) (v : Services) (line : ℕ) (n : Values) (h : ℕ → ℕ) (f : Family) → Serving k s v line → AllHold bl.frames bl.serials (storage v) (e.level ∷ bl.depths) s block types n → ((b : Base) → At b i (Known (bl.ground n) v h t nothing b) (f b)) → aims.done i f v tt s
-
 -- a raise of a condition does what it means where a unit is in force for it; the credits that it begins with are owed
 pub record Raises {e : Environment} {block : Names} {types : Types} (bl : Block e block types) (links : Links) (code : List Instr) (around : Around) (c : Condition) (oncode : ℕ) : Type 1 where
-  pub raises : {i : ℕ} {s : State} {v : Services} {h t : ℕ → ℕ} {aims : Aims (Unit {0})} (closed : Closed code aims) (n : Values) (f : Family) (credits k start acts : ℕ) (a : Activation) (u : Y.Block) (x : S.Activation) (at : ℕ) → force s.activations c ≡ Some (a, BlockUnit u) → U.force v.activations c ≡ Some (x, S.CodeUnit at) → a.height ≡ 1 → bl.frames.known c x.frame u at → credits + 8 < cost code → Linked links code i (raised c oncode) → Serving k s v around.line → AllHold bl.frames bl.serials (storage v) (e.level ∷ bl.depths) s block types n → ((b : Base) → At b i (Known (bl.ground n) v h t nothing b) (f b)) → Resumed bl k t (i + 2 + 2) aims → Enough bl links k around.turns start h t acts aims.jumped aims.returned → acts < v.world.acts → Comes code credits f v (owing code (length code) aims) (R.raised around c oncode k s)
+  pub raises : {i : ℕ} {s : State} {v : Services} {h t : ℕ → ℕ} {aims : Aims (Unit {0})} (closed : Closed code aims) (n : Values) (f : Family) (credits k start acts : ℕ) (a : Activation) (u : Y.Block) (x : S.Activation) (at : ℕ) → force s.activations c ≡ Some (a, BlockUnit u) → U.force v.activations c ≡ Some (x, S.CodeUnit at) → a.height ≡ 1 → bl.frames.known c x.frame u at → credits + 8 < cost code → Linked links code i (raised c oncode) → Serving k s v around.line → AllHold bl.frames bl.serials (storage v) (e.level ∷ bl.depths) s block types n → ((b : Base) → At b i (Known (bl.ground n) v h t nothing b) (f b)) → Resumed bl k (length v.edits) t (i + 2 + 2) aims → Enough bl links k around.turns start h t acts aims.jumped aims.returned → acts < v.world.acts → Comes code credits f v (owing code (length code) aims) (R.raised around c oncode k s)
 
 -- where the units that may be in force can be raised
 pub unit_raises : {e : Environment} {block : Names} {types : Types} (bl : Block e block types) (main : ℕ) (mains : List Label) (has : HasMain main mains e.level e.block bl.labels bl.outer) (links : Links) (code : List Instr) (routines : Routines links code) (around : Around) (more : ℕ) (c : Condition) (oncode : ℕ) → oncode < 2 ^ 16 → (oncode == 0) ≡ false → Entering e.program around more → ((frame : ℕ) (u : Y.Block) (at : ℕ) → bl.frames.known c frame u at → Raisable bl main mains has links code more frame u at) → Raises bl links code around c oncode
@@ -397,7 +400,7 @@ raised_does {e} {block} {types} bl links code routines around c oncode line smal
           can.raises closed n f1 0 k i v.world.acts a' u x at' found served parent known (omega (arith, whole)) (back_of a r l) serving1
           (counted_all (counted s.world) all)
           at1
-          (λ s4 v4 line4 n4 h4 f4 serving4 all4 at4.
+          (λ s4 v4 line4 n4 h4 f4 serving4 all4 as4 at4.
           subst (λ q. aims.done q f4 v4 tt s4) (sym place)
           (goal s4 v4 line4 n4 h4 t f4 serving4 all4
           (record { registers = λ y below. absurd (let held = bl.held in omega (arith, held, below)); words = λ j below. refl })
