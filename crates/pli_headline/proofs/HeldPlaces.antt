@@ -95,7 +95,7 @@ next_by : (v : Services) (o : Option NextItem) (n : NextItem) (es below : List E
 next_by v None n es below found = absurd (cc found)
 next_by v (Some m) n es below found = cc found
 
-next_length : (v : Services) (n : NextItem) (es below : List EditPlace) → ((next : NextItem → List EditPlace → Answer) → E.on_next es next ≡ next n below) → length es ≡ suc (length below)
+pub next_length : (v : Services) (n : NextItem) (es below : List EditPlace) → ((next : NextItem → List EditPlace → Answer) → E.on_next es next ≡ next n below) → length es ≡ suc (length below)
 next_length v n [] below found =
     let no : Bad ≡ Done v [] (length below) 0 = found (λ m ds. Done v [] (length ds) 0) in absurd (cc no)
 next_length v n (p ∷ es) below found =

@@ -8,7 +8,7 @@ use Rattle.pli_language.specs.declared.condition.Condition.TheVariants as C
 use Rattle.rv_meaning.specs.declared.instr.Instr.{Instr}
 use Rattle.pli_typing.specs.TypedTree as Y
 use Rattle.pli_meaning.specs.Control.{Label}
-use Rattle.pli_meaning.specs.Codes.{code_signalled}
+use Rattle.pli_meaning.specs.Codes.{code_signalled, endfile_code}
 use Rattle.pli_meaning.specs.Raising.{Around, at_line}
 use Rattle.pli_meaning.specs.Executing as M
 use Rattle.pli_meaning.specs.Executing.{labels_in}
@@ -52,7 +52,7 @@ use Rattle.pli_headline.proofs.MainOutlets.{HasMain, main_of}
 use Rattle.pli_headline.proofs.UnitRuns.{unit_block, Raisable, unit_raises, signal_unit_does}
 use Rattle.pli_headline.proofs.UnitStanding.{program_around, words_of_unit, Tells}
 use Rattle.pli_headline.proofs.Narrowing.{narrows_self, narrows_in}
-use Rattle.pli_headline.proofs.ProvedStatements.{standing_within, Calls, Signals, entering_at, none_ends, body_does}
+use Rattle.pli_headline.proofs.ProvedStatements.{standing_within, Calls, Signals, entering_at, body_does}
 use Rattle.pli_headline.proofs.TextElementAssignments.{assign_text_part_does}
 
 -- calls and signals do what they mean, so many blocks deep at most
@@ -103,10 +103,10 @@ simple_does bl links code routines around same can tells has deep space narrow e
     put_does bl links code routines around pairs line is.0 is.1 room
 simple_does bl links code routines around same can tells has deep space narrow entering least (Y.Put (Some n) pairs line) simple is room calls once few jumps low =
     put_skip_does bl links code routines around n pairs line is.0.0 is.0.1 is.1.0 is.1.1 room
-simple_does bl links code routines around same can tells has deep space narrow entering least (Y.Get None pairs line) simple is room calls once few jumps low =
-    get_does bl links code routines around same pairs line (none_ends bl tells calls) is.0 is.1 room
-simple_does bl links code routines around same can tells has deep space narrow entering least (Y.Get (Some n) pairs line) simple is room calls once few jumps low =
-    get_skip_does bl links code routines around same n pairs line (none_ends bl tells calls) is.0.0 is.0.1 is.1.0 is.1.1 room
+simple_does {e} bl links code routines around same can tells has deep space narrow {more} entering least (Y.Get None pairs line) simple is room calls once few jumps low =
+    get_does bl links code routines around same pairs line (can.1 e.owner e.block e.level bl deep space narrow routines tells has (at_line around line) same more (entering_at line entering) least C.Endfile endfile_code (lit< tt) refl) is.0 is.1 room
+simple_does {e} bl links code routines around same can tells has deep space narrow {more} entering least (Y.Get (Some n) pairs line) simple is room calls once few jumps low =
+    get_skip_does bl links code routines around same n pairs line (can.1 e.owner e.block e.level bl deep space narrow routines tells has (at_line around line) same more (entering_at line entering) least C.Endfile endfile_code (lit< tt) refl) is.0.0 is.0.1 is.1.0 is.1.1 room
 simple_does bl links code routines around same can tells has deep space narrow entering least _ simple is room calls once few jumps low = absurd simple
 
 -- ---- a unit that is raised

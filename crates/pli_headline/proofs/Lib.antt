@@ -18,6 +18,7 @@ pub mod Activations
 pub mod OuterBlocks
 pub mod Asides
 pub mod Entered
+pub mod HeldPlaces
 pub mod Storages
 pub mod Calls
 pub mod Raising
@@ -166,12 +167,12 @@ pub mod GetItems
 pub mod GetWidths
 pub mod GetControls
 pub mod GetPieces
+pub mod GetEnds
 pub mod GetNumbers
 pub mod GetTexts
 pub mod GetTargets
 pub mod Getting
 pub mod Signals
-pub mod HeldPlaces
 pub mod UnitMeant
 pub mod UnitRaised
 pub mod UnitEntered

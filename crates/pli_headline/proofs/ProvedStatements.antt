@@ -8,7 +8,7 @@ use Rattle.pli_language.specs.declared.condition.Condition.{Condition}
 use Rattle.pli_language.specs.declared.condition.Condition.TheVariants as C
 use Rattle.pli_typing.specs.TypedTree as Y
 use Rattle.pli_meaning.specs.Control.{Label}
-use Rattle.pli_meaning.specs.Codes.{code_signalled}
+use Rattle.pli_meaning.specs.Codes.{code_signalled, endfile_code}
 use Rattle.pli_meaning.specs.Raising.{Around, at_line}
 use Rattle.pli_meaning.specs.Executing as M
 use Rattle.pli_meaning.specs.Executing.{labels_in}
@@ -39,7 +39,7 @@ use Rattle.pli_headline.proofs.Returns.{return_does}
 use Rattle.pli_headline.proofs.HomeReturns.{IsHome, home_does}
 use Rattle.pli_headline.proofs.MainOutlets.{HasMain, more_main}
 use Rattle.pli_headline.proofs.Narrowing.{Narrows, narrows_in, narrowed, narrowed_has}
-use Rattle.pli_headline.proofs.Through.{through_does, standing_narrowed}
+use Rattle.pli_headline.proofs.Through.{through_does, through_raises, standing_narrowed}
 use Rattle.pli_headline.proofs.Gotos.{LabelsStand, goto_does}
 use Rattle.pli_headline.proofs.Groups.{do_does}
 use Rattle.pli_headline.proofs.Loops.{while_does}
@@ -443,10 +443,22 @@ mutual
       put_does bl links code routines around pairs line is.0 is.1 room
   statement_does bl links code routines around same named (Y.Put (Some n) pairs line) is jumps room space bare entering least known calls ways =
       put_skip_does bl links code routines around n pairs line is.0.0 is.0.1 is.1.0 is.1.1 room
-  statement_does bl links code routines around same named (Y.Get None pairs line) is jumps room space bare entering least known calls ways =
-      get_does bl links code routines around same pairs line (none_ends bl ways.tells calls) is.0 is.1 room
-  statement_does bl links code routines around same named (Y.Get (Some n) pairs line) is jumps room space bare entering least known calls ways =
-      get_skip_does bl links code routines around same n pairs line (none_ends bl ways.tells calls) is.0.0 is.0.1 is.1.0 is.1.1 room
+  statement_does bl links code routines around same named (Y.Get None pairs line) is jumps room space bare entering least known (inl none) ways =
+      get_does bl links code routines around same pairs line (none_raises bl links code (at_line around line) C.Endfile endfile_code (none_ends bl ways.tells none)) is.0 is.1 room
+  statement_does {e} bl links code routines around same {all} {procedure} {small = small} {taken = filled} named (Y.Get None pairs line) is jumps room space bare {more} entering least known (inr shallow) ways =
+      let mains = main_labels e.program.procedures in
+      get_does bl links code routines around same pairs line
+      (through_raises bl ways.narrows procedure mains ways.mains
+      (λ n0 x. ways.signals e.owner e.block e.level (narrowed bl ways.narrows n0 x procedure mains ways.mains) (room_deep small filled bl.stack.free (length bl.depths) 0 0 e.level space) (room_calls small filled bl.stack.free (length bl.depths) 0 0 e.level shallow space) ways.narrow (standing_narrowed ways.narrows n0 x procedure mains ways.mains routines) ways.tells (narrowed_has bl procedure mains ways.mains) (at_line around line) same more (entering_at line entering) least C.Endfile endfile_code (lit< tt) refl))
+      is.0 is.1 room
+  statement_does bl links code routines around same named (Y.Get (Some n) pairs line) is jumps room space bare entering least known (inl none) ways =
+      get_skip_does bl links code routines around same n pairs line (none_raises bl links code (at_line around line) C.Endfile endfile_code (none_ends bl ways.tells none)) is.0.0 is.0.1 is.1.0 is.1.1 room
+  statement_does {e} bl links code routines around same {all} {procedure} {small = small} {taken = filled} named (Y.Get (Some n) pairs line) is jumps room space bare {more} entering least known (inr shallow) ways =
+      let mains = main_labels e.program.procedures in
+      get_skip_does bl links code routines around same n pairs line
+      (through_raises bl ways.narrows procedure mains ways.mains
+      (λ n0 x. ways.signals e.owner e.block e.level (narrowed bl ways.narrows n0 x procedure mains ways.mains) (room_deep small filled bl.stack.free (length bl.depths) 0 0 e.level space) (room_calls small filled bl.stack.free (length bl.depths) 0 0 e.level shallow space) ways.narrow (standing_narrowed ways.narrows n0 x procedure mains ways.mains routines) ways.tells (narrowed_has bl procedure mains ways.mains) (at_line around line) same more (entering_at line entering) least C.Endfile endfile_code (lit< tt) refl))
+      is.0.0 is.0.1 is.1.0 is.1.1 room
   statement_does bl links code routines around same named _ is jumps room space bare entering least known calls ways = absurd is
 
   pub each_does : {e : Environment} {block : Names} {types : Types} (bl : Block e block types) (links : Links) (code : List Instr) (routines : Standing bl links code) (around : Around) (same : around.program ≡ e.program) {all : List (ℕ × Label)} {procedure : ℕ} {main returns small : Bool} {taken : ℕ} {may : List ℕ} {bound : ℕ} {outer : Names} {outers : Types} (named : LabelsStand e links all procedure main) (body : Y.Stmts) → AreProvedStatements block types body → AllJumpAround e.block e.level all e.blocks (main_outer procedure e.program.procedures) bl.outer bl.labels body → bl.taken.words + stmts_words body ≤ bl.words → Room small taken bl.stack.free (length bl.depths) (all_inner_words body) (inner_bytes e.program body) e.level → DeclareScalars e.program body → {more : ℕ} → Entering e.program around more → more ≤ bound → ((b : BlockPlace) → IsAmong b (blocks_among body) → IsAmong b e.blocks) → AllCallAmong e.program may returns taken body → Ways e outer outers block types bl.words bound small taken bl.labels bl.outer bl.base bl.frames.known all procedure links code main returns may → EachDoes bl links code around body

@@ -141,7 +141,7 @@ text_arrays_program =
           ),
         );
         jumps = (tt, (tt, (tt, tt)));
-        calls = (tt, (tt, (refl, tt)));
+        calls = (tt, (tt, (inl refl, tt)));
         inside = (tt, (tt, (tt, tt)));
         few = omega arith;
       };

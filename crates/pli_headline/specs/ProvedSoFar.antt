@@ -671,7 +671,7 @@ abbrev mutual
   CallsAmong program may returns bytes (Y.Return line) = returns ≡ true
   CallsAmong program may returns bytes (Y.Signal C.Area line) = IsShallow bytes
   CallsAmong program may returns bytes (Y.Signal C.Endfile line) = MayEnd program bytes
-  CallsAmong program may returns bytes (Y.Get skip pairs line) = main_catches_end program.procedures ≡ false
+  CallsAmong program may returns bytes (Y.Get skip pairs line) = MayEnd program bytes
   CallsAmong program may returns bytes (Y.OnUnit condition (Y.BlockOf head body) line) =
       AllCallAmong program may false 0 body
       × ((4 * (stmts_words body + all_inner_words body) + (bytes_of (unit_declares program head head.kind) + inner_bytes program body) ≤ 3200)
