@@ -7,7 +7,7 @@ use Rattle.pli_typing.specs.TypedTree as Y
 use Rattle.pli_meaning.specs.StorageState.{Activation, OnUnit, SystemUnit, BlockUnit, same_condition, unit_for, without_unit, first_unit, force}
 use Rattle.pli_serving.specs.ServiceState as S
 use Rattle.pli_serving.specs.OnUnits as U
-use Rattle.pli_headline.proofs.Activations.{OnlyIf, same_is}
+use Rattle.pli_headline.proofs.Activations.{same_is}
 use Rattle.pli_headline.proofs.Asides.{Aside, first_aside, behind_aside}
 
 -- how a block was entered; of an on-unit also how many places in format lists stood below it
@@ -158,12 +158,3 @@ both_in_force known (a ∷ as') (x ∷ xs) c all =
 -- there is none of the program's
 abbrev pub NoUnit : (known : ℕ → Y.Block → ℕ → Type 0) → Type 0
 NoUnit known = (frame : ℕ) (u : Y.Block) (at : ℕ) → known frame u at → ⊥
-
-pub none_in_force : (known : ℕ → Y.Block → ℕ → Type 0) (o : Option (Activation × OnUnit)) (o' : Option (S.Activation × S.OnUnit)) → NoUnit known → AreBoth known o o' → OnlyIf SystemUnit o × OnlyIf S.SystemUnit o'
-none_in_force known None None none both = (tt, tt)
-none_in_force known None (Some q) none both = absurd both
-none_in_force known (Some p) None none both = absurd both
-none_in_force known (Some (a, SystemUnit)) (Some (x, S.SystemUnit)) none both = (refl, refl)
-none_in_force known (Some (a, SystemUnit)) (Some (x, S.CodeUnit at)) none both = absurd both
-none_in_force known (Some (a, BlockUnit u)) (Some (x, S.SystemUnit)) none both = absurd both
-none_in_force known (Some (a, BlockUnit u)) (Some (x, S.CodeUnit at)) none both = absurd (none x.frame u at both.1)

@@ -20,7 +20,8 @@ use Rattle.pli_coding.specs.Statements.{owner_of_unit, unit_environment, number_
 use Rattle.pli_coding.specs.Temporaries.{number_words, bit_words, reference_words, text_words}
 use Rattle.pli_coding.specs.Images.{place_of_head, place_of_unit, blocks_in, blocks_among}
 use Rattle.pli_coding.specs.Linking.{Links}
-use Rattle.pli_headline.specs.ProvedSoFar.{Names, names_in, types_in, unit_declares, IsShallow, AreDeclaring, bytes_of, bytes_in, inner_bytes, Types, OuterBlock, main_labels, main_outer, IsProvedStatement, AreProvedStatements, JumpsAround, AllJumpAround, DeclaresScalars, DeclareScalars, is_number, CallsAmong, AllCallAmong, HasUnitFor, main_catches_end}
+use Rattle.pli_headline.specs.ProvedSoFar.{Names, names_in, types_in, unit_declares, IsShallow, AreDeclaring, bytes_of, bytes_in, inner_bytes, Types, OuterBlock, main_labels, main_outer, IsProvedStatement, AreProvedStatements, JumpsAround, AllJumpAround, DeclaresScalars, DeclareScalars, is_number, CallsAmong, AllCallAmong}
+use Rattle.pli_headline.specs.EndUnits.{HasUnitFor, main_catches_end}
 use Rattle.pli_meaning.specs.DeclaredShapes.{variables_of_block}
 use Rattle.pli_headline.proofs.Statements.{owner_level, IsOwned, known_in, Standing, Block, Does, EachDoes, null_does, IsEndMarkedOnce}
 use Rattle.pli_headline.proofs.Ifs.{if_does, if_else_does}

@@ -4,12 +4,11 @@
 -- or such scalars, with or without INITIAL; expressions of numbers, bits and texts, and elements of arrays
 -- in them; assignments of these, and of one number or bit to all elements of an array, CALL of these procedures, also by themselves, IF,
 -- groups, DO WHILE, DO with a variable, GOTO to a label of a list around it in its block, in a block around it up to the procedure's own,
--- or of the main procedure's own list, RETURN, STOP, SIGNAL, ON with SYSTEM, ON for AREA, and for ENDFILE in programs without GET, with a
--- single statement or a BEGIN block, which declares as others do, in the main procedure's own block, REVERT, PUT EDIT of numbers, bits and texts, and GET EDIT of such scalars and
--- elements, by lists of F, A, X, SKIP and COLUMN items. Each form that is proved takes a line off.
-use Rattle.std.specs.Prelude.{◌≡◌, ℕ, suc, int_le, ◌<◌, ◌≤◌, ◌^◌, List, [], ◌∷◌, ◌++◌, length, map, max, nat_lt, ◌*◌, slice_get, Bool, Option, None, Some, true, false, if◌then◌else◌, ⊤, ◌==◌, ◌&&◌, ◌||◌, ◌⊎◌, pos, ◌+◌}
+-- or of the main procedure's own list, RETURN, STOP, SIGNAL, ON with SYSTEM, ON for AREA and ENDFILE with a single statement or a BEGIN
+-- block, which declares as others do, in the main procedure's own block, REVERT, PUT EDIT of numbers, bits and texts, and GET EDIT of such
+-- scalars and elements, by lists of F, A, X, SKIP and COLUMN items. Each form that is proved takes a line off.
+use Rattle.std.specs.Prelude.{◌≡◌, ℕ, suc, int_le, ◌<◌, ◌≤◌, ◌^◌, List, [], ◌∷◌, ◌++◌, length, map, max, nat_lt, ◌*◌, slice_get, Bool, Option, None, Some, true, false, if◌then◌else◌, ⊤, ◌==◌, ◌&&◌, ◌⊎◌, pos, ◌+◌}
 use Rattle.pli_language.specs.Keywords.{same_bytes}
-use Rattle.pli_language.specs.declared.condition.Condition.{Condition}
 use Rattle.pli_language.specs.declared.condition.Condition.TheVariants as C
 use Rattle.pli_language.specs.Tree as T
 use Rattle.pli_language.specs.Formats.{formats_move_data}
@@ -26,6 +25,7 @@ use Rattle.pli_coding.specs.SignatureTable.{table_of}
 use Rattle.pli_coding.specs.Streams.{has_fixed, has_text}
 use Rattle.pli_coding.specs.Statements.{stmts_words}
 use Rattle.pli_headline.specs.InnerWords.{all_inner_words}
+use Rattle.pli_headline.specs.EndUnits.{main_catches_end, HasUnitFor}
 
 -- ---- declarations
 
@@ -446,36 +446,6 @@ IsSimple (Y.Put skip pairs line) = ⊤
 IsSimple (Y.Get skip pairs line) = ⊤
 IsSimple _ = ⊥
 
--- whether a list has a unit for ENDFILE, in itself or in its groups
-abbrev mutual
-  pub catches_end : Y.Stmt → Bool
-  catches_end (Y.If condition unit line) = catches_end unit
-  catches_end (Y.IfElse condition unit otherwise line) = catches_end unit || catches_end otherwise
-  catches_end (Y.Do body line) = any_catches_end body
-  catches_end (Y.DoWhile condition body line) = any_catches_end body
-  catches_end (Y.DoOnce target start condition body line) = any_catches_end body
-  catches_end (Y.DoCount counter start limit step condition body line) = any_catches_end body
-  catches_end (Y.OnUnit C.Endfile unit line) = true
-  catches_end _ = false
-
-  pub any_catches_end : Y.Stmts → Bool
-  any_catches_end (Y.EndOfList labels) = false
-  any_catches_end (Y.StmtThen labels first rest) = catches_end first || any_catches_end rest
-
-abbrev pub block_catches_end : Y.Block → Bool
-block_catches_end (Y.BlockOf head body) = any_catches_end body
-
--- a program has one where its main procedure does
-abbrev pub main_catches_end : List Y.Procedure → Bool
-main_catches_end [] = false
-main_catches_end (p ∷ ps) = block_catches_end p.block
-
--- units are for AREA and ENDFILE
-abbrev pub HasUnitFor : Y.Program → Condition → Type 0
-HasUnitFor program C.Area = ⊤
-HasUnitFor program C.Endfile = main_catches_end program.procedures ≡ true
-HasUnitFor program _ = ⊥
-
 -- an on-unit is a single statement, or a block
 abbrev pub IsUnitBody : Y.BlockKind → Y.Stmts → Type 0
 IsUnitBody Y.SimpleUnit (Y.StmtThen [] x (Y.EndOfList [])) = IsSimple x
@@ -651,7 +621,7 @@ IsUnitNew may head _ = is_number head.number may ≡ false
 abbrev pub IsShallow : (bytes : ℕ) → Type 0
 IsShallow bytes = bytes ≤ 20000
 
--- so does what raises ENDFILE, where a unit may be in force for it
+-- and so it is where GET and SIGNAL raise ENDFILE, in a program that has a unit for it
 abbrev pub MayEnd : Y.Program → (bytes : ℕ) → Type 0
 MayEnd program bytes = (main_catches_end program.procedures ≡ false) ⊎ IsShallow bytes
 
