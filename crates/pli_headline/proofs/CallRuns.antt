@@ -19,7 +19,6 @@ use Rattle.pli_meaning.specs.Control.{Label, Meaning, flow_on, left, give, act, 
 use Rattle.pli_meaning.specs.Raising.{Around, at_line}
 use Rattle.pli_meaning.specs.Executing as M
 use Rattle.pli_meaning.specs.Making as K
-use Rattle.pli_serving.specs.ServiceState as S
 use Rattle.pli_serving.specs.ServiceState.{Services}
 use Rattle.pli_coding.specs.Registers.{zero_register, return_register, frame_register, a0, a1, a2, a3, u5, a7}
 use Rattle.pli_coding.specs.Assembly.{ProcedureEntry, ReturnPlace, Plain, CallTo, Mark, Code, size_of}

@@ -20,7 +20,6 @@ use Rattle.pli_headline.proofs.Variables.{data_place, level_of, AllOutermost}
 use Rattle.pli_headline.proofs.States.{with_number_at, with_text_at}
 use Rattle.pli_headline.proofs.MainGround.{width_few}
 use Rattle.pli_headline.proofs.Activations.{rest_more}
-use Rattle.pli_serving.specs.ServiceState as S
 use Rattle.pli_headline.proofs.Entered.{atop, Way, procedure_way}
 use Rattle.pli_headline.proofs.Statements.{Restricts, Enclosing, Block}
 use Rattle.pli_headline.proofs.InnerFrames.{Inside, inner_whole, inner_above, inner_put, inner_place, other_level, outermost_inner}

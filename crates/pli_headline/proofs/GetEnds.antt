@@ -1,5 +1,5 @@
 -- ENDFILE is raised in GET, where no character is left: its unit runs, and the run goes on at the statement's exit; without one it ends.
-use Rattle.std.proofs.Common.{◌≡◌, ℕ, suc, ◌+◌, ◌*◌, ◌<◌, ◌≤◌, List, [], ◌∷◌, ◌++◌, length, refl, sym, ap, ◌∙◌, subst, arith, lit<}
+use Rattle.std.proofs.Common.{◌≡◌, ℕ, suc, ◌+◌, ◌<◌, ◌≤◌, List, [], ◌∷◌, length, refl, sym, ap, ◌∙◌, subst, arith, lit<}
 use Rattle.pli_language.specs.declared.condition.Condition.TheVariants as C
 use Rattle.rv_meaning.specs.declared.instr.Instr.{Instr}
 use Rattle.pli_meaning.specs.Codes.{endfile_code}
@@ -7,7 +7,7 @@ use Rattle.pli_meaning.specs.StorageState.{State, force}
 use Rattle.pli_meaning.specs.Control.{Meaning, flow_on}
 use Rattle.pli_meaning.specs.Raising as R
 use Rattle.pli_meaning.specs.Raising.{Around}
-use Rattle.pli_serving.specs.ServiceState.{Services, EditPlace}
+use Rattle.pli_serving.specs.ServiceState.{Services}
 use Rattle.pli_serving.specs.OnUnits as U
 use Rattle.pli_coding.specs.Assembly.{JumpAhead}
 use Rattle.pli_coding.specs.Arithmetic.{raised}
@@ -29,7 +29,7 @@ use Rattle.pli_headline.proofs.Statements.{Block, AllHold, Enough}
 use Rattle.pli_headline.proofs.Owing.{comes_owing}
 use Rattle.pli_headline.proofs.UnitRuns.{by_force, Raises}
 use Rattle.pli_headline.proofs.GetPieces.{endfile_code_raised}
-use Rattle.pli_headline.proofs.Reach.{Family, cost, Aims, Comes, Closed, before_closed, comes_on, onward}
+use Rattle.pli_headline.proofs.Reach.{Family, Aims, Comes, Closed, before_closed, comes_on, onward}
 use Rattle.pli_headline.proofs.Scalars.{Values}
 
 -- at the exit, where a place in a format list is left of the statement

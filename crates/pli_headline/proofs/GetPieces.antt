@@ -41,7 +41,7 @@ use Rattle.pli_headline.proofs.EditItems.{at_places}
 use Rattle.pli_headline.proofs.EditPieces.{argued, quiet_piece}
 use Rattle.pli_headline.proofs.GetItems.{getting, number_in, read_state, begin_answer, field_number, number_status}
 use Rattle.pli_headline.proofs.GetWidths.{IsWide}
-use Rattle.pli_headline.proofs.Reach.{Family, Aims, Comes, Closed, cost, before_closed, comes_on, onward, reached, reached_holds}
+use Rattle.pli_headline.proofs.Reach.{Family, Aims, Comes, Closed, cost, comes_on, onward, reached, reached_holds}
 
 -- ---- the place in the list
 

@@ -1,6 +1,6 @@
 -- Places in format lists that wait below on-units: as many are left when what runs above them ends.
 use Rattle.std.proofs.Common.{◌≡◌, ℕ, suc, ◌-◌, ◌≤◌, List, [], ◌∷◌, length, Option, None, Some, Bool, true, false, refl, sym, ap, ◌∙◌, subst, arith}
-use Rattle.std.specs.Prelude.{drop, cond, ◌==◌}
+use Rattle.std.specs.Prelude.{cond, ◌==◌}
 use Rattle.std.proofs.lemmas.List.{length-drop}
 use Rattle.pli_serving.specs.ServiceState as S
 use Rattle.pli_serving.specs.ServiceState.{Services, EditPlace}

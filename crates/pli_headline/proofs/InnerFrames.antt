@@ -27,7 +27,6 @@ use Rattle.pli_serving.specs.Stored.{kept_bytes}
 use Rattle.pli_headline.proofs.WrittenBytes.{load-with_other}
 use Rattle.pli_headline.proofs.TextPlaces.{text_kind_of}
 use Rattle.pli_headline.proofs.TextsKept.{kept_length, text_kept_as}
-use Rattle.pli_serving.specs.ServiceState as S
 use Rattle.pli_headline.proofs.Entered.{atop, begin_way}
 use Rattle.pli_headline.proofs.OuterBlocks.{risen_over}
 use Rattle.pli_headline.proofs.Statements.{Block, IsFilled, Enclosing, Enclosures, AllSeen, restricts_self}

@@ -13,7 +13,6 @@ use Rattle.pli_meaning.specs.Raising.{Around, at_line}
 use Rattle.pli_meaning.specs.Executing as M
 use Rattle.pli_meaning.specs.Executing.{labels_in}
 use Rattle.pli_meaning.specs.StorageState.{most_activations}
-use Rattle.pli_serving.specs.ServiceState as S
 use Rattle.pli_coding.specs.Environments.{BlockPlace, Taken, Environment, none_taken}
 use Rattle.pli_coding.specs.Frames.{fixed_size, frame_end, temporary_bytes}
 use Rattle.pli_coding.specs.Linking.{Links}

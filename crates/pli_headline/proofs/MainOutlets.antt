@@ -10,7 +10,6 @@ use Rattle.pli_typing.specs.TypedTree as Y
 use Rattle.pli_meaning.specs.BasicValues.{BasicValue}
 use Rattle.pli_meaning.specs.StorageState.{State, with_world, newest_ended}
 use Rattle.pli_meaning.specs.Control.{Label, is_among}
-use Rattle.pli_serving.specs.ServiceState as S
 use Rattle.pli_serving.specs.ServiceState.{Services}
 use Rattle.pli_coding.specs.Assembly.{LabelPlace}
 use Rattle.pli_coding.specs.Frames.{frame_end}

@@ -4,7 +4,6 @@ use Rattle.std.specs.Prelude.{slice_get}
 use Rattle.pli_typing.specs.TypedTree as Y
 use Rattle.pli_meaning.specs.Control.{Label}
 use Rattle.pli_meaning.specs.DeclaredShapes.{variables_of_block}
-use Rattle.pli_serving.specs.ServiceState as S
 use Rattle.pli_coding.specs.Frames.{fixed_size, frame_end, variable_place, parameters_of_block}
 use Rattle.pli_coding.specs.Environments.{Environment, in_frame}
 use Rattle.pli_coding.specs.Statements.{owner_of_unit, unit_environment}
