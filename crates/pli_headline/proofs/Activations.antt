@@ -1,5 +1,5 @@
 -- The blocks that are entered, in the meaning and among the services: procedures inside the main one, and begin blocks in procedures and
--- in one another; units of the program are for AREA alone.
+-- in one another; units of the program are for AREA and ENDFILE.
 use Rattle.std.proofs.Common.{◌≡◌, ℕ, suc, ◌<◌, List, [], ◌∷◌, length, Option, None, Some, Bool, true, false, refl, sym, ap, ◌∙◌, subst, arith, ◌≤◌, ◌⊎◌, inl, inr, ◌^◌, lit<}
 use Rattle.std.specs.Prelude.{map, cond, ◌==◌}
 use Rattle.std.proofs.lemmas.Bool.{eq-eqb}
@@ -13,10 +13,16 @@ use Rattle.pli_serving.specs.ActsAndEnds as W
 use Rattle.pli_serving.specs.ActsAndEnds.{code_of_kind}
 use Rattle.pli_serving.specs.Blocks.{from_frame}
 
--- each unit is this one, or one for AREA
+-- conditions for which the program may have units
+abbrev pub may_have_unit : Condition → Bool
+may_have_unit C.Area = true
+may_have_unit C.Endfile = true
+may_have_unit _ = false
+
+-- each unit is this one, or one for such a condition
 abbrev pub AllUnits : {U : Type 0} → U → List (Condition × U) → Type 0
 AllUnits u [] = Unit {0}
-AllUnits u (p ∷ ps) = ((p.1 ≡ u) ⊎ (p.0 ≡ C.Area)) × AllUnits u ps
+AllUnits u (p ∷ ps) = ((p.1 ≡ u) ⊎ (may_have_unit p.0 ≡ true)) × AllUnits u ps
 
 abbrev pub levels_of : List Activation → List ℕ
 levels_of as' = map (λ (a : Activation). a.level) as'
@@ -45,11 +51,18 @@ Nested [] [] = Unit {0}
 Nested (a ∷ as') (x ∷ xs) = IsNested (length as') (first_level (levels_of as')) a × (IsOrdinary a.oncode x × Nested as' xs)
 Nested _ _ = ⊥
 
--- ---- for conditions other than AREA no unit is in force but the system's
+-- ---- for other conditions no unit is in force but the system's
 
--- a condition that isn't AREA
 abbrev pub IsOther : Condition → Type 0
-IsOther c = same_condition C.Area c ≡ false
+IsOther c = may_have_unit c ≡ false
+
+pub same_is : (d c : Condition) → same_condition d c ≡ true → d ≡ c
+same_is C.Area C.Area e = refl
+same_is C.FixedOverflow C.FixedOverflow e = refl
+same_is C.ZeroDivide C.ZeroDivide e = refl
+same_is C.Endfile C.Endfile e = refl
+same_is C.Error C.Error e = refl
+same_is _ _ e = absurd (cc e)
 
 abbrev pub IsIf : {U : Type 0} → U → Option U → Type 0
 IsIf u None = Unit {0}
@@ -63,10 +76,10 @@ unit_by : {U : Type 0} (q : Bool) (u x : U) (o : Option U) → (q ≡ true → x
 unit_by true u x o e h = e refl
 unit_by false u x o e h = h
 
-is_unit : {U : Type 0} (u x : U) (d c : Condition) → IsOther c → (x ≡ u) ⊎ (d ≡ C.Area) → same_condition d c ≡ true → x ≡ u
+is_unit : {U : Type 0} (u x : U) (d c : Condition) → IsOther c → (x ≡ u) ⊎ (may_have_unit d ≡ true) → same_condition d c ≡ true → x ≡ u
 is_unit u x d c other (inl e) same = e
 is_unit u x d c other (inr e) same =
-    let no : true ≡ false = sym same ∙ ap (λ a. same_condition a c) e ∙ other in absurd (cc no)
+    let no : true ≡ false = sym e ∙ ap may_have_unit (same_is d c same) ∙ other in absurd (cc no)
 
 unit_for_all : {U : Type 0} (u : U) (ps : List (Condition × U)) (c : Condition) → IsOther c → AllUnits u ps → IsIf u (unit_for ps c)
 unit_for_all u [] c other h = tt

@@ -82,6 +82,7 @@ act_to {code = code} {i = i} {g = g} {v = v} {h = h} {t = t} {s = s} closed cred
       fits = serving.fits;
       nested = serving.nested;
       waiting = serving.waiting;
+      places = serving.places;
     })
     (λ b. record { pc = (reached_holds r3 b).pc ∙ ap (address b) n; holds = (reached_holds r3 b).holds })))))
 

@@ -16,7 +16,7 @@ use Rattle.pli_serving.specs.ServiceState as S
 use Rattle.pli_headline.specs.ProvedSoFar.{Names, Kind, Types}
 use Rattle.pli_headline.proofs.Activations.{IsNested, IsOrdinary, Nested, frames_of, ancestor_inside, ancestor_around, first_level, levels_of, behind_level, entered_length, same_length, newest_level, newest_of_levels, direct_parent}
 use Rattle.pli_headline.proofs.Asides.{StandAside, behind_aside, asides_left}
-use Rattle.pli_headline.proofs.Entered.{Frames, atop, kinds_of, kinds_above, kinds_behind, behind_kind, first_kind, AreKnown, UnitsKnown}
+use Rattle.pli_headline.proofs.Entered.{Frames, atop, kinds_of, kinds_above, kinds_behind, behind_kind, first_kind, AreKnown, UnitsKnown, Way, way_of}
 use Rattle.pli_headline.proofs.Variables.{level_of, AllOutermost}
 use Rattle.pli_headline.proofs.Storages.{Storage, Serials, Stored, stored_higher, stored_left, lives_left}
 use Rattle.pli_headline.proofs.Statements.{AllHold}
@@ -125,7 +125,7 @@ seen_inside a as' x xs n outer block types nested long level (inr o) j kind at =
     let other : (a.level == level_of block j) ≡ false = grind (arith, nat_tests) in
     ancestor_around a as' (level_of block j) other (direct_parent a as' x xs nested (omega (arith, long)) (omega (arith, next, level)))
 
-pub raised_all : (head : Y.BlockHead) (entry : Entry) (s : State) (xs : Storage) (x : S.Activation) {frames : Frames} {serials : Serials} {outer : ℕ} {levels : List ℕ} {block : Names} {types : Types} {n : Values} → entry.oncode < 2 ^ 16 → 0 < head.level → 1 ≤ entry.parent → entry.parent ≤ length s.activations → (head.level ≡ suc (first_level (levels_of s.activations)) → entry.parent ≡ length s.activations) → IsOrdinary entry.oncode x → x.units ≡ [] → Outside head.level outer block types → Nested s.activations xs.activations → AllHold frames serials xs (outer ∷ levels) s block types n → AllHold (atop x.frame x.kind frames) serials (record xs { activations = x ∷ xs.activations }) (head.level ∷ outer ∷ levels) (entered_by head entry s) block types n
+pub raised_all : (head : Y.BlockHead) (entry : Entry) (s : State) (xs : Storage) (x : S.Activation) {frames : Frames} {serials : Serials} {outer : ℕ} {levels : List ℕ} {block : Names} {types : Types} {n : Values} → entry.oncode < 2 ^ 16 → 0 < head.level → 1 ≤ entry.parent → entry.parent ≤ length s.activations → (head.level ≡ suc (first_level (levels_of s.activations)) → entry.parent ≡ length s.activations) → IsOrdinary entry.oncode x → x.units ≡ [] → Outside head.level outer block types → Nested s.activations xs.activations → AllHold frames serials xs (outer ∷ levels) s block types n → AllHold (atop x.frame (way_of x) frames) serials (record xs { activations = x ∷ xs.activations }) (head.level ∷ outer ∷ levels) (entered_by head entry s) block types n
 raised_all head entry s xs x {frames = frames} {serials = serials} {outer = outer} {levels = levels} {block = block} {types = types} code level low high direct units none outside nested all =
     let long = entered_length s.activations (outer ∷ levels) all.entered in
     let served = same_length s.activations xs.activations nested in
@@ -147,13 +147,13 @@ raised_all head entry s xs x {frames = frames} {serials = serials} {outer = oute
           record { values = h.values; stands = ap (λ o. binding_in o (block.at j).index) (same j _ at) ∙ h.stands; lives = h.lives; value = h.value; short = h.short };
       entered = ap (λ ls. head.level ∷ ls) all.entered;
       framed = ap (λ fs. x.frame ∷ fs) all.framed;
-      kinds = kinds_above x xs.activations (omega (arith, served, long)) ∙ ap (λ ks. x.kind ∷ ks) all.kinds;
+      kinds = kinds_above x xs.activations (omega (arith, served, long)) ∙ ap (λ ks. way_of x ∷ ks) all.kinds;
       units = (subst (AreKnown frames.known (length s.activations + 1) x.frame []) (sym none) tt, all.units);
       aside = record { all = (tt, all.aside.all) };
       stored = stored_higher all.stored;
     }
 
-pub entered_all : (head : Y.BlockHead) (body : Y.Stmts) (s : State) (xs : Storage) (x : S.Activation) (parent : ℕ) {frames : Frames} {serials : Serials} {outer : ℕ} {levels : List ℕ} {block : Names} {types : Types} {n : Values} → 0 < head.level → 1 ≤ parent → parent ≤ length s.activations → (head.level ≡ suc (first_level (levels_of s.activations)) → parent ≡ length s.activations) → IsOrdinary 0 x → x.units ≡ [] → Outside head.level outer block types → Nested s.activations xs.activations → AllHold frames serials xs (outer ∷ levels) s block types n → AllHold (atop x.frame x.kind frames) serials (record xs { activations = x ∷ xs.activations }) (head.level ∷ outer ∷ levels) (entered_at parent head body s) block types n
+pub entered_all : (head : Y.BlockHead) (body : Y.Stmts) (s : State) (xs : Storage) (x : S.Activation) (parent : ℕ) {frames : Frames} {serials : Serials} {outer : ℕ} {levels : List ℕ} {block : Names} {types : Types} {n : Values} → 0 < head.level → 1 ≤ parent → parent ≤ length s.activations → (head.level ≡ suc (first_level (levels_of s.activations)) → parent ≡ length s.activations) → IsOrdinary 0 x → x.units ≡ [] → Outside head.level outer block types → Nested s.activations xs.activations → AllHold frames serials xs (outer ∷ levels) s block types n → AllHold (atop x.frame (way_of x) frames) serials (record xs { activations = x ∷ xs.activations }) (head.level ∷ outer ∷ levels) (entered_at parent head body s) block types n
 entered_all head body s xs x parent level low high direct units none outside nested all =
     raised_all head (M.begun (Y.BlockOf head body) parent) s xs x (lit< tt) level low high direct units none outside nested all
 
@@ -237,11 +237,11 @@ pub left_below : (s : State) (xs : Storage) {top outer : ℕ} {levels : List ℕ
 left_below s xs from frames lists kinds asides known nested outside owners all =
     left_by s s.activations xs xs.activations from frames lists kinds asides known refl refl nested outside owners all
 
-pub left_all : (s : State) (xs : Storage) {top outer : ℕ} {levels : List ℕ} {at : ℕ} {kind : S.BlockKind} {frames : Frames} {serials : Serials} {block : Names} {types : Types} {n : Values} → Nested s.activations xs.activations → Outside top outer block types → ((j : ℕ) (kind' : Kind) → slice_get types j ≡ Some kind' → serials.owner j ≤ suc (length levels)) → AllHold (atop at kind frames) serials xs (top ∷ outer ∷ levels) s block types n → Left frames serials s xs block types n (outer ∷ levels)
+pub left_all : (s : State) (xs : Storage) {top outer : ℕ} {levels : List ℕ} {at : ℕ} {kind : Way} {frames : Frames} {serials : Serials} {block : Names} {types : Types} {n : Values} → Nested s.activations xs.activations → Outside top outer block types → ((j : ℕ) (kind' : Kind) → slice_get types j ≡ Some kind' → serials.owner j ≤ suc (length levels)) → AllHold (atop at kind frames) serials xs (top ∷ outer ∷ levels) s block types n → Left frames serials s xs block types n (outer ∷ levels)
 left_all s xs {at = at} {kind = kind} {frames = frames} nested outside owners all =
     left_below s xs (atop at kind frames) frames refl refl refl (λ us vs o. o) nested outside owners all
 
 -- how the newest block was entered
-pub newest_kind : {s : State} {xs : Storage} {levels : List ℕ} {at : ℕ} {kind : S.BlockKind} {frames : Frames} {serials : Serials} {block : Names} {types : Types} {n : Values} (x : S.Activation) (rest : List S.Activation) → xs.activations ≡ x ∷ rest → 0 < length rest → AllHold (atop at kind frames) serials xs levels s block types n → x.kind ≡ kind
+pub newest_kind : {s : State} {xs : Storage} {levels : List ℕ} {at : ℕ} {kind : Way} {frames : Frames} {serials : Serials} {block : Names} {types : Types} {n : Values} (x : S.Activation) (rest : List S.Activation) → xs.activations ≡ x ∷ rest → 0 < length rest → AllHold (atop at kind frames) serials xs levels s block types n → way_of x ≡ kind
 newest_kind x rest are some all =
     ap first_kind (sym (kinds_above x rest some) ∙ ap kinds_of (sym are) ∙ all.kinds)

@@ -15,7 +15,6 @@ use Rattle.pli_meaning.specs.Control as F
 use Rattle.pli_meaning.specs.Control.{Label, is_among, Flow, Normal, Jump, Return, Paused, Stuck, Meaning, left, give, act, ◌>>◌, finish}
 use Rattle.pli_meaning.specs.Raising.{Around}
 use Rattle.pli_meaning.specs.Executing as M
-use Rattle.pli_serving.specs.ServiceState as S
 use Rattle.pli_serving.specs.ServiceState.{Services}
 use Rattle.pli_coding.specs.Registers.{frame_register, a0, a2, a7}
 use Rattle.pli_coding.specs.Assembly.{Code, size_of, Plain}
@@ -27,6 +26,7 @@ use Rattle.pli_coding.specs.Frames.{fixed_size, temporary_bytes}
 use Rattle.pli_coding.specs.Statements.{begin_environment, begin_code, block_words, stmts_words, stmt_code, stmts_code}
 use Rattle.pli_coding.specs.Linking.{Links}
 use Rattle.pli_headline.specs.ProvedSoFar.{Names, Types, OuterBlock}
+use Rattle.pli_headline.proofs.HeldPlaces.{places_entered, PlacesHeld, places_left}
 use Rattle.pli_headline.proofs.Storages.{storage}
 use Rattle.pli_headline.proofs.Engine.{Base, address}
 use Rattle.pli_headline.proofs.Linking.{size_append}
@@ -37,7 +37,7 @@ use Rattle.pli_headline.proofs.Temporaries.{nothing}
 use Rattle.pli_headline.proofs.Activations.{same_length, newest_is, entered_length}
 use Rattle.pli_headline.proofs.Calls.{Serving}
 use Rattle.pli_headline.proofs.Acts.{act_piece, acted}
-use Rattle.pli_headline.proofs.Entered.{atop}
+use Rattle.pli_headline.proofs.Entered.{atop, begin_way}
 use Rattle.pli_headline.proofs.Statements.{owner_level, Enclosures, Block, IsFilled, AllHold, listed_of, counted_all, IsMarkedOnce, OutletOf, Outlets, OwnExit, HomeOf, Homes, Enough, Does}
 use Rattle.pli_headline.proofs.InnerFrames.{Inner, inner_levels, inner_ground, inner_own, inner_outers, inner_block}
 use Rattle.pli_headline.proofs.BeginFrames.{inner_begun, inner_frame}
@@ -114,7 +114,7 @@ abbrev pub ended_return : (ℕ → Family → Services → Option BasicValue →
 ended_return returned i f v x s = returned i f v x (with_world s.world (newest_ended s))
 
 -- to a label of the block in which it stands
-pub own_outlet : {e : Environment} {block : Names} {types : Types} (bl : Block e block types) (inner : Inner bl) (number level : ℕ) (next : level ≡ suc e.level) (filled : IsFilled bl) {links : Links} {k turns i : ℕ} {h : ℕ → ℕ} (t : ℕ → ℕ) {acts acts' : ℕ} {jumped : ℕ → Family → Services → ℕ → Label → State → Type 0} {returned : ℕ → Family → Services → Option BasicValue → State → Type 0} → Enough bl links k turns i h t acts jumped returned → (label : Label) → is_among label bl.labels ≡ true → IsMarkedOnce links e.block label → acts ≤ acts' → OutletOf (atop inner.at S.BeginBlock bl.frames) (inner_own bl inner t number level next filled) links k acts' (ended_jump jumped) label
+pub own_outlet : {e : Environment} {block : Names} {types : Types} (bl : Block e block types) (inner : Inner bl) (number level : ℕ) (next : level ≡ suc e.level) (filled : IsFilled bl) {links : Links} {k turns i : ℕ} {h : ℕ → ℕ} (t : ℕ → ℕ) {acts acts' : ℕ} {jumped : ℕ → Family → Services → ℕ → Label → State → Type 0} {returned : ℕ → Family → Services → Option BasicValue → State → Type 0} → Enough bl links k turns i h t acts jumped returned → (label : Label) → is_among label bl.labels ≡ true → IsMarkedOnce links e.block label → acts ≤ acts' → OutletOf (atop inner.at begin_way bl.frames) (inner_own bl inner t number level next filled) links k acts' (ended_jump jumped) label
 own_outlet {e} {block} {types} bl inner number level next filled {k = k} {h = h} t ready label among once less =
     let o = ready.jumps label among once in
     record {
@@ -130,7 +130,7 @@ own_outlet {e} {block} {types} bl inner number level next filled {k = k} {h = h}
           (omega (arith, less, acted')) at';
     }
 
-pub outer_outlets : {e : Environment} {block : Names} {types : Types} (bl : Block e block types) (inner : Inner bl) (t : ℕ → ℕ) (number level : ℕ) (next : level ≡ suc e.level) (links : Links) (k acts acts' : ℕ) (jumped : ℕ → Family → Services → ℕ → Label → State → Type 0) → acts ≤ acts' → (os : List OuterBlock) (cs : Enclosures e bl.ground bl.levels bl.frames.list (e.level ∷ bl.depths) os) → Outlets e bl.ground bl.levels bl.frames (e.level ∷ bl.depths) os cs links k acts jumped → Outlets (in_frame number level e) (inner_ground bl inner t) (inner_levels bl) (atop inner.at S.BeginBlock bl.frames) (level ∷ e.level ∷ bl.depths) os (inner_outers bl inner t number level next os cs) links k acts' (ended_jump jumped)
+pub outer_outlets : {e : Environment} {block : Names} {types : Types} (bl : Block e block types) (inner : Inner bl) (t : ℕ → ℕ) (number level : ℕ) (next : level ≡ suc e.level) (links : Links) (k acts acts' : ℕ) (jumped : ℕ → Family → Services → ℕ → Label → State → Type 0) → acts ≤ acts' → (os : List OuterBlock) (cs : Enclosures e bl.ground bl.levels bl.frames.list (e.level ∷ bl.depths) os) → Outlets e bl.ground bl.levels bl.frames (e.level ∷ bl.depths) os cs links k acts jumped → Outlets (in_frame number level e) (inner_ground bl inner t) (inner_levels bl) (atop inner.at begin_way bl.frames) (level ∷ e.level ∷ bl.depths) os (inner_outers bl inner t number level next os cs) links k acts' (ended_jump jumped)
 outer_outlets bl inner t number level next links k acts acts' jumped less [] cs outs = tt
 outer_outlets bl inner t number level next links k acts acts' jumped less (o ∷ os) cs outs = (
   λ label among once.
@@ -146,7 +146,7 @@ outer_outlets bl inner t number level next links k acts acts' jumped less (o ∷
 )
 
 -- a return goes on at the end of the block in which it stands, or further out
-pub own_home : {e : Environment} {block : Names} {types : Types} (bl : Block e block types) (inner : Inner bl) (number level : ℕ) (next : level ≡ suc e.level) (filled : IsFilled bl) {links : Links} {k : ℕ} (t : ℕ → ℕ) {returned : ℕ → Family → Services → Option BasicValue → State → Type 0} → OwnExit e block types bl.ground bl.frames bl.serials bl.depths links k returned → HomeOf (atop inner.at S.BeginBlock bl.frames) (inner_own bl inner t number level next filled) links k (ended_return returned)
+pub own_home : {e : Environment} {block : Names} {types : Types} (bl : Block e block types) (inner : Inner bl) (number level : ℕ) (next : level ≡ suc e.level) (filled : IsFilled bl) {links : Links} {k : ℕ} (t : ℕ → ℕ) {returned : ℕ → Family → Services → Option BasicValue → State → Type 0} → OwnExit e block types bl.ground bl.frames bl.serials bl.depths links k returned → HomeOf (atop inner.at begin_way bl.frames) (inner_own bl inner t number level next filled) links k (ended_return returned)
 own_home {e} {block} {types} bl inner number level next filled t o =
     record {
       at = o.at;
@@ -160,7 +160,7 @@ own_home {e} {block} {types} bl inner number level next filled t o =
           at';
     }
 
-pub outer_homes : {e : Environment} {block : Names} {types : Types} (bl : Block e block types) (inner : Inner bl) (t : ℕ → ℕ) (number level : ℕ) (next : level ≡ suc e.level) (links : Links) (k : ℕ) (returned : ℕ → Family → Services → Option BasicValue → State → Type 0) (os : List OuterBlock) (cs : Enclosures e bl.ground bl.levels bl.frames.list (e.level ∷ bl.depths) os) → Homes e bl.ground bl.levels bl.frames (e.level ∷ bl.depths) os cs links k returned → Homes (in_frame number level e) (inner_ground bl inner t) (inner_levels bl) (atop inner.at S.BeginBlock bl.frames) (level ∷ e.level ∷ bl.depths) os (inner_outers bl inner t number level next os cs) links k (ended_return returned)
+pub outer_homes : {e : Environment} {block : Names} {types : Types} (bl : Block e block types) (inner : Inner bl) (t : ℕ → ℕ) (number level : ℕ) (next : level ≡ suc e.level) (links : Links) (k : ℕ) (returned : ℕ → Family → Services → Option BasicValue → State → Type 0) (os : List OuterBlock) (cs : Enclosures e bl.ground bl.levels bl.frames.list (e.level ∷ bl.depths) os) → Homes e bl.ground bl.levels bl.frames (e.level ∷ bl.depths) os cs links k returned → Homes (in_frame number level e) (inner_ground bl inner t) (inner_levels bl) (atop inner.at begin_way bl.frames) (level ∷ e.level ∷ bl.depths) os (inner_outers bl inner t number level next os cs) links k (ended_return returned)
 outer_homes bl inner t number level next links k returned [] cs homes = tt
 outer_homes bl inner t number level next links k returned (o ∷ os) cs homes = (
   λ deep owned once.
@@ -227,6 +227,7 @@ inner_piece {e} {block} {types} bl {links} {code} around more head body inner lo
       fits = serving.fits;
       nested = entered_nested head body s v.activations (entered_activation v inner.at) parent some (omega (arith, long)) (omega (arith, newest)) (omega (arith, newest, long)) (λ u. omega (arith, newest, long)) (record { kind = λ further. refl; units = tt }) serving.nested;
       waiting = refl;
+      places = places_entered (length v.edits) (entered_activation v inner.at) v.activations refl serving.places;
     })
     (entered_all head body s (storage v) (entered_activation v inner.at) parent some (omega (arith, newest)) (omega (arith, newest, long)) (λ u. omega (arith, newest, long)) (record { kind = λ further. refl; units = tt }) refl outside serving.nested all)
     at2
@@ -250,6 +251,7 @@ inner_piece {e} {block} {types} bl {links} {code} around more head body inner lo
                   fits = serving3.fits;
                   nested = o.nested;
                   waiting = serving3.waiting;
+                  places = places_left v3.edits o.newest o.rest (subst (PlacesHeld (length v3.edits)) o.are serving3.places);
                 })
                 o.all
                 (λ b. record { pc = (at4 b).pc ∙ ap (address b) place; holds = (at4 b).holds }));

@@ -172,7 +172,7 @@ block_arrays_program =
         level = refl;
         line = lit< tt;
         statements = (
-          (refl, (tt, (lit< tt, (lit< tt, (((inr (d_element counter), (unit_counter, tt)), (tt, lit< tt)), (((inr (d_element one), (lit< tt, tt)), (((inl in_unit, tt), (lit< tt, lit< tt)), lit< tt)), tt)))))),
+          (tt, (tt, (lit< tt, (lit< tt, (((inr (d_element counter), (unit_counter, tt)), (tt, lit< tt)), (((inr (d_element one), (lit< tt, tt)), (((inl in_unit, tt), (lit< tt, lit< tt)), lit< tt)), tt)))))),
           ((refl, (lit< tt, (((inr (a_element (Y.NumberConstant 0) counter), (lit< tt, (block_counter, tt))), (block_counter, lit< tt)), (((inl in_block, tt), (a_number, lit< tt)), ((refl, lit< tt), (lit< tt, tt)))))), tt),
         );
         jumps = ((refl, (refl, (refl, (tt, (tt, tt))))), (((refl, omega arith), (tt, (tt, (tt, (tt, tt))))), tt));

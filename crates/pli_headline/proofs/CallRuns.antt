@@ -19,7 +19,6 @@ use Rattle.pli_meaning.specs.Control.{Label, Meaning, flow_on, left, give, act, 
 use Rattle.pli_meaning.specs.Raising.{Around, at_line}
 use Rattle.pli_meaning.specs.Executing as M
 use Rattle.pli_meaning.specs.Making as K
-use Rattle.pli_serving.specs.ServiceState as S
 use Rattle.pli_serving.specs.ServiceState.{Services}
 use Rattle.pli_coding.specs.Registers.{zero_register, return_register, frame_register, a0, a1, a2, a3, u5, a7}
 use Rattle.pli_coding.specs.Assembly.{ProcedureEntry, ReturnPlace, Plain, CallTo, Mark, Code, size_of}
@@ -33,6 +32,7 @@ use Rattle.pli_coding.specs.Statements.{stmts_words, stmts_code}
 use Rattle.pli_coding.specs.Procedures.{procedure_environment, procedure_in}
 use Rattle.pli_coding.specs.Linking.{Links, place_of}
 use Rattle.pli_headline.specs.ProvedSoFar.{Names, Types, ArePlain}
+use Rattle.pli_headline.proofs.HeldPlaces.{places_entered, PlacesHeld, places_left}
 use Rattle.pli_headline.proofs.Storages.{storage}
 use Rattle.pli_headline.proofs.Engine.{Base, address, most_code}
 use Rattle.pli_headline.proofs.Linking.{size_append}
@@ -43,7 +43,7 @@ use Rattle.pli_headline.proofs.Temporaries.{stays_same, nothing}
 use Rattle.pli_headline.proofs.Activations.{same_length, first_level, levels_of, entered_length, outermost_height}
 use Rattle.pli_headline.proofs.Calls.{Serving}
 use Rattle.pli_headline.proofs.Acts.{act_to, act_piece}
-use Rattle.pli_headline.proofs.Entered.{atop}
+use Rattle.pli_headline.proofs.Entered.{atop, procedure_way}
 use Rattle.pli_headline.proofs.Declares.{Makes, made_block, declares_from, code_joined}
 use Rattle.pli_headline.proofs.DeclaredBegins.{vars_of, no_words, ended_does}
 use Rattle.pli_headline.proofs.StandingBytes.{ConstantsStand}
@@ -138,7 +138,7 @@ called_direct {e} bl level levels count entered long next inside =
 -- ---- behind the statements of the procedure
 
 -- it is left, and the caller goes on with the credits of its place
-leave_piece : {e : Environment} {block : Names} {types : Types} (bl : Block e block types) {links : Links} {code : List Instr} {level : ℕ} (callee : Callee bl) (k i resume : ℕ) (h t : ℕ → ℕ) {aims : Aims (Unit {0})} (closed : Closed code aims) → resume ≤ most_code → i + 3 + size_of all_restored + size_of (frame_ended callee.words) + 1 ≤ resume + length code → Linked links code i (called_ended callee.words) → ((s' : State) (v' : Services) (line' : ℕ) (n' : Values) (h' : ℕ → ℕ) (f' : Family) → Serving k s' v' line' → AllHold bl.frames bl.serials (storage v') (e.level ∷ bl.depths) s' block types n' → ((b : Base) → At b resume (Known (bl.ground n') v' h' t nothing b) (f' b)) → aims.done resume f' v' tt s') → (s : State) (v : Services) (line : ℕ) (n : Values) (h1 t1 : ℕ → ℕ) (f : Family) (free : ℕ) → Serving k s v line → AllHold (atop callee.at S.ProcedureBlock bl.frames) bl.serials (storage v) (level ∷ e.level ∷ bl.depths) s block types n → ((b : Base) → At b i (Known (ending_ground bl callee (λ b'. address b' resume) h t n free) v h1 t1 nothing b) (f b)) → (owing code (length code) aims).done i f v tt (with_world s.world (newest_ended s))
+leave_piece : {e : Environment} {block : Names} {types : Types} (bl : Block e block types) {links : Links} {code : List Instr} {level : ℕ} (callee : Callee bl) (k i resume : ℕ) (h t : ℕ → ℕ) {aims : Aims (Unit {0})} (closed : Closed code aims) → resume ≤ most_code → i + 3 + size_of all_restored + size_of (frame_ended callee.words) + 1 ≤ resume + length code → Linked links code i (called_ended callee.words) → ((s' : State) (v' : Services) (line' : ℕ) (n' : Values) (h' : ℕ → ℕ) (f' : Family) → Serving k s' v' line' → AllHold bl.frames bl.serials (storage v') (e.level ∷ bl.depths) s' block types n' → ((b : Base) → At b resume (Known (bl.ground n') v' h' t nothing b) (f' b)) → aims.done resume f' v' tt s') → (s : State) (v : Services) (line : ℕ) (n : Values) (h1 t1 : ℕ → ℕ) (f : Family) (free : ℕ) → Serving k s v line → AllHold (atop callee.at procedure_way bl.frames) bl.serials (storage v) (level ∷ e.level ∷ bl.depths) s block types n → ((b : Base) → At b i (Known (ending_ground bl callee (λ b'. address b' resume) h t n free) v h1 t1 nothing b) (f b)) → (owing code (length code) aims).done i f v tt (with_world s.world (newest_ended s))
 leave_piece {e} {block} {types} bl {code = code} callee k i resume h t closed near few l goal s v line n h1 t1 f free serving all at =
     let o = left_all s (storage v) serving.nested (inl callee.outer) (λ j kind at. bl.owners j at) all in
     let v' = ended_services v o.newest o.rest in
@@ -155,6 +155,7 @@ leave_piece {e} {block} {types} bl {code = code} callee k i resume h t closed ne
       fits = serving.fits;
       nested = o.nested;
       waiting = serving.waiting;
+      places = places_left v.edits o.newest o.rest (subst (PlacesHeld (length v.edits)) o.are serving.places);
     })
     o.all at')
 
@@ -260,7 +261,7 @@ call_piece {e} {block} {types} bl {links} {code} around more head body callee st
     comes_on k (left true newest_ended (flow_on k (K.variables_made here 0 vars k s2) (λ u. called_part program more head body))) last
     (comes_called newest_ended (flow_on k (K.variables_made here 0 vars k s2) (λ u. called_part program more head body))
     (declares_from closed1 here head.line (suc more) k st (called_part program more head body) vars cb known (makes back h t) n f3 head.line (stand back h t) refl
-    (λ label among once. owed_outlet closed (atop callee.at S.ProcedureBlock bl.frames) (main_enclosing bl callee back h t (procedure_owner head) head next main mains has) label (main_outlet bl callee back h (procedure_owner head) S.ProcedureBlock head next main mains has links k turns0 start0 h t acts0 v2.world.acts aims.jumped aims.returned ready label among once (omega (arith, less))), tt)
+    (λ label among once. owed_outlet closed (atop callee.at procedure_way bl.frames) (main_enclosing bl callee back h t (procedure_owner head) head next main mains has) label (main_outlet bl callee back h (procedure_owner head) procedure_way head next main mains has links k turns0 start0 h t acts0 v2.world.acts aims.jumped aims.returned ready label among once (omega (arith, less))), tt)
     (λ deep owned once. let no : true ≡ false = deep in absurd (cc no), tt)
     (λ inner owned once. record {
       at = i4;
@@ -282,6 +283,7 @@ call_piece {e} {block} {types} bl {links} {code} around more head body callee st
       fits = serving.fits;
       nested = entered_nested head body s v.activations (called_activation v callee.at) 1 some (omega (arith, long)) (omega arith) (omega (arith, long)) direct (record { kind = λ further. refl; units = tt }) serving.nested;
       waiting = refl;
+      places = places_entered (length v.edits) (called_activation v callee.at) v.activations refl serving.places;
     })
     (entered_all head body s (storage v) (called_activation v callee.at) 1 some (omega arith) (omega (arith, long)) direct (record { kind = λ further. refl; units = tt }) refl (inl callee.outer) serving.nested all)
     at3

@@ -20,8 +20,7 @@ use Rattle.pli_headline.proofs.Variables.{data_place, level_of, AllOutermost}
 use Rattle.pli_headline.proofs.States.{with_number_at, with_text_at}
 use Rattle.pli_headline.proofs.MainGround.{width_few}
 use Rattle.pli_headline.proofs.Activations.{rest_more}
-use Rattle.pli_serving.specs.ServiceState as S
-use Rattle.pli_headline.proofs.Entered.{atop}
+use Rattle.pli_headline.proofs.Entered.{atop, Way, procedure_way}
 use Rattle.pli_headline.proofs.Statements.{Restricts, Enclosing, Block}
 use Rattle.pli_headline.proofs.InnerFrames.{Inside, inner_whole, inner_above, inner_put, inner_place, other_level, outermost_inner}
 use Rattle.pli_meaning.specs.BasicValues.{BasicText}
@@ -246,7 +245,7 @@ called_leveled {block = block} bl callee level next j kind at =
     ap (λ l. cond (l == level) callee.at bl.base) outer ∙ ap (λ q. cond q callee.at bl.base) (other_level level 0 next) ∙ outermost_base bl j at outer
 
 -- the block of a procedure or an on-unit, whatever block calls or raises it, with the main procedure's around it
-abbrev pub called_block_as : {e : Environment} {block : Names} {types : Types} (bl : Block e block types) (callee : Callee bl) (back : Base → ℕ) (h0 t0 : ℕ → ℕ) (owner : Owner) (kind : S.BlockKind) (head : Y.BlockHead) → head.level ≡ 1 → (o : OuterBlock) → (c : Enclosing (owned_by owner (in_frame head.number head.level e)) o (called_ground bl callee back h0 t0) (λ j. bl.base) (callee.at ∷ bl.frames.list) (head.level ∷ e.level ∷ bl.depths)) → Restricts bl.serials block types c.serials c.names c.types → Block (owned_by owner (in_frame head.number head.level e)) block types
+abbrev pub called_block_as : {e : Environment} {block : Names} {types : Types} (bl : Block e block types) (callee : Callee bl) (back : Base → ℕ) (h0 t0 : ℕ → ℕ) (owner : Owner) (kind : Way) (head : Y.BlockHead) → head.level ≡ 1 → (o : OuterBlock) → (c : Enclosing (owned_by owner (in_frame head.number head.level e)) o (called_ground bl callee back h0 t0) (λ j. bl.base) (callee.at ∷ bl.frames.list) (head.level ∷ e.level ∷ bl.depths)) → Restricts bl.serials block types c.serials c.names c.types → Block (owned_by owner (in_frame head.number head.level e)) block types
 called_block_as {e} bl callee back h0 t0 owner kind head next o c seen =
     let above = inner_above callee.at bl.stack.free callee.words callee.place in
     let high = bl.stack.high in
@@ -346,4 +345,4 @@ called_block_as {e} bl callee back h0 t0 owner kind head next o c seen =
 -- the block of a procedure
 abbrev pub called_block : {e : Environment} {block : Names} {types : Types} (bl : Block e block types) (callee : Callee bl) (back : Base → ℕ) (h0 t0 : ℕ → ℕ) (head : Y.BlockHead) → head.level ≡ 1 → (o : OuterBlock) → (c : Enclosing (procedure_environment head e) o (called_ground bl callee back h0 t0) (λ j. bl.base) (callee.at ∷ bl.frames.list) (head.level ∷ e.level ∷ bl.depths)) → Restricts bl.serials block types c.serials c.names c.types → Block (procedure_environment head e) block types
 called_block bl callee back h0 t0 head next o c seen =
-    called_block_as bl callee back h0 t0 (BlockOwner (record { number = head.number; level = head.level })) S.ProcedureBlock head next o c seen
+    called_block_as bl callee back h0 t0 (BlockOwner (record { number = head.number; level = head.level })) procedure_way head next o c seen

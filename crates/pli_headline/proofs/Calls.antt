@@ -1,5 +1,5 @@
 -- Calls of services: what is answered, and the acts of the meaning beside them.
-use Rattle.std.proofs.Common.{◌≡◌, ◌≢◌, ℕ, suc, ◌+◌, ◌*◌, ◌^◌, ◌<◌, ◌≤◌, List, [], ◌∷◌, Some, None, Bool, true, false, refl, ap, ◌∙◌, arith}
+use Rattle.std.proofs.Common.{◌≡◌, ◌≢◌, ℕ, suc, ◌+◌, ◌*◌, ◌^◌, ◌<◌, ◌≤◌, List, [], ◌∷◌, length, Some, None, Bool, true, false, refl, ap, ◌∙◌, arith}
 use Rattle.std.specs.Prelude.{nat_lt, cond}
 use Rattle.std.proofs.Math.Nat.{mul-le-mul_left}
 use Rattle.std.proofs.lemmas.Bool.{ltb-true, lt-ltb}
@@ -23,11 +23,13 @@ use Rattle.pli_headline.proofs.Unlimited.{run_on}
 use Rattle.pli_headline.proofs.Engine.{Base, address, most_code, call_at, served, call_next, next_address}
 use Rattle.pli_headline.proofs.Items.{Linked, At}
 use Rattle.pli_headline.proofs.Activations.{Nested}
+use Rattle.pli_headline.proofs.HeldPlaces.{PlacesHeld}
 use Rattle.pli_headline.proofs.Reach.{Family, cost, acts_of, ActNext, Pausing, Ending, Reach, stay, Aims, Comes}
 
 -- ---- what stands between the meaning and the services
 
--- the services show what the meaning shows, and have the same input left; the run goes on in nested blocks, and no raise waits for a unit
+-- the services show what the meaning shows, and have the same input left; the run goes on in nested blocks, no raise waits for a unit, and places in
+-- format lists stay where on-units stand above them
 pub record Serving (k : ℕ) (s : State) (v : Services) (line : ℕ) : Type 0 where
   pub world : v.world ≡ s.world
   pub running : v.world.end ≡ E.Running
@@ -37,6 +39,7 @@ pub record Serving (k : ℕ) (s : State) (v : Services) (line : ℕ) : Type 0 wh
   pub fits : k + 1 < 2 ^ 64
   pub nested : Nested s.activations v.activations
   pub waiting : v.waiting ≡ None
+  pub places : PlacesHeld (length v.edits) v.activations
 
 -- ---- the acts of the meaning
 

@@ -78,5 +78,6 @@ line_piece {code = code} {i = i} {v = v} {h = h} {t = t} {aims = aims} bl n clos
       fits = serving.fits;
       nested = serving.nested;
       waiting = serving.waiting;
+      places = serving.places;
     })
     (λ b. record { pc = (at3 b).pc ∙ ap (address b) there; holds = (at3 b).holds })))))

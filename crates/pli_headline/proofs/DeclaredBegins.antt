@@ -27,6 +27,7 @@ use Rattle.pli_coding.specs.Linking.{Links}
 use Rattle.pli_coding.specs.Statements.{begin_environment, begin_code, block_words, stmts_words, stmt_code, stmts_code}
 use Rattle.pli_headline.specs.Headline.{parts}
 use Rattle.pli_headline.specs.ProvedSoFar.{Names, Types, ArePlain, declared_kind, bytes_for, bytes_of, array_variable}
+use Rattle.pli_headline.proofs.HeldPlaces.{places_entered, PlacesHeld, places_left}
 use Rattle.pli_headline.proofs.Engine.{Base, address}
 use Rattle.pli_headline.proofs.Linking.{size_append}
 use Rattle.pli_headline.proofs.Items.{Linked, At}
@@ -259,6 +260,7 @@ declaring_piece {e} {block} {types} bl {links} {code} around more head body inne
       fits = serving.fits;
       nested = entered_nested head body s v.activations (entered_activation v inner.at) parent some (omega (arith, long)) (omega (arith, newest)) (omega (arith, newest, long)) (λ u. omega (arith, newest, long)) (record { kind = λ further. refl; units = tt }) serving.nested;
       waiting = refl;
+      places = places_entered (length v.edits) (entered_activation v inner.at) v.activations refl serving.places;
     })
     (entered_all head body s (storage v) (entered_activation v inner.at) parent some (omega (arith, newest)) (omega (arith, newest, long)) (λ u. omega (arith, newest, long)) (record { kind = λ further. refl; units = tt }) refl outside serving.nested all)
     at2
@@ -280,6 +282,7 @@ declaring_piece {e} {block} {types} bl {links} {code} around more head body inne
             fits = serving3.fits;
             nested = o.nested;
             waiting = serving3.waiting;
+            places = places_left v3.edits o.newest o.rest (subst (PlacesHeld (length v3.edits)) o.are serving3.places);
           })
           o.all
           (λ b. record { pc = (at4 b).pc ∙ ap (address b) place; holds = (at4 b).holds }));

@@ -321,6 +321,7 @@ declares_from {links} {code} {aims} closed around line turns k c meaning (d ∷ 
             fits = serving.fits;
             nested = nested_same s.activations v.activations (kind_binding kind index (s.serials + 1)) serving.nested;
             waiting = serving.waiting;
+            places = serving.places;
           })
           (more_all e index kind items ((ib.ground n1).frame + (place_for e index + 16)) o.held begins numbered m.new m.fresh serving.nested begun all1)
           at'

@@ -17,6 +17,7 @@ use Rattle.pli_coding.specs.Assembly.{Plain, JumpBack, Code}
 use Rattle.pli_coding.specs.Instructions.{small, service, skip_where}
 use Rattle.pli_coding.specs.Streams.{controls_carried_out}
 use Rattle.pli_coding.specs.Linking.{Links}
+use Rattle.pli_headline.proofs.HeldPlaces.{places_next}
 use Rattle.pli_headline.proofs.Storages.{Storage, storage}
 use Rattle.pli_headline.proofs.Engine.{Base, address}
 use Rattle.pli_headline.proofs.Items.{Linked, At, straight}
@@ -85,7 +86,7 @@ turn_piece {code = code} {i = i} {g = g} {v = v} {h = h} {t = t} {s = s} kept cl
     closed.done q tt _
     (goal (reached q)
     (record {
-      serving = at_other_places places (with_act (written (control_written item)) (λ w. refl) (λ w. refl) serving allowed);
+      serving = at_other_places places (places_next v _ below found serving.places) (with_act (written (control_written item)) (λ w. refl) (λ w. refl) serving allowed);
       holds = kept.keeps _ _ s under.holds;
       texts_are = under.texts_are;
     })

@@ -1,5 +1,5 @@
 -- The code of PUT around a value: a place in a format list is begun and ended, and a number's field is tested and written.
-use Rattle.std.proofs.Common.{◌≡◌, ℕ, suc, ◌+◌, ◌^◌, ◌<◌, ◌≤◌, List, [], ◌∷◌, ◌++◌, Option, Some, None, true, false, refl, sym, ap, ◌∙◌, subst, arith, lit<, add-one}
+use Rattle.std.proofs.Common.{length, ◌≡◌, ℕ, suc, ◌+◌, ◌^◌, ◌<◌, ◌≤◌, List, [], ◌∷◌, ◌++◌, Option, Some, None, true, false, refl, sym, ap, ◌∙◌, subst, arith, lit<, add-one}
 use Rattle.std.specs.Prelude.{ℤ, ◌==◌}
 use Rattle.rv_meaning.specs.declared.instr.Instr.{Instr}
 use Rattle.rv_meaning.specs.declared.instr.Instr.TheVariants as I
@@ -21,6 +21,7 @@ use Rattle.pli_serving.specs.Answers.{Answer, Done}
 use Rattle.pli_serving.specs.Finding.{Call}
 use Rattle.pli_serving.specs.FormatLists.{formats_at}
 use Rattle.pli_serving.specs.Edits as E
+use Rattle.pli_headline.proofs.HeldPlaces.{PlacesHeld, places_next}
 use Rattle.pli_headline.proofs.Unlimited as V
 use Rattle.pli_coding.specs.Registers.{zero_register, a0, a1, a7}
 use Rattle.pli_coding.specs.Assembly.{DataPlace, RaiseError, Plain, OffsetOf, JumpTo}
@@ -108,8 +109,8 @@ end_piece {code = code} {v = v} closed f place below edits l at next' =
 
 -- ---- a field
 
-pub at_other_places : {k : ℕ} {s : State} {v : Services} {line : ℕ} (places : List EditPlace) → Serving k s v line → Serving k s (at_places places v) line
-at_other_places places o =
+pub at_other_places : {k : ℕ} {s : State} {v : Services} {line : ℕ} (places : List EditPlace) → PlacesHeld (length places) v.activations → Serving k s v line → Serving k s (at_places places v) line
+at_other_places places held o =
     record {
       world = o.world;
       running = o.running;
@@ -119,6 +120,7 @@ at_other_places places o =
       fits = o.fits;
       nested = o.nested;
       waiting = o.waiting;
+      places = held;
     }
 
 abbrev pub shown_state : List ℕ → State → State
@@ -160,7 +162,7 @@ written_piece {code = code} {i = i} {g = g} {v = v} {h = h} {t = t} {s = s} {lin
     comes_act (written (with_field field)) k s serving.world pauses
     (λ allowed.
     closed.done q tt _
-    (goal field (reached q) (with_act (written (with_field field)) (λ w. refl) (λ w. refl) (at_other_places places serving) allowed)
+    (goal field (reached q) (with_act (written (with_field field)) (λ w. refl) (λ w. refl) (at_other_places places (places_next v _ below found serving.places) serving) allowed)
     (λ b. record { pc = (reached_holds q b).pc ∙ ap (address b) e; holds = (reached_holds q b).holds }))))
 
 -- a status in a1 beside a number in a0

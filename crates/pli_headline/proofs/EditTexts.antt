@@ -24,6 +24,7 @@ use Rattle.pli_coding.specs.Assembly.{Plain}
 use Rattle.pli_coding.specs.Instructions.{small, service}
 use Rattle.pli_coding.specs.Streams as C
 use Rattle.pli_coding.specs.Linking.{Links}
+use Rattle.pli_headline.proofs.HeldPlaces.{places_next}
 use Rattle.pli_headline.proofs.Engine.{Base, address, call_at}
 use Rattle.pli_headline.proofs.Items.{Linked, At, straight}
 use Rattle.pli_headline.proofs.Numbers.{IsWide}
@@ -50,6 +51,7 @@ at_other_texts texts o =
       fits = o.fits;
       nested = o.nested;
       waiting = o.waiting;
+      places = o.places;
     }
 
 -- ---- 21: a number or a bit as a text
@@ -140,5 +142,5 @@ text_piece {code = code} {i = i} {g = g} {v = v} {h = h} {t = t} {s = s} {aims =
     comes_act (written (with_field field)) k s serving.world pauses
     (λ allowed.
     closed.done q tt _
-    (goal field (reached q) (with_act (written (with_field field)) (λ w. refl) (λ w. refl) (at_other_texts texts (at_other_places places serving)) allowed)
+    (goal field (reached q) (with_act (written (with_field field)) (λ w. refl) (λ w. refl) (at_other_texts texts (at_other_places places (places_next v _ below found serving.places) serving)) allowed)
     (λ b. record { pc = (reached_holds q b).pc ∙ ap (address b) e; holds = (reached_holds q b).holds })))))

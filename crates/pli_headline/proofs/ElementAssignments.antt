@@ -91,7 +91,7 @@ element_assign_does {e} {block} {types} bl links code routines around j {type} b
           let s2 = element_state s1 type (b ∷ bs) (bl.serials.of j) mine.values is z in
           subst (λ u. aims.done u f2 (acted line v) tt s2) (sym place)
           (goal s2 (acted line v) line (with_element_of n j (element_place (b ∷ bs) is) z) h2 t2 f2
-          (record { world = serving1.world; running = serving1.running; line_is = serving1.line_is; input = serving1.input; allowed = serving1.allowed; fits = serving1.fits; nested = serving1.nested; waiting = serving1.waiting })
+          (record { world = serving1.world; running = serving1.running; line_is = serving1.line_is; input = serving1.input; allowed = serving1.allowed; fits = serving1.fits; nested = serving1.nested; waiting = serving1.waiting; places = serving1.places })
           (element_all j is z below inside fits2 all1)
           stays2
           (λ base. record { pc = (at2 base).pc ∙ ap (address base) place; holds = (at2 base).holds })))));

@@ -215,7 +215,7 @@ elements_does {e} {block} {types} bl links code routines around j {type} b bs so
             to =
                 subst (λ u. aims.done u f3 v1 tt (all_state s1 type (b ∷ bs) (bl.serials.of j) mine.values z)) (sym there)
                 (goal (all_state s1 type (b ∷ bs) (bl.serials.of j) mine.values z) v1 line n' _ _ f3
-                (record { world = serving1.world; running = serving1.running; line_is = serving1.line_is; input = serving1.input; allowed = serving1.allowed; fits = serving1.fits; nested = serving1.nested; waiting = serving1.waiting })
+                (record { world = serving1.world; running = serving1.running; line_is = serving1.line_is; input = serving1.input; allowed = serving1.allowed; fits = serving1.fits; nested = serving1.nested; waiting = serving1.waiting; places = serving1.places })
                 (elements_all j z below fits2 all1)
                 (stays_then stays2 stays3)
                 (λ base'. record { pc = (at3 base').pc ∙ ap (address base') there; holds = (at3 base').holds }));

@@ -18,6 +18,7 @@ use Rattle.pli_coding.specs.Assembly.{Plain, JumpBack, Code}
 use Rattle.pli_coding.specs.Instructions.{small, service, skip_where}
 use Rattle.pli_coding.specs.Streams.{controls_carried_out}
 use Rattle.pli_coding.specs.Linking.{Links}
+use Rattle.pli_headline.proofs.HeldPlaces.{places_next}
 use Rattle.pli_headline.proofs.Storages.{Storage, storage}
 use Rattle.pli_headline.proofs.Engine.{Base, address}
 use Rattle.pli_headline.proofs.Items.{Linked, At, straight}
@@ -82,7 +83,7 @@ turn_piece {code = code} {i = i} {g = g} {v = v} {h = h} {t = t} {s = s} kept cl
     comes_read (control_read item) k s serving.world pauses
     (λ allowed.
     closed.done q tt _
-    (goal (reached q) (record { serving = read_serving (control_read item) places serving allowed; holds = kept.keeps _ (control_read item) s under.holds })
+    (goal (reached q) (record { serving = read_serving (control_read item) places (places_next v _ below found serving.places) serving allowed; holds = kept.keeps _ (control_read item) s under.holds })
     (λ b. record { pc = (reached_holds q b).pc ∙ ap (address b) e; holds = (reached_holds q b).holds }))))
 
 -- ---- the test behind a call

@@ -1,5 +1,5 @@
 -- The next item of a format list in the services while input is read, and what services 34 to 37 answer by it.
-use Rattle.std.proofs.Common.{◌≡◌, ℕ, ◌+◌, ◌^◌, ◌<◌, ◌≤◌, List, [], ◌∷◌, Option, Some, None, true, refl, ap, ◌∙◌}
+use Rattle.std.proofs.Common.{length, ◌≡◌, ℕ, ◌+◌, ◌^◌, ◌<◌, ◌≤◌, List, [], ◌∷◌, Option, Some, None, true, refl, ap, ◌∙◌}
 use Rattle.std.specs.Prelude.{ℤ}
 use Rattle.rv_meaning.specs.declared.instr.Instr.{Instr}
 use Rattle.rv_meaning.specs.Words.{word}
@@ -17,6 +17,7 @@ use Rattle.pli_serving.specs.Outcomes.{or_bad, bad_unless, pushed}
 use Rattle.pli_serving.specs.FormatLists.{formats_at}
 use Rattle.pli_serving.specs.Edits as E
 use Rattle.pli_serving.specs.Edits.{NextItem}
+use Rattle.pli_headline.proofs.HeldPlaces.{PlacesHeld}
 use Rattle.pli_headline.proofs.Calls.{Serving, comes_act, acts}
 use Rattle.pli_headline.proofs.Raising.{with_act}
 use Rattle.pli_headline.proofs.Engine.{call_at}
@@ -59,8 +60,8 @@ number_in input item = E.item_number Getting input item
 abbrev pub read_state : (Input → Input) → State → State
 read_state change s = with_world (counted s.world) (with_input change (with_world (counted s.world) s))
 
-pub read_serving : {k : ℕ} {s : State} {v : Services} {line : ℕ} (change : Input → Input) (places : List EditPlace) → Serving k s v line → s.world.acts < k → Serving k (read_state change s) (at_places places (E.read_by change v)) line
-read_serving change places o below =
+pub read_serving : {k : ℕ} {s : State} {v : Services} {line : ℕ} (change : Input → Input) (places : List EditPlace) → PlacesHeld (length places) v.activations → Serving k s v line → s.world.acts < k → Serving k (read_state change s) (at_places places (E.read_by change v)) line
+read_serving change places held o below =
     let a = with_act counted (λ (w : World). refl) (λ (w : World). refl) o below in
     record {
       world = a.world;
@@ -71,6 +72,7 @@ read_serving change places o below =
       fits = a.fits;
       nested = a.nested;
       waiting = a.waiting;
+      places = held;
     }
 
 -- an act that reads is carried out, or the run pauses before it

@@ -28,6 +28,7 @@ use Rattle.pli_coding.specs.Registers.{a0, u1}
 use Rattle.pli_coding.specs.Assembly.{Code, JumpAhead, size_of}
 use Rattle.pli_coding.specs.Instructions.{small, skip_where, service, status_tested, tested_service}
 use Rattle.pli_coding.specs.Linking.{Links}
+use Rattle.pli_headline.proofs.HeldPlaces.{places_next}
 use Rattle.pli_headline.proofs.Storages.{Storage}
 use Rattle.pli_headline.proofs.Engine.{Base, address}
 use Rattle.pli_headline.proofs.Linking.{size_append}
@@ -195,7 +196,7 @@ fixed_taken {code = code} {i = i} {g = g} {v = v} {h = h} {t = t} {s = s} {aims 
     (λ b m x2 x3 x4. taken_answer code v m width whole left below (x b) (y b) k found has under.serving.allowed under.serving.fits) (front_of (service 36) status_tested l) under.serving
     (λ b. record { pc = (at b).pc; holds = record { body = (at b).holds.body; regs = (refl, (refl, tt)) } })
     (λ f1 allowed at1.
-    let serving1 = read_serving change places under.serving allowed in
+    let serving1 = read_serving change places (places_next v _ below found under.serving.places) under.serving allowed in
     comes_on k (R.or_error around conversion_code o k s') next3
     (number_tested o (before_closed k next3 closed1) routines f1 around k x (back_of (service 36) status_tested l) serving1 at1
     (λ z f2 is at2.
@@ -259,7 +260,7 @@ text_taken {code = code} {i = i} {v = v} {s = s} {aims = aims} kept closed f aro
     record {
       to =
           field_comes around r left type (TextField text) k (read_state change s) is
-          (next' f1 (record { serving = read_serving change places under.serving allowed; holds = kept.keeps _ change s under.holds }) (λ b. record { pc = (at1 b).pc; holds = record { body = (at1 b).holds.body; regs = tt } }));
+          (next' f1 (record { serving = read_serving change places (places_next v _ below found under.serving.places) under.serving allowed; holds = kept.keeps _ change s under.holds }) (λ b. record { pc = (at1 b).pc; holds = record { body = (at1 b).holds.body; regs = tt } }));
     })))
 
 -- by A

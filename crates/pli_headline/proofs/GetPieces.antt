@@ -11,7 +11,7 @@ use Rattle.pli_meaning.specs.Codes.{conversion_code, endfile_code}
 use Rattle.pli_meaning.specs.World.{counted}
 use Rattle.pli_meaning.specs.InputLines.{Input, has_character, field_of, behind_field}
 use Rattle.pli_meaning.specs.StorageState.{State, with_input}
-use Rattle.pli_meaning.specs.Control.{Flow, Meaning, act, stored, looked, choose, give, ◌>>=◌, ◌>>◌}
+use Rattle.pli_meaning.specs.Control.{Flow, Normal, Jump, Return, Ended, Paused, Stuck, flow_on, Meaning, act, stored, looked, choose, give, ◌>>=◌, ◌>>◌}
 use Rattle.pli_meaning.specs.Raising as R
 use Rattle.pli_meaning.specs.Raising.{Around}
 use Rattle.pli_meaning.specs.Streaming as P
@@ -36,12 +36,12 @@ use Rattle.pli_headline.proofs.Jumps.{front_of, back_of, rest_of, skip_taken, sk
 use Rattle.pli_headline.proofs.Temporaries.{nothing}
 use Rattle.pli_headline.proofs.Calls.{Serving, comes_act, called, Calling, call_acts, call_pauses}
 use Rattle.pli_headline.proofs.Raising.{Routines, small_is, error_piece}
-use Rattle.pli_headline.proofs.Operators.{valued, raised_piece}
+use Rattle.pli_headline.proofs.Operators.{valued}
 use Rattle.pli_headline.proofs.EditItems.{at_places}
 use Rattle.pli_headline.proofs.EditPieces.{argued, quiet_piece}
 use Rattle.pli_headline.proofs.GetItems.{getting, number_in, read_state, begin_answer, field_number, number_status}
 use Rattle.pli_headline.proofs.GetWidths.{IsWide}
-use Rattle.pli_headline.proofs.Reach.{Family, Aims, Comes, Closed, cost, before_closed, comes_on, onward, reached, reached_holds}
+use Rattle.pli_headline.proofs.Reach.{Family, Aims, Comes, Closed, cost, comes_on, onward, reached, reached_holds}
 
 -- ---- the place in the list
 
@@ -87,24 +87,32 @@ unfolding P.field_taken ◌>>=◌ looked choose
 field_some around width k s some =
     ap (λ q. cond q (((act counted) >> ((stored (with_input (behind_field width))) >> (give (Some (field_of width s.input))))) k s) (((R.raised around C.Endfile endfile_code) >> (give None)) k s)) some
 
--- ENDFILE is raised, and ends the run
-ended_piece : {links : Links} {code : List Instr} {i : ℕ} {g : Ground} {v : Services} {h t : ℕ → ℕ} {rs : Base → List (ℕ × ℕ)} {s : State} {aims : Aims (Option (List ℕ))} (closed : Closed code aims) (routines : Routines links code) (f : Family) (around : Around) (width behind k : ℕ) → has_character s.input.marks ≡ false → Linked links code i (endfile_code_raised behind) → Serving k s v around.line → ((b : Base) → At b i (Known g v h t rs b) (f b)) → Comes code i f v aims (P.field_taken around width k s)
-unfolding ◌>>◌
-ended_piece {code = code} {i = i} {v = v} {s = s} {aims = aims} closed routines f around width behind k none l serving at =
-    let next' : Unit {0} → Meaning (Option (List ℕ)) = λ u. give None in
-    subst (Comes code i f v aims) (sym (field_none around width k s none))
-    (comes_on k (R.raised around C.Endfile endfile_code k s) next'
-    (raised_piece (before_closed k next' closed) routines f around C.Endfile 4 endfile_code (JumpAhead behind ∷ []) k refl refl (lit< tt) (lit< tt) l serving at))
+got_by : {R : Type 0} (next1 : Option Field → Meaning R) (around : Around) (k : ℕ) (flow : Flow (Unit {0})) → flow_on k (flow_on k (flow_on k flow (λ u. give {R = Option (List ℕ)} None)) (λ t. P.number_got around t)) next1 ≡ flow_on k flow (λ u. next1 None)
+unfolding P.number_got give
+got_by next1 around k (Normal u s) = refl
+got_by next1 around k (Jump height label s) = refl
+got_by next1 around k (Return v s) = refl
+got_by next1 around k (Ended s) = refl
+got_by next1 around k (Paused s) = refl
+got_by next1 around k Stuck = refl
 
-ended_field : {links : Links} {code : List Instr} {i : ℕ} {g : Ground} {v : Services} {h t : ℕ → ℕ} {rs : Base → List (ℕ × ℕ)} {s : State} {aims : Aims (Option Field)} (closed : Closed code aims) (routines : Routines links code) (f : Family) (around : Around) (d : DataItem) (behind k : ℕ) → IsWide d → has_character s.input.marks ≡ false → Linked links code i (endfile_code_raised behind) → Serving k s v around.line → ((b : Base) → At b i (Known g v h t rs b) (f b)) → Comes code i f v aims (P.field_got around d k s)
-unfolding P.field_got ◌>>=◌
-ended_field {s = s} closed routines f around (FixedItem width) behind k is none l serving at =
-    let next' : Option (List ℕ) → Meaning (Option Field) = λ t. P.number_got around t in
-    comes_on k (P.field_taken around width k s) next' (ended_piece (before_closed k next' closed) routines f around width behind k none l serving at)
-ended_field {s = s} closed routines f around (TextItem (Some width)) behind k is none l serving at =
-    let next' : Option (List ℕ) → Meaning (Option Field) = λ t. give (P.text_got t) in
-    comes_on k (P.field_taken around width k s) next' (ended_piece (before_closed k next' closed) routines f around width behind k none l serving at)
-ended_field closed routines f around (TextItem None) behind k is none l serving at = absurd is
+text_by : {R : Type 0} (next1 : Option Field → Meaning R) (k : ℕ) (flow : Flow (Unit {0})) → flow_on k (flow_on k (flow_on k flow (λ u. give {R = Option (List ℕ)} None)) (λ t. give (P.text_got t))) next1 ≡ flow_on k flow (λ u. next1 None)
+unfolding give
+text_by next1 k (Normal u s) = refl
+text_by next1 k (Jump height label s) = refl
+text_by next1 k (Return v s) = refl
+text_by next1 k (Ended s) = refl
+text_by next1 k (Paused s) = refl
+text_by next1 k Stuck = refl
+
+-- with no character left ENDFILE is raised, and behind it nothing was got
+pub ended_got : {X : Type 0} (next1 : Option Field → Meaning X) (around : Around) (d : DataItem) (k : ℕ) (s : State) → IsWide d → has_character s.input.marks ≡ false → ((P.field_got around d) >>= next1) k s ≡ flow_on k (R.raised around C.Endfile endfile_code k s) (λ u. next1 None)
+unfolding P.field_got ◌>>=◌ ◌>>◌
+ended_got next1 around (FixedItem width) k s is none =
+    ap (λ flow. flow_on k (flow_on k flow (λ t. P.number_got around t)) next1) (field_none around width k s none) ∙ got_by next1 around k (R.raised around C.Endfile endfile_code k s)
+ended_got next1 around (TextItem (Some width)) k s is none =
+    ap (λ flow. flow_on k (flow_on k flow (λ t. give (P.text_got t))) next1) (field_none around width k s none) ∙ text_by next1 k (R.raised around C.Endfile endfile_code k s)
+ended_got next1 around (TextItem None) k s is none = absurd is
 
 -- a number beside 3
 abbrev threed : (x : ℕ) → Base → List (ℕ × ℕ)
@@ -117,20 +125,17 @@ data_not_three (TextItem width) x y e e' = ap (λ u. if u == y then false else t
 three_three : (x y : ℕ) → x ≡ 3 → y ≡ 3 → (if x == y then false else true) ≡ false
 three_three x y e e' = ap (λ u. if u == y then false else true) e ∙ ap (λ u. if 3 == u then false else true) e'
 
-tested_piece : (q : Bool) {R : Type 0} {links : Links} {code : List Instr} {i : ℕ} {g : Ground} {v : Services} {h t : ℕ → ℕ} {s : State} {aims : Aims R} (next1 : Option Field → Meaning R) (closed : Closed code aims) (routines : Routines links code) (f : Family) (around : Around) (d : DataItem) (behind k : ℕ) → has_character v.input.marks ≡ q → IsWide d → Linked links code i (skip_where Test.NotEqual a0 u1 (endfile_code_raised behind)) → Serving k s v around.line → ((b : Base) → At b i (Known g v h t (threed (cond q (E.data_number d) 3)) b) (f b)) → (q ≡ true → (f' : Family) → ((b : Base) → At b (i + 7) (Known g v h t (valued (E.data_number d)) b) (f' b)) → Comes code (i + 7) f' v aims (((P.field_got around d) >>= next1) k s)) → Comes code i f v aims (((P.field_got around d) >>= next1) k s)
-unfolding ◌>>=◌
-tested_piece true next1 closed routines f around d behind k has is l serving at next' =
+tested_piece : (q : Bool) {R : Type 0} {links : Links} {code : List Instr} {i : ℕ} {g : Ground} {v : Services} {h t : ℕ → ℕ} {aims : Aims R} {flow : Flow R} (closed : Closed code aims) (f : Family) (d : DataItem) (behind : ℕ) → has_character v.input.marks ≡ q → Linked links code i (skip_where Test.NotEqual a0 u1 (endfile_code_raised behind)) → ((b : Base) → At b i (Known g v h t (threed (cond q (E.data_number d) 3)) b) (f b)) → (q ≡ true → (f' : Family) → ((b : Base) → At b (i + 7) (Known g v h t (valued (E.data_number d)) b) (f' b)) → Comes code (i + 7) f' v aims flow) → (q ≡ false → (f' : Family) → Linked links code (i + 1) (endfile_code_raised behind) → ((b : Base) → At b (i + 1) (Known g v h t nothing b) (f' b)) → Comes code (i + 1) f' v aims flow) → Comes code i f v aims flow
+tested_piece true closed f d behind has l at next' ended =
     onward closed (skip_taken _ f Test.NotEqual a0 u1 (endfile_code_raised behind) l at (λ b. data_not_three d _ _ (at b).holds.regs.0 (at b).holds.regs.1.0))
     (λ f1 at1. next' refl f1 (λ b. record { pc = (at1 b).pc; holds = record { body = (at1 b).holds.body; regs = ((at1 b).holds.regs.0, tt) } }))
-tested_piece false {i = i} {s = s} next1 closed routines f around d behind k has is l serving at next' =
-    let none : has_character s.input.marks ≡ false = ap (λ (u : Input). has_character u.marks) (sym serving.input) ∙ has in
+tested_piece false {i = i} closed f d behind has l at next' ended =
     onward closed (skip_passed i f Test.NotEqual a0 u1 (endfile_code_raised behind) l at (λ b. three_three _ _ (at b).holds.regs.0 (at b).holds.regs.1.0))
-    (λ f1 at1.
-    comes_on k (P.field_got around d k s) next1 (ended_field (before_closed k next1 closed) routines f1 around d behind k is none (rest_of _ (endfile_code_raised behind) l) serving at1))
+    (λ f1 at1. ended refl f1 (rest_of _ (endfile_code_raised behind) l) (λ b. record { pc = (at1 b).pc; holds = record { body = (at1 b).holds.body; regs = tt } }))
 
 -- a field is there, or ENDFILE is raised
-pub awaited_piece : {R : Type 0} {links : Links} {code : List Instr} {i : ℕ} {g : Ground} {v : Services} {h t : ℕ → ℕ} {s : State} {aims : Aims R} (next1 : Option Field → Meaning R) (closed : Closed code aims) (routines : Routines links code) (f : Family) (around : Around) (d : DataItem) (behind k : ℕ) → IsWide d → Linked links code i (endfile_tested behind) → Serving k s v around.line → ((b : Base) → At b i (Known g v h t (valued (number_in v.input (DataFormat d))) b) (f b)) → (has_character v.input.marks ≡ true → (f' : Family) → ((b : Base) → At b (i + 8) (Known g v h t (valued (E.data_number d)) b) (f' b)) → Comes code (i + 8) f' v aims (((P.field_got around d) >>= next1) k s)) → Comes code i f v aims (((P.field_got around d) >>= next1) k s)
-awaited_piece {code = code} {i = i} {g = g} {v = v} {h = h} {t = t} {s = s} {aims = aims} next1 closed routines f around d behind k is l serving at next' =
+pub awaited_piece : {R : Type 0} {links : Links} {code : List Instr} {i : ℕ} {g : Ground} {v : Services} {h t : ℕ → ℕ} {aims : Aims R} {flow : Flow R} (closed : Closed code aims) (f : Family) (d : DataItem) (behind : ℕ) → Linked links code i (endfile_tested behind) → ((b : Base) → At b i (Known g v h t (valued (number_in v.input (DataFormat d))) b) (f b)) → (has_character v.input.marks ≡ true → (f' : Family) → ((b : Base) → At b (i + 8) (Known g v h t (valued (E.data_number d)) b) (f' b)) → Comes code (i + 8) f' v aims flow) → (has_character v.input.marks ≡ false → (f' : Family) → Linked links code (i + 1 + 1) (endfile_code_raised behind) → ((b : Base) → At b (i + 1 + 1) (Known g v h t nothing b) (f' b)) → Comes code (i + 1 + 1) f' v aims flow) → Comes code i f v aims flow
+awaited_piece {code = code} {i = i} {g = g} {v = v} {h = h} {t = t} {aims = aims} {flow = flow} closed f d behind l at next' ended =
     let front = small u1 3 ∷ [] in
     let last = skip_where Test.NotEqual a0 u1 (endfile_code_raised behind) in
     let q = has_character v.input.marks in
@@ -140,11 +145,12 @@ awaited_piece {code = code} {i = i} {g = g} {v = v} {h = h} {t = t} {s = s} {aim
       regs = (o.regs.0, (small_is _ 3 (zero_is o.body) (lit< tt), tt));
     }) in
     onward closed r (λ f1 at1.
-    tested_piece q next1 closed routines f1 around d behind k refl is (back_of front last l) serving at1
+    tested_piece q closed f1 d behind refl (back_of front last l) at1
     (λ has f2 at2.
     let e : i + 1 + 7 ≡ i + 8 = omega arith in
-    subst (λ u. Comes code u f2 v aims (((P.field_got around d) >>= next1) k s)) (sym e)
-    (next' has f2 (λ b. record { pc = (at2 b).pc ∙ ap (address b) e; holds = (at2 b).holds }))))
+    subst (λ u. Comes code u f2 v aims flow) (sym e)
+    (next' has f2 (λ b. record { pc = (at2 b).pc ∙ ap (address b) e; holds = (at2 b).holds })))
+    ended)
 
 -- ---- the field
 

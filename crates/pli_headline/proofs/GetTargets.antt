@@ -1,14 +1,15 @@
 -- An item of GET: the next data item is found, a field is taken for a number, a bit or a text, and it is stored in a variable of the block
 -- or an element of an array.
-use Rattle.std.proofs.Common.{◌≡◌, ℕ, suc, ◌+◌, ◌≤◌, List, [], ◌∷◌, ◌++◌, Option, Some, None, Bool, true, false, refl, sym, ap, ◌∙◌, subst, arith, lit<, inl, inr, length}
+use Rattle.std.proofs.Common.{◌≡◌, ℕ, suc, ◌+◌, ◌≤◌, List, [], ◌∷◌, ◌++◌, Option, Some, None, Bool, true, false, refl, sym, ap, ◌∙◌, subst, arith, lit<, inl, inr, length, ◌<◌}
 use Rattle.std.specs.Prelude.{ℤ, pos, slice_get}
 use Rattle.rv_meaning.specs.declared.instr.Instr.{Instr}
 use Rattle.rv_meaning.specs.Words.{word, flag}
 use Rattle.pli_language.specs.Tree as T
 use Rattle.pli_typing.specs.Signatures.{Bit, Bounds}
+use Rattle.pli_language.specs.declared.condition.Condition.TheVariants as Conditions
 use Rattle.pli_typing.specs.TypedTree as Y
 use Rattle.pli_meaning.specs.BasicValues.{BasicValue, BasicNumber, BasicBit, BasicText}
-use Rattle.pli_meaning.specs.Codes.{conversion_code}
+use Rattle.pli_meaning.specs.Codes.{endfile_code, conversion_code}
 use Rattle.pli_meaning.specs.Numbers.{checked}
 use Rattle.pli_meaning.specs.Texts.{bit_number, bit_in_text}
 use Rattle.pli_meaning.specs.InputLines.{Input, has_character, field_of}
@@ -34,6 +35,10 @@ use Rattle.pli_coding.specs.Streams as C
 use Rattle.pli_coding.specs.Streams.{has_fixed, has_text, controls_carried_out, awaited_before, field_awaited, field_stored, bit_got, text_got, get_item_words}
 use Rattle.pli_coding.specs.Linking.{Links}
 use Rattle.pli_headline.specs.ProvedSoFar.{Names, Types, IsReadBy, IsProvedGetItem, AreProvedFormats, HasData, HaveWidths, text_leaf, alone, IsTarget, AreSubscripts, AreProvedNumbers, IsPart}
+use Rattle.pli_headline.proofs.Since.{since_closed, comes_since}
+use Rattle.pli_headline.proofs.HeldPlaces.{next_length}
+use Rattle.pli_headline.proofs.UnitRuns.{Raises}
+use Rattle.pli_headline.proofs.GetEnds.{AtExit, end_raised}
 use Rattle.pli_headline.proofs.Storages.{storage, Storage, Serials}
 use Rattle.pli_headline.proofs.Engine.{Base, address}
 use Rattle.pli_headline.proofs.Linking.{size_append}
@@ -51,7 +56,7 @@ use Rattle.pli_headline.proofs.Variables.{IsDeclared, whole_part, whole, own}
 use Rattle.pli_headline.proofs.States.{Holds}
 use Rattle.pli_headline.proofs.TextStates.{KeepsText}
 use Rattle.pli_headline.proofs.Entered.{Frames}
-use Rattle.pli_headline.proofs.Statements.{Block, AllHold, Standing}
+use Rattle.pli_headline.proofs.Statements.{Block, AllHold, Standing, Enough}
 use Rattle.pli_headline.proofs.FormatData.{items_data, true_false}
 use Rattle.pli_headline.proofs.EditTexts.{at_other_texts}
 use Rattle.pli_headline.proofs.EditChoices.{by_kinds}
@@ -60,7 +65,7 @@ use Rattle.pli_headline.proofs.TextNumbers.{bit_answer}
 use Rattle.pli_headline.proofs.GetItems.{getting, Gets, read_state}
 use Rattle.pli_headline.proofs.GetControls.{Kept, next_piece}
 use Rattle.pli_headline.proofs.GetWidths.{Suits, formats_suited}
-use Rattle.pli_headline.proofs.GetPieces.{endfile_tested, awaited_piece}
+use Rattle.pli_headline.proofs.GetPieces.{endfile_tested, awaited_piece, ended_got}
 use Rattle.pli_headline.proofs.GetNumbers.{stored_value, rest_given, converting, converting_closed, got_and_stored, fixed_as_number, text_as_number, number_got, text_taken}
 use Rattle.pli_headline.proofs.GetTexts.{number_as_text, field_as_text}
 use Rattle.pli_headline.proofs.Reach.{Family, Aims, Comes, Closed, before, before_closed, comes_on, onward}
@@ -324,9 +329,9 @@ part_reads {block = block} {types} bl {links} {code} routines around same r fs i
 
 -- ---- the whole item
 
-reference_piece : {e : Environment} {block : Names} {types : Types} (bl : Block e block types) {links : Links} {code : List Instr} {i : ℕ} {v : Services} {h t : ℕ → ℕ} {s : State} {aims : Aims (Option (List FormatItem))} (closed : Closed code aims) (routines : Routines links code) (f : Family) (around : Around) (r : Y.Reference) (type : Y.LeafType) (fs : T.Formats) (reads : Reads bl links code around r type fs) (n : Values) (rest : List FormatItem) (below : List EditPlace) (behind k : ℕ) → AreProvedFormats fs → HasData fs → HaveWidths fs → Suits (has_fixed fs) (has_text fs) rest → v.edits ≡ getting (format_items fs) rest ∷ below → Linked links code i (awaited_before (field_stored e bl.taken fs r type) behind) → Serving k s v around.line → AllHold bl.frames bl.serials (storage v) (e.level ∷ bl.depths) s block types n → ((b : Base) → At b i (Known (bl.ground n) v h t nothing b) (f b)) → ItemBehind bl k around.line h t (i + size_of (awaited_before (field_stored e bl.taken fs r type) behind)) (has_fixed fs) (has_text fs) (format_items fs) below aims → Comes code i f v aims (P.item_got around (format_items fs) rest (Y.GetScalar r) k s)
-unfolding P.item_got ◌>>=◌
-reference_piece {e} {block} {types} bl {links} {code} {i} {v} {h} {t} {s} {aims} closed routines f around r type fs reads n rest below behind k are has wide suits edits l serving hold at goal =
+reference_piece : {e : Environment} {block : Names} {types : Types} (bl : Block e block types) {links : Links} {code : List Instr} {i : ℕ} {v : Services} {h t : ℕ → ℕ} {s : State} {aims : Aims (Option (List FormatItem))} (closed : Closed code aims) (routines : Routines links code) (f : Family) (around : Around) (r : Y.Reference) (type : Y.LeafType) (fs : T.Formats) (reads : Reads bl links code around r type fs) (n : Values) (rest : List FormatItem) (below : List EditPlace) (behind k : ℕ) (can : Raises bl links code around Conditions.Endfile endfile_code) (exit start acts : ℕ) → i + size_of (awaited_before (field_stored e bl.taken fs r type) behind) + behind ≡ exit → exit + 2 ≤ length code → Enough bl links k around.turns start h t acts aims.jumped aims.returned → acts < v.world.acts → AreProvedFormats fs → HasData fs → HaveWidths fs → Suits (has_fixed fs) (has_text fs) rest → v.edits ≡ getting (format_items fs) rest ∷ below → Linked links code i (awaited_before (field_stored e bl.taken fs r type) behind) → Serving k s v around.line → AllHold bl.frames bl.serials (storage v) (e.level ∷ bl.depths) s block types n → ((b : Base) → At b i (Known (bl.ground n) v h t nothing b) (f b)) → ItemBehind bl k around.line h t (i + size_of (awaited_before (field_stored e bl.taken fs r type) behind)) (has_fixed fs) (has_text fs) (format_items fs) below aims → AtExit bl k (length below) h t exit None aims → Comes code i f v aims (P.item_got around (format_items fs) rest (Y.GetScalar r) k s)
+unfolding P.item_got P.scalar_if_got ◌>>=◌ give
+reference_piece {e} {block} {types} bl {links} {code} {i} {v} {h} {t} {s} {aims} closed routines f around r type fs reads n rest below behind k can exit start acts place_is inside more later are has wide suits edits l serving hold at goal ended =
     let all = format_items fs in
     let c = field_stored e bl.taken fs r type in
     let b0 = size_of c + behind in
@@ -339,19 +344,27 @@ reference_piece {e} {block} {types} bl {links} {code} {i} {v} {h} {t} {s} {aims}
     let next1 : Option Field → List FormatItem → Meaning (Option (List FormatItem)) = λ u left. P.scalar_if_got around r left u in
     let nextn : DataItem × List FormatItem → Meaning (Option (List FormatItem)) = λ next. (P.field_got around next.0) >>= (λ u. next1 u next.1) in
     comes_on k (P.next_item P.control_got all rest k s) nextn
-    (next_piece (all_kept bl.frames bl.serials (e.level ∷ bl.depths) block types n) (before_closed k nextn closed) (has_fixed fs) (has_text fs) f all rest below k (items_data fs are has) (formats_suited fs wide) suits edits (front_of controls_carried_out (endfile_tested b0) l1) (record { serving = serving; holds = hold }) at
-    (λ s1 v1 f1 d left under1 found1 suits1 at1.
-    awaited_piece (λ u. next1 u left) closed routines f1 around d b0 k suits1.1.0 (back_of controls_carried_out (endfile_tested b0) l1) under1.serving at1
+    (comes_since (P.next_item P.control_got all rest k s)
+    (next_piece (all_kept bl.frames bl.serials (e.level ∷ bl.depths) block types n) (since_closed v.world.acts (before_closed k nextn closed)) (has_fixed fs) (has_text fs) f all rest below k (items_data fs are has) (formats_suited fs wide) suits edits (front_of controls_carried_out (endfile_tested b0) l1) (record { serving = serving; holds = hold }) at
+    (λ s1 v1 f1 d left under1 found1 suits1 at1 grown.
+    awaited_piece {flow = ((P.field_got around d) >>= (λ u. next1 u left)) k s1} closed f1 d b0 (back_of controls_carried_out (endfile_tested b0) l1) at1
     (λ some f2 at2.
     reads.does closed f2 d n all left below k suits1 found1 some l2 under1.serving under1.holds at2
     (λ s3 v3 rest3 n3 h3 t3 f3 serving3 hold3 suits3 edits3 stays3 at3.
     subst (λ u. aims.done u f3 v3 (Some rest3) s3) (sym place)
-    (goal s3 v3 rest3 n3 h3 t3 f3 serving3 hold3 suits3 edits3 stays3 (λ b. record { pc = (at3 b).pc ∙ ap (address b) place; holds = (at3 b).holds }))))))
+    (goal s3 v3 rest3 n3 h3 t3 f3 serving3 hold3 suits3 edits3 stays3 (λ b. record { pc = (at3 b).pc ∙ ap (address b) place; holds = (at3 b).holds }))))
+    (λ none f2 l3 at2.
+    let none' : has_character s1.input.marks ≡ false = ap (λ (u : Input). has_character u.marks) (sym under1.serving.input) ∙ none in
+    subst (Comes code (i + 5 + 1 + 1) f2 v1 aims) (sym (ended_got (λ u. next1 u left) around d k s1 suits1.1.0 none'))
+    (end_raised bl closed routines around can (give None) n f2 b0 exit k start acts (omega (arith, size, place_is)) inside l3 under1.serving under1.holds at2 more (omega (arith, later, grown))
+    (λ s3 v3 line3 n3 h3 f3 serving3 hold3 as3 stays3 at3.
+    record { to = ended s3 v3 line3 n3 h3 t f3 serving3 hold3 (as3 ∙ next_length v1 _ v1.edits below found1) stays3 at3 }))))))
 
-pub item_piece : {e : Environment} {block : Names} {types : Types} (bl : Block e block types) {links : Links} {code : List Instr} (item : Y.GetItem) {i : ℕ} {v : Services} {h t : ℕ → ℕ} {s : State} {aims : Aims (Option (List FormatItem))} (closed : Closed code aims) (routines : Standing bl links code) (f : Family) (around : Around) (same : around.program ≡ e.program) (fs : T.Formats) (n : Values) (rest : List FormatItem) (below : List EditPlace) (behind k : ℕ) → IsProvedGetItem block types (has_fixed fs) item → bl.taken.words + get_item_words item ≤ bl.words → AreProvedFormats fs → HasData fs → HaveWidths fs → Suits (has_fixed fs) (has_text fs) rest → v.edits ≡ getting (format_items fs) rest ∷ below → Linked links code i (C.item_got e bl.taken fs item behind) → Serving k s v around.line → AllHold bl.frames bl.serials (storage v) (e.level ∷ bl.depths) s block types n → ((b : Base) → At b i (Known (bl.ground n) v h t nothing b) (f b)) → ItemBehind bl k around.line h t (i + size_of (C.item_got e bl.taken fs item behind)) (has_fixed fs) (has_text fs) (format_items fs) below aims → Comes code i f v aims (P.item_got around (format_items fs) rest item k s)
-item_piece {e} {block} {types} bl {links} {code} (Y.GetScalar r) {i} {v} {h} {t} {s} {aims} closed routines f around same fs n rest below behind k is room are has wide suits edits l serving hold at goal =
+pub item_piece : {e : Environment} {block : Names} {types : Types} (bl : Block e block types) {links : Links} {code : List Instr} (item : Y.GetItem) {i : ℕ} {v : Services} {h t : ℕ → ℕ} {s : State} {aims : Aims (Option (List FormatItem))} (closed : Closed code aims) (routines : Standing bl links code) (f : Family) (around : Around) (same : around.program ≡ e.program) (fs : T.Formats) (n : Values) (rest : List FormatItem) (below : List EditPlace) (behind k : ℕ) (can : Raises bl links code around Conditions.Endfile endfile_code) (exit start acts : ℕ) → i + size_of (C.item_got e bl.taken fs item behind) + behind ≡ exit → exit + 2 ≤ length code → Enough bl links k around.turns start h t acts aims.jumped aims.returned → acts < v.world.acts → IsProvedGetItem block types (has_fixed fs) item → bl.taken.words + get_item_words item ≤ bl.words → AreProvedFormats fs → HasData fs → HaveWidths fs → Suits (has_fixed fs) (has_text fs) rest → v.edits ≡ getting (format_items fs) rest ∷ below → Linked links code i (C.item_got e bl.taken fs item behind) → Serving k s v around.line → AllHold bl.frames bl.serials (storage v) (e.level ∷ bl.depths) s block types n → ((b : Base) → At b i (Known (bl.ground n) v h t nothing b) (f b)) → ItemBehind bl k around.line h t (i + size_of (C.item_got e bl.taken fs item behind)) (has_fixed fs) (has_text fs) (format_items fs) below aims → AtExit bl k (length below) h t exit None aims → Comes code i f v aims (P.item_got around (format_items fs) rest item k s)
+item_piece {e} {block} {types} bl {links} {code} (Y.GetScalar r) {i} {v} {h} {t} {s} {aims} closed routines f around same fs n rest below behind k can exit start acts place_is inside more later is room are has wide suits edits l serving hold at goal ended =
     let code_is : C.item_got e bl.taken fs (Y.GetScalar r) behind ≡ awaited_before (field_stored e bl.taken fs r is.type) behind =
     ap (λ u. awaited_before (field_stored e bl.taken fs r u) behind) (block_type bl (has_fixed fs) r is) in
-    reference_piece bl closed routines.raises f around r is.type fs (part_reads bl routines around same r fs is room) n rest below behind k are has wide suits edits (subst (Linked links code i) code_is l) serving hold at
+    reference_piece bl closed routines.raises f around r is.type fs (part_reads bl routines around same r fs is room) n rest below behind k can exit start acts (subst (λ c. i + size_of c + behind ≡ exit) code_is place_is) inside more later are has wide suits edits (subst (Linked links code i) code_is l) serving hold at
     (subst (λ c. ItemBehind bl k around.line h t (i + size_of c) (has_fixed fs) (has_text fs) (format_items fs) below aims) code_is goal)
-item_piece bl (Y.GetAggregate r) closed routines f around same fs n rest below behind k is room are has wide suits edits l serving hold at goal = absurd is
+    ended
+item_piece bl (Y.GetAggregate r) closed routines f around same fs n rest below behind k can exit start acts place_is inside more later is room are has wide suits edits l serving hold at goal ended = absurd is

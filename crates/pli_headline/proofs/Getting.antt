@@ -6,7 +6,9 @@ use Rattle.rv_meaning.specs.declared.instr.Instr.{Instr}
 use Rattle.rv_meaning.specs.declared.instr.Instr.TheVariants as I
 use Rattle.rv_meaning.specs.Memory.{bytes_of_words}
 use Rattle.pli_language.specs.Tree as T
+use Rattle.pli_language.specs.declared.condition.Condition.TheVariants as Conditions
 use Rattle.pli_typing.specs.TypedTree as Y
+use Rattle.pli_meaning.specs.Codes.{endfile_code}
 use Rattle.pli_meaning.specs.World.{counted}
 use Rattle.pli_meaning.specs.StorageState.{State, with_world}
 use Rattle.pli_meaning.specs.Control.{Meaning, act, give, given, choose, ◌>>=◌, ◌>>◌}
@@ -29,6 +31,10 @@ use Rattle.pli_coding.specs.Streams.{has_fixed, has_text, edit_begun, edit_ended
 use Rattle.pli_coding.specs.Statements.{stmt_code}
 use Rattle.pli_coding.specs.Linking.{Links}
 use Rattle.pli_headline.specs.ProvedSoFar.{Names, Types, AreProvedFormats, HasData, HaveWidths, AreProvedGetItems, AreProvedGetPairs}
+use Rattle.pli_headline.proofs.Since.{since_closed, comes_since}
+use Rattle.pli_headline.proofs.UnitRuns.{Raises}
+use Rattle.pli_headline.proofs.GetEnds.{AtExit}
+use Rattle.pli_headline.proofs.HeldPlaces.{places_grown, places_same, PlacesHeld}
 use Rattle.pli_headline.proofs.Storages.{storage}
 use Rattle.pli_headline.proofs.Engine.{Base, address, call_at}
 use Rattle.pli_headline.proofs.Linking.{size_append}
@@ -40,7 +46,7 @@ use Rattle.pli_headline.proofs.Calls.{Serving, called, Calling, call_acts, call_
 use Rattle.pli_headline.proofs.Raising.{small_is}
 use Rattle.pli_headline.proofs.Acts.{word_is, act_piece}
 use Rattle.pli_headline.proofs.Ifs.{free_far}
-use Rattle.pli_headline.proofs.Statements.{Standing, Block, AllHold, counted_all, Behind, Does}
+use Rattle.pli_headline.proofs.Statements.{Standing, Block, AllHold, counted_all, Behind, Does, Enough, further}
 use Rattle.pli_headline.proofs.StandingFormats.{formats_found}
 use Rattle.pli_headline.proofs.EditItems.{at_places}
 use Rattle.pli_headline.proofs.EditPieces.{end_piece, at_other_places}
@@ -59,14 +65,14 @@ abbrev pub ItemsBehind : {e : Environment} {block : Names} {types : Types} → B
 ItemsBehind {e = e} {block = block} {types = types} bl k line h0 t0 i whole below aims =
     (s : State) (v : Services) (rest : List FormatItem) (n : Values) (h t : ℕ → ℕ) (f : Family) → Serving k s v line → AllHold bl.frames bl.serials (storage v) (e.level ∷ bl.depths) s block types n → v.edits ≡ getting whole rest ∷ below → Stays bl.taken h0 t0 h t → ((b : Base) → At b i (Known (bl.ground n) v h t nothing b) (f b)) → aims.done i f v true s
 
-items_piece : {e : Environment} {block : Names} {types : Types} (bl : Block e block types) {links : Links} {code : List Instr} (items : List Y.GetItem) {i : ℕ} {v : Services} {h t : ℕ → ℕ} {s : State} {aims : Aims Bool} (closed : Closed code aims) (routines : Standing bl links code) (f : Family) (around : Around) (same : around.program ≡ e.program) (fs : T.Formats) (n : Values) (rest : List FormatItem) (below : List EditPlace) (behind k : ℕ) → AreProvedGetItems block types (has_fixed fs) items → bl.taken.words + get_items_words items ≤ bl.words → AreProvedFormats fs → HasData fs → HaveWidths fs → Suits (has_fixed fs) (has_text fs) rest → v.edits ≡ getting (format_items fs) rest ∷ below → Linked links code i (C.items_got e bl.taken fs behind items) → Serving k s v around.line → AllHold bl.frames bl.serials (storage v) (e.level ∷ bl.depths) s block types n → ((b : Base) → At b i (Known (bl.ground n) v h t nothing b) (f b)) → ItemsBehind bl k around.line h t (i + size_of (C.items_got e bl.taken fs behind items)) (format_items fs) below aims → Comes code i f v aims (P.items_got around (format_items fs) rest items k s)
+items_piece : {e : Environment} {block : Names} {types : Types} (bl : Block e block types) {links : Links} {code : List Instr} (items : List Y.GetItem) {i : ℕ} {v : Services} {h t : ℕ → ℕ} {s : State} {aims : Aims Bool} (closed : Closed code aims) (routines : Standing bl links code) (f : Family) (around : Around) (same : around.program ≡ e.program) (fs : T.Formats) (n : Values) (rest : List FormatItem) (below : List EditPlace) (behind k : ℕ) (can : Raises bl links code around Conditions.Endfile endfile_code) (exit start acts : ℕ) → i + size_of (C.items_got e bl.taken fs behind items) + behind ≡ exit → exit + 2 ≤ length code → Enough bl links k around.turns start h t acts aims.jumped aims.returned → acts < v.world.acts → AreProvedGetItems block types (has_fixed fs) items → bl.taken.words + get_items_words items ≤ bl.words → AreProvedFormats fs → HasData fs → HaveWidths fs → Suits (has_fixed fs) (has_text fs) rest → v.edits ≡ getting (format_items fs) rest ∷ below → Linked links code i (C.items_got e bl.taken fs behind items) → Serving k s v around.line → AllHold bl.frames bl.serials (storage v) (e.level ∷ bl.depths) s block types n → ((b : Base) → At b i (Known (bl.ground n) v h t nothing b) (f b)) → ItemsBehind bl k around.line h t (i + size_of (C.items_got e bl.taken fs behind items)) (format_items fs) below aims → AtExit bl k (length below) h t exit false aims → Comes code i f v aims (P.items_got around (format_items fs) rest items k s)
 unfolding P.items_got ◌>>=◌ give given
-items_piece bl [] {i = i} {v = v} {h = h} {t = t} {s = s} {aims = aims} closed routines f around same fs n rest below behind k is room are has wide suits edits l serving all at goal =
+items_piece bl [] {i = i} {v = v} {h = h} {t = t} {s = s} {aims = aims} closed routines f around same fs n rest below behind k can exit start acts place_is inside more later is room are has wide suits edits l serving all at goal ended =
     let e : i ≡ i + 0 = omega arith in
     record {
       to = subst (λ u. aims.done u f v true s) (sym e) (goal s v rest n h t f serving all edits (stays_same bl.taken h t) (λ b. record { pc = (at b).pc ∙ ap (address b) e; holds = (at b).holds }));
     }
-items_piece {e} {block} {types} bl {links} {code} (item ∷ items) {i} {v} {h} {t} {s} {aims} closed routines f around same fs n rest below behind k is room are has wide suits edits l serving all at goal =
+items_piece {e} {block} {types} bl {links} {code} (item ∷ items) {i} {v} {h} {t} {s} {aims} closed routines f around same fs n rest below behind k can exit start acts place_is inside more later is room are has wide suits edits l serving all at goal ended =
     let c = C.items_got e bl.taken fs behind items in
     let a = C.item_got e bl.taken fs item (size_of c + behind) in
     let next' : Option (List FormatItem) → Meaning Bool = λ o. given o (λ left. P.items_got around (format_items fs) left items) (give false) in
@@ -75,26 +81,46 @@ items_piece {e} {block} {types} bl {links} {code} (item ∷ items) {i} {v} {h} {
     let size = size_append a c in
     let place : i + size_of a + size_of c ≡ i + size_of (a ++ c) = omega (arith, size) in
     comes_on k (P.item_got around (format_items fs) rest item k s) next'
-    (item_piece bl item (before_closed k next' closed) routines f around same fs n rest below (size_of c + behind) k is.0 (omega (arith, m1, room)) are has wide suits edits (front_of a c l) serving all at
-    (λ s2 v2 rest2 n2 h2 t2 f2 serving2 all2 suits2 edits2 stays2 at2.
-    items_piece bl items closed routines f2 around same fs n2 rest2 below behind k is.1 (omega (arith, m2, room)) are has wide suits2 edits2 (back_of a c l) serving2 all2 at2
+    (comes_since (P.item_got around (format_items fs) rest item k s)
+    (item_piece bl item (since_closed v.world.acts (before_closed k next' closed)) routines f around same fs n rest below (size_of c + behind) k can exit start acts (omega (arith, size, place_is)) inside more later is.0 (omega (arith, m1, room)) are has wide suits edits (front_of a c l) serving all at
+    (λ s2 v2 rest2 n2 h2 t2 f2 serving2 all2 suits2 edits2 stays2 at2 grown.
+    items_piece bl items closed routines f2 around same fs n2 rest2 below behind k can exit start acts (omega (arith, size, place_is)) inside (further more (omega arith) (omega arith) stays2) (omega (arith, later, grown)) is.1 (omega (arith, m2, room)) are has wide suits2 edits2 (back_of a c l) serving2 all2 at2
     (λ s3 v3 rest3 n3 h3 t3 f3 serving3 all3 edits3 stays3 at3.
     subst (λ u. aims.done u f3 v3 true s3) (sym place)
-    (goal s3 v3 rest3 n3 h3 t3 f3 serving3 all3 edits3 (stays_then stays2 stays3) (λ b. record { pc = (at3 b).pc ∙ ap (address b) place; holds = (at3 b).holds })))))
+    (goal s3 v3 rest3 n3 h3 t3 f3 serving3 all3 edits3 (stays_then stays2 stays3) (λ b. record { pc = (at3 b).pc ∙ ap (address b) place; holds = (at3 b).holds })))
+    (λ s3 v3 line3 n3 h3 t3 f3 serving3 all3 length3 stays3 at3. ended s3 v3 line3 n3 h3 t3 f3 serving3 all3 length3 (stays_then stays2 stays3) at3))
+    (λ s2 v2 line2 n2 h2 t2 f2 serving2 all2 length2 stays2 at2 grown. record { to = ended s2 v2 line2 n2 h2 t2 f2 serving2 all2 length2 stays2 at2 })))
 
 -- ---- pairs
 
+by_places : {A : Type 0} (es : List EditPlace) (count : ℕ) → length es ≡ suc count → ((p : EditPlace) (ds : List EditPlace) → es ≡ p ∷ ds → length ds ≡ count → A) → A
+by_places [] count long found = absurd (omega (arith, long))
+by_places (p ∷ ds) count long found = found p ds refl (omega (arith, long))
+
+-- at the exit the newest place is dropped
+exit_piece : {e : Environment} {block : Names} {types : Types} (bl : Block e block types) {links : Links} {code : List Instr} {exit : ℕ} {v : Services} {h0 t0 h t : ℕ → ℕ} {s : State} {line : ℕ} {aims : Aims (Unit {0})} (closed : Closed code aims) (f : Family) (n : Values) (k count place : ℕ) → exit + 2 ≡ place → length v.edits ≡ suc count → PlacesHeld count v.activations → Linked links code exit edit_ended → Serving k s v line → AllHold bl.frames bl.serials (storage v) (e.level ∷ bl.depths) s block types n → Stays bl.taken h0 t0 h t → ((b : Base) → At b exit (Known (bl.ground n) v h t nothing b) (f b)) → Behind bl k h0 t0 place aims → Comes code exit f v aims (give tt k s)
+unfolding give
+exit_piece bl {v = v} {h = h} {t = t} {s = s} {line = line} {aims = aims} closed f n k count place there long held l serving all stays at goal =
+    by_places v.edits count long (λ p ds are rest.
+    end_piece closed f p ds are l at
+    (λ f1 at1.
+    record {
+      to =
+          subst (λ u. aims.done u f1 (at_places ds v) tt s) (sym there)
+          (goal s (at_places ds v) line n h t f1 (at_other_places ds (subst (λ m. PlacesHeld m v.activations) (sym rest) held) serving) all stays (λ b. record { pc = (at1 b).pc ∙ ap (address b) there; holds = (at1 b).holds }));
+    }))
+
 -- pairs, and the way past the exit
-pairs_piece : {e : Environment} {block : Names} {types : Types} (bl : Block e block types) {links : Links} {code : List Instr} (pairs : List Y.GetPair) {i : ℕ} {v : Services} {h t : ℕ → ℕ} {s : State} {aims : Aims (Unit {0})} (closed : Closed code aims) (routines : Standing bl links code) (f : Family) (around : Around) (same : around.program ≡ e.program) (n : Values) (k : ℕ) → AreProvedGetPairs block types pairs → bl.taken.words + get_words pairs ≤ bl.words → Linked links code i (get_pairs e bl.taken pairs) → i + size_of (get_pairs e bl.taken pairs) + 2 ≤ length code → Serving k s v around.line → AllHold bl.frames bl.serials (storage v) (e.level ∷ bl.depths) s block types n → ((b : Base) → At b i (Known (bl.ground n) v h t nothing b) (f b)) → Behind bl k h t (i + size_of (get_pairs e bl.taken pairs) + 2) aims → Comes code i f v aims (P.pairs_got around pairs k s)
+pairs_piece : {e : Environment} {block : Names} {types : Types} (bl : Block e block types) {links : Links} {code : List Instr} (pairs : List Y.GetPair) {i : ℕ} {v : Services} {h t : ℕ → ℕ} {s : State} {aims : Aims (Unit {0})} (closed : Closed code aims) (routines : Standing bl links code) (f : Family) (around : Around) (same : around.program ≡ e.program) (n : Values) (k : ℕ) (can : Raises bl links code around Conditions.Endfile endfile_code) (exit start acts : ℕ) → i + size_of (get_pairs e bl.taken pairs) ≡ exit → Linked links code exit edit_ended → Enough bl links k around.turns start h t acts aims.jumped aims.returned → acts < v.world.acts → AreProvedGetPairs block types pairs → bl.taken.words + get_words pairs ≤ bl.words → Linked links code i (get_pairs e bl.taken pairs) → i + size_of (get_pairs e bl.taken pairs) + 2 ≤ length code → Serving k s v around.line → AllHold bl.frames bl.serials (storage v) (e.level ∷ bl.depths) s block types n → ((b : Base) → At b i (Known (bl.ground n) v h t nothing b) (f b)) → Behind bl k h t (i + size_of (get_pairs e bl.taken pairs) + 2) aims → Comes code i f v aims (P.pairs_got around pairs k s)
 unfolding P.pairs_got ◌>>=◌ choose give
-pairs_piece bl [] {i = i} {v = v} {h = h} {t = t} {s = s} {aims = aims} closed routines f around same n k is room l inside serving all at goal =
+pairs_piece bl [] {i = i} {v = v} {h = h} {t = t} {s = s} {aims = aims} closed routines f around same n k can exit start acts exit_is le more later is room l inside serving all at goal =
     let e : i + (2 + 2) ≡ i + 2 + 2 = omega arith in
     onward closed (ahead_piece i f 2 (omega (arith, inside)) free_far l at)
     (λ f1 at1.
     record {
       to = subst (λ u. aims.done u f1 v tt s) (sym e) (goal s v around.line n h t f1 serving all (stays_same bl.taken h t) (λ b. record { pc = (at1 b).pc ∙ ap (address b) e; holds = (at1 b).holds }));
     })
-pairs_piece {e} {block} {types} bl {links} {code} (p ∷ pairs) {i} {v} {h} {t} {s} {aims} closed routines f around same n k is room l inside serving all at goal =
+pairs_piece {e} {block} {types} bl {links} {code} (p ∷ pairs) {i} {v} {h} {t} {s} {aims} closed routines f around same n k can exit start acts exit_is le more later is room l inside serving all at goal =
     let fs = p.formats in
     let are = is.1.0.0 in
     let has = is.1.0.1.0 in
@@ -121,17 +147,20 @@ pairs_piece {e} {block} {types} bl {links} {code} (p ∷ pairs) {i} {v} {h} {t} 
     begin_piece {links = links} {code = code} {i = i} {g = bl.ground n} {v = v} {h = h} {t = t} {aims = aims} closed f fs whole (λ b m o. formats_found fs code v m _ are has ((routines.constants n).stand bytes placed t b m o)) (front_of begun (items ++ edit_ended) lp) at
     (λ f1 at1.
     comes_on k (P.items_got around whole whole p.items k s) next'
-    (items_piece bl p.items (before_closed k next' closed) routines f1 around same fs n whole v.edits (2 + behind) k is.0 (omega (arith, m1, room)) are has wide (formats_suited fs wide) refl (front_of items edit_ended l2) (at_other_places _ serving) all at1
-    (λ s2 v2 rest2 n2 h2 t2 f2 serving2 all2 edits2 stays2 at2.
+    (comes_since (P.items_got around whole whole p.items k s)
+    (items_piece bl p.items (since_closed v.world.acts (before_closed k next' closed)) routines f1 around same fs n whole v.edits (2 + behind) k can exit start acts (omega (arith, e1, e2, e3, exit_is)) (let n1 = le.inside in omega (arith, n1)) more later is.0 (omega (arith, m1, room)) are has wide (formats_suited fs wide) refl (front_of items edit_ended l2) (at_other_places _ (places_grown (length v.edits) v.activations serving.places) serving) all at1
+    (λ s2 v2 rest2 n2 h2 t2 f2 serving2 all2 edits2 stays2 at2 grown.
     end_piece closed f2 (getting whole rest2) v.edits edits2 l3 at2
     (λ f3 at3.
     let v3 = at_places v.edits v2 in
     subst (λ u. Comes code u f3 v3 aims (P.pairs_got around pairs k s2)) (sym here)
-    (pairs_piece bl pairs closed routines f3 around same n2 k is.1.1 (omega (arith, m2, room)) (back_of pair c l) (omega (arith, place, inside)) (at_other_places v.edits serving2) all2
+    (pairs_piece bl pairs closed routines f3 around same n2 k can exit start acts (omega (arith, e1, exit_is)) le (further more (omega arith) (omega arith) stays2) (omega (arith, later, grown)) is.1.1 (omega (arith, m2, room)) (back_of pair c l) (omega (arith, place, inside)) (at_other_places v.edits (places_same (length v.edits) (length v2.edits) v.activations v2.activations (all2.kinds ∙ sym all.kinds) serving.places serving2.places) serving2) all2
     (λ b. record { pc = (at3 b).pc ∙ ap (address b) here; holds = (at3 b).holds })
     (λ s4 v4 line4 n4 h4 t4 f4 serving4 all4 stays4 at4.
     subst (λ u. aims.done u f4 v4 tt s4) (sym place)
-    (goal s4 v4 line4 n4 h4 t4 f4 serving4 all4 (stays_then stays2 stays4) (λ b. record { pc = (at4 b).pc ∙ ap (address b) place; holds = (at4 b).holds }))))))))
+    (goal s4 v4 line4 n4 h4 t4 f4 serving4 all4 (stays_then stays2 stays4) (λ b. record { pc = (at4 b).pc ∙ ap (address b) place; holds = (at4 b).holds }))))))
+    (λ s2 v2 line2 n2 h2 t2 f2 serving2 all2 length2 stays2 at2 grown.
+    exit_piece bl closed f2 n2 k (length v.edits) (i + size_of (pair ++ c) + 2) (omega (arith, exit_is)) length2 (places_same (length v.edits) (length v2.edits) v.activations v2.activations (all2.kinds ∙ sym all.kinds) serving.places serving2.places) le serving2 all2 stays2 at2 goal))))
 
 -- ---- SKIP
 
@@ -179,14 +208,14 @@ skip_piece {code = code} {i = i} {g = g} {v = v} {h = h} {t = t} {s = s} closed 
     comes_read change k s serving.world pauses
     (λ below.
     closed.done r3 tt _
-    (goal (reached r3) (at_other_places v.edits (read_serving change v.edits serving below))
+    (goal (reached r3) (at_other_places v.edits serving.places (read_serving change v.edits serving.places serving below))
     (λ b. record { pc = (reached_holds r3 b).pc ∙ ap (address b) place; holds = (reached_holds r3 b).holds })))))
 
 -- ---- the statement
 
-pub get_does : {e : Environment} {block : Names} {types : Types} (bl : Block e block types) (links : Links) (code : List Instr) (routines : Standing bl links code) (around : Around) (same : around.program ≡ e.program) (pairs : List Y.GetPair) (line : ℕ) → AreProvedGetPairs block types pairs → line < 2 ^ 31 → bl.taken.words + get_words pairs ≤ bl.words → Does bl links code around.turns (stmt_code e bl.taken (Y.Get None pairs line)) (M.statement around (Y.Get None pairs line))
+pub get_does : {e : Environment} {block : Names} {types : Types} (bl : Block e block types) (links : Links) (code : List Instr) (routines : Standing bl links code) (around : Around) (same : around.program ≡ e.program) (pairs : List Y.GetPair) (line : ℕ) → Raises bl links code (at_line around line) Conditions.Endfile endfile_code → AreProvedGetPairs block types pairs → line < 2 ^ 31 → bl.taken.words + get_words pairs ≤ bl.words → Does bl links code around.turns (stmt_code e bl.taken (Y.Get None pairs line)) (M.statement around (Y.Get None pairs line))
 unfolding M.statement P.get ◌>>◌
-get_does {e} {block} {types} bl links code routines around same pairs line is fits room =
+get_does {e} {block} {types} bl links code routines around same pairs line can is fits room =
     record {
       does = λ {i} {s} {v} {h} {t} {aims} closed old n f k l serving all at goal more.
           let front = act_code line in
@@ -201,15 +230,15 @@ get_does {e} {block} {types} bl links code routines around same pairs line is fi
           comes_on k (act counted k s) next'
           (act_piece (before_closed k next' closed) f line old k fits (front_of front rest l) serving at
           (λ f1 serving1 at1.
-          pairs_piece bl pairs closed routines f1 here same n k is room (front_of c edit_ended (back_of front rest l)) (omega (arith, place, inside)) serving1 (counted_all _ all) at1
+          pairs_piece bl pairs closed routines f1 here same n k can (i + size_of front + size_of c) i v.world.acts refl (back_of c edit_ended (back_of front rest l)) (record { enough = more.enough; later = more.later; jumps = more.jumps; outs = more.outs; returns = more.returns; own = more.own; homes = more.homes }) (omega arith) is room (front_of c edit_ended (back_of front rest l)) (omega (arith, place, inside)) serving1 (counted_all _ all) at1
           (λ s2 v2 line2 n2 h2 t2 f2 serving2 all2 stays2 at2.
           subst (λ u. aims.done u f2 v2 tt s2) (sym place)
           (goal s2 v2 line2 n2 h2 t2 f2 serving2 all2 stays2 (λ b. record { pc = (at2 b).pc ∙ ap (address b) place; holds = (at2 b).holds })))));
     }
 
-pub get_skip_does : {e : Environment} {block : Names} {types : Types} (bl : Block e block types) (links : Links) (code : List Instr) (routines : Standing bl links code) (around : Around) (same : around.program ≡ e.program) (n : ℕ) (pairs : List Y.GetPair) (line : ℕ) → 1 ≤ n → n ≤ 1000 → AreProvedGetPairs block types pairs → line < 2 ^ 31 → bl.taken.words + get_words pairs ≤ bl.words → Does bl links code around.turns (stmt_code e bl.taken (Y.Get (Some n) pairs line)) (M.statement around (Y.Get (Some n) pairs line))
+pub get_skip_does : {e : Environment} {block : Names} {types : Types} (bl : Block e block types) (links : Links) (code : List Instr) (routines : Standing bl links code) (around : Around) (same : around.program ≡ e.program) (n : ℕ) (pairs : List Y.GetPair) (line : ℕ) → Raises bl links code (at_line around line) Conditions.Endfile endfile_code → 1 ≤ n → n ≤ 1000 → AreProvedGetPairs block types pairs → line < 2 ^ 31 → bl.taken.words + get_words pairs ≤ bl.words → Does bl links code around.turns (stmt_code e bl.taken (Y.Get (Some n) pairs line)) (M.statement around (Y.Get (Some n) pairs line))
 unfolding M.statement P.get ◌>>◌
-get_skip_does {e} {block} {types} bl links code routines around same n pairs line least most is fits room =
+get_skip_does {e} {block} {types} bl links code routines around same n pairs line can least most is fits room =
     record {
       does = λ {i} {s} {v} {h} {t} {aims} closed old numbers f k l serving all at goal more.
           let front = act_code line in
@@ -232,7 +261,7 @@ get_skip_does {e} {block} {types} bl links code routines around same n pairs lin
           comes_on k (P.control_got (SkipItem n) k s1) got
           (skip_piece (before_closed k got closed) f1 n k least most (front_of skip rest l1) serving1 at1
           (λ f2 serving2 at2.
-          pairs_piece bl pairs closed routines f2 here same numbers k is room (front_of c edit_ended (back_of skip rest l1)) (omega (arith, place, inside)) serving2 (read_all (control_read (SkipItem n)) (counted_all (counted s.world) all)) at2
+          pairs_piece bl pairs closed routines f2 here same numbers k can (i + size_of front + size_of skip + size_of c) i v.world.acts refl (back_of c edit_ended (back_of skip rest l1)) (record { enough = more.enough; later = more.later; jumps = more.jumps; outs = more.outs; returns = more.returns; own = more.own; homes = more.homes }) (omega arith) is room (front_of c edit_ended (back_of skip rest l1)) (omega (arith, place, inside)) serving2 (read_all (control_read (SkipItem n)) (counted_all (counted s.world) all)) at2
           (λ s3 v3 line3 n3 h3 t3 f3 serving3 all3 stays3 at3.
           subst (λ u. aims.done u f3 v3 tt s3) (sym place)
           (goal s3 v3 line3 n3 h3 t3 f3 serving3 all3 stays3 (λ b. record { pc = (at3 b).pc ∙ ap (address b) place; holds = (at3 b).holds })))))));

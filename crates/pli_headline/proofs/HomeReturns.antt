@@ -18,6 +18,7 @@ use Rattle.pli_coding.specs.Environments.{Owner, BlockOwner, Environment}
 use Rattle.pli_coding.specs.Statements.{unwound_to, returned_by, stmt_code}
 use Rattle.pli_coding.specs.Linking.{Links}
 use Rattle.pli_headline.specs.ProvedSoFar.{Types, OuterBlock, Names}
+use Rattle.pli_headline.proofs.HeldPlaces.{places_unwound}
 use Rattle.pli_headline.proofs.Linking.{size_append}
 use Rattle.pli_headline.proofs.Jumps.{front_of, back_of, jump_piece}
 use Rattle.pli_headline.proofs.Acts.{acted, act_to}
@@ -76,6 +77,7 @@ own_home_does {e} bl links code around {o} d seen line homes few fits =
                   fits = serving1.fits;
                   nested = left'.nested;
                   waiting = serving1.waiting;
+                  places = places_unwound v.edits d.frame v.activations left'.activation left'.rest left'.found serving1.places;
                 })
                 left'.all at3;
           }))));

@@ -27,8 +27,7 @@ use Rattle.pli_serving.specs.Stored.{kept_bytes}
 use Rattle.pli_headline.proofs.WrittenBytes.{load-with_other}
 use Rattle.pli_headline.proofs.TextPlaces.{text_kind_of}
 use Rattle.pli_headline.proofs.TextsKept.{kept_length, text_kept_as}
-use Rattle.pli_serving.specs.ServiceState as S
-use Rattle.pli_headline.proofs.Entered.{atop}
+use Rattle.pli_headline.proofs.Entered.{atop, begin_way}
 use Rattle.pli_headline.proofs.OuterBlocks.{risen_over}
 use Rattle.pli_headline.proofs.Statements.{Block, IsFilled, Enclosing, Enclosures, AllSeen, restricts_self}
 use Rattle.pli_headline.proofs.TextScopes.{IsTextAt}
@@ -360,7 +359,7 @@ inner_block {e} {block} {types} bl inner t0 number level next filled =
       reads = λ n j below fits t b m o. bl.reads n j below fits t0 b m o.kept;
       writes = λ n j z below old fits t b m len o. inner_writes bl inner t0 n j z below old fits t b m len o;
       held = refl;
-      frames = atop inner.at S.BeginBlock bl.frames;
+      frames = atop inner.at begin_way bl.frames;
       serials = bl.serials;
       bottom = record {
         holds = bl.bottom.holds;

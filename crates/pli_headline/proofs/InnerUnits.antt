@@ -1,17 +1,18 @@
--- On-units of the main procedure do what they mean where SIGNAL raises AREA, from any block, so many blocks deep as may be, where calls and
+-- On-units of the main procedure do what they mean where their conditions are raised, from any block, so many blocks deep as may be, where calls and
 -- signals of fewer blocks do.
-use Rattle.std.proofs.Common.{◌≡◌, ℕ, suc, ◌+◌, ◌-◌, ◌*◌, ◌^◌, ◌<◌, ◌≤◌, List, [], ◌∷◌, ◌++◌, length, None, Some, inl, inr, true, false, refl, sym, ap, ◌∙◌, subst, arith, append-nil}
+use Rattle.std.proofs.Common.{◌≡◌, ℕ, suc, ◌+◌, ◌-◌, ◌*◌, ◌^◌, ◌<◌, ◌≤◌, List, [], ◌∷◌, ◌++◌, length, None, Some, inl, inr, true, false, refl, sym, ap, ◌∙◌, subst, arith, lit<, append-nil}
 use Rattle.std.specs.Prelude.{max}
 use Rattle.std.proofs.Math.Nat.{le-max_left, le-max_right}
+use Rattle.pli_language.specs.declared.condition.Condition.{Condition}
 use Rattle.pli_language.specs.declared.condition.Condition.TheVariants as C
 use Rattle.rv_meaning.specs.declared.instr.Instr.{Instr}
 use Rattle.pli_typing.specs.TypedTree as Y
 use Rattle.pli_meaning.specs.Control.{Label}
-use Rattle.pli_meaning.specs.Raising.{Around}
+use Rattle.pli_meaning.specs.Codes.{code_signalled, endfile_code}
+use Rattle.pli_meaning.specs.Raising.{Around, at_line}
 use Rattle.pli_meaning.specs.Executing as M
 use Rattle.pli_meaning.specs.Executing.{labels_in}
 use Rattle.pli_meaning.specs.StorageState.{most_activations}
-use Rattle.pli_serving.specs.ServiceState as S
 use Rattle.pli_coding.specs.Environments.{BlockPlace, Taken, Environment, none_taken}
 use Rattle.pli_coding.specs.Frames.{fixed_size, frame_end, temporary_bytes}
 use Rattle.pli_coding.specs.Linking.{Links}
@@ -30,7 +31,7 @@ use Rattle.pli_headline.proofs.Declares.{Makes, made_block}
 use Rattle.pli_headline.proofs.DeclaredBegins.{is_made, made_constants}
 use Rattle.pli_headline.proofs.UnitVariables.{unit_makes, unit_sized, unit_filled}
 use Rattle.pli_headline.proofs.ElementsAssignments.{elements_number_does, elements_bit_does}
-use Rattle.pli_headline.proofs.Entered.{Frames}
+use Rattle.pli_headline.proofs.Entered.{Frames, Way}
 use Rattle.pli_headline.proofs.Scalars.{Values}
 use Rattle.pli_headline.proofs.Engine.{Base}
 use Rattle.pli_headline.proofs.Variables.{AllOutermost}
@@ -47,10 +48,10 @@ use Rattle.pli_headline.proofs.SystemUnits.{on_system_does, revert_does}
 use Rattle.pli_headline.proofs.Putting.{put_does}
 use Rattle.pli_headline.proofs.Getting.{get_does, get_skip_does}
 use Rattle.pli_headline.proofs.MainOutlets.{HasMain, main_of}
-use Rattle.pli_headline.proofs.UnitRuns.{unit_block, Raisable, signal_area_does}
+use Rattle.pli_headline.proofs.UnitRuns.{unit_block, Raisable, unit_raises, signal_unit_does}
 use Rattle.pli_headline.proofs.UnitStanding.{program_around, words_of_unit, Tells}
 use Rattle.pli_headline.proofs.Narrowing.{narrows_self, narrows_in}
-use Rattle.pli_headline.proofs.ProvedStatements.{standing_within, Calls, Signals, body_does}
+use Rattle.pli_headline.proofs.ProvedStatements.{standing_within, Calls, Signals, entering_at, body_does}
 use Rattle.pli_headline.proofs.TextElementAssignments.{assign_text_part_does}
 use Rattle.pli_headline.proofs.PlainInside.{DeclarePlain}
 
@@ -90,10 +91,11 @@ simple_does {e} bl links code routines around same {all} can tells has deep spac
     out_does bl links code around all level label line (λ number h. once number label h) (inl (low level label jumps)) few is jumps
 simple_does bl links code routines around same can tells has deep space narrow entering least (Y.Stop line) simple is room calls once few jumps low = stop_does bl links code around line is
 simple_does {e} bl links code routines around same can tells has deep space narrow {more} entering least (Y.Signal C.Area line) simple is room calls once few jumps low =
-    can.1 e.owner e.block e.level bl deep space narrow routines tells has around same more entering least line is
+    signal_unit_does bl links code routines.raises around C.Area line refl is (can.1 e.owner e.block e.level bl deep space narrow routines tells has (at_line around line) same more (entering_at line entering) least C.Area (code_signalled C.Area) (lit< tt) refl)
 simple_does bl links code routines around same can tells has deep space narrow entering least (Y.Signal C.FixedOverflow line) simple is room calls once few jumps low = signal_does bl links code routines.raises around C.FixedOverflow line refl is
 simple_does bl links code routines around same can tells has deep space narrow entering least (Y.Signal C.ZeroDivide line) simple is room calls once few jumps low = signal_does bl links code routines.raises around C.ZeroDivide line refl is
-simple_does bl links code routines around same can tells has deep space narrow entering least (Y.Signal C.Endfile line) simple is room calls once few jumps low = signal_does bl links code routines.raises around C.Endfile line refl is
+simple_does {e} bl links code routines around same can tells has deep space narrow {more} entering least (Y.Signal C.Endfile line) simple is room calls once few jumps low =
+    signal_unit_does bl links code routines.raises around C.Endfile line refl is (can.1 e.owner e.block e.level bl deep space narrow routines tells has (at_line around line) same more (entering_at line entering) least C.Endfile (code_signalled C.Endfile) (lit< tt) refl)
 simple_does bl links code routines around same can tells has deep space narrow entering least (Y.Signal C.Error line) simple is room calls once few jumps low = signal_does bl links code routines.raises around C.Error line refl is
 simple_does bl links code routines around same can tells has deep space narrow entering least (Y.OnSystem condition line) simple is room calls once few jumps low = on_system_does bl links code around condition line is
 simple_does bl links code routines around same can tells has deep space narrow entering least (Y.Revert condition line) simple is room calls once few jumps low = revert_does bl links code around condition line is
@@ -101,10 +103,10 @@ simple_does bl links code routines around same can tells has deep space narrow e
     put_does bl links code routines around pairs line is.0 is.1 room
 simple_does bl links code routines around same can tells has deep space narrow entering least (Y.Put (Some n) pairs line) simple is room calls once few jumps low =
     put_skip_does bl links code routines around n pairs line is.0.0 is.0.1 is.1.0 is.1.1 room
-simple_does bl links code routines around same can tells has deep space narrow entering least (Y.Get None pairs line) simple is room calls once few jumps low =
-    get_does bl links code routines around same pairs line is.0 is.1 room
-simple_does bl links code routines around same can tells has deep space narrow entering least (Y.Get (Some n) pairs line) simple is room calls once few jumps low =
-    get_skip_does bl links code routines around same n pairs line is.0.0 is.0.1 is.1.0 is.1.1 room
+simple_does {e} bl links code routines around same can tells has deep space narrow {more} entering least (Y.Get None pairs line) simple is room calls once few jumps low =
+    get_does bl links code routines around same pairs line (can.1 e.owner e.block e.level bl deep space narrow routines tells has (at_line around line) same more (entering_at line entering) least C.Endfile endfile_code (lit< tt) refl) is.0 is.1 room
+simple_does {e} bl links code routines around same can tells has deep space narrow {more} entering least (Y.Get (Some n) pairs line) simple is room calls once few jumps low =
+    get_skip_does bl links code routines around same n pairs line (can.1 e.owner e.block e.level bl deep space narrow routines tells has (at_line around line) same more (entering_at line entering) least C.Endfile endfile_code (lit< tt) refl) is.0.0 is.0.1 is.1.0 is.1.1 room
 simple_does bl links code routines around same can tells has deep space narrow entering least _ simple is room calls once few jumps low = absurd simple
 
 -- ---- a unit that is raised
@@ -114,12 +116,12 @@ main_level : (block : ℕ) (all : List (ℕ × Label)) (blocks : List BlockPlace
 main_level block all blocks main lowest level label (inl jumps) = sym jumps.0 ∙ lowest
 main_level block all blocks main lowest level label (inr jumps) = absurd jumps
 
-constants_raised : {e : Environment} {block : Names} {types : Types} {bl : Block e block types} {links : Links} {code : List Instr} (callee : Callee bl) (kind : S.BlockKind) (back : Base → ℕ) (h0 t0 : ℕ → ℕ) (head : Y.BlockHead) (next : head.level ≡ 1) (main : ℕ) (mains : List Label) (has : HasMain main mains e.level e.block bl.labels bl.outer) → Standing bl links code → (n : Values) → ConstantsStand links code ((unit_block bl callee kind back h0 t0 head next main mains has).ground n)
+constants_raised : {e : Environment} {block : Names} {types : Types} {bl : Block e block types} {links : Links} {code : List Instr} (callee : Callee bl) (kind : Way) (back : Base → ℕ) (h0 t0 : ℕ → ℕ) (head : Y.BlockHead) (next : head.level ≡ 1) (main : ℕ) (mains : List Label) (has : HasMain main mains e.level e.block bl.labels bl.outer) → Standing bl links code → (n : Values) → ConstantsStand links code ((unit_block bl callee kind back h0 t0 head next main mains has).ground n)
 constants_raised callee kind back h0 t0 head next main mains has s n =
     constants_moved (λ t. t0) (λ t b m o. o.kept.0) (s.constants n)
 
 -- once its variables are made
-standing_raised : {e : Environment} {block : Names} {types : Types} {bl : Block e block types} {links : Links} {code : List Instr} (callee : Callee bl) (kind : S.BlockKind) (back : Base → ℕ) (h0 t0 : ℕ → ℕ) (head : Y.BlockHead) (next : head.level ≡ 1) (main : ℕ) (mains : List Label) (has : HasMain main mains e.level e.block bl.labels bl.outer) (ds : List Y.DeclaredVariable) → (IsOwned (owner_of_unit head head.kind) → frame_end e.parts e.program head.number head.level ≡ fixed_size head.level 0 + bytes_of ds) → (makes : Makes (unit_block bl callee kind back h0 t0 head next main mains has) 0 ds) (serial : ℕ) → Standing bl links code → Standing (made_block (unit_block bl callee kind back h0 t0 head next main mains has) ds makes serial) links code
+standing_raised : {e : Environment} {block : Names} {types : Types} {bl : Block e block types} {links : Links} {code : List Instr} (callee : Callee bl) (kind : Way) (back : Base → ℕ) (h0 t0 : ℕ → ℕ) (head : Y.BlockHead) (next : head.level ≡ 1) (main : ℕ) (mains : List Label) (has : HasMain main mains e.level e.block bl.labels bl.outer) (ds : List Y.DeclaredVariable) → (IsOwned (owner_of_unit head head.kind) → frame_end e.parts e.program head.number head.level ≡ fixed_size head.level 0 + bytes_of ds) → (makes : Makes (unit_block bl callee kind back h0 t0 head next main mains has) 0 ds) (serial : ℕ) → Standing bl links code → Standing (made_block (unit_block bl callee kind back h0 t0 head next main mains has) ds makes serial) links code
 standing_raised {bl = bl} callee kind back h0 t0 head next main mains has ds sized makes serial s =
     record {
       raises = s.raises;
@@ -140,7 +142,7 @@ is_unit Y.UnitBlock body what = inr refl
 is_unit _ body what = absurd what
 
 -- its statements, where calls and signals in it do what they mean
-body_by : {e : Environment} {block : Names} {types : Types} (bl : Block e block types) {links : Links} {code : List Instr} (standing : Standing bl links code) {all : List (ℕ × Label)} {procedure : ℕ} {may : List ℕ} (m : ℕ) → Done e block types all procedure m links code may → Tells e block types all procedure may links code bl.base bl.frames.known → (has : HasMain procedure (main_labels e.program.procedures) e.level e.block bl.labels bl.outer) → suc (length bl.depths) < most_activations → bl.stack.free + 4000 * (500 - length bl.depths) ≤ 14 * 2 ^ 20 → (head : Y.BlockHead) (next : head.level ≡ 1) (ds : List Y.DeclaredVariable) → (IsOwned (owner_of_unit head head.kind) → frame_end e.parts e.program head.number head.level ≡ fixed_size head.level 0 + bytes_of ds) → (kind : Y.BlockKind) → head.kind ≡ kind → ds ≡ unit_declares e.program head kind → (body : Y.Stmts) → IsUnitBody kind body → AreProvedStatements (names_in block types head (unit_declares e.program head kind)) (types_in types (unit_declares e.program head kind)) body → AllJumpAround head.number head.level all e.blocks (main_outer procedure e.program.procedures) (main_outer procedure e.program.procedures ∷ []) (labels_in body) body → DeclarePlain e.program body → AllCallAmong e.program may false 0 body → 4 * (stmts_words body + all_inner_words body) + (bytes_of ds + inner_bytes e.program body) ≤ 3200 → ((number : ℕ) (label : Label) → times number label all ≡ 1 → IsMarkedOnce links number label) → (head.kind ≡ Y.UnitBlock → LabelsStand (unit_environment head (program_around e)) links all procedure false) → ((b : BlockPlace) → IsAmong b (blocks_among body) → IsAmong b e.blocks) → (callee : Callee bl) → callee.words ≡ words_of_unit kind (stmts_words body) → (entered : S.BlockKind) (back : Base → ℕ) (h0 t0 : ℕ → ℕ) (makes : Makes (unit_block bl callee entered back h0 t0 head next procedure (main_labels e.program.procedures) has) 0 ds) (serial : ℕ) → Does (made_block (unit_block bl callee entered back h0 t0 head next procedure (main_labels e.program.procedures) has) ds makes serial) links code (suc m) (stmts_code (unit_environment head e) none_taken body) (M.list (inner_around e.program m head.line) body)
+body_by : {e : Environment} {block : Names} {types : Types} (bl : Block e block types) {links : Links} {code : List Instr} (standing : Standing bl links code) {all : List (ℕ × Label)} {procedure : ℕ} {may : List ℕ} (m : ℕ) → Done e block types all procedure m links code may → Tells e block types all procedure may links code bl.base bl.frames.known → (has : HasMain procedure (main_labels e.program.procedures) e.level e.block bl.labels bl.outer) → suc (length bl.depths) < most_activations → bl.stack.free + 4000 * (500 - length bl.depths) ≤ 14 * 2 ^ 20 → (head : Y.BlockHead) (next : head.level ≡ 1) (ds : List Y.DeclaredVariable) → (IsOwned (owner_of_unit head head.kind) → frame_end e.parts e.program head.number head.level ≡ fixed_size head.level 0 + bytes_of ds) → (kind : Y.BlockKind) → head.kind ≡ kind → ds ≡ unit_declares e.program head kind → (body : Y.Stmts) → IsUnitBody kind body → AreProvedStatements (names_in block types head (unit_declares e.program head kind)) (types_in types (unit_declares e.program head kind)) body → AllJumpAround head.number head.level all e.blocks (main_outer procedure e.program.procedures) (main_outer procedure e.program.procedures ∷ []) (labels_in body) body → DeclarePlain e.program body → AllCallAmong e.program may false 0 body → 4 * (stmts_words body + all_inner_words body) + (bytes_of ds + inner_bytes e.program body) ≤ 3200 → ((number : ℕ) (label : Label) → times number label all ≡ 1 → IsMarkedOnce links number label) → (head.kind ≡ Y.UnitBlock → LabelsStand (unit_environment head (program_around e)) links all procedure false) → ((b : BlockPlace) → IsAmong b (blocks_among body) → IsAmong b e.blocks) → (callee : Callee bl) → callee.words ≡ words_of_unit kind (stmts_words body) → (entered : Way) (back : Base → ℕ) (h0 t0 : ℕ → ℕ) (makes : Makes (unit_block bl callee entered back h0 t0 head next procedure (main_labels e.program.procedures) has) 0 ds) (serial : ℕ) → Does (made_block (unit_block bl callee entered back h0 t0 head next procedure (main_labels e.program.procedures) has) ds makes serial) links code (suc m) (stmts_code (unit_environment head e) none_taken body) (M.list (inner_around e.program m head.line) body)
 body_by {e} bl {links} {code} standing {all} {procedure} m can tells has deeper space head next ds sized Y.SimpleUnit kind none (Y.StmtThen [] x (Y.EndOfList [])) what proved jumps inside calls few once labels blocks callee words entered back h0 t0 makes serial =
     let mains = main_labels e.program.procedures in
     let body = Y.StmtThen [] x (Y.EndOfList []) in
@@ -187,9 +189,9 @@ body_by {e} {block} {types} bl {links} {code} standing {all} {procedure} {may} m
     }))
 body_by bl standing m can tells has deeper space head next ds sized _ kind are body what proved jumps inside calls few once labels blocks callee words entered back h0 t0 makes serial = absurd what
 
-unit_raisable : {e : Environment} {block : Names} {types : Types} (bl : Block e block types) {links : Links} {code : List Instr} (standing : Standing bl links code) {all : List (ℕ × Label)} {procedure : ℕ} {may : List ℕ} (more : ℕ) → AllOutermost block types → ((m : ℕ) → more ≡ suc m → Done e block types all procedure m links code may) → Tells e block types all procedure may links code bl.base bl.frames.known → (has : HasMain procedure (main_labels e.program.procedures) e.level e.block bl.labels bl.outer) → length bl.depths < most_activations → bl.stack.free + 4000 * (500 - length bl.depths) ≤ 14 * 2 ^ 20 → (frame : ℕ) (u : Y.Block) (at : ℕ) → bl.frames.known frame u at → Raisable bl procedure (main_labels e.program.procedures) has links code more frame u at
-unit_raisable {e} {block} {types} bl {links} {code} standing {procedure = procedure} more outermost below tells has deep space frame u at known =
-    let q = (tells frame u at known).1 in
+unit_raisable : {e : Environment} {block : Names} {types : Types} (bl : Block e block types) {links : Links} {code : List Instr} (standing : Standing bl links code) {all : List (ℕ × Label)} {procedure : ℕ} {may : List ℕ} (more : ℕ) → AllOutermost block types → ((m : ℕ) → more ≡ suc m → Done e block types all procedure m links code may) → Tells e block types all procedure may links code bl.base bl.frames.known → (has : HasMain procedure (main_labels e.program.procedures) e.level e.block bl.labels bl.outer) → length bl.depths < most_activations → bl.stack.free + 4000 * (500 - length bl.depths) ≤ 14 * 2 ^ 20 → (c : Condition) (frame : ℕ) (u : Y.Block) (at : ℕ) → bl.frames.known c frame u at → Raisable bl procedure (main_labels e.program.procedures) has links code more frame u at
+unit_raisable {e} {block} {types} bl {links} {code} standing {procedure = procedure} more outermost below tells has deep space c frame u at known =
+    let q = (tells c frame u at known).1 in
     let mains = main_labels e.program.procedures in
     let vars = unit_declares e.program q.head q.head.kind in
     let words = words_of_unit q.head.kind (stmts_words q.body) in
@@ -199,7 +201,7 @@ unit_raisable {e} {block} {types} bl {links} {code} standing {procedure = proced
     let makes = unit_makes bl callee q.head q.level procedure mains has standing.known q.declares (omega (arith, few, small', space, deep)) (omega (arith, few)) in
     let sized = unit_sized e q.head q.head.kind q.body q.what standing.known q.declares q.level (omega (arith, few)) in
     record {
-      lowest = (tells frame u at known).0;
+      lowest = (tells c frame u at known).0;
       head = q.head;
       body = q.body;
       is = q.is;
@@ -221,10 +223,10 @@ unit_raisable {e} {block} {types} bl {links} {code} standing {procedure = proced
 -- ---- all signals
 
 pub signals_with : (e : Environment) (block : Names) (types : Types) (all : List (ℕ × Label)) (procedure : ℕ) (links : Links) (code : List Instr) (may : List ℕ) (bound : ℕ) → AllOutermost block types → ((m : ℕ) → suc m ≤ bound → Done e block types all procedure m links code may) → Signals e block types all procedure bound links code may
-signals_with e block types all procedure links code may bound outermost below o number level b deep space narrow standing tells has around same more entering least line fits =
-    signal_area_does b procedure (main_labels e.program.procedures) has links code standing.raises around more line fits entering
-    (λ frame u at known. unit_raisable b standing more outermost (λ m next. below m (omega (arith, next, least))) tells has deep space frame u at known)
+signals_with e block types all procedure links code may bound outermost below o number level b deep space narrow standing tells has around same more entering least c oncode small' other =
+    unit_raises b procedure (main_labels e.program.procedures) has links code standing.raises around more c oncode small' other entering
+    (λ frame u at known. unit_raisable b standing more outermost (λ m next. below m (omega (arith, next, least))) tells has deep space c frame u at known)
 
 pub fewer_signals : (e : Environment) (block : Names) (types : Types) (all : List (ℕ × Label)) (procedure : ℕ) (links : Links) (code : List Instr) (may : List ℕ) (m bound : ℕ) → m ≤ bound → Signals e block types all procedure bound links code may → Signals e block types all procedure m links code may
-fewer_signals e block types all procedure links code may m bound less signals o number level b deep space narrow standing tells has around same more entering least line fits =
-    signals o number level b deep space narrow standing tells has around same more entering (omega (arith, least, less)) line fits
+fewer_signals e block types all procedure links code may m bound less signals o number level b deep space narrow standing tells has around same more entering least c oncode small' other =
+    signals o number level b deep space narrow standing tells has around same more entering (omega (arith, least, less)) c oncode small' other

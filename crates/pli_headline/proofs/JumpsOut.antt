@@ -26,6 +26,7 @@ use Rattle.pli_coding.specs.Allocating.{act_code}
 use Rattle.pli_coding.specs.Environments.{Environment, block_around}
 use Rattle.pli_coding.specs.Statements.{unwound_to, goto_outer, goto_code, stmt_code}
 use Rattle.pli_coding.specs.Linking.{Links}
+use Rattle.pli_headline.proofs.HeldPlaces.{places_unwound}
 use Rattle.pli_headline.proofs.Storages.{storage}
 use Rattle.pli_headline.specs.ProvedSoFar.{Names, Types, OuterBlock, IsOutward, times}
 use Rattle.pli_headline.proofs.Engine.{Base, address}
@@ -232,6 +233,7 @@ own_out_does {e} {block} {types} bl links code around {o} d seen label line outs
                   fits = serving1.fits;
                   nested = left'.nested;
                   waiting = serving1.waiting;
+                  places = places_unwound v.edits d.frame v.activations left'.activation left'.rest left'.found serving1.places;
                 })
                 left'.all (omega arith) at4;
           }))))));

@@ -18,6 +18,7 @@ pub mod Activations
 pub mod OuterBlocks
 pub mod Asides
 pub mod Entered
+pub mod HeldPlaces
 pub mod Storages
 pub mod Calls
 pub mod Raising
@@ -169,6 +170,7 @@ pub mod GetItems
 pub mod GetWidths
 pub mod GetControls
 pub mod GetPieces
+pub mod GetEnds
 pub mod GetNumbers
 pub mod GetTexts
 pub mod GetTargets
@@ -235,6 +237,7 @@ mod DeclaredRows
 mod CallingRows
 mod UnitRows
 mod BlockArrayRows
+mod EndfileRows
 mod TextArrayRows
 mod ElementsRows
 pub mod FirstPathDeclared

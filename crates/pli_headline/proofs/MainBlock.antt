@@ -4,6 +4,7 @@ use Rattle.std.specs.Prelude.{pos, cond, ◌==◌, slice_get}
 use Rattle.rv_meaning.specs.Words.{word}
 use Rattle.rv_meaning.specs.Memory.{load, store}
 use Rattle.rv_meaning.specs.Machine.{load_width, extended, store_width}
+use Rattle.pli_language.specs.declared.condition.Condition.{Condition}
 use Rattle.pli_typing.specs.TypedTree as Y
 use Rattle.pli_meaning.specs.BasicValues.{BasicText}
 use Rattle.pli_serving.specs.Bytes.{with_bytes}
@@ -207,7 +208,7 @@ pub own_reaches : (g : Ground) (level level' : ℕ) → level ≡ 0 → level' �
 own_reaches g level level' e e' =
     subst (λ l. Reaches (l == level') l g g.frame) (sym e) (subst (λ m. Reaches (0 == m) 0 g g.frame) (sym e') refl)
 
-unfoldable pub main_block : {served : ℕ → Option S.Living} (f : Frame) (first : List ℕ) (e : Environment) (block : Names) (types : Types) (known : ℕ → Y.Block → ℕ → Type 0) → block.program ≡ e.program → ((j : ℕ) → level_of block j ≡ 0) → e.level ≡ 0 → f.count ≡ length types → HasTypes e block types → ((j : ℕ) → j < f.count → data_place e block j ≡ number_place f.sizes j) → frame_end e.parts e.program e.block 0 ≡ 144 + room_of f.sizes f.count → VariablesFit f e.program served types → Block e block types
+unfoldable pub main_block : {served : ℕ → Option S.Living} (f : Frame) (first : List ℕ) (e : Environment) (block : Names) (types : Types) (known : Condition → ℕ → Y.Block → ℕ → Type 0) → block.program ≡ e.program → ((j : ℕ) → level_of block j ≡ 0) → e.level ≡ 0 → f.count ≡ length types → HasTypes e block types → ((j : ℕ) → j < f.count → data_place e block j ≡ number_place f.sizes j) → frame_end e.parts e.program e.block 0 ≡ 144 + room_of f.sizes f.count → VariablesFit f e.program served types → Block e block types
 main_block {served} f first e block types known named outer outermost count declared placed sized texts =
     let inside : (j : ℕ) (kind : Kind) → slice_get types j ≡ Some kind → j < f.count = λ j kind h. let n = place_below types j kind h in omega (arith, n, count) in
     record {

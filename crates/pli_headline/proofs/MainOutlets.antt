@@ -10,7 +10,6 @@ use Rattle.pli_typing.specs.TypedTree as Y
 use Rattle.pli_meaning.specs.BasicValues.{BasicValue}
 use Rattle.pli_meaning.specs.StorageState.{State, with_world, newest_ended}
 use Rattle.pli_meaning.specs.Control.{Label, is_among}
-use Rattle.pli_serving.specs.ServiceState as S
 use Rattle.pli_serving.specs.ServiceState.{Services}
 use Rattle.pli_coding.specs.Assembly.{LabelPlace}
 use Rattle.pli_coding.specs.Frames.{frame_end}
@@ -23,7 +22,7 @@ use Rattle.pli_headline.proofs.Bodies.{Ground, Known}
 use Rattle.pli_headline.proofs.Scalars.{Values}
 use Rattle.pli_headline.proofs.Temporaries.{nothing}
 use Rattle.pli_headline.proofs.Owing.{owing, jumped_owing}
-use Rattle.pli_headline.proofs.Entered.{Frames, atop, frames_left}
+use Rattle.pli_headline.proofs.Entered.{Frames, atop, frames_left, Way}
 use Rattle.pli_headline.proofs.OuterBlocks.{Rises, risen_over}
 use Rattle.pli_headline.proofs.Statements.{Restricts, restricts_self, AllSeen, Enclosing, Enclosures, Block, AllHold, listed_of, IsMarkedOnce, ended_times, OutletOf, Outlets, Enough}
 use Rattle.pli_headline.proofs.InnerFrames.{level_first, inner_above}
@@ -156,7 +155,7 @@ main_seen bl callee back h0 t0 owner head next place mains (inr h) =
 
 -- ---- its labels
 
-own_main_outlet : {e : Environment} {block : Names} {types : Types} (bl : Block e block types) (callee : Callee bl) (back : Base → ℕ) (h0 : ℕ → ℕ) (owner : Owner) (kind : S.BlockKind) (head : Y.BlockHead) (next : head.level ≡ 1) (place : ℕ) (mains : List Label) (lowest : e.level ≡ 0) (same : e.block ≡ place) {links : Links} {k turns i : ℕ} {h : ℕ → ℕ} (t : ℕ → ℕ) {acts acts' : ℕ} {jumped : ℕ → Family → Services → ℕ → Label → State → Type 0} {returned : ℕ → Family → Services → Option BasicValue → State → Type 0} → Enough bl links k turns i h t acts jumped returned → (label : Label) → is_among label bl.labels ≡ true → IsMarkedOnce links place label → acts ≤ acts' → OutletOf (atop callee.at kind bl.frames) (own_main bl callee back h0 t owner head next place mains lowest same) links k acts' (ended_jump jumped) label
+own_main_outlet : {e : Environment} {block : Names} {types : Types} (bl : Block e block types) (callee : Callee bl) (back : Base → ℕ) (h0 : ℕ → ℕ) (owner : Owner) (kind : Way) (head : Y.BlockHead) (next : head.level ≡ 1) (place : ℕ) (mains : List Label) (lowest : e.level ≡ 0) (same : e.block ≡ place) {links : Links} {k turns i : ℕ} {h : ℕ → ℕ} (t : ℕ → ℕ) {acts acts' : ℕ} {jumped : ℕ → Family → Services → ℕ → Label → State → Type 0} {returned : ℕ → Family → Services → Option BasicValue → State → Type 0} → Enough bl links k turns i h t acts jumped returned → (label : Label) → is_among label bl.labels ≡ true → IsMarkedOnce links place label → acts ≤ acts' → OutletOf (atop callee.at kind bl.frames) (own_main bl callee back h0 t owner head next place mains lowest same) links k acts' (ended_jump jumped) label
 own_main_outlet {e} {block} {types} bl callee back h0 owner kind head next place mains lowest same {links = links} {k = k} {h = h} t ready label among once less =
     let o = ready.jumps label among (subst (λ u. IsMarkedOnce links u label) (sym same) once) in
     record {
@@ -173,7 +172,7 @@ own_main_outlet {e} {block} {types} bl callee back h0 owner kind head next place
           (omega (arith, less, acted')) at';
     }
 
-outer_main_outlet : {e : Environment} {block : Names} {types : Types} (bl : Block e block types) (callee : Callee bl) (back : Base → ℕ) (h0 t : ℕ → ℕ) (owner : Owner) (kind : S.BlockKind) (head : Y.BlockHead) (next : head.level ≡ 1) (place : ℕ) (mains : List Label) (links : Links) (k acts acts' : ℕ) (jumped : ℕ → Family → Services → ℕ → Label → State → Type 0) (label : Label) → acts ≤ acts' → IsMarkedOnce links place label → is_among label mains ≡ true → (os : List OuterBlock) (cs : Enclosures e bl.ground bl.levels bl.frames.list (e.level ∷ bl.depths) os) (has : MainAround place mains os) → Outlets e bl.ground bl.levels bl.frames (e.level ∷ bl.depths) os cs links k acts jumped → OutletOf (atop callee.at kind bl.frames) (main_among bl callee back h0 t owner head next place mains os cs has) links k acts' (ended_jump jumped) label
+outer_main_outlet : {e : Environment} {block : Names} {types : Types} (bl : Block e block types) (callee : Callee bl) (back : Base → ℕ) (h0 t : ℕ → ℕ) (owner : Owner) (kind : Way) (head : Y.BlockHead) (next : head.level ≡ 1) (place : ℕ) (mains : List Label) (links : Links) (k acts acts' : ℕ) (jumped : ℕ → Family → Services → ℕ → Label → State → Type 0) (label : Label) → acts ≤ acts' → IsMarkedOnce links place label → is_among label mains ≡ true → (os : List OuterBlock) (cs : Enclosures e bl.ground bl.levels bl.frames.list (e.level ∷ bl.depths) os) (has : MainAround place mains os) → Outlets e bl.ground bl.levels bl.frames (e.level ∷ bl.depths) os cs links k acts jumped → OutletOf (atop callee.at kind bl.frames) (main_among bl callee back h0 t owner head next place mains os cs has) links k acts' (ended_jump jumped) label
 outer_main_outlet bl callee back h0 t owner kind head next place mains links k acts acts' jumped label less once among [] cs has outs = absurd has
 outer_main_outlet {e} {block} {types} bl callee back h0 t owner kind head next place mains links k acts acts' jumped label less once among (o ∷ os) cs (inl h) outs =
     let c = cs.0 in
@@ -191,7 +190,7 @@ outer_main_outlet {e} {block} {types} bl callee back h0 t owner kind head next p
 outer_main_outlet bl callee back h0 t owner kind head next place mains links k acts acts' jumped label less once among (o ∷ os) cs (inr h) outs =
     outer_main_outlet bl callee back h0 t owner kind head next place mains links k acts acts' jumped label less once among os cs.1 h outs.1
 
-pub main_outlet : {e : Environment} {block : Names} {types : Types} (bl : Block e block types) (callee : Callee bl) (back : Base → ℕ) (h0 : ℕ → ℕ) (owner : Owner) (kind : S.BlockKind) (head : Y.BlockHead) (next : head.level ≡ 1) (place : ℕ) (mains : List Label) (has : HasMain place mains e.level e.block bl.labels bl.outer) (links : Links) (k turns i : ℕ) (h t : ℕ → ℕ) (acts acts' : ℕ) (jumped : ℕ → Family → Services → ℕ → Label → State → Type 0) (returned : ℕ → Family → Services → Option BasicValue → State → Type 0) → Enough bl links k turns i h t acts jumped returned → (label : Label) → is_among label mains ≡ true → IsMarkedOnce links place label → acts ≤ acts' → OutletOf (atop callee.at kind bl.frames) (main_enclosing bl callee back h0 t owner head next place mains has) links k acts' (ended_jump jumped) label
+pub main_outlet : {e : Environment} {block : Names} {types : Types} (bl : Block e block types) (callee : Callee bl) (back : Base → ℕ) (h0 : ℕ → ℕ) (owner : Owner) (kind : Way) (head : Y.BlockHead) (next : head.level ≡ 1) (place : ℕ) (mains : List Label) (has : HasMain place mains e.level e.block bl.labels bl.outer) (links : Links) (k turns i : ℕ) (h t : ℕ → ℕ) (acts acts' : ℕ) (jumped : ℕ → Family → Services → ℕ → Label → State → Type 0) (returned : ℕ → Family → Services → Option BasicValue → State → Type 0) → Enough bl links k turns i h t acts jumped returned → (label : Label) → is_among label mains ≡ true → IsMarkedOnce links place label → acts ≤ acts' → OutletOf (atop callee.at kind bl.frames) (main_enclosing bl callee back h0 t owner head next place mains has) links k acts' (ended_jump jumped) label
 main_outlet bl callee back h0 owner kind head next place mains (inl m) links k turns i h t acts acts' jumped returned ready label among once less =
     own_main_outlet bl callee back h0 owner kind head next place mains m.0 m.1.0 t ready label (m.1.1 label among) once less
 main_outlet bl callee back h0 owner kind head next place mains (inr m) links k turns i h t acts acts' jumped returned ready label among once less =

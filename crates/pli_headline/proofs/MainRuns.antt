@@ -6,6 +6,7 @@ use Rattle.std.proofs.lemmas.Bool.{eq-eqb}
 use Rattle.rv_meaning.specs.declared.instr.Instr.{Instr}
 use Rattle.rv_meaning.specs.Machine.{memory_size}
 use Rattle.rv_meaning.specs.Tables.{TableSignature}
+use Rattle.pli_language.specs.declared.condition.Condition.{Condition}
 use Rattle.pli_typing.specs.TypedTree as Y
 use Rattle.pli_meaning.specs.declared.outcome.End.TheVariants as E
 use Rattle.pli_meaning.specs.World.{counted}
@@ -135,7 +136,7 @@ main_fit program block body all small' few =
     (λ j. refl) few
     (λ j kind at. kind_held (variables_of_block program block) j kind (main_plain program block all) at)
 
-abbrev pub block_of : (known : ℕ → Y.Block → ℕ → Type 0) (program : Y.Program) (block line : ℕ) (body : Y.Stmts) (first : List ℕ) (all : AllPlain program.variables) (alone : IsAlone program block line body) (small' : main_words program block body ≤ most_code) (few : main_room program block ≤ 2 ^ 20) → Block (main_environment program block) (main_names program block) (main_types program block)
+abbrev pub block_of : (known : Condition → ℕ → Y.Block → ℕ → Type 0) (program : Y.Program) (block line : ℕ) (body : Y.Stmts) (first : List ℕ) (all : AllPlain program.variables) (alone : IsAlone program block line body) (small' : main_words program block body ≤ most_code) (few : main_room program block ≤ 2 ^ 20) → Block (main_environment program block) (main_names program block) (main_types program block)
 block_of known program block line body first all alone small' few =
     main_block (main_frame (main_words program block body) (main_sizes program block) (main_count program block) small' few) first (main_environment program block) (main_names program block) (main_types program block) known refl (λ j. refl) refl (sym (length_types (variables_of_block program block)))
     (λ j kind at. declared_at (variables_of_block program block) j (main_plain program block all) at)
@@ -143,7 +144,7 @@ block_of known program block line body first all alone small' few =
     (main_sized program block line body all alone few) (main_fit program block body all small' few)
 
 -- what its statements have to do
-abbrev pub BodyDoes : (known : ℕ → Y.Block → ℕ → Type 0) (program : Y.Program) (block line : ℕ) (body : Y.Stmts) (first : List ℕ) (all : AllPlain program.variables) (alone : IsAlone program block line body) (small' : main_words program block body ≤ most_code) → Links → List Instr → (k : ℕ) → Type 1
+abbrev pub BodyDoes : (known : Condition → ℕ → Y.Block → ℕ → Type 0) (program : Y.Program) (block line : ℕ) (body : Y.Stmts) (first : List ℕ) (all : AllPlain program.variables) (alone : IsAlone program block line body) (small' : main_words program block body ≤ most_code) → Links → List Instr → (k : ℕ) → Type 1
 BodyDoes known program block line body first all alone small' links code k =
     (few : main_room program block ≤ 2 ^ 20) → Does (block_of known program block line body first all alone small' few) links code (suc k) (stmts_code (main_environment program block) none_taken body) (M.list (main_around program k line) body)
 
@@ -157,7 +158,7 @@ to_finish_closed : (code : List Instr) (k : ℕ) → Closed code (to_finish code
 to_finish_closed code k =
     before_closed k (λ (u : Option BasicValue). finish {R = Unit {0}} E.Finished) (never_closed code)
 
-statements_piece : {links : Links} {code : List Instr} {i : ℕ} {h t : ℕ → ℕ} (known : ℕ → Y.Block → ℕ → Type 0) (program : Y.Program) (block line : ℕ) (body : Y.Stmts) (first : List ℕ) (all : AllPlain program.variables) (alone : IsAlone program block line body) (small' : main_words program block body ≤ most_code) (few : main_room program block ≤ 2 ^ 20) (k : ℕ) → BodyDoes known program block line body first all alone small' links code k → 10 ≤ i → Linked links code i (stmts_code (main_environment program block) none_taken body ++ procedure_ended (main_environment program block) (main_head block line) (main_words program block body) None) → Linked links code start_resume finish_code → (s : State) → {v : Services} → (g : Family) → Serving k s v line → AllHold (lone (main_frame (main_words program block body) (main_sizes program block) (main_count program block) small' few).at known) (main_serials (main_served program block body small' few)) (storage v) (0 ∷ []) s (main_names program block) (main_types program block) (begin_values (main_kind program block)) → ((b : Base) → At b i (Known (ground_of (main_frame (main_words program block body) (main_sizes program block) (main_count program block) small' few) first (begin_contents (main_kind program block))) v h t nothing b) (g b)) → Comes code i g v (inside (to_finish code k) newest_ended) ((M.list (main_around program k line) body >> M.end_reached (main_around program k line) false) k s)
+statements_piece : {links : Links} {code : List Instr} {i : ℕ} {h t : ℕ → ℕ} (known : Condition → ℕ → Y.Block → ℕ → Type 0) (program : Y.Program) (block line : ℕ) (body : Y.Stmts) (first : List ℕ) (all : AllPlain program.variables) (alone : IsAlone program block line body) (small' : main_words program block body ≤ most_code) (few : main_room program block ≤ 2 ^ 20) (k : ℕ) → BodyDoes known program block line body first all alone small' links code k → 10 ≤ i → Linked links code i (stmts_code (main_environment program block) none_taken body ++ procedure_ended (main_environment program block) (main_head block line) (main_words program block body) None) → Linked links code start_resume finish_code → (s : State) → {v : Services} → (g : Family) → Serving k s v line → AllHold (lone (main_frame (main_words program block body) (main_sizes program block) (main_count program block) small' few).at known) (main_serials (main_served program block body small' few)) (storage v) (0 ∷ []) s (main_names program block) (main_types program block) (begin_values (main_kind program block)) → ((b : Base) → At b i (Known (ground_of (main_frame (main_words program block body) (main_sizes program block) (main_count program block) small' few) first (begin_contents (main_kind program block))) v h t nothing b) (g b)) → Comes code i g v (inside (to_finish code k) newest_ended) ((M.list (main_around program k line) body >> M.end_reached (main_around program k line) false) k s)
 unfolding main_block M.end_reached give ◌>>◌
 statements_piece {links = links} {code = code} {i = i} {h = h} {t = t} known program block line body first all alone small' few k does' later l finish' s g serving holds at =
     let e = main_environment program block in
@@ -212,6 +213,7 @@ serving_first table kind input at line count k fits =
       fits = fits;
       nested = main_nested table kind input at line count;
       waiting = refl;
+      places = (omega arith, tt);
     }
 
 -- each variable holds what it begins with
@@ -262,7 +264,7 @@ main_text_arrays_hold links code first program block input all ready j varying m
     subst (λ (k : Kind). HoldsTexts (main_state kind input (main_count program block)) (main_names program block) j (suc j) varying most (b ∷ bs) (begin_texts k.type (kind j).initial)) (sym same)
     (text_arrays_hold kind input program block (main_count program block) j varying most (b ∷ bs) inside same (text_few varying most held.0) begins)
 
-main_hold : (known : ℕ → Y.Block → ℕ → Type 0) (links : Links) (code : List Instr) (first : List ℕ) (program : Y.Program) (block : ℕ) (input : List ℕ) (frame at line : ℕ) → at ≡ frame → AllPlain program.variables → AllReady links code first program block → AllHold (lone frame known) (main_serials (first_served (table_of program) (main_kind program block) frame (main_count program block))) (storage (main_services (table_of program) (main_kind program block) input at line (main_count program block))) (0 ∷ []) (main_state (main_kind program block) input (main_count program block)) (main_names program block) (main_types program block) (begin_values (main_kind program block))
+main_hold : (known : Condition → ℕ → Y.Block → ℕ → Type 0) (links : Links) (code : List Instr) (first : List ℕ) (program : Y.Program) (block : ℕ) (input : List ℕ) (frame at line : ℕ) → at ≡ frame → AllPlain program.variables → AllReady links code first program block → AllHold (lone frame known) (main_serials (first_served (table_of program) (main_kind program block) frame (main_count program block))) (storage (main_services (table_of program) (main_kind program block) input at line (main_count program block))) (0 ∷ []) (main_state (main_kind program block) input (main_count program block)) (main_names program block) (main_types program block) (begin_values (main_kind program block))
 main_hold known links code first program block input frame at line same all ready =
     record {
       numbers = λ j b numeric. main_holds links code first program block input all ready j b numeric;
@@ -282,7 +284,7 @@ main_hold known links code first program block input frame at line same all read
     }
 
 -- behind the variables: the act of the entry, and the statements
-body_piece : {links : Links} {code : List Instr} {i : ℕ} {h t : ℕ → ℕ} (known : ℕ → Y.Block → ℕ → Type 0) (program : Y.Program) (block line : ℕ) (body : Y.Stmts) (first input : List ℕ) (all : AllPlain program.variables) (alone : IsAlone program block line body) (small' : main_words program block body ≤ most_code) (few : main_room program block ≤ 2 ^ 20) (k : ℕ) → AllReady links code first program block → line < 2 ^ 31 → k + 1 < 2 ^ 64 → BodyDoes known program block line body first all alone small' links code k → 10 ≤ i → Linked links code i (act_code line) → Linked links code (i + size_of (act_code line)) (stmts_code (main_environment program block) none_taken body ++ procedure_ended (main_environment program block) (main_head block line) (main_words program block body) None) → Linked links code start_resume finish_code → (at : ℕ) → at ≡ (main_frame (main_words program block body) (main_sizes program block) (main_count program block) small' few).at → (g : Family) → ((b : Base) → At b i (Known (ground_of (main_frame (main_words program block body) (main_sizes program block) (main_count program block) small' few) first (begin_contents (main_kind program block))) (main_services (table_of program) (main_kind program block) input at line (main_count program block)) h t nothing b) (g b)) → Comes code i g (main_services (table_of program) (main_kind program block) input at line (main_count program block)) (inside (to_finish code k) newest_ended) (main_body program k line body k (main_state (main_kind program block) input (main_count program block)))
+body_piece : {links : Links} {code : List Instr} {i : ℕ} {h t : ℕ → ℕ} (known : Condition → ℕ → Y.Block → ℕ → Type 0) (program : Y.Program) (block line : ℕ) (body : Y.Stmts) (first input : List ℕ) (all : AllPlain program.variables) (alone : IsAlone program block line body) (small' : main_words program block body ≤ most_code) (few : main_room program block ≤ 2 ^ 20) (k : ℕ) → AllReady links code first program block → line < 2 ^ 31 → k + 1 < 2 ^ 64 → BodyDoes known program block line body first all alone small' links code k → 10 ≤ i → Linked links code i (act_code line) → Linked links code (i + size_of (act_code line)) (stmts_code (main_environment program block) none_taken body ++ procedure_ended (main_environment program block) (main_head block line) (main_words program block body) None) → Linked links code start_resume finish_code → (at : ℕ) → at ≡ (main_frame (main_words program block body) (main_sizes program block) (main_count program block) small' few).at → (g : Family) → ((b : Base) → At b i (Known (ground_of (main_frame (main_words program block body) (main_sizes program block) (main_count program block) small' few) first (begin_contents (main_kind program block))) (main_services (table_of program) (main_kind program block) input at line (main_count program block)) h t nothing b) (g b)) → Comes code i g (main_services (table_of program) (main_kind program block) input at line (main_count program block)) (inside (to_finish code k) newest_ended) (main_body program k line body k (main_state (main_kind program block) input (main_count program block)))
 unfolding M.entry_act ◌>>◌
 body_piece {links = links} {code = code} known program block line body first input all alone small' few k ready low fits does' later l behind finish' at same g there =
     let n = main_count program block in
@@ -295,7 +297,7 @@ body_piece {links = links} {code = code} known program block line body first inp
     (counted_all (counted s.world) (main_hold known links code first program block input (main_frame (main_words program block body) (main_sizes program block) (main_count program block) small' few).at at line same all ready)) there'))
 
 -- from the entry of the procedure
-procedure_piece : {links : Links} {code : List Instr} (known : ℕ → Y.Block → ℕ → Type 0) (program : Y.Program) (block line : ℕ) (body : Y.Stmts) (first input : List ℕ) (all : AllPlain program.variables) (alone : IsAlone program block line body) (small' : main_words program block body ≤ most_code) (k entry : ℕ) → AllReady links code first program block → line < 2 ^ 31 → k + 1 < 2 ^ 64 → length first ≡ memory_size → 10 ≤ entry → BodyDoes known program block line body first all alone small' links code k → Linked links code entry (procedure_in (main_environment program block) (main_head block line) body [] None) → Linked links code start_resume finish_code → (g : Family) → ((b : Base) → At b entry (Known (start_ground first) (first_services (table_of program) input) zeros zeros (with' 1 (λ b'. address b' start_resume) no_texts) b) (g b)) → Comes code entry g (first_services (table_of program) input) (inside (to_finish code k) newest_ended) (flow_on k (K.variables_made (main_around program k line) 0 (variables_of_block program block) k (main_state (main_kind program block) input 0)) (λ u. main_body program k line body))
+procedure_piece : {links : Links} {code : List Instr} (known : Condition → ℕ → Y.Block → ℕ → Type 0) (program : Y.Program) (block line : ℕ) (body : Y.Stmts) (first input : List ℕ) (all : AllPlain program.variables) (alone : IsAlone program block line body) (small' : main_words program block body ≤ most_code) (k entry : ℕ) → AllReady links code first program block → line < 2 ^ 31 → k + 1 < 2 ^ 64 → length first ≡ memory_size → 10 ≤ entry → BodyDoes known program block line body first all alone small' links code k → Linked links code entry (procedure_in (main_environment program block) (main_head block line) body [] None) → Linked links code start_resume finish_code → (g : Family) → ((b : Base) → At b entry (Known (start_ground first) (first_services (table_of program) input) zeros zeros (with' 1 (λ b'. address b' start_resume) no_texts) b) (g b)) → Comes code entry g (first_services (table_of program) input) (inside (to_finish code k) newest_ended) (flow_on k (K.variables_made (main_around program k line) 0 (variables_of_block program block) k (main_state (main_kind program block) input 0)) (λ u. main_body program k line body))
 procedure_piece {links} {code} known program block line body first input all alone small' k entry ready low fits len later does' l finish' g at =
     let e = main_environment program block in
     let words = main_words program block body in
@@ -342,7 +344,7 @@ procedure_piece {links} {code} known program block line body first input all alo
     (λ enough g3 at3. body_piece known program block line body first input all alone small' enough k ready low fits does' (omega (arith, later)) la lb finish' f.at refl g3 at3))))
 
 -- the whole run
-pub main_runs : {links : Links} {code : List Instr} (known : ℕ → Y.Block → ℕ → Type 0) (program : Y.Program) (block line : ℕ) (body : Y.Stmts) (first input : List ℕ) (all : AllPlain program.variables) (alone : IsAlone program block line body) (small' : main_words program block body ≤ most_code) (k : ℕ) → AllReady links code first program block → line < 2 ^ 31 → k + 1 < 2 ^ 64 → length first ≡ memory_size → Placed program block line body links code → BodyDoes known program block line body first all alone small' links code k → Comes code 0 (start_family first (first_services (table_of program) input)) (first_services (table_of program) input) never (M.run program (suc k) k (first_state input))
+pub main_runs : {links : Links} {code : List Instr} (known : Condition → ℕ → Y.Block → ℕ → Type 0) (program : Y.Program) (block line : ℕ) (body : Y.Stmts) (first input : List ℕ) (all : AllPlain program.variables) (alone : IsAlone program block line body) (small' : main_words program block body ≤ most_code) (k : ℕ) → AllReady links code first program block → line < 2 ^ 31 → k + 1 < 2 ^ 64 → length first ≡ memory_size → Placed program block line body links code → BodyDoes known program block line body first all alone small' links code k → Comes code 0 (start_family first (first_services (table_of program) input)) (first_services (table_of program) input) never (M.run program (suc k) k (first_state input))
 main_runs {links} {code} known program block line body first input all alone small' k ready low fits len placed does' =
     let v = first_services (table_of program) input in
     let behind = placed.behind in

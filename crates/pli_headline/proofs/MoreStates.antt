@@ -5,6 +5,7 @@ use Rattle.std.proofs.lemmas.Bool.{eq-eqb}
 use Rattle.std.proofs.lemmas.Bool.Decides.{nat_tests}
 use Rattle.pli_typing.specs.Signatures.{Bounds}
 use Rattle.pli_language.specs.Tree as T
+use Rattle.pli_language.specs.declared.condition.Condition.{Condition}
 use Rattle.pli_typing.specs.TypedTree as Y
 use Rattle.pli_meaning.specs.declared.outcome.End.TheVariants as E
 use Rattle.pli_meaning.specs.declared.outcome.Limit.TheVariants as L
@@ -106,7 +107,7 @@ nested_same (a ∷ as') [] b h = absurd h
 nested_same (a ∷ as') (x ∷ xs) b h =
     (record { height = h.0.height; first = h.0.first; inside = h.0.inside; direct = h.0.direct; oncode = h.0.oncode; units = h.0.units }, h.1)
 
-units_same : (known : ℕ → Y.Block → ℕ → Type 0) (as' : List Activation) (xs : List S.Activation) (b : Binding) → UnitsKnown known as' xs → UnitsKnown known (with_binding b as') xs
+units_same : (known : Condition → ℕ → Y.Block → ℕ → Type 0) (as' : List Activation) (xs : List S.Activation) (b : Binding) → UnitsKnown known as' xs → UnitsKnown known (with_binding b as') xs
 units_same known [] xs b h = h
 units_same known (a ∷ as') [] b h = absurd h
 units_same known (a ∷ as') (x ∷ xs) b h = h

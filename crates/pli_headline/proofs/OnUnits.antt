@@ -1,10 +1,9 @@
--- ON with a unit of the program for AREA, in the main procedure's own block: the newest block gets the unit, with the place of its code, over
+-- ON with a unit of the program, in the main procedure's own block: the newest block gets the unit, with the place of its code, over
 -- which the run goes on.
 use Rattle.std.proofs.Common.{◌≡◌, ℕ, suc, ◌+◌, ◌*◌, ◌^◌, ◌<◌, ◌≤◌, List, [], ◌∷◌, ◌++◌, length, true, false, refl, sym, ap, ◌∙◌, subst, arith, lit<, ◌⊎◌, inl, inr}
 use Rattle.std.specs.Prelude.{cond, ◌==◌}
 use Rattle.std.proofs.lemmas.Bool.Decides.{nat_tests}
 use Rattle.pli_language.specs.declared.condition.Condition.{Condition}
-use Rattle.pli_language.specs.declared.condition.Condition.TheVariants as C
 use Rattle.rv_meaning.specs.declared.instr.Instr.{Instr}
 use Rattle.rv_meaning.specs.declared.instr.Instr.TheVariants as I
 use Rattle.rv_meaning.specs.declared.instr.ImmediateOp.TheVariants as Imm
@@ -38,7 +37,7 @@ use Rattle.pli_headline.proofs.Items.{Linked, At, straight, parts_sum}
 use Rattle.pli_headline.proofs.Bodies.{Ground, Known, Free, with', zero_is, set_known, lose_known}
 use Rattle.pli_headline.proofs.Jumps.{front_of, back_of, ahead_piece}
 use Rattle.pli_headline.proofs.Temporaries.{stays_same}
-use Rattle.pli_headline.proofs.Activations.{Nested, frames_of, entered_length}
+use Rattle.pli_headline.proofs.Activations.{may_have_unit, Nested, frames_of, entered_length}
 use Rattle.pli_headline.proofs.Calls.{Serving}
 use Rattle.pli_headline.proofs.Raising.{small_is}
 use Rattle.pli_headline.proofs.Acts.{acted, act_piece}
@@ -112,9 +111,9 @@ not_zero i some = grind (arith, nat_tests)
 
 -- ---- the statement
 
-pub on_unit_does : {e : Environment} {block : Names} {types : Types} (bl : Block e block types) (links : Links) (code : List Instr) (around : Around) (c : Condition) (head : Y.BlockHead) (body : Y.Stmts) (line : ℕ) → (0 == e.level) ≡ true → c ≡ C.Area → line < 2 ^ 31 → ((i : ℕ) → 19 ≤ i → Linked links code i (unit_by e head body head.kind head.level) → bl.frames.known bl.base (Y.BlockOf head body) (4 * i)) → Does bl links code around.turns (stmt_code e bl.taken (Y.OnUnit c (Y.BlockOf head body) line)) (M.statement around (Y.OnUnit c (Y.BlockOf head body) line))
+pub on_unit_does : {e : Environment} {block : Names} {types : Types} (bl : Block e block types) (links : Links) (code : List Instr) (around : Around) (c : Condition) (head : Y.BlockHead) (body : Y.Stmts) (line : ℕ) → (0 == e.level) ≡ true → may_have_unit c ≡ true → line < 2 ^ 31 → ((i : ℕ) → 19 ≤ i → Linked links code i (unit_by e head body head.kind head.level) → bl.frames.known c bl.base (Y.BlockOf head body) (4 * i)) → Does bl links code around.turns (stmt_code e bl.taken (Y.OnUnit c (Y.BlockOf head body) line)) (M.statement around (Y.OnUnit c (Y.BlockOf head body) line))
 unfolding M.statement M.established_by stored ◌>>◌
-on_unit_does {e} {block} {types} bl links code around c head body line outermost area fits known =
+on_unit_does {e} {block} {types} bl links code around c head body line outermost may fits known =
     record {
       does = λ {i} {s} {v} {h} {t} {aims} closed old n f k l serving all at goal more.
           let a = act_code line in
@@ -149,7 +148,7 @@ on_unit_does {e} {block} {types} bl links code around c head body line outermost
           let all1 : AllHold bl.frames bl.serials (storage v1) (e.level ∷ bl.depths) s1 block types n = counted_all _ all in
           let some = some_served e.level bl.depths s1.activations v1.activations serving1.nested all1.entered in
           let one = entered_length s1.activations (e.level ∷ bl.depths) all1.entered ∙ ap (λ (ds : List ℕ). suc (length ds)) (bl.shallow outermost) in
-          let new = unit_known bl.frames.known u (4 * index) bl.base s1.activations v1.activations serving1.nested one (ap first_of_frames (all1.framed ∙ bl.leads) ∙ bl.alone outermost) (known index (omega (arith, later, few)) l5) in
+          let new = unit_known (bl.frames.known c) u (4 * index) bl.base s1.activations v1.activations serving1.nested one (ap first_of_frames (all1.framed ∙ bl.leads) ∙ bl.alone outermost) (known index (omega (arith, later, few)) l5) in
           onward closed (offset_piece i1 f1 a1 5 (omega (arith, inside, long)) (record { reserved_stay = λ y r. refl; known_stay = λ b y r q. q; set = λ y r. refl }) (front_of offset (given ++ (call ++ (over ++ unit))) l1) at1)
           (λ f2 at2.
           let z : Base → ℕ = λ b. (f2 b).machine.registers 12 in
@@ -166,7 +165,7 @@ on_unit_does {e} {block} {types} bl links code around c head body line outermost
           (λ b. record { pc = (at4 b).pc; holds = record { body = (at4 b).holds.body; regs = tt } }))
           (λ f5 at5.
           let T : List Activation → Type 0 = λ as'. Serving k (with_world s1.world (with_activations as' s1)) v2 line × AllHold bl.frames bl.serials (storage v2) (e.level ∷ bl.depths) (with_world s1.world (with_activations as' s1)) block types n in
-          let both : T (newest_changed true (BlockUnit u) c s1.activations) = (changed_serving true (BlockUnit u) w c (record { meant = inr area; served = inr area }) serving1, changed_all true (BlockUnit u) w c new all1) in
+          let both : T (newest_changed true (BlockUnit u) c s1.activations) = (changed_serving true (BlockUnit u) w c (record { meant = inr may; served = inr may }) serving1, changed_all true (BlockUnit u) w c new all1) in
           let o = subst T (established_is (BlockUnit u) c s1.activations) both in
           record {
             to =

@@ -59,7 +59,7 @@ raised_alone {links = links} {code = code} {i = i} {g = g} {v = v} {h = h} {t = 
     raise_piece closed routines (i + 2 + 2) f2 around c number n k is small' (omega (arith, inside, whole)) only served serving
     (λ b. record { pc = (at2 b).pc; holds = record { body = (at2 b).holds.body; regs = (at2 b).holds.regs.1 } })))
 
--- one that isn't AREA
+-- one for which the program has no units
 pub raised_piece : {links : Links} {code : List Instr} {i : ℕ} {g : Ground} {v : Services} {h t : ℕ → ℕ} {rs : Base → List (ℕ × ℕ)} {s : State} {aims : Aims (Unit {0})} (closed : Closed code aims) (routines : Routines links code) (f : Family) (around : Around) (c : Condition) (number n : ℕ) (rest : Code) (k : ℕ) → U.condition_of number ≡ Some c → IsOther c → number < 2 ^ 16 → n < 2 ^ 16 → Linked links code i (small a0 number ∷ small a1 n ∷ CallTo RaiseCondition ∷ rest) → Serving k s v around.line → ((b : Base) → At b i (Known g v h t rs b) (f b)) → Comes code i f v aims (R.raised around c n k s)
 raised_piece {v = v} {s = s} closed routines f around c number n rest k is other fits small' l serving at =
     raised_alone closed routines f around c number n rest k is fits small' (only_in_force s.activations v.activations serving.nested c other) (only_served s.activations v.activations serving.nested c other) l serving at

@@ -1,13 +1,15 @@
 -- The statements that are proved so far: each list of them does what it means, where the constant bytes that its code names stand in
 -- memory.
-use Rattle.std.proofs.Common.{◌∷◌, ◌≡◌, ℕ, suc, ◌+◌, ◌-◌, ◌*◌, ◌^◌, ◌<◌, ◌≤◌, List, [], ◌++◌, None, Some, inl, inr, Bool, true, false, refl, sym, ap, ◌∙◌, subst, arith, append-nil, length}
+use Rattle.std.proofs.Common.{◌∷◌, ◌≡◌, ℕ, suc, ◌+◌, ◌-◌, ◌*◌, ◌^◌, ◌<◌, ◌≤◌, List, [], ◌++◌, None, Some, inl, inr, Bool, true, false, refl, sym, ap, ◌∙◌, subst, arith, append-nil, length, lit<}
 use Rattle.std.specs.Prelude.{max, ◌==◌}
 use Rattle.std.proofs.Math.Nat.{le-max_left, le-max_right}
 use Rattle.rv_meaning.specs.declared.instr.Instr.{Instr}
+use Rattle.pli_language.specs.declared.condition.Condition.{Condition}
 use Rattle.pli_language.specs.declared.condition.Condition.TheVariants as C
 use Rattle.pli_typing.specs.TypedTree as Y
 use Rattle.pli_meaning.specs.Control.{Label}
-use Rattle.pli_meaning.specs.Raising.{Around}
+use Rattle.pli_meaning.specs.Codes.{code_signalled, endfile_code}
+use Rattle.pli_meaning.specs.Raising.{Around, at_line}
 use Rattle.pli_meaning.specs.Executing as M
 use Rattle.pli_meaning.specs.Executing.{labels_in}
 use Rattle.pli_coding.specs.Environments.{BlockOwner, BlockPlace, Environment, Taken, in_frame, Owner, owned_by}
@@ -19,6 +21,7 @@ use Rattle.pli_coding.specs.Temporaries.{number_words, bit_words, reference_word
 use Rattle.pli_coding.specs.Images.{place_of_head, place_of_unit, blocks_in, blocks_among}
 use Rattle.pli_coding.specs.Linking.{Links}
 use Rattle.pli_headline.specs.ProvedSoFar.{Names, names_in, types_in, unit_declares, IsShallow, ArePlain, bytes_of, bytes_in, inner_bytes, Types, OuterBlock, main_labels, main_outer, IsProvedStatement, AreProvedStatements, JumpsAround, AllJumpAround, is_number, CallsAmong, AllCallAmong}
+use Rattle.pli_headline.specs.EndUnits.{HasUnitFor, main_catches_end}
 use Rattle.pli_meaning.specs.DeclaredShapes.{variables_of_block}
 use Rattle.pli_headline.proofs.Statements.{owner_level, IsOwned, known_in, Standing, Block, Does, EachDoes, null_does, IsEndMarkedOnce}
 use Rattle.pli_headline.proofs.Ifs.{if_does, if_else_does}
@@ -37,7 +40,7 @@ use Rattle.pli_headline.proofs.Returns.{return_does}
 use Rattle.pli_headline.proofs.HomeReturns.{IsHome, home_does}
 use Rattle.pli_headline.proofs.MainOutlets.{HasMain, more_main}
 use Rattle.pli_headline.proofs.Narrowing.{Narrows, narrows_in, narrowed, narrowed_has}
-use Rattle.pli_headline.proofs.Through.{through_does, standing_narrowed}
+use Rattle.pli_headline.proofs.Through.{through_does, through_raises, standing_narrowed}
 use Rattle.pli_headline.proofs.Gotos.{LabelsStand, goto_does}
 use Rattle.pli_headline.proofs.Groups.{do_does}
 use Rattle.pli_headline.proofs.Loops.{while_does}
@@ -46,7 +49,9 @@ use Rattle.pli_headline.proofs.Skips.{put_skip_does}
 use Rattle.pli_headline.proofs.Signals.{signal_does}
 use Rattle.pli_headline.proofs.SystemUnits.{on_system_does, revert_does}
 use Rattle.pli_headline.proofs.OnUnits.{on_unit_does}
-use Rattle.pli_headline.proofs.Entered.{Frames}
+use Rattle.pli_headline.proofs.Entered.{Frames, NoUnit}
+use Rattle.pli_headline.proofs.Activations.{may_have_unit}
+use Rattle.pli_headline.proofs.UnitRuns.{Raises, none_raises, signal_unit_does}
 use Rattle.pli_headline.proofs.UnitStanding.{program_around, UnitStands, Tells, unit_is}
 use Rattle.pli_headline.proofs.Items.{Linked}
 use Rattle.pli_headline.proofs.Onces.{once_does}
@@ -118,24 +123,24 @@ abbrev pub Calls : Environment → (block : Names) → Types → (all : List (�
 Calls e block types all procedure bound links code may =
     (o : Owner) (number level : ℕ) (b : Block (owned_by o (in_frame number level e)) block types) → length b.depths < most_activations → b.stack.free + 4000 * (500 - length b.depths) ≤ 14 * 2 ^ 20 → b.words < 2 ^ 22 → Standing b links code → Tells e block types all procedure may links code b.base b.frames.known → b.taken.words ≤ b.words → HasMain procedure (main_labels e.program.procedures) level number b.labels b.outer → (around : Around) → around.program ≡ e.program → (more : ℕ) → Entering e.program around more → more ≤ bound → (procedure : ℕ) → is_number procedure may ≡ true → (line : ℕ) → line < 2 ^ 31 → Does b links code around.turns (stmt_code (owned_by o (in_frame number level e)) b.taken (Y.CallProcedure (Y.Calling procedure 0 Y.NoArgument) line)) (M.statement around (Y.CallProcedure (Y.Calling procedure 0 Y.NoArgument) line))
 
--- SIGNAL of AREA does what it means there
+-- conditions are raised there
 abbrev pub Signals : Environment → (block : Names) → Types → (all : List (ℕ × Label)) → (procedure bound : ℕ) → Links → List Instr → (may : List ℕ) → Type 1
 Signals e block types all procedure bound links code may =
-    (o : Owner) (number level : ℕ) (b : Block (owned_by o (in_frame number level e)) block types) → length b.depths < most_activations → b.stack.free + 4000 * (500 - length b.depths) ≤ 14 * 2 ^ 20 → b.words < 2 ^ 22 → Standing b links code → Tells e block types all procedure may links code b.base b.frames.known → HasMain procedure (main_labels e.program.procedures) level number b.labels b.outer → (around : Around) → around.program ≡ e.program → (more : ℕ) → Entering e.program around more → more ≤ bound → (line : ℕ) → line < 2 ^ 31 → Does b links code around.turns (stmt_code (owned_by o (in_frame number level e)) b.taken (Y.Signal C.Area line)) (M.statement around (Y.Signal C.Area line))
+    (o : Owner) (number level : ℕ) (b : Block (owned_by o (in_frame number level e)) block types) → length b.depths < most_activations → b.stack.free + 4000 * (500 - length b.depths) ≤ 14 * 2 ^ 20 → b.words < 2 ^ 22 → Standing b links code → Tells e block types all procedure may links code b.base b.frames.known → HasMain procedure (main_labels e.program.procedures) level number b.labels b.outer → (around : Around) → around.program ≡ e.program → (more : ℕ) → Entering e.program around more → more ≤ bound → (c : Condition) (oncode : ℕ) → oncode < 2 ^ 16 → (oncode == 0) ≡ false → Raises b links code around c oncode
 
 -- they do, where the main procedure's variables alone can be named, which are the first of the block's; the units that may be in force are
 -- known, and the main procedure's own block may get one; a return in a called procedure goes to its end
-pub record Ways (e : Environment) (outer : Names) (outers : Types) (block : Names) (types : Types) (words bound : ℕ) (small : Bool) (taken : ℕ) (labels : List Label) (os : List OuterBlock) (base : ℕ) (units : ℕ → Y.Block → ℕ → Type 0) (all : List (ℕ × Label)) (procedure : ℕ) (links : Links) (code : List Instr) (main returns : Bool) (may : List ℕ) : Type 1 where
+pub record Ways (e : Environment) (outer : Names) (outers : Types) (block : Names) (types : Types) (words bound : ℕ) (small : Bool) (taken : ℕ) (labels : List Label) (os : List OuterBlock) (base : ℕ) (units : Condition → ℕ → Y.Block → ℕ → Type 0) (all : List (ℕ × Label)) (procedure : ℕ) (links : Links) (code : List Instr) (main returns : Bool) (may : List ℕ) : Type 1 where
   pub narrows : Narrows outer outers block types
   pub calls : Calls e outer outers all procedure bound links code may
   pub signals : Signals e outer outers all procedure bound links code may
   pub tells : Tells e outer outers all procedure may links code base units
-  pub makes : (0 == e.level) ≡ true → (u : Y.Block) (at : ℕ) → UnitStands (program_around e) block types all procedure may links code u at → units base u at
+  pub makes : (0 == e.level) ≡ true → (c : Condition) (u : Y.Block) (at : ℕ) → UnitStands (program_around e) block types all procedure may links code c u at → units c base u at
   pub narrow : words < 2 ^ 22
   pub ends : returns ≡ true → main ≡ false → IsHome e links os
   pub mains : HasMain procedure (main_labels e.program.procedures) e.level e.block labels os
 
-ways_within : {e : Environment} {outer : Names} {outers : Types} {block : Names} {types : Types} {words bound : ℕ} {small : Bool} {taken : ℕ} {labels : List Label} {os : List OuterBlock} {base : ℕ} {units : ℕ → Y.Block → ℕ → Type 0} {all : List (ℕ × Label)} {procedure : ℕ} {links : Links} {code : List Instr} {main returns : Bool} {may : List ℕ} (more : List Label) → Ways e outer outers block types words bound small taken labels os base units all procedure links code main returns may → Ways e outer outers block types words bound small taken (more ++ labels) os base units all procedure links code main returns may
+ways_within : {e : Environment} {outer : Names} {outers : Types} {block : Names} {types : Types} {words bound : ℕ} {small : Bool} {taken : ℕ} {labels : List Label} {os : List OuterBlock} {base : ℕ} {units : Condition → ℕ → Y.Block → ℕ → Type 0} {all : List (ℕ × Label)} {procedure : ℕ} {links : Links} {code : List Instr} {main returns : Bool} {may : List ℕ} (more : List Label) → Ways e outer outers block types words bound small taken labels os base units all procedure links code main returns may → Ways e outer outers block types words bound small taken (more ++ labels) os base units all procedure links code main returns may
 ways_within {e} {labels = labels} {os = os} {procedure = procedure} more ways =
     record {
       narrows = ways.narrows;
@@ -198,6 +203,20 @@ room_calls true taken free depth words own level shallow room = room.0.0
 room_deep : (small : Bool) (taken free depth words own level : ℕ) → Room small taken free depth words own level → depth < most_activations
 room_deep false taken free depth words own level room = room.1
 room_deep true taken free depth words own level room = room.1
+
+may_have : (program : Y.Program) (c : Condition) → HasUnitFor program c → may_have_unit c ≡ true
+may_have program C.Area has = refl
+may_have program C.Endfile has = refl
+may_have program _ has = absurd has
+
+-- the line counts nothing where blocks are entered
+pub entering_at : {program : Y.Program} {around : Around} {more : ℕ} (line : ℕ) → Entering program around more → Entering program (at_line around line) more
+entering_at line entering = record { enter = entering.enter; turns = entering.turns }
+
+-- in a program without a unit for ENDFILE none is in force
+pub none_ends : {e : Environment} {block : Names} {types : Types} (bl : Block e block types) {outer : Names} {outers : Types} {all : List (ℕ × Label)} {procedure : ℕ} {may : List ℕ} {links : Links} {code : List Instr} → Tells e outer outers all procedure may links code bl.base bl.frames.known → main_catches_end e.program.procedures ≡ false → NoUnit (bl.frames.known C.Endfile)
+none_ends bl tells none frame u at known =
+    let no : true ≡ false = sym (tells C.Endfile frame u at known).1.condition ∙ none in absurd (cc no)
 
 -- a block declares nothing, or something
 by_declared : {A : Type 1} (ds : List Y.DeclaredVariable) → (ds ≡ [] → A) → A → A
@@ -385,16 +404,23 @@ mutual
   statement_does {e} bl links code routines around same {all} {procedure} {small = small} {taken = filled} named (Y.Signal C.Area line) is jumps room space bare {more} entering least known calls ways =
       let mains = main_labels e.program.procedures in
       through_does bl ways.narrows procedure mains ways.mains
-      (λ n0 x. ways.signals e.owner e.block e.level (narrowed bl ways.narrows n0 x procedure mains ways.mains) (room_deep small filled bl.stack.free (length bl.depths) 0 0 e.level space) (room_calls small filled bl.stack.free (length bl.depths) 0 0 e.level calls space) ways.narrow (standing_narrowed ways.narrows n0 x procedure mains ways.mains routines) ways.tells (narrowed_has bl procedure mains ways.mains) around same more entering least line is)
+      (λ n0 x. signal_unit_does (narrowed bl ways.narrows n0 x procedure mains ways.mains) links code routines.raises around C.Area line refl is (ways.signals e.owner e.block e.level (narrowed bl ways.narrows n0 x procedure mains ways.mains) (room_deep small filled bl.stack.free (length bl.depths) 0 0 e.level space) (room_calls small filled bl.stack.free (length bl.depths) 0 0 e.level calls space) ways.narrow (standing_narrowed ways.narrows n0 x procedure mains ways.mains routines) ways.tells (narrowed_has bl procedure mains ways.mains) (at_line around line) same more (entering_at line entering) least C.Area (code_signalled C.Area) (lit< tt) refl))
   statement_does bl links code routines around same named (Y.Signal C.FixedOverflow line) is jumps room space bare entering least known calls ways = signal_does bl links code routines.raises around C.FixedOverflow line refl is
   statement_does bl links code routines around same named (Y.Signal C.ZeroDivide line) is jumps room space bare entering least known calls ways = signal_does bl links code routines.raises around C.ZeroDivide line refl is
-  statement_does bl links code routines around same named (Y.Signal C.Endfile line) is jumps room space bare entering least known calls ways = signal_does bl links code routines.raises around C.Endfile line refl is
+  statement_does bl links code routines around same named (Y.Signal C.Endfile line) is jumps room space bare entering least known (inl none) ways =
+      signal_unit_does bl links code routines.raises around C.Endfile line refl is (none_raises bl links code (at_line around line) C.Endfile (code_signalled C.Endfile) (none_ends bl ways.tells none))
+  statement_does {e} bl links code routines around same {all} {procedure} {small = small} {taken = filled} named (Y.Signal C.Endfile line) is jumps room space bare {more} entering least known (inr calls) ways =
+      let mains = main_labels e.program.procedures in
+      through_does bl ways.narrows procedure mains ways.mains
+      (λ n0 x. signal_unit_does (narrowed bl ways.narrows n0 x procedure mains ways.mains) links code routines.raises around C.Endfile line refl is (ways.signals e.owner e.block e.level (narrowed bl ways.narrows n0 x procedure mains ways.mains) (room_deep small filled bl.stack.free (length bl.depths) 0 0 e.level space) (room_calls small filled bl.stack.free (length bl.depths) 0 0 e.level calls space) ways.narrow (standing_narrowed ways.narrows n0 x procedure mains ways.mains routines) ways.tells (narrowed_has bl procedure mains ways.mains) (at_line around line) same more (entering_at line entering) least C.Endfile (code_signalled C.Endfile) (lit< tt) refl))
   statement_does bl links code routines around same named (Y.Signal C.Error line) is jumps room space bare entering least known calls ways = signal_does bl links code routines.raises around C.Error line refl is
   statement_does bl links code routines around same named (Y.OnSystem condition line) is jumps room space bare entering least known calls ways = on_system_does bl links code around condition line is
   statement_does bl links code routines around same named (Y.Revert condition line) is jumps room space bare entering least known calls ways = revert_does bl links code around condition line is
   statement_does {e} {block} {types} bl links code routines around same named (Y.OnUnit condition (Y.BlockOf head body) line) is jumps room space bare entering least known calls ways =
-      on_unit_does bl links code around condition head body line jumps.0 is.0 is.1.1.0
-      (λ i later l. ways.makes jumps.0 (Y.BlockOf head body) (4 * i) (record {
+      let for = subst (λ p. HasUnitFor p condition) bl.named is.0 in
+      on_unit_does bl links code around condition head body line jumps.0 (may_have e.program condition for) is.1.1.0
+      (λ i later l. ways.makes jumps.0 condition (Y.BlockOf head body) (4 * i) (record {
+        condition = for;
         head = head;
         body = body;
         is = refl;
@@ -419,10 +445,22 @@ mutual
       put_does bl links code routines around pairs line is.0 is.1 room
   statement_does bl links code routines around same named (Y.Put (Some n) pairs line) is jumps room space bare entering least known calls ways =
       put_skip_does bl links code routines around n pairs line is.0.0 is.0.1 is.1.0 is.1.1 room
-  statement_does bl links code routines around same named (Y.Get None pairs line) is jumps room space bare entering least known calls ways =
-      get_does bl links code routines around same pairs line is.0 is.1 room
-  statement_does bl links code routines around same named (Y.Get (Some n) pairs line) is jumps room space bare entering least known calls ways =
-      get_skip_does bl links code routines around same n pairs line is.0.0 is.0.1 is.1.0 is.1.1 room
+  statement_does bl links code routines around same named (Y.Get None pairs line) is jumps room space bare entering least known (inl none) ways =
+      get_does bl links code routines around same pairs line (none_raises bl links code (at_line around line) C.Endfile endfile_code (none_ends bl ways.tells none)) is.0 is.1 room
+  statement_does {e} bl links code routines around same {all} {procedure} {small = small} {taken = filled} named (Y.Get None pairs line) is jumps room space bare {more} entering least known (inr shallow) ways =
+      let mains = main_labels e.program.procedures in
+      get_does bl links code routines around same pairs line
+      (through_raises bl ways.narrows procedure mains ways.mains
+      (λ n0 x. ways.signals e.owner e.block e.level (narrowed bl ways.narrows n0 x procedure mains ways.mains) (room_deep small filled bl.stack.free (length bl.depths) 0 0 e.level space) (room_calls small filled bl.stack.free (length bl.depths) 0 0 e.level shallow space) ways.narrow (standing_narrowed ways.narrows n0 x procedure mains ways.mains routines) ways.tells (narrowed_has bl procedure mains ways.mains) (at_line around line) same more (entering_at line entering) least C.Endfile endfile_code (lit< tt) refl))
+      is.0 is.1 room
+  statement_does bl links code routines around same named (Y.Get (Some n) pairs line) is jumps room space bare entering least known (inl none) ways =
+      get_skip_does bl links code routines around same n pairs line (none_raises bl links code (at_line around line) C.Endfile endfile_code (none_ends bl ways.tells none)) is.0.0 is.0.1 is.1.0 is.1.1 room
+  statement_does {e} bl links code routines around same {all} {procedure} {small = small} {taken = filled} named (Y.Get (Some n) pairs line) is jumps room space bare {more} entering least known (inr shallow) ways =
+      let mains = main_labels e.program.procedures in
+      get_skip_does bl links code routines around same n pairs line
+      (through_raises bl ways.narrows procedure mains ways.mains
+      (λ n0 x. ways.signals e.owner e.block e.level (narrowed bl ways.narrows n0 x procedure mains ways.mains) (room_deep small filled bl.stack.free (length bl.depths) 0 0 e.level space) (room_calls small filled bl.stack.free (length bl.depths) 0 0 e.level shallow space) ways.narrow (standing_narrowed ways.narrows n0 x procedure mains ways.mains routines) ways.tells (narrowed_has bl procedure mains ways.mains) (at_line around line) same more (entering_at line entering) least C.Endfile endfile_code (lit< tt) refl))
+      is.0.0 is.0.1 is.1.0 is.1.1 room
   statement_does bl links code routines around same named _ is jumps room space bare entering least known calls ways = absurd is
 
   pub each_does : {e : Environment} {block : Names} {types : Types} (bl : Block e block types) (links : Links) (code : List Instr) (routines : Standing bl links code) (around : Around) (same : around.program ≡ e.program) {all : List (ℕ × Label)} {procedure : ℕ} {main returns small : Bool} {taken : ℕ} {may : List ℕ} {bound : ℕ} {outer : Names} {outers : Types} (named : LabelsStand e links all procedure main) (body : Y.Stmts) → AreProvedStatements block types body → AllJumpAround e.block e.level all e.blocks (main_outer procedure e.program.procedures) bl.outer bl.labels body → bl.taken.words + stmts_words body ≤ bl.words → Room small taken bl.stack.free (length bl.depths) (all_inner_words body) (inner_bytes e.program body) e.level → DeclarePlain e.program body → {more : ℕ} → Entering e.program around more → more ≤ bound → ((b : BlockPlace) → IsAmong b (blocks_among body) → IsAmong b e.blocks) → AllCallAmong e.program may returns taken body → Ways e outer outers block types bl.words bound small taken bl.labels bl.outer bl.base bl.frames.known all procedure links code main returns may → EachDoes bl links code around body

@@ -1,5 +1,5 @@
 -- PUT EDIT: items one behind the other, pairs, and the statement.
-use Rattle.std.proofs.Common.{◌≡◌, ℕ, ◌+◌, ◌^◌, ◌<◌, ◌≤◌, inl, List, [], ◌∷◌, ◌++◌, None, true, refl, sym, ap, ◌∙◌, subst, arith}
+use Rattle.std.proofs.Common.{length, ◌≡◌, ℕ, ◌+◌, ◌^◌, ◌<◌, ◌≤◌, inl, List, [], ◌∷◌, ◌++◌, None, true, refl, sym, ap, ◌∙◌, subst, arith}
 use Rattle.std.proofs.Math.Nat.{le-max_left, le-max_right}
 use Rattle.rv_meaning.specs.declared.instr.Instr.{Instr}
 use Rattle.pli_language.specs.Tree as T
@@ -20,6 +20,7 @@ use Rattle.pli_coding.specs.Streams.{has_fixed, has_text, by_item, controls_carr
 use Rattle.pli_coding.specs.Statements.{stmt_code}
 use Rattle.pli_coding.specs.Linking.{Links}
 use Rattle.pli_headline.specs.ProvedSoFar.{Names, Types, HavePrecisions, AreProvedFormats, HasData, AreProvedItems, AreProvedPairs}
+use Rattle.pli_headline.proofs.HeldPlaces.{places_grown, places_same}
 use Rattle.pli_headline.proofs.Storages.{storage}
 use Rattle.pli_headline.proofs.Engine.{Base, address}
 use Rattle.pli_headline.proofs.Linking.{size_append}
@@ -105,13 +106,13 @@ pairs_piece {e} bl {links} {code} (p ∷ pairs) {i} {v} {h} {t} {s} {aims} close
     begin_piece {links = links} {code = code} {i = i} {g = bl.ground n} {v = v} {h = h} {t = t} {aims = aims} closed f fs whole (λ b m o. formats_found fs code v m _ are has ((routines.constants n).stand bytes placed t b m o)) (front_of begun (items ++ edit_ended) lp) at
     (λ f1 at1.
     comes_on k (P.items_put around whole whole p.items k s) next'
-    (items_piece bl p.items (before_closed k next' closed) routines f1 around fs n whole v.edits k is.0 (omega (arith, m1, room)) are has precise (formats_suit fs) refl (front_of items edit_ended l2) (at_other_places _ serving) all at1
+    (items_piece bl p.items (before_closed k next' closed) routines f1 around fs n whole v.edits k is.0 (omega (arith, m1, room)) are has precise (formats_suit fs) refl (front_of items edit_ended l2) (at_other_places _ (places_grown (length v.edits) v.activations serving.places) serving) all at1
     (λ s2 v2 rest2 h2 t2 f2 serving2 all2 suits2 edits2 stays2 at2.
     end_piece closed f2 (putting whole rest2) v.edits edits2 l3 at2
     (λ f3 at3.
     let v3 = at_places v.edits v2 in
     subst (λ u. Comes code u f3 v3 aims (P.pairs_put around pairs k s2)) (sym here)
-    (pairs_piece bl pairs closed routines f3 around n k is.1.1 (omega (arith, m2, room)) (back_of pair c l) (at_other_places v.edits serving2) all2
+    (pairs_piece bl pairs closed routines f3 around n k is.1.1 (omega (arith, m2, room)) (back_of pair c l) (at_other_places v.edits (places_same (length v.edits) (length v2.edits) v.activations v2.activations (all2.kinds ∙ sym all.kinds) serving.places serving2.places) serving2) all2
     (λ b. record { pc = (at3 b).pc ∙ ap (address b) here; holds = (at3 b).holds })
     (λ s4 v4 line4 n4 h4 t4 f4 serving4 all4 stays4 at4.
     subst (λ u. aims.done u f4 v4 tt s4) (sym place)

@@ -64,6 +64,7 @@ with_act {v = v} change more same o below =
       fits = o.fits;
       nested = o.nested;
       waiting = o.waiting;
+      places = o.places;
     }
 
 -- ---- service 30

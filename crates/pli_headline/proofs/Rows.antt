@@ -630,8 +630,8 @@ unit_program =
         level = refl;
         line = lit< tt;
         statements = (
-          (refl, (tt, (lit< tt, (lit< tt, (((inl i, tt), (tt, lit< tt)), tt))))),
-          (lit< tt, ((refl, (tt, (lit< tt, (lit< tt, (((inl i, tt), (lit< tt, lit< tt)), (lit< tt, tt)))))), (lit< tt, tt))),
+          (tt, (tt, (lit< tt, (lit< tt, (((inl i, tt), (tt, lit< tt)), tt))))),
+          (lit< tt, ((tt, (tt, (lit< tt, (lit< tt, (((inl i, tt), (lit< tt, lit< tt)), (lit< tt, tt)))))), (lit< tt, tt))),
         );
         jumps = ((refl, (refl, (tt, (tt, tt)))), (tt, ((refl, (refl, (refl, (tt, (tt, tt))))), (tt, tt))));
         calls = (((tt, tt), (omega arith, tt)), (omega arith, (((tt, (tt, tt)), (omega arith, refl)), (omega arith, tt))));
@@ -677,7 +677,7 @@ leaving_program =
         kind = refl;
         level = refl;
         line = lit< tt;
-        statements = ((refl, (tt, (lit< tt, (lit< tt, ((refl, lit< tt), tt))))), (lit< tt, (lit< tt, tt)));
+        statements = ((tt, (tt, (lit< tt, (lit< tt, ((refl, lit< tt), tt))))), (lit< tt, (lit< tt, tt)));
         jumps = ((refl, (refl, (refl, (tt, tt)))), (tt, (tt, tt)));
         calls = ((((omega arith, refl), tt), (omega arith, refl)), (omega arith, (tt, tt)));
         few = omega arith;
@@ -729,8 +729,8 @@ away_program =
         level = refl;
         line = lit< tt;
         statements = (
-          (refl, (tt, (lit< tt, (lit< tt, (lit< tt, tt))))),
-          (lit< tt, ((refl, (tt, (lit< tt, (lit< tt, (lit< tt, tt))))), (lit< tt, tt))),
+          (tt, (tt, (lit< tt, (lit< tt, (lit< tt, tt))))),
+          (lit< tt, ((tt, (tt, (lit< tt, (lit< tt, (lit< tt, tt))))), (lit< tt, tt))),
         );
         jumps = (
           (refl, (refl, (tt, (inr (inl (refl, (refl, (refl, refl)))), tt)))),

@@ -1,4 +1,4 @@
--- SIGNAL of a condition other than AREA: it is raised, which ends the run, since no unit of the program is in force for it.
+-- SIGNAL of a condition for which no program has units: it is raised, which ends the run.
 use Rattle.std.proofs.Common.{ℕ, ◌+◌, ◌^◌, ◌<◌, List, [], ◌∷◌, refl, arith, lit<}
 use Rattle.pli_language.specs.declared.condition.Condition.{Condition}
 use Rattle.pli_language.specs.declared.condition.Condition.TheVariants as C
@@ -39,8 +39,7 @@ signal_piece C.FixedOverflow other closed routines f around k l serving at =
     raised_piece closed routines f around C.FixedOverflow 2 (code_signalled C.FixedOverflow) [] k refl refl (lit< tt) (lit< tt) l serving at
 signal_piece C.ZeroDivide other closed routines f around k l serving at =
     raised_piece closed routines f around C.ZeroDivide 3 (code_signalled C.ZeroDivide) [] k refl refl (lit< tt) (lit< tt) l serving at
-signal_piece C.Endfile other closed routines f around k l serving at =
-    raised_piece closed routines f around C.Endfile 4 (code_signalled C.Endfile) [] k refl refl (lit< tt) (lit< tt) l serving at
+signal_piece C.Endfile other closed routines f around k l serving at = absurd (cc other)
 signal_piece {i = i} {g = g} {v = v} {h = h} {t = t} C.Error other closed routines f around k l serving at =
     let n = code_signalled C.Error in
     let front = small a1 n ∷ [] in

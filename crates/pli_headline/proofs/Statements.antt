@@ -549,7 +549,7 @@ assign_does {e} {block} {types} bl links code routines around j {type} source li
           let s2 = assigned_state s1 type (bl.serials.of j) (all1.numbers j (type, below) (fits_numeric type z fits2)).values z in
           subst (λ u. aims.done u f3 (acted line v) tt s2) (sym place)
           (goal s2 (acted line v) line (with_number_at n j z) h3 t3 f3
-          (record { world = serving1.world; running = serving1.running; line_is = serving1.line_is; input = serving1.input; allowed = serving1.allowed; fits = serving1.fits; nested = serving1.nested; waiting = serving1.waiting })
+          (record { world = serving1.world; running = serving1.running; line_is = serving1.line_is; input = serving1.input; allowed = serving1.allowed; fits = serving1.fits; nested = serving1.nested; waiting = serving1.waiting; places = serving1.places })
           (assigned_all j z below fits2 all1)
           (stays_then stays2 stays3)
           (λ b. record { pc = (at3 b).pc ∙ ap (address b) place; holds = (at3 b).holds })))))));

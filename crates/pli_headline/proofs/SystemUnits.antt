@@ -24,6 +24,7 @@ use Rattle.pli_coding.specs.Environments.{Environment}
 use Rattle.pli_coding.specs.Statements.{condition_given, stmt_code}
 use Rattle.pli_coding.specs.Linking.{Links}
 use Rattle.pli_headline.specs.ProvedSoFar.{Names, Types}
+use Rattle.pli_headline.proofs.HeldPlaces.{PlacesHeld}
 use Rattle.pli_headline.proofs.Storages.{storage, Storage, Serials}
 use Rattle.pli_headline.proofs.Engine.{Base, address, call_at}
 use Rattle.pli_headline.proofs.Linking.{size_append}
@@ -31,7 +32,7 @@ use Rattle.pli_headline.proofs.Items.{straight}
 use Rattle.pli_headline.proofs.Bodies.{Known, zero_is}
 use Rattle.pli_headline.proofs.Jumps.{front_of, back_of}
 use Rattle.pli_headline.proofs.Temporaries.{stays_same}
-use Rattle.pli_headline.proofs.Activations.{AllUnits, Nested, frames_of, levels_of}
+use Rattle.pli_headline.proofs.Activations.{may_have_unit, AllUnits, Nested, frames_of, levels_of}
 use Rattle.pli_headline.proofs.Asides.{Aside, StandAside, asides_seen}
 use Rattle.pli_headline.proofs.Entered.{Frames, kinds_of, IsKnown, AreKnown, UnitsKnown, less_known}
 use Rattle.pli_headline.proofs.Calls.{Serving}
@@ -56,7 +57,7 @@ abbrev pub newest_served : Bool → S.OnUnit → Condition → List S.Activation
 newest_served q u c [] = []
 newest_served q u c (x ∷ xs) = record x { units = changed q u c x.units } ∷ xs
 
-without_by : {A : Type 0} (q : Bool) (u : A) (p : Condition × A) (ps rest : List (Condition × A)) → (p.1 ≡ u) ⊎ (p.0 ≡ C.Area) → AllUnits u ps → AllUnits u rest → AllUnits u (cond q ps (p ∷ rest))
+without_by : {A : Type 0} (q : Bool) (u : A) (p : Condition × A) (ps rest : List (Condition × A)) → (p.1 ≡ u) ⊎ (may_have_unit p.0 ≡ true) → AllUnits u ps → AllUnits u rest → AllUnits u (cond q ps (p ∷ rest))
 without_by true u p ps rest h all less = all
 without_by false u p ps rest h all less = (h, less)
 
@@ -64,18 +65,18 @@ without_all : {A : Type 0} (u : A) (c : Condition) (ps : List (Condition × A)) 
 without_all u c [] h = tt
 without_all u c (p ∷ ps) h = without_by (same_condition p.0 c) u p ps (without_unit c ps) h.0 h.1 (without_all u c ps h.1)
 
-changed_all_units : {A : Type 0} (q : Bool) (system u : A) (c : Condition) (ps : List (Condition × A)) → (u ≡ system) ⊎ (c ≡ C.Area) → AllUnits system ps → AllUnits system (changed q u c ps)
+changed_all_units : {A : Type 0} (q : Bool) (system u : A) (c : Condition) (ps : List (Condition × A)) → (u ≡ system) ⊎ (may_have_unit c ≡ true) → AllUnits system ps → AllUnits system (changed q u c ps)
 changed_all_units true system u c ps new h = (new, without_all system c ps h)
 changed_all_units false system u c ps new h = without_all system c ps h
 
--- a unit that an activation may get: one of the program is for AREA, and known
+-- a unit that an activation may get: one of the program is for a condition that may have one, and known
 abbrev pub NewestKnown : (known : ℕ → Y.Block → ℕ → Type 0) → OnUnit → S.OnUnit → List Activation → List S.Activation → Type 0
 NewestKnown known u w (a ∷ as') (x ∷ xs) = IsKnown known a.height x.frame u w
 NewestKnown known u w _ _ = Unit {0}
 
 pub record IsNew (c : Condition) (u : OnUnit) (w : S.OnUnit) : Type 0 where
-  pub meant : (u ≡ SystemUnit) ⊎ (c ≡ C.Area)
-  pub served : (w ≡ S.SystemUnit) ⊎ (c ≡ C.Area)
+  pub meant : (u ≡ SystemUnit) ⊎ (may_have_unit c ≡ true)
+  pub served : (w ≡ S.SystemUnit) ⊎ (may_have_unit c ≡ true)
 
 pub system_new : (c : Condition) → IsNew c SystemUnit S.SystemUnit
 system_new c = record { meant = inl refl; served = inl refl }
@@ -98,11 +99,11 @@ changed_levels : (q : Bool) (u : OnUnit) (c : Condition) (as' : List Activation)
 changed_levels q u c [] = refl
 changed_levels q u c (a ∷ as') = refl
 
-changed_known : (known : ℕ → Y.Block → ℕ → Type 0) (height frame : ℕ) (q : Bool) (u : OnUnit) (w : S.OnUnit) (c : Condition) (ps : List (Condition × OnUnit)) (qs : List (Condition × S.OnUnit)) → IsKnown known height frame u w → AreKnown known height frame ps qs → AreKnown known height frame (changed q u c ps) (changed q w c qs)
+changed_known : (known : Condition → ℕ → Y.Block → ℕ → Type 0) (height frame : ℕ) (q : Bool) (u : OnUnit) (w : S.OnUnit) (c : Condition) (ps : List (Condition × OnUnit)) (qs : List (Condition × S.OnUnit)) → IsKnown (known c) height frame u w → AreKnown known height frame ps qs → AreKnown known height frame (changed q u c ps) (changed q w c qs)
 changed_known known height frame true u w c ps qs new all = ((refl, new), less_known known height frame c ps qs all)
 changed_known known height frame false u w c ps qs new all = less_known known height frame c ps qs all
 
-changed_units : (known : ℕ → Y.Block → ℕ → Type 0) (q : Bool) (u : OnUnit) (w : S.OnUnit) (c : Condition) (as' : List Activation) (xs : List S.Activation) → NewestKnown known u w as' xs → UnitsKnown known as' xs → UnitsKnown known (newest_changed q u c as') (newest_served q w c xs)
+changed_units : (known : Condition → ℕ → Y.Block → ℕ → Type 0) (q : Bool) (u : OnUnit) (w : S.OnUnit) (c : Condition) (as' : List Activation) (xs : List S.Activation) → NewestKnown (known c) u w as' xs → UnitsKnown known as' xs → UnitsKnown known (newest_changed q u c as') (newest_served q w c xs)
 changed_units known q u w c [] [] new all = tt
 changed_units known q u w c [] (x ∷ xs) new all = absurd all
 changed_units known q u w c (a ∷ as') [] new all = absurd all
@@ -127,6 +128,11 @@ changed_state q u c s = with_world s.world (with_activations (newest_changed q u
 abbrev pub changed_services : Bool → S.OnUnit → Condition → Services → Services
 changed_services q u c v = record v { activations = newest_served q u c v.activations }
 
+changed_places : (q : Bool) (u : S.OnUnit) (c : Condition) (n : ℕ) (xs : List S.Activation) → PlacesHeld n xs → PlacesHeld n (newest_served q u c xs)
+changed_places q u c n [] held = held
+changed_places q u c n (x ∷ []) held = held
+changed_places q u c n (x ∷ y ∷ xs) held = held
+
 pub changed_serving : {k : ℕ} {s : State} {v : Services} {line : ℕ} (q : Bool) (u : OnUnit) (w : S.OnUnit) (c : Condition) → IsNew c u w → Serving k s v line → Serving k (changed_state q u c s) (changed_services q w c v) line
 changed_serving {s = s} {v = v} q u w c new o =
     record {
@@ -138,6 +144,7 @@ changed_serving {s = s} {v = v} q u w c new o =
       fits = o.fits;
       nested = changed_nested q u w c s.activations v.activations new o.nested;
       waiting = o.waiting;
+      places = changed_places q w c (length v.edits) v.activations o.places;
     }
 
 changed_frames : (q : Bool) (u : S.OnUnit) (c : Condition) (xs : List S.Activation) → frames_of (newest_served q u c xs) ≡ frames_of xs
@@ -154,7 +161,7 @@ changed_asides q u c [] all = all
 changed_asides q u c (a ∷ as') all =
     asides_seen a (record a { units = changed q u c a.units }) as' (λ level i. binding_kept q u c (a ∷ as') level i) all
 
-pub changed_all : {frames : Frames} {serials : Serials} {xs : Storage} {levels : List ℕ} {s : State} {block : Names} {types : Types} {n : Values} (q : Bool) (u : OnUnit) (w : S.OnUnit) (c : Condition) → NewestKnown frames.known u w s.activations xs.activations → AllHold frames serials xs levels s block types n → AllHold frames serials (record xs { activations = newest_served q w c xs.activations }) levels (changed_state q u c s) block types n
+pub changed_all : {frames : Frames} {serials : Serials} {xs : Storage} {levels : List ℕ} {s : State} {block : Names} {types : Types} {n : Values} (q : Bool) (u : OnUnit) (w : S.OnUnit) (c : Condition) → NewestKnown (frames.known c) u w s.activations xs.activations → AllHold frames serials xs levels s block types n → AllHold frames serials (record xs { activations = newest_served q w c xs.activations }) levels (changed_state q u c s) block types n
 changed_all {frames = frames} {xs = xs} {s = s} {block = block} q u w c new all =
     record {
       numbers = λ j b numeric.
@@ -261,7 +268,7 @@ on_system_does {e} {block} {types} bl links code around c line fits =
           (λ b m x3 x4. on_answer code v1 m c some) (back_of front call l1) at2
           (λ f3 at3.
           let T : List Activation → Type 0 = λ as'. Serving k (with_world s1.world (with_activations as' s1)) v2 line × AllHold bl.frames bl.serials (storage v2) (e.level ∷ bl.depths) (with_world s1.world (with_activations as' s1)) block types n in
-          let both : T (newest_changed true SystemUnit c s1.activations) = (changed_serving true SystemUnit S.SystemUnit c (system_new c) serving1, changed_all true SystemUnit S.SystemUnit c (system_known bl.frames.known s1.activations v1.activations) all1) in
+          let both : T (newest_changed true SystemUnit c s1.activations) = (changed_serving true SystemUnit S.SystemUnit c (system_new c) serving1, changed_all true SystemUnit S.SystemUnit c (system_known (bl.frames.known c) s1.activations v1.activations) all1) in
           let o = subst T (established_is SystemUnit c s1.activations) both in
           record {
             to =
@@ -303,7 +310,7 @@ revert_does {e} {block} {types} bl links code around c line fits =
           (λ b m x3 x4. revert_answer code v1 m c (y b) some) (back_of front call l1) at2
           (λ f3 at3.
           let T : List Activation → Type 0 = λ as'. Serving k (with_world s1.world (with_activations as' s1)) v2 line × AllHold bl.frames bl.serials (storage v2) (e.level ∷ bl.depths) (with_world s1.world (with_activations as' s1)) block types n in
-          let both : T (newest_changed false SystemUnit c s1.activations) = (changed_serving false SystemUnit S.SystemUnit c (system_new c) serving1, changed_all false SystemUnit S.SystemUnit c (system_known bl.frames.known s1.activations v1.activations) all1) in
+          let both : T (newest_changed false SystemUnit c s1.activations) = (changed_serving false SystemUnit S.SystemUnit c (system_new c) serving1, changed_all false SystemUnit S.SystemUnit c (system_known (bl.frames.known c) s1.activations v1.activations) all1) in
           let o = subst T (reverted_is c s1.activations) both in
           record {
             to =

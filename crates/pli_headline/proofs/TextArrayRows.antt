@@ -141,7 +141,7 @@ text_arrays_program =
           ),
         );
         jumps = (tt, (tt, (tt, tt)));
-        calls = (tt, (tt, (tt, tt)));
+        calls = (tt, (tt, (inl refl, tt)));
         few = omega arith;
       };
       inner = tt;

@@ -116,7 +116,7 @@ text_assigned_does {e} {block} {types} bl links code routines around j varying m
                 (λ f3 at3.
                 subst (λ u. aims.done u f3 (acted line v) tt s2) (sym place)
                 (goal s2 (acted line v) line (with_text_at n j kept) h2 t2 f3
-                (record { world = serving1.world; running = serving1.running; line_is = serving1.line_is; input = serving1.input; allowed = serving1.allowed; fits = serving1.fits; nested = serving1.nested; waiting = serving1.waiting })
+                (record { world = serving1.world; running = serving1.running; line_is = serving1.line_is; input = serving1.input; allowed = serving1.allowed; fits = serving1.fits; nested = serving1.nested; waiting = serving1.waiting; places = serving1.places })
                 (text_assigned_all j varying most text below few all1)
                 stays2
                 (λ b. record { pc = (at3 b).pc ∙ ap (address b) place; holds = (at3 b).holds })));

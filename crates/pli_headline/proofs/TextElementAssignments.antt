@@ -76,7 +76,7 @@ text_element_all {serials = serials} {s = s} {types = types} {n = n} j varying m
 
 text_serving : {k : ℕ} {s : State} {v : Services} {line : ℕ} (varying : Bool) (most : ℕ) (bs : List Bounds) (serial : ℕ) (values : ℕ → List ℤ → BasicValue) (is : List ℤ) (text : List ℕ) → Serving k s v line → Serving k (text_element_state s varying most bs serial values is text) v line
 text_serving varying most bs serial values is text o =
-    record { world = o.world; running = o.running; line_is = o.line_is; input = o.input; allowed = o.allowed; fits = o.fits; nested = o.nested; waiting = o.waiting }
+    record { world = o.world; running = o.running; line_is = o.line_is; input = o.input; allowed = o.allowed; fits = o.fits; nested = o.nested; waiting = o.waiting; places = o.places }
 
 -- the top text is assigned to an element
 pub element_assigned_piece : {e : Environment} {block : Names} {types : Types} (bl : Block e block types) {links : Links} {code : List Instr} (routines : Standing bl links code) {i : ℕ} {v : Services} {h t : ℕ → ℕ} {s : State} {aims : Aims (Unit {0})} (closed : Closed code aims) (f : Family) (around : Around) (j : ℕ) (varying : Bool) (most : ℕ) (b : Bounds) (bs : List Bounds) (first : Y.Number) (rest : Y.Numbers) (text : List ℕ) (n : Values) (k : ℕ) (below : IsTextArrayAt types j varying most b bs) → given_in rest ≡ length bs → AreProvedNumbers block types (Y.NumberThen first rest) → bl.taken.words + subscripts_words (Y.NumberThen first rest) ≤ bl.words → Linked links code i (top_stored e bl.taken (element block j first rest)) → Serving k s v around.line → (all : AllHold bl.frames bl.serials (storage v) (e.level ∷ bl.depths) s block types n) → ((c : Base) → At c i (Known (bl.ground n) (pushed (TextEntry text) v) h t nothing c) (f c)) → ((s' : State) (n' : Values) (h' t' : ℕ → ℕ) (f' : Family) → Serving k s' v around.line → AllHold bl.frames bl.serials (storage v) (e.level ∷ bl.depths) s' block types n' → Stays bl.taken h t h' t' → ((c : Base) → At c (i + size_of (top_stored e bl.taken (element block j first rest))) (Known (bl.ground n') v h' t' nothing c) (f' c)) → aims.done (i + size_of (top_stored e bl.taken (element block j first rest))) f' v tt s') → Comes code i f (pushed (TextEntry text) v) aims (M.assigned around (element block j first rest) (BasicText text) k s)

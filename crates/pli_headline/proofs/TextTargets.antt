@@ -41,7 +41,7 @@ pub record TakesText {e : Environment} {block : Names} {types : Types} (bl : Blo
 
 text_serving : {k : ℕ} {s : State} {v : Services} {line : ℕ} (varying : Bool) (most serial : ℕ) (values : ℕ → List ℤ → BasicValue) (text : List ℕ) → Serving k s v line → Serving k (text_state s (text_leaf varying most) serial values text) v line
 text_serving varying most serial values text o =
-    record { world = o.world; running = o.running; line_is = o.line_is; input = o.input; allowed = o.allowed; fits = o.fits; nested = o.nested; waiting = o.waiting }
+    record { world = o.world; running = o.running; line_is = o.line_is; input = o.input; allowed = o.allowed; fits = o.fits; nested = o.nested; waiting = o.waiting; places = o.places }
 
 pub variable_takes : {e : Environment} {block : Names} {types : Types} (bl : Block e block types) (links : Links) (code : List Instr) (j : ℕ) (varying : Bool) (most : ℕ) → IsTextAt types j varying most → TakesText bl links code (whole (own block j))
 variable_takes {e} {block} {types} bl links code j varying most below =

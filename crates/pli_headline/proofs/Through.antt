@@ -6,6 +6,8 @@ use Rattle.std.proofs.lemmas.Bool.Decides.{nat_tests}
 use Rattle.rv_meaning.specs.declared.instr.Instr.{Instr}
 use Rattle.pli_meaning.specs.BasicValues.{BasicValue}
 use Rattle.pli_meaning.specs.StorageState.{State, newest_height, ancestor, binding_in, standing_for, generation_of, living_of}
+use Rattle.pli_language.specs.declared.condition.Condition.{Condition}
+use Rattle.pli_meaning.specs.Raising.{Around}
 use Rattle.pli_meaning.specs.Control.{Label, Meaning, is_among}
 use Rattle.pli_serving.specs.ServiceState.{Services}
 use Rattle.pli_serving.specs.Templates.{template_of}
@@ -28,8 +30,13 @@ use Rattle.pli_headline.proofs.TextArrayMeant.{HoldsTexts}
 use Rattle.pli_headline.proofs.DeclaredNames.{chosen_before}
 use Rattle.pli_headline.proofs.Reach.{Family}
 use Rattle.pli_headline.proofs.MoreStates.{holds_moved, keeps_moved, array_moved, texts_moved, restricts_all, all_same}
-use Rattle.pli_headline.proofs.Statements.{Block, Standing, AllHold, Restricts, Enclosures, Outlets, OutletOf, Homes, Does, IsMarkedOnce, ended_times}
+use Rattle.pli_headline.proofs.Statements.{Block, Standing, AllHold, Restricts, Enclosures, Outlets, OutletOf, Homes, Enough, Does, IsMarkedOnce, ended_times}
 use Rattle.pli_headline.proofs.MainOutlets.{MainAround, HasMain}
+use Rattle.pli_headline.proofs.UnitRuns.{Raises}
+use Rattle.pli_headline.proofs.Engine.{Base}
+use Rattle.pli_headline.proofs.Items.{At}
+use Rattle.pli_headline.proofs.Bodies.{Known}
+use Rattle.pli_headline.proofs.Temporaries.{nothing}
 use Rattle.pli_headline.proofs.Narrowing.{Narrows, beside, beside_self, chosen_behind, narrowed_main, narrowed}
 
 -- ---- what is put aside
@@ -196,47 +203,70 @@ narrowed_homes bl b n0 x place mains (inr h) links k returned =
 
 -- ---- the part
 
+-- what a part may count on, it may count on there
+pub narrowed_enough : {e : Environment} {outer : Names} {outers : Types} {block : Names} {types : Types} (bl : Block e block types) (b : Narrows outer outers block types) (place : ℕ) (mains : List Label) (has : HasMain place mains e.level e.block bl.labels bl.outer) {links : Links} {k turns i acts : ℕ} {h t : ℕ → ℕ} {xs : Storage} {s : State} (n : Values) {jumped : ℕ → Family → Services → ℕ → Label → State → Type 0} {returned : ℕ → Family → Services → Option BasicValue → State → Type 0} → AllHold bl.frames bl.serials xs (e.level ∷ bl.depths) s block types n → Enough bl links k turns i h t acts jumped returned → Enough (narrowed bl b n (aside_of outers block types bl.serials s) place mains has) links k turns i h t acts jumped returned
+narrowed_enough {e} {outer} {outers} {block} {types} bl b place mains has {links} {k} {acts = acts} {s = s} n {jumped} {returned} all more =
+    let x = aside_of outers block types bl.serials s in
+    record {
+      enough = more.enough;
+      later = more.later;
+      jumps = λ label among once.
+          let o = more.jumps label among once in
+          record {
+            at = o.at;
+            place = o.place;
+            near = o.near;
+            later = o.later;
+            lands = λ s' v' line' n' h' t' f' serving' all' stays' acted at'. o.lands s' v' line' (beside (length outers) n' n) h' t' f' serving' (back_all b all all') stays' acted at';
+          };
+      outs = narrowed_outs bl b n x place mains has links k acts jumped more.outs;
+      returns = more.returns;
+      own = λ inner owned once.
+          let o = more.own inner owned once in
+          record {
+            at = o.at;
+            place = o.place;
+            near = o.near;
+            later = o.later;
+            leaves = λ s' v' line' n' h' t' f' free serving' all' at'. o.leaves s' v' line' (beside (length outers) n' n) h' t' f' free serving' (back_all b all all') at';
+          };
+      homes = narrowed_homes bl b n x place mains has links k returned;
+    }
+
+-- the machine stands there as it does in the block
+narrowed_at : {e : Environment} {block : Names} {types : Types} (bl : Block e block types) (outers : Types) (n : Values) {i : ℕ} {v : Services} {h t : ℕ → ℕ} (f : Family) → ((base : Base) → At base i (Known (bl.ground n) v h t nothing base) (f base)) → (base : Base) → At base i (Known (bl.ground (beside (length outers) n n)) v h t nothing base) (f base)
+narrowed_at {types = types} bl outers n {h = h} {t = t} f at base =
+    let n1 = beside (length outers) n n in
+    let same = beside_self types (length outers) n in
+    let q = (at base).holds in
+    record {
+      pc = (at base).pc;
+      holds = record {
+        body = record { services = q.body.services; registers = q.body.registers ∙ bl.same n n1 base h; bytes = q.body.bytes; memory = bl.alike n n1 same t base _ q.body.memory };
+        regs = q.regs;
+      };
+    }
+
 pub through_does : {e : Environment} {outer : Names} {outers : Types} {block : Names} {types : Types} (bl : Block e block types) (b : Narrows outer outers block types) (place : ℕ) (mains : List Label) (has : HasMain place mains e.level e.block bl.labels bl.outer) {links : Links} {code : List Instr} {turns : ℕ} {part : Code} {meaning : Meaning (Unit {0})} → ((n0 : Values) (x : Aside) → Does (narrowed bl b n0 x place mains has) links code turns part meaning) → Does bl links code turns part meaning
 through_does {e} {outer} {outers} {block} {types} bl b place mains has {links} {code} does' =
     record {
       does = λ {i} {s} {v} {h} {t} {aims} closed line n f k l serving all at goal more.
-          let x = aside_of outers block types bl.serials s in
-          let n1 = beside (length outers) n n in
-          let same = beside_self types (length outers) n in
-          (does' n x).does closed line n f k l serving (aside_all b (λ j kind at'. bl.owners j at') all)
-          (λ base. let q = (at base).holds in record {
-            pc = (at base).pc;
-            holds = record {
-              body = record { services = q.body.services; registers = q.body.registers ∙ bl.same n n1 base h; bytes = q.body.bytes; memory = bl.alike n n1 same t base _ q.body.memory };
-              regs = q.regs;
-            };
-          })
+          (does' n (aside_of outers block types bl.serials s)).does closed line n f k l serving (aside_all b (λ j kind at'. bl.owners j at') all)
+          (narrowed_at bl outers n f at)
           (λ s' v' line' n' h' t' f' serving' all' stays' at'. goal s' v' line' (beside (length outers) n' n) h' t' f' serving' (back_all b all all') stays' at')
-          (record {
-            enough = more.enough;
-            later = more.later;
-            jumps = λ label among once.
-                let o = more.jumps label among once in
-                record {
-                  at = o.at;
-                  place = o.place;
-                  near = o.near;
-                  later = o.later;
-                  lands = λ s' v' line' n' h' t' f' serving' all' stays' acted at'. o.lands s' v' line' (beside (length outers) n' n) h' t' f' serving' (back_all b all all') stays' acted at';
-                };
-            outs = narrowed_outs bl b n x place mains has links k v.world.acts aims.jumped more.outs;
-            returns = more.returns;
-            own = λ inner owned once.
-                let o = more.own inner owned once in
-                record {
-                  at = o.at;
-                  place = o.place;
-                  near = o.near;
-                  later = o.later;
-                  leaves = λ s' v' line' n' h' t' f' free serving' all' at'. o.leaves s' v' line' (beside (length outers) n' n) h' t' f' free serving' (back_all b all all') at';
-                };
-            homes = narrowed_homes bl b n x place mains has links k aims.returned;
-          });
+          (narrowed_enough bl b place mains has n all more);
+    }
+
+-- a raise too
+pub through_raises : {e : Environment} {outer : Names} {outers : Types} {block : Names} {types : Types} (bl : Block e block types) (b : Narrows outer outers block types) (place : ℕ) (mains : List Label) (has : HasMain place mains e.level e.block bl.labels bl.outer) {links : Links} {code : List Instr} {around : Around} {c : Condition} {oncode : ℕ} → ((n0 : Values) (x : Aside) → Raises (narrowed bl b n0 x place mains has) links code around c oncode) → Raises bl links code around c oncode
+through_raises {e} {outer} {outers} {block} {types} bl b place mains has {links} {code} raises' =
+    record {
+      raises = λ {i} {s} {v} {h} {t} {aims} closed n f credits k start acts a u x at found served parent known paid l serving all there goal more later.
+          (raises' n (aside_of outers block types bl.serials s)).raises closed n f credits k start acts a u x at found served parent known paid l serving (aside_all b (λ j kind at'. bl.owners j at') all)
+          (narrowed_at bl outers n f there)
+          (λ s' v' line' n' h' f' serving' all' as' at'. goal s' v' line' (beside (length outers) n' n) h' f' serving' (back_all b all all') as' at')
+          (narrowed_enough bl b place mains has n all more)
+          later;
     }
 
 -- what stands beside the block stands beside the narrowed one

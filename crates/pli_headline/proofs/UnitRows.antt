@@ -100,8 +100,8 @@ unit_program =
         level = refl;
         line = lit< tt;
         statements = (
-          (refl, (tt, (lit< tt, (lit< tt, (((inl j, tt), (ni, lit< tt)), (((inl i, tt), (nj, lit< tt)), (((inl b, tt), (lit< tt, lit< tt)), tt))))))),
-          (lit< tt, ((refl, (tt, (lit< tt, (lit< tt, ((a, (tt, lit< tt)), tt))))), (lit< tt, tt))),
+          (tt, (tt, (lit< tt, (lit< tt, (((inl j, tt), (ni, lit< tt)), (((inl i, tt), (nj, lit< tt)), (((inl b, tt), (lit< tt, lit< tt)), tt))))))),
+          (lit< tt, ((tt, (tt, (lit< tt, (lit< tt, ((a, (tt, lit< tt)), tt))))), (lit< tt, tt))),
         );
         jumps = (
           (refl, (refl, (refl, (tt, (tt, (inr (inl (refl, (refl, (refl, refl)))), tt)))))),

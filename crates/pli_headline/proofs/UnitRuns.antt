@@ -1,8 +1,9 @@
--- SIGNAL of AREA while a unit of the program may be in force: the unit is entered, its variables are made, it runs and goes back behind
--- SIGNAL, or the limit on active blocks ends the run; where none is in force the system's action ends it.
+-- A condition is raised while a unit of the program may be in force: the unit is entered, its variables are made, it runs and goes back
+-- behind the raise, or the limit on active blocks ends the run; where none is in force the system's action ends it.
 use Rattle.std.proofs.Common.{◌≡◌, ℕ, zero, suc, ◌+◌, ◌*◌, ◌^◌, ◌<◌, ◌≤◌, List, [], ◌∷◌, ◌++◌, length, None, Option, Some, true, false, refl, sym, ap, ◌∙◌, subst, arith, lit<, inl}
 use Rattle.std.proofs.lemmas.Bool.{eq-eqb, ltb-true}
 use Rattle.std.specs.Prelude.{cond, nat_lt, ◌==◌}
+use Rattle.pli_language.specs.declared.condition.Condition.{Condition}
 use Rattle.pli_language.specs.declared.condition.Condition.TheVariants as C
 use Rattle.rv_meaning.specs.declared.instr.Instr.{Instr}
 use Rattle.pli_typing.specs.TypedTree as Y
@@ -23,21 +24,22 @@ use Rattle.pli_coding.specs.Registers.{a7}
 use Rattle.pli_coding.specs.Assembly.{ReturnPlace, Plain, Code, size_of}
 use Rattle.pli_coding.specs.Instructions.{small}
 use Rattle.rv_meaning.specs.declared.instr.Instr.TheVariants as I
-use Rattle.pli_coding.specs.Arithmetic.{raised}
+use Rattle.pli_coding.specs.Arithmetic.{condition_number, raised}
 use Rattle.pli_coding.specs.Allocating.{act_code}
 use Rattle.pli_coding.specs.Entries.{registers_restored, frame_begun, frame_ended, entered_without_texts, variables_made}
 use Rattle.pli_coding.specs.Environments.{BlockOwner, Environment, none_taken}
 use Rattle.pli_coding.specs.Statements.{owner_of_unit, unit_environment, unit_mark, unit_left, stmt_code, stmts_code}
 use Rattle.pli_coding.specs.Linking.{Links, place_of}
 use Rattle.pli_headline.specs.ProvedSoFar.{Types, Names, unit_declares}
+use Rattle.pli_headline.proofs.HeldPlaces.{places_entered, PlacesHeld, places_left, places_behind}
 use Rattle.pli_headline.proofs.Engine.{Base, address, most_code}
 use Rattle.pli_headline.proofs.Linking.{size_append}
 use Rattle.pli_headline.proofs.Items.{Linked, At}
 use Rattle.pli_headline.proofs.Bodies.{Known}
 use Rattle.pli_headline.proofs.Jumps.{front_of, back_of, linked_at}
 use Rattle.pli_headline.proofs.Temporaries.{nothing}
-use Rattle.pli_headline.proofs.Activations.{IsOrdinary, OnlyIf, same_length, entered_length, first_level, levels_of}
-use Rattle.pli_headline.proofs.Entered.{atop, AreBoth, both_in_force}
+use Rattle.pli_headline.proofs.Activations.{may_have_unit, IsOrdinary, OnlyIf, same_length, entered_length, first_level, levels_of}
+use Rattle.pli_headline.proofs.Entered.{atop, AreBoth, both_in_force, NoUnit, Way}
 use Rattle.pli_headline.proofs.Calls.{Serving}
 use Rattle.pli_headline.proofs.Raising.{Routines, with_act}
 use Rattle.pli_headline.proofs.Operators.{raised_alone}
@@ -62,7 +64,8 @@ use Rattle.pli_headline.proofs.UnitMeant.{IsUnitKind, unit_entry, unit_part, uni
 use Rattle.pli_headline.proofs.UnitRaised.{waiting_services, unit_begins}
 use Rattle.pli_headline.proofs.UnitEntered.{unit_activation, unit_services, unit_entered, line_given, entry_limited}
 use Rattle.pli_headline.proofs.UnitLeft.{jump_on, unit_left_piece}
-use Rattle.pli_headline.proofs.Reach.{Family, Aims, Comes, Closed, before_closed, comes_on, onward, reach_with}
+use Rattle.pli_headline.proofs.SystemUnits.{condition_is}
+use Rattle.pli_headline.proofs.Reach.{Family, cost, Aims, Comes, Closed, before_closed, comes_on, onward, reach_with}
 use Rattle.pli_headline.proofs.Scalars.{Values}
 use Rattle.pli_headline.proofs.Storages.{storage}
 
@@ -79,14 +82,14 @@ abbrev pub unit_made : Environment → Y.BlockHead → Y.BlockKind → Code
 unit_made e head kind = variables_made (unit_environment head e) head.line 0 (unit_declares e.program head kind)
 
 -- its block, before they are
-abbrev pub unit_block : {e : Environment} {block : Names} {types : Types} (bl : Block e block types) (callee : Callee bl) (kind : S.BlockKind) (back : Base → ℕ) (h0 t0 : ℕ → ℕ) (head : Y.BlockHead) → (next : head.level ≡ 1) (main : ℕ) (mains : List Label) (has : HasMain main mains e.level e.block bl.labels bl.outer) → Block (unit_environment head e) block types
+abbrev pub unit_block : {e : Environment} {block : Names} {types : Types} (bl : Block e block types) (callee : Callee bl) (kind : Way) (back : Base → ℕ) (h0 t0 : ℕ → ℕ) (head : Y.BlockHead) → (next : head.level ≡ 1) (main : ℕ) (mains : List Label) (has : HasMain main mains e.level e.block bl.labels bl.outer) → Block (unit_environment head e) block types
 unit_block bl callee kind back h0 t0 head next main mains has =
     called_block_as bl callee back h0 t0 (owner_of_unit head head.kind) kind head next (main_of main mains) (main_enclosing bl callee back h0 t0 (owner_of_unit head head.kind) head next main mains has) (main_seen bl callee back h0 t0 (owner_of_unit head head.kind) head next main mains has)
 
 -- so many variables are made in it
 abbrev pub UnitMakes : {e : Environment} {block : Names} {types : Types} (bl : Block e block types) (callee : Callee bl) (head : Y.BlockHead) → (next : head.level ≡ 1) (main : ℕ) (mains : List Label) (has : HasMain main mains e.level e.block bl.labels bl.outer) → List Y.DeclaredVariable → Type 0
 UnitMakes bl callee head next main mains has ds =
-    (kind : S.BlockKind) (back : Base → ℕ) (h0 t0 : ℕ → ℕ) → Makes (unit_block bl callee kind back h0 t0 head next main mains has) 0 ds
+    (kind : Way) (back : Base → ℕ) (h0 t0 : ℕ → ℕ) → Makes (unit_block bl callee kind back h0 t0 head next main mains has) 0 ds
 
 -- what owns its statements isn't the main procedure
 pub unit_apart : (head : Y.BlockHead) (kind : Y.BlockKind) → head.level ≡ 1 → (number : ℕ) → owner_of_unit head kind ≡ BlockOwner (record { number = number; level = 0 }) → ⊥
@@ -124,19 +127,24 @@ pub record Raisable {e : Environment} {block : Names} {types : Types} (bl : Bloc
   pub later : 19 ≤ index
   pub linked : Linked links code index (unit_with callee.words head.line (unit_made e head head.kind) (stmts_code (unit_environment head e) none_taken body) (unit_mark head head.kind))
   pub makes : UnitMakes bl callee head level main mains has (unit_declares e.program head head.kind)
-  pub stand : (kind' : S.BlockKind) (back : Base → ℕ) (h0 t0 : ℕ → ℕ) (n : Values) → ConstantsStand links code ((unit_block bl callee kind' back h0 t0 head level main mains has).ground n)
-  pub does : (m : ℕ) → more ≡ suc m → suc (length bl.depths) < most_activations → (kind' : S.BlockKind) (back : Base → ℕ) (h0 t0 : ℕ → ℕ) (serial : ℕ) → Does (made_block (unit_block bl callee kind' back h0 t0 head level main mains has) (unit_declares e.program head head.kind) (makes kind' back h0 t0) serial) links code (suc m) (stmts_code (unit_environment head e) none_taken body) (M.list (inner_around e.program m head.line) body)
+  pub stand : (kind' : Way) (back : Base → ℕ) (h0 t0 : ℕ → ℕ) (n : Values) → ConstantsStand links code ((unit_block bl callee kind' back h0 t0 head level main mains has).ground n)
+  pub does : (m : ℕ) → more ≡ suc m → suc (length bl.depths) < most_activations → (kind' : Way) (back : Base → ℕ) (h0 t0 : ℕ → ℕ) (serial : ℕ) → Does (made_block (unit_block bl callee kind' back h0 t0 head level main mains has) (unit_declares e.program head head.kind) (makes kind' back h0 t0) serial) links code (suc m) (stmts_code (unit_environment head e) none_taken body) (M.list (inner_around e.program m head.line) body)
 
 -- ---- behind the statements of the unit
 
+-- behind a raise, where its unit has ended: as many places in format lists are there as before it
+abbrev pub Resumed : {e : Environment} {block : Names} {types : Types} → Block e block types → (k count : ℕ) → (t : ℕ → ℕ) → (i : ℕ) → Aims (Unit {0}) → Type 0
+Resumed {e} {block} {types} bl k count t i aims =
+    (s : State) (v : Services) (line : ℕ) (n : Values) (h : ℕ → ℕ) (f : Family) → Serving k s v line → AllHold bl.frames bl.serials (storage v) (e.level ∷ bl.depths) s block types n → length v.edits ≡ count → ((b : Base) → At b i (Known (bl.ground n) v h t nothing b) (f b)) → aims.done i f v tt s
+
 -- it is left, and the run goes on where its raise said with the credits of that place
-leave_piece : {e : Environment} {block : Names} {types : Types} (bl : Block e block types) {links : Links} {code : List Instr} {level : ℕ} (callee : Callee bl) (k i resume oncode : ℕ) (h t : ℕ → ℕ) {aims : Aims (Unit {0})} (closed : Closed code aims) → resume ≤ most_code → i + 2 + size_of (registers_restored 0 7) + size_of (frame_ended callee.words) + 4 ≤ resume + length code → Linked links code i (unit_left callee.words) → ((s' : State) (v' : Services) (line' : ℕ) (n' : Values) (h' : ℕ → ℕ) (f' : Family) → Serving k s' v' line' → AllHold bl.frames bl.serials (storage v') (e.level ∷ bl.depths) s' block types n' → ((b : Base) → At b resume (Known (bl.ground n') v' h' t nothing b) (f' b)) → aims.done resume f' v' tt s') → (s : State) (v : Services) (line : ℕ) (n : Values) (h1 t1 : ℕ → ℕ) (f : Family) (free : ℕ) → Serving k s v line → AllHold (atop callee.at (S.OnUnitBlock oncode (4 * resume)) bl.frames) bl.serials (storage v) (level ∷ e.level ∷ bl.depths) s block types n → ((b : Base) → At b i (Known (ending_ground bl callee (λ b'. address b' resume) h t n free) v h1 t1 nothing b) (f b)) → (owing code (length code) aims).done i f v tt (with_world s.world (newest_ended s))
-leave_piece {e} {block} {types} bl {code = code} callee k i resume oncode h t closed near few l goal s v line n h1 t1 f free serving all at =
+leave_piece : {e : Environment} {block : Names} {types : Types} (bl : Block e block types) {links : Links} {code : List Instr} {level : ℕ} (callee : Callee bl) (k i resume oncode count : ℕ) (h t : ℕ → ℕ) {aims : Aims (Unit {0})} (closed : Closed code aims) → resume ≤ most_code → i + 2 + size_of (registers_restored 0 7) + size_of (frame_ended callee.words) + 4 ≤ resume + length code → Linked links code i (unit_left callee.words) → Resumed bl k count t resume aims → (s : State) (v : Services) (line : ℕ) (n : Values) (h1 t1 : ℕ → ℕ) (f : Family) (free : ℕ) → Serving k s v line → AllHold (atop callee.at (S.OnUnitBlock oncode (4 * resume), count) bl.frames) bl.serials (storage v) (level ∷ e.level ∷ bl.depths) s block types n → ((b : Base) → At b i (Known (ending_ground bl callee (λ b'. address b' resume) h t n free) v h1 t1 nothing b) (f b)) → (owing code (length code) aims).done i f v tt (with_world s.world (newest_ended s))
+leave_piece {e} {block} {types} bl {code = code} callee k i resume oncode count h t closed near few l goal s v line n h1 t1 f free serving all at =
     let o = left_all s (storage v) serving.nested (inl callee.outer) (λ j kind at'. bl.owners j at') all in
     let kind = newest_kind o.newest o.rest o.are o.some all in
     let v' = ended_services v o.newest o.rest in
     let s' = with_world s.world (newest_ended s) in
-    done_owing closed (length code) resume few (unit_left_piece bl callee (λ b'. address b' resume) resume n free i f o.newest o.rest oncode near o.are kind l at) tt s'
+    done_owing closed (length code) resume few (unit_left_piece bl callee (λ b'. address b' resume) resume n free i f o.newest o.rest oncode near o.are (ap (λ (w : Way). w.0) kind) l at) tt s'
     (λ f' at'.
     goal s' v' o.newest.line n (held_again h 0 7 h1) f'
     (record {
@@ -148,21 +156,22 @@ leave_piece {e} {block} {types} bl {code = code} callee k i resume oncode h t cl
       fits = serving.fits;
       nested = o.nested;
       waiting = serving.waiting;
+      places = places_left v.edits o.newest o.rest (subst (PlacesHeld (length v.edits)) o.are serving.places);
     })
-    o.all at')
+    o.all (places_behind v.edits o.newest v.activations oncode (4 * resume) count bl.frames.kinds kind all.kinds serving.places) at')
 
 -- ---- behind its act
 
 -- what follows the raise
-abbrev found_unit : Around → (n : ℕ) → Meaning (Unit {0})
-found_unit around n = looked >>= (λ s. R.unit_run around n (force s.activations C.Area))
+abbrev found_unit : Around → Condition → (n : ℕ) → Meaning (Unit {0})
+found_unit around c n = looked >>= (λ s. R.unit_run around n (force s.activations c))
 
-found_is : (around : Around) (n k : ℕ) (s : State) (a : Activation) (u : Y.Block) → force s.activations C.Area ≡ Some (a, BlockUnit u) → found_unit around n k s ≡ R.unit_run around n (Some (a, BlockUnit u)) k s
+found_is : (around : Around) (c : Condition) (n k : ℕ) (s : State) (a : Activation) (u : Y.Block) → force s.activations c ≡ Some (a, BlockUnit u) → found_unit around c n k s ≡ R.unit_run around n (Some (a, BlockUnit u)) k s
 unfolding looked ◌>>=◌
-found_is around n k s a u found = ap (λ o. R.unit_run around n o k s) found
+found_is around c n k s a u found = ap (λ o. R.unit_run around n o k s) found
 
 -- the unit runs, from its first instruction on
-unit_piece : {e : Environment} {block : Names} {types : Types} (bl : Block e block types) {links : Links} {code : List Instr} (main : ℕ) (mains : List Label) (has : HasMain main mains e.level e.block bl.labels bl.outer) (around : Around) (more m : ℕ) {frame : ℕ} {u : Y.Block} {at' : ℕ} (can : Raisable bl main mains has links code more frame u at') → more ≡ suc m → around.enter ≡ M.entered e.program (suc m) → {s : State} {v : Services} {h t : ℕ → ℕ} {aims : Aims (Unit {0})} (closed : Closed code aims) (n : Values) (f : Family) (k line resume oncode : ℕ) (a : Activation) → oncode < 2 ^ 16 → (oncode == 0) ≡ false → k < suc m + v.world.acts → (turns0 start0 acts0 : ℕ) → Enough bl links k turns0 start0 h t acts0 aims.jumped aims.returned → acts0 ≤ v.world.acts → 19 ≤ length code → resume ≤ length code → a.height ≡ 1 → suc (length bl.depths) < most_activations → nat_lt (length s.activations) most_activations ≡ true → Serving k s v line → AllHold bl.frames bl.serials (storage v) (e.level ∷ bl.depths) s block types n → ((b : Base) → At b can.index (Known (bl.ground n) (record v { waiting = Some (record { code = oncode; resume = 4 * resume; line = v.line }) }) h t (entry_with bl.base (4 * resume) (λ b'. address b' resume)) b) (f b)) → ((s' : State) (v' : Services) (line' : ℕ) (n' : Values) (h' : ℕ → ℕ) (f' : Family) → Serving k s' v' line' → AllHold bl.frames bl.serials (storage v') (e.level ∷ bl.depths) s' block types n' → ((b : Base) → At b resume (Known (bl.ground n') v' h' t nothing b) (f' b)) → aims.done resume f' v' tt s') → Comes code 19 f (record v { waiting = Some (record { code = oncode; resume = 4 * resume; line = v.line }) }) (owing code (length code) aims) (unit_part around oncode a can.head can.body k s)
+unit_piece : {e : Environment} {block : Names} {types : Types} (bl : Block e block types) {links : Links} {code : List Instr} (main : ℕ) (mains : List Label) (has : HasMain main mains e.level e.block bl.labels bl.outer) (around : Around) (more m : ℕ) {frame : ℕ} {u : Y.Block} {at' : ℕ} (can : Raisable bl main mains has links code more frame u at') → more ≡ suc m → around.enter ≡ M.entered e.program (suc m) → {s : State} {v : Services} {h t : ℕ → ℕ} {aims : Aims (Unit {0})} (closed : Closed code aims) (n : Values) (f : Family) (k line resume oncode : ℕ) (a : Activation) → oncode < 2 ^ 16 → (oncode == 0) ≡ false → k < suc m + v.world.acts → (turns0 start0 acts0 : ℕ) → Enough bl links k turns0 start0 h t acts0 aims.jumped aims.returned → acts0 ≤ v.world.acts → 19 ≤ length code → resume ≤ length code → a.height ≡ 1 → suc (length bl.depths) < most_activations → nat_lt (length s.activations) most_activations ≡ true → Serving k s v line → AllHold bl.frames bl.serials (storage v) (e.level ∷ bl.depths) s block types n → ((b : Base) → At b can.index (Known (bl.ground n) (record v { waiting = Some (record { code = oncode; resume = 4 * resume; line = v.line }) }) h t (entry_with bl.base (4 * resume) (λ b'. address b' resume)) b) (f b)) → Resumed bl k (length v.edits) t resume aims → Comes code 19 f (record v { waiting = Some (record { code = oncode; resume = 4 * resume; line = v.line }) }) (owing code (length code) aims) (unit_part around oncode a can.head can.body k s)
 unfolding M.end_reached give ◌>>◌
 unit_piece {e} {block} {types} bl {links} {code} main mains has around more m can next enter {s} {v} {h} {t} {aims} closed n f k line resume oncode a small' other enough turns0 start0 acts0 ready less long near parent deep few serving all at goal =
     let program = e.program in
@@ -213,10 +222,10 @@ unit_piece {e} {block} {types} bl {links} {code} main mains has around more m ca
     let direct : head.level ≡ suc (first_level (levels_of s.activations)) → 1 ≡ length s.activations = λ inside. called_direct bl head.level (levels_of s.activations) (length s.activations) all.entered lengths level inside in
     let ordinary : IsOrdinary oncode x = record { kind = λ further. ap (λ q. cond q further oncode) (sym other); units = tt } in
     let last : Option BasicValue → Meaning (Unit {0}) = λ r. give tt in
-    let ub = unit_block bl callee (S.OnUnitBlock oncode (4 * resume)) back h t head level main mains has in
-    let makes = can.makes (S.OnUnitBlock oncode (4 * resume)) back h t in
+    let ub = unit_block bl callee (S.OnUnitBlock oncode (4 * resume), length v.edits) back h t head level main mains has in
+    let makes = can.makes (S.OnUnitBlock oncode (4 * resume), length v.edits) back h t in
     let flow = unit_flow program m head body head.kind k s2 in
-    let leave = leave_piece bl callee k i4 resume oncode h t closed (omega (arith, near, small2)) (omega (arith, room, n1, n2)) ll goal in
+    let leave = leave_piece bl callee k i4 resume oncode (length v.edits) h t closed (omega (arith, near, small2)) (omega (arith, room, n1, n2)) ll goal in
     let closed0 = owing_closed code debt aims in
     let closed1 = ending_closed newest_ended (before_closed k last closed0) in
     subst (Comes code 19 f v1 (owing code debt aims)) (sym (unit_meant program around m head body oncode k a s enter can.kind parent few))
@@ -226,8 +235,8 @@ unit_piece {e} {block} {types} bl {links} {code} main mains has around more m ca
     (λ f3 at3.
     comes_on k (left true newest_ended flow) last
     (comes_called newest_ended flow
-    (declares_from closed1 here head.line (suc m) k st (called_part program m head body) vars ub can.known makes n f3 head.line (can.stand (S.OnUnitBlock oncode (4 * resume)) back h t) refl
-    (λ label among once. owed_outlet closed (atop callee.at (S.OnUnitBlock oncode (4 * resume)) bl.frames) (main_enclosing bl callee back h t (owner_of_unit head head.kind) head level main mains has) label (main_outlet bl callee back h (owner_of_unit head head.kind) (S.OnUnitBlock oncode (4 * resume)) head level main mains has links k turns0 start0 h t acts0 v2.world.acts aims.jumped aims.returned ready label among once (omega (arith, less))), tt)
+    (declares_from closed1 here head.line (suc m) k st (called_part program m head body) vars ub can.known makes n f3 head.line (can.stand (S.OnUnitBlock oncode (4 * resume), length v.edits) back h t) refl
+    (λ label among once. owed_outlet closed (atop callee.at (S.OnUnitBlock oncode (4 * resume), length v.edits) bl.frames) (main_enclosing bl callee back h t (owner_of_unit head head.kind) head level main mains has) label (main_outlet bl callee back h (owner_of_unit head head.kind) (S.OnUnitBlock oncode (4 * resume), length v.edits) head level main mains has links k turns0 start0 h t acts0 v2.world.acts aims.jumped aims.returned ready label among once (omega (arith, less))), tt)
     (λ deep' owned once. let no : true ≡ false = deep' in absurd (cc no), tt)
     (λ inner owned once. record {
       at = i4;
@@ -238,7 +247,7 @@ unit_piece {e} {block} {types} bl {links} {code} main mains has around more m ca
     })
     (omega (arith, enough)) (omega (arith, behind))
     (λ number' owned once. absurd (unit_apart head head.kind level number' owned))
-    (acted_does (made_block ub vars makes s2.serials) head.line can.line (ended_does (made_block ub vars makes s2.serials) here (can.does m next deep (S.OnUnitBlock oncode (4 * resume)) back h t s2.serials)))
+    (acted_does (made_block ub vars makes s2.serials) head.line can.line (ended_does (made_block ub vars makes s2.serials) here (can.does m next deep (S.OnUnitBlock oncode (4 * resume), length v.edits) back h t s2.serials)))
     ls
     (record {
       world = serving.world;
@@ -249,6 +258,7 @@ unit_piece {e} {block} {types} bl {links} {code} main mains has around more m ca
       fits = serving.fits;
       nested = raised_nested head entry s v.activations x small' some (omega (arith, lengths)) (omega arith) (omega (arith, lengths)) direct ordinary serving.nested;
       waiting = refl;
+      places = places_entered (length v.edits) (x) v.activations refl serving.places;
     })
     (raised_all head entry s (storage v) x small' some (omega arith) (omega (arith, lengths)) direct ordinary refl (inl callee.outer) serving.nested all)
     at3
@@ -287,15 +297,15 @@ limited_piece {e} bl {code = code} main mains has around more m can enter {s} {v
     (entry_limited bl callee back (4 * resume) n (19 + size_of fb) f2 (before_closed k last closed0) s k head.line w can.line (omega (arith, room, total, long)) many' le refl serving.world serving.running serving.allowed serving.fits at2)))
 
 -- the raise, with a unit in force
-raised_unit : {e : Environment} {block : Names} {types : Types} (bl : Block e block types) {links : Links} {code : List Instr} (routines : Routines links code) (main : ℕ) (mains : List Label) (has : HasMain main mains e.level e.block bl.labels bl.outer) (around : Around) (more m : ℕ) {frame : ℕ} {u : Y.Block} {at' : ℕ} (can : Raisable bl main mains has links code more frame u at') → more ≡ suc m → around.enter ≡ M.entered e.program (suc m) → {i : ℕ} {s : State} {v : Services} {h t : ℕ → ℕ} {aims : Aims (Unit {0})} (closed : Closed code aims) (n : Values) (f : Family) (k line oncode : ℕ) (a : Activation) (x : S.Activation) → oncode < 2 ^ 16 → (oncode == 0) ≡ false → k < suc m + v.world.acts → (turns0 start0 acts0 : ℕ) → Enough bl links k turns0 start0 h t acts0 aims.jumped aims.returned → acts0 ≤ v.world.acts → Linked links code i (raised C.Area oncode) → force s.activations C.Area ≡ Some (a, BlockUnit u) → U.force v.activations C.Area ≡ Some (x, S.CodeUnit at') → a.height ≡ 1 → x.frame ≡ frame → Serving k s v line → AllHold bl.frames bl.serials (storage v) (e.level ∷ bl.depths) s block types n → ((b : Base) → At b i (Known (bl.ground n) v h t nothing b) (f b)) → ((s' : State) (v' : Services) (line' : ℕ) (n' : Values) (h' : ℕ → ℕ) (f' : Family) → Serving k s' v' line' → AllHold bl.frames bl.serials (storage v') (e.level ∷ bl.depths) s' block types n' → ((b : Base) → At b (i + 2 + 2) (Known (bl.ground n') v' h' t nothing b) (f' b)) → aims.done (i + 2 + 2) f' v' tt s') → Comes code 0 f v (owing code (length code) aims) (R.raised around C.Area oncode k s)
+raised_unit : {e : Environment} {block : Names} {types : Types} (bl : Block e block types) {links : Links} {code : List Instr} (routines : Routines links code) (main : ℕ) (mains : List Label) (has : HasMain main mains e.level e.block bl.labels bl.outer) (around : Around) (more m : ℕ) {frame : ℕ} {u : Y.Block} {at' : ℕ} (can : Raisable bl main mains has links code more frame u at') → more ≡ suc m → around.enter ≡ M.entered e.program (suc m) → {i : ℕ} {s : State} {v : Services} {h t : ℕ → ℕ} {aims : Aims (Unit {0})} (closed : Closed code aims) (n : Values) (f : Family) (credits k line : ℕ) (c : Condition) (oncode : ℕ) (a : Activation) (x : S.Activation) → oncode < 2 ^ 16 → (oncode == 0) ≡ false → k < suc m + v.world.acts → (turns0 start0 acts0 : ℕ) → Enough bl links k turns0 start0 h t acts0 aims.jumped aims.returned → acts0 ≤ v.world.acts → credits + 8 < cost code → Linked links code i (raised c oncode) → force s.activations c ≡ Some (a, BlockUnit u) → U.force v.activations c ≡ Some (x, S.CodeUnit at') → a.height ≡ 1 → x.frame ≡ frame → Serving k s v line → AllHold bl.frames bl.serials (storage v) (e.level ∷ bl.depths) s block types n → ((b : Base) → At b i (Known (bl.ground n) v h t nothing b) (f b)) → Resumed bl k (length v.edits) t (i + 2 + 2) aims → Comes code credits f v (owing code (length code) aims) (R.raised around c oncode k s)
 unfolding R.raised ◌>>◌
-raised_unit {e} {block} {types} bl {links} {code} routines main mains has around more m {frame} {u} can next enter {i} {s} {v} {h} {t} {aims} closed n f k line oncode a x small' other enough turns0 start0 acts0 ready less l found served parent framed serving all at goal =
+raised_unit {e} {block} {types} bl {links} {code} routines main mains has around more m {frame} {u} can next enter {i} {s} {v} {h} {t} {aims} closed n f credits k line c oncode a x small' other enough turns0 start0 acts0 ready less paid l found served parent framed serving all at goal =
     let resume = i + 2 + 2 in
     let closed0 = owing_closed code (length code) aims in
-    let next' : Unit {0} → Meaning (Unit {0}) = λ r. found_unit around oncode in
-    let s1 = with_world (raising C.Area oncode s.world) s in
-    let v1 = waiting_services oncode (4 * resume) v in
-    let served' : U.force v.activations C.Area ≡ Some (x, S.CodeUnit (4 * can.index)) = served ∙ ap (λ o. Some (x, S.CodeUnit o)) can.at_is in
+    let next' : Unit {0} → Meaning (Unit {0}) = λ r. found_unit around c oncode in
+    let s1 = with_world (raising c oncode s.world) s in
+    let v1 = waiting_services c oncode (4 * resume) v in
+    let served' : U.force v.activations c ≡ Some (x, S.CodeUnit (4 * can.index)) = served ∙ ap (λ o. Some (x, S.CodeUnit o)) can.at_is in
     let lowest : x.frame ≡ bl.base = framed ∙ can.lowest in
     let within = bl.within in
     let whole = routines.linked.inside in
@@ -307,22 +317,22 @@ raised_unit {e} {block} {types} bl {links} {code} routines main mains has around
     let some : 0 < size_of rest = omega arith in
     let later = can.later in
     let inside = l.inside in
-    comes_on k (act (raising C.Area oncode) k s) next'
-    (unit_begins (before_closed k next' closed0) routines 0 f oncode k line can.index x small' (omega (arith, whole)) l served' (omega (arith, later)) (omega (arith, placed, total, some)) (omega (arith, lowest, within)) serving at
+    comes_on k (act (raising c oncode) k s) next'
+    (unit_begins (before_closed k next' closed0) routines credits f c oncode k line can.index x small' paid l served' (omega (arith, later)) (omega (arith, placed, total, some)) (omega (arith, lowest, within)) serving at
     (λ f1 below at1.
-    let serving1 = with_act (raising C.Area oncode) (λ w. refl) (λ w. refl) serving below in
+    let serving1 = with_act (raising c oncode) (λ w. refl) (λ w. refl) serving below in
     let all1 : AllHold bl.frames bl.serials (storage v) (e.level ∷ bl.depths) s1 block types n = counted_all _ all in
     let at2 = λ (b : Base). subst (λ fr. At b can.index (Known (bl.ground n) v1 h t (entry_with fr (4 * resume) (λ b'. address b' resume)) b) (f1 b)) lowest (at1 b) in
-    subst (Comes code 19 f1 v1 (owing code (length code) aims)) (sym (found_is around oncode k s1 a u found ∙ ap (λ q. R.unit_run around oncode (Some (a, BlockUnit q)) k s1) can.is))
+    subst (Comes code 19 f1 v1 (owing code (length code) aims)) (sym (found_is around c oncode k s1 a u found ∙ ap (λ q. R.unit_run around oncode (Some (a, BlockUnit q)) k s1) can.is))
     (by_test (nat_lt (length s.activations) most_activations)
     (λ many. limited_piece bl main mains has around more m can enter closed n f1 k line resume oncode a (omega (arith, whole)) (omega (arith, inside)) many serving1 at2)
     (λ few.
     let deep : suc (length bl.depths) < most_activations = (let less = ltb-true (length s.activations) most_activations few in let long = entered_length s.activations (e.level ∷ bl.depths) all.entered in omega (arith, less, long)) in
     unit_piece bl main mains has around more m can next enter closed n f1 k line resume oncode a small' other (omega (arith, enough)) turns0 start0 acts0 ready (omega (arith, less)) (omega (arith, whole)) (omega (arith, inside)) parent deep few serving1 all1 at2 goal))))
 
--- ---- the statement
+-- ---- whether one is in force
 
-by_force : {A : Type 0} (known : ℕ → Y.Block → ℕ → Type 0) (o : Option (Activation × OnUnit)) (o' : Option (S.Activation × S.OnUnit)) → AreBoth known o o' → (OnlyIf SystemUnit o → OnlyIf S.SystemUnit o' → A) → ((a : Activation) (u : Y.Block) (x : S.Activation) (at : ℕ) → o ≡ Some (a, BlockUnit u) → o' ≡ Some (x, S.CodeUnit at) → a.height ≡ 1 → known x.frame u at → A) → A
+pub by_force : {A : Type 0} (known : ℕ → Y.Block → ℕ → Type 0) (o : Option (Activation × OnUnit)) (o' : Option (S.Activation × S.OnUnit)) → AreBoth known o o' → (OnlyIf SystemUnit o → OnlyIf S.SystemUnit o' → A) → ((a : Activation) (u : Y.Block) (x : S.Activation) (at : ℕ) → o ≡ Some (a, BlockUnit u) → o' ≡ Some (x, S.CodeUnit at) → a.height ≡ 1 → known x.frame u at → A) → A
 by_force known None None both alone unit = alone tt tt
 by_force known None (Some q) both alone unit = absurd both
 by_force known (Some p) None both alone unit = absurd both
@@ -331,47 +341,83 @@ by_force known (Some (a, SystemUnit)) (Some (x, S.CodeUnit at)) both alone unit 
 by_force known (Some (a, BlockUnit u)) (Some (x, S.SystemUnit)) both alone unit = absurd both
 by_force known (Some (a, BlockUnit u)) (Some (x, S.CodeUnit at)) both alone unit = unit a u x at refl refl both.0 both.1
 
-pub signal_area_does : {e : Environment} {block : Names} {types : Types} (bl : Block e block types) (main : ℕ) (mains : List Label) (has : HasMain main mains e.level e.block bl.labels bl.outer) (links : Links) (code : List Instr) (routines : Routines links code) (around : Around) (more line : ℕ) → line < 2 ^ 31 → Entering e.program around more → ((frame : ℕ) (u : Y.Block) (at : ℕ) → bl.frames.known frame u at → Raisable bl main mains has links code more frame u at) → Does bl links code around.turns (stmt_code e bl.taken (Y.Signal C.Area line)) (M.statement around (Y.Signal C.Area line))
-unfolding M.statement M.signalled ◌>>◌
-signal_area_does {e} {block} {types} bl main mains has links code routines around zero line fits entering can =
+-- ---- raises
+
+-- a raise of a condition does what it means where a unit is in force for it; the credits that it begins with are owed
+pub record Raises {e : Environment} {block : Names} {types : Types} (bl : Block e block types) (links : Links) (code : List Instr) (around : Around) (c : Condition) (oncode : ℕ) : Type 1 where
+  pub raises : {i : ℕ} {s : State} {v : Services} {h t : ℕ → ℕ} {aims : Aims (Unit {0})} (closed : Closed code aims) (n : Values) (f : Family) (credits k start acts : ℕ) (a : Activation) (u : Y.Block) (x : S.Activation) (at : ℕ) → force s.activations c ≡ Some (a, BlockUnit u) → U.force v.activations c ≡ Some (x, S.CodeUnit at) → a.height ≡ 1 → bl.frames.known c x.frame u at → credits + 8 < cost code → Linked links code i (raised c oncode) → Serving k s v around.line → AllHold bl.frames bl.serials (storage v) (e.level ∷ bl.depths) s block types n → ((b : Base) → At b i (Known (bl.ground n) v h t nothing b) (f b)) → Resumed bl k (length v.edits) t (i + 2 + 2) aims → Enough bl links k around.turns start h t acts aims.jumped aims.returned → acts < v.world.acts → Comes code credits f v (owing code (length code) aims) (R.raised around c oncode k s)
+
+-- where the units that may be in force can be raised
+pub unit_raises : {e : Environment} {block : Names} {types : Types} (bl : Block e block types) (main : ℕ) (mains : List Label) (has : HasMain main mains e.level e.block bl.labels bl.outer) (links : Links) (code : List Instr) (routines : Routines links code) (around : Around) (more : ℕ) (c : Condition) (oncode : ℕ) → oncode < 2 ^ 16 → (oncode == 0) ≡ false → Entering e.program around more → ((frame : ℕ) (u : Y.Block) (at : ℕ) → bl.frames.known c frame u at → Raisable bl main mains has links code more frame u at) → Raises bl links code around c oncode
+unit_raises bl main mains has links code routines around zero c oncode small' other entering can =
     record {
-      does = λ {i} {s} {v} {h} {t} {aims} closed old n f k l serving all at goal more'.
-          let next' : Unit {0} → Meaning (Unit {0}) = λ r. M.signalled (at_line around line) C.Area in
-          comes_on k (act counted k s) next'
-          (act_piece (before_closed k next' closed) f line old k fits (front_of (act_code line) (raised C.Area (code_signalled C.Area)) l) serving at
-          (λ f1 serving1 at1.
-          absurd (let e1 = more'.enough in let e2 = entering.turns in let e3 = serving1.allowed in omega (arith, e1, e2, e3))));
+      raises = λ {i} {s} {v} {h} {t} {aims} closed n f credits k start acts a u x at found served parent known paid l serving all there goal more later.
+          absurd (let e1 = more.enough in let e2 = entering.turns in let e3 = serving.allowed in omega (arith, e1, e2, e3, later));
     }
-signal_area_does {e} {block} {types} bl main mains has links code routines around (suc m) line fits entering can =
+unit_raises bl main mains has links code routines around (suc m) c oncode small' other entering can =
+    record {
+      raises = λ {i} {s} {v} {h} {t} {aims} closed n f credits k start acts a u x at found served parent known paid l serving all there goal more later.
+          let e1 = more.enough in
+          let e2 = entering.turns in
+          raised_unit bl routines main mains has around (suc m) m (can x.frame u at known) refl entering.enter closed n f credits k around.line c oncode a x small' other (omega (arith, e1, e2, later)) around.turns start acts more (omega (arith, later)) paid l found served parent refl serving all there goal;
+    }
+
+-- where there are none
+pub none_raises : {e : Environment} {block : Names} {types : Types} (bl : Block e block types) (links : Links) (code : List Instr) (around : Around) (c : Condition) (oncode : ℕ) → NoUnit (bl.frames.known c) → Raises bl links code around c oncode
+none_raises bl links code around c oncode none =
+    record {
+      raises = λ closed n f credits k start acts a u x at found served parent known paid l serving all there goal more later. absurd (none x.frame u at known);
+    }
+
+-- ---- SIGNAL
+
+-- a condition is raised behind an act
+pub raised_does : {e : Environment} {block : Names} {types : Types} (bl : Block e block types) (links : Links) (code : List Instr) (routines : Routines links code) (around : Around) (c : Condition) (oncode line : ℕ) → oncode < 2 ^ 16 → line < 2 ^ 31 → Raises bl links code (at_line around line) c oncode → Does bl links code around.turns (act_code line ++ raised c oncode) ((act counted) >> (R.raised (at_line around line) c oncode))
+unfolding ◌>>◌
+raised_does {e} {block} {types} bl links code routines around c oncode line small' fits can =
     record {
       does = λ {i} {s} {v} {h} {t} {aims} closed old n f k l serving all at goal more'.
           let here = at_line around line in
-          let oncode = code_signalled C.Area in
           let a = act_code line in
-          let c = raised C.Area oncode in
-          let size = size_append a c in
-          let place : i + size_of a + 2 + 2 ≡ i + size_of (a ++ c) = omega (arith, size) in
-          let e1 = more'.enough in
-          let e2 = entering.turns in
+          let r = raised c oncode in
+          let size = size_append a r in
+          let place : i + size_of a + 2 + 2 ≡ i + size_of (a ++ r) = omega (arith, size) in
           let inside' = l.inside in
-          let next' : Unit {0} → Meaning (Unit {0}) = λ r. M.signalled here C.Area in
-          by_force bl.frames.known (force s.activations C.Area) (U.force v.activations C.Area) (both_in_force bl.frames.known s.activations v.activations C.Area all.units)
+          let whole = routines.linked.inside in
+          let number' = number_few c in
+          let next' : Unit {0} → Meaning (Unit {0}) = λ q. R.raised here c oncode in
+          by_force (bl.frames.known c) (force s.activations c) (U.force v.activations c) (both_in_force bl.frames.known s.activations v.activations c all.units)
           (λ only served.
           comes_on k (act counted k s) next'
-          (act_piece (before_closed k next' closed) f line old k fits (front_of a c l) serving at
+          (act_piece (before_closed k next' closed) f line old k fits (front_of a r l) serving at
           (λ f1 serving1 at1.
-          raised_alone closed routines f1 here C.Area 1 oncode [] k refl (lit< tt) (lit< tt) only served (back_of a c l) serving1 at1)))
+          raised_alone closed routines f1 here c (condition_number c) oncode [] k (condition_is c) number' small' only served (back_of a r l) serving1 at1)))
           (λ a' u x at' found served parent known.
-          comes_owing (length code) (M.statement around (Y.Signal C.Area line) k s)
+          comes_owing (length code) (((act counted) >> (R.raised here c oncode)) k s)
           (comes_on k (act counted k s) next'
-          (act_to (before_closed k next' (owing_closed code (length code) aims)) (i + length code) 0 f line old k fits (omega (arith, inside', size)) (front_of a c l) serving at
+          (act_to (before_closed k next' (owing_closed code (length code) aims)) (i + length code) 0 f line old k fits (omega (arith, inside', size)) (front_of a r l) serving at
           (λ f1 serving1 at1.
-          raised_unit bl routines main mains has here (suc m) m (can x.frame u at' known) refl entering.enter closed n f1 k line oncode a' x (lit< tt) refl (omega (arith, e1, e2)) around.turns i v.world.acts more' (omega arith) (back_of a c l) found served parent refl serving1
+          can.raises closed n f1 0 k i v.world.acts a' u x at' found served parent known (omega (arith, whole)) (back_of a r l) serving1
           (counted_all (counted s.world) all)
           at1
-          (λ s4 v4 line4 n4 h4 f4 serving4 all4 at4.
+          (λ s4 v4 line4 n4 h4 f4 serving4 all4 as4 at4.
           subst (λ q. aims.done q f4 v4 tt s4) (sym place)
           (goal s4 v4 line4 n4 h4 t f4 serving4 all4
-          (record { registers = λ r below. absurd (let held = bl.held in omega (arith, held, below)); words = λ j below. refl })
-          (λ b. record { pc = (at4 b).pc ∙ ap (address b) place; holds = (at4 b).holds })))))));
+          (record { registers = λ y below. absurd (let held = bl.held in omega (arith, held, below)); words = λ j below. refl })
+          (λ b. record { pc = (at4 b).pc ∙ ap (address b) place; holds = (at4 b).holds })))
+          more' (omega arith)))));
     }
+  where
+    number_few : (d : Condition) → condition_number d < 2 ^ 16
+    number_few C.Area = lit< tt
+    number_few C.FixedOverflow = lit< tt
+    number_few C.ZeroDivide = lit< tt
+    number_few C.Endfile = lit< tt
+    number_few C.Error = lit< tt
+
+-- SIGNAL of the conditions for which the program may have units
+pub signal_unit_does : {e : Environment} {block : Names} {types : Types} (bl : Block e block types) (links : Links) (code : List Instr) (routines : Routines links code) (around : Around) (c : Condition) (line : ℕ) → may_have_unit c ≡ true → line < 2 ^ 31 → Raises bl links code (at_line around line) c (code_signalled c) → Does bl links code around.turns (stmt_code e bl.taken (Y.Signal c line)) (M.statement around (Y.Signal c line))
+unfolding M.statement M.signalled
+signal_unit_does bl links code routines around C.Area line may fits can = raised_does bl links code routines around C.Area (code_signalled C.Area) line (lit< tt) fits can
+signal_unit_does bl links code routines around C.Endfile line may fits can = raised_does bl links code routines around C.Endfile (code_signalled C.Endfile) line (lit< tt) fits can
+signal_unit_does bl links code routines around _ line may fits can = absurd (cc may)

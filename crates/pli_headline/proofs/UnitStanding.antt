@@ -2,6 +2,7 @@
 use Rattle.std.proofs.Common.{◌≡◌, ℕ, ◌+◌, ◌*◌, ◌≤◌, List, [], ◌∷◌, ◌++◌, true, false, refl, sym, ap, ◌∙◌}
 use Rattle.std.specs.Prelude.{max}
 use Rattle.rv_meaning.specs.declared.instr.Instr.{Instr}
+use Rattle.pli_language.specs.declared.condition.Condition.{Condition}
 use Rattle.pli_typing.specs.TypedTree as Y
 use Rattle.pli_meaning.specs.Control.{Label}
 use Rattle.pli_meaning.specs.DeclaredShapes.{variables_of_block}
@@ -14,6 +15,7 @@ use Rattle.pli_coding.specs.Images.{blocks_among}
 use Rattle.pli_coding.specs.Statements.{unit_environment, unit_variables, unit_words, unit_mark, unit_left, stmts_words, stmts_code}
 use Rattle.pli_coding.specs.Linking.{Links}
 use Rattle.pli_headline.specs.ProvedSoFar.{Types, main_outer, times, IsLine, IsUnitBody, AreProvedStatements, AllJumpAround, AllCallAmong, ArePlain, Names, names_in, types_in, unit_declares, inner_bytes, bytes_of}
+use Rattle.pli_headline.specs.EndUnits.{HasUnitFor}
 use Rattle.pli_headline.specs.InnerWords.{all_inner_words}
 use Rattle.pli_headline.proofs.Items.{Linked}
 use Rattle.pli_headline.proofs.InnerLevels.{IsAmong}
@@ -34,7 +36,8 @@ abbrev pub words_of_unit : Y.BlockKind → (body : ℕ) → ℕ
 words_of_unit Y.SimpleUnit body = body
 words_of_unit _ body = max 0 body
 
-pub record UnitStands (e : Environment) (block : Names) (types : Types) (all : List (ℕ × Label)) (procedure : ℕ) (may : List ℕ) (links : Links) (code : List Instr) (u : Y.Block) (at : ℕ) : Type 0 where
+pub record UnitStands (e : Environment) (block : Names) (types : Types) (all : List (ℕ × Label)) (procedure : ℕ) (may : List ℕ) (links : Links) (code : List Instr) (c : Condition) (u : Y.Block) (at : ℕ) : Type 0 where
+  pub condition : HasUnitFor e.program c
   pub head : Y.BlockHead
   pub body : Y.Stmts
   pub is : u ≡ Y.BlockOf head body
@@ -56,9 +59,9 @@ pub record UnitStands (e : Environment) (block : Names) (types : Types) (all : L
   pub linked : Linked links code index (unit_with (words_of_unit head.kind (stmts_words body)) head.line (unit_made e head head.kind) (stmts_code (unit_environment head e) none_taken body) (unit_mark head head.kind))
 
 -- a block's units are such, in the frame of the main procedure
-abbrev pub Tells : (e : Environment) (block : Names) (types : Types) (all : List (ℕ × Label)) (procedure : ℕ) (may : List ℕ) (links : Links) (code : List Instr) (base : ℕ) (known : ℕ → Y.Block → ℕ → Type 0) → Type 0
+abbrev pub Tells : (e : Environment) (block : Names) (types : Types) (all : List (ℕ × Label)) (procedure : ℕ) (may : List ℕ) (links : Links) (code : List Instr) (base : ℕ) (known : Condition → ℕ → Y.Block → ℕ → Type 0) → Type 0
 Tells e block types all procedure may links code base known =
-    (frame : ℕ) (u : Y.Block) (at : ℕ) → known frame u at → (frame ≡ base) × UnitStands (program_around e) block types all procedure may links code u at
+    (c : Condition) (frame : ℕ) (u : Y.Block) (at : ℕ) → known c frame u at → (frame ≡ base) × UnitStands (program_around e) block types all procedure may links code c u at
 
 -- ---- the code of one
 

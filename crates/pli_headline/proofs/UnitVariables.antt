@@ -4,12 +4,12 @@ use Rattle.std.specs.Prelude.{slice_get}
 use Rattle.pli_typing.specs.TypedTree as Y
 use Rattle.pli_meaning.specs.Control.{Label}
 use Rattle.pli_meaning.specs.DeclaredShapes.{variables_of_block}
-use Rattle.pli_serving.specs.ServiceState as S
 use Rattle.pli_coding.specs.Frames.{fixed_size, frame_end, variable_place, parameters_of_block}
 use Rattle.pli_coding.specs.Environments.{Environment, in_frame}
 use Rattle.pli_coding.specs.Statements.{owner_of_unit, unit_environment}
 use Rattle.pli_headline.specs.Headline.{parts}
 use Rattle.pli_headline.specs.ProvedSoFar.{Names, Types, ArePlain, IsUnitBody, bytes_of, unit_declares}
+use Rattle.pli_headline.proofs.Entered.{Way}
 use Rattle.pli_headline.proofs.Engine.{Base}
 use Rattle.pli_headline.proofs.Statements.{Block, IsOwned, IsFilled, IsKnown, owned_of}
 use Rattle.pli_headline.proofs.MoreServed.{place_for}
@@ -81,7 +81,7 @@ unit_sized e head Y.UnitBlock body what known are next few owned =
     unit_place e head Y.UnitBlock (length ds) known are (omega arith) next few ∙ ap (λ n. fixed_size head.level 0 + n) (bytes_all ds)
 unit_sized e head _ body what known are next few owned = absurd what
 
-pub unit_filled : {e : Environment} {block : Names} {types : Types} (bl : Block e block types) (callee : Callee bl) (kind : S.BlockKind) (back : Base → ℕ) (h0 t0 : ℕ → ℕ) (head : Y.BlockHead) (next : head.level ≡ 1) (main : ℕ) (mains : List Label) (has : HasMain main mains e.level e.block bl.labels bl.outer) (ds : List Y.DeclaredVariable) → (IsOwned (owner_of_unit head head.kind) → frame_end e.parts e.program head.number head.level ≡ fixed_size head.level 0 + bytes_of ds) → (makes : Makes (unit_block bl callee kind back h0 t0 head next main mains has) 0 ds) (serial : ℕ) → IsFilled (made_block (unit_block bl callee kind back h0 t0 head next main mains has) ds makes serial)
+pub unit_filled : {e : Environment} {block : Names} {types : Types} (bl : Block e block types) (callee : Callee bl) (kind : Way) (back : Base → ℕ) (h0 t0 : ℕ → ℕ) (head : Y.BlockHead) (next : head.level ≡ 1) (main : ℕ) (mains : List Label) (has : HasMain main mains e.level e.block bl.labels bl.outer) (ds : List Y.DeclaredVariable) → (IsOwned (owner_of_unit head head.kind) → frame_end e.parts e.program head.number head.level ≡ fixed_size head.level 0 + bytes_of ds) → (makes : Makes (unit_block bl callee kind back h0 t0 head next main mains has) 0 ds) (serial : ℕ) → IsFilled (made_block (unit_block bl callee kind back h0 t0 head next main mains has) ds makes serial)
 unit_filled {e} bl callee kind back h0 t0 head next main mains has ds sized makes serial owned =
     let o = is_made ds (unit_block bl callee kind back h0 t0 head next main mains has) makes serial in
     let frame = o.frame in

@@ -2,6 +2,7 @@
 use Rattle.std.proofs.Common.{◌≡◌, ℕ, suc, ◌+◌, ◌^◌, ◌<◌, ◌≤◌, List, [], ◌++◌, length, None, true, refl, sym, subst, arith, ◌*◌}
 use Rattle.std.proofs.Math.Nat.{le-max_right}
 use Rattle.rv_meaning.specs.declared.instr.Instr.{Instr}
+use Rattle.pli_language.specs.declared.condition.Condition.{Condition}
 use Rattle.pli_typing.specs.TypedTree as Y
 use Rattle.pli_meaning.specs.DeclaredShapes.{variables_of_block}
 use Rattle.pli_meaning.specs.StorageState.{first_state}
@@ -93,9 +94,9 @@ known_of program is =
     }
 
 -- the units of the main procedure
-abbrev units_of : (program : Y.Program) (is : IsProvedSoFar program) → ℕ → Y.Block → ℕ → Type 0
-units_of program is frame u at =
-    (frame ≡ frame_place (main_words program (block_in is) is.body)) × UnitStands (program_around (main_environment program (block_in is))) (main_names program (block_in is)) (main_types program (block_in is)) (all_labels (block_in is) is.body ++ procedure_labels is.others) (block_in is) is.called (links_of (code_of parts program)) (code_for program) u at
+abbrev units_of : (program : Y.Program) (is : IsProvedSoFar program) → Condition → ℕ → Y.Block → ℕ → Type 0
+units_of program is c frame u at =
+    (frame ≡ frame_place (main_words program (block_in is) is.body)) × UnitStands (program_around (main_environment program (block_in is))) (main_names program (block_in is)) (main_types program (block_in is)) (all_labels (block_in is) is.body ++ procedure_labels is.others) (block_in is) is.called (links_of (code_of parts program)) (code_for program) c u at
 
 -- where the other procedures stand
 abbrev others_at : (program : Y.Program) (is : IsProvedSoFar program) → FitsMemory (picture_of parts program) → ℕ
@@ -144,7 +145,7 @@ body_done program is fits k few =
     (placed_for program is fits).routines (known_of program is) (main_around program k line) refl is.called k
     (labels_of program is) is.block.statements is.block.jumps
     (le-max_right (variables_words (variables_of_block program block)) (stmts_words is.body))
-    (room_for program is fits few) is.block.few (declare_plain program is.body is.plain) (record { enter = refl; turns = refl }) (omega arith) (blocks_known program block line is.body alone) is.block.calls (calls_done program is fits k) (λ frame u at k'. k') (λ u at k'. (refl, k'))
+    (room_for program is fits few) is.block.few (declare_plain program is.body is.plain) (record { enter = refl; turns = refl }) (omega arith) (blocks_known program block line is.body alone) is.block.calls (calls_done program is fits k) (λ c frame u at k'. k') (λ c u at k'. (refl, k'))
     (data_stand (code_of parts program) fits (some_code program is fits))
 
 -- ---- its runs

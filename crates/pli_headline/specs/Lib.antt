@@ -1,4 +1,5 @@
 pub mod InnerWords
+pub mod EndUnits
 pub mod ProvedSoFar
 pub mod Headline
 pub mod FirstForms

@@ -4,9 +4,9 @@
 -- scalars and arrays, too; expressions of numbers, bits and texts, and elements of arrays in them; assignments of these, and of one
 -- number or bit to all elements of an array of the main procedure, CALL of these procedures, also by themselves, IF,
 -- groups, DO WHILE, DO with a variable, GOTO to a label of a list around it in its block, in a block around it up to the procedure's own,
--- or of the main procedure's own list, RETURN, STOP, SIGNAL, ON with SYSTEM, ON for AREA with a single statement or a BEGIN block, which
--- declares as others do, in the main procedure's own block, REVERT, PUT EDIT of numbers, bits and texts, and GET EDIT of such scalars and
--- elements, by lists of F, A, X, SKIP and COLUMN items. Each form that is proved takes a line off.
+-- or of the main procedure's own list, RETURN, STOP, SIGNAL, ON with SYSTEM, ON for AREA and ENDFILE with a single statement or a BEGIN
+-- block, which declares as others do, in the main procedure's own block, REVERT, PUT EDIT of numbers, bits and texts, and GET EDIT of such
+-- scalars and elements, by lists of F, A, X, SKIP and COLUMN items. Each form that is proved takes a line off.
 use Rattle.std.specs.Prelude.{◌≡◌, ℕ, suc, int_le, ◌<◌, ◌≤◌, ◌^◌, List, [], ◌∷◌, ◌++◌, length, map, max, nat_lt, ◌*◌, slice_get, Bool, Option, None, Some, true, false, if◌then◌else◌, ⊤, ◌==◌, ◌&&◌, ◌⊎◌, pos, ◌+◌}
 use Rattle.pli_language.specs.Keywords.{same_bytes}
 use Rattle.pli_language.specs.declared.condition.Condition.TheVariants as C
@@ -25,6 +25,7 @@ use Rattle.pli_coding.specs.SignatureTable.{table_of}
 use Rattle.pli_coding.specs.Streams.{has_fixed, has_text}
 use Rattle.pli_coding.specs.Statements.{stmts_words}
 use Rattle.pli_headline.specs.InnerWords.{all_inner_words}
+use Rattle.pli_headline.specs.EndUnits.{main_catches_end, HasUnitFor}
 
 -- ---- declarations
 
@@ -493,7 +494,7 @@ abbrev mutual
   IsProvedStatement names types (Y.OnSystem condition line) = IsLine line
   IsProvedStatement names types (Y.Revert condition line) = IsLine line
   IsProvedStatement names types (Y.OnUnit condition (Y.BlockOf head body) line) =
-      (condition ≡ C.Area)
+      HasUnitFor names.program condition
       × (IsUnitBody head.kind body
       × (IsLine line
       × (IsLine head.line
@@ -625,6 +626,10 @@ IsUnitNew may head _ = is_number head.number may ≡ false
 abbrev pub IsShallow : (bytes : ℕ) → Type 0
 IsShallow bytes = bytes ≤ 20000
 
+-- and so it is where GET and SIGNAL raise ENDFILE, in a program that has a unit for it
+abbrev pub MayEnd : Y.Program → (bytes : ℕ) → Type 0
+MayEnd program bytes = (main_catches_end program.procedures ≡ false) ⊎ IsShallow bytes
+
 -- calls name one of some numbers, and they and SIGNAL of AREA stand where variables of BEGIN blocks around take few bytes; an on-unit has
 -- no RETURN and few bytes for temporaries and variables, as a procedure that is called
 abbrev mutual
@@ -640,6 +645,8 @@ abbrev mutual
   CallsAmong program may returns bytes (Y.CallProcedure (Y.Calling procedure level _) line) = IsShallow bytes × (is_number procedure may ≡ true)
   CallsAmong program may returns bytes (Y.Return line) = returns ≡ true
   CallsAmong program may returns bytes (Y.Signal C.Area line) = IsShallow bytes
+  CallsAmong program may returns bytes (Y.Signal C.Endfile line) = MayEnd program bytes
+  CallsAmong program may returns bytes (Y.Get skip pairs line) = MayEnd program bytes
   CallsAmong program may returns bytes (Y.OnUnit condition (Y.BlockOf head body) line) =
       AllCallAmong program may false 0 body
       × ((4 * (stmts_words body + all_inner_words body) + (bytes_of (unit_declares program head head.kind) + inner_bytes program body) ≤ 3200)
