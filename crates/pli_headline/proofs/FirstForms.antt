@@ -11,7 +11,6 @@ use Rattle.pli_coding.specs.Streams.{has_text}
 use Rattle.pli_headline.specs.ProvedSoFar.{IsPlain, ArePlain, AllPlain, Types, types_of, IsOwn, HavePrecisions, IsProvedNumber, IsProvedItem, AreProvedItems, AreProvedPairs, IsProvedStatement, AreProvedStatements, OuterBlock, JumpsAround, AllJumpAround, IsProvedSoFar, alone, AreSubscripts, declared_kind, CallsAmong, AllCallAmong, main_names, bytes_in, inner_bytes}
 use Rattle.pli_headline.proofs.FormatData.{true_false}
 use Rattle.pli_headline.specs.FirstForms.{plain_number, AreNumbers, AllNumbers, IsFirstReference, IsFirstNumber, IsFirstItem, AreFirstItems, AreFirstPairs, IsFirstStatement, AreFirstStatements, IsFirstProgram}
-use Rattle.pli_headline.proofs.PlainInside.{DeclaresPlain, DeclarePlain}
 
 -- ---- declarations
 

@@ -1,5 +1,5 @@
 -- The variables of all blocks in a part are plain, since those of the whole program are.
-use Rattle.std.specs.Prelude.{List, ⊤}
+use Rattle.std.specs.Prelude.{⊤}
 use Rattle.pli_typing.specs.TypedTree as Y
 use Rattle.pli_meaning.specs.DeclaredShapes.{variables_of_block}
 use Rattle.pli_headline.specs.ProvedSoFar.{ArePlain, AllPlain, unit_declares}
