@@ -152,7 +152,7 @@ elements_does {e} {block} {types} bl links code routines around j {type} b bs so
           let place = place_of_name e block j in
           let base = bl.bases j in
           let on = bl.arrays j type b bs below in
-          let na = bl.array_names j type b bs below outermost in
+          let na = bl.array_names j type b bs below.0 outermost in
           let numbered = array_numbered routines j type (b ∷ bs) on.declared in
           let a = stored_code e taken source in
           let fill = filling taken (with_number taken) (level == e.level) level place num in
