@@ -1,6 +1,7 @@
 -- Arrays of the main procedure by their names: the name stands before the data, and services know by its serial number where the data stands, and
 -- its signature.
 use Rattle.std.proofs.Common.{◌≡◌, ℕ, ◌+◌, ◌%◌, ◌^◌, ◌≤◌, List, ◌∷◌, Some}
+use Rattle.std.specs.Prelude.{slice_get}
 use Rattle.rv_meaning.specs.Memory.{load}
 use Rattle.rv_meaning.specs.Machine.{memory_size}
 use Rattle.pli_typing.specs.Signatures.{Bounds}
@@ -17,7 +18,6 @@ use Rattle.pli_headline.proofs.Storages.{Serials}
 use Rattle.pli_headline.proofs.Variables.{data_place, level_of}
 use Rattle.pli_headline.proofs.PlainNumbers.{number_for}
 use Rattle.pli_headline.proofs.NamesStand.{NameThere}
-use Rattle.pli_headline.proofs.ArrayScopes.{IsArrayAt}
 
 -- where the name of a variable stands, from its frame
 abbrev pub place_of_name : Environment → (block : Names) (j : ℕ) → ℕ
@@ -37,4 +37,4 @@ pub record ArrayNamed (e : Environment) (block : Names) (base : ℕ) (ground : V
 
 abbrev pub ArraysNamed : Environment → (block : Names) → Types → (bases : ℕ → ℕ) → (Values → Ground) → Serials → Type 0
 ArraysNamed e block types bases ground serials =
-    (j : ℕ) (type : Y.LeafType) (b : Bounds) (bs : List Bounds) → IsArrayAt types j type b bs → level_of block j ≡ 0 → ArrayNamed e block (bases j) ground serials j (record { type = type; bounds = b ∷ bs })
+    (j : ℕ) (type : Y.LeafType) (b : Bounds) (bs : List Bounds) → slice_get types j ≡ Some (record { type = type; bounds = b ∷ bs }) → level_of block j ≡ 0 → ArrayNamed e block (bases j) ground serials j (record { type = type; bounds = b ∷ bs })

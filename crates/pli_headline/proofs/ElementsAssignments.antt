@@ -108,7 +108,7 @@ type_found [] i d h = absurd (cc h)
 type_found (c ∷ ds) zero d h = let e : c ≡ d = cc h in ap (λ u. Some (declared_kind u)) e
 type_found (c ∷ ds) (suc i) d h = type_found ds i d h
 
-array_numbered : {e : Environment} {block : Names} {types : Types} {bl : Block e block types} {links : Links} {code : List Instr} (s : Standing bl links code) (j : ℕ) (type : Y.LeafType) (bs : List Bounds) → IsDeclaredArray e block j type bs → Numbered (table_of e.program) (record { type = type; bounds = bs })
+pub array_numbered : {e : Environment} {block : Names} {types : Types} {bl : Block e block types} {links : Links} {code : List Instr} (s : Standing bl links code) (j : ℕ) (type : Y.LeafType) (bs : List Bounds) → IsDeclaredArray e block j type bs → Numbered (table_of e.program) (record { type = type; bounds = bs })
 array_numbered {e} {block} s j type bs declared =
     s.known.numbered (block.at j).number (block.at j).index
     (type_found (variables_of_block e.program (block.at j).number) (block.at j).index (array_variable type bs declared.0) declared.1
@@ -116,7 +116,7 @@ array_numbered {e} {block} s j type bs declared =
 
 -- ---- places
 
-own_place : (at : ℕ) → at % 4 ≡ 0 → 2 ^ 22 ≤ at → at + 40 ≤ memory_size → PlaceFrom at (pos 36) (at + 36)
+pub own_place : (at : ℕ) → at % 4 ≡ 0 → 2 ^ 22 ≤ at → at + 40 ≤ memory_size → PlaceFrom at (pos 36) (at + 36)
 own_place at whole' above room =
     record {
       small' = lit< tt;
@@ -152,7 +152,7 @@ elements_does {e} {block} {types} bl links code routines around j {type} b bs so
           let place = place_of_name e block j in
           let base = bl.bases j in
           let on = bl.arrays j type b bs below in
-          let na = bl.array_names j type b bs below outermost in
+          let na = bl.array_names j type b bs below.0 outermost in
           let numbered = array_numbered routines j type (b ∷ bs) on.declared in
           let a = stored_code e taken source in
           let fill = filling taken (with_number taken) (level == e.level) level place num in

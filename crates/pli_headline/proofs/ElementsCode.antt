@@ -64,21 +64,26 @@ pairs_known [] are = refl
 pairs_known (b ∷ bs) are =
     ap (λ q. q || list_any is_open_pair (pairs_of bs)) (known_by b.lower b.upper are.0.0 are.0.1.0 are.0.1.1) ∙ pairs_known bs are.1
 
-size_known : (p : ℕ) → p ≤ 31 → (p == run_time_size) ≡ false
+size_known : (p : ℕ) → p ≤ 1024 → (p == run_time_size) ≡ false
 size_known p few = grind (arith, nat_tests)
 
-signature_known : (type : Y.LeafType) → IsNumeric type → IsScalar type → (bs : List Bounds) → AreBounds bs → is_open (array_signature type bs) ≡ false
-signature_known (Y.FixedLeaf p) numeric is bs are =
-    ap (λ q. (if q then true else list_any is_open_pair (pairs_of bs)) || false) (size_known p is.1) ∙ ap (λ q. q || false) (pairs_known bs are)
-signature_known Y.BitLeaf numeric is bs are = ap (λ q. q || false) (pairs_known bs are)
-signature_known _ numeric is bs are = absurd numeric
+signature_known : (type : Y.LeafType) → IsScalar type → (bs : List Bounds) → AreBounds bs → is_open (array_signature type bs) ≡ false
+signature_known (Y.FixedLeaf p) is bs are =
+    let few = is.1 in
+    ap (λ q. (if q then true else list_any is_open_pair (pairs_of bs)) || false) (size_known p (omega (arith, few))) ∙ ap (λ q. q || false) (pairs_known bs are)
+signature_known Y.BitLeaf is bs are = ap (λ q. q || false) (pairs_known bs are)
+signature_known (Y.CharacterLeaf (Y.ConstantExtent (pos n))) is bs are =
+    ap (λ q. (if q then true else list_any is_open_pair (pairs_of bs)) || false) (size_known n is.1) ∙ ap (λ q. q || false) (pairs_known bs are)
+signature_known (Y.VaryingLeaf (Y.ConstantExtent (pos n))) is bs are =
+    ap (λ q. (if q then true else list_any is_open_pair (pairs_of bs)) || false) (size_known n is.1) ∙ ap (λ q. q || false) (pairs_known bs are)
+signature_known _ is bs are = absurd is
 
 -- the number by which it asks
 abbrev pub number_asked : Environment → Y.DeclaredVariable → ℕ
 number_asked e d = if is_open (signature_of d) then L.own_signature else number_in_table (signature_of d) e.table
 
-pub record_form : (e : Environment) (t : Taken) (block : Names) (j : ℕ) (type : Y.LeafType) (bs : List Bounds) → IsNumeric type → (d : IsDeclaredArray e block j type bs) → K.record_code e t (whole (own block j)) ≡ record_by t (level_of block j == e.level) (level_of block j) (place_of_name e block j) (number_asked e (array_variable type bs d.0))
-record_form e t block j type bs numeric declared =
+pub record_form : (e : Environment) (t : Taken) (block : Names) (j : ℕ) (type : Y.LeafType) (bs : List Bounds) (d : IsDeclaredArray e block j type bs) → has_constant_size (array_variable type bs d.0) ≡ true → K.record_code e t (whole (own block j)) ≡ record_by t (level_of block j == e.level) (level_of block j) (place_of_name e block j) (number_asked e (array_variable type bs d.0))
+record_form e t block j type bs declared constant =
     let v = own block j in
     let found = with_words K.record_words t in
     let level = level_of block j in
@@ -86,12 +91,12 @@ record_form e t block j type bs numeric declared =
     let rest : L.NumberPlace → Code = λ n.
     K.record_stored t 2 zero_register ++ (L.frame_offset e level a0 (pos (place_of_name e block j)) ++ (K.record_stored t 0 a0 ++ (L.number_loaded e a0 n ++ K.record_stored t 1 a0))) in
     ap (λ o. (if has_constant_size (declared_in o) then K.extent_recorded t false else other) ++ rest (L.known_or_own e (declared_in o))) declared.1
-    ∙ ap (λ q. (if q then K.extent_recorded t false else other) ++ rest (L.known_or_own e (array_variable type bs declared.0))) (size_constant type numeric bs declared.0)
+    ∙ ap (λ q. (if q then K.extent_recorded t false else other) ++ rest (L.known_or_own e (array_variable type bs declared.0))) constant
 
-number_known : (e : Environment) (type : Y.LeafType) (bs : List Bounds) (initial : List T.InitialItem) → IsNumeric type → IsScalar type → AreBounds bs → e.table ≡ table_of e.program → number_asked e (array_variable type bs initial) ≡ number_for (table_of e.program) (record { type = type; bounds = bs })
-number_known e type bs initial numeric is are table =
+pub number_known : (e : Environment) (type : Y.LeafType) (bs : List Bounds) (initial : List T.InitialItem) → IsScalar type → AreBounds bs → e.table ≡ table_of e.program → number_asked e (array_variable type bs initial) ≡ number_for (table_of e.program) (record { type = type; bounds = bs })
+number_known e type bs initial is are table =
     ap (λ g. if is_open g then L.own_signature else number_in_table g e.table) (array_signed type is bs initial)
-    ∙ ap (λ q. if q then L.own_signature else number_in_table (array_signature type bs) e.table) (signature_known type numeric is bs are)
+    ∙ ap (λ q. if q then L.own_signature else number_in_table (array_signature type bs) e.table) (signature_known type is bs are)
     ∙ ap (λ u. number_in_table (array_signature type bs) u) table
     ∙ ap (λ g. number_in_table g (table_of e.program)) (sym (array_signed type is bs []))
 
@@ -112,13 +117,13 @@ pub filling_form : (e : Environment) (t : Taken) (block : Names) (j : ℕ) (type
 filling_form e t block j type bs numeric declared =
     let b = with_number t in
     let last = number a1 0 ++ (fetch a2 t ++ service 41) in
-    ap (λ c. save a0 t ++ (c ++ (K.record_given e b ++ last))) (record_form e b block j type bs numeric declared)
+    ap (λ c. save a0 t ++ (c ++ (K.record_given e b ++ last))) (record_form e b block j type bs declared (size_constant type numeric bs declared.0))
     ∙ ap (λ c. save a0 t ++ (record_by b (level_of block j == e.level) (level_of block j) (place_of_name e block j) (number_asked e (array_variable type bs declared.0)) ++ (c ++ last))) (given_is e b)
 
 pub filling_is : (e : Environment) (t : Taken) (block : Names) (j : ℕ) (type : Y.LeafType) (bs : List Bounds) → IsNumeric type → IsScalar type → AreBounds bs → e.table ≡ table_of e.program → IsDeclaredArray e block j type bs → save a0 t ++ (K.record_code e (with_number t) (whole (own block j)) ++ (K.record_given e (with_number t) ++ (number a1 0 ++ (fetch a2 t ++ service 41)))) ≡ filling t (with_number t) (level_of block j == e.level) (level_of block j) (place_of_name e block j) (number_for (table_of e.program) (record { type = type; bounds = bs }))
 filling_is e t block j type bs numeric is are table declared =
     filling_form e t block j type bs numeric declared
-    ∙ ap (λ n. filling t (with_number t) (level_of block j == e.level) (level_of block j) (place_of_name e block j) n) (number_known e type bs declared.0 numeric is are table)
+    ∙ ap (λ n. filling t (with_number t) (level_of block j == e.level) (level_of block j) (place_of_name e block j) n) (number_known e type bs declared.0 is are table)
 
 -- ---- words of the record
 

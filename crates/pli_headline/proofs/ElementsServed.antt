@@ -218,7 +218,7 @@ aggregate_is type bs serial signature place =
 signature_plain : (n : ℕ) → n < 2 ^ 24 → (n == own_signature) ≡ false
 signature_plain n few = grind (arith, nat_tests)
 
-aggregate_found : (code : List Instr) (v : Services) (m : List ℕ) (at name serial signature : ℕ) (type : Y.LeafType) (bs : List Bounds) → 4 * length code ≤ at → at + 16 ≤ memory_size → 4 * length code ≤ name → name + 16 ≤ memory_size → signature < 2 ^ 24 → RecordThere m at name signature → NameThere m name serial → shape_at v.signatures signature ≡ Some (array_shape type bs) → A.aggregate_at (call_at code v m) at ≡ Some (aggregate_is type bs serial signature (load 4 m (at + 8)))
+pub aggregate_found : (code : List Instr) (v : Services) (m : List ℕ) (at name serial signature : ℕ) (type : Y.LeafType) (bs : List Bounds) → 4 * length code ≤ at → at + 16 ≤ memory_size → 4 * length code ≤ name → name + 16 ≤ memory_size → signature < 2 ^ 24 → RecordThere m at name signature → NameThere m name serial → shape_at v.signatures signature ≡ Some (array_shape type bs) → A.aggregate_at (call_at code v m) at ≡ Some (aggregate_is type bs serial signature (load 4 m (at + 8)))
 aggregate_found code v m at name serial signature type bs low high low' high' few r o shape =
     let c = call_at code v m in
     let n = VariableName serial in
@@ -244,8 +244,8 @@ holds_by : (type : Y.LeafType) → IsNumeric type → (bs : List Bounds) (serial
 holds_by type numeric bs serial at signature m is =
     by_type (λ t. A.is_there (part_at t bs serial at signature m).part (0, is) ≡ is_within bs is) (λ p. refl) refl type numeric
 
-part_found : (code : List Instr) (v : Services) (m : List ℕ) (serial signature place : ℕ) (type : Y.LeafType) (bs : List Bounds) (l : S.Living) → IsNumeric type → AreBounds bs → S.living_of v.living serial ≡ Some l → l.signature ≡ signature → A.part_of_leaves (call_at code v m) (aggregate_is type bs serial signature place) 0 1 0 ≡ Some (part_at type bs serial l.at l.signature m)
-part_found code v m serial signature place type bs l numeric are lives same =
+pub part_found_by : (code : List Instr) (v : Services) (m : List ℕ) (serial signature place : ℕ) (type : Y.LeafType) (bs : List Bounds) (l : S.Living) → ((is : List ℤ) → A.is_there (part_at type bs serial l.at l.signature m).part (0, is) ≡ is_within bs is) → AreBounds bs → S.living_of v.living serial ≡ Some l → l.signature ≡ signature → A.part_of_leaves (call_at code v m) (aggregate_is type bs serial signature place) 0 1 0 ≡ Some (part_at type bs serial l.at l.signature m)
+part_found_by code v m serial signature place type bs l holds are lives same =
     let c = call_at code v m in
     let a = aggregate_is type bs serial signature place in
     let part : Y.Part = record { first = 0; count = 1 } in
@@ -253,7 +253,7 @@ part_found code v m serial signature place type bs l numeric are lives same =
     ap (λ q. then_found (cond q (Some []) None) (λ is. A.part_found c a part is (if_of_signature signature (found_living (S.living_of v.living serial))))) (le-leb 0 (length bs) (omega arith))
     ∙ ap (λ o. A.part_found c a part [] (if_of_signature signature (found_living o))) lives
     ∙ ap (λ q. A.part_found c a part [] (cond q (FoundAt (found_at l.at l.signature)) NotLiving)) (eq-eqb l.signature signature same)
-    ∙ ap (λ q. cond q (Some p) None) (all_there (A.is_there p.part) (all_subscripts bs) (is_within bs) (holds_by type numeric bs serial l.at l.signature m) (subscripts_within bs are))
+    ∙ ap (λ q. cond q (Some p) None) (all_there (A.is_there p.part) (all_subscripts bs) (is_within bs) holds (subscripts_within bs are))
 
 -- ---- what the service answers
 
@@ -274,6 +274,6 @@ elements_answer code v m at name serial signature type bs l z low high low' high
     let numeric = fits_numeric type z fits in
     let p = part_at type bs serial l.at l.signature m in
     ap (λ u. or_bad u (λ a. or_bad (A.part_of_leaves c a 0 1 0) (λ q. W.scalar_set c at 0 (word z) q (first_leaf q.part).kind))) (aggregate_found code v m at name serial signature type bs low high low' high' few r o shape)
-    ∙ ap (λ u. or_bad u (λ q. W.scalar_set c at 0 (word z) q (first_leaf q.part).kind)) (part_found code v m serial signature (load 4 m (at + 8)) type bs l numeric are lives same)
+    ∙ ap (λ u. or_bad u (λ q. W.scalar_set c at 0 (word z) q (first_leaf q.part).kind)) (part_found_by code v m serial signature (load 4 m (at + 8)) type bs l (holds_by type numeric bs serial l.at l.signature m) are lives same)
     ∙ value_set c at type z p fits
     ∙ ap (λ m'. Done v m' at 0) (all_stored type bs serial l.at l.signature m z fits (all_subscripts bs) 0 (element_count bs) m (elements_ordered bs) (omega (arith, room)))

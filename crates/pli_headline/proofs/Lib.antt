@@ -94,6 +94,7 @@ pub mod ArrayDimensions
 pub mod ArrayAssignments
 pub mod ElementAssignments
 pub mod ElementsAssignments
+pub mod TextsAssignments
 pub mod Targets
 pub mod TextStates
 pub mod TextGrounds
@@ -117,10 +118,15 @@ pub mod MainArrays
 pub mod ArrayGrounds
 pub mod ArrayNames
 pub mod ElementsFilled
+pub mod TextsFilled
+pub mod TextsServed
 pub mod ElementsServed
 pub mod ElementsCode
 pub mod ElementsMarks
 pub mod ElementsPieces
+pub mod TextsCode
+pub mod TextsPieces
+pub mod TextsMarks
 pub mod ArrayStates
 pub mod InnerFrames
 pub mod CalledFrames
@@ -240,6 +246,7 @@ mod BlockArrayRows
 mod EndfileRows
 mod TextArrayRows
 mod ElementsRows
+mod TextsRows
 pub mod FirstPathDeclared
 pub mod FirstPathNames
 pub mod FirstPathExpressions

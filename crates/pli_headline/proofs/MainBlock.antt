@@ -175,12 +175,12 @@ main_serials served = record { of = λ j. suc j; owner = λ j. 1; first = served
 abbrev main_named : {served : ℕ → Option S.Living} (f : Frame) (first : List ℕ) (e : Environment) (block : Names) (types : Types) → ((j : ℕ) (kind : Kind) → slice_get types j ≡ Some kind → j < f.count) → ((j : ℕ) → j < f.count → data_place e block j ≡ number_place f.sizes j) → VariablesFit f e.program served types → ArraysNamed e block types (λ j. f.at) (λ n. ground_of f first (contents (kind_at types) n)) (main_serials served)
 main_named f first e block types inside placed fit j type b bs at outermost =
     let kind : Kind = record { type = type; bounds = b ∷ bs } in
-    let here = inside j kind at.0 in
+    let here = inside j kind at in
     let stands = placed j here in
     let same : f.at + name_place f.sizes j ≡ f.at + place_of_name e block j = omega (arith, stands) in
     record {
       living = record { serial = suc j; owner = 1; signature = number_for (table_of e.program) kind; at = f.at + number_place f.sizes j };
-      lives = fit.living j kind at.0 here;
+      lives = fit.living j kind at here;
       signature = refl;
       at = omega (arith, stands);
       aligned = f.whole;

@@ -255,8 +255,8 @@ more_named {e} {block} {types} ib index k serial j kind below on =
       names = λ n t b m held. subst (NameThere m (more_bases ib j + place_of_name e names j)) (sym mine) (subst (λ p. NameThere m p (ib.serials.of j)) same (on.names n t b m held.0));
     }
 
-pub named_place : {e : Environment} {block : Names} {types : Types} (ib : Block e block types) {index : ℕ} {k : Kind} (o : More ib index k) (serial j : ℕ) (type : Y.LeafType) (b : Bounds) (bs : List Bounds) → IsArrayAt (types ++ (k ∷ [])) j type b bs → level_of (more_names e block types index) j ≡ 0 → ArrayNamed e (more_names e block types index) (more_bases ib j) (more_ground ib k) (more_serials ib.serials (length types) serial (suc (length ib.depths))) j (record { type = type; bounds = b ∷ bs })
+pub named_place : {e : Environment} {block : Names} {types : Types} (ib : Block e block types) {index : ℕ} {k : Kind} (o : More ib index k) (serial j : ℕ) (type : Y.LeafType) (b : Bounds) (bs : List Bounds) → slice_get (types ++ (k ∷ [])) j ≡ Some (record { type = type; bounds = b ∷ bs }) → level_of (more_names e block types index) j ≡ 0 → ArrayNamed e (more_names e block types index) (more_bases ib j) (more_ground ib k) (more_serials ib.serials (length types) serial (suc (length ib.depths))) j (record { type = type; bounds = b ∷ bs })
 named_place {e} {block} {types} ib {index} {k} o serial j type b bs at outermost =
     by_last types k (λ i kind. kind ≡ record { type = type; bounds = b ∷ bs } → level_of (more_names e block types index) i ≡ 0 → ArrayNamed e (more_names e block types index) (more_bases ib i) (more_ground ib k) (more_serials ib.serials (length types) serial (suc (length ib.depths))) i (record { type = type; bounds = b ∷ bs }))
-    (λ i kind below at' e' low. more_named ib index k serial i (record { type = type; bounds = b ∷ bs }) below (ib.array_names i type b bs (at' ∙ ap (λ q. Some q) e', at.1) (sym (around_level e block types index i below) ∙ low)))
-    (λ e' low. let l = own_level e block types index in let deep = o.deep in absurd (omega (arith, l, low, deep))) j (record { type = type; bounds = b ∷ bs }) at.0 refl outermost
+    (λ i kind below at' e' low. more_named ib index k serial i (record { type = type; bounds = b ∷ bs }) below (ib.array_names i type b bs (at' ∙ ap (λ q. Some q) e') (sym (around_level e block types index i below) ∙ low)))
+    (λ e' low. let l = own_level e block types index in let deep = o.deep in absurd (omega (arith, l, low, deep))) j (record { type = type; bounds = b ∷ bs }) at refl outermost

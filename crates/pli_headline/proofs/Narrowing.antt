@@ -286,10 +286,10 @@ narrowed_text_array {e} {outer} {outers} {block} {types} bl b n0 j varying most 
           (on.writes (beside count n n0) p text inside t base m len held));
     }
 
-pub narrowed_named : {e : Environment} {outer : Names} {outers : Types} {block : Names} {types : Types} (bl : Block e block types) (b : Narrows outer outers block types) (n0 : Values) (j : ℕ) (type : Y.LeafType) (c : Bounds) (cs : List Bounds) → IsArrayAt outers j type c cs → level_of outer j ≡ 0 → ArrayNamed e outer (bl.bases j) (narrowed_ground bl outers n0) bl.serials j (record { type = type; bounds = c ∷ cs })
+pub narrowed_named : {e : Environment} {outer : Names} {outers : Types} {block : Names} {types : Types} (bl : Block e block types) (b : Narrows outer outers block types) (n0 : Values) (j : ℕ) (type : Y.LeafType) (c : Bounds) (cs : List Bounds) → slice_get outers j ≡ Some (record { type = type; bounds = c ∷ cs }) → level_of outer j ≡ 0 → ArrayNamed e outer (bl.bases j) (narrowed_ground bl outers n0) bl.serials j (record { type = type; bounds = c ∷ cs })
 narrowed_named {e} {outer} {outers} {block} {types} bl b n0 j type c cs at outermost =
-    let on = bl.array_names j type c cs (b.among j at.0, at.1) (sym (same_level b j at.0) ∙ outermost) in
-    let d = same_data e b j at.0 in
+    let on = bl.array_names j type c cs (b.among j at) (sym (same_level b j at) ∙ outermost) in
+    let d = same_data e b j at in
     let here = on.at in
     let same : bl.bases j + place_of_name e block j ≡ bl.bases j + place_of_name e outer j = omega (arith, d) in
     record {

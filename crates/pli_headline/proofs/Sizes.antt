@@ -33,6 +33,7 @@ use Rattle.pli_headline.specs.Headline.{FitsMemory}
 use Rattle.pli_headline.proofs.Scalars.{by_plain}
 use Rattle.pli_headline.proofs.Linking.{size_append}
 use Rattle.pli_headline.proofs.ElementsMarks.{elements_size}
+use Rattle.pli_headline.proofs.TextsMarks.{texts_size}
 use Rattle.pli_headline.proofs.Variables.{own, whole_part, HasTypes, subscripts_in}
 use Rattle.pli_headline.proofs.ArrayMeant.{element}
 use Rattle.pli_coding.specs.Locating.{loaded, stored, reached, text_pushed, text_stored}
@@ -456,6 +457,16 @@ mutual
       let four = act_size line in
       let code = bit_code e t x in
       let into = save a0 t ++ (record_code e (with_number t) target ++ (record_given e (with_number t) ++ (number a1 (first_leaf target) ++ (fetch a2 t ++ service 41)))) in
+      let s1 = size_append (act_code line) (code ++ into) in
+      let s2 = size_append code into in
+      most _ _ _ (omega (arith, n, s1, s2)) (omega (arith, z, none, four, s1, s2))
+  statement_size e t block types has (Y.AssignElements target (Y.StoredText x) line) is =
+      let z = texts_size e t block types target has is.0 in
+      let none = ap reference_words is.0.whole.is in
+      let n = text_size e t block types x is.1.0 in
+      let four = act_size line in
+      let code = text_code e t x in
+      let into = record_code e t target ++ (record_given e t ++ (number a1 (first_leaf target) ++ service 41)) in
       let s1 = size_append (act_code line) (code ++ into) in
       let s2 = size_append code into in
       most _ _ _ (omega (arith, n, s1, s2)) (omega (arith, z, none, four, s1, s2))

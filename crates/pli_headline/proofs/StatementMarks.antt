@@ -17,7 +17,7 @@ use Rattle.pli_coding.specs.Frames.{frame_below, own_offset, lower_top, display,
 use Rattle.pli_coding.specs.Entries.{registers_restored, all_saved, display_copied, display_made, frame_begun, block_left, entered_without_texts, variables_made, variables_code, constant_made, automatic_made, adjustable_made}
 use Rattle.pli_meaning.specs.DeclaredShapes.{variables_of_block}
 use Rattle.pli_coding.specs.Arithmetic.{sum_code, fitted_code}
-use Rattle.pli_coding.specs.Expressions.{frame_given, number_code, bit_code, call_code}
+use Rattle.pli_coding.specs.Expressions.{frame_given, number_code, bit_code, text_code, call_code}
 use Rattle.pli_coding.specs.Storing.{word_stored, assigned_code, record_code, record_given, first_leaf}
 use Rattle.pli_coding.specs.Streams.{put_pairs, get_pairs, edit_ended, skip_option}
 use Rattle.pli_coding.specs.Allocating.{act_code}
@@ -35,6 +35,7 @@ use Rattle.pli_headline.proofs.Variables.{HasTypes}
 use Rattle.pli_headline.proofs.OnUnits.{unit_by}
 use Rattle.pli_headline.proofs.Targets.{assigned_read}
 use Rattle.pli_headline.proofs.ElementsMarks.{elements_none}
+use Rattle.pli_headline.proofs.TextsMarks.{texts_none}
 use Rattle.pli_headline.proofs.ExpressionMarks.{number_none, bit_none, assigned_none, text_stored_none, number_assigned_none, bit_assigned_none, text_none}
 use Rattle.pli_headline.proofs.ArrayFrames.{held_constant}
 use Rattle.pli_headline.proofs.PlainInside.{DeclaresPlain, DeclarePlain}
@@ -333,6 +334,10 @@ mutual
       let into = save a0 t ++ (record_code e (with_number t) target ++ (record_given e (with_number t) ++ (number a1 (first_leaf target) ++ (fetch a2 t ++ service 41)))) in
       behind (act_code line) (bit_code e t x ++ into) [] (act_none line)
       (behind (bit_code e t x) into [] (bit_none e t block types x has is.1.0) (elements_none e t block types Y.BitLeaf target tt has is.0))
+  statement_marks e t block types (Y.AssignElements target (Y.StoredText x) line) named has is bare =
+      let into = record_code e t target ++ (record_given e t ++ (number a1 (first_leaf target) ++ service 41)) in
+      behind (act_code line) (text_code e t x ++ into) [] (act_none line)
+      (behind (text_code e t x) into [] (text_none e t block types x has is.1.0) (texts_none e t block types target has is.0))
   statement_marks e t block types (Y.If condition unit line) named has is bare =
       tested_marks e t block types condition line (if_met (stmt_code e t unit)) (places_of (inner_stands e.block unit)) has is.0 (statement_marks e t block types unit named has is.1.0 bare)
   statement_marks e t block types (Y.IfElse condition unit otherwise line) named has is bare =

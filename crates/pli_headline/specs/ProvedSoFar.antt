@@ -2,7 +2,7 @@
 -- constant lengths, VARYING or not, with or without INITIAL, arrays of these with constant bounds, with or without
 -- INITIAL, procedures inside it, without parameters and results, and BEGIN blocks in these and in one another, which declare such
 -- scalars and arrays, too; expressions of numbers, bits and texts, and elements of arrays in them; assignments of these, and of one
--- number or bit to all elements of an array of the main procedure, CALL of these procedures, also by themselves, IF,
+-- number, bit or text to all elements of an array of the main procedure, CALL of these procedures, also by themselves, IF,
 -- groups, DO WHILE, DO with a variable, GOTO to a label of a list around it in its block, in a block around it up to the procedure's own,
 -- or of the main procedure's own list, RETURN, STOP, SIGNAL, ON with SYSTEM, ON for AREA and ENDFILE with a single statement or a BEGIN
 -- block, which declares as others do, in the main procedure's own block, REVERT, PUT EDIT of numbers, bits and texts, and GET EDIT of such
@@ -204,6 +204,12 @@ pub record IsWhole (names : Names) (types : Types) (type : Y.LeafType) (r : Y.Re
   pub bounds : List Bounds
   pub declared : slice_get types index ≡ Some (record { type = type; bounds = bound ∷ bounds })
   pub is : r ≡ Y.Referring (variable_at names index) Y.NotLocated (record { first = 0; count = 1 }) Y.NoNumber
+
+-- one of texts
+pub record IsWholeText (names : Names) (types : Types) (r : Y.Reference) : Type 0 where
+  pub varying : Bool
+  pub most : ℕ
+  pub whole : IsWhole names types (text_leaf varying most) r
 
 -- a scalar, or an element
 abbrev pub IsPart : (names : Names) (types : Types) (type : Y.LeafType) (r : Y.Reference) → Type 0
@@ -466,6 +472,8 @@ abbrev mutual
       IsWhole names types (Y.FixedLeaf precision) target × (IsProvedNumber names types x × IsLine line)
   IsProvedStatement names types (Y.AssignElements target (Y.StoredBit x) line) =
       IsWhole names types Y.BitLeaf target × (IsProvedBit names types x × IsLine line)
+  IsProvedStatement names types (Y.AssignElements target (Y.StoredText x) line) =
+      IsWholeText names types target × (IsProvedText names types x × IsLine line)
   IsProvedStatement names types (Y.If condition unit line) =
       IsProvedBit names types condition × (IsProvedStatement names types unit × IsLine line)
   IsProvedStatement names types (Y.IfElse condition unit otherwise line) =
