@@ -95,6 +95,7 @@ pub mod ArrayAssignments
 pub mod ElementAssignments
 pub mod ElementsAssignments
 pub mod TextsAssignments
+pub mod CopiesAssignments
 pub mod Targets
 pub mod TextStates
 pub mod TextGrounds
@@ -120,6 +121,8 @@ pub mod ArrayNames
 pub mod ElementsFilled
 pub mod TextsFilled
 pub mod TextsServed
+pub mod CopiesFilled
+pub mod CopiesServed
 pub mod ElementsServed
 pub mod ElementsCode
 pub mod ElementsMarks
@@ -127,6 +130,9 @@ pub mod ElementsPieces
 pub mod TextsCode
 pub mod TextsPieces
 pub mod TextsMarks
+pub mod CopiesCode
+pub mod CopiesPieces
+pub mod CopiesMarks
 pub mod ArrayStates
 pub mod InnerFrames
 pub mod CalledFrames
@@ -247,6 +253,7 @@ mod EndfileRows
 mod TextArrayRows
 mod ElementsRows
 mod TextsRows
+mod CopiesRows
 pub mod FirstPathDeclared
 pub mod FirstPathNames
 pub mod FirstPathExpressions
