@@ -3,8 +3,8 @@
 -- INITIAL, procedures inside it, without parameters and results, and BEGIN blocks in these and in one another, which declare such
 -- scalars and arrays, too; expressions of numbers, bits and texts, and elements of arrays in them; assignments of these, and of one
 -- number, bit or text to all elements of an array of the main procedure, and of one such array to another of its kind with equal bounds,
--- CALL of these procedures, also by themselves, IF,
--- groups, DO WHILE, DO with a variable, GOTO to a label of a list around it in its block, in a block around it up to the procedure's own,
+-- CALL of these procedures, also by themselves, IF, groups, DO WHILE, DO with a variable, GOTO to a label of a list around it in its block,
+-- in a block around it up to the procedure's own,
 -- or of the main procedure's own list, RETURN, STOP, SIGNAL, ON with SYSTEM, ON for AREA with a single statement or a BEGIN block, which
 -- declares as others do, in the main procedure's own block, REVERT, PUT EDIT of numbers, bits and texts, and GET EDIT of such scalars and
 -- elements, by lists of F, A, X, SKIP and COLUMN items. Each form that is proved takes a line off.
