@@ -1,5 +1,5 @@
 -- A program that assigns arrays of numbers and bits to others with equal bounds, also in a BEGIN block, is one of those that are proved.
-use Rattle.std.proofs.Common.{ℕ, List, [], ◌∷◌, None, refl, arith, lit<}
+use Rattle.std.proofs.Common.{ℕ, List, [], ◌∷◌, None, refl, arith, lit<, inl}
 use Rattle.std.specs.Prelude.{pos, negsuc}
 use Rattle.pli_typing.specs.Signatures.{Bounds}
 use Rattle.pli_typing.specs.TypedTree as Y
@@ -93,7 +93,7 @@ copies_program =
         kind = refl;
         level = refl;
         line = lit< tt;
-        statements = ((one, lit< tt), ((refl, (lit< tt, ((other, lit< tt), tt))), ((itself, lit< tt), tt)));
+        statements = ((inl one, lit< tt), ((refl, (lit< tt, ((inl other, lit< tt), tt))), ((inl itself, lit< tt), tt)));
         jumps = (tt, (((refl, omega arith), (tt, tt)), (tt, tt)));
         calls = (tt, ((tt, tt), (tt, tt)));
         few = omega arith;

@@ -96,6 +96,7 @@ pub mod ElementAssignments
 pub mod ElementsAssignments
 pub mod TextsAssignments
 pub mod CopiesAssignments
+pub mod TextCopiesAssignments
 pub mod Targets
 pub mod TextStates
 pub mod TextGrounds
@@ -123,6 +124,7 @@ pub mod TextsFilled
 pub mod TextsServed
 pub mod CopiesFilled
 pub mod CopiesServed
+pub mod TextCopiesServed
 pub mod ElementsServed
 pub mod ElementsCode
 pub mod ElementsMarks
@@ -254,6 +256,7 @@ mod TextArrayRows
 mod ElementsRows
 mod TextsRows
 mod CopiesRows
+mod TextCopiesRows
 pub mod FirstPathDeclared
 pub mod FirstPathNames
 pub mod FirstPathExpressions

@@ -34,7 +34,7 @@ use Rattle.pli_headline.proofs.Scalars.{by_plain}
 use Rattle.pli_headline.proofs.Linking.{size_append}
 use Rattle.pli_headline.proofs.ElementsMarks.{elements_size}
 use Rattle.pli_headline.proofs.TextsMarks.{texts_size}
-use Rattle.pli_headline.proofs.CopiesMarks.{alike_words}
+use Rattle.pli_headline.proofs.CopiesMarks.{copies_words}
 use Rattle.pli_headline.proofs.Variables.{own, whole_part, HasTypes, subscripts_in}
 use Rattle.pli_headline.proofs.ArrayMeant.{element}
 use Rattle.pli_coding.specs.Locating.{loaded, stored, reached, text_pushed, text_stored}
@@ -472,7 +472,7 @@ mutual
       let s2 = size_append code into in
       most _ _ _ (omega (arith, n, s1, s2)) (omega (arith, z, none, four, s1, s2))
   statement_size e t block types has (Y.AssignAggregate target source line) is =
-      let few = alike_words block types target source is.0 in
+      let few = copies_words block types target source is.0 in
       let four = act_size line in
       let size = size_append (act_code line) (aggregate_code e t target source) in
       omega (arith, few, four, size)

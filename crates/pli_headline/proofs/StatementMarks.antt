@@ -36,7 +36,7 @@ use Rattle.pli_headline.proofs.OnUnits.{unit_by}
 use Rattle.pli_headline.proofs.Targets.{assigned_read}
 use Rattle.pli_headline.proofs.ElementsMarks.{elements_none}
 use Rattle.pli_headline.proofs.TextsMarks.{texts_none}
-use Rattle.pli_headline.proofs.CopiesMarks.{alike_none}
+use Rattle.pli_headline.proofs.CopiesMarks.{copies_none}
 use Rattle.pli_headline.proofs.ExpressionMarks.{number_none, bit_none, assigned_none, text_stored_none, number_assigned_none, bit_assigned_none, text_none}
 use Rattle.pli_headline.proofs.ArrayFrames.{held_constant}
 use Rattle.pli_headline.proofs.PlainInside.{DeclaresPlain, DeclarePlain}
@@ -340,7 +340,7 @@ mutual
       behind (act_code line) (text_code e t x ++ into) [] (act_none line)
       (behind (text_code e t x) into [] (text_none e t block types x has is.1.0) (texts_none e t block types target has is.0))
   statement_marks e t block types (Y.AssignAggregate target source line) named has is bare =
-      behind (act_code line) (aggregate_code e t target source) [] (act_none line) (alike_none e t block types target source has is.0)
+      behind (act_code line) (aggregate_code e t target source) [] (act_none line) (copies_none e t block types target source has is.0)
   statement_marks e t block types (Y.If condition unit line) named has is bare =
       tested_marks e t block types condition line (if_met (stmt_code e t unit)) (places_of (inner_stands e.block unit)) has is.0 (statement_marks e t block types unit named has is.1.0 bare)
   statement_marks e t block types (Y.IfElse condition unit otherwise line) named has is bare =

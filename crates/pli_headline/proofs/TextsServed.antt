@@ -32,7 +32,7 @@ use Rattle.pli_headline.proofs.ElementsServed.{subscripts_within, found_at, part
 use Rattle.pli_headline.proofs.TextsFilled.{texts_from}
 
 -- where an element stands
-text_element_is : (varying : Bool) (most : ℕ) (bs : List Bounds) (at signature : ℕ) (is : List ℤ) → A.element_at (array_shape (text_leaf varying most) bs) (found_at at signature) (0, is) ≡ at + element_place bs is * text_stride varying most
+pub text_element_is : (varying : Bool) (most : ℕ) (bs : List Bounds) (at signature : ℕ) (is : List ℤ) → A.element_at (array_shape (text_leaf varying most) bs) (found_at at signature) (0, is) ≡ at + element_place bs is * text_stride varying most
 text_element_is false most bs at signature is =
     let n = text_stride false most in
     let e : at + 0 + n * element_place bs is ≡ at + n * element_place bs is = omega arith in
