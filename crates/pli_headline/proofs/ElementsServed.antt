@@ -182,7 +182,7 @@ size_by true = refl
 size_by false = refl
 
 -- where an element stands
-element_is : (type : Y.LeafType) → IsNumeric type → (bs : List Bounds) (at signature : ℕ) (is : List ℤ) → A.element_at (array_shape type bs) (found_at at signature) (0, is) ≡ at + 4 * element_place bs is
+pub element_is : (type : Y.LeafType) → IsNumeric type → (bs : List Bounds) (at signature : ℕ) (is : List ℤ) → A.element_at (array_shape type bs) (found_at at signature) (0, is) ≡ at + 4 * element_place bs is
 element_is type numeric bs at signature is =
     by_type (λ t. A.element_at (array_shape t bs) (found_at at signature) (0, is) ≡ at + 4 * element_place bs is)
     (λ p. ap (λ n. at + 0 + n * element_place bs is) (size_by (nat_le p 15)) ∙ omega arith) (omega arith) type numeric
@@ -218,7 +218,7 @@ aggregate_is type bs serial signature place =
 signature_plain : (n : ℕ) → n < 2 ^ 24 → (n == own_signature) ≡ false
 signature_plain n few = grind (arith, nat_tests)
 
-aggregate_found : (code : List Instr) (v : Services) (m : List ℕ) (at name serial signature : ℕ) (type : Y.LeafType) (bs : List Bounds) → 4 * length code ≤ at → at + 16 ≤ memory_size → 4 * length code ≤ name → name + 16 ≤ memory_size → signature < 2 ^ 24 → RecordThere m at name signature → NameThere m name serial → shape_at v.signatures signature ≡ Some (array_shape type bs) → A.aggregate_at (call_at code v m) at ≡ Some (aggregate_is type bs serial signature (load 4 m (at + 8)))
+pub aggregate_found : (code : List Instr) (v : Services) (m : List ℕ) (at name serial signature : ℕ) (type : Y.LeafType) (bs : List Bounds) → 4 * length code ≤ at → at + 16 ≤ memory_size → 4 * length code ≤ name → name + 16 ≤ memory_size → signature < 2 ^ 24 → RecordThere m at name signature → NameThere m name serial → shape_at v.signatures signature ≡ Some (array_shape type bs) → A.aggregate_at (call_at code v m) at ≡ Some (aggregate_is type bs serial signature (load 4 m (at + 8)))
 aggregate_found code v m at name serial signature type bs low high low' high' few r o shape =
     let c = call_at code v m in
     let n = VariableName serial in

@@ -117,6 +117,7 @@ pub mod ArrayGrounds
 pub mod ArrayNames
 pub mod ElementsFilled
 pub mod ElementsServed
+pub mod PutElementsServed
 pub mod ElementsCode
 pub mod ElementsMarks
 pub mod ElementsPieces
