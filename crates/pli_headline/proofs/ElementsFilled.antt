@@ -118,7 +118,7 @@ abbrev pub all_state : State → Y.LeafType → List Bounds → (serial : ℕ) �
 all_state s type bs serial values z =
     with_world s.world (with_generation (VariableName serial) (all_changed type bs serial values z) s)
 
-whole_designated : (around : Around) (s : State) (v : Y.Variable) (type : Y.LeafType) (bs : List Bounds) (serial : ℕ) (values : ℕ → List ℤ → BasicValue) (k : ℕ) → same_shape (array_shape type bs) (array_shape type bs) ≡ true → standing_for s v ≡ Some (array_binding type bs v.index serial) → generation_of (living_of s.living serial) ≡ Some (array_generation type bs values) → V.designated around (whole v) k s ≡ give (designated_element type bs serial values []) k s
+pub whole_designated : (around : Around) (s : State) (v : Y.Variable) (type : Y.LeafType) (bs : List Bounds) (serial : ℕ) (values : ℕ → List ℤ → BasicValue) (k : ℕ) → same_shape (array_shape type bs) (array_shape type bs) ≡ true → standing_for s v ≡ Some (array_binding type bs v.index serial) → generation_of (living_of s.living serial) ≡ Some (array_generation type bs values) → V.designated around (whole v) k s ≡ give (designated_element type bs serial values []) k s
 unfolding V.designated V.located V.numbers V.variable_designated V.part_designated looked ◌>>=◌ ◌>>◌ R.or_error R.demanded choose give
 whole_designated around s v type bs serial values k same stands living =
     let lives : named s (VariableName serial) (array_shape type bs) ≡ Some (array_generation type bs values) = ap (if_same_shape (array_shape type bs)) living ∙ ap (λ t. cond t (Some (array_generation type bs values)) None) same in

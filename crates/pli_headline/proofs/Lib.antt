@@ -118,6 +118,7 @@ pub mod ArrayNames
 pub mod ElementsFilled
 pub mod ElementsServed
 pub mod PutElementsServed
+pub mod PutElementsMeant
 pub mod ElementsCode
 pub mod ElementsMarks
 pub mod ElementsPieces
