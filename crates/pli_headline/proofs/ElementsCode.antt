@@ -88,7 +88,7 @@ record_form e t block j type bs numeric declared =
     ap (λ o. (if has_constant_size (declared_in o) then K.extent_recorded t false else other) ++ rest (L.known_or_own e (declared_in o))) declared.1
     ∙ ap (λ q. (if q then K.extent_recorded t false else other) ++ rest (L.known_or_own e (array_variable type bs declared.0))) (size_constant type numeric bs declared.0)
 
-number_known : (e : Environment) (type : Y.LeafType) (bs : List Bounds) (initial : List T.InitialItem) → IsNumeric type → IsScalar type → AreBounds bs → e.table ≡ table_of e.program → number_asked e (array_variable type bs initial) ≡ number_for (table_of e.program) (record { type = type; bounds = bs })
+pub number_known : (e : Environment) (type : Y.LeafType) (bs : List Bounds) (initial : List T.InitialItem) → IsNumeric type → IsScalar type → AreBounds bs → e.table ≡ table_of e.program → number_asked e (array_variable type bs initial) ≡ number_for (table_of e.program) (record { type = type; bounds = bs })
 number_known e type bs initial numeric is are table =
     ap (λ g. if is_open g then L.own_signature else number_in_table g e.table) (array_signed type is bs initial)
     ∙ ap (λ q. if q then L.own_signature else number_in_table (array_signature type bs) e.table) (signature_known type numeric is bs are)

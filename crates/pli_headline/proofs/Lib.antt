@@ -121,6 +121,7 @@ pub mod PutElementsServed
 pub mod PutElementsMeant
 pub mod ElementsCode
 pub mod ElementsMarks
+pub mod PutElementsCode
 pub mod ElementsPieces
 pub mod ArrayStates
 pub mod InnerFrames
