@@ -139,7 +139,7 @@ far_in x = record { reserved_stay = λ y u. refl; known_stay = λ b y u o. o; se
 pub far_none : Free nothing 31
 far_none = record { reserved_stay = λ y u. refl; known_stay = λ b y u o. o; set = λ y u. refl }
 
-place_sum : (base place : ℕ) → base + place < 2 ^ 24 → sum base (word (pos place)) ≡ base + place
+pub place_sum : (base place : ℕ) → base + place < 2 ^ 24 → sum base (word (pos place)) ≡ base + place
 place_sum base place few = omega (arith, ints, few)
 
 -- the frame's own offset, from a register that has its address

@@ -124,7 +124,7 @@ below_by at n few less =
     let k : 0 + (at - n) ≡ at - n = omega arith in
     ap (λ u. sum u (word (neg_ℤ (pos n)))) (sym f) ∙ e ∙ k
 
-given_piece : {R : Type 0} {links : Links} {code : List Instr} {i : ℕ} {g : Ground} {v : Services} {h t : ℕ → ℕ} {aims : Aims R} {flow : Flow R} (closed : Closed code aims) (f : Family) (taken : Taken) → taken.words + 4 ≤ g.words → PlaceFrom g.frame (pos 36) (g.frame + 36) → ((t' : ℕ → ℕ) (b : Base) (m : List ℕ) → g.memory t' b m → load 4 m (g.frame + 36) ≡ g.frame) → Linked links code i (given_by taken) → ((b : Base) → At b i (Known g v h t nothing b) (f b)) → ((f' : Family) → ((b : Base) → At b (i + size_of (given_by taken)) (Known g v h t (valued (g.frame - 4 * (taken.words + 4))) b) (f' b)) → Comes code (i + size_of (given_by taken)) f' v aims flow) → Comes code i f v aims flow
+pub given_piece : {R : Type 0} {links : Links} {code : List Instr} {i : ℕ} {g : Ground} {v : Services} {h t : ℕ → ℕ} {aims : Aims R} {flow : Flow R} (closed : Closed code aims) (f : Family) (taken : Taken) → taken.words + 4 ≤ g.words → PlaceFrom g.frame (pos 36) (g.frame + 36) → ((t' : ℕ → ℕ) (b : Base) (m : List ℕ) → g.memory t' b m → load 4 m (g.frame + 36) ≡ g.frame) → Linked links code i (given_by taken) → ((b : Base) → At b i (Known g v h t nothing b) (f b)) → ((f' : Family) → ((b : Base) → At b (i + size_of (given_by taken)) (Known g v h t (valued (g.frame - 4 * (taken.words + 4))) b) (f' b)) → Comes code (i + size_of (given_by taken)) f' v aims flow) → Comes code i f v aims flow
 given_piece {code = code} {i = i} {g = g} {v = v} {aims = aims} {flow = flow} closed f taken room at36 own l at next' =
     let n = 4 * (taken.words + 4) in
     let first = load_word a0 frame_register own_offset in

@@ -123,6 +123,7 @@ pub mod ElementsCode
 pub mod ElementsMarks
 pub mod PutElementsCode
 pub mod ElementsPieces
+pub mod PutElementsAsked
 pub mod ArrayStates
 pub mod InnerFrames
 pub mod CalledFrames
