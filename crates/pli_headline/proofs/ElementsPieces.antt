@@ -57,15 +57,15 @@ put_apart xs k x i e = ap (λ q. cond q x (xs i)) e
 further : (words a b : ℕ) → b < a → (words + a == words + b) ≡ false
 further words a b h = grind (arith, nat_tests)
 
-record_name : (t : ℕ → ℕ) (words name n : ℕ) → recorded t words name n (words + 3) ≡ name
+pub record_name : (t : ℕ → ℕ) (words name n : ℕ) → recorded t words name n (words + 3) ≡ name
 record_name t words name n =
     put_apart (put (put (put t words 0) (words + 1) 0) (words + 3) name) (words + 2) n (words + 3) (further words 3 2 (omega arith))
     ∙ put_same (put (put t words 0) (words + 1) 0) (words + 3) name
 
-record_number : (t : ℕ → ℕ) (words name n : ℕ) → recorded t words name n (words + 2) ≡ n
+pub record_number : (t : ℕ → ℕ) (words name n : ℕ) → recorded t words name n (words + 2) ≡ n
 record_number t words name n = put_same (put (put (put t words 0) (words + 1) 0) (words + 3) name) (words + 2) n
 
-record_extent : (t : ℕ → ℕ) (words name n : ℕ) → recorded t words name n words ≡ 0
+pub record_extent : (t : ℕ → ℕ) (words name n : ℕ) → recorded t words name n words ≡ 0
 record_extent t words name n =
     put_other (put (put (put t words 0) (words + 1) 0) (words + 3) name) (words + 2) n words (omega arith)
     ∙ put_other (put (put t words 0) (words + 1) 0) (words + 3) name words (omega arith)

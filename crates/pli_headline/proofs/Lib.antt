@@ -124,6 +124,7 @@ pub mod ElementsMarks
 pub mod PutElementsCode
 pub mod ElementsPieces
 pub mod PutElementsAsked
+pub mod PutElementsNumbers
 pub mod ArrayStates
 pub mod InnerFrames
 pub mod CalledFrames

@@ -77,7 +77,7 @@ record_in {g} temps t words name n number room few few' o b m held =
       extent_is = ap (load 4 m) (sym e3) ∙ temps.found t b m words (omega (arith, room)) (subst (λ u. u < 2 ^ 32) (sym o.extent_is) (lit< tt)) held ∙ o.extent_is;
     }
 
-number_word : (words k j : ℕ) → words + 4 + 2 - k ≡ j + 1 → words_place j 1 ≡ word_in (words + 4) 2 k
+pub number_word : (words k j : ℕ) → words + 4 + 2 - k ≡ j + 1 → words_place j 1 ≡ word_in (words + 4) 2 k
 number_word words k j e = ap (λ n. neg_ℤ (pos (4 * n))) (sym e)
 
 -- ---- the call
