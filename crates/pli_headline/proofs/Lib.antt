@@ -125,6 +125,7 @@ pub mod PutElementsCode
 pub mod ElementsPieces
 pub mod PutElementsAsked
 pub mod PutElementsNumbers
+pub mod PutElementsLoaded
 pub mod ArrayStates
 pub mod InnerFrames
 pub mod CalledFrames
