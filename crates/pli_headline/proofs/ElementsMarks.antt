@@ -24,7 +24,7 @@ offset_none q level place =
     behind (cond q [] (load_word a0 frame_register (display level))) (own ++ plus a0 a0 (pos place)) [] (either q [] (load_word a0 frame_register (display level)) refl (load_none a0 frame_register (display level)))
     (behind own (plus a0 a0 (pos place)) [] (load_none a0 (cond q frame_register a0) own_offset) (plus_none a0 a0 (pos place)))
 
-record_none : (t : Taken) (q : Bool) (level place n : ℕ) → Marks (record_by t q level place n) []
+pub record_none : (t : Taken) (q : Bool) (level place n : ℕ) → Marks (record_by t q level place n) []
 record_none t q level place n =
     let p1 = K.record_stored t 3 zero_register in
     let p2 = K.record_stored t 2 zero_register in

@@ -229,6 +229,7 @@ pub mod SymbolsMarked
 pub mod ExpressionMarks
 pub mod ArrayMarks
 pub mod PutMarks
+pub mod PutElementsMarks
 pub mod GetMarks
 pub mod Stands
 pub mod StatementMarks

@@ -36,7 +36,7 @@ use Rattle.pli_headline.proofs.ElementsServed.{RecordThere}
 use Rattle.pli_headline.proofs.ElementsCode.{given_by, place_sum}
 use Rattle.pli_headline.proofs.ElementsPieces.{given_piece}
 use Rattle.pli_headline.proofs.PutElementsServed.{shape_words}
-use Rattle.pli_headline.proofs.PutElementsCode.{shape_by, buffer_by, asked_by, elements_in}
+use Rattle.pli_headline.proofs.PutElementsCode.{shape_by, asked_by, elements_in}
 use Rattle.pli_headline.proofs.Reach.{Family, Aims, Comes, Closed, onward}
 
 -- ---- the service, by six registers

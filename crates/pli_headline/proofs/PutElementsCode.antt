@@ -1,6 +1,6 @@
 -- The code of PUT of a whole array of numbers or bits, where the array's declaration is known: the record of the array, the number of the next
 -- element, and the turns, each of which asks for that element and shows it.
-use Rattle.std.proofs.Common.{◌≡◌, ℕ, ◌+◌, ◌-◌, List, [], ◌∷◌, ◌++◌, length, Option, Some, Bool, true, false, refl, ap, ◌∙◌, arith}
+use Rattle.std.proofs.Common.{◌≡◌, ℕ, ◌+◌, ◌-◌, List, [], ◌∷◌, ◌++◌, length, Option, Some, Bool, refl, ap, ◌∙◌, arith}
 use Rattle.std.specs.Prelude.{pos, negsuc, ◌==◌, ◌||◌, take, drop, if◌then◌else◌}
 use Rattle.std.specs.List.{list_any}
 use Rattle.rv_meaning.specs.declared.instr.ImmediateOp.TheVariants as Imm

@@ -1,12 +1,11 @@
 -- An element of an array, from its offset: its address, and the number or bit that stands there. Of a number the frame's buffer tells the
 -- precision, by which it is loaded.
-use Rattle.std.proofs.Common.{◌≡◌, ℕ, suc, ◌+◌, ◌-◌, ◌*◌, ◌%◌, ◌^◌, ◌<◌, ◌≤◌, inl, inr, List, [], ◌∷◌, ◌++◌, length, Bool, true, false, refl, sym, ap, ◌∙◌, subst, arith, lit<}
-use Rattle.std.specs.Prelude.{ℤ, pos, cond, nat_le, if◌then◌else◌}
+use Rattle.std.proofs.Common.{◌≡◌, ℕ, suc, ◌+◌, ◌-◌, ◌*◌, ◌%◌, ◌^◌, ◌<◌, ◌≤◌, inr, List, [], ◌∷◌, ◌++◌, length, Bool, true, false, refl, sym, ap, ◌∙◌, subst, arith, lit<}
+use Rattle.std.specs.Prelude.{pos, nat_le, if◌then◌else◌}
 use Rattle.std.proofs.lemmas.Bool.Decides.{nat_tests}
 use Rattle.std.proofs.lemmas.Int.{ints}
 use Rattle.rv_meaning.specs.declared.instr.Instr.{Instr}
 use Rattle.rv_meaning.specs.declared.instr.Instr.TheVariants as I
-use Rattle.rv_meaning.specs.declared.instr.LoadKind.{LoadKind}
 use Rattle.rv_meaning.specs.declared.instr.LoadKind.TheVariants as Load
 use Rattle.rv_meaning.specs.declared.instr.BranchTest.TheVariants as Test
 use Rattle.rv_meaning.specs.Words.{word, sum, holds_of}
@@ -32,7 +31,7 @@ use Rattle.pli_headline.proofs.Raising.{small_is}
 use Rattle.pli_headline.proofs.Scalars.{load_kind}
 use Rattle.pli_headline.proofs.Bodies.{Ground, Known, PlaceFrom, zero_is, load_piece, narrow_load_from}
 use Rattle.pli_headline.proofs.Operators.{valued}
-use Rattle.pli_headline.proofs.Temporaries.{Temporaries, nothing}
+use Rattle.pli_headline.proofs.Temporaries.{Temporaries}
 use Rattle.pli_headline.proofs.FormatsRead.{words_stand}
 use Rattle.pli_headline.proofs.WrittenBytes.{byte-with_inside}
 use Rattle.pli_headline.proofs.Reach.{Family, Reach, Aims, Comes, Closed, onward}

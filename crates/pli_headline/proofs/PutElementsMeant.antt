@@ -1,15 +1,15 @@
 -- PUT of a whole array in the meaning: its elements are shown in the order of their places, each as the value of a number that it holds.
-use Rattle.std.proofs.Common.{◌≡◌, ℕ, zero, suc, ◌+◌, ◌<◌, List, [], ◌∷◌, ◌++◌, length, map, Option, Some, None, Bool, true, false, refl, sym, ap, ◌∙◌, subst, arith}
-use Rattle.std.specs.Prelude.{ℤ, pos, cond, ◌&&◌, slice_get}
+use Rattle.std.proofs.Common.{◌≡◌, ℕ, List, [], ◌∷◌, length, Some, None, Bool, true, false, refl, ap, ◌∙◌}
+use Rattle.std.specs.Prelude.{ℤ, pos, cond, ◌&&◌}
 use Rattle.std.specs.List.{list_all, filter}
-use Rattle.pli_typing.specs.Signatures.{Bounds, element_count}
+use Rattle.pli_typing.specs.Signatures.{Bounds}
 use Rattle.pli_typing.specs.TypedTree as Y
 use Rattle.pli_language.specs.Tree as T
 use Rattle.pli_meaning.specs.BasicValues.{VariableName, BasicValue}
-use Rattle.pli_meaning.specs.Contents.{is_within, element_place, same_shape}
+use Rattle.pli_meaning.specs.Contents.{is_within, element_place}
 use Rattle.pli_meaning.specs.DeclaredShapes.{declared_variable, kind_of}
-use Rattle.pli_meaning.specs.StorageState.{State, named, if_same_shape, generation_of, living_of}
-use Rattle.pli_meaning.specs.Control.{Meaning, Normal, give, given, choose, flow_on, looked, stuck, ◌>>=◌, ◌>>◌}
+use Rattle.pli_meaning.specs.StorageState.{State, named, if_same_shape}
+use Rattle.pli_meaning.specs.Control.{Meaning, give, given, choose, flow_on, looked, stuck, ◌>>=◌, ◌>>◌}
 use Rattle.pli_meaning.specs.Raising as R
 use Rattle.pli_meaning.specs.Raising.{Around}
 use Rattle.pli_meaning.specs.Evaluating as V
