@@ -126,6 +126,7 @@ pub mod ElementsPieces
 pub mod PutElementsAsked
 pub mod PutElementsNumbers
 pub mod PutElementsLoaded
+pub mod PutElementsTurns
 pub mod ArrayStates
 pub mod InnerFrames
 pub mod CalledFrames
