@@ -10,14 +10,15 @@ use Rattle.pli_meaning.specs.Contents.{is_within, element_place}
 use Rattle.pli_meaning.specs.DeclaredShapes.{declared_variable, kind_of}
 use Rattle.pli_meaning.specs.StorageState.{State, named, if_same_shape}
 use Rattle.pli_meaning.specs.Control.{Meaning, give, given, choose, flow_on, looked, stuck, ◌>>=◌, ◌>>◌}
+use Rattle.pli_meaning.specs.Texts.{bit_text}
 use Rattle.pli_meaning.specs.Raising as R
 use Rattle.pli_meaning.specs.Raising.{Around}
 use Rattle.pli_meaning.specs.Evaluating as V
-use Rattle.pli_meaning.specs.Evaluating.{Computational, ComputationalNumber, ComputationalBit}
+use Rattle.pli_meaning.specs.Evaluating.{Computational, ComputationalNumber, ComputationalText, ComputationalBit}
 use Rattle.pli_meaning.specs.Placing as Q
 use Rattle.pli_meaning.specs.StreamOrder.{Element}
 use Rattle.pli_meaning.specs.Streaming as P
-use Rattle.pli_meaning.specs.Streaming.{FormatItem}
+use Rattle.pli_meaning.specs.Streaming.{FormatItem, DataItem, FixedItem, TextItem}
 use Rattle.pli_serving.specs.Values.{all_subscripts}
 use Rattle.pli_headline.specs.ProvedSoFar.{Names, AreBounds, array_variable}
 use Rattle.pli_headline.proofs.Scalars.{IsNumeric, by_type, value_as, bit_of}
@@ -112,3 +113,13 @@ array_meant {s = s} {block} {j} {serial} {type} {bs} around whole' rest initial 
     ap (λ q. flow_on k q put') (whole_designated around s (own block j) type bs serial h.values k (same_array type bs h.numeric) h.stands h.lives)
     ∙ ap (λ o. P.elements_put around whole' rest d (P.part_elements (P.members_of o) d) k s) declared
     ∙ ap (λ es. P.elements_put around whole' rest d es k s) (part_listed type bs serial h.values are)
+
+-- ---- bits
+
+-- a bit as a text is shown as the bit, also by F items
+pub bit_text_shown : (around : Around) (b : Bool) (d : DataItem) (k : ℕ) (s : State) → P.shown_by around (ComputationalText (bit_text b)) d k s ≡ P.shown_by around (ComputationalBit b) d k s
+unfolding P.shown_by
+bit_text_shown around true (FixedItem width) k s = refl
+bit_text_shown around false (FixedItem width) k s = refl
+bit_text_shown around b (TextItem None) k s = refl
+bit_text_shown around b (TextItem (Some width)) k s = refl
