@@ -127,6 +127,7 @@ pub mod PutElementsAsked
 pub mod PutElementsNumbers
 pub mod PutElementsLoaded
 pub mod PutElementsTurns
+pub mod PutElementsBegun
 pub mod PutElementsBuffer
 pub mod ArrayStates
 pub mod InnerFrames

@@ -1,5 +1,5 @@
 -- What PUT of a whole array leaves of the main procedure's frame, where service 8 writes into its buffer, and the array's shape among the constants.
-use Rattle.std.proofs.Common.{◌≡◌, ℕ, suc, ◌+◌, ◌-◌, ◌*◌, ◌^◌, ◌<◌, ◌≤◌, inl, inr, List, [], ◌∷◌, length, ◌∙◌, arith, lit<}
+use Rattle.std.proofs.Common.{◌≡◌, ℕ, suc, ◌+◌, ◌-◌, ◌*◌, ◌^◌, ◌<◌, ◌≤◌, inl, inr, List, length, ◌∙◌, arith, lit<}
 use Rattle.rv_meaning.specs.declared.instr.Instr.{Instr}
 use Rattle.rv_meaning.specs.Memory.{bytes_of_words}
 use Rattle.rv_meaning.specs.Machine.{memory_size}

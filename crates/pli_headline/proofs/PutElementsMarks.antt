@@ -6,10 +6,10 @@ use Rattle.rv_meaning.specs.declared.instr.BranchTest.TheVariants as Test
 use Rattle.pli_language.specs.Tree as T
 use Rattle.pli_typing.specs.Signatures.{Bounds}
 use Rattle.pli_typing.specs.TypedTree as Y
-use Rattle.pli_coding.specs.Registers.{zero_register, frame_register, a0, a1, a2, a3, a4, a5, u1, u2}
+use Rattle.pli_coding.specs.Registers.{zero_register, frame_register, a0, a1, a2, a4, a5, u1, u2}
 use Rattle.pli_coding.specs.Assembly.{JumpAhead, JumpBack, Code, size_of}
 use Rattle.pli_coding.specs.Instructions.{immediate, add, plus, small, skip_where, load_word, store_word, service, status_tested}
-use Rattle.pli_coding.specs.Frames.{buffer, buffer_size, own_offset}
+use Rattle.pli_coding.specs.Frames.{own_offset}
 use Rattle.pli_coding.specs.Environments.{Environment, Taken, with_number, save, fetch}
 use Rattle.pli_coding.specs.SignatureTable.{table_of}
 use Rattle.pli_coding.specs.Storing as K

@@ -1,7 +1,7 @@
 -- A turn of PUT of a whole array begins with what service 8 told: where there is no element left the code goes on behind the turns, else to what is
 -- done with the element.
-use Rattle.std.proofs.Common.{◌≡◌, ℕ, suc, ◌+◌, ◌-◌, ◌*◌, ◌^◌, ◌<◌, ◌≤◌, List, [], ◌∷◌, ◌++◌, length, Bool, true, false, refl, sym, ap, ◌∙◌, subst, arith, lit<}
-use Rattle.std.specs.Prelude.{pos, negsuc, ◌==◌}
+use Rattle.std.proofs.Common.{◌≡◌, ℕ, ◌+◌, ◌<◌, ◌≤◌, List, [], ◌∷◌, ◌++◌, length, true, false, refl, sym, ap, ◌∙◌, subst, arith}
+use Rattle.std.specs.Prelude.{negsuc}
 use Rattle.std.proofs.lemmas.Bool.Decides.{nat_tests}
 use Rattle.rv_meaning.specs.declared.instr.Instr.{Instr}
 use Rattle.rv_meaning.specs.declared.instr.ImmediateOp.TheVariants as Imm
@@ -11,7 +11,7 @@ use Rattle.pli_meaning.specs.Control.{Flow}
 use Rattle.pli_serving.specs.ServiceState.{Services}
 use Rattle.pli_serving.specs.ElementService as E
 use Rattle.pli_coding.specs.Registers.{zero_register, a0, u1}
-use Rattle.pli_coding.specs.Assembly.{JumpAhead, Code, size_of}
+use Rattle.pli_coding.specs.Assembly.{JumpAhead, Code}
 use Rattle.pli_coding.specs.Instructions.{immediate, skip_where}
 use Rattle.pli_coding.specs.Linking.{Links}
 use Rattle.pli_headline.proofs.Engine.{Base, address}
