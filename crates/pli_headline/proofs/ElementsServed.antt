@@ -150,7 +150,7 @@ bytes_stored (suc n) v at m h =
 -- ---- what is stored
 
 -- what an element keeps of a value, in memory
-kept_stored : (type : Y.LeafType) (z : ℤ) (at : ℕ) (m : List ℕ) → Fits type z → at + 4 ≤ length m → with_bytes (kept_bytes (kind_of [] type) (value_as type z)) at m ≡ store (store_width (store_kind type)) m at (word z)
+pub kept_stored : (type : Y.LeafType) (z : ℤ) (at : ℕ) (m : List ℕ) → Fits type z → at + 4 ≤ length m → with_bytes (kept_bytes (kind_of [] type) (value_as type z)) at m ≡ store (store_width (store_kind type)) m at (word z)
 kept_stored (Y.FixedLeaf p) z at m fits room = stored_by (nat_le p 15)
   where
     stored_by : (q : Bool) → with_bytes (number_bytes (cond q 2 4) (word z)) at m ≡ store (store_width (if q then Store.Half else Store.Word)) m at (word z)
@@ -182,7 +182,7 @@ size_by true = refl
 size_by false = refl
 
 -- where an element stands
-element_is : (type : Y.LeafType) → IsNumeric type → (bs : List Bounds) (at signature : ℕ) (is : List ℤ) → A.element_at (array_shape type bs) (found_at at signature) (0, is) ≡ at + 4 * element_place bs is
+pub element_is : (type : Y.LeafType) → IsNumeric type → (bs : List Bounds) (at signature : ℕ) (is : List ℤ) → A.element_at (array_shape type bs) (found_at at signature) (0, is) ≡ at + 4 * element_place bs is
 element_is type numeric bs at signature is =
     by_type (λ t. A.element_at (array_shape t bs) (found_at at signature) (0, is) ≡ at + 4 * element_place bs is)
     (λ p. ap (λ n. at + 0 + n * element_place bs is) (size_by (nat_le p 15)) ∙ omega arith) (omega arith) type numeric
@@ -240,7 +240,7 @@ all_there P (x ∷ xs) Q same h = ap (λ q. q && list_all P (map (λ is. (0, is)
     next_by true q h k = k h
     next_by false q h k = h
 
-holds_by : (type : Y.LeafType) → IsNumeric type → (bs : List Bounds) (serial at signature : ℕ) (m : List ℕ) (is : List ℤ) → A.is_there (part_at type bs serial at signature m).part (0, is) ≡ is_within bs is
+pub holds_by : (type : Y.LeafType) → IsNumeric type → (bs : List Bounds) (serial at signature : ℕ) (m : List ℕ) (is : List ℤ) → A.is_there (part_at type bs serial at signature m).part (0, is) ≡ is_within bs is
 holds_by type numeric bs serial at signature m is =
     by_type (λ t. A.is_there (part_at t bs serial at signature m).part (0, is) ≡ is_within bs is) (λ p. refl) refl type numeric
 

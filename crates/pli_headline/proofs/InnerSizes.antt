@@ -54,6 +54,7 @@ mutual
   inside_size e t block types named has (Y.AssignElements target (Y.StoredNumber precision x) line) is bare = omega arith
   inside_size e t block types named has (Y.AssignElements target (Y.StoredBit x) line) is bare = omega arith
   inside_size e t block types named has (Y.AssignElements target (Y.StoredText x) line) is bare = omega arith
+  inside_size e t block types named has (Y.AssignAggregate target source line) is bare = omega arith
   inside_size e t block types named has (Y.If condition unit line) is bare =
       let test = bit_code e t condition in
       let c = stmt_code e t unit in
@@ -191,6 +192,8 @@ mutual
       let m = statement_size e t block types has (Y.AssignElements target (Y.StoredBit x) line) is in omega (arith, m)
   statement_inner e t block types named has (Y.AssignElements target (Y.StoredText x) line) is bare =
       let m = statement_size e t block types has (Y.AssignElements target (Y.StoredText x) line) is in omega (arith, m)
+  statement_inner e t block types named has (Y.AssignAggregate target source line) is bare =
+      let m = statement_size e t block types has (Y.AssignAggregate target source line) is in omega (arith, m)
   statement_inner e t block types named has (Y.If condition unit line) is bare =
       let test = bit_code e t condition in
       let c = stmt_code e t unit in

@@ -32,6 +32,7 @@ use Rattle.pli_headline.proofs.DeclaredBegins.{is_made, made_constants}
 use Rattle.pli_headline.proofs.UnitVariables.{unit_makes, unit_sized, unit_filled}
 use Rattle.pli_headline.proofs.ElementsAssignments.{elements_number_does, elements_bit_does}
 use Rattle.pli_headline.proofs.TextsAssignments.{elements_text_does}
+use Rattle.pli_headline.proofs.TextCopiesAssignments.{copies_does}
 use Rattle.pli_headline.proofs.Entered.{Frames, Way}
 use Rattle.pli_headline.proofs.Scalars.{Values}
 use Rattle.pli_headline.proofs.Engine.{Base}
@@ -84,6 +85,8 @@ simple_does bl links code routines around same can tells has deep space narrow e
 simple_does bl links code routines around same can tells has deep space narrow entering least (Y.AssignElements target (Y.StoredText x) line) simple is room calls once few jumps low =
     elements_text_does bl links code routines around target x line is.0 is.1.0 room is.1.1
 simple_does bl links code routines around same can tells has deep space narrow entering least (Y.AssignElements target source line) simple is room calls once few jumps low = absurd is
+simple_does bl links code routines around same can tells has deep space narrow entering least (Y.AssignAggregate target source line) simple is room calls once few jumps low =
+    copies_does bl links code routines around target source line is.0 room is.1
 simple_does {e} bl links code routines around same can tells has deep space narrow {more} entering least (Y.CallProcedure (Y.Calling number level Y.NoArgument) line) simple is room calls once few jumps low =
     subst (λ n. Does bl links code around.turns (stmt_code e bl.taken (Y.CallProcedure (Y.Calling number n Y.NoArgument) line)) (M.statement around (Y.CallProcedure (Y.Calling number n Y.NoArgument) line))) (sym is.0)
     (can.0 e.owner e.block e.level bl deep space narrow routines tells (omega (arith, room)) has around same more entering least number calls.1 line is.1)

@@ -95,6 +95,8 @@ pub mod ArrayAssignments
 pub mod ElementAssignments
 pub mod ElementsAssignments
 pub mod TextsAssignments
+pub mod CopiesAssignments
+pub mod TextCopiesAssignments
 pub mod Targets
 pub mod TextStates
 pub mod TextGrounds
@@ -120,6 +122,9 @@ pub mod ArrayNames
 pub mod ElementsFilled
 pub mod TextsFilled
 pub mod TextsServed
+pub mod CopiesFilled
+pub mod CopiesServed
+pub mod TextCopiesServed
 pub mod ElementsServed
 pub mod ElementsCode
 pub mod ElementsMarks
@@ -127,6 +132,9 @@ pub mod ElementsPieces
 pub mod TextsCode
 pub mod TextsPieces
 pub mod TextsMarks
+pub mod CopiesCode
+pub mod CopiesPieces
+pub mod CopiesMarks
 pub mod ArrayStates
 pub mod InnerFrames
 pub mod CalledFrames
@@ -247,6 +255,8 @@ mod EndfileRows
 mod TextArrayRows
 mod ElementsRows
 mod TextsRows
+mod CopiesRows
+mod TextCopiesRows
 pub mod FirstPathDeclared
 pub mod FirstPathNames
 pub mod FirstPathExpressions

@@ -60,6 +60,7 @@ use Rattle.pli_headline.proofs.Putting.{put_does}
 use Rattle.pli_headline.proofs.Getting.{get_does, get_skip_does}
 use Rattle.pli_headline.proofs.ElementsAssignments.{elements_number_does, elements_bit_does}
 use Rattle.pli_headline.proofs.TextsAssignments.{elements_text_does}
+use Rattle.pli_headline.proofs.TextCopiesAssignments.{copies_does}
 use Rattle.pli_headline.proofs.ElementAssignments.{assign_number_part_does, assign_bit_part_does}
 use Rattle.pli_headline.proofs.CountStarts.{counted_does}
 use Rattle.pli_coding.specs.Streams.{value_words}
@@ -251,6 +252,8 @@ mutual
       elements_bit_does bl links code routines around target x line is.0 is.1.0 room is.1.1
   statement_does bl links code routines around same named (Y.AssignElements target (Y.StoredText x) line) is jumps room space bare entering least known calls ways =
       elements_text_does bl links code routines around target x line is.0 is.1.0 room is.1.1
+  statement_does bl links code routines around same named (Y.AssignAggregate target source line) is jumps room space bare entering least known calls ways =
+      copies_does bl links code routines around target source line is.0 room is.1
   statement_does bl links code routines around same named (Y.If condition unit line) is jumps room space bare entering least known calls ways =
       let a = le-max_left (bit_words condition) (stmt_words unit) in
       let d = le-max_right (bit_words condition) (stmt_words unit) in

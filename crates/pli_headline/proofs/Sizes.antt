@@ -21,7 +21,7 @@ use Rattle.pli_coding.specs.Frames.{words_place}
 use Rattle.pli_coding.specs.Environments.{Environment, Taken, none_taken, is_register_left, with_number, save, fetch}
 use Rattle.pli_coding.specs.Arithmetic.{signed_code, absolute_code, sign_code, calculated_code, modulo_code, divided_code, extreme_code, negated_code, combined_code, compared_code, fitted_code}
 use Rattle.pli_coding.specs.Expressions.{number_code, extremes_code, bit_code, text_code, reference_code, subscripts_code, given_in, type_in, address_in}
-use Rattle.pli_coding.specs.Storing.{stored_into, word_stored, top_stored, record_code, record_given, first_leaf}
+use Rattle.pli_coding.specs.Storing.{stored_into, word_stored, top_stored, record_code, record_given, first_leaf, aggregate_code}
 use Rattle.pli_coding.specs.Streams.{has_fixed, get_item_words, get_items_words, get_words, value_put, number_put, text_put, as_text, item_put, items_put, edit_begun, edit_ended, put_pair, put_pairs, put_item_words, put_items_words, put_words, skip_option, field_stored, field_awaited, number_got, bit_got, item_got, items_got, get_pair, get_pairs, value_words, text_got}
 use Rattle.pli_coding.specs.Allocating.{act_code}
 use Rattle.pli_coding.specs.Statements.{if_met, while_met, block_words, stmt_code, stmts_code, stmt_words, stmts_words, marked, once_code, bit_if, in_turns, before_turns, number_if, start_code, limit_code, step_code, started_code, start_place, step_place, limit_place, turn_of, turns_code, words_back, words_behind_limit, words_behind_condition, limit_kept, while_kept, stepped_code}
@@ -34,6 +34,7 @@ use Rattle.pli_headline.proofs.Scalars.{by_plain}
 use Rattle.pli_headline.proofs.Linking.{size_append}
 use Rattle.pli_headline.proofs.ElementsMarks.{elements_size}
 use Rattle.pli_headline.proofs.TextsMarks.{texts_size}
+use Rattle.pli_headline.proofs.CopiesMarks.{copies_words}
 use Rattle.pli_headline.proofs.Variables.{own, whole_part, HasTypes, subscripts_in}
 use Rattle.pli_headline.proofs.ArrayMeant.{element}
 use Rattle.pli_coding.specs.Locating.{loaded, stored, reached, text_pushed, text_stored}
@@ -470,6 +471,11 @@ mutual
       let s1 = size_append (act_code line) (code ++ into) in
       let s2 = size_append code into in
       most _ _ _ (omega (arith, n, s1, s2)) (omega (arith, z, none, four, s1, s2))
+  statement_size e t block types has (Y.AssignAggregate target source line) is =
+      let few = copies_words block types target source is.0 in
+      let four = act_size line in
+      let size = size_append (act_code line) (aggregate_code e t target source) in
+      omega (arith, few, four, size)
   statement_size e t block types has (Y.If condition unit line) is =
       let test = bit_code e t condition in
       let c = stmt_code e t unit in

@@ -18,7 +18,7 @@ use Rattle.pli_coding.specs.Entries.{registers_restored, all_saved, display_copi
 use Rattle.pli_meaning.specs.DeclaredShapes.{variables_of_block}
 use Rattle.pli_coding.specs.Arithmetic.{sum_code, fitted_code}
 use Rattle.pli_coding.specs.Expressions.{frame_given, number_code, bit_code, text_code, call_code}
-use Rattle.pli_coding.specs.Storing.{word_stored, assigned_code, record_code, record_given, first_leaf}
+use Rattle.pli_coding.specs.Storing.{word_stored, assigned_code, record_code, record_given, first_leaf, aggregate_code}
 use Rattle.pli_coding.specs.Streams.{put_pairs, get_pairs, edit_ended, skip_option}
 use Rattle.pli_coding.specs.Allocating.{act_code}
 use Rattle.pli_coding.specs.Statements.{if_met, while_met, once_code, in_turns, before_turns, limit_place, step_place, start_place, start_code, limit_code, step_code, start_loaded, started_code, count_begun, limit_tested, limit_kept, while_kept, stepped_code, turn_of, turns_code, words_behind_limit, words_behind_condition, words_back, signal_code, unwound_to, returned_by, goto_outer, goto_code, marked, stmt_code, stmts_code, stmts_words, block_words, begin_environment, begin_code, condition_given, unit_established, unit_left, unit_variables, owner_of_unit, unit_words, unit_mark}
@@ -36,6 +36,7 @@ use Rattle.pli_headline.proofs.OnUnits.{unit_by}
 use Rattle.pli_headline.proofs.Targets.{assigned_read}
 use Rattle.pli_headline.proofs.ElementsMarks.{elements_none}
 use Rattle.pli_headline.proofs.TextsMarks.{texts_none}
+use Rattle.pli_headline.proofs.CopiesMarks.{copies_none}
 use Rattle.pli_headline.proofs.ExpressionMarks.{number_none, bit_none, assigned_none, text_stored_none, number_assigned_none, bit_assigned_none, text_none}
 use Rattle.pli_headline.proofs.ArrayFrames.{held_constant}
 use Rattle.pli_headline.proofs.PlainInside.{DeclaresPlain, DeclarePlain}
@@ -338,6 +339,8 @@ mutual
       let into = record_code e t target ++ (record_given e t ++ (number a1 (first_leaf target) ++ service 41)) in
       behind (act_code line) (text_code e t x ++ into) [] (act_none line)
       (behind (text_code e t x) into [] (text_none e t block types x has is.1.0) (texts_none e t block types target has is.0))
+  statement_marks e t block types (Y.AssignAggregate target source line) named has is bare =
+      behind (act_code line) (aggregate_code e t target source) [] (act_none line) (copies_none e t block types target source has is.0)
   statement_marks e t block types (Y.If condition unit line) named has is bare =
       tested_marks e t block types condition line (if_met (stmt_code e t unit)) (places_of (inner_stands e.block unit)) has is.0 (statement_marks e t block types unit named has is.1.0 bare)
   statement_marks e t block types (Y.IfElse condition unit otherwise line) named has is bare =

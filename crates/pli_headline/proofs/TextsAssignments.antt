@@ -1,6 +1,6 @@
 -- Assignments of one text to all elements of an array of the main procedure.
-use Rattle.std.proofs.Common.{◌≡◌, ℕ, suc, ◌+◌, ◌-◌, ◌*◌, ◌^◌, ◌<◌, ◌≤◌, List, [], ◌∷◌, ◌++◌, map, Some, Bool, true, false, refl, sym, ap, ◌∙◌, subst, arith}
-use Rattle.std.specs.Prelude.{ℤ, max, ◌==◌}
+use Rattle.std.proofs.Common.{◌≡◌, ℕ, ◌+◌, ◌-◌, ◌*◌, ◌^◌, ◌<◌, ◌≤◌, List, ◌∷◌, ◌++◌, map, Some, Bool, true, false, refl, sym, ap, ◌∙◌, subst, arith}
+use Rattle.std.specs.Prelude.{ℤ, ◌==◌}
 use Rattle.std.proofs.Math.Nat.{le-max_left, le-max_right}
 use Rattle.std.proofs.lemmas.Bool.{eqb-true}
 use Rattle.rv_meaning.specs.declared.instr.Instr.{Instr}
@@ -15,7 +15,6 @@ use Rattle.pli_meaning.specs.Control.{Meaning, act, give, ◌>>=◌, ◌>>◌}
 use Rattle.pli_meaning.specs.Raising.{Around, at_line}
 use Rattle.pli_meaning.specs.Evaluating as V
 use Rattle.pli_meaning.specs.Executing as M
-use Rattle.pli_serving.specs.ServiceState.{Services}
 use Rattle.pli_serving.specs.Answers.{Done}
 use Rattle.pli_serving.specs.Templates.{template_of, shape_at}
 use Rattle.pli_coding.specs.Assembly.{size_of}
@@ -32,7 +31,6 @@ use Rattle.pli_headline.proofs.Engine.{address}
 use Rattle.pli_headline.proofs.Linking.{size_append}
 use Rattle.pli_headline.proofs.Items.{Linked}
 use Rattle.pli_headline.proofs.Jumps.{front_of, back_of}
-use Rattle.pli_headline.proofs.Calls.{Serving}
 use Rattle.pli_headline.proofs.Acts.{acted, act_piece}
 use Rattle.pli_headline.proofs.Temporaries.{stays_then}
 use Rattle.pli_headline.proofs.Scalars.{Values}
@@ -44,15 +42,13 @@ use Rattle.pli_headline.proofs.ArrayMeant.{HoldsArray, array_shape, array_beside
 use Rattle.pli_headline.proofs.ArrayNames.{place_of_name}
 use Rattle.pli_headline.proofs.ArrayStates.{kind_with, scalar_apart, scalar_beside, text_beside}
 use Rattle.pli_headline.proofs.ElementAssignments.{setting_at}
-use Rattle.pli_headline.proofs.ElementsPieces.{recorded, record_there}
+use Rattle.pli_headline.proofs.ElementsPieces.{record_there}
 use Rattle.pli_headline.proofs.ElementsAssignments.{array_numbered, own_place}
 use Rattle.pli_headline.proofs.Expressions.{text_does}
 use Rattle.pli_headline.proofs.Asides.{asides_changed}
 use Rattle.pli_headline.proofs.Entered.{Frames}
 use Rattle.pli_headline.proofs.Statements.{Block, Standing, AllHold, Does, counted_all}
 use Rattle.pli_headline.proofs.Reach.{Comes, before_closed, comes_on}
-use Rattle.pli_headline.proofs.TextsKept.{text_kept_as}
-use Rattle.pli_headline.proofs.TextArraysStay.{text_stride}
 use Rattle.pli_headline.proofs.TextArrayMeant.{HoldsTexts, texts_aside}
 use Rattle.pli_headline.proofs.TextArrayScopes.{IsTextArrayAt}
 use Rattle.pli_headline.proofs.TextArrayStates.{numbers_apart}

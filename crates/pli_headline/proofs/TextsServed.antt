@@ -1,6 +1,6 @@
 -- Service 41 for an array of texts, known by its name and signature: the text that waits on the stack of texts is stored in each element.
-use Rattle.std.proofs.Common.{◌≡◌, ℕ, zero, suc, ◌+◌, ◌*◌, ◌^◌, ◌<◌, ◌≤◌, List, [], ◌∷◌, length, map, Some, Bool, true, false, refl, sym, ap, ◌∙◌, arith}
-use Rattle.std.specs.Prelude.{ℤ, pos, ◌&&◌}
+use Rattle.std.proofs.Common.{◌≡◌, ℕ, zero, suc, ◌+◌, ◌*◌, ◌^◌, ◌<◌, ◌≤◌, List, [], ◌∷◌, length, map, Some, Bool, true, false, refl, ap, ◌∙◌, arith}
+use Rattle.std.specs.Prelude.{ℤ, ◌&&◌}
 use Rattle.std.specs.List.{list_all}
 use Rattle.std.proofs.lemmas.Bool.{le-leb}
 use Rattle.std.proofs.Math.Nat.{mul_comm}
@@ -23,18 +23,16 @@ use Rattle.pli_serving.specs.Aggregates as A
 use Rattle.pli_serving.specs.AggregateServices as W
 use Rattle.pli_headline.specs.ProvedSoFar.{AreBounds, text_leaf}
 use Rattle.pli_headline.proofs.Engine.{call_at}
-use Rattle.pli_headline.proofs.WrittenBytes.{length-with_bytes}
 use Rattle.pli_headline.proofs.NamesStand.{NameThere}
 use Rattle.pli_headline.proofs.ArrayMeant.{array_shape}
 use Rattle.pli_headline.proofs.ArrayOrder.{places_from, elements_ordered}
-use Rattle.pli_headline.proofs.TextPlaces.{text_kind_of, text_bytes}
-use Rattle.pli_headline.proofs.TextsKept.{kept_length}
-use Rattle.pli_headline.proofs.TextArraysStay.{text_stride, text_within, row_next}
-use Rattle.pli_headline.proofs.ElementsServed.{subscripts_within, found_at, part_at, RecordThere, aggregate_is, aggregate_found, part_found_by}
+use Rattle.pli_headline.proofs.TextPlaces.{text_kind_of}
+use Rattle.pli_headline.proofs.TextArraysStay.{text_stride}
+use Rattle.pli_headline.proofs.ElementsServed.{subscripts_within, found_at, part_at, RecordThere, aggregate_found, part_found_by}
 use Rattle.pli_headline.proofs.TextsFilled.{texts_from}
 
 -- where an element stands
-text_element_is : (varying : Bool) (most : ℕ) (bs : List Bounds) (at signature : ℕ) (is : List ℤ) → A.element_at (array_shape (text_leaf varying most) bs) (found_at at signature) (0, is) ≡ at + element_place bs is * text_stride varying most
+pub text_element_is : (varying : Bool) (most : ℕ) (bs : List Bounds) (at signature : ℕ) (is : List ℤ) → A.element_at (array_shape (text_leaf varying most) bs) (found_at at signature) (0, is) ≡ at + element_place bs is * text_stride varying most
 text_element_is false most bs at signature is =
     let n = text_stride false most in
     let e : at + 0 + n * element_place bs is ≡ at + n * element_place bs is = omega arith in

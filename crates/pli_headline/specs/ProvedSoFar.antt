@@ -2,8 +2,9 @@
 -- constant lengths, VARYING or not, with or without INITIAL, arrays of these with constant bounds, with or without
 -- INITIAL, procedures inside it, without parameters and results, and BEGIN blocks in these and in one another, which declare such
 -- scalars and arrays, too; expressions of numbers, bits and texts, and elements of arrays in them; assignments of these, and of one
--- number, bit or text to all elements of an array of the main procedure, CALL of these procedures, also by themselves, IF,
--- groups, DO WHILE, DO with a variable, GOTO to a label of a list around it in its block, in a block around it up to the procedure's own,
+-- number, bit or text to all elements of an array of the main procedure, and of one such array to another of its kind with equal bounds,
+-- CALL of these procedures, also by themselves, IF, groups, DO WHILE, DO with a variable, GOTO to a label of a list around it in its block,
+-- in a block around it up to the procedure's own,
 -- or of the main procedure's own list, RETURN, STOP, SIGNAL, ON with SYSTEM, ON for AREA and ENDFILE with a single statement or a BEGIN
 -- block, which declares as others do, in the main procedure's own block, REVERT, PUT EDIT of numbers, bits and texts, and GET EDIT of such
 -- scalars and elements, by lists of F, A, X, SKIP and COLUMN items. Each form that is proved takes a line off.
@@ -210,6 +211,26 @@ pub record IsWholeText (names : Names) (types : Types) (r : Y.Reference) : Type 
   pub varying : Bool
   pub most : ℕ
   pub whole : IsWhole names types (text_leaf varying most) r
+
+-- two of numbers or bits of one type with equal bounds
+pub record AreAlike (names : Names) (types : Types) (target source : Y.Reference) : Type 0 where
+  pub type : Y.LeafType
+  pub element : IsElementType type
+  pub target_is : IsWhole names types type target
+  pub source_is : IsWhole names types type source
+  pub same : source_is.bound ∷ source_is.bounds ≡ target_is.bound ∷ target_is.bounds
+
+-- two of CHARACTER, or of CHARACTER VARYING, of any lengths, with equal bounds
+pub record AreAlikeTexts (names : Names) (types : Types) (target source : Y.Reference) : Type 0 where
+  pub varying : Bool
+  pub most : ℕ
+  pub other : ℕ
+  pub target_is : IsWhole names types (text_leaf varying most) target
+  pub source_is : IsWhole names types (text_leaf varying other) source
+  pub alike : source_is.bound ∷ source_is.bounds ≡ target_is.bound ∷ target_is.bounds
+
+abbrev pub AreCopied : (names : Names) (types : Types) (target source : Y.Reference) → Type 0
+AreCopied names types target source = AreAlike names types target source ⊎ AreAlikeTexts names types target source
 
 -- a scalar, or an element
 abbrev pub IsPart : (names : Names) (types : Types) (type : Y.LeafType) (r : Y.Reference) → Type 0
@@ -443,6 +464,7 @@ abbrev pub IsSimple : Y.Stmt → Type 0
 IsSimple (Y.Null line) = ⊤
 IsSimple (Y.Assign target source line) = ⊤
 IsSimple (Y.AssignElements target source line) = ⊤
+IsSimple (Y.AssignAggregate target source line) = ⊤
 IsSimple (Y.CallProcedure call line) = ⊤
 IsSimple (Y.Goto level label line) = ⊤
 IsSimple (Y.Stop line) = ⊤
@@ -474,6 +496,7 @@ abbrev mutual
       IsWhole names types Y.BitLeaf target × (IsProvedBit names types x × IsLine line)
   IsProvedStatement names types (Y.AssignElements target (Y.StoredText x) line) =
       IsWholeText names types target × (IsProvedText names types x × IsLine line)
+  IsProvedStatement names types (Y.AssignAggregate target source line) = AreCopied names types target source × IsLine line
   IsProvedStatement names types (Y.If condition unit line) =
       IsProvedBit names types condition × (IsProvedStatement names types unit × IsLine line)
   IsProvedStatement names types (Y.IfElse condition unit otherwise line) =
