@@ -6,5 +6,9 @@ pub mod Operations
 pub mod Outcomes
 pub mod Places
 pub mod Placing
+pub mod Reaching
 pub mod Refusals
+pub mod Standing
 pub mod Steps
+pub mod Turned
+pub mod Unique

@@ -4,9 +4,15 @@
 pub mod arithmetic;
 pub mod base;
 mod execute;
+mod fast;
+mod forming;
+mod going;
 mod halt;
 mod leg;
 mod loading;
 pub mod machine;
 mod operation;
+mod reaching;
 pub mod services;
+mod single;
+mod turn;
