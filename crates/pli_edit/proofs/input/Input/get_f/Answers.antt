@@ -1,6 +1,3 @@
-use Rattle.std.proofs.Common.{◌∙◌, ap}
-use Rattle.pli_meaning.specs.Texts.{number_in_text}
-use Rattle.pli_edit.specs.Fields.{IsNumberOf}
 use Rattle.pli_edit.proofs.Taking.{number-refused, number-taken, number-there}
 use Rattle.pli_edit.proofs.input.Input.get_f.Goals as goal
 

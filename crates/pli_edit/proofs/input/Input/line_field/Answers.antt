@@ -1,4 +1,4 @@
-use Rattle.std.proofs.Common.{◌≡◌, List, ℕ, Option, Some, None, Bor, subst}
+use Rattle.std.proofs.Common.{◌≡◌, List, ℕ, Option, Some, None, subst}
 use Rattle.std.specs.Prelude.{MatchOption, ⊤}
 use Rattle.pli_meaning.specs.InputLines.{Input, characters}
 use Rattle.pli_edit.specs.Fields.{IsLineField}

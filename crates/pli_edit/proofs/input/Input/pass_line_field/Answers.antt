@@ -1,4 +1,4 @@
-use Rattle.std.proofs.Common.{◌≡◌, ◌+◌, length, sym, subst, arith}
+use Rattle.std.proofs.Common.{sym, subst, arith}
 use Rattle.pli_meaning.specs.InputLines.{Input}
 use Rattle.pli_edit.specs.Marks.{IsInLine}
 use Rattle.pli_edit.proofs.Lines.{fewer_left}
