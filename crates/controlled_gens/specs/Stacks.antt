@@ -1,5 +1,5 @@
 -- The generations of CONTROLLED variables, from the oldest on, and what is done with them and with the heap in which they stand.
-use Rattle.std.specs.Prelude.{◌≡◌, ℕ, ◌-◌, List, [], ◌∷◌, ◌++◌, length, take, map, reverse, slice_get, slice_index_or, slice_set, Option, Some, None, Result, Ok, Err, ⊤}
+use Rattle.std.specs.Prelude.{◌≡◌, ◌≤◌, ℕ, ◌-◌, List, [], ◌∷◌, ◌++◌, length, take, map, replicate, reverse, slice_get, slice_index_or, slice_set, Option, Some, None, Result, Ok, Err, ⊤}
 use Rattle.area_keeper.specs.Keeper.{Keeper}
 use Rattle.pli_serving.specs.ServiceState.{Controlled}
 use Rattle.controlled_gens.specs.declared.fault.GenFault.{GenFault}
@@ -12,6 +12,14 @@ generations_of stacks variable = slice_index_or stacks variable []
 
 abbrev pub with_generations : (variable : ℕ) → List Generation → List (List Generation) → List (List Generation)
 with_generations variable generations stacks = slice_set stacks variable generations
+
+-- so many variables, of which only the first ones may have generations
+abbrev pub filled_up : (variables : ℕ) → List (List Generation) → List (List Generation)
+filled_up variables stacks = stacks ++ replicate (variables - length stacks) []
+
+-- some more variables without generations
+abbrev pub IsFilled : (old new : List (List Generation)) → Type 0
+IsFilled old new = (length old ≤ length new) × (new ≡ filled_up (length new) old)
 
 abbrev pub newest : List Generation → Option Generation
 newest generations = slice_get generations (length generations - 1)

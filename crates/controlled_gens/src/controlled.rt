@@ -1,11 +1,11 @@
 // Generations of CONTROLLED variables.
 
-ghost use Rattle.std.specs.Prelude.{◌≡◌, ◌-◌, ◌<◌, List, [], length, replicate, pos, slice_get, MatchResult, IsSome};
-ghost use Rattle.controlled_gens.specs.Stacks.{generations_of, with_generations, newest, named_or_fault, IsPushed, IsPopped, freed_newest};
+ghost use Rattle.std.specs.Prelude.{◌≡◌, ◌+◌, ◌-◌, ◌<◌, ◌≤◌, List, [], length, map, max, replicate, pos, slice_get, MatchResult, IsSome, OnOk};
+ghost use Rattle.controlled_gens.specs.Stacks.{generations_of, with_generations, newest, named_or_fault, IsFilled, IsPushed, IsPopped, freed_newest};
 
 use crate::fault::GenFault;
 use area_heap::keeper::AreaKeeper;
-use std::alloc::Global;
+use std::alloc::{AllocError, Global};
 use std::marker::Model;
 
 /// A generation's offset in the heap, and its signature's number.
@@ -15,19 +15,25 @@ pub struct Generation {
     pub signature: u32,
 }
 
-/// The generations of CONTROLLED variables, which are numbered from 0. The newest is the one that a program sees.
+/// The generations of CONTROLLED variables, which are numbered from 0. The newest is the one that a program sees. Only variables up to
+/// the greatest number that was pushed have a stack; behind them no variable has a generation. Contracts see those of all variables.
 #[derive(Drop)]
 pub struct Controlled {
+    alloc: Global,
     stacks: Vec<Vec<Generation>>,
+    variables: u32,
 }
 
 impl Model for Controlled {
-    ghost use Rattle.std.specs.Prelude.{List, map};
+    ghost use Rattle.std.specs.Prelude.{◌≤◌, List, length, map};
+    ghost use Rattle.controlled_gens.specs.Stacks.{filled_up};
     ghost use Rattle.controlled_gens.specs.declared.controlled.Generation.{Generation};
 
     ghost Value = { List (List Generation) };
 
-    ghost view = { λ c. map (λ generations. generations.items) c.stacks.items };
+    ghost view = { λ c. filled_up c.variables (map (λ generations. generations.items) c.stacks.items) };
+
+    ghost invariant = { λ c. length c.stacks.items ≤ c.variables };
 }
 
 impl Controlled {
@@ -39,13 +45,11 @@ impl Controlled {
     pub fn new(alloc: Global, variables: u32) -> Result<Controlled, GenFault>
         ensures { MatchResult result (λ c. c ≡ replicate variables []) (λ fault. fault ≡ GenFault.Memory) }
     {
-        let mut stacks = Vec::new(alloc);
-        'stacks: for made in 0..variables {
-            if stacks.push(Vec::new(alloc)).is_err() {
-                return Err(GenFault::Memory);
-            }
-        }
-        Ok(Controlled { stacks })
+        Ok(Controlled {
+            alloc,
+            stacks: Vec::new(alloc),
+            variables,
+        })
     }
 
     /// Places a new generation of so many bytes of data in the heap, which is an area, and gives its offset. The data aren't written.
@@ -67,7 +71,11 @@ impl Controlled {
         ensures others { self.new ≡ with_generations variable (generations_of self.new variable) self.old }
         ensures as_many { length self.new ≡ length self.old }
     {
-        push_onto::<K>(&mut self.stacks[variable as usize], heap, size, signature)
+        let index = variable as usize;
+        let Ok(()) = reach(&mut self.stacks, self.alloc, index) else {
+            return Err(GenFault::Memory);
+        };
+        push_onto::<K>(&mut self.stacks[index], heap, size, signature)
     }
 
     /// Removes the newest generation, also from the heap, which is an area.
@@ -83,7 +91,11 @@ impl Controlled {
         ensures others { self.new ≡ with_generations variable (generations_of self.new variable) self.old }
         ensures as_many { length self.new ≡ length self.old }
     {
-        pop_from::<K>(&mut self.stacks[variable as usize], heap)
+        let index = variable as usize;
+        if index >= self.stacks.len() {
+            return Err(GenFault::NoGeneration);
+        }
+        pop_from::<K>(&mut self.stacks[index], heap)
     }
 
     /// The newest generation's offset in the heap, and its signature.
@@ -95,7 +107,11 @@ impl Controlled {
         requires { variable < length self.now }
         ensures { result ≡ named_or_fault (newest (generations_of self.now variable)) }
     {
-        match self.stacks[variable as usize].last() {
+        let index = variable as usize;
+        if index >= self.stacks.len() {
+            return Err(GenFault::NoGeneration);
+        }
+        match self.stacks[index].last() {
             Some(generation) => Ok((generation.offset, generation.signature)),
             None => Err(GenFault::NoGeneration),
         }
@@ -106,8 +122,24 @@ impl Controlled {
         requires { variable < length self.now }
         ensures { result ≡ length (generations_of self.now variable) }
     {
-        self.stacks[variable as usize].len() as u64
+        let index = variable as usize;
+        if index >= self.stacks.len() {
+            return 0;
+        }
+        self.stacks[index].len() as u64
     }
+}
+
+/// Stacks up to an index; new ones are empty. Without memory an `AllocError`, and then there may be some of them.
+fn reach(stacks: &mut Vec<Vec<Generation>>, alloc: Global, index: usize) -> Result<(), AllocError>
+    ensures grown { IsFilled (map (λ generations. generations.items) stacks.old.items) (map (λ generations. generations.items) stacks.new.items) }
+    ensures reached { OnOk result (index < length stacks.new.items) }
+    ensures most { length stacks.new.items ≤ max (index + 1) (length stacks.old.items) }
+{
+    'stacks: while stacks.len() <= index {
+        stacks.push(Vec::new(alloc))?;
+    }
+    Ok(())
 }
 
 fn push_onto<K: AreaKeeper>(

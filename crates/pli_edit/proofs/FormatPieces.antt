@@ -1,5 +1,5 @@
 -- Ranges of format lists, split; pieces behind each other.
-use Rattle.std.proofs.Common.{◌≡◌, ℕ, zero, suc, ◌+◌, ◌-◌, ◌*◌, ◌<◌, List, [], ◌∷◌, ◌++◌, Option, Some, None, slice_get, refl, sym, ap, ◌∙◌, append_assoc, arith}
+use Rattle.std.proofs.Common.{◌≡◌, ℕ, zero, suc, ◌+◌, ◌-◌, ◌*◌, ◌<◌, ◌≤◌, List, [], ◌∷◌, ◌++◌, Option, Some, None, slice_get, refl, sym, ap, ◌∙◌, append_assoc, arith}
 use Rattle.std.proofs.lemmas.List.{append-nil}
 use Rattle.std.proofs.Math.Nat.{suc-mul}
 use Rattle.pli_meaning.specs.Streaming.{FormatItem, repeated}
@@ -116,31 +116,49 @@ pub weight_push : (ns : List Node) (ps : List Piece) (p : Piece) → weight_of n
 weight_push ns [] p = refl
 weight_push ns (q ∷ ps) p = let r = weight_push ns ps p in omega arith
 
+-- ---- a piece that comes behind others, unless nothing is left in it
+
+pub put_left : (ns : List Node) (ps qs : List Piece) (p : Piece) → qs ≡ ps ++ p ∷ [] → left_of ns qs ≡ piece_items ns p ++ left_of ns ps
+put_left ns ps qs p e = ap (left_of ns) e ∙ left_push ns ps p []
+
+pub put_weight : (ns : List Node) (ps qs : List Piece) (p : Piece) → qs ≡ ps ++ p ∷ [] → weight_of ns qs ≤ piece_weight ns p + weight_of ns ps
+put_weight ns ps qs p e = let w = ap (weight_of ns) e ∙ weight_push ns ps p in omega (arith, w)
+
+pub spent_item : (times : ℕ) (f : Format) (ns : List Node) → times ≡ 0 → piece_items ns (P.Item times f) ≡ []
+spent_item zero f ns e = refl
+spent_item (suc times) f ns e = absurd (omega (arith, e))
+
+pub spent_times : (times start size : ℕ) (ns : List Node) → times ≡ 0 → piece_items ns (P.Range times start size) ≡ []
+spent_times zero start size ns e = refl
+spent_times (suc times) start size ns e = absurd (omega (arith, e))
+
+pub spent_size : (times start size : ℕ) (ns : List Node) → size ≡ 0 → piece_items ns (P.Range times start size) ≡ []
+spent_size times start zero ns e = repeated_none times (items_from ns start 0) (empty ns start)
+spent_size times start (suc size) ns e = absurd (omega (arith, e))
+
+pub nothing_left : (ns : List Node) (ps : List Piece) (p : Piece) → piece_items ns p ≡ [] → left_of ns ps ≡ piece_items ns p ++ left_of ns ps
+nothing_left ns ps p e = ap (λ l. l ++ left_of ns ps) (sym e)
+
+pub no_heavier : (ns : List Node) (ps : List Piece) (p : Piece) → weight_of ns ps ≤ piece_weight ns p + weight_of ns ps
+no_heavier ns ps p = omega arith
+
 -- ---- a range that comes behind pieces in three
 
-pub left_three : (ns : List Node) (ps p q r : List Piece) (times start size : ℕ) (s : Split) → p ≡ ps ++ s.again ∷ [] → q ≡ p ++ s.behind ∷ [] → r ≡ q ++ s.first ∷ [] → IsSplit ns times start size (Some s) →
+pub left_three : (ns : List Node) (ps p q r : List Piece) (times start size : ℕ) (s : Split) → left_of ns p ≡ piece_items ns s.again ++ left_of ns ps → left_of ns q ≡ piece_items ns s.behind ++ left_of ns p → left_of ns r ≡ piece_items ns s.first ++ left_of ns q → IsSplit ns times start size (Some s) →
     left_of ns r ≡ repeated times (items_from ns start size) ++ left_of ns ps
-left_three ns ps p q r times start size s e f g h =
+left_three ns ps p q r times start size s one two all h =
     let first = piece_items ns s.first in
     let behind = piece_items ns s.behind in
     let again = piece_items ns s.again in
     let left = left_of ns ps in
-    let one : left_of ns p ≡ again ++ left = ap (left_of ns) e ∙ left_push ns ps s.again [] in
-    let two : left_of ns q ≡ behind ++ left_of ns p = ap (left_of ns) f ∙ left_push ns p s.behind [] in
-    let all : left_of ns r ≡ first ++ left_of ns q = ap (left_of ns) g ∙ left_push ns q s.first [] in
     let joined : left_of ns r ≡ first ++ (behind ++ (again ++ left)) = all ∙ ap (λ l. first ++ l) (two ∙ ap (λ l. behind ++ l) one) in
     let grouped : (first ++ (behind ++ again)) ++ left ≡ first ++ (behind ++ (again ++ left)) =
     append_assoc first (behind ++ again) left ∙ ap (λ l. first ++ l) (append_assoc behind again left) in
     joined ∙ (sym grouped ∙ ap (λ l. l ++ left) (sym h.0))
 
-pub weight_three : (ns : List Node) (ps p q r : List Piece) (times start size : ℕ) (s : Split) → p ≡ ps ++ s.again ∷ [] → q ≡ p ++ s.behind ∷ [] → r ≡ q ++ s.first ∷ [] → IsSplit ns times start size (Some s) →
+pub weight_three : (ns : List Node) (ps p q r : List Piece) (times start size : ℕ) (s : Split) → weight_of ns p ≤ piece_weight ns s.again + weight_of ns ps → weight_of ns q ≤ piece_weight ns s.behind + weight_of ns p → weight_of ns r ≤ piece_weight ns s.first + weight_of ns q → IsSplit ns times start size (Some s) →
     weight_of ns r < (1 + times * weight_from ns start size) + weight_of ns ps
-weight_three ns ps p q r times start size s e f g h =
-    let one : weight_of ns p ≡ piece_weight ns s.again + weight_of ns ps = ap (weight_of ns) e ∙ weight_push ns ps s.again in
-    let two : weight_of ns q ≡ piece_weight ns s.behind + weight_of ns p = ap (weight_of ns) f ∙ weight_push ns p s.behind in
-    let all : weight_of ns r ≡ piece_weight ns s.first + weight_of ns q = ap (weight_of ns) g ∙ weight_push ns q s.first in
-    let lighter = h.1 in
-    omega (arith, one, two, all, lighter)
+weight_three ns ps p q r times start size s one two all h = let lighter = h.1 in omega (arith, one, two, all, lighter)
 
 -- ---- the last piece, taken off
 
@@ -165,14 +183,13 @@ weight_range ns ps qs rs p times start size e h r = let w : weight_of ns qs ≡ 
 first_kept : (ns : List Node) (ps qs : List Piece) (old : List FormatItem) (times : ℕ) (f : Format) → IsFirst (Some (times, f)) old (left_of ns ps) → qs ≡ ps ++ P.Item times f ∷ [] → left_of ns qs ≡ old
 first_kept ns ps qs old times f h e = ap (left_of ns) e ∙ (left_push ns ps (P.Item times f) [] ∙ sym h.1)
 
-first_taken : (ns : List Node) (ps qs : List Piece) (old : List FormatItem) (times : ℕ) (f : Format) → IsFirst (Some (times, f)) old (left_of ns ps) → qs ≡ ps ++ P.Item (times - 1) f ∷ [] → old ≡ item_of f ∷ left_of ns qs
+first_taken : (ns : List Node) (ps qs : List Piece) (old : List FormatItem) (times : ℕ) (f : Format) → IsFirst (Some (times, f)) old (left_of ns ps) → left_of ns qs ≡ piece_items ns (P.Item (times - 1) f) ++ left_of ns ps → old ≡ item_of f ∷ left_of ns qs
 first_taken ns ps qs old zero f h e = absurd (omega (arith, h.0))
 first_taken ns ps qs old (suc n) f h e =
-    let less : qs ≡ ps ++ P.Item n f ∷ [] = e ∙ ap (λ k. ps ++ P.Item k f ∷ []) (back n) in
-    h.1 ∙ ap (λ l. item_of f ∷ l) (sym (ap (left_of ns) less ∙ left_push ns ps (P.Item n f) []))
+    h.1 ∙ ap (λ l. item_of f ∷ l) (sym (e ∙ ap (λ k. repeated k (item_of f ∷ []) ++ left_of ns ps) (back n)))
 
 pub kept : (ns : List Node) (ps qs : List Piece) (old : List FormatItem) (found : Option (ℕ × Format)) (times : ℕ) (f : Format) → found ≡ Some (times, f) → IsFirst found old (left_of ns ps) → qs ≡ ps ++ P.Item times f ∷ [] → left_of ns qs ≡ old
 kept ns ps qs old found times f is h e = first_kept ns ps qs old times f (rw is at h) e
 
-pub taken : (ns : List Node) (ps qs : List Piece) (old : List FormatItem) (found : Option (ℕ × Format)) (times : ℕ) (f : Format) → found ≡ Some (times, f) → IsFirst found old (left_of ns ps) → qs ≡ ps ++ P.Item (times - 1) f ∷ [] → old ≡ item_of f ∷ left_of ns qs
+pub taken : (ns : List Node) (ps qs : List Piece) (old : List FormatItem) (found : Option (ℕ × Format)) (times : ℕ) (f : Format) → found ≡ Some (times, f) → IsFirst found old (left_of ns ps) → left_of ns qs ≡ piece_items ns (P.Item (times - 1) f) ++ left_of ns ps → old ≡ item_of f ∷ left_of ns qs
 taken ns ps qs old found times f is h e = first_taken ns ps qs old times f (rw is at h) e

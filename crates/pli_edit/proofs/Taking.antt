@@ -1,5 +1,5 @@
 -- Fields that are taken from the input.
-use Rattle.std.proofs.Common.{◌≡◌, ℕ, zero, suc, ◌+◌, ◌-◌, ◌≤◌, Bool, true, false, ◌&&◌, ◌==◌, cond, List, [], ◌∷◌, ◌++◌, length, take, replicate, Some, None, Ok, Err, ℤ, refl, sym, ap, ◌∙◌, arith}
+use Rattle.std.proofs.Common.{◌≡◌, ℕ, zero, suc, ◌+◌, ◌-◌, ◌≤◌, Bool, true, false, ◌&&◌, ◌==◌, cond, List, [], ◌∷◌, ◌++◌, length, take, replicate, Result, Ok, Err, ℤ, sym, ap, ◌∙◌, arith}
 use Rattle.std.specs.Prelude.{Vec}
 use Rattle.std.specs.declared.alloc.Global.{Global}
 use Rattle.std.proofs.lemmas.List.{take-replicate}
@@ -7,7 +7,7 @@ use Rattle.pli_meaning.specs.InputLines.{Input, Mark, marks_of, begins_with_line
 use Rattle.pli_meaning.specs.Texts.{fitted, number_in_text}
 use Rattle.pli_edit.specs.declared.fault.EditFault.{EditFault}
 use Rattle.pli_edit.specs.declared.fault.EditFault.TheVariants.{AtEnd, TooWide, NotNumber, Memory}
-use Rattle.pli_edit.specs.Fields.{TakesText, TakesNumber}
+use Rattle.pli_edit.specs.Fields.{IsLineField, IsNumberOf, TakesText, TakesNumber}
 
 -- no more marks than bytes, and the end of the last line
 choice-le : (t : Bool) (xs ys : List Mark) (n : ℕ) → length xs ≤ n → length ys ≤ n → length (cond t xs ys) ≤ n
@@ -47,10 +47,25 @@ number-refused width old new true TooWide h = let no_way : TooWide ≡ Memory = 
 number-refused width old new true NotNumber h = let no_way : NotNumber ≡ Memory = h.0 in cc
 number-refused width old new true Memory h = h.1
 
-pub number-taken : (width : ℕ) (old new : Input) (is_left : Bool) (field : Vec ℕ Global) (z : ℤ) → TakesText width old is_left (Ok field) new → Some z ≡ number_in_text field.items → TakesNumber width old is_left (Ok z) new
-number-taken width old new false field z h n = let no_way = h.0 in cc
-number-taken width old new true field z h n = (sym (n ∙ ap number_in_text h.0), h.1)
+number-told :
+    (width : ℕ) (old new : Input) (field : List ℕ) (result : Result ℤ EditFault) → field ≡ field_of width old → new ≡ behind_field width old →
+    IsNumberOf (number_in_text field) result → TakesNumber width old true result new
+number-told width old new field (Ok z) e b n = (sym (ap number_in_text e) ∙ n, b)
+number-told width old new field (Err AtEnd) e b n = ((sym (ap number_in_text e) ∙ n.0, n.1), b)
+number-told width old new field (Err TooWide) e b n = ((sym (ap number_in_text e) ∙ n.0, n.1), b)
+number-told width old new field (Err NotNumber) e b n = ((sym (ap number_in_text e) ∙ n.0, n.1), b)
+number-told width old new field (Err Memory) e b n = let no_way : Memory ≡ NotNumber = n.1 in cc
 
-pub number-strange : (width : ℕ) (old new : Input) (is_left : Bool) (field : Vec ℕ Global) → TakesText width old is_left (Ok field) new → None ≡ number_in_text field.items → TakesNumber width old is_left (Err NotNumber) new
-number-strange width old new false field h n = let no_way = h.0 in cc
-number-strange width old new true field h n = ((sym (n ∙ ap number_in_text h.0), refl), h.1)
+-- of a field that was taken as a text
+pub number-taken :
+    (width : ℕ) (old new : Input) (is_left : Bool) (field : Vec ℕ Global) (result : Result ℤ EditFault) → TakesText width old is_left (Ok field) new →
+    IsNumberOf (number_in_text field.items) result → TakesNumber width old is_left result new
+number-taken width old new false field result h n = let no_way = h.0 in cc
+number-taken width old new true field result h n = number-told width old new field.items result h.0 h.1 n
+
+-- of a field where it stands
+pub number-there :
+    (width : ℕ) (old new : Input) (is_left : Bool) (field : List ℕ) (result : Result ℤ EditFault) → is_left ≡ true → IsLineField width old field →
+    new ≡ behind_field width old → IsNumberOf (number_in_text field) result → TakesNumber width old is_left result new
+number-there width old new false field result e h b n = cc
+number-there width old new true field result e h b n = number-told width old new field result h.2 b n

@@ -1,9 +1,10 @@
 -- Fields that are taken and written.
 use Rattle.std.specs.Prelude.{◌≡◌, ℕ, ℤ, Bool, true, false, List, Option, Some, None, Result, Ok, Err, Vec}
 use Rattle.std.specs.declared.alloc.Global.{Global}
-use Rattle.pli_meaning.specs.InputLines.{Input, field_of, behind_field}
+use Rattle.pli_meaning.specs.InputLines.{Input, field_of, has_character, behind_field}
 use Rattle.pli_meaning.specs.Stream.{with_field}
 use Rattle.pli_meaning.specs.Texts.{fitted, number_in_text}
+use Rattle.pli_edit.specs.Marks.{IsInLine}
 use Rattle.pli_edit.specs.declared.fault.EditFault.{EditFault}
 use Rattle.pli_edit.specs.declared.fault.EditFault.TheVariants.{AtEnd, TooWide, NotNumber, Memory}
 
@@ -14,6 +15,10 @@ abbrev pub TakesText : (width : ℕ) → (old : Input) → (is_left : Bool) → 
 TakesText width old false result new = (result ≡ Err AtEnd) × (new ≡ old)
 TakesText width old true (Ok field) new = (field.items ≡ field_of width old) × (new ≡ behind_field width old)
 TakesText width old true (Err fault) new = (fault ≡ Memory) × (new ≡ old)
+
+-- a field that stands in one line, where it stands
+abbrev pub IsLineField : (width : ℕ) → Input → (field : List ℕ) → Type 0
+IsLineField width i field = IsInLine width i.marks × (has_character i.marks ≡ true) × (field ≡ field_of width i)
 
 -- a field's number; a field that stands for none is taken too
 abbrev pub IsNumberOf : Option ℤ → Result ℤ EditFault → Type 0

@@ -1,6 +1,6 @@
 -- Marks as they are taken one by one.
-use Rattle.std.specs.Prelude.{◌≡◌, ◌≤◌, ℕ, Bool, true, false, List, [], ◌∷◌, length, drop, Option, Some, None}
-use Rattle.pli_meaning.specs.InputLines.{Mark, CharacterMark, LineEndMark, marks_of}
+use Rattle.std.specs.Prelude.{◌≡◌, ◌<◌, ◌≤◌, ℕ, zero, suc, Bool, true, false, ◌&&◌, ◌||◌, ◌==◌, nat_lt, List, [], ◌∷◌, length, drop, Option, Some, None}
+use Rattle.pli_meaning.specs.InputLines.{Mark, CharacterMark, LineEndMark, marks_of, begins_with_line_feed, has_character}
 use Rattle.pli_edit.specs.declared.mark.Mark.{Mark as TakenMark}
 use Rattle.pli_edit.specs.declared.mark.Mark.TheVariants as M
 
@@ -26,3 +26,31 @@ IsTaken old (Some m) new = old ≡ mark_of m ∷ new
 abbrev pub IsShown : List Mark → Option TakenMark → Type 0
 IsShown marks None = marks ≡ []
 IsShown marks (Some m) = marks ≡ mark_of m ∷ drop 1 marks
+
+-- so many marks are characters
+abbrev pub are_characters : (count : ℕ) → List Mark → Bool
+are_characters zero ms = true
+are_characters (suc n) [] = false
+are_characters (suc n) (LineEndMark ∷ ms) = false
+are_characters (suc n) (CharacterMark b ∷ ms) = are_characters n ms
+
+-- the next characters, so many, stand in one line
+abbrev pub IsInLine : (count : ℕ) → List Mark → Type 0
+IsInLine count ms = (0 < count) × (are_characters count ms ≡ true)
+
+-- a byte that may end a line, or belong to its end
+abbrev pub has_line_end : List ℕ → Bool
+has_line_end [] = false
+has_line_end (b ∷ bs) = (b == 10 || b == 13) || has_line_end bs
+
+-- ---- where characters end
+
+-- the first byte belongs to a line's end
+abbrev pub begins_line_end : List ℕ → Bool
+begins_line_end [] = false
+begins_line_end (b ∷ bs) = b == 10 || (b == 13 && begins_with_line_feed bs)
+
+-- the characters of bytes are all among the first so many of them, the last one at their end: from a place on a character is left just
+-- where it lies before that end
+abbrev pub ReachUpTo : (end : ℕ) → List ℕ → Type 0
+ReachUpTo end bytes = (is_begun : Bool) (place : ℕ) → has_character (marks_of is_begun (drop place bytes)) ≡ nat_lt place end

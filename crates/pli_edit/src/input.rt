@@ -1,8 +1,10 @@
 // The input of GET.
 
-ghost use Rattle.std.specs.Prelude.{◌≡◌, IfOk, IfErr};
+ghost use Rattle.std.specs.Prelude.{◌≡◌, IfOk, IfErr, MatchOption, ⊤};
 ghost use Rattle.pli_meaning.specs.InputLines as lines;
-ghost use Rattle.pli_edit.specs.Fields.{TakesText, TakesNumber};
+ghost use Rattle.pli_meaning.specs.Texts.{number_in_text};
+ghost use Rattle.pli_edit.specs.Marks.{IsInLine};
+ghost use Rattle.pli_edit.specs.Fields.{IsLineField, IsNumberOf, TakesText, TakesNumber};
 
 use crate::fault::EditFault;
 use crate::mark::Marks;
@@ -56,6 +58,22 @@ impl Input {
         self.marks.has_character()
     }
 
+    /// The next field of `width` characters, where it stands in one line. Nothing is taken.
+    pub fn line_field(&self, width: u32) -> Option<&[u8]>
+        ensures { MatchOption result ⊤ (λ field. IsLineField width self.now field.now) }
+    {
+        self.marks.line(width)
+    }
+
+    /// A field of `width` characters is taken, which stands in one line.
+    pub fn pass_line_field(&mut self, width: u32)
+        requires { IsInLine width self.old.marks }
+        ensures { self.new ≡ lines.behind_field width self.old }
+    {
+        self.marks.pass(width);
+        self.column += u64::from(width);
+    }
+
     /// The next `width` characters, padded with blanks where the input ends inside. `AtEnd` where none is left, and `Memory`: then
     /// nothing is taken.
     pub fn get_a(&mut self, width: u32) -> Result<Vec<u8>, EditFault>
@@ -75,13 +93,14 @@ impl Input {
     pub fn get_f(&mut self, width: u32) -> Result<i32, EditFault>
         ensures { TakesNumber width self.old (lines.has_character self.old.marks) result self.new }
     {
-        let field = match self.get_a(width) {
-            Ok(field) => field,
-            Err(fault) => return Err(fault),
-        };
-        match number_in(&field) {
-            Some(number) => Ok(number),
-            None => Err(EditFault::NotNumber),
+        if let Some(field) = self.line_field(width) {
+            let told = number_told(field);
+            self.pass_line_field(width);
+            return told;
+        }
+        match self.get_a(width) {
+            Ok(field) => number_told(&field),
+            Err(fault) => Err(fault),
         }
     }
 
@@ -89,6 +108,10 @@ impl Input {
     pub fn space(&mut self, count: u32)
         ensures { self.new ≡ lines.behind_field count self.old }
     {
+        if self.line_field(count).is_some() {
+            self.pass_line_field(count);
+            return;
+        }
         self.column = pass(&mut self.marks, self.column, count);
     }
 
@@ -115,5 +138,15 @@ impl Input {
         }
         let count = u64::from(column).saturating_sub(self.column);
         self.column = pass_in_line(&mut self.marks, self.column, count);
+    }
+}
+
+/// The number that a field stands for. `NotNumber` where it stands for none.
+fn number_told(field: &[u8]) -> Result<i32, EditFault>
+    ensures { IsNumberOf (number_in_text field.now) result }
+{
+    match number_in(field) {
+        Some(number) => Ok(number),
+        None => Err(EditFault::NotNumber),
     }
 }

@@ -1,8 +1,8 @@
 // What stands from a place of the input on: characters, and the ends of lines.
 
-ghost use Rattle.std.specs.Prelude.{◌≡◌, IfOk, false};
+ghost use Rattle.std.specs.Prelude.{◌≡◌, ◌+◌, ◌<◌, ℕ, IfOk, MatchOption, drop, false, length, ⊤};
 ghost use Rattle.pli_meaning.specs.InputLines as lines;
-ghost use Rattle.pli_edit.specs.Marks.{IsFirstMark, IsTaken, IsShown};
+ghost use Rattle.pli_edit.specs.Marks.{begins_line_end, has_line_end, IsFirstMark, IsInLine, IsTaken, IsShown, ReachUpTo};
 
 use std::alloc::{AllocError, Global};
 use std::marker::Model;
@@ -14,10 +14,12 @@ pub enum Mark {
     LineEnd,
 }
 
-/// The marks that are left of the input. Only here is it known where the next one comes from. Contracts see the list of them.
+/// The marks that are left of the input, and how many of its bytes go up to its last character: behind these only empty lines follow.
+/// Only here is it known where the next mark comes from. Contracts see the list of the marks.
 #[derive(Drop)]
 pub struct Marks {
     bytes: Vec<u8>,
+    characters_end: usize,
     place: usize,
     is_begun: bool,
 }
@@ -25,12 +27,13 @@ pub struct Marks {
 impl Model for Marks {
     ghost use Rattle.std.specs.Prelude.{◌≤◌, List, length, drop};
     ghost use Rattle.pli_meaning.specs.InputLines.{Mark as LineMark, marks_of};
+    ghost use Rattle.pli_edit.specs.Marks.{ReachUpTo};
 
     ghost Value = { List LineMark };
 
     ghost view = { λ m. marks_of m.is_begun (drop m.place m.bytes.items) };
 
-    ghost invariant = { λ m. m.place ≤ length m.bytes.items };
+    ghost invariant = { λ m. (m.place ≤ length m.bytes.items) × ReachUpTo m.characters_end m.bytes.items };
 }
 
 impl Marks {
@@ -40,6 +43,7 @@ impl Marks {
     {
         Ok(Marks {
             bytes: Vec::from_slice(alloc, input)?,
+            characters_end: characters_end(input),
             place: 0,
             is_begun: false,
         })
@@ -63,21 +67,70 @@ impl Marks {
         Some(mark)
     }
 
+    /// The next characters, so many, where they stand in one line.
+    pub fn line(&self, count: u32) -> Option<&[u8]>
+        ensures { MatchOption result ⊤ (λ line. IsInLine count self.now × (line.now ≡ lines.characters count self.now)) }
+    {
+        let rest = &self.bytes[self.place..];
+        if count == 0 || rest.len() < count as usize {
+            return None;
+        }
+        let line = &rest[..count as usize];
+        if has_line_end(line) {
+            return None;
+        }
+        Some(line)
+    }
+
+    /// So many characters are taken, which stand in one line.
+    pub fn pass(&mut self, count: u32)
+        requires { IsInLine count self.old }
+        ensures { (column : ℕ) → record { marks = self.new; column = column + count } ≡ lines.place_behind count column self.old }
+    {
+        self.place += count as usize;
+        self.is_begun = true;
+    }
+
     /// Whether a character is left.
     pub fn has_character(&self) -> bool
         ensures { result ≡ lines.has_character self.now }
     {
-        let mut rest = &self.bytes[self.place..];
-        let mut is_begun = self.is_begun;
-        while let Some((mark, size)) = first_mark(rest, is_begun) {
-            if mark != Mark::LineEnd {
-                return true;
-            }
-            rest = &rest[size..];
-            is_begun = false;
-        }
-        false
+        self.place < self.characters_end
     }
+}
+
+// Whether a byte may end a line, or belong to its end.
+fn has_line_end(line: &[u8]) -> bool
+    ensures { result ≡ has_line_end line.now }
+{
+    for byte in line {
+        if *byte == b'\n' || *byte == b'\r' {
+            return true;
+        }
+    }
+    false
+}
+
+// Whether the byte at an index belongs to a line's end.
+fn is_of_line_end(bytes: &[u8], index: usize) -> bool
+    requires { index < length bytes.now }
+    ensures { result ≡ begins_line_end (drop index bytes.now) }
+{
+    if bytes[index] == b'\n' {
+        return true;
+    }
+    bytes[index] == b'\r' && index + 1 < bytes.len() && bytes[index + 1] == b'\n'
+}
+
+// How many bytes go up to the last character. It is looked for from the end, once for all questions.
+fn characters_end(bytes: &[u8]) -> usize
+    ensures { ReachUpTo result bytes.now }
+{
+    let mut end = bytes.len();
+    while end > 0 && is_of_line_end(bytes, end - 1) {
+        end -= 1;
+    }
+    end
 }
 
 // The first mark and how many bytes it takes. CR directly before LF belongs to the line's end; a last line without LF ends too.

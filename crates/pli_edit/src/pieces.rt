@@ -1,8 +1,9 @@
 // What is left of a format list, in pieces, of which the last one comes first. Repetitions are not written out.
 
-ghost use Rattle.std.specs.Prelude.{◌≡◌, ◌+◌, ◌*◌, ◌<◌, ◌≤◌, ◌++◌, vec_len, vec_capacity, MatchResult, IfOk, OnOk};
+ghost use Rattle.std.specs.Prelude.{◌≡◌, ◌+◌, ◌*◌, ◌<◌, ◌≤◌, ◌++◌, List, [], true, vec_len, vec_capacity, MatchResult, IfOk, OnOk};
 ghost use Rattle.pli_meaning.specs.Streaming.{repeated};
-ghost use Rattle.pli_edit.specs.FormatPlaces.{items_from, left_of, weight_from, weight_of, IsSplit, IsFirst, IsTakenFrom, IsShownOf};
+ghost use Rattle.pli_edit.specs.declared.format.Node.{Node as NodeHeld};
+ghost use Rattle.pli_edit.specs.FormatPlaces.{items_from, left_of, piece_items, piece_weight, weight_from, weight_of, IsSplit, IsFirst, IsTakenFrom, IsShownOf};
 
 use crate::format::{Format, Node, Piece, Split};
 use std::alloc::AllocError;
@@ -37,6 +38,31 @@ fn split(nodes: &[Node], times: u32, start: usize, size: u32) -> Option<Split>
     }
 }
 
+// Whether nothing is left in a piece.
+#[tactic(auto, using(crate::proofs::FormatPieces::spent_item, crate::proofs::FormatPieces::spent_times, crate::proofs::FormatPieces::spent_size))]
+fn is_spent(piece: Piece) -> bool
+    ensures { result ≡ true → (nodes : List NodeHeld) → piece_items nodes piece ≡ [] }
+{
+    match piece {
+        Piece::Item(times, _) => times == 0,
+        Piece::Range(times, _, size) => times == 0 || size == 0,
+    }
+}
+
+// A piece comes behind the pieces, unless nothing is left in it.
+#[tactic(auto, using(crate::proofs::FormatPieces::put_left, crate::proofs::FormatPieces::put_weight, crate::proofs::FormatPieces::nothing_left, crate::proofs::FormatPieces::no_heavier))]
+fn put(pieces: &mut Vec<Piece>, piece: Piece)
+    requires { vec_len pieces.old < vec_capacity pieces.old }
+    ensures left { (nodes : List NodeHeld) → left_of nodes pieces.new.items ≡ piece_items nodes piece ++ left_of nodes pieces.old.items }
+    ensures lighter { (nodes : List NodeHeld) → weight_of nodes pieces.new.items ≤ piece_weight nodes piece + weight_of nodes pieces.old.items }
+    ensures room { vec_len pieces.new ≤ vec_len pieces.old + 1 }
+    ensures capacity { vec_capacity pieces.new ≡ vec_capacity pieces.old }
+{
+    if !is_spent(piece) {
+        pieces.push_reserved(piece);
+    }
+}
+
 // A range comes behind the pieces, split.
 fn put_split(nodes: &[Node], pieces: &mut Vec<Piece>, times: u32, start: usize, size: u32)
     requires { vec_len pieces.old + 3 ≤ vec_capacity pieces.old }
@@ -44,9 +70,9 @@ fn put_split(nodes: &[Node], pieces: &mut Vec<Piece>, times: u32, start: usize, 
     ensures lighter { weight_of nodes.now pieces.new.items < (1 + times * weight_from nodes.now start size) + weight_of nodes.now pieces.old.items }
 {
     if let Some(parts) = split(nodes, times, start, size) {
-        pieces.push_reserved(parts.again);
-        pieces.push_reserved(parts.behind);
-        pieces.push_reserved(parts.first);
+        put(pieces, parts.again);
+        put(pieces, parts.behind);
+        put(pieces, parts.first);
     }
 }
 
@@ -82,7 +108,7 @@ pub fn take(nodes: &[Node], pieces: &mut Vec<Piece>) -> Result<Option<Format>, A
     let Some((times, format)) = front(nodes, pieces)? else {
         return Ok(None);
     };
-    pieces.push_reserved(Piece::Item(times - 1, format));
+    put(pieces, Piece::Item(times - 1, format));
     Ok(Some(format))
 }
 

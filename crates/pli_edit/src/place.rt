@@ -9,6 +9,9 @@ use crate::pieces::{peek, take};
 use std::alloc::Global;
 use std::marker::Model;
 
+/// So many pieces at most are left of a list that holds no other one, with those that wait while its next item is looked for.
+const FEW_PIECES: usize = 8;
+
 /// A format list, and what is left of it. Contracts see the items of both, each as often as it is repeated.
 #[derive(Drop)]
 pub struct FormatPlace {
@@ -33,8 +36,8 @@ impl FormatPlace {
         requires { length nodes.items < 2 ^ 32 }
         ensures { MatchResult result (λ p. p ≡ record { whole = items_of nodes.items; rest = items_of nodes.items }) (λ e. e ≡ EditFault.Memory) }
     {
-        let mut pieces = Vec::new(alloc);
-        pieces.push(Piece::Range(1, 0, nodes.len() as u32))?;
+        let mut pieces = Vec::with_capacity(alloc, FEW_PIECES)?;
+        pieces.push_reserved(Piece::Range(1, 0, nodes.len() as u32));
         Ok(FormatPlace { nodes, pieces })
     }
 

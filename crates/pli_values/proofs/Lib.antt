@@ -11,3 +11,4 @@ pub mod LeafRuns
 pub mod Parts
 pub mod Rows
 pub mod Texts
+pub mod Zeros

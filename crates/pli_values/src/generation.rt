@@ -1,6 +1,6 @@
 // The data of a leaf as a generation begins.
 
-ghost use Rattle.std.specs.Prelude.{◌≡◌, ◌+◌, ◌*◌, ◌≤◌, List, is_some, length, true};
+ghost use Rattle.std.specs.Prelude.{◌≡◌, ◌+◌, ◌*◌, ◌≤◌, List, is_some, length, replicate, true};
 ghost use Rattle.pli_typing.specs.Signatures.{Bounds, capped, element_count};
 ghost use Rattle.pli_meaning.specs.Contents as C;
 ghost use Rattle.pli_meaning.specs.Contents.{initial_at};
@@ -17,6 +17,7 @@ use crate::element::{Value, element_size, put_element};
 use crate::initial::Initial;
 use crate::leaf_items::Items;
 use crate::name::Name;
+use crate::word::fill;
 use pli_signatures::element::ElementKind;
 
 /// How an element of a kind begins where INITIAL gives it nothing.
@@ -65,6 +66,35 @@ fn put_elements(memory: &mut [u8], at: usize, count: usize, items: Items) -> usi
     at
 }
 
+/// Whether elements of this kind begin as zeros where INITIAL gives them nothing.
+#[tactic(auto, using(crate::proofs::Zeros::fixed_zeros, crate::proofs::Zeros::fixed_whole))]
+fn begins_as_zeros(kind: ElementKind) -> bool
+    ensures zeros { result ≡ true → element_bytes (kind_of kind) (C.default_value (kind_of kind)) ≡ replicate (element_size (kind_of kind)) 0 }
+    ensures whole { result ≡ true → written_size (kind_of kind) ≡ element_size (kind_of kind) }
+{
+    match kind {
+        ElementKind::Fixed { .. } => true,
+        ElementKind::Bit => true,
+        ElementKind::Pointer => true,
+        _ => false,
+    }
+}
+
+/// The same for elements of any kind: those that begin as zeros are filled together where INITIAL gives them nothing.
+fn put_run(memory: &mut [u8], at: usize, count: usize, items: Items) -> usize
+    requires right { is_some (items_behind items) ≡ true }
+    requires inside { at + element_size (kind_of items.kind) * count ≤ length memory.old }
+    ensures written { memory.new ≡ with_bytes (run_of (fresh_element (kind_of items.entry.kind) (initial_at (items_left items.entry))) 0 count) at memory.old }
+    ensures behind { result ≡ at + written_size (kind_of items.entry.kind) * count }
+{
+    if items.have_ended() && begins_as_zeros(items.kind) {
+        let bytes = element_size(items.kind) * count;
+        fill(memory, at, bytes, 0);
+        return at + bytes;
+    }
+    put_elements(memory, at, count, items)
+}
+
 /// Writes the data of a leaf as a generation begins, with the values of INITIAL in turn, and gives the place behind it. `count` is how
 /// many elements the leaf has, or the greatest number where there are more, which take no bytes.
 pub fn put_leaf(memory: &mut [u8], at: usize, count: usize, items: Items) -> usize
@@ -76,5 +106,5 @@ pub fn put_leaf(memory: &mut [u8], at: usize, count: usize, items: Items) -> usi
     if element_size(items.kind) == 0 {
         return at;
     }
-    put_elements(memory, at, count, items)
+    put_run(memory, at, count, items)
 }

@@ -1,6 +1,7 @@
 // The values of a leaf's INITIAL, element by element.
 
 ghost use Rattle.std.specs.Prelude.{◌≡◌, ℕ, ◌+◌, [], is_some, true, unwrap_or};
+ghost use Rattle.pli_language.specs.Tree.{InitialSkip};
 ghost use Rattle.pli_meaning.specs.Contents.{initial_at};
 ghost use Rattle.pli_serving.specs.InitialValues.{items_from};
 ghost use Rattle.pli_signatures.specs.View.{kind_of};
@@ -24,6 +25,14 @@ pub struct Items<'a> {
 }
 
 impl Items<'_> {
+    /// Whether no item is left.
+    #[tactic(auto, using(crate::proofs::Lasting::at_end))]
+    pub fn have_ended(&self) -> bool
+        ensures { result ≡ true → (n : ℕ) → InitialSkip ≡ initial_at (items_left self.now) n }
+    {
+        self.current.repetition == 0 && self.left == 0
+    }
+
     /// Goes on to an item that is left, where there is one.
     fn skip_ended(&mut self)
         requires { is_some (items_behind self.old) ≡ true }

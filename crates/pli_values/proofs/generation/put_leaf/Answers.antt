@@ -20,7 +20,7 @@ returns-clause-written c =
     let bytes = length c.args.memory.now in
     let bound : length c.args.memory.now < 2 ^ 64 = search rules in
     let inside : element_size kind * c.args.count ≤ bytes = omega (arith, c.requires.inside) in
-    λ bounds e. whole_leaf kind bounds (items_left c.args.items) c.args.count c.args.at c.args.memory.now _ (whole_count kind c.element_size.result (element_count bounds) c.args.count bytes c.element_size.ensures c.if-element_size-eq0.false inside bound e) c.put_elements.ensures.written
+    λ bounds e. whole_leaf kind bounds (items_left c.args.items) c.args.count c.args.at c.args.memory.now _ (whole_count kind c.element_size.result (element_count bounds) c.args.count bytes c.element_size.ensures c.if-element_size-eq0.false inside bound e) c.put_run.ensures.written
 
 pub returns-clause-behind : goal.returns-clause-behind
 returns-clause-behind c =
@@ -28,4 +28,4 @@ returns-clause-behind c =
     let bytes = length c.args.memory.now in
     let bound : length c.args.memory.now < 2 ^ 64 = search rules in
     let inside : element_size kind * c.args.count ≤ bytes = omega (arith, c.requires.inside) in
-    λ bounds e. whole_behind kind bounds (items_left c.args.items) c.args.count c.args.at c.put_elements.result (whole_count kind c.element_size.result (element_count bounds) c.args.count bytes c.element_size.ensures c.if-element_size-eq0.false inside bound e) c.put_elements.ensures.behind
+    λ bounds e. whole_behind kind bounds (items_left c.args.items) c.args.count c.args.at c.put_run.result (whole_count kind c.element_size.result (element_count bounds) c.args.count bytes c.element_size.ensures c.if-element_size-eq0.false inside bound e) c.put_run.ensures.behind

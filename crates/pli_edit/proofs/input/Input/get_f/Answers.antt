@@ -1,16 +1,12 @@
-use Rattle.std.proofs.Common.{◌∙◌, ap, rules, SFits, w32}
-use Rattle.std.proofs.lemmas.Int.{to_z-of_z}
-use Rattle.pli_meaning.specs.Texts.{number_in_text}
-use Rattle.pli_edit.proofs.Taking.{number-refused, number-taken, number-strange}
+use Rattle.pli_edit.proofs.Taking.{number-refused, number-taken, number-there}
 use Rattle.pli_edit.proofs.input.Input.get_f.Goals as goal
-
-pub returns-in-Err : goal.returns-in-Err
-returns-in-Err c = number-refused _ _ _ _ _ c.in-Err.ensures
 
 pub returns-in-Some : goal.returns-in-Some
 returns-in-Some c =
-    let fits : SFits w32 c.in-Some.number = search rules in
-    simp to_z-of_z (number-taken _ _ _ _ _ _ c.in-Ok.ensures (c.in-Some.ensures ∙ ap number_in_text c.deref.ensures.value))
+    number-there _ _ _ _ c.in-Some.field.now _ c.in-Some.ensures.1 c.in-Some.ensures c.pass_line_field.ensures c.number_told-told.ensures
 
-pub returns : goal.returns
-returns c = number-strange _ _ _ _ _ c.in-Ok.ensures (c.in-None.ensures ∙ ap number_in_text c.deref.ensures.value)
+pub returns-in-Ok : goal.returns-in-Ok
+returns-in-Ok c = number-taken _ _ _ _ c.in-Ok.field _ c.in-Ok.ensures (rw c.deref.ensures.value at c.number_told.ensures)
+
+pub returns-in-Err : goal.returns-in-Err
+returns-in-Err c = number-refused _ _ _ _ _ c.in-Err.ensures
