@@ -1,5 +1,5 @@
 -- Bounds that are the same, and bounds of elements that lie among others.
-use Rattle.std.proofs.Common.{◌≡◌, ◌≢◌, ◌<◌, ℕ, suc, ℤ, Bool, true, false, List, [], ◌∷◌, length, map, refl, sym, ap, ap₂, subst, ◌∙◌, arith}
+use Rattle.std.proofs.Common.{◌≡◌, ◌≢◌, suc, ℤ, true, false, List, [], ◌∷◌, length, map, refl, sym, ap, ap₂, subst, arith}
 use Rattle.std.specs.Prelude.{◌&&◌, int_le}
 use Rattle.pli_typing.specs.Signatures.{Bounds}
 use Rattle.pli_types.specs.View.{pair_of}

@@ -1,5 +1,5 @@
 -- Elements as a run of addresses.
-use Rattle.std.proofs.Common.{◌≡◌, ◌≢◌, ℕ, zero, suc, ◌+◌, ◌-◌, ◌*◌, ◌^◌, ◌<◌, ◌≤◌, ℤ, Bool, true, false, List, [], ◌∷◌, ◌++◌, length, map, take, drop, get_or, Option, Some, None, Result, Ok, Err, refl, sym, ap, ap₂, subst, ◌∙◌, arith, mul-le-mul_left}
+use Rattle.std.proofs.Common.{◌≡◌, ℕ, zero, suc, ◌+◌, ◌-◌, ◌*◌, ◌^◌, ◌<◌, ◌≤◌, ℤ, Bool, true, false, List, [], ◌∷◌, ◌++◌, length, map, take, drop, get_or, Option, Some, None, Result, Ok, Err, refl, sym, ap, ap₂, subst, ◌∙◌, arith, mul-le-mul_left}
 use Rattle.std.specs.Prelude.{◌&&◌, if◌then◌else◌}
 use Rattle.std.specs.List.{list_all, range_with_len}
 use Rattle.std.proofs.lemmas.List.{drop_all, drop_more, drop-map, length-map, length-take-le, map-append, take-append-drop}
@@ -7,7 +7,7 @@ use Rattle.std.proofs.lemmas.List.FromFn.{length-map-range_with_len}
 use Rattle.pli_typing.specs.Signatures.{Bounds, Leaf, LeafKind, Fixed, Character, Varying, Bit, Pointer, Offset, Area, capped, element_count, leaf_bytes}
 use Rattle.pli_types.specs.View.{pair_of}
 use Rattle.pli_types.specs.declared.signature.Bounds.{Bounds as Held}
-use Rattle.pli_meaning.specs.BasicValues.{BasicValue, BasicNumber, BasicText, BasicBit, BasicPointer, BasicOffset}
+use Rattle.pli_meaning.specs.BasicValues.{BasicValue}
 use Rattle.pli_meaning.specs.Contents.{element_place, is_within}
 use Rattle.pli_meaning.specs.Streaming.{kind_holds}
 use Rattle.pli_serving.specs.Bytes.{with_bytes}
@@ -15,7 +15,7 @@ use Rattle.pli_serving.specs.Stored.{kept_bytes}
 use Rattle.pli_serving.specs.Values.{all_subscripts, element_size}
 use Rattle.pli_signatures.proofs.Capping.{capped_times}
 use Rattle.pli_signatures.specs.Elements.{place_within}
-use Rattle.pli_signatures.specs.View.{kind_of, leaf_in_force}
+use Rattle.pli_signatures.specs.View.{leaf_in_force}
 use Rattle.pli_aggregates.specs.declared.elements.LeafPlace.{LeafPlace}
 use Rattle.pli_aggregates.specs.declared.runs.Run.{Run}
 use Rattle.pli_aggregates.specs.declared.part.PlacedLeaf.{PlacedLeaf}
@@ -27,7 +27,7 @@ use Rattle.pli_answering.specs.declared.reply.Refusal.TheVariants as F
 use Rattle.pli_aggregates.specs.Runs.{Alike, IsShorter, Reaches, standing}
 use Rattle.pli_aggregates.specs.Storing.{written_at}
 use Rattle.pli_aggregates.proofs.Boxes.{alike_place, all_where, first_fails, none_fails, not_reached, place_apart, reached, run_standing, within_apart}
-use Rattle.pli_aggregates.proofs.Lists.{all_alike, both, not_first, not_second}
+use Rattle.pli_aggregates.proofs.Lists.{all_alike, both, not_first}
 use Rattle.pli_aggregates.proofs.Places.{as_many_subscripts}
 use Rattle.pli_aggregates.proofs.Stepping.{within_at}
 use Rattle.pli_values.proofs.Parts.{with_none}

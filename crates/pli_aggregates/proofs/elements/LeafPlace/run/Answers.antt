@@ -1,4 +1,4 @@
-use Rattle.std.proofs.Common.{◌≡◌, ◌<◌, ◌∙◌, ◌*◌, ap, ap₂, arith, length, map}
+use Rattle.std.proofs.Common.{◌≡◌, ◌<◌, ◌∙◌, ◌*◌, ap₂, arith, length, map}
 use Rattle.pli_typing.specs.Signatures.{capped, element_count}
 use Rattle.pli_types.specs.View.{pair_of}
 use Rattle.pli_meaning.specs.Contents.{element_place}

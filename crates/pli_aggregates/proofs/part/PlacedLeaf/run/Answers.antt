@@ -1,7 +1,6 @@
-use Rattle.std.proofs.Common.{◌≡◌, ◌<◌, ◌∙◌, ap, arith, drop, length, map, refl, subst, sym, ℕ, List}
+use Rattle.std.proofs.Common.{◌≡◌, ◌<◌, ◌∙◌, ap, arith, map, refl, subst, sym, List}
 use Rattle.pli_typing.specs.Signatures.{Bounds, element_count}
 use Rattle.pli_types.specs.View.{pair_of}
-use Rattle.pli_signatures.specs.View.{leaf_in_force}
 use Rattle.pli_aggregates.proofs.Running.{kind_fails, left_of, none_left, run_so}
 use Rattle.pli_aggregates.proofs.part.PlacedLeaf.run.Goals as goal
 
