@@ -1,11 +1,10 @@
 -- A leaf of a generation as a part of it: what elements it has, and what is stored in them.
 use Rattle.std.proofs.Common.{◌≡◌, ℕ, zero, suc, ◌+◌, ◌<◌, ◌≤◌, ℤ, Bool, true, false, List, [], ◌∷◌, ◌++◌, length, map, Option, Some, None, Result, Ok, refl, sym, ap, ap₂, subst, ◌∙◌, arith, add-zero, append-nil}
-use Rattle.std.specs.Prelude.{◌==◌, slice_get, unwrap_or, is_some, nat_le, ◌&&◌, if◌then◌else◌, option_map, MatchOption, ⊤, Vec}
-use Rattle.std.specs.declared.alloc.Global.{Global}
+use Rattle.std.specs.Prelude.{◌==◌, slice_get, unwrap_or, is_some, nat_le, ◌&&◌, if◌then◌else◌, option_map, MatchOption, ⊤}
 use Rattle.std.specs.List.{list_all, flat_map, range_with_len}
 use Rattle.std.proofs.lemmas.Bool.{le-leb, lt-leb}
 use Rattle.pli_types.specs.Templates.{Template}
-use Rattle.pli_typing.specs.Signatures.{Leaf, LeafKind, Fixed, Character, Varying, Bit, Pointer, Offset, Area}
+use Rattle.pli_typing.specs.Signatures.{Leaf, LeafKind, Fixed, Character, Varying, Bit, Pointer, Offset, Area, leaf_bytes}
 use Rattle.pli_meaning.specs.BasicValues.{BasicValue, BasicNumber, BasicText, BasicBit, BasicPointer, BasicOffset, Name}
 use Rattle.pli_meaning.specs.Contents.{Shape, last_refers, leaves_refer, leaves_with}
 use Rattle.pli_meaning.specs.Evaluating.{Designated, first_leaf, leaf_at}
@@ -28,9 +27,12 @@ use Rattle.pli_answering.specs.declared.reply.Refusal.{Refusal}
 use Rattle.pli_signatures.specs.Whole.{leaf_in}
 use Rattle.pli_aggregates.specs.declared.record.Aggregate.{Aggregate as AggregateHeld}
 use Rattle.pli_aggregates.specs.Elements.{stands_in, AreWithin}
+use Rattle.pli_aggregates.specs.Standing.{CountsAs, HasElements, IsWritable, StandAt, count_left}
+use Rattle.pli_aggregates.specs.Runs.{standing}
+use Rattle.pli_aggregates.specs.declared.runs.Run.{Run}
 use Rattle.pli_signatures.specs.View.{leaf_in_force}
 use Rattle.pli_aggregates.specs.declared.part.PlacedLeaf.{PlacedLeaf}
-use Rattle.pli_aggregates.specs.Parts.{has_all, subscripts_left, HasElements, IsLeafOf, IsPlaced, IsReady, StandAt}
+use Rattle.pli_aggregates.specs.Parts.{has_all, subscripts_left, IsLeafOf, IsPlaced, IsReady}
 use Rattle.pli_aggregates.specs.Records.{aggregate_shown, found_in, generation_named, record_shown}
 use Rattle.pli_aggregates.specs.Scalars.{scalar_into, scalar_of}
 use Rattle.pli_aggregates.specs.Storing.{written_at}
@@ -180,8 +182,9 @@ part_ready : (c : Call) (a : Aggregate) (f : Found) (leaf : ℕ) (p : PlacedLeaf
     → part_of_leaves c a leaf 1 0 ≡ part_if c a f leaf (has_all (leaf_in_force p.place.allocated) (leaf_in_force p.in_force) [] (subscripts_left (leaf_in_force p.in_force) []))
 part_ready c a f leaf p r = part_at c a f leaf r.found ∙ ap (part_if c a f leaf) (has_leaf c a f leaf (leaf_in_force p.place.allocated) (leaf_in_force p.in_force) r.allocated r.in_force)
 
-scalar_there : (c : Call) (a : Aggregate) (f : Found) (x leaf value : ℕ) (p : PlacedLeaf) (addresses : List ℕ) → IsReady c a f leaf p → StandAt p [] addresses → scalar_of c x leaf value a ≡ scalar_into c x leaf value addresses (leaf_in_force p.in_force).kind
-scalar_there c a f x leaf value p addresses r s =
+scalar_there : (c : Call) (a : Aggregate) (f : Found) (x leaf value : ℕ) (p : PlacedLeaf) (run : Run) → IsReady c a f leaf p → StandAt p [] run → scalar_of c x leaf value a ≡ scalar_into c x leaf value (standing run.at run.step (count_left (leaf_in_force p.in_force) [])) (leaf_in_force p.in_force).kind
+scalar_there c a f x leaf value p run r s =
+    let addresses = standing run.at run.step (count_left (leaf_in_force p.in_force) []) in
     let had : Leaf = leaf_in_force p.place.allocated in
     let k : Leaf = leaf_in_force p.in_force in
     let q : PartFound = record { found = f; part = leaf_designated c a f leaf } in
@@ -196,19 +199,28 @@ scalar_there c a f x leaf value p addresses r s =
     ∙ (ap (scalar_set c x leaf value q) kind
     ∙ set_so c x leaf value q k.kind addresses stored)
 
-pub scalar_ready : (c : Call) (a : Aggregate) (f : Found) (x leaf value : ℕ) (p : PlacedLeaf) (o : Option (Vec ℕ Global)) → IsReady c a f leaf p → HasElements p [] (Ok o)
-    → scalar_of c x leaf value a ≡ or_bad (option_map (λ (v : Vec ℕ Global). v.items) o) (λ addresses. scalar_into c x leaf value addresses (leaf_in_force p.in_force).kind)
+pub scalar_ready : (c : Call) (a : Aggregate) (f : Found) (x leaf value : ℕ) (p : PlacedLeaf) (o : Option Run) → IsReady c a f leaf p → HasElements p [] (Ok o)
+    → scalar_of c x leaf value a ≡ or_bad (option_map (λ (run : Run). standing run.at run.step (count_left (leaf_in_force p.in_force) [])) o) (λ addresses. scalar_into c x leaf value addresses (leaf_in_force p.in_force).kind)
 scalar_ready c a f x leaf value p None r h = ap (scalar_at c x leaf value) (part_ready c a f leaf p r ∙ ap (part_if c a f leaf) h)
-scalar_ready c a f x leaf value p (Some v) r h = scalar_there c a f x leaf value p v.items r h
+scalar_ready c a f x leaf value p (Some run) r h = scalar_there c a f x leaf value p run r h
 
 within_up : (bytes end most : ℕ) (addresses : List ℕ) → end ≤ most → AreWithin bytes end addresses → AreWithin bytes most addresses
 within_up bytes end most [] h w = tt
 within_up bytes end most (a ∷ as') h w = let first = w.0 in (omega (arith, h, first), within_up bytes end most as' h w.1)
 
-pub ready_within : (p : PlacedLeaf) (bytes end most : ℕ) (o : Option (Vec ℕ Global)) → p.place.bytes ≡ bytes → p.place.end ≡ end → end ≤ most → HasElements p [] (Ok o) → MatchOption o ⊤ (λ (v : Vec ℕ Global). AreWithin bytes most v.items)
-ready_within p bytes end most None b e h s = tt
-ready_within p bytes end most (Some v) b e h s =
-    within_up bytes end most v.items h (subst (λ n. AreWithin n end v.items) b (subst (λ n. AreWithin p.place.bytes n v.items) e s.within))
+-- elements with bytes are told with their number
+pub ready_within : (p : PlacedLeaf) (kind : LeafKind) (end most : ℕ) (o : Option Run) → p.place.bytes ≡ leaf_bytes kind → p.place.end ≡ end → end ≤ most → HasElements p [] (Ok o) → MatchOption o ⊤ (λ (run : Run). IsWritable kind most run)
+ready_within p kind end most None b e h s = tt
+ready_within p kind end most (Some run) b e h s = λ some.
+    let known : run.count ≡ count_left (leaf_in_force p.in_force) [] = s.exact (subst (λ n. 0 < n) (sym b) some) in
+    within_up (leaf_bytes kind) end most (standing run.at run.step run.count) h
+    (subst (λ n. AreWithin (leaf_bytes kind) end (standing run.at run.step n)) (sym known)
+    (subst (λ n. AreWithin n end (standing run.at run.step (count_left (leaf_in_force p.in_force) []))) b
+    (subst (λ n. AreWithin p.place.bytes n (standing run.at run.step (count_left (leaf_in_force p.in_force) []))) e s.within)))
+
+pub ready_count : (p : PlacedLeaf) (kind : LeafKind) (o : Option Run) → p.place.bytes ≡ leaf_bytes kind → HasElements p [] (Ok o) → MatchOption o ⊤ (λ (run : Run). CountsAs kind run (count_left (leaf_in_force p.in_force) []))
+ready_count p kind None b s = tt
+ready_count p kind (Some run) b s = λ some. s.exact (subst (λ n. 0 < n) (sym b) some)
 
 -- ---- by the signature's number
 

@@ -1,5 +1,7 @@
 pub mod Elements
 pub mod Parts
 pub mod Records
+pub mod Runs
 pub mod Scalars
+pub mod Standing
 pub mod Storing

@@ -42,7 +42,7 @@ fn joined(alloc: Global, given: &[i32], more: &[i32]) -> Result<SmallVec<i32, 8>
 
 impl LeafPlace {
     /// Where the element of a place stands, if that is in memory.
-    fn address(&self, place: u64) -> Option<usize>
+    pub fn address(&self, place: u64) -> Option<usize>
         ensures { (p : ℕ) → place ≡ capped p → MatchOption result ⊤ (λ a. (a ≡ self.now.base + element_size (kind_of self.now.allocated.kind) * p) × (a + self.now.bytes ≤ self.now.end)) }
     {
         let behind = self.allocated.kind.size().checked_mul(place)?;

@@ -37,7 +37,7 @@ fn base_of(at: usize, behind: u64, end: u32) -> Option<usize>
 }
 
 /// Whether an element of a kind that was allocated holds the values of the kind in force.
-fn kind_holds(allocated: ElementKind, in_force: ElementKind) -> bool
+pub fn kind_holds(allocated: ElementKind, in_force: ElementKind) -> bool
     ensures { result ≡ streaming.kind_holds (kind_of allocated) (kind_of in_force) }
 {
     match allocated {
@@ -84,7 +84,7 @@ pub fn placed_leaf(
 
 /// The bounds behind so many, none where there aren't more.
 #[tactic(auto, using(crate::proofs::Having::shorter))]
-fn behind<'a>(bounds: &'a [Bounds], count: usize) -> &'a [Bounds]
+pub fn behind<'a>(bounds: &'a [Bounds], count: usize) -> &'a [Bounds]
     ensures { result.now ≡ drop count bounds.now }
 {
     &bounds[count.min(bounds.len())..]

@@ -1,6 +1,6 @@
 // A scalar that is stored into each element of an array: service 41.
 
-ghost use Rattle.std.specs.Prelude.{◌≡◌, List, Ok, Some, length, option_map, MatchOption, ⊤};
+ghost use Rattle.std.specs.Prelude.{◌≡◌, ℕ, List, Ok, Some, length, option_map, MatchOption, ⊤};
 ghost use Rattle.pli_typing.specs.Signatures.{leaf_bytes};
 ghost use Rattle.pli_answering.specs.Answering.{Answers};
 ghost use Rattle.pli_serving.specs.AggregateServices as services;
@@ -14,13 +14,15 @@ ghost use Rattle.pli_signatures.specs.View.{kind_of};
 ghost use Rattle.pli_storage.specs.Findings.{found_of};
 ghost use Rattle.pli_storage.specs.Held.{IsLaid};
 ghost use Rattle.pli_values.specs.View.{name_of};
-ghost use Rattle.pli_aggregates.specs.Elements.{AreWithin};
 ghost use Rattle.pli_aggregates.specs.Parts.{IsPlaced, IsReady};
 ghost use Rattle.pli_aggregates.specs.Records.{aggregate_shown, generation_named};
+ghost use Rattle.pli_aggregates.specs.Runs.{standing};
 ghost use Rattle.pli_aggregates.specs.Scalars.{name_into, scalar_into, scalar_of, text_into, with_all};
+ghost use Rattle.pli_aggregates.specs.Standing.{CountsAs, IsWritable};
 
 use crate::part::{PlacedLeaf, placed_leaf};
 use crate::record::{Aggregate, aggregate_at, generation_of};
+use crate::runs::Run;
 use crate::storing::store_all;
 use area_heap::keeper::AreaKeeper;
 use pli_answering::reply::{Refusal, Reply};
@@ -39,17 +41,17 @@ fn set_text<K: AreaKeeper>(
     held: &Held,
     entries: &mut Entries,
     memory: &mut [u8],
-    addresses: &[usize],
+    run: Run,
     kind: ElementKind,
     first: u32,
     second: u32,
 ) -> Result<Reply, Refusal>
-    requires { AreWithin (leaf_bytes (kind_of kind)) (length memory.old) addresses.now }
-    ensures { (c : Call) → Answers (λ c. text_into c first second addresses.now (kind_of kind)) (with_all K.keeper held.now memory.old entries.old c) result (with_all K.keeper held.now memory.new entries.new c) }
+    requires { IsWritable (kind_of kind) (length memory.old) run }
+    ensures { (n : ℕ) → CountsAs (kind_of kind) run n → (c : Call) → Answers (λ c. text_into c first second (standing run.at run.step n) (kind_of kind)) (with_all K.keeper held.now memory.old entries.old c) result (with_all K.keeper held.now memory.new entries.new c) }
 {
     match take_top(alloc, entries) {
         Ok(text) => {
-            store_all(memory, addresses, kind, Value::Text(&text));
+            store_all(memory, run, kind, Value::Text(&text));
             Ok(Reply::Done(first, second))
         }
         Err(refusal) => Err(refusal),
@@ -60,19 +62,19 @@ fn set_text<K: AreaKeeper>(
 fn set_name<K: AreaKeeper>(
     held: &Held,
     memory: &mut [u8],
-    addresses: &[usize],
+    run: Run,
     kind: ElementKind,
     value: u32,
     first: u32,
     second: u32,
 ) -> Result<Reply, Refusal>
     requires laid { IsLaid K.keeper held.now.layout memory.old }
-    requires within { AreWithin (leaf_bytes (kind_of kind)) (length memory.old) addresses.now }
-    ensures { (c : Call) → (entries : List Entry) → Answers (λ c. name_into c first second value addresses.now (kind_of kind)) (with_all K.keeper held.now memory.old entries c) result (with_all K.keeper held.now memory.new entries c) }
+    requires within { IsWritable (kind_of kind) (length memory.old) run }
+    ensures { (n : ℕ) → CountsAs (kind_of kind) run n → (c : Call) → (entries : List Entry) → Answers (λ c. name_into c first second value (standing run.at run.step n) (kind_of kind)) (with_all K.keeper held.now memory.old entries c) result (with_all K.keeper held.now memory.new entries c) }
 {
     match held.name_at::<K>(memory, value) {
         Some(name) => {
-            store_all(memory, addresses, kind, Value::Pointer(name));
+            store_all(memory, run, kind, Value::Pointer(name));
             Ok(Reply::Done(first, second))
         }
         None => Err(Refusal::Bad),
@@ -85,34 +87,34 @@ fn set<K: AreaKeeper>(
     held: &Held,
     entries: &mut Entries,
     memory: &mut [u8],
-    addresses: &[usize],
+    run: Run,
     kind: ElementKind,
     value: u32,
     first: u32,
     second: u32,
 ) -> Result<Reply, Refusal>
     requires laid { IsLaid K.keeper held.now.layout memory.old }
-    requires within { AreWithin (leaf_bytes (kind_of kind)) (length memory.old) addresses.now }
-    ensures { (c : Call) → Answers (λ c. scalar_into c first second value addresses.now (kind_of kind)) (with_all K.keeper held.now memory.old entries.old c) result (with_all K.keeper held.now memory.new entries.new c) }
+    requires within { IsWritable (kind_of kind) (length memory.old) run }
+    ensures { (n : ℕ) → CountsAs (kind_of kind) run n → (c : Call) → Answers (λ c. scalar_into c first second value (standing run.at run.step n) (kind_of kind)) (with_all K.keeper held.now memory.old entries.old c) result (with_all K.keeper held.now memory.new entries.new c) }
 {
     match kind {
         ElementKind::Fixed { .. } => {
-            store_all(memory, addresses, kind, Value::Number(value.cast_signed()));
+            store_all(memory, run, kind, Value::Number(value.cast_signed()));
             Ok(Reply::Done(first, second))
         }
         ElementKind::Character { .. } => set_text::<K>(
-            alloc, held, entries, memory, addresses, kind, first, second,
+            alloc, held, entries, memory, run, kind, first, second,
         ),
         ElementKind::Varying { .. } => set_text::<K>(
-            alloc, held, entries, memory, addresses, kind, first, second,
+            alloc, held, entries, memory, run, kind, first, second,
         ),
         ElementKind::Bit => {
-            store_all(memory, addresses, kind, Value::Bit(value == 1));
+            store_all(memory, run, kind, Value::Bit(value == 1));
             Ok(Reply::Done(first, second))
         }
-        ElementKind::Pointer => set_name::<K>(held, memory, addresses, kind, value, first, second),
+        ElementKind::Pointer => set_name::<K>(held, memory, run, kind, value, first, second),
         ElementKind::Offset => {
-            store_all(memory, addresses, kind, Value::Offset(offset_of(value)));
+            store_all(memory, run, kind, Value::Offset(offset_of(value)));
             Ok(Reply::Done(first, second))
         }
         ElementKind::Area { .. } => Err(Refusal::Bad),
@@ -126,19 +128,17 @@ fn scalar_elements<K: AreaKeeper>(
     entries: &mut Entries,
     memory: &mut [u8],
     kind: ElementKind,
-    found: Option<Vec<usize>>,
+    found: Option<Run>,
     first: u32,
     leaf: u32,
     value: u32,
 ) -> Result<Reply, Refusal>
     requires laid { IsLaid K.keeper held.now.layout memory.old }
-    requires within { MatchOption found ⊤ (λ addresses. AreWithin (leaf_bytes (kind_of kind)) (length memory.old) addresses.items) }
-    ensures { (c : Call) → Answers (λ c. or_bad (option_map (λ addresses. addresses.items) found) (λ addresses. scalar_into c first leaf value addresses (kind_of kind))) (with_all K.keeper held.now memory.old entries.old c) result (with_all K.keeper held.now memory.new entries.new c) }
+    requires within { MatchOption found ⊤ (λ run. IsWritable (kind_of kind) (length memory.old) run) }
+    ensures { (n : ℕ) → MatchOption found ⊤ (λ run. CountsAs (kind_of kind) run n) → (c : Call) → Answers (λ c. or_bad (option_map (λ run. standing run.at run.step n) found) (λ addresses. scalar_into c first leaf value addresses (kind_of kind))) (with_all K.keeper held.now memory.old entries.old c) result (with_all K.keeper held.now memory.new entries.new c) }
 {
     match found {
-        Some(addresses) => set::<K>(
-            alloc, held, entries, memory, &addresses, kind, value, first, leaf,
-        ),
+        Some(run) => set::<K>(alloc, held, entries, memory, run, kind, value, first, leaf),
         None => Err(Refusal::Bad),
     }
 }
@@ -160,7 +160,7 @@ fn scalar_placed<K: AreaKeeper>(
     ensures { (c : Call) → (a : A.Aggregate) → (f : F.Found) → IsReady (with_all K.keeper held.now memory.old entries.old c) a f leaf placed.now →
         Answers (λ c. scalar_of c first leaf value a) (with_all K.keeper held.now memory.old entries.old c) result (with_all K.keeper held.now memory.new entries.new c) }
 {
-    match placed.elements(alloc, &[]) {
+    match placed.run(&[]) {
         Ok(found) => {
             let kind = placed.in_force.kind;
             scalar_elements::<K>(

@@ -34,12 +34,12 @@ one_more shape z first (k ∷ ls) l a e =
     let next : first + suc (length ls) ≡ suc first + length ls = omega arith in
     (a.0, one_more shape z (suc first) ls l a.1 (e ∙ ap (λ n. leaf_in shape n z) next))
 
-got_bounds : (ls : List Leaf) (n : ℕ) (l : Leaf) → Some l ≡ slice_get ls n → bounds_of_leaf ls n ≡ l.bounds
+pub got_bounds : (ls : List Leaf) (n : ℕ) (l : Leaf) → Some l ≡ slice_get ls n → bounds_of_leaf ls n ≡ l.bounds
 got_bounds [] n l e = absurd (cc)
 got_bounds (k ∷ ls) zero l e = let same : k ≡ l = cc in ap (λ (m : Leaf). m.bounds) same
 got_bounds (k ∷ ls) (suc n) l e = got_bounds ls n l e
 
-got_low : (ls : List Leaf) (n : ℕ) (l : Leaf) → Some l ≡ slice_get ls n → n < length ls
+pub got_low : (ls : List Leaf) (n : ℕ) (l : Leaf) → Some l ≡ slice_get ls n → n < length ls
 got_low [] n l e = absurd (cc)
 got_low (k ∷ ls) zero l e = omega arith
 got_low (k ∷ ls) (suc n) l e = let r = got_low ls n l e in omega (arith, r)

@@ -1,11 +1,11 @@
 -- Where an element of a generation stands, and what is answered of it.
 use Rattle.std.proofs.Common.{◌≡◌, ℕ, ℤ, Bool, true, false, List, Option, Some, None, Result, Ok, Err, refl, sym, ap, ap₂, subst, ◌∙◌, arith}
 use Rattle.std.proofs.lemmas.Bool.Decides.{nat_tests}
-use Rattle.std.specs.Prelude.{◌&&◌, ◌==◌, MatchOption, is_some, slice_get, unwrap_or, if◌then◌else◌}
-use Rattle.pli_typing.specs.Signatures.{Bounds, Leaf, capped}
+use Rattle.std.specs.Prelude.{◌+◌, ◌&&◌, ◌==◌, is_some, slice_get, unwrap_or, if◌then◌else◌}
+use Rattle.pli_typing.specs.Signatures.{Bounds, Leaf, LeafKind, capped}
 use Rattle.pli_meaning.specs.BasicValues.{Name}
 use Rattle.pli_meaning.specs.Codes.{extent_code}
-use Rattle.pli_meaning.specs.Contents.{Shape, element_place, is_within}
+use Rattle.pli_meaning.specs.Contents.{Shape, element_place, is_within, leaves_with}
 use Rattle.pli_meaning.specs.Evaluating.{leaf_at}
 use Rattle.pli_meaning.specs.Streaming.{kind_holds}
 use Rattle.pli_meaning.specs.Unreachable.{unreachable_leaf}
@@ -17,12 +17,10 @@ use Rattle.pli_serving.specs.Finding.{Call, Found, Finding, FoundAt, named}
 use Rattle.pli_signatures.specs.Elements.{place_within}
 use Rattle.pli_signatures.specs.View.{leaf_in_force}
 use Rattle.pli_signatures.specs.Whole.{leaf_in}
-use Rattle.pli_aggregates.specs.declared.part.PlacedLeaf.{PlacedLeaf}
+use Rattle.pli_signatures.specs.declared.element.LeafInForce.{LeafInForce}
+use Rattle.pli_serving.specs.Values.{leaf_place}
 use Rattle.pli_aggregates.specs.Elements.{stands_in}
-use Rattle.pli_aggregates.specs.Parts.{IsLeafOf, IsPlaced}
-use Rattle.pli_answering.specs.declared.reply.Refusal.{Refusal}
-use Rattle.pli_answering.specs.declared.reply.Refusal.TheVariants as F
-use Rattle.pli_elements.specs.Outcomes.{IsOutcome, IsOutcomeOf, IsStanding, IsWith, has_element}
+use Rattle.pli_elements.specs.Outcomes.{IsOutcome, IsStanding, IsWith, has_element}
 use Rattle.pli_elements.specs.declared.standing.Outcome.{Outcome}
 
 -- ---- a leaf that was placed
@@ -60,46 +58,37 @@ place_outside bs is e = go (is_within bs is) e
     go true h = absurd (cc)
     go false h = refl
 
-leaf_known : (s : Shape) (z : ℤ) (leaf : ℕ) (l : Leaf) → Some l ≡ leaf_in (Some s) leaf z → leaf_at s z leaf ≡ l
-leaf_known s z leaf l e = ap (λ o. unwrap_or o unreachable_leaf) (sym e)
+pub leaf_known : (s : Shape) (z : ℤ) (leaf : ℕ) (shape : Option Shape) (l : LeafInForce) → shape ≡ Some s → Some (leaf_in_force l) ≡ leaf_in shape leaf z → leaf_at s z leaf ≡ leaf_in_force l
+leaf_known s z leaf shape l e h =
+    let there : Some (leaf_in_force l) ≡ leaf_in (Some s) leaf z = h ∙ ap (λ o. leaf_in o leaf z) e in
+    ap (λ o. unwrap_or o unreachable_leaf) (sym there)
 
 abbrev answered_if : Call → (x y : ℕ) → (memory : List ℕ) → Bool → Answer
 answered_if c x y memory holds = if holds then Done c.services memory y 0 else Done c.services memory x extent_code
 
-answered : (c : Call) (x leaf end : ℕ) (a : Aggregate) (is : List ℤ) (f : Found) (p : PlacedLeaf) (shape : Option Shape) (memory : List ℕ) → shape ≡ Some a.shape → IsLeafOf shape a.extent leaf f end p
-    → element_answered c x a (leaf, is) memory (FoundAt f) ≡ answered_if c x (stands_in p.place.base (leaf_in_force p.place.allocated) is) memory (has_element p is)
-answered c x leaf end a is f p shape memory e l =
-    let force : leaf_at a.shape a.extent leaf ≡ leaf_in_force p.in_force = leaf_known a.shape a.extent leaf (leaf_in_force p.in_force) (l.in_force ∙ ap (λ o. leaf_in o leaf a.extent) e) in
-    let had : leaf_at a.shape f.extent leaf ≡ leaf_in_force p.place.allocated = leaf_known a.shape f.extent leaf (leaf_in_force p.place.allocated) (l.allocated ∙ ap (λ o. leaf_in o leaf f.extent) e) in
-    let base = l.base a.shape e in
-    ap₂ (λ (k m : Leaf). answered_if c x (element_at a.shape f (leaf, is)) memory (kind_holds k.kind m.kind && is_within k.bounds is)) had force
-    ∙ ap₂ (λ (k : Leaf) n. answered_if c x (stands_in n k is) memory (has_element p is)) had (sym base)
+-- a leaf of a generation, as it was allocated from a base on, with the kind in force
+pub record IsAllocated (a : Aggregate) (leaf : ℕ) (f : Found) (base : ℕ) (l : LeafInForce) (kind : LeafKind) : Type 0 where
+  pub had : leaf_at a.shape f.extent leaf ≡ leaf_in_force l
+  pub force : (leaf_at a.shape a.extent leaf).kind ≡ kind
+  pub place : base ≡ f.at + leaf_place (leaves_with f.extent a.shape) leaf
 
-pub there_so : (c : Call) (x leaf end y : ℕ) (a : Aggregate) (is : List ℤ) (f : Found) (p : PlacedLeaf) (shape : Option Shape) → shape ≡ Some a.shape → IsLeafOf shape a.extent leaf f end p → has_element p is ≡ true → y ≡ stands_in p.place.base (leaf_in_force p.place.allocated) is
-    → (memory : List ℕ) → element_answered c x a (leaf, is) memory (FoundAt f) ≡ Done c.services memory y 0
-there_so c x leaf end y a is f p shape e l h g = λ memory.
-    answered c x leaf end a is f p shape memory e l
-    ∙ ap (answered_if c x (stands_in p.place.base (leaf_in_force p.place.allocated) is) memory) h
-    ∙ ap (λ n. Done c.services memory n 0) (sym g)
+answered : (c : Call) (x leaf base : ℕ) (a : Aggregate) (is : List ℤ) (f : Found) (l : LeafInForce) (kind : LeafKind) (memory : List ℕ) → IsAllocated a leaf f base l kind
+    → element_answered c x a (leaf, is) memory (FoundAt f) ≡ answered_if c x (stands_in base (leaf_in_force l) is) memory (has_element l kind is)
+answered c x leaf base a is f l kind memory h =
+    ap₂ (λ (k : Leaf) (m : LeafKind). answered_if c x (element_at a.shape f (leaf, is)) memory (kind_holds k.kind m && is_within k.bounds is)) h.had h.force
+    ∙ ap₂ (λ (k : Leaf) n. answered_if c x (stands_in n k is) memory (has_element l kind is)) h.had (sym h.place)
 
-pub missing_so : (c : Call) (x leaf end : ℕ) (a : Aggregate) (is : List ℤ) (f : Found) (p : PlacedLeaf) (shape : Option Shape) → shape ≡ Some a.shape → IsLeafOf shape a.extent leaf f end p → has_element p is ≡ false
-    → (memory : List ℕ) → element_answered c x a (leaf, is) memory (FoundAt f) ≡ Done c.services memory x extent_code
-missing_so c x leaf end a is f p shape e l h = λ memory.
-    answered c x leaf end a is f p shape memory e l
-    ∙ ap (answered_if c x (stands_in p.place.base (leaf_in_force p.place.allocated) is) memory) h
-
-pub outcome_so : (p : PlacedLeaf) (x : ℕ) (is : List ℤ) (address : Option ℕ) (o : Outcome) → IsStanding p is (Ok address) → IsWith x address o → IsOutcomeOf p x is (Ok o)
-outcome_so p x is None o s w = λ c a leaf end f shape e l memory.
-    missing_so c x leaf end a is f p shape e l s memory
+pub outcome_so : (c : Call) (x leaf base : ℕ) (a : Aggregate) (is : List ℤ) (f : Found) (l : LeafInForce) (kind : LeafKind) (address : Option ℕ) (o : Outcome) → IsAllocated a leaf f base l kind → IsStanding base l kind is (Ok address) → IsWith x address o
+    → IsOutcome c x a leaf is (FoundAt f) (Ok o)
+outcome_so c x leaf base a is f l kind None o h s w = λ memory.
+    answered c x leaf base a is f l kind memory h
+    ∙ ap (answered_if c x (stands_in base (leaf_in_force l) is) memory) s
     ∙ ap₂ (λ m n. Done c.services memory m n) (sym w.0) (sym w.1)
-outcome_so p x is (Some y) o s w = λ c a leaf end f shape e l memory.
-    there_so c x leaf end y a is f p shape e l s.0 s.1 memory
+outcome_so c x leaf base a is f l kind (Some y) o h s w = λ memory.
+    answered c x leaf base a is f l kind memory h
+    ∙ ap (answered_if c x (stands_in base (leaf_in_force l) is) memory) s.0
+    ∙ ap (λ n. Done c.services memory n 0) (sym s.1)
     ∙ ap₂ (λ m n. Done c.services memory m n) (sym w.0) (sym w.1)
-
-pub found_if : (c : Call) (x leaf end : ℕ) (a : Aggregate) (is : List ℤ) (f : Found) (shape : Option Shape) (o : Option PlacedLeaf) (r : Result Outcome Refusal) → shape ≡ Some a.shape → IsPlaced shape a.extent leaf f end (Ok o)
-    → MatchOption o (r ≡ Err F.Memory) (λ p. IsOutcomeOf p x is r) → IsOutcome c x a leaf is (FoundAt f) r
-found_if c x leaf end a is f shape None r e l h = subst (λ (q : Result Outcome Refusal). IsOutcome c x a leaf is (FoundAt f) q) (sym h) tt
-found_if c x leaf end a is f shape (Some p) r e l h = h c a leaf end f shape e l
 
 -- ---- what a name names
 

@@ -3,10 +3,11 @@ use Rattle.std.specs.Prelude.{◌≡◌, ℕ, suc, ◌+◌, ◌<◌, ℤ, nat_le
 use Rattle.std.specs.declared.alloc.Global.{Global}
 use Rattle.pli_typing.specs.Signatures.{Bounds}
 use Rattle.pli_meaning.specs.Contents.{Shape}
-use Rattle.pli_meaning.specs.StreamOrder.{Element, elements_inside}
+use Rattle.pli_meaning.specs.StreamOrder.{Element, elements_inside, with_more}
 use Rattle.pli_serving.specs.Aggregates.{subscripts_of}
 use Rattle.pli_shapes.specs.Nests.{nest_in}
 use Rattle.pli_shapes.specs.declared.part.Part.{Part}
+use Rattle.pli_shapes.specs.declared.shape.LeafShape.{LeafShape}
 use Rattle.pli_order.specs.Orders.{IsOrder}
 use Rattle.pli_signatures.specs.View.{leaf_in_force}
 use Rattle.pli_signatures.specs.Whole.{leaf_in}
@@ -50,3 +51,7 @@ IsItemIf elements parts (Ok None) = elements ≡ None
 IsItemIf elements parts (Ok (Some i)) = IsItem elements parts i
 IsItemIf elements parts (Err F.Memory) = Unit {0}
 IsItemIf elements parts (Err F.Bad) = ⊥
+
+-- those of a leaf alone, by its dimensions behind the subscripts given
+abbrev pub row_elements : LeafShape → LeafInForce → (given : List ℤ) → List Element
+row_elements shape l is = map (λ js. (shape.leaf, js)) (with_more shape.dimensions (leaf_in_force l).bounds is)

@@ -1,9 +1,8 @@
 // Service 8 with mode 1.
 
-ghost use Rattle.std.specs.Prelude.{◌≡◌, ◌+◌, Some, List, IfOk, MatchOption, true, ⊤};
+ghost use Rattle.std.specs.Prelude.{◌≡◌, ◌+◌, Some, List, MatchOption, true, ⊤};
 ghost use Rattle.pli_answering.specs.Answering.{Answers};
 ghost use Rattle.pli_meaning.specs.Contents.{Shape};
-ghost use Rattle.pli_meaning.specs.Evaluating as evaluating;
 ghost use Rattle.pli_meaning.specs.StreamOrder.{Element};
 ghost use Rattle.pli_serving.specs.Bytes.{is_data};
 ghost use Rattle.pli_serving.specs.ElementService as service;
@@ -12,26 +11,30 @@ ghost use Rattle.pli_serving.specs.Names as names;
 ghost use Rattle.pli_serving.specs.Outcomes.{or_bad};
 ghost use Rattle.pli_serving.specs.Templates.{shape_at};
 ghost use Rattle.pli_shapes.specs.declared.part.Part.{Part};
-ghost use Rattle.pli_shapes.specs.Members.{shape_of};
-ghost use Rattle.pli_signatures.specs.View.{kind_of};
+ghost use Rattle.pli_shapes.specs.Members.{one_leaf, shape_of};
+ghost use Rattle.pli_signatures.specs.View.{kind_of, leaf_in_force};
+ghost use Rattle.pli_signatures.specs.Whole.{leaf_in};
 ghost use Rattle.pli_values.specs.View.{layout_of};
 ghost use Rattle.pli_storage.specs.Held.{with_held, IsLaid};
 ghost use Rattle.pli_aggregates.specs.Records.{aggregate_shown, record_shown};
-ghost use Rattle.pli_elements.specs.Items.{IsItem};
+ghost use Rattle.pli_elements.specs.Items.{IsItem, row_elements};
 ghost use Rattle.pli_elements.specs.Served.{in_aggregate, in_item, in_shape};
 
+use crate::given::subscripts_in;
 use crate::item::{Item, item_of};
+use crate::leaves::leaf_at;
 use crate::standing::outcome_in;
 use area_heap::keeper::AreaKeeper;
 use pli_aggregates::record::{Aggregate, aggregate_at};
 use pli_answering::reply::{Refusal, Reply};
 use pli_order::find::element_at;
-use pli_shapes::shape::{ItemShape, item_shape};
-use pli_signatures::element::ElementKind;
+use pli_order::rows::row_at;
+use pli_shapes::shape::{ItemShape, LeafShape, item_shape, leaf_shape};
+use pli_signatures::element::{ElementKind, LeafInForce};
 use pli_storage::held::Held;
 use pli_values::source::Source;
 use pli_values::word::put_words;
-use std::alloc::{AllocError, Global};
+use std::alloc::Global;
 
 /// What is told in the place of an element that isn't there.
 const NO_ELEMENT: u32 = u32::MAX;
@@ -54,20 +57,7 @@ fn kind_words(kind: ElementKind) -> [u32; 2]
     }
 }
 
-/// The kind in force of a leaf of an aggregate. Refused where that isn't there.
-fn kind_at(held: &Held, aggregate: Aggregate, leaf: u32) -> Result<ElementKind, AllocError>
-    ensures { (s : Shape) → shape_at held.now.signatures aggregate.signature ≡ Some s → IfOk result (λ kind. (evaluating.leaf_at s aggregate.extent leaf).kind ≡ kind_of kind) }
-{
-    let found = held
-        .signatures
-        .leaf_kind(aggregate.signature, leaf, aggregate.extent);
-    match found {
-        Some(kind) => Ok(kind),
-        None => Err(AllocError),
-    }
-}
-
-/// An element of a kind is described in a buffer, and where it stands is answered.
+/// An element of a leaf is described in a buffer, and where it stands is answered. The leaf is given as it is in force.
 fn written<K: AreaKeeper>(
     alloc: Global,
     held: &Held,
@@ -76,25 +66,53 @@ fn written<K: AreaKeeper>(
     register: u32,
     buffer: u32,
     leaf: u32,
-    kind: ElementKind,
+    in_force: &LeafInForce,
     subscripts: &[i32],
 ) -> Result<Reply, Refusal>
     requires laid { IsLaid K.keeper held.now.layout memory.old }
     requires there { is_data (layout_of held.now.layout) buffer 8 ≡ true }
-    ensures { (c : Call) → (s : Shape) → shape_at held.now.signatures aggregate.signature ≡ Some s → (evaluating.leaf_at s aggregate.extent leaf).kind ≡ kind_of kind →
+    requires known { Some (leaf_in_force in_force.now) ≡ leaf_in (shape_at held.now.signatures aggregate.signature) leaf aggregate.extent }
+    ensures { (c : Call) → (s : Shape) → shape_at held.now.signatures aggregate.signature ≡ Some s →
         Answers (λ c. service.element_found c register (record_shown aggregate s) buffer (leaf, subscripts.now)) (with_held K.keeper held.now memory.old c) result (with_held K.keeper held.now memory.new c) }
 {
-    match outcome_in::<K>(alloc, held, memory, aggregate, register, leaf, subscripts) {
+    match outcome_in::<K>(
+        alloc, held, memory, aggregate, register, leaf, in_force, subscripts,
+    ) {
         Ok(outcome) => {
-            put_words(memory, buffer as usize, &kind_words(kind));
+            put_words(memory, buffer as usize, &kind_words(in_force.kind));
             Ok(Reply::Done(outcome.register, outcome.status))
         }
         Err(refusal) => Err(refusal),
     }
 }
 
-/// What an element is, and where it stands: its leaf and its subscripts are given.
+/// What an element of a leaf is, and where it stands: its subscripts are given, and the leaf as it is in force.
 fn described<K: AreaKeeper>(
+    alloc: Global,
+    held: &Held,
+    memory: &mut [u8],
+    aggregate: Aggregate,
+    register: u32,
+    buffer: u32,
+    leaf: u32,
+    in_force: &LeafInForce,
+    subscripts: &[i32],
+) -> Result<Reply, Refusal>
+    requires laid { IsLaid K.keeper held.now.layout memory.old }
+    requires known { Some (leaf_in_force in_force.now) ≡ leaf_in (shape_at held.now.signatures aggregate.signature) leaf aggregate.extent }
+    ensures { (c : Call) → (s : Shape) → shape_at held.now.signatures aggregate.signature ≡ Some s →
+        Answers (λ c. service.element_found c register (record_shown aggregate s) buffer (leaf, subscripts.now)) (with_held K.keeper held.now memory.old c) result (with_held K.keeper held.now memory.new c) }
+{
+    if !held.layout.is_data(buffer as usize, BUFFER_BYTES) {
+        return Err(Refusal::Bad);
+    }
+    written::<K>(
+        alloc, held, memory, aggregate, register, buffer, leaf, in_force, subscripts,
+    )
+}
+
+/// The same of a leaf by its number alone. Without memory where the aggregate has none of that.
+fn of_element<K: AreaKeeper>(
     alloc: Global,
     held: &Held,
     memory: &mut [u8],
@@ -108,14 +126,12 @@ fn described<K: AreaKeeper>(
     ensures { (c : Call) → (s : Shape) → shape_at held.now.signatures aggregate.signature ≡ Some s →
         Answers (λ c. service.element_found c register (record_shown aggregate s) buffer (leaf, subscripts.now)) (with_held K.keeper held.now memory.old c) result (with_held K.keeper held.now memory.new c) }
 {
-    if !held.layout.is_data(buffer as usize, BUFFER_BYTES) {
-        return Err(Refusal::Bad);
-    }
-    match kind_at(held, aggregate, leaf) {
-        Ok(kind) => written::<K>(
-            alloc, held, memory, aggregate, register, buffer, leaf, kind, subscripts,
+    let found = leaf_at(alloc, held, aggregate, leaf)?;
+    match found {
+        Some(in_force) => described::<K>(
+            alloc, held, memory, aggregate, register, buffer, leaf, &in_force, subscripts,
         ),
-        Err(_) => Err(Refusal::Memory),
+        None => Err(Refusal::Memory),
     }
 }
 
@@ -152,7 +168,7 @@ fn numbered<K: AreaKeeper>(
     let Some(leaf) = leaf_behind(item.first, element.leaf) else {
         return Err(Refusal::Memory);
     };
-    described::<K>(
+    of_element::<K>(
         alloc,
         held,
         memory,
@@ -190,7 +206,151 @@ fn of_shape<K: AreaKeeper>(
     }
 }
 
-/// The same of the shape at an address.
+/// The element of a number among those of a leaf, behind the subscripts given, if there is one; else that there is none.
+fn of_row<K: AreaKeeper>(
+    alloc: Global,
+    held: &Held,
+    memory: &mut [u8],
+    aggregate: Aggregate,
+    register: u32,
+    shape: LeafShape,
+    in_force: &LeafInForce,
+    given: &[i32],
+    number: u64,
+    buffer: u32,
+) -> Result<Reply, Refusal>
+    requires laid { IsLaid K.keeper held.now.layout memory.old }
+    requires known { Some (leaf_in_force in_force.now) ≡ leaf_in (shape_at held.now.signatures aggregate.signature) shape.leaf aggregate.extent }
+    ensures { (c : Call) → (s : Shape) → shape_at held.now.signatures aggregate.signature ≡ Some s →
+        Answers (λ c. in_item c register (record_shown aggregate s) number buffer (row_elements shape in_force.now given.now)) (with_held K.keeper held.now memory.old c) result (with_held K.keeper held.now memory.new c) }
+{
+    let bounds = in_force.bounds.as_slice();
+    let row = row_at(alloc, bounds, given, shape.dimensions, number)?;
+    match row {
+        Some(subscripts) => described::<K>(
+            alloc,
+            held,
+            memory,
+            aggregate,
+            register,
+            buffer,
+            shape.leaf,
+            in_force,
+            subscripts.as_slice(),
+        ),
+        None => Ok(Reply::Done(NO_ELEMENT, 0)),
+    }
+}
+
+/// The same of a shape that is this leaf alone.
+fn of_leaf<K: AreaKeeper>(
+    alloc: Global,
+    held: &Held,
+    memory: &mut [u8],
+    aggregate: Aggregate,
+    register: u32,
+    shape: LeafShape,
+    in_force: &LeafInForce,
+    number: u64,
+    buffer: u32,
+) -> Result<Reply, Refusal>
+    requires laid { IsLaid K.keeper held.now.layout memory.old }
+    requires known { Some (leaf_in_force in_force.now) ≡ leaf_in (shape_at held.now.signatures aggregate.signature) shape.leaf aggregate.extent }
+    ensures { (c : Call) → (s : Shape) → shape_at held.now.signatures aggregate.signature ≡ Some s →
+        Answers (λ c. in_shape c register (record_shown aggregate s) number buffer (Some (one_leaf shape))) (with_held K.keeper held.now memory.old c) result (with_held K.keeper held.now memory.new c) }
+{
+    let bounds = in_force.bounds.as_slice();
+    let given = subscripts_in(alloc, bounds, shape.given, aggregate.place)?;
+    match given {
+        Some(given) => of_row::<K>(
+            alloc,
+            held,
+            memory,
+            aggregate,
+            register,
+            shape,
+            in_force,
+            given.as_slice(),
+            number,
+            buffer,
+        ),
+        None => Err(Refusal::Bad),
+    }
+}
+
+/// The same of a leaf that may not be there.
+fn of_leaf_shape<K: AreaKeeper>(
+    alloc: Global,
+    held: &Held,
+    memory: &mut [u8],
+    aggregate: Aggregate,
+    register: u32,
+    shape: LeafShape,
+    number: u64,
+    buffer: u32,
+) -> Result<Reply, Refusal>
+    requires { IsLaid K.keeper held.now.layout memory.old }
+    ensures { (c : Call) → (s : Shape) → shape_at held.now.signatures aggregate.signature ≡ Some s →
+        Answers (λ c. in_shape c register (record_shown aggregate s) number buffer (Some (one_leaf shape))) (with_held K.keeper held.now memory.old c) result (with_held K.keeper held.now memory.new c) }
+{
+    let leaf = leaf_at(alloc, held, aggregate, shape.leaf)?;
+    match leaf {
+        Some(in_force) => of_leaf::<K>(
+            alloc, held, memory, aggregate, register, shape, &in_force, number, buffer,
+        ),
+        None => Err(Refusal::Bad),
+    }
+}
+
+/// The same of the shape at an address, of any parts.
+fn of_parts<K: AreaKeeper>(
+    alloc: Global,
+    held: &Held,
+    memory: &mut [u8],
+    aggregate: Aggregate,
+    register: u32,
+    shape: u32,
+    number: u64,
+    buffer: u32,
+) -> Result<Reply, Refusal>
+    requires { IsLaid K.keeper held.now.layout memory.old }
+    ensures { (c : Call) → (s : Shape) → shape_at held.now.signatures aggregate.signature ≡ Some s →
+        Answers (λ c. in_aggregate c register shape number buffer (record_shown aggregate s)) (with_held K.keeper held.now memory.old c) result (with_held K.keeper held.now memory.new c) }
+{
+    match item_shape(alloc, &Source::new(held.layout, memory), shape as usize)? {
+        Some(found) => of_shape::<K>(
+            alloc, held, memory, aggregate, register, &found, number, buffer,
+        ),
+        None => Err(Refusal::Bad),
+    }
+}
+
+/// The same; a shape that is one leaf asks for no list of parts.
+fn of_whole<K: AreaKeeper>(
+    alloc: Global,
+    held: &Held,
+    memory: &mut [u8],
+    aggregate: Aggregate,
+    register: u32,
+    shape: u32,
+    number: u64,
+    buffer: u32,
+) -> Result<Reply, Refusal>
+    requires { IsLaid K.keeper held.now.layout memory.old }
+    ensures { (c : Call) → (s : Shape) → shape_at held.now.signatures aggregate.signature ≡ Some s →
+        Answers (λ c. in_aggregate c register shape number buffer (record_shown aggregate s)) (with_held K.keeper held.now memory.old c) result (with_held K.keeper held.now memory.new c) }
+{
+    match leaf_shape(&Source::new(held.layout, memory), shape as usize) {
+        Some(leaf) => of_leaf_shape::<K>(
+            alloc, held, memory, aggregate, register, leaf, number, buffer,
+        ),
+        None => of_parts::<K>(
+            alloc, held, memory, aggregate, register, shape, number, buffer,
+        ),
+    }
+}
+
+/// The same of an aggregate whose signature may not be whole.
 fn of_aggregate<K: AreaKeeper>(
     alloc: Global,
     held: &Held,
@@ -207,12 +367,9 @@ fn of_aggregate<K: AreaKeeper>(
     if !held.signatures.is_whole(aggregate.signature) {
         return Err(Refusal::Bad);
     }
-    match item_shape(alloc, &Source::new(held.layout, memory), shape as usize)? {
-        Some(found) => of_shape::<K>(
-            alloc, held, memory, aggregate, register, &found, number, buffer,
-        ),
-        None => Err(Refusal::Bad),
-    }
+    of_whole::<K>(
+        alloc, held, memory, aggregate, register, shape, number, buffer,
+    )
 }
 
 /// 8, with mode 1: where the element of a number stands among those that the shape at an address has in the aggregate whose record

@@ -18,7 +18,7 @@ use std::alloc::{AllocError, Global};
 /// The subscripts at a place among those of so many first dimensions, row by row. None where there are fewer dimensions; none are given
 /// whatever the place.
 #[tactic(auto, using(crate::proofs::Giving::none_given, crate::proofs::Giving::given_none, crate::proofs::Giving::given_some))]
-fn subscripts_in(
+pub fn subscripts_in(
     alloc: Global,
     bounds: &[Bounds],
     given: u32,

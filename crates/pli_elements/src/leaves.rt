@@ -11,6 +11,19 @@ use pli_signatures::element::LeafInForce;
 use pli_storage::held::Held;
 use std::alloc::{AllocError, Global};
 
+/// A leaf of a whole signature with an extent, none where it isn't there.
+pub fn leaf_with(
+    alloc: Global,
+    held: &Held,
+    signature: u32,
+    leaf: u32,
+    extent: i32,
+) -> Result<Option<LeafInForce>, AllocError>
+    ensures { IfOk result (λ o. option_map leaf_in_force o ≡ leaf_in (shape_at held.now.signatures signature) leaf extent) }
+{
+    held.signatures.leaf(alloc, signature, leaf, extent)
+}
+
 /// A leaf of an aggregate, none where it isn't there.
 pub fn leaf_at(
     alloc: Global,
@@ -20,8 +33,7 @@ pub fn leaf_at(
 ) -> Result<Option<LeafInForce>, AllocError>
     ensures { IfOk result (λ o. option_map leaf_in_force o ≡ leaf_in (shape_at held.now.signatures aggregate.signature) leaf aggregate.extent) }
 {
-    held.signatures
-        .leaf(alloc, aggregate.signature, leaf, aggregate.extent)
+    leaf_with(alloc, held, aggregate.signature, leaf, aggregate.extent)
 }
 
 /// The leaf that stands so many behind another. Refused where no register has its number.

@@ -1,26 +1,27 @@
 // Where an element of a generation stands.
 
-ghost use Rattle.std.specs.Prelude.{◌≡◌, ◌+◌, ◌*◌, ℕ, Some, Err, MatchOption, ⊤};
+ghost use Rattle.std.specs.Prelude.{◌≡◌, ◌+◌, ◌*◌, ℕ, Some, MatchOption, ⊤};
 ghost use Rattle.pli_typing.specs.Signatures.{capped};
-ghost use Rattle.pli_meaning.specs.Contents.{Shape};
+ghost use Rattle.pli_meaning.specs.Contents.{Shape, leaves_with};
+ghost use Rattle.pli_meaning.specs.Evaluating as evaluating;
 ghost use Rattle.pli_meaning.specs.Streaming as streaming;
 ghost use Rattle.pli_serving.specs.Finding.{Call, named};
 ghost use Rattle.pli_serving.specs.Templates.{shape_at};
-ghost use Rattle.pli_serving.specs.Values.{element_size};
-ghost use Rattle.pli_signatures.specs.View.{kind_of};
+ghost use Rattle.pli_serving.specs.Values.{element_size, leaf_place};
+ghost use Rattle.pli_signatures.specs.View.{kind_of, leaf_in_force};
+ghost use Rattle.pli_signatures.specs.Whole.{leaf_in};
 ghost use Rattle.pli_storage.specs.Findings.{finding_of, found_of};
 ghost use Rattle.pli_storage.specs.Held.{with_held, IsLaid};
 ghost use Rattle.pli_values.specs.View.{name_of};
 ghost use Rattle.pli_aggregates.specs.Records.{record_shown};
 ghost use Rattle.pli_serving.specs.Finding as F;
-ghost use Rattle.pli_elements.specs.Outcomes.{IsOutcome, IsOutcomeOf, IsStanding, IsWith};
+ghost use Rattle.pli_elements.specs.Outcomes.{IsOutcome, IsStanding, IsWith};
 
+use crate::leaves::leaf_with;
 use area_heap::keeper::AreaKeeper;
-use pli_aggregates::elements::LeafPlace;
-use pli_aggregates::part::{PlacedLeaf, placed_leaf};
 use pli_aggregates::record::Aggregate;
 use pli_answering::reply::Refusal;
-use pli_signatures::element::{ElementKind, element_place};
+use pli_signatures::element::{ElementKind, LeafInForce, element_place};
 use pli_storage::finding::{Finding, Found};
 use pli_storage::held::Held;
 use std::alloc::Global;
@@ -54,27 +55,44 @@ fn kind_holds(allocated: ElementKind, in_force: ElementKind) -> bool
     }
 }
 
-/// Where the element of a place stands, none where no register holds that.
-fn address(leaf: &LeafPlace, place: u64) -> Option<u32>
-    ensures { (p : ℕ) → place ≡ capped p → MatchOption result ⊤ (λ a. a ≡ leaf.now.base + element_size (kind_of leaf.now.allocated.kind) * p) }
+/// Where a leaf begins that stands so far behind an address, none where no register holds that.
+fn base_of(at: usize, behind: u64) -> Option<u64>
+    ensures { (real : ℕ) → behind ≡ capped real → MatchOption result ⊤ (λ base. base ≡ at + real) }
 {
-    let behind = leaf.allocated.kind.size().checked_mul(place)?;
-    let address = (leaf.base as u64).checked_add(behind)?;
+    let base = (at as u64).checked_add(behind)?;
+    if base > u64::from(u32::MAX) {
+        return None;
+    }
+    Some(base)
+}
+
+/// Where the element of a place stands among those of a kind from a base on, none where no register holds that.
+fn address(base: u64, kind: ElementKind, place: u64) -> Option<u32>
+    ensures { (p : ℕ) → place ≡ capped p → MatchOption result ⊤ (λ a. a ≡ base + element_size (kind_of kind) * p) }
+{
+    let behind = kind.size().checked_mul(place)?;
+    let address = base.checked_add(behind)?;
     if address > u64::from(u32::MAX) {
         return None;
     }
     Some(address as u32)
 }
 
-/// Where the element of these subscripts stands, none where the leaf doesn't have it in full.
-fn standing(placed: &PlacedLeaf, subscripts: &[i32]) -> Result<Option<u32>, Refusal>
-    ensures { IsStanding placed.now subscripts.now result }
+/// Where the element of these subscripts stands, of a leaf that was allocated from a base on. None where that doesn't have it in full
+/// for the kind in force.
+fn standing(
+    base: u64,
+    allocated: &LeafInForce,
+    kind: ElementKind,
+    subscripts: &[i32],
+) -> Result<Option<u32>, Refusal>
+    ensures { IsStanding base allocated.now (kind_of kind) subscripts.now result }
 {
-    if !kind_holds(placed.place.allocated.kind, placed.in_force.kind) {
+    if !kind_holds(allocated.kind, kind) {
         return Ok(None);
     }
-    match element_place(placed.place.allocated.bounds.as_slice(), subscripts) {
-        Some(place) => match address(&placed.place, place) {
+    match element_place(allocated.bounds.as_slice(), subscripts) {
+        Some(place) => match address(base, allocated.kind, place) {
             Some(address) => Ok(Some(address)),
             None => Err(Refusal::Memory),
         },
@@ -98,35 +116,64 @@ fn outcome_with(address: Option<u32>, register: u32) -> Outcome
     }
 }
 
-/// What comes of an element of a leaf that was placed.
+/// Where a leaf of a generation begins, none where no register holds that.
+fn leaf_base(held: &Held, aggregate: Aggregate, found: Found, leaf: u32) -> Option<u64>
+    ensures { (s : Shape) → shape_at held.now.signatures aggregate.signature ≡ Some s → MatchOption result ⊤ (λ base. base ≡ found.at + leaf_place (leaves_with found.extent s) leaf) }
+{
+    match held.signatures.leaf_place(aggregate.signature, leaf) {
+        Some(behind) => base_of(found.at, behind),
+        None => None,
+    }
+}
+
+/// What comes of an element of a generation's leaf, which is given as it was allocated, with the kind in force.
 fn outcome_placed(
-    placed: &PlacedLeaf,
+    held: &Held,
+    aggregate: Aggregate,
+    found: Found,
+    leaf: u32,
+    allocated: &LeafInForce,
+    kind: ElementKind,
     register: u32,
     subscripts: &[i32],
 ) -> Result<Outcome, Refusal>
-    ensures { IsOutcomeOf placed.now register subscripts.now result }
+    requires { Some (leaf_in_force allocated.now) ≡ leaf_in (shape_at held.now.signatures aggregate.signature) leaf found.extent }
+    ensures { (c : Call) → (s : Shape) → shape_at held.now.signatures aggregate.signature ≡ Some s → (evaluating.leaf_at s aggregate.extent leaf).kind ≡ kind_of kind →
+        IsOutcome c register (record_shown aggregate s) leaf subscripts.now (F.FoundAt (found_of found)) result }
 {
-    match standing(placed, subscripts) {
+    let Some(base) = leaf_base(held, aggregate, found, leaf) else {
+        return Err(Refusal::Memory);
+    };
+    match standing(base, allocated, kind, subscripts) {
         Ok(address) => Ok(outcome_with(address, register)),
         Err(_) => Err(Refusal::Memory),
     }
 }
 
-/// The same of a leaf that may not be there.
-fn outcome_if(
-    placed: Option<PlacedLeaf>,
+/// The same where the leaf was allocated with another extent than that in force.
+fn outcome_other(
+    alloc: Global,
+    held: &Held,
+    aggregate: Aggregate,
+    found: Found,
+    leaf: u32,
+    kind: ElementKind,
     register: u32,
     subscripts: &[i32],
 ) -> Result<Outcome, Refusal>
-    ensures { MatchOption placed (result ≡ Err Refusal.Memory) (λ p. IsOutcomeOf p register subscripts.now result) }
+    ensures { (c : Call) → (s : Shape) → shape_at held.now.signatures aggregate.signature ≡ Some s → (evaluating.leaf_at s aggregate.extent leaf).kind ≡ kind_of kind →
+        IsOutcome c register (record_shown aggregate s) leaf subscripts.now (F.FoundAt (found_of found)) result }
 {
-    match placed {
-        Some(placed) => outcome_placed(&placed, register, subscripts),
+    let allocated = leaf_with(alloc, held, aggregate.signature, leaf, found.extent)?;
+    match allocated {
+        Some(allocated) => outcome_placed(
+            held, aggregate, found, leaf, &allocated, kind, register, subscripts,
+        ),
         None => Err(Refusal::Memory),
     }
 }
 
-/// What comes of an element of a generation that was found.
+/// What comes of an element of a generation that was found. Its leaf is given as it is in force.
 fn outcome_found(
     alloc: Global,
     held: &Held,
@@ -134,14 +181,21 @@ fn outcome_found(
     found: Found,
     register: u32,
     leaf: u32,
+    in_force: &LeafInForce,
     subscripts: &[i32],
 ) -> Result<Outcome, Refusal>
+    requires { Some (leaf_in_force in_force.now) ≡ leaf_in (shape_at held.now.signatures aggregate.signature) leaf aggregate.extent }
     ensures { (c : Call) → (s : Shape) → shape_at held.now.signatures aggregate.signature ≡ Some s → IsOutcome c register (record_shown aggregate s) leaf subscripts.now (F.FoundAt (found_of found)) result }
 {
-    match placed_leaf(alloc, held, aggregate, found, leaf) {
-        Ok(placed) => outcome_if(placed, register, subscripts),
-        Err(_) => Err(Refusal::Memory),
+    let kind = in_force.kind;
+    if found.extent == aggregate.extent {
+        return outcome_placed(
+            held, aggregate, found, leaf, in_force, kind, register, subscripts,
+        );
     }
+    outcome_other(
+        alloc, held, aggregate, found, leaf, kind, register, subscripts,
+    )
 }
 
 /// What comes of an element of what was found.
@@ -152,14 +206,16 @@ fn outcome_of(
     finding: Finding,
     register: u32,
     leaf: u32,
+    in_force: &LeafInForce,
     subscripts: &[i32],
 ) -> Result<Outcome, Refusal>
+    requires { Some (leaf_in_force in_force.now) ≡ leaf_in (shape_at held.now.signatures aggregate.signature) leaf aggregate.extent }
     ensures { (c : Call) → (s : Shape) → shape_at held.now.signatures aggregate.signature ≡ Some s → IsOutcome c register (record_shown aggregate s) leaf subscripts.now (finding_of finding) result }
 {
     match finding {
-        Finding::At(found) => {
-            outcome_found(alloc, held, aggregate, found, register, leaf, subscripts)
-        }
+        Finding::At(found) => outcome_found(
+            alloc, held, aggregate, found, register, leaf, in_force, subscripts,
+        ),
         Finding::NotLiving => Ok(Outcome {
             register,
             status: NO_GENERATION,
@@ -177,9 +233,11 @@ pub fn outcome_in<K: AreaKeeper>(
     aggregate: Aggregate,
     register: u32,
     leaf: u32,
+    in_force: &LeafInForce,
     subscripts: &[i32],
 ) -> Result<Outcome, Refusal>
-    requires { IsLaid K.keeper held.now.layout memory.now }
+    requires laid { IsLaid K.keeper held.now.layout memory.now }
+    requires known { Some (leaf_in_force in_force.now) ≡ leaf_in (shape_at held.now.signatures aggregate.signature) leaf aggregate.extent }
     ensures { (c : Call) → (s : Shape) → shape_at held.now.signatures aggregate.signature ≡ Some s →
         IsOutcome (with_held K.keeper held.now memory.now c) register (record_shown aggregate s) leaf subscripts.now (named (with_held K.keeper held.now memory.now c) (name_of aggregate.name) aggregate.signature) result }
 {
@@ -187,7 +245,9 @@ pub fn outcome_in<K: AreaKeeper>(
         return Err(Refusal::Memory);
     }
     match held.asked::<K>(memory, aggregate.name, aggregate.signature) {
-        Some(finding) => { outcome_of(alloc, held, aggregate, finding, register, leaf, subscripts) }
+        Some(finding) => outcome_of(
+            alloc, held, aggregate, finding, register, leaf, in_force, subscripts,
+        ),
         None => Err(Refusal::Memory),
     }
 }

@@ -1,4 +1,4 @@
-// The second element of an array of three, and that there is no fourth; without memory nothing is done.
+// Elements of an array of three, alone and in a structure, and that there is no fourth; without memory nothing is done.
 
 ghost use Rattle.std.specs.Prelude.{◌≡◌, MatchOption, length, ⊤};
 
@@ -83,4 +83,21 @@ fn no_element_is_behind_the_last(rt: HostRuntime) {
         Err(refusal) => assert!(rt; refusal == Refusal::Memory),
     }
     assert!(rt; word_at(&memory, 96) == 0);
+}
+
+#[test]
+fn an_element_in_a_structure_is_found(rt: HostRuntime) {
+    let Some(held) = held(rt.alloc()) else {
+        return;
+    };
+    let mut memory = [0; 256];
+    fill(&mut memory);
+    put_words(&mut memory, 80, &[0, 0, 1, 0, 1, 0, 0]);
+    match element::<Chain>(rt.alloc(), &held, &mut memory, 32, 80, 2, 112) {
+        Ok(reply) => {
+            assert!(rt; reply == Reply::Done(72, 0));
+            assert!(rt; word_at(&memory, 112) == 1 && word_at(&memory, 116) == 31);
+        }
+        Err(refusal) => assert!(rt; refusal == Refusal::Memory && word_at(&memory, 112) == 0),
+    }
 }

@@ -5,7 +5,7 @@ pub mod counts;
 pub mod find;
 pub mod note;
 pub mod notes;
-mod rows;
+pub mod rows;
 #[cfg(test)]
 mod tests;
 mod turn;

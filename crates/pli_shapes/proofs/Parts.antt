@@ -210,3 +210,16 @@ shape_read c at given first sizes parts d f g e r =
     ∙ (ap {B = Option ItemShape} (λ n. Some (record { given = word_at at c.memory; first = n; members = members_of sizes })) g
     ∙ (ap {B = Option ItemShape} (λ ps. Some (record { given = word_at at c.memory; first = word_at (at + 12) c.memory; members = members_of ps })) e
     ∙ shape_at c at (Some parts) d r))
+
+-- ---- one part alone
+
+pub one_read : (c : Call) (at given first : ℕ) (p : Part) → is_data c.layout at 16 ≡ true → Some p ≡ part_at c (at + 4) → at + 4 + 12 ≤ c.layout.end → p.inside ≡ 0 → given ≡ word_at at c.memory → first ≡ word_at (at + 12) c.memory
+    → ◌≡◌ {A = Option ItemShape} (Some (record { given = given; first = first; members = record { depth = 0; dimensions = p.dimensions } ∷ [] })) (item_shape_at c at)
+one_read c at given first p d e h none f g =
+    let q : Part = record { dimensions = p.dimensions; inside = 0 } in
+    let same : p ≡ q = ap (part_of p.dimensions) none in
+    let read : parts_at c.layout.end c 1 (at + 4) ≡ Some (q ∷ []) = next_part c 1 (at + 4) q (sym e ∙ ap (λ r. Some r) same) (omega arith) h in
+    shape_read c at given first (q ∷ []) (q ∷ []) d f g refl (sym read)
+  where
+    part_of : ℕ → ℕ → Part
+    part_of d n = record { dimensions = d; inside = n }

@@ -4,6 +4,7 @@ use Rattle.pli_typing.specs.TypedTree as Y
 use Rattle.pli_serving.specs.ElementService as E
 use Rattle.pli_shapes.specs.declared.part.Part.{Part}
 use Rattle.pli_shapes.specs.declared.shape.ItemShape.{ItemShape}
+use Rattle.pli_shapes.specs.declared.shape.LeafShape.{LeafShape}
 
 -- those of so many parts, all that are inside counted; some parts are skipped first
 abbrev pub members_from : (depth : ℕ) → List Part → (skip size : ℕ) → List Y.Member
@@ -18,3 +19,7 @@ members_of parts = members_from 0 parts 0 (length parts)
 
 abbrev pub shape_of : ItemShape → E.ItemShape
 shape_of i = record { given = i.given; first = i.first; members = members_of i.parts.items }
+
+-- that of one leaf
+abbrev pub one_leaf : LeafShape → E.ItemShape
+one_leaf l = record { given = l.given; first = l.leaf; members = record { depth = 0; dimensions = l.dimensions } ∷ [] }

@@ -1,8 +1,8 @@
 // Shapes of items.
 
-ghost use Rattle.std.specs.Prelude.{◌≡◌, ◌+◌, ◌*◌, ◌≤◌, ◌<◌, ◌^◌, IfOk, MatchOption, length, option_map, ⊤};
+ghost use Rattle.std.specs.Prelude.{◌≡◌, ◌+◌, ◌*◌, ◌≤◌, ◌<◌, ◌^◌, IfOk, MatchOption, Some, length, option_map, ⊤};
 ghost use Rattle.pli_serving.specs.ElementService.{item_shape_at};
-ghost use Rattle.pli_shapes.specs.Members.{shape_of};
+ghost use Rattle.pli_shapes.specs.Members.{one_leaf, shape_of};
 ghost use Rattle.pli_shapes.specs.Reading.{parts_at};
 ghost use Rattle.pli_values.specs.Calls.{call_of};
 
@@ -18,6 +18,14 @@ pub struct ItemShape {
     pub given: u32,
     pub first: u32,
     pub parts: Vec<Part>,
+}
+
+/// An item that is one leaf: the number of the subscripts given, the dimensions that these leave, and the leaf.
+#[derive(Clone, Copy, PartialEq, Eq, Debug)]
+pub struct LeafShape {
+    pub given: u32,
+    pub dimensions: u32,
+    pub leaf: u32,
 }
 
 /// Where memory ends.
@@ -74,4 +82,24 @@ pub fn item_shape(
         first: word_at(source.memory, at + 12),
         parts,
     }))
+}
+
+/// The shape at an address, where that is one leaf; none where it is more, and where no shape stands there.
+pub fn leaf_shape(source: &Source, at: usize) -> Option<LeafShape>
+    ensures { MatchOption result ⊤ (λ leaf. Some (one_leaf leaf) ≡ item_shape_at (call_of source.now) at) }
+{
+    if !source.layout.is_data(at, 16) {
+        return None;
+    }
+    let Some(part) = part_at(source, at + 4) else {
+        return None;
+    };
+    if part.inside != 0 {
+        return None;
+    }
+    Some(LeafShape {
+        given: word_at(source.memory, at),
+        dimensions: part.dimensions,
+        leaf: word_at(source.memory, at + 12),
+    })
 }

@@ -2,7 +2,7 @@
 
 use crate::laws::{item_shapes_of_memory, nests_of_parts};
 use crate::part::Part;
-use crate::shape::item_shape;
+use crate::shape::{LeafShape, item_shape, leaf_shape};
 use pli_values::layout::Layout;
 use pli_values::source::Source;
 use std::test::Fail;
@@ -41,6 +41,13 @@ fn shapes_are_read_or_memory_is_refused(rt: HostRuntime) -> Result<(), Fail> {
     assert!(rt;
         shape.given == 0 && shape.first == 5 && shape.parts.as_slice() == wanted.as_slice()
     );
+    assert!(rt; leaf_shape(&source, 4).is_none());
+    let leaf = LeafShape {
+        given: 5,
+        dimensions: 0,
+        leaf: 5,
+    };
+    assert!(rt; leaf_shape(&source, 16) == Some(leaf));
     assert!(rt; item_shape(rt.alloc(), &source, 0)?.is_none());
     assert!(rt; item_shape(rt.alloc(), &source, 44)?.is_none());
     Ok(())

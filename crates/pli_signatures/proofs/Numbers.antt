@@ -1,8 +1,8 @@
 -- Signatures are looked for and copied one by one.
-use Rattle.std.proofs.Common.{◌≡◌, ℕ, suc, ◌+◌, ◌<◌, ◌≤◌, List, [], ◌∷◌, ◌++◌, length, map, drop, get_or, Bool, true, false, cond, Some, None, eqb, ◌≢◌, refl, ap, sym, ◌∙◌, arith}
+use Rattle.std.proofs.Common.{◌≡◌, ℕ, suc, ◌+◌, ◌<◌, ◌≤◌, List, [], ◌∷◌, ◌++◌, length, map, drop, get_or, Bool, true, false, cond, Some, None, eqb, ◌≢◌, refl, ap, ap₂, sym, ◌∙◌, arith}
 use Rattle.std.specs.Prelude.{nat_lt}
 use Rattle.std.proofs.lemmas.Bool.Decides.{nat_tests}
-use Rattle.std.proofs.lemmas.List.{at_drop_more, drop_all, append-nil}
+use Rattle.std.proofs.lemmas.List.{at_drop_more, drop_all, append-nil, map-append}
 use Rattle.pli_types.specs.declared.signature.Leaf.{Leaf}
 use Rattle.pli_types.specs.declared.signature.Signature.{Signature}
 use Rattle.pli_types.specs.View.{leaf_of, template_of}
@@ -10,6 +10,7 @@ use Rattle.pli_types.specs.Templates as O
 use Rattle.pli_serving.specs.SignatureService.{same_template, number_from, number_of}
 use Rattle.pli_serving.specs.Arguments.{own_signature}
 use Rattle.pli_signatures.specs.Numbering.{number_kept, kept_with}
+use Rattle.pli_signatures.specs.Whole.{is_known}
 use Rattle.pli_signatures.proofs.Lists.{one_more}
 
 one_place : (list : List Signature) (i : ℕ) (t : O.Template) (x : Signature) → i < length list
@@ -77,3 +78,14 @@ pub number_given : (t : O.Template) (ts : List O.Template) → number_of t ts < 
 number_given t ts few =
     let fits : nat_lt (number_of t ts) own_signature ≡ true = grind (arith, nat_tests) in
     rw fits refl
+
+-- ---- which are whole
+
+pub one_more_known : (old new : List Signature) (x : Signature) (wholes more : List Bool) (whole : Bool) → wholes ≡ map is_known (map template_of old) → whole ≡ is_known (template_of x) → new ≡ old ++ x ∷ [] → more ≡ wholes ++ whole ∷ []
+    → more ≡ map is_known (map template_of new)
+one_more_known old new x wholes more whole h k e f =
+    f
+    ∙ ap₂ (λ bs b. bs ++ b ∷ []) h k
+    ∙ sym (map-append is_known (map template_of old) (template_of x ∷ []))
+    ∙ ap (map is_known) (sym (map-append template_of old (x ∷ [])))
+    ∙ ap (λ l. map is_known (map template_of l)) (sym e)

@@ -26,6 +26,9 @@ abbrev pub are_known_leaves : List OpenLeaf → Bool
 are_known_leaves [] = true
 are_known_leaves (l ∷ ls) = is_known_leaf l && are_known_leaves ls
 
+abbrev pub is_known : Template → Bool
+is_known t = are_known_leaves t.leaves
+
 -- what a template comes to where it is whole
 abbrev pub shape_so_far : Template → Shape
 shape_so_far t = record { signature = so_far t; refer = t.refer }

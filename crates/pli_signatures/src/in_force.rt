@@ -13,7 +13,7 @@ ghost use Rattle.pli_signatures.specs.Whole.{shape_so_far, extent_told, leaf_in,
 use crate::element::{ElementKind, LeafInForce};
 use crate::signatures::Signatures;
 use crate::size::{kind_in_force, last_told_size, leaves_size};
-use crate::whole::{is_whole, leaf_told};
+use crate::whole::leaf_told;
 use pli_types::signature::{LeafKind, Signature};
 use pli_types::size::{footprint, size_of};
 use std::alloc::{AllocError, Global};
@@ -102,7 +102,7 @@ impl Signatures {
         ensures { MatchOption result (shape_at self.now number ≡ None) (λ g. shape_at self.now number ≡ Some (shape_so_far (template_of g.now))) }
     {
         match self.get(number) {
-            Some(signature) => if is_whole(signature) {
+            Some(signature) => if self.is_known(number) {
                 Some(signature)
             } else {
                 None

@@ -1,18 +1,20 @@
 // The signatures of a run.
 
-ghost use Rattle.std.specs.Prelude.{◌≡◌, ◌==◌, List, map, length, IfOk, is_ok, slice_get, option_map, if◌then◌else◌};
+ghost use Rattle.std.specs.Prelude.{◌≡◌, ◌==◌, [], ◌∷◌, ◌++◌, List, Some, map, length, IfOk, is_ok, slice_get, option_map, if◌then◌else◌};
 ghost use Rattle.rv_meaning.specs.Tables.{TableSignature, AreSignatures, table_words};
 ghost use Rattle.pli_types.specs.Templates.{Template};
 ghost use Rattle.pli_types.specs.View.{pair_of, template_of};
 ghost use Rattle.pli_serving.specs.SignatureService.{filled};
 ghost use Rattle.pli_signatures.specs.Numbering.{number_kept, kept_with, number_filled, filled_with};
 ghost use Rattle.pli_signatures.specs.View.{place_of};
+ghost use Rattle.pli_signatures.specs.Whole.{is_known};
 ghost use Rattle.pli_serving.specs.Templates as T;
 
 use crate::copying::copied;
 use crate::equality::place_of;
 use crate::filling::{ExtentPlace, fill_all};
 use crate::reading::signature_of;
+use crate::whole::is_whole;
 use pli_types::signature::{Bounds, Signature};
 use std::alloc::{AllocError, Global};
 use std::marker::Model;
@@ -20,16 +22,19 @@ use std::marker::Model;
 /// The number that means the signature that a variable's generation has: no signature is given it.
 const OWN_SIGNATURE: u32 = u32::MAX;
 
-/// Signatures by their numbers, counted from 0; an extent may be open.
+/// Signatures by their numbers, counted from 0; an extent may be open. Whether none is, is found out once for each.
 #[derive(Drop)]
 pub struct Signatures {
     list: Vec<Signature>,
+    wholes: Vec<bool>,
 }
 
 impl Model for Signatures {
     ghost Value = { List Template };
 
     ghost view = { λ s. map template_of s.list.items };
+
+    ghost invariant = { λ s. s.wholes.items ≡ map is_known (map template_of s.list.items) };
 }
 
 impl Signatures {
@@ -38,13 +43,15 @@ impl Signatures {
         ensures { (gs : List TableSignature) → AreSignatures gs → table.now ≡ table_words gs → IfOk result (λ s. s ≡ map T.template_of gs) }
     {
         let mut list = Vec::new(alloc);
+        let mut wholes = Vec::new(alloc);
         let mut rest = table;
         while !rest.is_empty() {
             let (signature, behind) = signature_of(alloc, rest)?;
+            wholes.push(is_whole(&signature))?;
             list.push(signature)?;
             rest = behind;
         }
-        Ok(Signatures { list })
+        Ok(Signatures { list, wholes })
     }
 
     /// How many there are.
@@ -67,6 +74,27 @@ impl Signatures {
         self.list.get(number as usize)
     }
 
+    /// Whether no extent is open of the signature of a number.
+    pub fn is_known(&self, number: u32) -> bool
+        ensures { (t : Template) → Some t ≡ slice_get self.now number → result ≡ is_known t }
+    {
+        match self.wholes.get(number as usize) {
+            Some(whole) => *whole,
+            None => false,
+        }
+    }
+
+    /// A signature comes behind the last. Where there is no memory nothing changes.
+    fn push(&mut self, signature: Signature) -> Result<(), AllocError>
+        ensures { self.new ≡ (if is_ok result then self.old ++ template_of signature ∷ [] else self.old) }
+    {
+        self.wholes.reserve(1)?;
+        let whole = is_whole(&signature);
+        self.list.push(signature)?;
+        self.wholes.push_reserved(whole);
+        Ok(())
+    }
+
     /// The number of a signature, which is put behind the last where none equals it; none, and nothing changed, where that number
     /// would be `u32::MAX` or more. Where there is no memory nothing changes.
     fn number(&mut self, signature: Signature) -> Result<Option<u32>, AllocError>
@@ -78,7 +106,7 @@ impl Signatures {
             return Ok(None);
         }
         if place == self.list.len() {
-            self.list.push(signature)?;
+            self.push(signature)?;
         }
         Ok(Some(place as u32))
     }

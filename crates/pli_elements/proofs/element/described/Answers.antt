@@ -11,6 +11,3 @@ returns-then-not-is_data g c = λ c' s e.
 
 pub written-requires-clause-there : goal.written-requires-clause-there
 written-requires-clause-there g c = sym c.is_data.ensures ∙ c.if-not-is_data.false
-
-pub returns-in-Ok : goal.returns-in-Ok
-returns-in-Ok g c = λ c' s e. c.written.ensures c' s e (c.in-Ok.ensures s e)

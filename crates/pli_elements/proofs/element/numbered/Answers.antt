@@ -27,7 +27,7 @@ returns-in_default g c = λ c' s parts elements e h.
 pub returns : goal.returns
 returns g c = λ c' s parts elements e h.
     let old = with_held g.K.AreaKeeper.keeper c.args.held.now c.args.memory.now c' in
-    let new = with_held g.K.AreaKeeper.keeper c.args.held.now c.described.new.memory c' in
+    let new = with_held g.K.AreaKeeper.keeper c.args.held.now c.of_element.new.memory c' in
     let i = c.args.item.now in
     let x = c.in-Some.element in
     let order : IsOrder parts (length c.as_slice-given.result.now) i.order = subst (λ (is : List ℤ). IsOrder parts (length is) i.order) (sym c.as_slice-given.ensures) h.order in
@@ -42,6 +42,6 @@ returns g c = λ c' s parts elements e h.
     ∙ ap {B = Option Element} (λ n. Some (n, x.subscripts.items)) (sym c.in-Some-leaf_behind.ensures)
     ∙ ap {B = Option Element} (λ (js : List ℤ). Some (c.in-Some-leaf_behind.leaf, js)) (sym c.as_slice.ensures) in
     answers_as (λ t. element_if t c.args.register (record_shown c.args.aggregate s) c.args.buffer (slice_get elements c.args.number))
-    (λ t. element_found t c.args.register (record_shown c.args.aggregate s) c.args.buffer (c.in-Some-leaf_behind.leaf, is)) old new c.described.result
+    (λ t. element_found t c.args.register (record_shown c.args.aggregate s) c.args.buffer (c.in-Some-leaf_behind.leaf, is)) old new c.of_element.result
     (ap (element_if old c.args.register (record_shown c.args.aggregate s) c.args.buffer) at)
-    (c.described.ensures c' s e)
+    (c.of_element.ensures c' s e)

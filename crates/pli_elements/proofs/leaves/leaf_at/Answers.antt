@@ -9,4 +9,4 @@ pub returns : goal.returns
 returns c =
     let a = c.args.aggregate in
     let fits : SFits w32 a.extent = search rules in
-    subst (λ (z : ℤ). IfOk c.leaf.result (λ o. option_map leaf_in_force o ≡ leaf_in (shape_at c.args.held.now.signatures a.signature) c.args.leaf z)) (to_z-of_z w32 a.extent fits) c.leaf.ensures
+    subst (λ (z : ℤ). IfOk c.leaf_with.result (λ o. option_map leaf_in_force o ≡ leaf_in (shape_at c.args.held.now.signatures a.signature) c.args.leaf z)) (to_z-of_z w32 a.extent fits) c.leaf_with.ensures

@@ -11,13 +11,13 @@ returns-then-not-kind_holds c = kind_fails _ _ (sym c.kind_holds.ensures ∙ c.i
 
 pub returns-in-Some-address : goal.returns-in-Some-address
 returns-in-Some-address c =
-    let bounds = map pair_of c.args.placed.now.place.allocated.bounds.items in
+    let bounds = map pair_of c.args.allocated.now.bounds.items in
     let is = c.args.subscripts.now in
     let place = c.in-Some.ensures ∙ ap (λ (bs : List Bounds). place_within (map pair_of bs) is) c.as_slice.ensures in
     (both_hold _ _ (sym c.kind_holds.ensures ∙ c.if-not-kind_holds.false) (place_inside bounds is c.in-Some.place place), c.in-Some-address.ensures (element_place bounds is) (place_is bounds is c.in-Some.place place))
 
 pub returns-in-None : goal.returns-in-None
 returns-in-None c =
-    let bounds = map pair_of c.args.placed.now.place.allocated.bounds.items in
+    let bounds = map pair_of c.args.allocated.now.bounds.items in
     let is = c.args.subscripts.now in
     within_fails _ _ (place_outside bounds is (c.in-None.ensures ∙ ap (λ (bs : List Bounds). place_within (map pair_of bs) is) c.as_slice.ensures))
