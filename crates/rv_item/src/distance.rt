@@ -1,6 +1,6 @@
 // Elements of arrays of one kind at constant places: how far the next one stands behind the first waits as a number.
 
-ghost use Rattle.std.specs.Prelude.{◌≡◌, ◌++◌, OnOk, IfOk};
+ghost use Rattle.std.specs.Prelude.{◌≡◌, [], ◌++◌, OnOk, IfOk};
 ghost use Rattle.pli_typing.specs.Signatures as sizes;
 ghost use Rattle.pli_typing.specs.TypedView.{leaf_of, leaf_type_of, part_of, reference_of, variable_of};
 ghost use Rattle.pli_meaning.specs.DeclaredShapes as shapes;
