@@ -1,12 +1,12 @@
 -- Whole arrays in GET and PUT, by how far their elements stand behind the first: what their images show is what the storage machine
 -- shows.
-use Rattle.std.proofs.Common.{◌≡◌, ℕ, pos, negsuc, List, [], ◌∷◌, ◌++◌, None, Some, refl}
+use Rattle.std.proofs.Common.{◌≡◌, ℕ, negsuc, List, [], ◌∷◌, ◌++◌, None, Some, refl}
 use lib.Chars.{codes}
 use Rattle.pli_language.specs.declared.condition.Condition.TheVariants as C
 use Rattle.pli_language.specs.Tree as T
 use Rattle.pli_typing.specs.TypedTree as Y
 use Rattle.coding_runs.proofs.RowPieces.{automatic, static, whole, part, bounds, leaf, member, declared, head, get_pair, procedure, program}
-use Rattle.coding_runs.proofs.FormPieces.{text, n, at, const, up_to, line, list, format, format_then, fixed, any, put_with, text_item, put_texts, number_item, get_with, simple_unit, set, do_call}
+use Rattle.coding_runs.proofs.FormPieces.{text, const, up_to, line, list, format, format_then, fixed, any, put_with, text_item, put_texts, get_with, simple_unit, do_call}
 use Rattle.coding_runs.proofs.Running.{fitted, run_of}
 use Rattle.coding_runs.proofs.StorageMachine.{machine_shows, computing}
 

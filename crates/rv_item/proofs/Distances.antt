@@ -1,5 +1,5 @@
 -- Elements counted by their distance from the first.
-use Rattle.std.proofs.Common.{◌≡◌, ◌<◌, ◌≤◌, ℕ, ◌+◌, ◌-◌, Bool, true, false, ◌&&◌, [], ◌∷◌, ◌++◌, refl, sym, ap, ◌∙◌, arith, append_assoc}
+use Rattle.std.proofs.Common.{◌≡◌, ◌<◌, ℕ, ◌+◌, ◌-◌, ◌&&◌, [], ◌∷◌, ◌++◌, refl, ap, ◌∙◌, arith, append_assoc}
 use Rattle.std.specs.Prelude.{nat_lt}
 use Rattle.std.proofs.lemmas.Bool.Decides.{nat_tests}
 use Rattle.rv_meaning.specs.declared.instr.BranchTest.TheVariants as Test
@@ -8,7 +8,6 @@ use Rattle.pli_coding.specs.Registers.{u1, u2, zero_register}
 use Rattle.pli_coding.specs.Assembly.{JumpBack, Code, size_of}
 use Rattle.pli_coding.specs.Instructions.{skip_where}
 use Rattle.pli_coding.specs.Environments.{Environment, Taken, save}
-use Rattle.pli_coding.specs.Expressions.{given_in}
 use Rattle.pli_coding.specs.Storing.{subscript_count}
 use Rattle.pli_coding.specs.Streams.{are_counted, by_distance, distance_counted, is_counted, is_distance, repeated_until_equal}
 use Rattle.rv_address.specs.Numbers.{capped, most_bytes}
