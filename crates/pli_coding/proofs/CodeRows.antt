@@ -1,27 +1,30 @@
 -- The code of small forms, the frame of a block, the table and the static data, computed.
-use Rattle.std.proofs.Common.{◌≡◌, ℕ, zero, suc, ◌+◌, pos, negsuc, true, false, List, [], ◌∷◌, ◌++◌, map, None, refl}
+use Rattle.std.proofs.Common.{◌≡◌, ℕ, zero, suc, ◌+◌, ℤ, pos, negsuc, true, false, List, [], ◌∷◌, ◌++◌, map, None, refl}
 use lib.Chars.{codes}
 use Rattle.rv_meaning.specs.declared.instr.Instr.TheVariants as I
 use Rattle.rv_meaning.specs.declared.instr.RegisterOp.TheVariants as Op
 use Rattle.rv_meaning.specs.declared.instr.ImmediateOp.TheVariants as Imm
+use Rattle.rv_meaning.specs.declared.instr.ShiftOp.TheVariants as Shift
 use Rattle.rv_meaning.specs.declared.instr.LoadKind.TheVariants as Load
+use Rattle.rv_meaning.specs.declared.instr.StoreKind.TheVariants as Store
 use Rattle.rv_meaning.specs.declared.instr.BranchTest.TheVariants as Test
 use Rattle.rv_meaning.specs.Tables.{table_words}
 use Rattle.pli_language.specs.Tree as T
 use Rattle.pli_typing.specs.TypedTree as Y
 use Rattle.area_keeper.specs.Chain.{chain}
 use Rattle.pli_coding.specs.Registers as R
-use Rattle.pli_coding.specs.Assembly.{ConstantBytes, InitialValues, Plain, JumpTo, CallTo, RaiseError, RaiseCondition, Code}
+use Rattle.pli_coding.specs.Assembly.{ConstantBytes, InitialValues, StaticStorage, DataPlace, Plain, BaseIn, OffsetOf, JumpTo, CallTo, RaiseError, RaiseCondition, Code}
 use Rattle.pli_coding.specs.StaticData.{static_data, placed_from, bytes_from}
 use Rattle.pli_coding.specs.Frames.{MemoryParts, fixed_size, automatic_place, frame_end, word_in, words_place}
 use Rattle.pli_coding.specs.SignatureTable.{table_of}
-use Rattle.pli_coding.specs.Environments.{Environment, none_taken, block_around}
+use Rattle.pli_coding.specs.Environments.{Environment, Taken, none_taken, block_around}
 use Rattle.pli_coding.specs.Arithmetic.{sum_code}
-use Rattle.pli_coding.specs.Locating.{leaf_resolved, located}
-use Rattle.pli_coding.specs.Expressions.{are_few, elements_code, number_code, text_code}
+use Rattle.pli_coding.specs.Locating.{leaf_resolved, located, subscript_given}
+use Rattle.pli_coding.specs.Expressions.{are_few, elements_code, number_code, subscripts_code, text_code}
+use Rattle.pli_coding.specs.Storing.{word_stored}
 use Rattle.pli_coding.specs.Temporaries.{number_words}
 use Rattle.pli_coding.specs.Images.{environment_of, code_of, blocks_of}
-use Rattle.pli_coding.proofs.RowPieces.{part, automatic, parameter, whole, scalar, bounds, initial, leaf, member, declared, head, procedure, program}
+use Rattle.pli_coding.proofs.RowPieces.{part, variable, automatic, parameter, whole, scalar, bounds, initial, leaf, member, declared, head, procedure, program}
 
 abbrev parts : MemoryParts
 parts = record { stack_start = 4096; stack_end = 8192; area_bytes = chain.bytes_for }
@@ -213,6 +216,108 @@ subscripts_are_tested :
     (Y.NumberIn (Y.Referring (automatic 1 0 1) Y.NotLocated (part 0 1) (Y.NumberThen (number 1) (Y.NumberThen (number 2) Y.NoNumber)))))
     ≡ 2
 subscripts_are_tested = refl
+
+abbrev between : ℤ → ℤ → Y.Bounds
+between l u = bounds (Y.ConstantExtent l) (Y.ConstantExtent u)
+
+-- K FIXED(31), V(0:3) FIXED(31), W(-5:5) FIXED(15), T(2) CHAR(3), S FIXED(15) STATIC
+abbrev rows : Y.Program
+rows =
+    program ([] ∷
+    (scalar Y.AutomaticClass (Y.FixedLeaf 31)
+    ∷ declared Y.AutomaticClass (member 0 1 ∷ []) (leaf (Y.FixedLeaf 31) (between (pos 0) (pos 3) ∷ []) [] ∷ []) None []
+    ∷ declared Y.AutomaticClass (member 0 1 ∷ []) (leaf (Y.FixedLeaf 15) (between (negsuc 4) (pos 5) ∷ []) [] ∷ []) None []
+    ∷ declared Y.AutomaticClass (member 0 1 ∷ []) (leaf (Y.CharacterLeaf (Y.ConstantExtent (pos 3))) (up_to 2 ∷ []) [] ∷ []) None []
+    ∷ scalar Y.StaticClass (Y.FixedLeaf 15) ∷ []) ∷ [])
+    (procedure (Y.BlockOf (head Y.ProcedureBlock 1 0 1) (Y.EndOfList [])) [] None ∷ [])
+
+abbrev in_rows : Environment
+in_rows = record (environment_of parts rows) { block = 1; level = 0 }
+
+abbrev k : Y.Number
+k = number_in (automatic 1 0 0)
+
+abbrev element : Y.Variable → Y.Numbers → Y.Number
+element v xs = Y.NumberIn (Y.Referring v Y.NotLocated (part 0 1) xs)
+
+abbrev one : Y.Number → Y.Numbers
+one x = Y.NumberThen x Y.NoNumber
+
+abbrev two : Y.Number → Y.Number → Y.Numbers
+two x y = Y.NumberThen x (one y)
+
+-- V(K): the subscript is loaded, tested and shifted, where the lower bound is 0
+simple_subscript_takes_no_other_register :
+    number_code in_rows none_taken (element (automatic 1 0 1) (one k))
+    ≡ (Plain (I.Load Load.Word R.u1 R.frame_register (pos 160))
+    ∷ Plain (I.Immediate Imm.Add R.u2 R.zero_register (pos 3))
+    ∷ Plain (I.Branch Test.GreaterOrEqualUnsigned R.u2 R.u1 (pos 16))
+    ∷ Plain (I.Immediate Imm.Add R.a1 R.zero_register (pos 102))
+    ∷ JumpTo RaiseError
+    ∷ Plain (I.Shift Shift.Left R.u4 R.u1 2)
+    ∷ Plain (I.Registers Op.Add R.u3 R.frame_register R.u4)
+    ∷ Plain (I.Load Load.Word R.a0 R.u3 (pos 192)) ∷ [])
+simple_subscript_takes_no_other_register = refl
+
+abbrev first_three : Code → Code
+first_three (i ∷ j ∷ k ∷ is) = i ∷ j ∷ k ∷ []
+first_three is = is
+
+-- W(K): another lower bound is taken off
+lower_bound_is_taken_off :
+    first_three (number_code in_rows none_taken (element (automatic 1 0 2) (one k)))
+    ≡ (Plain (I.Load Load.Word R.u1 R.frame_register (pos 160))
+    ∷ Plain (I.Immediate Imm.Add R.u1 R.u1 (pos 5))
+    ∷ Plain (I.Immediate Imm.Add R.u2 R.zero_register (pos 10)) ∷ [])
+lower_bound_is_taken_off = refl
+
+-- a STATIC variable is reached by way of the same register
+static_subscript_takes_the_same_register :
+    subscript_given in_rows none_taken (number_in (variable Y.StaticClass 1 0 4)) Y.NoNumber
+    ≡ (BaseIn R.u1
+    ∷ OffsetOf R.u0 (DataPlace (StaticStorage 1 4 16))
+    ∷ Plain (I.Registers Op.Add R.u1 R.u1 R.u0)
+    ∷ Plain (I.Load Load.Half R.u1 R.u1 (pos 16)) ∷ [])
+static_subscript_takes_the_same_register = refl
+
+-- a subscript waits where it or one behind it isn't simple: those of (SIGN(K), K), (K, SIGN(K)), (K, V(K)), (2, K)
+abbrev all_held : Taken
+all_held = record { registers = 7; words = 0 }
+
+subscripts_wait_before_others :
+    stores_in (subscripts_code in_rows all_held (two (Y.SignOf k) k))
+    ∷ stores_in (subscripts_code in_rows all_held (two k (Y.SignOf k)))
+    ∷ stores_in (subscripts_code in_rows all_held (two k (element (automatic 1 0 1) (one k))))
+    ∷ stores_in (subscripts_code in_rows all_held (two (number 2) k)) ∷ []
+    ≡ (1 ∷ 2 ∷ 2 ∷ 0 ∷ [])
+subscripts_wait_before_others = refl
+
+-- ---- stores
+
+abbrev at_subscript : Y.Variable → Y.Number → Y.Reference
+at_subscript v x = Y.Referring v Y.NotLocated (part 0 1) (one x)
+
+-- V(K) takes a value that stays in a0
+near_target_leaves_the_value :
+    word_stored in_rows none_taken (at_subscript (automatic 1 0 1) k)
+    ≡ (Plain (I.Load Load.Word R.u1 R.frame_register (pos 160))
+    ∷ Plain (I.Immediate Imm.Add R.u2 R.zero_register (pos 3))
+    ∷ Plain (I.Branch Test.GreaterOrEqualUnsigned R.u2 R.u1 (pos 16))
+    ∷ Plain (I.Immediate Imm.Add R.a1 R.zero_register (pos 102))
+    ∷ JumpTo RaiseError
+    ∷ Plain (I.Shift Shift.Left R.u4 R.u1 2)
+    ∷ Plain (I.Registers Op.Add R.u3 R.frame_register R.u4)
+    ∷ Plain (I.Store Store.Word R.u3 R.a0 (pos 192)) ∷ [])
+near_target_leaves_the_value = refl
+
+-- K and V(K) are near; V(SIGN(K)) isn't, whose subscript waits too, nor is a parameter
+value_waits_for_other_targets :
+    stores_in (word_stored in_rows all_held (whole (automatic 1 0 0)))
+    ∷ stores_in (word_stored in_rows all_held (at_subscript (automatic 1 0 1) k))
+    ∷ stores_in (word_stored in_rows all_held (at_subscript (automatic 1 0 1) (Y.SignOf k)))
+    ∷ stores_in (word_stored (within 2 1) all_held (whole (parameter 2 1 0))) ∷ []
+    ≡ (1 ∷ 1 ∷ 3 ∷ 2 ∷ [])
+value_waits_for_other_targets = refl
 
 -- ---- static data
 

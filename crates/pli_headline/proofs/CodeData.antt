@@ -34,7 +34,7 @@ use Rattle.pli_headline.proofs.FirstFrame.{start_of}
 use Rattle.pli_headline.proofs.Marks.{code_is, only_main}
 use Rattle.pli_headline.proofs.MainProcedure.{IsAlone, main_head, main_environment}
 use Rattle.pli_headline.proofs.FirstForms.{all_numbers_plain, block_numbers}
-use Rattle.pli_headline.proofs.Variables.{outermost, own, whole, data_place, number_loaded, scalar_found, scalar_kept}
+use Rattle.pli_headline.proofs.Variables.{outermost, own, whole, data_place, number_loaded, scalar_stored_is}
 use Rattle.pli_headline.proofs.CodeSizes.{HasPlain, declared_plain}
 use Rattle.pli_headline.proofs.ProgramSizes.{frame_filled}
 
@@ -183,13 +183,10 @@ target_none e t block count r has is =
     let d = declared_plain e block count is.index has is.declared in
     let place : ℤ = pos (data_place e (main_names e.program block) is.index) in
     let into = store_word frame_register a0 place in
-    let same : word_stored (outermost e) t r ≡ save a0 t ++ ([] ++ (fetch a0 t ++ into)) =
+    let same : word_stored (outermost e) t r ≡ into =
     ap (λ q. word_stored (outermost e) t q) is.is
-    ∙ ap (λ c. save a0 t ++ (c ++ (fetch a0 t ++ stored (type_in (outermost e) (whole (own (main_names e.program block) is.index))) a0 (address_in (outermost e) (whole (own (main_names e.program block) is.index)))))) (scalar_found (outermost e) (with_number t) (main_names e.program block) is.index (Y.FixedLeaf 31) tt ([], d))
-    ∙ ap (λ c. save a0 t ++ ([] ++ (fetch a0 t ++ c))) (scalar_kept (outermost e) (main_names e.program block) is.index (Y.FixedLeaf 31) tt ([], d)) in
-    ap data_named same
-    ∙ behind (save a0 t) (fetch a0 t ++ into) [] (saved_none a0 t)
-    (behind (fetch a0 t) into [] (fetched_none a0 t) (store_none frame_register a0 place))
+    ∙ scalar_stored_is (outermost e) t (main_names e.program block) is.index (Y.FixedLeaf 31) tt ([], d) in
+    ap data_named same ∙ store_none frame_register a0 place
 
 statement_names : (e : Environment) (t : Taken) (block count : ℕ) (x : Y.Stmt) → HasPlain e block count → IsFirstStatement block count x → Names (stmt_code (outermost e) t x) (stmt_data x)
 statement_names e t block count (Y.Null line) has is = act_none line

@@ -34,10 +34,10 @@ with_most a c d n h i = grind (arith, nat_tests)
 both_most : (a b c d n : ℕ) → a + c ≤ n → b + d ≤ n → a + d ≤ n → b + c ≤ n → max a b + max c d ≤ n
 both_most a b c d n h i j k = grind (arith, nat_tests)
 
-once_both : (e : Environment) (t : Taken) (block : Names) (types : Types) (condition : Option Y.Bit) (line : ℕ) (c : Code) → IsProvedBitIf block types condition → bit_if condition + size_of c ≤ size_of (once_code e t condition line c)
-once_both e t block types None line c is = omega arith
-once_both e t block types (Some x) line c is =
-    let n = bit_size e t block types x is in
+once_both : (e : Environment) (t : Taken) (block : Names) (types : Types) (has : HasTypes e block types) (condition : Option Y.Bit) (line : ℕ) (c : Code) → IsProvedBitIf block types condition → bit_if condition + size_of c ≤ size_of (once_code e t condition line c)
+once_both e t block types has None line c is = omega arith
+once_both e t block types has (Some x) line c is =
+    let n = bit_size e t block types has x is in
     let four = act_size line in
     let s1 = size_append (act_code line) (bit_code e t x ++ if_met c) in
     let s2 = size_append (bit_code e t x) (if_met c) in
@@ -93,7 +93,7 @@ mutual
       omega (arith, m, s1, s2, s4, s5)
   inside_size e t block types named has (Y.DoOnce target (Y.StoredNumber precision x) condition body line) is bare =
       let m = all_inside_size e t block types named has body is.1.1.0 bare in
-      let both = once_both e t block types condition line (stmts_code e t body) is.1.0 in
+      let both = once_both e t block types has condition line (stmts_code e t body) is.1.0 in
       let code = number_code e t x in
       let fitted = fitted_code t precision in
       let into = stored_into e t target (Y.StoredNumber precision x) in
@@ -103,7 +103,7 @@ mutual
       omega (arith, m, both, s1, s2)
   inside_size e t block types named has (Y.DoOnce target (Y.StoredBit x) condition body line) is bare =
       let m = all_inside_size e t block types named has body is.1.1.0 bare in
-      let both = once_both e t block types condition line (stmts_code e t body) is.1.0 in
+      let both = once_both e t block types has condition line (stmts_code e t body) is.1.0 in
       let code = bit_code e t x in
       let into = stored_into e t target (Y.StoredBit x) in
       let rest = once_code e t condition line (stmts_code e t body) in
@@ -112,7 +112,7 @@ mutual
       omega (arith, m, both, s1, s2)
   inside_size e t block types named has (Y.DoOnce target (Y.StoredText x) condition body line) is bare =
       let m = all_inside_size e t block types named has body is.1.1.0 bare in
-      let both = once_both e t block types condition line (stmts_code e t body) is.1.0 in
+      let both = once_both e t block types has condition line (stmts_code e t body) is.1.0 in
       let code = text_code e t x in
       let into = stored_into e t target (Y.StoredText x) in
       let rest = once_code e t condition line (stmts_code e t body) in
@@ -197,7 +197,7 @@ mutual
   statement_inner e t block types named has (Y.If condition unit line) is bare =
       let test = bit_code e t condition in
       let c = stmt_code e t unit in
-      let n = bit_size e t block types condition is.0 in
+      let n = bit_size e t block types has condition is.0 in
       let m = statement_inner e t block types named has unit is.1.0 bare in
       let s1 = size_append (act_code line) (test ++ if_met c) in
       let s2 = size_append test (if_met c) in
@@ -208,7 +208,7 @@ mutual
       let c = stmt_code e t unit in
       let d = stmt_code e t otherwise in
       let over = JumpAhead (size_of d) ∷ [] in
-      let n = bit_size e t block types condition is.0 in
+      let n = bit_size e t block types has condition is.0 in
       let m1 = statement_inner e t block types named has unit is.1.0 bare.0 in
       let m2 = statement_inner e t block types named has otherwise is.1.1.0 bare.1 in
       let s1 = size_append (act_code line) (test ++ (if_met (c ++ over) ++ d)) in
@@ -229,7 +229,7 @@ mutual
       let c = stmts_code e t body in
       let tested = act_code line ++ test in
       let back = JumpBack (size_of tested + (3 + size_of c)) ∷ [] in
-      let n = bit_size e t block types condition is.0 in
+      let n = bit_size e t block types has condition is.0 in
       let m = statements_inner e t block types named has body is.1.0 bare in
       let s1 = size_append (act_code line) (while_met tested c) in
       let s2 = size_append tested (if_met (c ++ back)) in
@@ -238,10 +238,10 @@ mutual
       let s5 = size_append c back in
       most_more _ _ _ _ (omega (arith, n, m, s1, s2, s3, s4, s5)) (omega (arith, m, s1, s2, s4, s5))
   statement_inner e t block types named has (Y.DoOnce target (Y.StoredNumber precision x) condition body line) is bare =
-      let z : reference_words target ≤ size_of (stored_into e t target (Y.StoredNumber precision x)) = target_size e t block types (Y.FixedLeaf precision) target is.0.0 in
-      let n = number_size e t block types x is.0.1 in
+      let z : reference_words target ≤ size_of (stored_into e t target (Y.StoredNumber precision x)) = target_size e t block types has (Y.FixedLeaf precision) tt target is.0.0 in
+      let n = number_size e t block types has x is.0.1 in
       let m = statements_inner e t block types named has body is.1.1.0 bare in
-      let o = once_size e t block types condition line (stmts_code e t body) is.1.0 in
+      let o = once_size e t block types has condition line (stmts_code e t body) is.1.0 in
       let four = act_size line in
       let code = number_code e t x in
       let fitted = fitted_code t precision in
@@ -251,16 +251,16 @@ mutual
       let s2 = size_append ((code ++ fitted) ++ into) rest in
       let s3 = size_append (code ++ fitted) into in
       let s4 = size_append code fitted in
-      let both = once_both e t block types condition line (stmts_code e t body) is.1.0 in
+      let both = once_both e t block types has condition line (stmts_code e t body) is.1.0 in
       let o1 = o.1 in
       most_more _ _ _ _
       (most_more _ _ _ _ (most_more _ _ _ _ (omega (arith, m, o1, four, s1, s2)) (omega (arith, n, m, o1, s1, s2, s3, s4))) (omega (arith, z, four, m, o1, s1, s2, s3)))
       (most_more _ _ _ _ (omega (arith, both, m, s1, s2)) (omega (arith, m, o1, s1, s2)))
   statement_inner e t block types named has (Y.DoOnce target (Y.StoredBit x) condition body line) is bare =
-      let z : reference_words target ≤ size_of (stored_into e t target (Y.StoredBit x)) = target_size e t block types Y.BitLeaf target is.0.0 in
-      let n = bit_size e t block types x is.0.1 in
+      let z : reference_words target ≤ size_of (stored_into e t target (Y.StoredBit x)) = target_size e t block types has Y.BitLeaf tt target is.0.0 in
+      let n = bit_size e t block types has x is.0.1 in
       let m = statements_inner e t block types named has body is.1.1.0 bare in
-      let o = once_size e t block types condition line (stmts_code e t body) is.1.0 in
+      let o = once_size e t block types has condition line (stmts_code e t body) is.1.0 in
       let four = act_size line in
       let code = bit_code e t x in
       let into = stored_into e t target (Y.StoredBit x) in
@@ -268,16 +268,16 @@ mutual
       let s1 = size_append (act_code line) ((code ++ into) ++ rest) in
       let s2 = size_append (code ++ into) rest in
       let s3 = size_append code into in
-      let both = once_both e t block types condition line (stmts_code e t body) is.1.0 in
+      let both = once_both e t block types has condition line (stmts_code e t body) is.1.0 in
       let o1 = o.1 in
       most_more _ _ _ _
       (most_more _ _ _ _ (omega (arith, n, m, o1, s1, s2, s3)) (omega (arith, z, four, m, o1, s1, s2, s3)))
       (most_more _ _ _ _ (omega (arith, both, m, s1, s2)) (omega (arith, m, o1, s1, s2)))
   statement_inner e t block types named has (Y.DoOnce target (Y.StoredText x) condition body line) is bare =
-      let z : reference_words target ≤ size_of (stored_into e t target (Y.StoredText x)) = text_target_size e t block types target is.0.0 in
-      let n = text_size e t block types x is.0.1 in
+      let z : reference_words target ≤ size_of (stored_into e t target (Y.StoredText x)) = text_target_size e t block types has target is.0.0 in
+      let n = text_size e t block types has x is.0.1 in
       let m = statements_inner e t block types named has body is.1.1.0 bare in
-      let o = once_size e t block types condition line (stmts_code e t body) is.1.0 in
+      let o = once_size e t block types has condition line (stmts_code e t body) is.1.0 in
       let four = act_size line in
       let code = text_code e t x in
       let into = stored_into e t target (Y.StoredText x) in
@@ -285,20 +285,20 @@ mutual
       let s1 = size_append (act_code line) ((code ++ into) ++ rest) in
       let s2 = size_append (code ++ into) rest in
       let s3 = size_append code into in
-      let both = once_both e t block types condition line (stmts_code e t body) is.1.0 in
+      let both = once_both e t block types has condition line (stmts_code e t body) is.1.0 in
       let o1 = o.1 in
       most_more _ _ _ _
       (most_more _ _ _ _ (omega (arith, n, m, o1, s1, s2, s3)) (omega (arith, z, four, m, o1, s1, s2, s3)))
       (most_more _ _ _ _ (omega (arith, both, m, s1, s2)) (omega (arith, m, o1, s1, s2)))
   statement_inner e t block types named has (Y.DoCount (Y.NumberCounter precision target) start limit step condition body line) is bare =
       let counter = Y.NumberCounter precision target in
-      let z = target_size e (in_turns t) block types (Y.FixedLeaf precision) target is.0.0 in
-      let n0 = start_words_size e t block types start is.0.1 in
-      let n1 = limit_words_size e t block types limit is.1.0.0 in
-      let n2 = number_size e (before_turns t) block types step is.1.0.1 in
+      let z = target_size e (in_turns t) block types has (Y.FixedLeaf precision) tt target is.0.0 in
+      let n0 = start_words_size e t block types has start is.0.1 in
+      let n1 = limit_words_size e t block types has limit is.1.0.0 in
+      let n2 = number_size e (before_turns t) block types has step is.1.0.1 in
       let c = stmts_code e (in_turns t) body in
       let u = turn_of e t counter limit condition line c in
-      let n3 = condition_words_size e t block types condition (words_behind_condition u) is.1.1.0 in
+      let n3 = condition_words_size e t block types has condition (words_behind_condition u) is.1.1.0 in
       let n4 = statements_inner e (in_turns t) block types named has body is.1.1.1.0 bare in
       let four = act_size line in
       let c0 = start_code e t start in

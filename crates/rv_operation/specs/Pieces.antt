@@ -13,7 +13,7 @@ use Rattle.pli_coding.specs.Environments.{Environment, Taken, fetch, with_words}
 use Rattle.pli_coding.specs.Locating.{Address, controlled_number, in_own_frame, loaded, name_copied, own_place, place_behind, reached, text_pushed, waiting_name}
 use Rattle.pli_coding.specs.Arithmetic.{overflow_raised, quotient_checked, narrowed_code, absolute_bits, compared_code, equal_code, extreme_code}
 use Rattle.pli_coding.specs.Storing.{area_name}
-use Rattle.pli_coding.specs.Expressions.{ArgumentList, BoundAsked, address_in, all_converted_last, argument_stored, by_reference, dimension_code, entered, frame_given, given_in, is_text, name_written, names_compared as compared_in_frame, null_name, text_count, type_in}
+use Rattle.pli_coding.specs.Expressions.{ArgumentList, BoundAsked, address_in, all_converted_last, argument_stored, by_reference, dimension_code, entered, frame_given, is_text, name_written, names_compared as compared_in_frame, null_name, text_count, type_in}
 
 -- ---- arithmetic
 
@@ -140,7 +140,7 @@ unfoldable pub name_kept : Environment → Taken → Y.Reference → Code
 name_kept e t r = name_copied (address_in e r) (in_own_frame (waiting_name t))
 
 unfoldable pub element_reached : Environment → (found t : Taken) → Y.Variable → Y.Part → Y.Numbers → Code
-element_reached e found t v part subscripts = reached e found t v part (given_in subscripts)
+element_reached e found t v part subscripts = reached e found t v part subscripts
 
 unfoldable pub part_named : Environment → Taken → Y.Reference → Code
 part_named e t (Y.Referring v locator part subscripts) = name_written e t v part (waiting_name t)
