@@ -4,7 +4,7 @@ use lib.Chars.{codes}
 use Rattle.pli_language.specs.declared.condition.Condition.TheVariants as C
 use Rattle.pli_typing.specs.TypedTree as Y
 use Rattle.coding_runs.proofs.RowPieces.{automatic, whole, bounds, leaf, scalar, member, declared, head, procedure, program}
-use Rattle.coding_runs.proofs.FormPieces.{n, minus, text, num, txt, at, numbers, const, up_to, line, list, set, set_text, call, put_numbers, put_texts, simple_unit}
+use Rattle.coding_runs.proofs.FormPieces.{n, minus, text, num, at, const, up_to, line, list, set, set_text, call, put_numbers, put_texts, simple_unit}
 use Rattle.coding_runs.proofs.Running.{fitted, run_of}
 use Rattle.coding_runs.proofs.StorageMachine.{machine_shows, computing}
 

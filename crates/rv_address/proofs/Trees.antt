@@ -1,14 +1,14 @@
 -- Numbers and references of the tree by their forms, as simple ones or not.
 use Rattle.std.proofs.Common.{◌≡◌, ℕ, suc, Bool, true, false, [], ◌∷◌, ◌++◌, refl, append_assoc, append-nil}
 use Rattle.std.specs.Prelude.{pos, ◌&&◌}
-use Rattle.rv_meaning.specs.declared.instr.Register.{Register}
 use Rattle.pli_typing.specs.declared.typed.Number as N
 use Rattle.pli_typing.specs.declared.typed.Numbers.{Numbers}
 use Rattle.pli_typing.specs.declared.typed.Numbers as Q
 use Rattle.pli_typing.specs.declared.typed.Reference as R
 use Rattle.pli_typing.specs.TypedTree as Y
 use Rattle.pli_typing.specs.TypedView.{variable_of, part_of, number_of, numbers_of, reference_of}
-use Rattle.pli_coding.specs.Instructions.{constant}
+use Rattle.pli_coding.specs.Registers.{u3, u4}
+use Rattle.pli_coding.specs.Instructions.{constant, add}
 use Rattle.pli_coding.specs.Locating.{is_direct, is_simple, are_simple, simple_loaded, variable_loaded, times_stride, element_added}
 
 -- by which walks over lists of numbers end
@@ -18,9 +18,13 @@ count_of (Q.More' a n b ns) = suc (count_of ns)
 
 -- ---- references
 
-pub simple-Plain : (e : _) (v : _) (p : _) (ns : _) → is_simple e (Y.NumberIn (reference_of (R.Plain v p ns))) ≡ is_simple e (Y.NumberIn (Y.Referring (variable_of v) Y.NotLocated (part_of p) (numbers_of ns)))
-unfolding reference_of
-simple-Plain e v p ns = refl
+pub simple-whole : (e : _) (v : _) (p : _) → is_simple e (Y.NumberIn (reference_of (R.Plain v p Q.End))) ≡ is_direct e (variable_of v)
+unfolding reference_of numbers_of
+simple-whole e v p = refl
+
+pub simple-element : (e : _) (v : _) (p : _) (a : _) (n : _) (b : _) (ns : _) → is_simple e (Y.NumberIn (reference_of (R.Plain v p (Q.More' a n b ns)))) ≡ false
+unfolding reference_of numbers_of
+simple-element e v p a n b ns = refl
 
 pub simple-Located : (e : _) (a : _) (l : _) (v : _) (p : _) (ns : _) → is_simple e (Y.NumberIn (reference_of (R.Located' a l v p ns))) ≡ false
 unfolding reference_of
@@ -34,17 +38,9 @@ pub loaded-Located : (e : _) (r : _) (a : _) (l : _) (v : _) (p : _) (ns : _) �
 unfolding reference_of
 loaded-Located e r a l v p ns = refl
 
-pub ruleset references = (simple-Plain, simple-Located, loaded-Plain, loaded-Located)
+pub ruleset references = (simple-whole, simple-element, simple-Located, loaded-Plain, loaded-Located)
 
 -- ---- lists of numbers
-
-pub whole-End : (e : _) (v : _) (p : _) → is_simple e (Y.NumberIn (Y.Referring v Y.NotLocated p (numbers_of Q.End))) ≡ is_direct e v
-unfolding numbers_of
-whole-End e v p = refl
-
-pub whole-More : (e : _) (v : _) (p : _) (a : _) (n : _) (b : _) (ns : _) → is_simple e (Y.NumberIn (Y.Referring v Y.NotLocated p (numbers_of (Q.More' a n b ns)))) ≡ false
-unfolding numbers_of
-whole-More e v p a n b ns = refl
 
 pub all-End : (e : _) → are_simple e (numbers_of Q.End) ≡ true
 unfolding numbers_of
@@ -58,7 +54,11 @@ pub added-End : (r : _) (k : _) → element_added r k (numbers_of Q.End) ≡ []
 unfolding numbers_of
 added-End r k = refl
 
-pub ruleset numbers = (whole-End, whole-More, all-End, all-More, added-End, append_assoc, append-nil)
+pub added-More : (r : _) (k : _) (a : _) (n : _) (b : _) (ns : _) → element_added r k (numbers_of (Q.More' a n b ns)) ≡ times_stride k ++ add u3 r u4 ∷ []
+unfolding numbers_of
+added-More r k a n b ns = refl
+
+pub ruleset numbers = (all-End, all-More, added-End, added-More, append_assoc, append-nil)
 
 -- ---- numbers
 

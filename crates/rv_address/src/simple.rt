@@ -16,7 +16,7 @@ use rv_assembly::code::Code;
 use rv_meaning::instr::Register;
 use std::alloc::AllocError;
 
-#[tactic(auto, using(crate::proofs::Trees::references, crate::proofs::Trees::numbers))]
+#[tactic(auto, using(crate::proofs::Trees::references))]
 fn is_simple_variable(environment: &Environment, reference: &Reference) -> Result<bool, AllocError>
     ensures { IfOk result (λ b. b ≡ form.is_simple (environment_of environment.now) (NumberIn (reference_of reference.now))) }
 {

@@ -162,6 +162,7 @@ fn subscript_given(
 }
 
 /// A subscript of one dimension, within its bounds.
+#[tactic(auto, unfolding(crate::specs::Pieces::dimension_counted))]
 fn dimension_counted(
     code: &mut Code,
     environment: &Environment,
