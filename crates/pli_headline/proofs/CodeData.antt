@@ -17,8 +17,8 @@ use Rattle.pli_coding.specs.StaticData.{data_of_symbol, data_named}
 use Rattle.pli_coding.specs.StaticForms.{formats_datum}
 use Rattle.pli_coding.specs.Environments.{Environment, Taken, none_taken, is_register_left, with_number, save, fetch}
 use Rattle.pli_coding.specs.Arithmetic.{raised, overflow_raised, calculated_code, signed_code, fitted_code}
-use Rattle.pli_coding.specs.Locating.{own_place, table_number, stored}
-use Rattle.pli_coding.specs.Expressions.{number_code, type_in, address_in}
+use Rattle.pli_coding.specs.Locating.{own_place, table_number}
+use Rattle.pli_coding.specs.Expressions.{number_code}
 use Rattle.pli_coding.specs.Storing.{word_stored}
 use Rattle.pli_coding.specs.Streams.{has_fixed, has_text, number_written, text_written, number_put, as_text, item_put, items_put, edit_ended, put_pair, put_pairs}
 use Rattle.pli_coding.specs.Extents.{initial_code}
@@ -34,7 +34,7 @@ use Rattle.pli_headline.proofs.FirstFrame.{start_of}
 use Rattle.pli_headline.proofs.Marks.{code_is, only_main}
 use Rattle.pli_headline.proofs.MainProcedure.{IsAlone, main_head, main_environment}
 use Rattle.pli_headline.proofs.FirstForms.{all_numbers_plain, block_numbers}
-use Rattle.pli_headline.proofs.Variables.{outermost, own, whole, data_place, number_loaded, scalar_stored_is}
+use Rattle.pli_headline.proofs.Variables.{outermost, whole, data_place, number_loaded, scalar_stored_is}
 use Rattle.pli_headline.proofs.CodeSizes.{HasPlain, declared_plain}
 use Rattle.pli_headline.proofs.ProgramSizes.{frame_filled}
 

@@ -14,9 +14,8 @@ use Rattle.pli_coding.specs.Instructions.{is_immediate, small, constant, number,
 use Rattle.pli_coding.specs.Frames.{words_place}
 use Rattle.pli_coding.specs.Environments.{Environment, Taken, is_register_left, with_number, save, fetch}
 use Rattle.pli_coding.specs.Arithmetic.{raised, overflow_raised, calculated_code, signed_code, fitted_code}
-use Rattle.pli_coding.specs.Expressions.{number_code, type_in, address_in}
+use Rattle.pli_coding.specs.Expressions.{number_code}
 use Rattle.pli_coding.specs.Storing.{word_stored}
-use Rattle.pli_coding.specs.Locating.{stored}
 use Rattle.pli_coding.specs.Streams.{has_fixed, has_text, controls_carried_out, by_item, number_written, text_written, number_put, as_text, item_put, items_put, edit_begun, edit_ended, put_pair, put_pairs}
 use Rattle.pli_coding.specs.Allocating.{act_code}
 use Rattle.pli_coding.specs.Statements.{stmt_code, stmts_code, marked}
@@ -24,7 +23,7 @@ use Rattle.pli_headline.specs.ProvedSoFar.{main_names}
 use Rattle.pli_headline.specs.FirstForms.{plain_number, AreNumbers, IsFirstReference, IsFirstOperator, IsFirstNumber, IsFirstItem, AreFirstItems, AreFirstPairs, IsFirstStatement, AreFirstStatements}
 use Rattle.pli_headline.proofs.Linking.{size_append}
 use Rattle.pli_headline.proofs.FirstForms.{number_at}
-use Rattle.pli_headline.proofs.Variables.{outermost, own, whole, data_place, number_loaded, scalar_stored_is}
+use Rattle.pli_headline.proofs.Variables.{outermost, data_place, number_loaded, scalar_stored_is}
 
 -- ---- nodes
 

@@ -1,5 +1,5 @@
 -- The code of expressions and assignments marks no symbols.
-use Rattle.std.proofs.Common.{◌≡◌, ℕ, [], ◌∷◌, ◌++◌, length, Bool, true, false, refl, ap, ◌∙◌, inl, inr, sym, subst, suc, List, map}
+use Rattle.std.proofs.Common.{◌≡◌, ℕ, [], ◌∷◌, ◌++◌, length, Bool, true, false, refl, ap, ◌∙◌, inl, inr, sym, subst, List, map}
 use Rattle.std.specs.Prelude.{pos, cond, ◌==◌}
 use Rattle.rv_meaning.specs.declared.instr.ImmediateOp.TheVariants as Imm
 use Rattle.rv_meaning.specs.declared.instr.RegisterOp.TheVariants as Op
@@ -14,7 +14,7 @@ use Rattle.pli_coding.specs.Frames.{display}
 use Rattle.pli_coding.specs.Environments.{Environment, Taken, with_number, save, fetch}
 use Rattle.pli_coding.specs.Arithmetic.{calculated_code, fitted_code, divided_code, signed_code, absolute_code, count_checked, sign_code, modulo_code, extreme_code, negated_code, combined_code, compared_code}
 use Rattle.pli_coding.specs.Locating.{frame_found, stored, address_offset, frame_in, times_constant, subscripts_counted}
-use Rattle.pli_coding.specs.Expressions.{number_code, extremes_code, text_code, bit_code, type_in, address_in, subscripts_code, BoundAsked, LowerAsked, UpperAsked, ElementsAsked}
+use Rattle.pli_coding.specs.Expressions.{number_code, extremes_code, text_code, bit_code, subscripts_code, BoundAsked, LowerAsked, UpperAsked, ElementsAsked}
 use Rattle.pli_coding.specs.Streams.{as_text}
 use Rattle.pli_coding.specs.Storing.{word_stored, top_stored}
 use Rattle.pli_headline.specs.ProvedSoFar.{Names, Types, IsOwn, IsProvedNumber, AreProvedNumbers, IsProvedBit, IsProvedText, text_leaf, alone, IsPart, IsPartNumber, IsAssigned, AreSubscripts, Kind, IsDimension, IsPartText, IsAssignedText, constant_bounds}

@@ -21,7 +21,7 @@ use Rattle.pli_coding.specs.Assembly.{Code, size_of}
 use Rattle.pli_coding.specs.Instructions.{small}
 use Rattle.pli_coding.specs.Environments.{Environment, Taken}
 use Rattle.pli_coding.specs.Locating.{is_simple, simple_loaded}
-use Rattle.pli_coding.specs.Expressions.{number_code, extremes_code, bit_code, text_code, given_in, BoundAsked, LowerAsked, UpperAsked, ElementsAsked}
+use Rattle.pli_coding.specs.Expressions.{number_code, extremes_code, bit_code, text_code, BoundAsked, LowerAsked, UpperAsked, ElementsAsked}
 use Rattle.pli_coding.specs.Temporaries.{number_words, numbers_words, bit_words, text_words, subscripts_words}
 use Rattle.pli_coding.specs.Linking.{Links}
 use Rattle.pli_headline.specs.ProvedSoFar.{Names, Types, IsOwn, IsProvedNumber, AreProvedNumbers, IsProvedBit, IsProvedText, IsPart, IsPartNumber, alone, IsDimension, IsPartText, text_leaf, IsScalar}

@@ -1,5 +1,5 @@
 -- Numbers and references of the tree by their forms, as simple ones or not.
-use Rattle.std.proofs.Common.{◌≡◌, ℕ, suc, Bool, true, false, [], ◌∷◌, ◌++◌, refl, append_assoc, append-nil}
+use Rattle.std.proofs.Common.{◌≡◌, ℕ, suc, true, false, [], ◌∷◌, ◌++◌, refl, append_assoc, append-nil}
 use Rattle.std.specs.Prelude.{pos, ◌&&◌}
 use Rattle.pli_typing.specs.declared.typed.Number as N
 use Rattle.pli_typing.specs.declared.typed.Numbers.{Numbers}

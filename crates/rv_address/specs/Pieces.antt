@@ -1,5 +1,5 @@
 -- Pieces of the code of addresses.
-use Rattle.std.specs.Prelude.{ℕ, ◌*◌, [], ◌∷◌, ◌++◌}
+use Rattle.std.specs.Prelude.{ℕ, ◌*◌, List, [], ◌∷◌, ◌++◌}
 use Rattle.rv_meaning.specs.declared.instr.BranchTest.TheVariants as Test
 use Rattle.rv_meaning.specs.declared.instr.Register.{Register}
 use Rattle.pli_typing.specs.TypedTree as Y
@@ -47,3 +47,7 @@ newest_kept t = service 18 ++ (store_word frame_register a1 (waiting_number t) +
 -- one dimension
 unfoldable pub dimension_counted : Environment → Taken → (dimension : ℕ) → Y.Number → (behind : Y.Numbers) → Y.Bounds → Code
 dimension_counted e t dimension x behind b = place_kept dimension ++ (subscript_given e t x behind ++ subscript_counted dimension b)
+
+-- from a subscript on
+unfoldable pub some_counted : Environment → Taken → (dimension : ℕ) → Y.Number → (behind : Y.Numbers) → List Y.Bounds → Code
+some_counted e t dimension x behind bs = subscripts_counted e t dimension (Y.NumberThen x behind) bs

@@ -5,7 +5,7 @@ ghost use Rattle.pli_typing.specs.TypedView.{bounds_of, extent_of, number_of, nu
 ghost use Rattle.pli_coding.specs.Locating as form;
 ghost use Rattle.pli_typing.specs.TypedTree.{StarExtent};
 ghost use Rattle.rv_address.specs.Around.{environment_of, taken_of};
-ghost use Rattle.rv_address.specs.Pieces.{dimension_counted, range_held, subscript_tested};
+ghost use Rattle.rv_address.specs.Pieces.{dimension_counted, range_held, some_counted, subscript_tested};
 
 use crate::environment::Environment;
 use crate::number::{constant, plus};
@@ -180,7 +180,8 @@ fn dimension_counted(
 }
 
 /// The place of an element among those of its leaf, row by row, from a dimension on.
-#[tactic(auto, using(crate::proofs::Counting::no_subscript, crate::proofs::Counting::next_subscript, crate::proofs::Counting::no_bounds))]
+#[cycle(counting)]
+#[tactic(auto, using(crate::proofs::Counting::lists))]
 pub fn subscripts_counted(
     code: &mut Code,
     environment: &Environment,
@@ -194,27 +195,40 @@ pub fn subscripts_counted(
     match subscripts {
         Numbers::End => Ok(()),
         Numbers::More { first, rest } => {
-            if bounds.is_empty() {
-                return Ok(());
-            }
-            dimension_counted(
-                code,
-                environment,
-                taken,
-                dimension,
-                first,
-                rest,
-                &bounds[0],
-            )?;
-            let next = dimension.checked_add(1).ok_or(AllocError)?;
-            subscripts_counted(
-                code,
-                environment,
-                taken.with_number()?,
-                next,
-                rest,
-                &bounds[1..],
-            )
+            some_counted(code, environment, taken, dimension, first, rest, bounds)
         }
     }
+}
+
+/// From a subscript on, where bounds are left.
+#[cycle(counting)]
+#[tactic(auto, using(crate::proofs::Counting::next_subscript, crate::proofs::Counting::no_bounds))]
+fn some_counted(
+    code: &mut Code,
+    environment: &Environment,
+    taken: Taken,
+    dimension: u8,
+    subscript: &Number,
+    behind: &Numbers,
+    bounds: &[Bounds],
+) -> Result<(), AllocError>
+    ensures { OnOk result (code.new ≡ code.old ++ some_counted (environment_of environment.now) (taken_of taken) dimension (number_of subscript.now) (numbers_of behind.now) (map bounds_of bounds.now)) }
+{
+    if bounds.len() == 0 {
+        return Ok(());
+    }
+    let one = &bounds[0];
+    dimension_counted(code, environment, taken, dimension, subscript, behind, one)?;
+    let waiting = taken.with_number()?;
+    if dimension == 255 {
+        return Err(AllocError);
+    }
+    subscripts_counted(
+        code,
+        environment,
+        waiting,
+        dimension + 1,
+        behind,
+        &bounds[1..],
+    )
 }
