@@ -8,5 +8,6 @@ mod StreamRuns
 mod StorageRuns
 mod AreaRuns
 mod FormRuns
+mod PointerRuns
 mod ArraysApart
 mod UnitKinds

@@ -1,27 +1,30 @@
 -- The code of small forms, the frame of a block, the table and the static data, computed.
-use Rattle.std.proofs.Common.{◌≡◌, ℕ, zero, suc, ◌+◌, pos, negsuc, true, false, List, [], ◌∷◌, ◌++◌, map, None, refl}
+use Rattle.std.proofs.Common.{◌≡◌, ℕ, zero, suc, ◌+◌, pos, negsuc, true, false, List, [], ◌∷◌, ◌++◌, map, Some, None, refl}
 use lib.Chars.{codes}
 use Rattle.rv_meaning.specs.declared.instr.Instr.TheVariants as I
 use Rattle.rv_meaning.specs.declared.instr.RegisterOp.TheVariants as Op
 use Rattle.rv_meaning.specs.declared.instr.ImmediateOp.TheVariants as Imm
 use Rattle.rv_meaning.specs.declared.instr.LoadKind.TheVariants as Load
+use Rattle.rv_meaning.specs.declared.instr.StoreKind.TheVariants as Store
 use Rattle.rv_meaning.specs.declared.instr.BranchTest.TheVariants as Test
 use Rattle.rv_meaning.specs.Tables.{table_words}
 use Rattle.pli_language.specs.Tree as T
 use Rattle.pli_typing.specs.TypedTree as Y
 use Rattle.area_keeper.specs.Chain.{chain}
 use Rattle.pli_coding.specs.Registers as R
-use Rattle.pli_coding.specs.Assembly.{ConstantBytes, InitialValues, Plain, JumpTo, CallTo, RaiseError, RaiseCondition, Code}
+use Rattle.pli_coding.specs.Assembly.{ConstantBytes, InitialValues, StaticStorage, DataPlace, OffsetOf, Plain, JumpTo, CallTo, RaiseError, RaiseCondition, Code}
 use Rattle.pli_coding.specs.StaticData.{static_data, placed_from, bytes_from}
 use Rattle.pli_coding.specs.Frames.{MemoryParts, fixed_size, automatic_place, frame_end, word_in, words_place}
 use Rattle.pli_coding.specs.SignatureTable.{table_of}
 use Rattle.pli_coding.specs.Environments.{Environment, none_taken, block_around}
 use Rattle.pli_coding.specs.Arithmetic.{sum_code}
 use Rattle.pli_coding.specs.Locating.{leaf_resolved, located}
-use Rattle.pli_coding.specs.Expressions.{are_few, elements_code, number_code, text_code}
+use Rattle.pli_coding.specs.Expressions.{are_few, bit_code, elements_code, number_code, reference_code, text_code}
+use Rattle.pli_coding.specs.Storing.{assignment_code}
+use Rattle.pli_coding.specs.Allocating.{allocation_code}
 use Rattle.pli_coding.specs.Temporaries.{number_words}
 use Rattle.pli_coding.specs.Images.{environment_of, code_of, blocks_of}
-use Rattle.pli_coding.proofs.RowPieces.{part, automatic, parameter, whole, scalar, bounds, initial, leaf, member, declared, head, procedure, program}
+use Rattle.pli_coding.proofs.RowPieces.{part, variable, automatic, parameter, whole, scalar, plain, bounds, initial, leaf, member, declared, head, procedure, program}
 
 abbrev parts : MemoryParts
 parts = record { stack_start = 4096; stack_end = 8192; area_bytes = chain.bytes_for }
@@ -213,6 +216,87 @@ subscripts_are_tested :
     (Y.NumberIn (Y.Referring (automatic 1 0 1) Y.NotLocated (part 0 1) (Y.NumberThen (number 1) (Y.NumberThen (number 2) Y.NoNumber)))))
     ≡ 2
 subscripts_are_tested = refl
+
+-- ---- locators
+
+-- P and Q POINTER, R POINTER STATIC, E(2) POINTER, X FIXED(31) BASED, V(3) FIXED(31) BASED, 1 S BASED with 2 N FIXED(31) and
+-- 2 M(K REFER(N)) FIXED(31), I FIXED(31)
+abbrev pointing : Y.Program
+pointing =
+    program ([] ∷
+    (scalar Y.AutomaticClass Y.PointerLeaf ∷ scalar Y.AutomaticClass Y.PointerLeaf ∷ scalar Y.StaticClass Y.PointerLeaf
+    ∷ declared Y.AutomaticClass (member 0 1 ∷ []) (leaf Y.PointerLeaf (up_to 2 ∷ []) [] ∷ []) None []
+    ∷ scalar Y.BasedClass (Y.FixedLeaf 31)
+    ∷ declared Y.BasedClass (member 0 1 ∷ []) (leaf (Y.FixedLeaf 31) (up_to 3 ∷ []) [] ∷ []) None []
+    ∷ declared Y.BasedClass (member 0 0 ∷ member 1 0 ∷ member 1 1 ∷ [])
+    (plain (Y.FixedLeaf 31) ∷ leaf (Y.FixedLeaf 31) (bounds (Y.ConstantExtent (pos 1)) Y.ReferExtent ∷ []) [] ∷ [])
+    (Some (record { member = 0; amount = Y.EvaluatedExtent 0 })) []
+    ∷ scalar Y.AutomaticClass (Y.FixedLeaf 31) ∷ []) ∷ [])
+    (procedure (Y.BlockOf (head Y.ProcedureBlock 1 0 1) (Y.EndOfList [])) [] None ∷ [])
+
+abbrev among_pointers : Environment
+among_pointers = record (environment_of parts pointing) { block = 1; level = 0 }
+
+abbrev q : Y.Variable
+q = automatic 1 0 1
+
+abbrev behind : Y.Variable → Y.Variable → (leaves : ℕ) → Y.Numbers → Y.Reference
+behind locator v leaves subscripts = Y.Referring v (Y.LocatedBy (Y.PointerIn (whole locator))) (part 0 leaves) subscripts
+
+abbrev first_two : Code → Code
+first_two (a ∷ b ∷ is) = a ∷ b ∷ []
+first_two is = is
+
+-- the service is told where Q itself stands, behind its name, or where the STATIC one does
+locator_stands_where_it_is :
+    first_two (reference_code among_pointers none_taken (behind q (variable Y.BasedClass 1 0 4) 1 Y.NoNumber))
+    ∷ first_two (reference_code among_pointers none_taken (behind (variable Y.StaticClass 1 0 2) (variable Y.BasedClass 1 0 4) 1 Y.NoNumber))
+    ∷ []
+    ≡ ((Plain (I.Load Load.Word R.a0 R.frame_register (pos 36)) ∷ Plain (I.Immediate Imm.Add R.a0 R.a0 (pos 192)) ∷ [])
+    ∷ (OffsetOf R.a0 (DataPlace (StaticStorage 1 2 16)) ∷ Plain (I.Immediate Imm.Add R.a0 R.a0 (pos 16)) ∷ [])
+    ∷ [])
+locator_stands_where_it_is = refl
+
+abbrev subscripted_by : Y.Number → Code
+subscripted_by i = reference_code among_pointers none_taken (behind q (variable Y.BasedClass 1 0 5) 1 (Y.NumberThen i Y.NoNumber))
+
+-- the name is copied where the subscript is a sum or a call, behind which the pointer may be another
+locator_waits_where_it_may_change :
+    map (λ i. stores_in (subscripted_by i))
+    (number 2 ∷ number_in (automatic 1 0 7) ∷ plus (number 1) (number 1) ∷ Y.NumberFrom (Y.Calling 1 0 Y.NoArgument) ∷ [])
+    ≡ (0 ∷ 0 ∷ 4 ∷ 4 ∷ [])
+locator_waits_where_it_may_change = refl
+
+-- of names that are compared the left one is copied where the right one's call may change it
+left_name_waits_for_a_call :
+    map (λ p. stores_in (bit_code among_pointers none_taken (Y.PointersCompared true (Y.PointerIn (whole q)) p)))
+    (Y.PointerIn (whole (automatic 1 0 0)) ∷ Y.NullPointer ∷ Y.PointerFrom (Y.Calling 1 0 Y.NoArgument) ∷ [])
+    ≡ (0 ∷ 0 ∷ 8 ∷ [])
+left_name_waits_for_a_call = refl
+
+abbrev made_for : Y.Reference → Code
+made_for target = allocation_code among_pointers none_taken 3 (Y.AllocateBased (variable Y.BasedClass 1 0 4) None (Y.SetPointer target))
+
+-- the name comes into Q at once; into an element it is copied once the generation was placed
+name_comes_last :
+    stores_in (made_for (whole q)) ∷ stores_in (made_for (Y.Referring (automatic 1 0 3) Y.NotLocated (part 0 1) (Y.NumberThen (number 2) Y.NoNumber))) ∷ []
+    ≡ (2 ∷ 6 ∷ [])
+name_comes_last = refl
+
+copy_comes_last :
+    last_three (made_for (Y.Referring (automatic 1 0 3) Y.NotLocated (part 0 1) (Y.NumberThen (number 2) Y.NoNumber)))
+    ≡ (Plain (I.Store Store.Word R.u3 R.u1 (pos 232))
+    ∷ Plain (I.Load Load.Word R.u1 R.frame_register (negsuc 11))
+    ∷ Plain (I.Store Store.Word R.u3 R.u1 (pos 236))
+    ∷ [])
+copy_comes_last = refl
+
+-- a name is copied into Q where REFER is looked at once it was written
+name_is_assigned_once_all_is_tested :
+    map (λ r. stores_in (assignment_code among_pointers none_taken (whole q) (Y.StoredPointer (Y.AddressOf r))))
+    (behind (automatic 1 0 0) (variable Y.BasedClass 1 0 4) 1 Y.NoNumber ∷ behind (automatic 1 0 0) (variable Y.BasedClass 1 0 6) 2 Y.NoNumber ∷ [])
+    ≡ (0 ∷ 4 ∷ [])
+name_is_assigned_once_all_is_tested = refl
 
 -- ---- static data
 

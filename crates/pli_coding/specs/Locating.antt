@@ -1,6 +1,6 @@
 -- Where the elements of variables are: a name and a signature's number, the leaf that lives there, and the element at subscripts.
 -- What is AUTOMATIC or STATIC and of constant size is reached without a service.
-use Rattle.std.specs.Prelude.{ℕ, zero, suc, ◌+◌, ◌*◌, ◌^◌, ◌-◌, ℤ, pos, negsuc, neg_ℤ, ◌+ℤ◌, ◌-ℤ◌, Bool, true, false, not, ◌&&◌, ◌||◌, ◌==◌, nat_le, List, [], ◌∷◌, ◌++◌, length, take, is_some, slice_get, unwrap_or, if◌then◌else◌}
+use Rattle.std.specs.Prelude.{ℕ, zero, suc, ◌+◌, ◌*◌, ◌^◌, ◌-◌, ℤ, pos, negsuc, neg_ℤ, ◌+ℤ◌, ◌-ℤ◌, Bool, true, false, not, ◌&&◌, ◌||◌, ◌==◌, nat_le, List, [], ◌∷◌, ◌++◌, length, take, Option, Some, None, is_some, slice_get, unwrap_or, if◌then◌else◌}
 use Rattle.std.specs.List.{list_all}
 use Rattle.rv_meaning.specs.declared.instr.Instr.TheVariants as I
 use Rattle.rv_meaning.specs.declared.instr.LoadKind.TheVariants as Load
@@ -41,13 +41,14 @@ own_place e r place = frame_offset e e.level r place
 
 -- ---- names, and numbers of signatures
 
--- where a name stands: in the frame at a level, or in static data
+-- where a name stands: in the frame at a level, or in static data, or so many bytes behind the place of a datum
 abbrev pub place_behind : ℕ → ℤ → ℤ
 place_behind n z = z +ℤ pos n
 
 pub data NamePlace : Type 0 where
   FrameName : (level : ℕ) → (place : ℤ) → NamePlace
   DataName : Datum → NamePlace
+  NameInData : Datum → (place : ℕ) → NamePlace
 
 -- a constant, a word of a frame, or a word of static data
 pub data NumberPlace : Type 0 where
@@ -136,9 +137,14 @@ located_by_class e t v d Y.ControlledClass =
 abbrev pub located : Environment → Taken → Y.Variable → Located
 located e t v = located_by_class e t v (declaration_of e v) v.class
 
+-- a BASED variable whose name stands there
+abbrev pub based_located : Environment → Y.Variable → NamePlace → Located
+based_located e v name = record { name = name; number = based_number e v (declaration_of e v) }
+
 abbrev pub name_offset : Environment → Register → NamePlace → Code
 name_offset e r (FrameName level place) = frame_offset e level r place
 name_offset e r (DataName d) = OffsetOf r (DataPlace d) ∷ []
+name_offset e r (NameInData d place) = OffsetOf r (DataPlace d) ∷ plus r r (pos place)
 
 -- the word at an offset, by way of the base in another register
 abbrev pub data_word : Register → Register → Datum → Code
@@ -359,17 +365,42 @@ direct_reached e t v l given =
     subscripts_counted t 0 given l.bounds
     ++ (direct_base e v v.class ++ element_added (direct_register e v v.class) l.type given)
 
+-- an element of a generation whose name stands somewhere
+abbrev pub leaf_reached : Environment → Located → Taken → Y.Variable → Y.Part → Y.Leaf → (given : ℕ) → Code
+leaf_reached e at t v part l given =
+    leaf_found e at part.first (needs_buffer l) (is_referred e v part)
+    ++ (subscripts_counted t 0 given l.bounds ++ (BaseIn u0 ∷ add u3 u3 u0 ∷ element_added u3 l.type given))
+
 abbrev pub found_reached : Environment → (found t : Taken) → Y.Variable → Y.Part → Y.Leaf → (given : ℕ) → Code
-found_reached e found t v part l given =
-    class_found e found v v.class
-    ++ (leaf_found e (located e found v) part.first (needs_buffer l) (is_referred e v part)
-    ++ (subscripts_counted t 0 given l.bounds ++ (BaseIn u0 ∷ add u3 u3 u0 ∷ element_added u3 l.type given)))
+found_reached e found t v part l given = class_found e found v v.class ++ leaf_reached e (located e found v) t v part l given
 
 -- behind a locator, which waits where `found` says, and so many subscripts, which wait where t says: an element's address
 abbrev pub reached : Environment → (found t : Taken) → Y.Variable → Y.Part → (given : ℕ) → Code
 reached e found t v part given =
     if is_direct e v then direct_reached e t v (leaf_number e v part.first) given
     else found_reached e found t v part (leaf_number e v part.first) given
+
+-- ---- names in POINTER variables
+
+-- where the name in a leaf stands, of a variable whose data has a constant place
+abbrev pub direct_name : Environment → Y.Variable → Y.StorageClass → (leaf : ℕ) → NamePlace
+direct_name e v Y.StaticClass leaf =
+    NameInData (static_datum e v.block v.index (declaration_of e v)) (direct_place e v Y.StaticClass leaf)
+direct_name e v class leaf = FrameName v.level (pos (direct_place e v class leaf))
+
+-- an element of a BASED variable whose name stands there
+abbrev pub based_reached : Environment → NamePlace → Taken → Y.Variable → Y.Part → (given : ℕ) → Code
+based_reached e name t v part given = leaf_reached e (based_located e v name) t v part (leaf_number e v part.first) given
+
+-- code for a name that stands, or else other code
+abbrev pub where_standing : Option NamePlace → (NamePlace → Code) → Code → Code
+where_standing (Some name) at otherwise = at name
+where_standing None at otherwise = otherwise
+
+-- the place of such a name in the running frame
+abbrev pub own_name : Environment → Option NamePlace → Option ℤ
+own_name e (Some (FrameName level place)) = if level == e.level then Some place else None
+own_name e _ = None
 
 -- ---- loads and stores of numbers, bits and OFFSET values
 

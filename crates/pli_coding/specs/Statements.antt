@@ -18,7 +18,7 @@ use Rattle.pli_coding.specs.Arithmetic.{condition_number, raised, sum_code, fitt
 use Rattle.pli_coding.specs.Locating.{frame_found, frame_in, waiting_name, Address, loaded, name_copied, in_own_frame, text_pushed, length_loaded}
 use Rattle.pli_coding.specs.Expressions.{type_in, address_in, number_code, text_code, bit_code, reference_code, call_code, stored_code}
 use Rattle.pli_coding.specs.Temporaries.{number_words, bit_words, reference_words, call_words, stored_words}
-use Rattle.pli_coding.specs.Storing.{word_stored, top_stored, assigned_code, elements_code, aggregate_code, area_code', emptied_code, assigned_words, elements_words, aggregate_words}
+use Rattle.pli_coding.specs.Storing.{word_stored, top_stored, assigned_code, assignment_code, elements_code, aggregate_code, area_code', emptied_code, assigned_words, elements_words, aggregate_words}
 use Rattle.pli_coding.specs.Allocating.{act_code, allocations_code, freeings_code, allocations_words, freeings_words}
 use Rattle.pli_coding.specs.Streams.{as_text, put_code, get_code, value_words, put_words, get_words}
 use Rattle.pli_coding.specs.Entries.{registers_restored, frame_begun, frame_ended, entered_without_texts, block_left, variables_code, variables_words}
@@ -340,7 +340,7 @@ marked block labels = map (λ l. Mark (LabelPlace block l)) labels
 abbrev mutual
   pub stmt_code : Environment → Taken → Y.Stmt → Code
   stmt_code e t (Y.Null line) = act_code line
-  stmt_code e t (Y.Assign target source line) = act_code line ++ assigned_code e t target source
+  stmt_code e t (Y.Assign target source line) = act_code line ++ assignment_code e t target source
   stmt_code e t (Y.AssignElements target source line) = act_code line ++ elements_code e t target source
   stmt_code e t (Y.AssignAggregate target source line) = act_code line ++ aggregate_code e t target source
   stmt_code e t (Y.AssignArea target source line) = act_code line ++ area_code' e t target source

@@ -1,5 +1,5 @@
 -- Values into storage: scalars, arrays, aggregates and areas. A value waits while its target is reached.
-use Rattle.std.specs.Prelude.{ℕ, zero, suc, ◌+◌, Bool, true, false, ℤ, max, [], ◌∷◌, ◌++◌, if◌then◌else◌}
+use Rattle.std.specs.Prelude.{ℕ, zero, suc, ◌+◌, Bool, true, false, not, ℤ, max, [], ◌∷◌, ◌++◌, Option, Some, None, if◌then◌else◌}
 use Rattle.rv_meaning.specs.declared.instr.BranchTest.TheVariants as Test
 use Rattle.rv_meaning.specs.declared.instr.Register.{Register}
 use Rattle.pli_language.specs.declared.condition.Condition.TheVariants as C
@@ -11,8 +11,8 @@ use Rattle.pli_coding.specs.Instructions.{small, number, store_word, skip_where,
 use Rattle.pli_coding.specs.Frames.{word_in}
 use Rattle.pli_coding.specs.Environments.{Environment, Taken, with_words, with_number, save, fetch}
 use Rattle.pli_coding.specs.Arithmetic.{raised}
-use Rattle.pli_coding.specs.Locating.{own_place, Located, located, name_offset, number_loaded, class_found, behind_locator, waiting_name, leaf_number, is_direct, is_referred, leaf_found, needs_buffer, subscripts_counted, stored, name_copied, in_own_frame, text_stored}
-use Rattle.pli_coding.specs.Expressions.{given_in, type_in, address_in, reference_code, locator_code, subscripts_code, stored_code}
+use Rattle.pli_coding.specs.Locating.{own_place, Located, located, name_offset, number_loaded, class_found, behind_locator, waiting_name, leaf_number, is_direct, is_referred, leaf_found, needs_buffer, subscripts_counted, stored, name_copied, in_own_frame, own_name, text_stored}
+use Rattle.pli_coding.specs.Expressions.{given_in, type_in, address_in, standing_in, pointer_code, pointer_to, reference_code, locator_code, subscripts_code, stored_code}
 use Rattle.pli_coding.specs.Temporaries.{reference_words, stored_words, located_words}
 
 -- ---- scalars
@@ -40,6 +40,24 @@ stored_into e t target (Y.StoredOffset x) = word_stored e t target
 
 abbrev pub assigned_code : Environment → Taken → Y.Reference → Y.Stored → Code
 assigned_code e t target source = stored_code e t source ++ stored_into e t target source
+
+-- whether nothing is tested once a name was written
+abbrev pub is_written_last : Environment → Y.Pointer → Bool
+is_written_last e (Y.AddressOf (Y.Referring v locator part subscripts)) = not (is_referred e v part)
+is_written_last e _ = true
+
+-- the place of a POINTER variable of the running frame, where a name may be written at once
+abbrev pub place_assigned : Environment → Y.Reference → Y.Pointer → Option ℤ
+place_assigned e target x = if is_written_last e x then own_name e (standing_in e target) else None
+
+abbrev pub name_assigned : Environment → Taken → Y.Reference → Y.Pointer → Option ℤ → Code
+name_assigned e t target x (Some place) = pointer_to e t place x
+name_assigned e t target x None = pointer_code e t x ++ name_stored e t target
+
+-- an assignment statement
+abbrev pub assignment_code : Environment → Taken → Y.Reference → Y.Stored → Code
+assignment_code e t target (Y.StoredPointer x) = name_assigned e t target x (place_assigned e target x)
+assignment_code e t target source = assigned_code e t target source
 
 -- ---- records of aggregates: where a name stands, its signature's number, the place of the subscripts given, and the extent that
 -- REFER tells, in four words behind the temporaries in use

@@ -4,17 +4,19 @@ ghost use Rattle.std.specs.Prelude.{◌≡◌, ℕ, suc, ◌+◌, pos, [], ◌++
 ghost use Rattle.pli_typing.specs.Signatures as sizes;
 ghost use Rattle.pli_typing.specs.TypedView.{leaf_of, leaf_type_of, part_of, variable_of};
 ghost use Rattle.pli_meaning.specs.DeclaredShapes as shapes;
+ghost use Rattle.pli_coding.specs.Environments.{declaration_of};
 ghost use Rattle.pli_coding.specs.Locating as form;
 ghost use Rattle.rv_address.specs.Around.{environment_of, taken_of};
 ghost use Rattle.rv_address.specs.Pieces.{direct_start, found_added, static_base};
-ghost use Rattle.rv_address.specs.Places.{address_of};
+ghost use Rattle.rv_address.specs.Places.{address_of, located_of, name_of};
 
 use crate::environment::Environment;
 use crate::extent::{is_constant, needs_buffer};
 use crate::frame::automatic_place;
 use crate::leaf::{is_direct, leaf_found};
-use crate::located::{class_found, located, static_bytes};
-use crate::names::{frame_found, frame_in};
+use crate::located::{class_found, located, located_at, static_bytes};
+use crate::names::{Located, NamePlace, frame_found, frame_in};
+use crate::number::signed;
 use crate::referred::is_referred;
 use crate::size::{element_bytes, leaf_place};
 use crate::subscript::subscripts_counted;
@@ -157,13 +159,13 @@ fn direct_start(environment: &Environment, variable: Variable) -> Result<u32, Al
 }
 
 /// The place of a leaf behind its variable's base.
-#[tactic(auto, using(crate::proofs::Placing::direct_is))]
+#[tactic(auto, using(crate::proofs::Placing::number_is))]
 fn direct_place(
     environment: &Environment,
     variable: Variable,
     leaf: usize,
-) -> Result<i32, AllocError>
-    ensures { IfOk result (λ d. d ≡ pos (form.direct_place (environment_of environment.now) (variable_of variable) (variable_of variable).class leaf)) }
+) -> Result<u32, AllocError>
+    ensures { IfOk result (λ n. n ≡ form.direct_place (environment_of environment.now) (variable_of variable) (variable_of variable).class leaf) }
 {
     let start = direct_start(environment, variable)?;
     let inside = leaf_place(environment.declaration(variable)?, leaf)?;
@@ -171,7 +173,7 @@ fn direct_place(
     if place >= 1 << 31 {
         return Err(AllocError);
     }
-    Ok(place as i32)
+    Ok(place as u32)
 }
 
 /// Where the code of a reference leaves an element.
@@ -189,7 +191,7 @@ pub fn address_of(
             displacement: 0,
         });
     }
-    let displacement = direct_place(environment, variable, part.first)?;
+    let displacement = signed(direct_place(environment, variable, part.first)?)?;
     let register = if given == 0 {
         direct_register(environment, variable)
     } else {
@@ -199,6 +201,50 @@ pub fn address_of(
         register,
         displacement,
     })
+}
+
+fn name_in_frame(variable: Variable, place: u32) -> Result<NamePlace, AllocError>
+    ensures { IfOk result (λ n. name_of n ≡ form.FrameName (variable_of variable).level (pos place)) }
+{
+    let place = signed(place)?;
+    Ok(NamePlace::Frame {
+        level: variable.level,
+        place,
+    })
+}
+
+fn name_in_static(
+    environment: &Environment,
+    variable: Variable,
+    place: u32,
+) -> Result<NamePlace, AllocError>
+    ensures { IfOk result (λ n. name_of n ≡ form.NameInData (form.static_datum (environment_of environment.now) (variable_of variable).block (variable_of variable).index (declaration_of (environment_of environment.now) (variable_of variable))) place) }
+{
+    let bytes = static_bytes(environment.declaration(variable)?)?;
+    Ok(NamePlace::InStatic {
+        block: variable.block,
+        index: variable.index,
+        bytes,
+        place,
+    })
+}
+
+/// Where the name in a leaf stands, of a variable whose data has a constant place.
+pub fn direct_name(
+    environment: &Environment,
+    variable: Variable,
+    leaf: usize,
+) -> Result<NamePlace, AllocError>
+    ensures { IfOk result (λ n. name_of n ≡ form.direct_name (environment_of environment.now) (variable_of variable) (variable_of variable).class leaf) }
+{
+    let place = direct_place(environment, variable, leaf)?;
+    match variable.class {
+        StorageClass::Automatic => name_in_frame(variable, place),
+        StorageClass::Parameter => name_in_frame(variable, place),
+        StorageClass::Static => name_in_static(environment, variable, place),
+        StorageClass::Based => name_in_frame(variable, place),
+        StorageClass::Controlled => name_in_frame(variable, place),
+    }
 }
 
 fn direct_reached(
@@ -226,6 +272,31 @@ fn found_added(code: &mut Code, taken: Taken, leaf: &Leaf, given: usize) -> Resu
     element_added(code, registers::u3(), leaf.kind, given)
 }
 
+/// An element of a generation whose name stands somewhere.
+fn leaf_reached(
+    code: &mut Code,
+    environment: &Environment,
+    place: Located,
+    taken: Taken,
+    variable: Variable,
+    part: Part,
+    leaf: &Leaf,
+    given: usize,
+) -> Result<(), AllocError>
+    ensures { OnOk result (code.new ≡ code.old ++ form.leaf_reached (environment_of environment.now) (located_of place) (taken_of taken) (variable_of variable) (part_of part) (leaf_of leaf.now) given) }
+{
+    let may_refer = is_referred(environment, variable, part)?;
+    leaf_found(
+        code,
+        environment,
+        place,
+        part.first,
+        needs_buffer(leaf),
+        may_refer,
+    )?;
+    found_added(code, taken, leaf, given)
+}
+
 fn found_reached(
     code: &mut Code,
     environment: &Environment,
@@ -240,16 +311,24 @@ fn found_reached(
 {
     class_found(code, environment, found, variable)?;
     let place = located(environment, found, variable)?;
-    let may_refer = is_referred(environment, variable, part)?;
-    leaf_found(
-        code,
-        environment,
-        place,
-        part.first,
-        needs_buffer(leaf),
-        may_refer,
-    )?;
-    found_added(code, taken, leaf, given)
+    leaf_reached(code, environment, place, taken, variable, part, leaf, given)
+}
+
+/// An element of a BASED variable whose name stands there.
+pub fn based_reached(
+    code: &mut Code,
+    environment: &Environment,
+    name: NamePlace,
+    taken: Taken,
+    variable: Variable,
+    part: Part,
+    given: usize,
+) -> Result<(), AllocError>
+    ensures { OnOk result (code.new ≡ code.old ++ form.based_reached (environment_of environment.now) (name_of name) (taken_of taken) (variable_of variable) (part_of part) given) }
+{
+    let leaf = environment.leaf(variable, part.first)?;
+    let place = located_at(environment, variable, name)?;
+    leaf_reached(code, environment, place, taken, variable, part, leaf, given)
 }
 
 /// An element's address, behind a locator, which waits at `found`, and so many subscripts, which wait at `taken`.

@@ -1,18 +1,19 @@
 -- The code that stores by its pieces.
-use Rattle.std.proofs.Common.{◌≡◌, ◌<◌, ℕ, zero, suc, ◌++◌, refl, sym, ap, append_assoc, append-nil, arith}
+use Rattle.std.proofs.Common.{◌≡◌, ◌<◌, ℕ, ℤ, zero, suc, true, not, ◌++◌, Option, Some, None, refl, sym, ap, append_assoc, append-nil, arith}
+use Rattle.pli_typing.specs.declared.typed.Pointer as P
 use Rattle.pli_typing.specs.declared.typed.Reference as R
 use Rattle.pli_typing.specs.declared.typed.Stored as S
 use Rattle.pli_typing.specs.TypedTree as Y
-use Rattle.pli_typing.specs.TypedView.{numbers_of, part_of, reference_of, stored_of, variable_of}
+use Rattle.pli_typing.specs.TypedView.{numbers_of, part_of, pointer_of, reference_of, stored_of, variable_of}
 use Rattle.pli_coding.specs.Registers.{a0}
 use Rattle.pli_coding.specs.Assembly.{Code}
 use Rattle.pli_coding.specs.Instructions.{service, tested_service}
 use Rattle.pli_coding.specs.Environments.{Environment, Taken, save, with_number, with_words}
-use Rattle.pli_coding.specs.Locating.{behind_locator, leaf_number}
-use Rattle.pli_coding.specs.Expressions.{given_in, reference_code, stored_code, subscripts_code}
-use Rattle.pli_coding.specs.Storing.{aggregate_given, behind_record, behind_value, first_leaf, leaf_count, record_code, stored_into, subscript_count, subscripts_recorded, value_saved}
+use Rattle.pli_coding.specs.Locating.{behind_locator, is_referred, leaf_number}
+use Rattle.pli_coding.specs.Expressions.{given_in, pointer_code, pointer_to, reference_code, stored_code, subscripts_code}
+use Rattle.pli_coding.specs.Storing.{aggregate_given, assigned_code, assignment_code, behind_record, behind_value, first_leaf, is_written_last, leaf_count, name_assigned, place_assigned, record_code, stored_into, subscript_count, subscripts_recorded, value_saved}
 use Rattle.rv_expr.specs.Forms.{locator_of}
-use Rattle.rv_assignment.specs.Pieces.{aggregate_put, counted_recorded, elements_put, elements_stored, name_kept, name_put, part_put, part_recorded, part_taken, record_made, subscripts_made, text_kept, top_put, value_kept, word_put}
+use Rattle.rv_assignment.specs.Pieces.{aggregate_put, counted_recorded, elements_put, elements_stored, name_kept, name_put, part_put, part_recorded, part_taken, pointer_assigned, record_made, subscripts_made, tells_no_extent, text_kept, top_put, value_kept, word_put}
 
 -- ---- elements
 
@@ -51,6 +52,77 @@ unfolding stored_of word_put
 into-Offset e t r x = refl
 
 pub ruleset kinds = (into-Number, into-Text, into-Bit, into-Pointer, into-Offset)
+
+-- ---- assignments
+
+written_is : (e : Environment) (r : Y.Reference) → is_written_last e (Y.AddressOf r) ≡ tells_no_extent e r
+unfolding tells_no_extent
+written_is e (Y.Referring v locator part subscripts) = refl
+
+pub written-Null : (e : _) → is_written_last e (pointer_of P.Null) ≡ true
+unfolding pointer_of
+written-Null e = refl
+
+pub written-In : (e : _) (a : _) (r : _) → is_written_last e (pointer_of (P.In' a r)) ≡ true
+unfolding pointer_of
+written-In e a r = refl
+
+pub written-From : (e : _) (c : _) (a : _) (xs : _) → is_written_last e (pointer_of (P.From' c a xs)) ≡ true
+unfolding pointer_of
+written-From e c a xs = refl
+
+pub written-AddressOf : (e : _) (a : _) (r : _) → is_written_last e (pointer_of (P.AddressOf' a r)) ≡ tells_no_extent e (reference_of r)
+unfolding pointer_of
+written-AddressOf e a r = written_is e (reference_of r)
+
+pub written-Into : (e : _) (a : _) (o : _) (area : _) → is_written_last e (pointer_of (P.Into' a o area)) ≡ true
+unfolding pointer_of
+written-Into e a o area = refl
+
+pub extent-Plain : (e : _) (v : _) (p : _) (ns : _) → tells_no_extent e (reference_of (R.Plain v p ns)) ≡ not (is_referred e (variable_of v) (part_of p))
+unfolding reference_of tells_no_extent
+extent-Plain e v p ns = refl
+
+pub extent-Located : (e : _) (a : _) (l : _) (v : _) (p : _) (ns : _) → tells_no_extent e (reference_of (R.Located' a l v p ns)) ≡ not (is_referred e (variable_of v) (part_of p))
+unfolding reference_of tells_no_extent
+extent-Located e a l v p ns = refl
+
+pub ruleset written = (written-Null, written-In, written-From, written-AddressOf, written-Into, extent-Plain, extent-Located)
+
+pub pointer-Some : (e : _) (t : _) (r : _) (x : _) (z : _) → pointer_assigned e t r x (Some z) ≡ pointer_to e t z x
+unfolding pointer_assigned
+pointer-Some e t r x z = refl
+
+pub pointer-None : (e : _) (t : _) (r : _) (x : _) → pointer_assigned e t r x None ≡ pointer_code e t x ++ name_put e t r
+unfolding pointer_assigned
+pointer-None e t r x = refl
+
+assigned_is : (e : Environment) (t : Taken) (r : Y.Reference) (x : Y.Pointer) (o : Option ℤ) → name_assigned e t r x o ≡ pointer_assigned e t r x o
+unfolding pointer_assigned name_put
+assigned_is e t r x (Some z) = refl
+assigned_is e t r x None = refl
+
+pub assignment-Number : (e : _) (t : _) (r : _) (p : _) (n : _) → assignment_code e t r (stored_of (S.Number p n)) ≡ assigned_code e t r (stored_of (S.Number p n))
+unfolding stored_of
+assignment-Number e t r p n = refl
+
+pub assignment-Text : (e : _) (t : _) (r : _) (x : _) → assignment_code e t r (stored_of (S.Text x)) ≡ assigned_code e t r (stored_of (S.Text x))
+unfolding stored_of
+assignment-Text e t r x = refl
+
+pub assignment-Bit : (e : _) (t : _) (r : _) (x : _) → assignment_code e t r (stored_of (S.Bit x)) ≡ assigned_code e t r (stored_of (S.Bit x))
+unfolding stored_of
+assignment-Bit e t r x = refl
+
+pub assignment-Pointer : (e : _) (t : _) (r : _) (x : _) → assignment_code e t r (stored_of (S.Pointer x)) ≡ pointer_assigned e t r (pointer_of x) (place_assigned e r (pointer_of x))
+unfolding stored_of
+assignment-Pointer e t r x = assigned_is e t r (pointer_of x) (place_assigned e r (pointer_of x))
+
+pub assignment-Offset : (e : _) (t : _) (r : _) (x : _) → assignment_code e t r (stored_of (S.Offset x)) ≡ assigned_code e t r (stored_of (S.Offset x))
+unfolding stored_of
+assignment-Offset e t r x = refl
+
+pub ruleset assignments = (pointer-Some, pointer-None, assignment-Number, assignment-Text, assignment-Bit, assignment-Pointer, assignment-Offset, append_assoc, append-nil)
 
 -- ---- parts
 

@@ -1,5 +1,5 @@
 -- Pieces of the code that stores, each under a name of its own.
-use Rattle.std.specs.Prelude.{ℕ, ◌++◌}
+use Rattle.std.specs.Prelude.{ℕ, ℤ, Bool, not, ◌++◌, Option, Some, None}
 use Rattle.rv_meaning.specs.declared.instr.BranchTest.TheVariants as Test
 use Rattle.pli_language.specs.declared.condition.Condition.TheVariants as C
 use Rattle.pli_typing.specs.TypedTree as Y
@@ -10,7 +10,7 @@ use Rattle.pli_coding.specs.Instructions.{number, service, skip_where, tested_se
 use Rattle.pli_coding.specs.Environments.{Environment, Taken, fetch}
 use Rattle.pli_coding.specs.Arithmetic.{raised}
 use Rattle.pli_coding.specs.Locating.{behind_locator, class_found, in_own_frame, is_referred, leaf_found, leaf_number, located, name_copied, needs_buffer, stored, subscripts_counted, text_stored, waiting_name}
-use Rattle.pli_coding.specs.Expressions.{address_in, given_in, subscripts_code, type_in}
+use Rattle.pli_coding.specs.Expressions.{address_in, given_in, pointer_code, pointer_to, subscripts_code, type_in}
 use Rattle.pli_coding.specs.Storing.{aggregate_code, aggregate_given, elements_code, extent_recorded, first_leaf, name_stored, record_filled, record_given, record_stored, top_stored, value_given, word_stored}
 
 -- ---- what waits, to an element that was reached
@@ -34,6 +34,15 @@ top_put e t r = top_stored e t r
 
 unfoldable pub name_put : Environment → Taken → Y.Reference → Code
 name_put e t r = name_stored e t r
+
+-- ---- a POINTER value, into a place of the running frame, or by way of the words behind the temporaries in use
+
+unfoldable pub tells_no_extent : Environment → Y.Reference → Bool
+tells_no_extent e (Y.Referring v locator part subscripts) = not (is_referred e v part)
+
+unfoldable pub pointer_assigned : Environment → Taken → Y.Reference → Y.Pointer → Option ℤ → Code
+pointer_assigned e t target x (Some place) = pointer_to e t place x
+pointer_assigned e t target x None = pointer_code e t x ++ name_put e t target
 
 -- ---- records
 

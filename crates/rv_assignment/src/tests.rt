@@ -3,7 +3,7 @@
 use crate::aggregate::{aggregate_code, elements_code};
 use crate::area::{area_code, emptied_code};
 use crate::record::{behind_record, record_code, record_given};
-use crate::scalar::{assigned_code, name_stored, stored_into, top_stored, word_stored};
+use crate::scalar::{assignment_code, name_stored, stored_into, top_stored, word_stored};
 use pli_typing::statement::Typed;
 use pli_typing::typed::{
     Bit, Bounds, DeclaredVariable, Extent, Leaf, LeafType, Number, Numbers, Offset, Part, Pointer,
@@ -126,7 +126,7 @@ fn assigned(
 ) -> Result<usize, AllocError> {
     let environment = Environment::new(known, &[]);
     let mut code = Code::new(alloc);
-    assigned_code(alloc, &mut code, &environment, none_taken(), target, source)?;
+    assignment_code(alloc, &mut code, &environment, none_taken(), target, source)?;
     Ok(code.size())
 }
 
@@ -142,7 +142,7 @@ fn values_are_assigned_in_their_words(rt: HostRuntime) -> Result<(), Fail> {
     assert_eq!(rt; assigned(alloc, &known, &plain(2), &text)?, 14);
     assert_eq!(rt;
         assigned(alloc, &known, &plain(3), &Stored::Pointer(Pointer::Null))?,
-        12
+        4
     );
     assert_eq!(rt; assigned(alloc, &known, &plain(4), &bit)?, 4);
     assert_eq!(rt;

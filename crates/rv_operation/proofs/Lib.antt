@@ -1,4 +1,5 @@
 pub mod Bounded
 pub mod Sizes
+pub mod Stands
 pub mod Walks
 pub mod Weights

@@ -12,7 +12,7 @@ use Rattle.pli_coding.specs.Instructions.{add, load_word, move, number, register
 use Rattle.pli_coding.specs.Environments.{Environment, Taken}
 use Rattle.pli_coding.specs.Arithmetic.{sum_code}
 use Rattle.pli_coding.specs.Expressions.{bit_code, call_code, stored_code}
-use Rattle.pli_coding.specs.Storing.{area_code', assigned_code, emptied_code}
+use Rattle.pli_coding.specs.Storing.{area_code', assigned_code, assignment_code, emptied_code}
 use Rattle.pli_coding.specs.Allocating.{act_code, allocations_code, freeings_code}
 use Rattle.pli_coding.specs.Entries.{block_left, entered_without_texts, frame_begun, frame_ended, registers_restored, variables_code}
 use Rattle.pli_coding.specs.Streams.{get_code, put_code}
@@ -95,7 +95,7 @@ unfoldable pub acted : (line : ℕ) → Code
 acted line = act_code line
 
 unfoldable pub assign_statement : Environment → Taken → Y.Reference → Y.Stored → (line : ℕ) → Code
-assign_statement e t target source line = acted line ++ assigned_code e t target source
+assign_statement e t target source line = acted line ++ assignment_code e t target source
 
 unfoldable pub elements_statement : Environment → Taken → Y.Reference → Y.Stored → (line : ℕ) → Code
 elements_statement e t target source line = acted line ++ elements_put e t target source
