@@ -1,14 +1,13 @@
 -- The code of procedures, and of the routines that evaluate the extents of variables which ALLOCATE makes.
 use Rattle.std.specs.Prelude.{ℕ, suc, ◌==◌, pos, Bool, true, false, List, [], ◌∷◌, ◌++◌, length, Option, Some, None, if◌then◌else◌}
 use Rattle.rv_meaning.specs.declared.instr.Instr.TheVariants as I
-use Rattle.rv_meaning.specs.declared.instr.BranchTest.TheVariants as Test
 use Rattle.pli_typing.specs.TypedTree as Y
 use Rattle.pli_meaning.specs.Codes.{no_value_code}
 use Rattle.pli_meaning.specs.DeclaredShapes.{variables_of_block}
-use Rattle.pli_coding.specs.Registers.{zero_register, return_register, frame_register, a0, a1, a2, a3, u0, u1, u5}
+use Rattle.pli_coding.specs.Registers.{zero_register, return_register, frame_register, a0, a1, a2, a3, u5}
 use Rattle.pli_coding.specs.Assembly.{Plain, ProcedureEntry, ReturnPlace, ExtentRoutine, Mark, Code}
-use Rattle.pli_coding.specs.Instructions.{move, small, number, plus, load_word, skip_where, service, error_raised}
-use Rattle.pli_coding.specs.Frames.{frame_below, own_offset, result}
+use Rattle.pli_coding.specs.Instructions.{move, small, number, plus, load_word, service, error_raised}
+use Rattle.pli_coding.specs.Frames.{result}
 use Rattle.pli_coding.specs.Environments.{BlockPlace, BlockOwner, Environment, in_frame, owned_by, none_taken}
 use Rattle.pli_coding.specs.Extents.{number_word, extents_code, refer_amount, extents_words}
 use Rattle.pli_coding.specs.Allocating.{act_code}
@@ -38,20 +37,13 @@ is_main program block = is_first program.procedures
         is_block : Y.Block → Bool
         is_block (Y.BlockOf head body) = head.number == block
 
--- in the frame that the start of the image made the run is finished
-abbrev pub finished_if_first : Environment → Code
-finished_if_first e =
-    load_word u0 frame_register frame_below
-    ++ (load_word u0 u0 own_offset
-    ++ (number u1 e.parts.stack_start ++ skip_where Test.NotEqual u0 u1 finish_code))
-
--- a function has no end without a value (112), but the main procedure where it isn't called
+-- a function has no end without a value (112), but the main procedure, which no reference calls
 abbrev pub no_value : (line : ℕ) → Code
 no_value line = number a0 line ++ (small a1 1 ∷ (service 1 ++ error_raised no_value_code))
 
 abbrev pub end_reached : Environment → Y.BlockHead → Option Y.LeafType → Code
 end_reached e head None = []
-end_reached e head (Some type) = (if is_main e.program head.number then finished_if_first e else []) ++ no_value head.line
+end_reached e head (Some type) = if is_main e.program head.number then finish_code else no_value head.line
 
 -- what a function leaves: a number in a0, the address of a name in a0, or the top text
 abbrev pub left_with : Option Y.LeafType → Code
