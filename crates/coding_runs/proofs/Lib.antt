@@ -10,3 +10,4 @@ mod AreaRuns
 mod FormRuns
 mod ArraysApart
 mod UnitKinds
+mod SavedRuns

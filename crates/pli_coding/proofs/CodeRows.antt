@@ -1,5 +1,5 @@
 -- The code of small forms, the frame of a block, the table and the static data, computed.
-use Rattle.std.proofs.Common.{◌≡◌, ℕ, zero, suc, ◌+◌, pos, negsuc, true, false, List, [], ◌∷◌, ◌++◌, map, None, refl}
+use Rattle.std.proofs.Common.{◌≡◌, ℕ, zero, suc, ◌+◌, pos, negsuc, true, false, List, [], ◌∷◌, ◌++◌, map, Some, None, refl}
 use lib.Chars.{codes}
 use Rattle.rv_meaning.specs.declared.instr.Instr.TheVariants as I
 use Rattle.rv_meaning.specs.declared.instr.RegisterOp.TheVariants as Op
@@ -7,6 +7,7 @@ use Rattle.rv_meaning.specs.declared.instr.ImmediateOp.TheVariants as Imm
 use Rattle.rv_meaning.specs.declared.instr.LoadKind.TheVariants as Load
 use Rattle.rv_meaning.specs.declared.instr.BranchTest.TheVariants as Test
 use Rattle.rv_meaning.specs.Tables.{table_words}
+use Rattle.pli_language.specs.declared.condition.Condition.TheVariants as C
 use Rattle.pli_language.specs.Tree as T
 use Rattle.pli_typing.specs.TypedTree as Y
 use Rattle.area_keeper.specs.Chain.{chain}
@@ -20,6 +21,9 @@ use Rattle.pli_coding.specs.Arithmetic.{sum_code}
 use Rattle.pli_coding.specs.Locating.{leaf_resolved, located}
 use Rattle.pli_coding.specs.Expressions.{are_few, elements_code, number_code, text_code}
 use Rattle.pli_coding.specs.Temporaries.{number_words}
+use Rattle.pli_coding.specs.Entries.{frame_begun}
+use Rattle.pli_coding.specs.Statements.{block_held}
+use Rattle.pli_coding.specs.Procedures.{end_reached, frame_returned}
 use Rattle.pli_coding.specs.Images.{environment_of, code_of, blocks_of}
 use Rattle.pli_coding.proofs.RowPieces.{part, automatic, parameter, whole, scalar, bounds, initial, leaf, member, declared, head, procedure, program}
 
@@ -186,6 +190,54 @@ direct_scalar_is_a_load :
     ∷ [])
 direct_scalar_is_a_load = refl
 
+-- ---- registers that procedures save
+
+abbrev one : Y.Stmt → Y.Stmts
+one s = Y.StmtThen [] s (Y.EndOfList [])
+
+-- so many numbers wait, and one more
+abbrev tested : ℕ → Y.Stmt
+tested n = Y.If (Y.NumbersCompared Y.IsLess (number 1) (deep n)) (Y.Null 1) 1
+
+abbrev begun : Y.Stmts → Y.Stmt
+begun body = Y.Begin (Y.BlockOf (head Y.BeginBlock 3 2 3) body)
+
+abbrev labelled : Y.Stmts
+labelled = Y.EndOfList (codes "L" ∷ [])
+
+-- those of its own temporaries, of its BEGIN blocks, and all where a label stands in them
+registers_are_counted :
+    map (block_held (within 1 0) 1)
+    (Y.EndOfList [] ∷ one (tested 2) ∷ one (tested 8) ∷ one (begun (one (tested 2))) ∷ one (begun (one (begun (one (tested 3)))))
+    ∷ one (begun labelled) ∷ labelled ∷ Y.StmtThen (codes "L" ∷ []) (Y.Null 1) (Y.EndOfList []) ∷ [])
+    ≡ (0 ∷ 3 ∷ 7 ∷ 3 ∷ 4 ∷ 7 ∷ 7 ∷ 7 ∷ [])
+registers_are_counted = refl
+
+-- groups hold statements of the same frame; an on-unit has a frame of its own, which saves its own
+registers_of_groups_are_counted :
+    map (λ s. block_held (within 1 0) 1 (one s))
+    (Y.Do (one (begun (one (tested 2)))) 1 ∷ Y.DoWhile (Y.BitConstant true) (one (begun (one (tested 2)))) 1
+    ∷ Y.If (Y.BitConstant true) (begun (one (tested 2))) 1 ∷ Y.IfElse (Y.BitConstant true) (tested 1) (begun (one (tested 2))) 1
+    ∷ Y.IfElse (Y.BitConstant true) (Y.Do labelled 1) (begun (one (tested 2))) 1
+    ∷ Y.OnUnit C.Area (Y.BlockOf (head Y.UnitBlock 3 1 3) (one (tested 2))) 1 ∷ [])
+    ≡ (3 ∷ 3 ∷ 3 ∷ 3 ∷ 7 ∷ 0 ∷ [])
+registers_of_groups_are_counted = refl
+
+-- where it goes on, three registers, the frame below, the top of the lower stack, the display and its own offset
+three_registers_are_saved : stores_in (frame_begun 3 1 0 (Some 3)) ∷ stores_in (frame_begun 3 1 0 None) ∷ [] ≡ (8 ∷ 4 ∷ [])
+three_registers_are_saved = refl
+
+last_register_is_restored :
+    frame_returned 0 2
+    ≡ (Plain (I.Load Load.Word R.return_register R.frame_register (pos 0))
+    ∷ Plain (I.Load Load.Word (R.held 0) R.frame_register (pos 8))
+    ∷ Plain (I.Load Load.Word (R.held 1) R.frame_register (pos 12))
+    ∷ Plain (I.Immediate Imm.Add R.stack_register R.frame_register (pos 0))
+    ∷ Plain (I.Load Load.Word R.frame_register R.frame_register (pos 4))
+    ∷ Plain (I.JumpRegister R.zero_register R.return_register (pos 0))
+    ∷ [])
+last_register_is_restored = refl
+
 -- ---- services
 
 abbrev last_three : Code → Code
@@ -199,12 +251,19 @@ status_is_tested :
     ≡ (Plain I.Ecall ∷ Plain (I.Branch Test.Equal R.a1 R.zero_register (pos 12)) ∷ JumpTo RaiseError ∷ [])
 status_is_tested = refl
 
--- ---- subscripts
+-- ---- errors
 
 abbrev errors_in : Code → ℕ
 errors_in [] = 0
 errors_in (JumpTo RaiseError ∷ is) = 1 + errors_in is
 errors_in (i ∷ is) = errors_in is
+
+-- a function that ends without a value, but the main procedure
+missing_value_is_an_error :
+    errors_in (end_reached (within 2 1) (head Y.ProcedureBlock 2 1 2) (Some Y.BitLeaf))
+    ∷ errors_in (end_reached (within 1 0) (head Y.ProcedureBlock 1 0 1) (Some Y.BitLeaf)) ∷ []
+    ≡ (1 ∷ 0 ∷ [])
+missing_value_is_an_error = refl
 
 -- an element of two dimensions is tested twice
 subscripts_are_tested :

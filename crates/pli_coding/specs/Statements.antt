@@ -1,5 +1,5 @@
 -- The code of statements, with the blocks that stand among them. Each begins with its act, which sets its line.
-use Rattle.std.specs.Prelude.{ℕ, suc, ◌+◌, ◌==◌, max, ℤ, pos, true, false, List, [], ◌∷◌, ◌++◌, map, Option, Some, None, if◌then◌else◌}
+use Rattle.std.specs.Prelude.{ℕ, suc, ◌+◌, ◌==◌, max, min, ℤ, pos, true, false, List, [], ◌∷◌, ◌++◌, map, Option, Some, None, if◌then◌else◌}
 use Rattle.rv_meaning.specs.declared.instr.Instr.TheVariants as I
 use Rattle.rv_meaning.specs.declared.instr.RegisterOp.TheVariants as Op
 use Rattle.rv_meaning.specs.declared.instr.BranchTest.TheVariants as Test
@@ -9,7 +9,7 @@ use Rattle.pli_typing.specs.TypedTree as Y
 use Rattle.pli_meaning.specs.Codes.{code_signalled}
 use Rattle.pli_meaning.specs.Numbers.{operator_precision}
 use Rattle.pli_meaning.specs.DeclaredShapes.{variables_of_block}
-use Rattle.pli_coding.specs.Registers.{zero_register, stack_register, frame_register, a0, a1, a2, u0, u1, u2, u3}
+use Rattle.pli_coding.specs.Registers.{held_registers, zero_register, stack_register, frame_register, a0, a1, a2, u0, u1, u2, u3}
 use Rattle.pli_coding.specs.Assembly.{Item, Plain, BaseIn, LabelPlace, ReturnPlace, Mark, OffsetAhead, JumpTo, JumpAhead, JumpBack, Code, size_of}
 use Rattle.pli_coding.specs.Instructions.{registers, add, move, small, number, plus, load_word, store_word, skip_where, service, tested_service, error_raised}
 use Rattle.pli_coding.specs.Frames.{own_offset, result, display, frame_end, words_place}
@@ -250,7 +250,7 @@ begin_environment head e = in_frame head.number head.level e
 abbrev pub begin_code : Environment → Y.BlockHead → (words : ℕ) → (body : Code) → Code
 begin_code e head words body =
     move a0 frame_register
-    ∷ (frame_begun words head.level 0 false
+    ∷ (frame_begun words head.level 0 None
     ++ (entered_without_texts 1 head.line
     ++ (variables_code (begin_environment head e) head.line ++ (body ++ (block_left 0 ++ frame_ended words)))))
 
@@ -275,18 +275,18 @@ unit_mark head Y.SimpleUnit = []
 unit_mark head _ = Mark (ReturnPlace head.number) ∷ []
 
 -- a unit goes on where its raise said, with its condition's code in a1
-abbrev pub unit_left : (words : ℕ) → Code
-unit_left words =
+abbrev pub unit_left : (words held : ℕ) → Code
+unit_left words held =
     service 31
-    ++ (registers_restored 0 7
+    ++ (registers_restored 0 held
     ++ (frame_ended words ++ (BaseIn u0 ∷ add u0 u0 a0 ∷ Plain (I.JumpRegister zero_register u0 (pos 0)) ∷ [])))
 
-abbrev pub unit_code : Environment → Y.BlockHead → (words : ℕ) → (body : Code) → Code
-unit_code e head words body =
-    frame_begun words head.level 0 true
+abbrev pub unit_code : Environment → Y.BlockHead → (words held : ℕ) → (body : Code) → Code
+unit_code e head words held body =
+    frame_begun words head.level 0 (Some held)
     ++ (entered_without_texts 2 head.line
     ++ (unit_variables (unit_environment head e) head head.kind
-    ++ (act_code head.line ++ (body ++ (unit_mark head head.kind ++ unit_left words)))))
+    ++ (act_code head.line ++ (body ++ (unit_mark head head.kind ++ unit_left words held)))))
 
 -- ---- words that statements take; a block among them has a frame of its own
 
@@ -332,6 +332,42 @@ abbrev mutual
   stmts_words (Y.EndOfList labels) = 0
   stmts_words (Y.StmtThen labels first rest) = max (stmt_words first) (stmts_words rest)
 
+-- ---- registers that procedures and on-units save. A block's code writes no more of them than its temporaries take words, since each
+-- number counts among these; BEGIN blocks save none. A GOTO ends frames without restoring what they saved: where one may come to a
+-- label, all are saved.
+
+abbrev pub labels_held : List (List ℕ) → ℕ
+labels_held [] = 0
+labels_held (l ∷ ls) = held_registers
+
+-- for what stands in a frame beside its own temporaries
+abbrev mutual
+  pub stmt_held : Y.Program → Y.Stmt → ℕ
+  stmt_held program (Y.If condition unit line) = stmt_held program unit
+  stmt_held program (Y.IfElse condition unit otherwise line) = max (stmt_held program unit) (stmt_held program otherwise)
+  stmt_held program (Y.Do body line) = stmts_held program body
+  stmt_held program (Y.DoWhile condition body line) = stmts_held program body
+  stmt_held program (Y.DoOnce variable start condition body line) = stmts_held program body
+  stmt_held program (Y.DoCount counter start limit step condition body line) = stmts_held program body
+  stmt_held program (Y.Begin (Y.BlockOf head body)) =
+      max (max (variables_words (variables_of_block program head.number)) (stmts_words body)) (stmts_held program body)
+  stmt_held program _ = 0
+
+  pub stmts_held : Y.Program → Y.Stmts → ℕ
+  stmts_held program (Y.EndOfList labels) = labels_held labels
+  stmts_held program (Y.StmtThen labels first rest) =
+      max (labels_held labels) (max (stmt_held program first) (stmts_held program rest))
+
+-- the first so many registers, of a frame with so many words for temporaries
+abbrev pub held_with : Y.Program → (words : ℕ) → Y.Stmts → ℕ
+held_with program words body = min held_registers (max words (stmts_held program body))
+
+abbrev pub block_held : Environment → (block : ℕ) → Y.Stmts → ℕ
+block_held e block body = held_with e.program (block_words e block (stmts_words body)) body
+
+abbrev pub unit_held : Environment → Y.BlockHead → Y.BlockKind → Y.Stmts → ℕ
+unit_held e head kind body = held_with e.program (unit_words e head kind (stmts_words body)) body
+
 -- ---- statements
 
 abbrev pub marked : (block : ℕ) → List (List ℕ) → Code
@@ -364,7 +400,8 @@ abbrev mutual
   stmt_code e t (Y.OnUnit c (Y.BlockOf head body) line) =
       act_code line
       ++ unit_established c
-      (unit_code e head (unit_words e head head.kind (stmts_words body)) (stmts_code (unit_environment head e) none_taken body))
+      (unit_code e head (unit_words e head head.kind (stmts_words body)) (unit_held e head head.kind body)
+      (stmts_code (unit_environment head e) none_taken body))
   stmt_code e t (Y.CallProcedure call line) = act_code line ++ call_code e t call
   stmt_code e t (Y.Return line) = act_code line ++ returned_by e 0 e.owner
   stmt_code e t (Y.ReturnValue type source line) = act_code line ++ (stored_code e t source ++ value_returned e t type)

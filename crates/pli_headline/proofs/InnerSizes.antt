@@ -18,7 +18,7 @@ use Rattle.pli_headline.specs.ProvedSoFar.{Names, Types, ArePlain, IsProvedState
 use Rattle.pli_coding.specs.Procedures.{procedure_begun, procedure_ended, procedure_in}
 use Rattle.pli_headline.proofs.Linking.{size_append}
 use Rattle.pli_coding.specs.Entries.{frame_begun, frame_ended, block_left, entered_without_texts, variables_code}
-use Rattle.pli_coding.specs.Statements.{begin_environment, begin_code, if_met, while_met, block_words, stmt_code, stmts_code, stmt_words, stmts_words, marked, once_code, bit_if, in_turns, before_turns, number_if, start_code, limit_code, step_code, started_code, step_place, turn_of, turns_code, words_back, words_behind_limit, words_behind_condition, limit_kept, while_kept, stepped_code}
+use Rattle.pli_coding.specs.Statements.{begin_environment, begin_code, if_met, while_met, block_words, stmt_code, stmts_code, stmt_words, stmts_words, marked, once_code, bit_if, in_turns, before_turns, number_if, start_code, limit_code, step_code, started_code, step_place, turn_of, turns_code, words_back, words_behind_limit, words_behind_condition, limit_kept, while_kept, stepped_code, block_held}
 use Rattle.pli_headline.proofs.Variables.{HasTypes}
 use Rattle.pli_headline.proofs.DeclaredNames.{named_in, has_in}
 use Rattle.pli_headline.proofs.Sizes.{most, number_size, bit_size, text_size, act_size, met_size', once_size, limit_words_size, condition_words_size, statement_size, no_variable_words, target_size, start_words_size, text_target_size}
@@ -145,7 +145,7 @@ mutual
       let ended = block_left 0 ++ frame_ended words in
       let made = variables_code e' head.line in
       let enter = entered_without_texts 1 head.line in
-      let frame = frame_begun words head.level 0 false in
+      let frame = frame_begun words head.level 0 None in
       let m = statements_inner e' none_taken (names_in block types head (variables_of_block block.program head.number)) (types_in types (variables_of_block block.program head.number)) (named_in block types head (variables_of_block block.program head.number) named) (has_in e block types head named bare.0 has) body is.1.1 bare.1 in
       let s1 = size_append (act_code head.line) (begin_code e head words c) in
       let s2 = size_append frame (enter ++ (made ++ (c ++ ended))) in
@@ -333,7 +333,7 @@ mutual
       let ended = block_left 0 ++ frame_ended words in
       let made = variables_code e' head.line in
       let enter = entered_without_texts 1 head.line in
-      let frame = frame_begun words head.level 0 false in
+      let frame = frame_begun words head.level 0 None in
       let m = statements_inner e' none_taken (names_in block types head (variables_of_block block.program head.number)) (types_in types (variables_of_block block.program head.number)) (named_in block types head (variables_of_block block.program head.number) named) (has_in e block types head named bare.0 has) body is.1.1 bare.1 in
       let s1 = size_append (act_code head.line) (begin_code e head words c) in
       let s2 = size_append frame (enter ++ (made ++ (c ++ ended))) in
@@ -376,9 +376,10 @@ mutual
 pub procedure_inner : (e : Environment) (head : Y.BlockHead) (block : Names) (types : Types) (body : Y.Stmts) → block.program ≡ e.program → HasTypes e block types → ArePlain (variables_of_block e.program head.number) → AreProvedStatements block types body → DeclarePlain e.program body → block_words e head.number (stmts_words body) + all_inner_words body ≤ size_of (procedure_in e head body [] None)
 procedure_inner e head block types body named has plain are bare =
     let words = block_words e head.number (stmts_words body) in
-    let begun = procedure_begun e head words [] in
+    let held = block_held e head.number body in
+    let begun = procedure_begun e head words held [] in
     let code = stmts_code e none_taken body in
-    let ended = procedure_ended e head words None in
+    let ended = procedure_ended e head words held None in
     let none = no_variable_words (variables_of_block e.program head.number) plain in
     let n = statements_inner e none_taken block types named has body are bare in
     let s1 = size_append begun (code ++ ended) in

@@ -14,6 +14,7 @@ pub mod Jumps
 pub mod Temporaries
 pub mod Reaching
 pub mod SavedRegisters
+pub mod HeldRegisters
 pub mod Activations
 pub mod OuterBlocks
 pub mod Asides

@@ -24,7 +24,7 @@ use Rattle.pli_coding.specs.Expressions.{number_code, extremes_code, bit_code, t
 use Rattle.pli_coding.specs.Storing.{stored_into, word_stored, top_stored, record_code, record_given, first_leaf, aggregate_code}
 use Rattle.pli_coding.specs.Streams.{has_fixed, get_item_words, get_items_words, get_words, value_put, number_put, text_put, as_text, item_put, items_put, edit_begun, edit_ended, put_pair, put_pairs, put_item_words, put_items_words, put_words, skip_option, field_stored, field_awaited, number_got, bit_got, item_got, items_got, get_pair, get_pairs, value_words, text_got}
 use Rattle.pli_coding.specs.Allocating.{act_code}
-use Rattle.pli_coding.specs.Statements.{if_met, while_met, block_words, stmt_code, stmts_code, stmt_words, stmts_words, marked, once_code, bit_if, in_turns, before_turns, number_if, start_code, limit_code, step_code, started_code, start_place, step_place, limit_place, turn_of, turns_code, words_back, words_behind_limit, words_behind_condition, limit_kept, while_kept, stepped_code}
+use Rattle.pli_coding.specs.Statements.{if_met, while_met, block_words, stmt_code, stmts_code, stmt_words, stmts_words, marked, once_code, bit_if, in_turns, before_turns, number_if, start_code, limit_code, step_code, started_code, start_place, step_place, limit_place, turn_of, turns_code, words_back, words_behind_limit, words_behind_condition, limit_kept, while_kept, stepped_code, block_held}
 use Rattle.pli_coding.specs.Temporaries.{number_words, numbers_words, text_words, bit_words, reference_words, subscripts_words}
 use Rattle.pli_headline.specs.ProvedSoFar.{Names, ArePlain, Types, IsOwn, IsProvedNumber, AreProvedNumbers, IsProvedBit, IsProvedText, IsProvedItem, AreProvedItems, AreProvedPairs, IsProvedGetItem, AreProvedGetItems, AreProvedGetPairs, IsProvedStatement, AreProvedStatements, IsProvedBitIf, IsProvedNumberIf, text_leaf, IsPart, IsAssigned, AreSubscripts, array_variable, IsDimension, IsProvedStart, IsAssignedText, IsReadBy}
 use Rattle.pli_coding.specs.Entries.{variables_words}
@@ -652,9 +652,10 @@ no_variable_words (d ∷ ds) are =
 pub procedure_size : (e : Environment) (head : Y.BlockHead) (block : Names) (types : Types) (body : Y.Stmts) → HasTypes e block types → ArePlain (variables_of_block e.program head.number) → AreProvedStatements block types body → block_words e head.number (stmts_words body) ≤ size_of (procedure_in e head body [] None)
 procedure_size e head block types body has plain are =
     let words = block_words e head.number (stmts_words body) in
-    let begun = procedure_begun e head words [] in
+    let held = block_held e head.number body in
+    let begun = procedure_begun e head words held [] in
     let code = stmts_code e none_taken body in
-    let ended = procedure_ended e head words None in
+    let ended = procedure_ended e head words held None in
     let none = no_variable_words (variables_of_block e.program head.number) plain in
     let n = statements_size e none_taken block types has body are in
     let s1 = size_append begun (code ++ ended) in

@@ -7,21 +7,21 @@ use Rattle.pli_language.specs.declared.condition.Condition.{Condition}
 use Rattle.pli_language.specs.declared.condition.Condition.TheVariants as C
 use Rattle.pli_typing.specs.TypedTree as Y
 use Rattle.pli_meaning.specs.Control.{Label}
-use Rattle.pli_coding.specs.Registers.{zero_register, stack_register, frame_register, a0, a1, a2, u0, u1, u2, a3, a4}
+use Rattle.pli_coding.specs.Registers.{zero_register, stack_register, frame_register, a0, a1, a2, u0, u1, u2, a3, a4, held}
 use Rattle.pli_coding.specs.Extents.{initial_given, initial_code}
 use Rattle.pli_coding.specs.StaticForms.{initial_datum}
 use Rattle.pli_coding.specs.Assembly.{Datum, Symbol, Plain, BaseIn, ProcedureEntry, LabelPlace, ReturnPlace, JumpTo, CallTo, JumpAhead, JumpBack, Code, size_of}
 use Rattle.pli_coding.specs.Instructions.{add, move, subtract, small, number, plus, load_word, store_word, skip_where, service, tested_service}
 use Rattle.pli_coding.specs.Environments.{Owner, BlockOwner, UnitOwner, Environment, in_frame, owned_by, Taken, none_taken, block_around, with_number, save, fetch}
-use Rattle.pli_coding.specs.Frames.{frame_below, own_offset, lower_top, display, fixed_size, frame_end, temporary_bytes, words_place, name_bytes, frame_bytes, automatic_place, last_place, is_automatic}
-use Rattle.pli_coding.specs.Entries.{registers_restored, all_saved, display_copied, display_made, frame_begun, block_left, entered_without_texts, variables_made, variables_code, constant_made, automatic_made, adjustable_made}
+use Rattle.pli_coding.specs.Frames.{frame_below, own_offset, lower_top, display, fixed_size, frame_end, temporary_bytes, words_place, name_bytes, frame_bytes, automatic_place, last_place, is_automatic, saved_register}
+use Rattle.pli_coding.specs.Entries.{registers_restored, all_saved, display_copied, display_made, frame_begun, block_left, entered_without_texts, variables_made, variables_code, constant_made, automatic_made, adjustable_made, all_restored, registers_saved}
 use Rattle.pli_meaning.specs.DeclaredShapes.{variables_of_block}
 use Rattle.pli_coding.specs.Arithmetic.{sum_code, fitted_code}
 use Rattle.pli_coding.specs.Expressions.{frame_given, number_code, bit_code, text_code, call_code}
 use Rattle.pli_coding.specs.Storing.{word_stored, assigned_code, record_code, record_given, first_leaf, aggregate_code}
 use Rattle.pli_coding.specs.Streams.{put_pairs, get_pairs, edit_ended, skip_option}
 use Rattle.pli_coding.specs.Allocating.{act_code}
-use Rattle.pli_coding.specs.Statements.{if_met, while_met, once_code, in_turns, before_turns, limit_place, step_place, start_place, start_code, limit_code, step_code, start_loaded, started_code, count_begun, limit_tested, limit_kept, while_kept, stepped_code, turn_of, turns_code, words_behind_limit, words_behind_condition, words_back, signal_code, unwound_to, returned_by, goto_outer, goto_code, marked, stmt_code, stmts_code, stmts_words, block_words, begin_environment, begin_code, condition_given, unit_established, unit_left, unit_variables, owner_of_unit, unit_words, unit_mark}
+use Rattle.pli_coding.specs.Statements.{if_met, while_met, once_code, in_turns, before_turns, limit_place, step_place, start_place, start_code, limit_code, step_code, start_loaded, started_code, count_begun, limit_tested, limit_kept, while_kept, stepped_code, turn_of, turns_code, words_behind_limit, words_behind_condition, words_back, signal_code, unwound_to, returned_by, goto_outer, goto_code, marked, stmt_code, stmts_code, stmts_words, block_words, begin_environment, begin_code, condition_given, unit_established, unit_left, unit_variables, owner_of_unit, unit_words, unit_mark, unit_held}
 use Rattle.pli_coding.specs.Locating.{own_place, frame_found, frame_in, table_number}
 use Rattle.rv_meaning.specs.declared.instr.Register.{Register}
 use Rattle.pli_headline.proofs.DeclaredNames.{named_in, has_in}
@@ -103,7 +103,7 @@ pub display_none : (level : ℕ) → Marks (display_made level) []
 display_none zero = refl
 display_none (suc outer) = copied_none 0 outer
 
-inner_begun_none : (words level : ℕ) → Marks (frame_begun words level 0 false) []
+inner_begun_none : (words level : ℕ) → Marks (frame_begun words level 0 None) []
 inner_begun_none words level =
     let up = plus u0 stack_register (pos (temporary_bytes words)) in
     let first = store_word u0 frame_register frame_below ++ (load_word u1 frame_register lower_top ++ (move frame_register u0 ∷ store_word frame_register u1 lower_top)) in
@@ -114,16 +114,34 @@ inner_begun_none words level =
     (behind first (made ++ (own ++ raised)) [] refl
     (behind made (own ++ raised) [] (display_none level) (behind own raised [] refl (plus_none stack_register frame_register (pos (fixed_size level 0))))))
 
-pub called_begun_none : (words level : ℕ) → Marks (frame_begun words level 0 true) []
-called_begun_none words level =
+saved_none : (n left : ℕ) → Marks (registers_saved u0 n left) []
+saved_none n zero = refl
+saved_none n (suc left) =
+    behind (store_word u0 (held n) (saved_register n)) (registers_saved u0 (suc n) left) [] (store_none u0 (held n) (saved_register n)) (saved_none (suc n) left)
+
+restored_none : (n left : ℕ) → Marks (registers_restored n left) []
+restored_none n zero = refl
+restored_none n (suc left) =
+    behind (load_word (held n) frame_register (saved_register n)) (registers_restored (suc n) left) [] (load_none (held n) frame_register (saved_register n)) (restored_none (suc n) left)
+
+pub all_saved_none : (count : ℕ) → Marks (all_saved u0 count) []
+all_saved_none count = saved_none 0 count
+
+pub all_restored_none : (count : ℕ) → Marks (all_restored count) []
+all_restored_none count = restored_none 0 count
+
+pub called_begun_none : (words level count : ℕ) → Marks (frame_begun words level 0 (Some count)) []
+called_begun_none words level count =
     let up = plus u0 stack_register (pos (temporary_bytes words)) in
-    let first = all_saved u0 ++ (store_word u0 frame_register frame_below ++ (load_word u1 frame_register lower_top ++ (move frame_register u0 ∷ store_word frame_register u1 lower_top))) in
+    let saves = all_saved u0 count in
+    let first = store_word u0 frame_register frame_below ++ (load_word u1 frame_register lower_top ++ (move frame_register u0 ∷ store_word frame_register u1 lower_top)) in
     let made = display_made level in
     let own = BaseIn u1 ∷ subtract u1 frame_register u1 ∷ store_word frame_register u1 own_offset in
     let raised = plus stack_register frame_register (pos (fixed_size level 0)) in
-    behind up (first ++ (made ++ (own ++ raised))) [] (plus_none u0 stack_register (pos (temporary_bytes words)))
+    behind up (saves ++ (first ++ (made ++ (own ++ raised)))) [] (plus_none u0 stack_register (pos (temporary_bytes words)))
+    (behind saves (first ++ (made ++ (own ++ raised))) [] (all_saved_none count)
     (behind first (made ++ (own ++ raised)) [] refl
-    (behind made (own ++ raised) [] (display_none level) (behind own raised [] refl (plus_none stack_register frame_register (pos (fixed_size level 0))))))
+    (behind made (own ++ raised) [] (display_none level) (behind own raised [] refl (plus_none stack_register frame_register (pos (fixed_size level 0)))))))
 
 -- what makes a variable
 given_none : (r : Register) (start : Option Datum) → Marks (initial_given r start) []
@@ -175,7 +193,7 @@ begin_marks e head words c ss declaring h =
     let ended = block_left 0 ++ (up ++ below) in
     let made : Marks (variables_code e' head.line) [] = declared_none e' head.line 0 (variables_of_block e.program head.number) declaring in
     let frame = inner_begun_none words head.level in
-    behind (frame_begun words head.level 0 false) (enter ++ (variables_code e' head.line ++ (c ++ ended))) ss frame
+    behind (frame_begun words head.level 0 None) (enter ++ (variables_code e' head.line ++ (c ++ ended))) ss frame
     (behind enter (variables_code e' head.line ++ (c ++ ended)) ss (behind (number a2 head.line) (service 4) [] (constant_none a2 (pos head.line)) refl)
     (behind (variables_code e' head.line) (c ++ ended) ss made
     (before c ended ss h (behind up below [] (plus_none stack_register frame_register (neg_ℤ (pos (temporary_bytes words)))) refl))))
@@ -265,14 +283,14 @@ turns_mark e t block types precision r limit condition line c ss has target isc 
 
 -- ---- on-units
 
-unit_left_none : (words : ℕ) → Marks (unit_left words) []
-unit_left_none words =
+unit_left_none : (words count : ℕ) → Marks (unit_left words count) []
+unit_left_none words count =
     let z : ℤ = neg_ℤ (pos (temporary_bytes words)) in
     let up = plus stack_register frame_register z in
     let below = load_word frame_register frame_register frame_below in
     let last = BaseIn u0 ∷ add u0 u0 a0 ∷ Plain (I.JumpRegister zero_register u0 (pos 0)) ∷ [] in
-    behind (service 31) (registers_restored 0 7 ++ ((up ++ below) ++ last)) [] refl
-    (behind (registers_restored 0 7) ((up ++ below) ++ last) [] refl
+    behind (service 31) (registers_restored 0 count ++ ((up ++ below) ++ last)) [] refl
+    (behind (registers_restored 0 count) ((up ++ below) ++ last) [] (restored_none 0 count)
     (behind (up ++ below) last [] (behind up below [] (plus_none stack_register frame_register z) refl) refl))
 
 -- its variables are declared
@@ -300,16 +318,17 @@ unit_marks e head body are marks =
     let e' = owned_by (owner_of_unit head head.kind) (in_frame head.number head.level e) in
     let c = stmts_code e' none_taken body in
     let words = unit_words e head head.kind (stmts_words body) in
-    let frame = frame_begun words head.level 0 true in
+    let count = unit_held e head head.kind body in
+    let frame = frame_begun words head.level 0 (Some count) in
     let enter = entered_without_texts 2 head.line in
     let made = unit_variables e' head head.kind in
     let act = act_code head.line in
     let mark = unit_mark head head.kind in
-    let left' = unit_left words in
+    let left' = unit_left words count in
     let ss = places_of (all_stands head.number body) in
     let ends = places_of (end_of head head.kind) in
-    let both : Marks (c ++ (mark ++ left')) (ss ++ ends) = both_mark c (mark ++ left') ss ends marks (before mark left' ends (mark_marks head head.kind) (unit_left_none words)) in
-    behind frame (enter ++ (made ++ (act ++ (c ++ (mark ++ left'))))) (ss ++ ends) (called_begun_none words head.level)
+    let both : Marks (c ++ (mark ++ left')) (ss ++ ends) = both_mark c (mark ++ left') ss ends marks (before mark left' ends (mark_marks head head.kind) (unit_left_none words count)) in
+    behind frame (enter ++ (made ++ (act ++ (c ++ (mark ++ left'))))) (ss ++ ends) (called_begun_none words head.level count)
     (behind enter (made ++ (act ++ (c ++ (mark ++ left')))) (ss ++ ends) (behind (number a2 head.line) (service 4) [] (constant_none a2 (pos head.line)) refl)
     (behind made (act ++ (c ++ (mark ++ left'))) (ss ++ ends) (made_none e' head head.kind are refl)
     (behind act (c ++ (mark ++ left')) (ss ++ ends) (act_none head.line) both)))

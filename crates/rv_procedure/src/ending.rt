@@ -23,11 +23,11 @@ use std::alloc::AllocError;
 /// The place of a function's result in its frame.
 const RESULT: i32 = 48;
 
-/// Back to the caller, from a frame whose block's temporaries are so many words.
-pub fn frame_returned(code: &mut Code, words: u32) -> Result<(), AllocError>
-    ensures { OnOk result (code.new ≡ code.old ++ form.frame_returned words) }
+/// Back to the caller, from a frame whose block's temporaries are so many words, and which saved so many registers.
+pub fn frame_returned(code: &mut Code, words: u32, held: u8) -> Result<(), AllocError>
+    ensures { OnOk result (code.new ≡ code.old ++ form.frame_returned words held) }
 {
-    all_restored(code)?;
+    all_restored(code, held)?;
     frame_ended(code, words)?;
     code.plain(Instr::JumpRegister {
         rd: zero(),

@@ -179,10 +179,10 @@ pub begin_whole : (old begun now after : Code) (body : Environment → Taken →
     → after ≡ old ++ begin_statement e head needed (body (begin_environment head e) none)
 unfolding begin_statement block_begun block_ended acted
 begin_whole old begun now after body e inside t none head words needed first written last around nothing counted =
-    let whole : Environment → Taken → ℕ → Code = λ i s w. old ++ (act_code head.line ++ (move a0 frame_register ∷ (frame_begun w head.level 0 false ++ (entered_without_texts 1 head.line ++ (variables_code i head.line ++ (body i s ++ (block_left 0 ++ frame_ended w))))))) in
+    let whole : Environment → Taken → ℕ → Code = λ i s w. old ++ (act_code head.line ++ (move a0 frame_register ∷ (frame_begun w head.level 0 None ++ (entered_without_texts 1 head.line ++ (variables_code i head.line ++ (body i s ++ (block_left 0 ++ frame_ended w))))))) in
     last
     ∙ ap (λ x. x ++ (block_left 0 ++ frame_ended words)) (written ∙ ap (λ x. x ++ body inside t) first)
-    ∙ regroup_begin old (act_code head.line) (frame_begun words head.level 0 false) (entered_without_texts 1 head.line) (variables_code inside head.line) (body inside t) (block_left 0 ++ frame_ended words) (move a0 frame_register)
+    ∙ regroup_begin old (act_code head.line) (frame_begun words head.level 0 None) (entered_without_texts 1 head.line) (variables_code inside head.line) (body inside t) (block_left 0 ++ frame_ended words) (move a0 frame_register)
     ∙ ap (λ i. whole i t words) around
     ∙ ap (λ s. whole (begin_environment head e) s words) nothing
     ∙ ap (λ w. whole (begin_environment head e) none w) counted
@@ -201,32 +201,33 @@ regroup_told o a s u x y j =
     ∙ ap (λ z. o ++ z) (append_assoc (a ++ (x ∷ y ∷ s)) (j ∷ []) u ∙ append_assoc a (x ∷ y ∷ s) (j ∷ u))
 
 -- the code of a unit in the environment of its statements
-abbrev unit_inside : Environment → Y.BlockHead → (words : ℕ) → (body : Code) → Code
-unit_inside inside head words body =
-    frame_begun words head.level 0 true
+abbrev unit_inside : Environment → Y.BlockHead → (words held : ℕ) → (body : Code) → Code
+unit_inside inside head words held body =
+    frame_begun words head.level 0 (Some held)
     ++ (entered_without_texts 2 head.line
     ++ (unit_variables inside head head.kind
-    ++ (act_code head.line ++ (body ++ (unit_mark head head.kind ++ unit_left words)))))
+    ++ (act_code head.line ++ (body ++ (unit_mark head head.kind ++ unit_left words held)))))
 
-unit_is : (inside : Environment) (head : Y.BlockHead) (words : ℕ) (body : Code) → (unit_begun inside head words ++ body) ++ unit_ended head words ≡ unit_inside inside head words body
+unit_is : (inside : Environment) (head : Y.BlockHead) (words held : ℕ) (body : Code) → (unit_begun inside head words held ++ body) ++ unit_ended head words held ≡ unit_inside inside head words held body
 unfolding unit_begun unit_ended unit_gone held_back acted
-unit_is inside head words body =
-    regroup_unit (frame_begun words head.level 0 true) (entered_without_texts 2 head.line) (unit_variables inside head head.kind) (act_code head.line) body (unit_mark head head.kind) (unit_left words)
+unit_is inside head words held body =
+    regroup_unit (frame_begun words head.level 0 (Some held)) (entered_without_texts 2 head.line) (unit_variables inside head head.kind) (act_code head.line) body (unit_mark head head.kind) (unit_left words held)
 
-pub unit_whole : (old told begun now ended after : Code) (body : Environment → Taken → Code) (p : Place) (e inside : Environment) (t none : Taken) (c : Condition) (head : Y.BlockHead) (words needed line : ℕ)
-    → ComesTo told p (λ n. old ++ unit_announced c line n) → begun ≡ told ++ unit_begun inside head words → now ≡ begun ++ body inside t → ended ≡ now ++ unit_ended head words → after ≡ jumped_over ended p
-    → inside ≡ unit_environment head e → t ≡ none → words ≡ needed
-    → after ≡ old ++ unit_statement e c head needed (body (unit_environment head e) none) line
+pub unit_whole : (old told begun now ended after : Code) (body : Environment → Taken → Code) (p : Place) (e inside : Environment) (t none : Taken) (c : Condition) (head : Y.BlockHead) (words needed held saved line : ℕ)
+    → ComesTo told p (λ n. old ++ unit_announced c line n) → begun ≡ told ++ unit_begun inside head words held → now ≡ begun ++ body inside t → ended ≡ now ++ unit_ended head words held → after ≡ jumped_over ended p
+    → inside ≡ unit_environment head e → t ≡ none → words ≡ needed → held ≡ saved
+    → after ≡ old ++ unit_statement e c head needed saved (body (unit_environment head e) none) line
 unfolding unit_statement unit_told acted
-unit_whole old told begun now ended after body p e inside t none c head words needed line h first written last jumped around nothing counted =
-    let inner : Code = (unit_begun inside head words ++ body inside t) ++ unit_ended head words in
+unit_whole old told begun now ended after body p e inside t none c head words needed held saved line h first written last jumped around nothing counted kept =
+    let inner : Code = (unit_begun inside head words held ++ body inside t) ++ unit_ended head words held in
     let whole : Code → Code = λ u. old ++ (act_code line ++ (OffsetAhead a1 5 ∷ condition_given c ∷ (service 28 ++ (JumpAhead (size_of u) ∷ u)))) in
-    let grown : ended ≡ told ++ inner = last ∙ ap (λ x. x ++ unit_ended head words) (written ∙ ap (λ x. x ++ body inside t) first ∙ append_assoc told (unit_begun inside head words) (body inside t)) ∙ append_assoc told (unit_begun inside head words ++ body inside t) (unit_ended head words) in
+    let grown : ended ≡ told ++ inner = last ∙ ap (λ x. x ++ unit_ended head words held) (written ∙ ap (λ x. x ++ body inside t) first ∙ append_assoc told (unit_begun inside head words held) (body inside t)) ∙ append_assoc told (unit_begun inside head words held ++ body inside t) (unit_ended head words held) in
     jumped
     ∙ ap (λ x. jumped_over x p) grown
     ∙ over told p _ inner h
     ∙ regroup_told old (act_code line) (service 28) inner (OffsetAhead a1 5) (condition_given c) (JumpAhead (size_of inner))
-    ∙ ap whole (unit_is inside head words (body inside t))
-    ∙ ap (λ i. whole (unit_inside i head words (body i t))) around
-    ∙ ap (λ s. whole (unit_inside (unit_environment head e) head words (body (unit_environment head e) s))) nothing
-    ∙ ap (λ w. whole (unit_inside (unit_environment head e) head w (body (unit_environment head e) none))) counted
+    ∙ ap whole (unit_is inside head words held (body inside t))
+    ∙ ap (λ i. whole (unit_inside i head words held (body i t))) around
+    ∙ ap (λ s. whole (unit_inside (unit_environment head e) head words held (body (unit_environment head e) s))) nothing
+    ∙ ap (λ w. whole (unit_inside (unit_environment head e) head w held (body (unit_environment head e) none))) counted
+    ∙ ap (λ r. whole (unit_inside (unit_environment head e) head needed r (body (unit_environment head e) none))) kept

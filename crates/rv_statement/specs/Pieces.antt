@@ -164,7 +164,7 @@ unfoldable pub block_begun : Environment → (level : ℕ) → (words line : ℕ
 block_begun e level words line =
     acted line
     ++ (move a0 frame_register
-    ∷ (frame_begun words level 0 false ++ (entered_without_texts 1 line ++ variables_code e line)))
+    ∷ (frame_begun words level 0 None ++ (entered_without_texts 1 line ++ variables_code e line)))
 
 unfoldable pub block_ended : (words : ℕ) → Code
 block_ended words = block_left 0 ++ frame_ended words
@@ -176,22 +176,22 @@ unit_told c line = acted line ++ (OffsetAhead a1 5 ∷ condition_given c ∷ ser
 abbrev pub unit_announced : Condition → (line behind : ℕ) → Code
 unit_announced c line behind = unit_told c line ++ JumpAhead behind ∷ []
 
-unfoldable pub unit_begun : Environment → Y.BlockHead → (words : ℕ) → Code
-unit_begun e head words =
-    frame_begun words head.level 0 true
+unfoldable pub unit_begun : Environment → Y.BlockHead → (words held : ℕ) → Code
+unit_begun e head words held =
+    frame_begun words head.level 0 (Some held)
     ++ (entered_without_texts 2 head.line ++ (unit_variables e head head.kind ++ acted head.line))
 
-unfoldable pub held_back : Code
-held_back = registers_restored 0 7
+unfoldable pub held_back : (held : ℕ) → Code
+held_back held = registers_restored 0 held
 
-unfoldable pub unit_gone : (words : ℕ) → Code
-unit_gone words =
+unfoldable pub unit_gone : (words held : ℕ) → Code
+unit_gone words held =
     service 31
-    ++ (held_back
+    ++ (held_back held
     ++ (frame_ended words ++ (BaseIn u0 ∷ add u0 u0 a0 ∷ Plain (I.JumpRegister zero_register u0 (pos 0)) ∷ [])))
 
-unfoldable pub unit_ended : Y.BlockHead → (words : ℕ) → Code
-unit_ended head words = unit_mark head head.kind ++ unit_gone words
+unfoldable pub unit_ended : Y.BlockHead → (words held : ℕ) → Code
+unit_ended head words held = unit_mark head head.kind ++ unit_gone words held
 
 -- ---- statements that hold others, by the code of these
 
@@ -216,8 +216,8 @@ count_statement e t counter start limit step condition body line =
 unfoldable pub begin_statement : Environment → Y.BlockHead → (words : ℕ) → (body : Code) → Code
 begin_statement e head words body = act_code head.line ++ begin_code e head words body
 
-unfoldable pub unit_statement : Environment → Condition → Y.BlockHead → (words : ℕ) → (body : Code) → (line : ℕ) → Code
-unit_statement e c head words body line = act_code line ++ unit_established c (unit_code e head words body)
+unfoldable pub unit_statement : Environment → Condition → Y.BlockHead → (words held : ℕ) → (body : Code) → (line : ℕ) → Code
+unit_statement e c head words held body line = act_code line ++ unit_established c (unit_code e head words held body)
 
 -- DO, by what it says of its turns
 unfoldable pub turns_statement : Environment → Taken → Turns → Y.Stmts → (line : ℕ) → Code

@@ -16,6 +16,7 @@ use crate::enclosing::{
     unit_ended,
 };
 use crate::goto::marked;
+use crate::held::held_with;
 use crate::single::{
     acted, aggregate_statement, allocate_statement, area_statement, assign_statement,
     call_statement, elements_statement, emptied_statement, free_statement, get_statement,
@@ -349,16 +350,17 @@ fn unit_code(
     body: &Stmts,
     line: u32,
 ) -> Result<(), AllocError>
-    ensures { OnOk result (code.new ≡ code.old ++ unit_statement (environment_of environment.now) condition (block_head_of head) (form.unit_words (environment_of environment.now) (block_head_of head) (block_head_of head).kind (form.stmts_words (stmts_of body.now))) (form.stmts_code (form.unit_environment (block_head_of head) (environment_of environment.now)) environments.none_taken (stmts_of body.now)) line) }
+    ensures { OnOk result (code.new ≡ code.old ++ unit_statement (environment_of environment.now) condition (block_head_of head) (form.unit_words (environment_of environment.now) (block_head_of head) (block_head_of head).kind (form.stmts_words (stmts_of body.now))) (form.unit_held (environment_of environment.now) (block_head_of head) (block_head_of head).kind (stmts_of body.now)) (form.stmts_code (form.unit_environment (block_head_of head) (environment_of environment.now)) environments.none_taken (stmts_of body.now)) line) }
 {
     let words = unit_words(environment, head, body)?;
+    let held = held_with(environment, words, body)?;
     let inside = environment
         .in_frame(head.number, head.level)
         .owned_by(owner_of_unit(head));
     let end = unit_announced(code, condition, line)?;
-    unit_begun(alloc, code, &inside, head, words)?;
+    unit_begun(alloc, code, &inside, head, words, held)?;
     stmts_code(alloc, code, &inside, none_taken(), body)?;
-    unit_ended(code, head, words)?;
+    unit_ended(code, head, words, held)?;
     code.jump_over(end);
     Ok(())
 }

@@ -5,7 +5,7 @@ use Rattle.pli_typing.specs.TypedView.{bit_of, number_of, reference_of, stored_o
 use Rattle.pli_typing.specs.TypedStatementView.{block_head_of, counter_of, stmt_of, stmts_of}
 use Rattle.pli_coding.specs.Assembly.{Code}
 use Rattle.pli_coding.specs.Environments.{Environment, Owner, none_taken, owned_by}
-use Rattle.pli_coding.specs.Statements.{block_words, marked, owner_of_unit, stmt_code, stmts_code, stmts_words, unit_words}
+use Rattle.pli_coding.specs.Statements.{block_words, marked, owner_of_unit, stmt_code, stmts_code, stmts_words, held_with, unit_held, unit_words}
 use Rattle.rv_assembly.specs.Places.{IsPlace}
 use Rattle.rv_address.specs.Around.{environment_of, taken_of}
 use Rattle.rv_statement.proofs.Walks.{list-End, list-More}
@@ -74,8 +74,9 @@ unit_code-returns t c =
     let head = block_head_of c.args.head in
     let framed = environment_of c.in_frame.result in
     let around = c.owned_by-inside.ensures ∙ ap (λ (o : Owner). owned_by o framed) c.owner_of_unit.ensures ∙ ap (λ (i : Environment). owned_by (owner_of_unit head head.kind) i) c.in_frame.ensures in
-    unit_whole c.args.code.now c.unit_announced.new.code c.unit_begun.new.code c.stmts_code.new.code c.unit_ended.new.code c.jump_over.new.self (λ i s. stmts_code i s (stmts_of c.args.body.now)) c.in_ok-end.end e (environment_of c.owned_by-inside.result) (taken_of c.none_taken.result) none_taken c.args.condition head c.in_ok-words.words (unit_words e head head.kind (stmts_words (stmts_of c.args.body.now))) c.args.line
+    unit_whole c.args.code.now c.unit_announced.new.code c.unit_begun.new.code c.stmts_code.new.code c.unit_ended.new.code c.jump_over.new.self (λ i s. stmts_code i s (stmts_of c.args.body.now)) c.in_ok-end.end e (environment_of c.owned_by-inside.result) (taken_of c.none_taken.result) none_taken c.args.condition head c.in_ok-words.words (unit_words e head head.kind (stmts_words (stmts_of c.args.body.now))) c.in_ok-held.held (unit_held e head head.kind (stmts_of c.args.body.now)) c.args.line
     c.in_ok-end.ensures c.in_ok-unit_begun.ensures c.in_ok-stmts_code.ensures c.in_ok-unit_ended.ensures c.jump_over.ensures around c.none_taken.ensures c.in_ok-words.ensures
+    (c.in_ok-held.ensures ∙ ap (λ n. held_with e.program n (stmts_of c.args.body.now)) c.in_ok-words.ensures)
 
 pub stmts_code-returns-in-End : goal.stmts_code-returns-in-End
 stmts_code-returns-in-End t c =
