@@ -1,5 +1,5 @@
 -- The code of statements, with the blocks that stand among them. Each begins with its act, which sets its line.
-use Rattle.std.specs.Prelude.{ℕ, suc, ◌+◌, ◌==◌, max, min, ℤ, pos, true, false, List, [], ◌∷◌, ◌++◌, map, Option, Some, None, if◌then◌else◌}
+use Rattle.std.specs.Prelude.{ℕ, suc, ◌+◌, ◌==◌, max, min, ℤ, pos, List, [], ◌∷◌, ◌++◌, map, Option, Some, None, if◌then◌else◌}
 use Rattle.rv_meaning.specs.declared.instr.Instr.TheVariants as I
 use Rattle.rv_meaning.specs.declared.instr.RegisterOp.TheVariants as Op
 use Rattle.rv_meaning.specs.declared.instr.BranchTest.TheVariants as Test

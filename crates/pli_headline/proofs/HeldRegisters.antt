@@ -1,5 +1,5 @@
 -- How many registers a frame saves, and the size of the code that does.
-use Rattle.std.proofs.Common.{◌≡◌, ℕ, zero, suc, ◌+◌, ◌≤◌, refl, arith}
+use Rattle.std.proofs.Common.{◌≡◌, ℕ, zero, suc, ◌≤◌, refl, arith}
 use Rattle.pli_typing.specs.TypedTree as Y
 use Rattle.pli_coding.specs.Registers.{u0}
 use Rattle.pli_coding.specs.Assembly.{size_of}

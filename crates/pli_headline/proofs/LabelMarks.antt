@@ -7,10 +7,10 @@ use Rattle.pli_typing.specs.TypedTree as Y
 use Rattle.pli_meaning.specs.Control.{Label}
 use Rattle.pli_meaning.specs.DeclaredShapes.{variables_of_block, procedure_numbered, head_of}
 use Rattle.pli_meaning.specs.Executing.{labels_in}
-use Rattle.pli_coding.specs.Registers.{frame_register, stack_register, a0, a1, a2, a3, a4, u0, u5}
+use Rattle.pli_coding.specs.Registers.{frame_register, stack_register, a0, a1, a2, a3, a4, u5}
 use Rattle.pli_coding.specs.Assembly.{Datum, Symbol, ProcedureEntry, ReturnPlace, LabelPlace, RaiseCondition, RaiseError, ErrorEnd}
 use Rattle.pli_coding.specs.Instructions.{move, small, number, plus, load_word, service}
-use Rattle.pli_coding.specs.Frames.{own_offset, temporary_bytes, name_bytes, frame_bytes, last_place, automatic_place, variable_place, parameters_in, first_variable, fixed_size, frame_end, parameters_of_block}
+use Rattle.pli_coding.specs.Frames.{own_offset, name_bytes, frame_bytes, last_place, automatic_place, variable_place, parameters_in, first_variable, fixed_size, frame_end, parameters_of_block}
 use Rattle.pli_coding.specs.Environments.{BlockPlace, Environment, none_taken, last_of_level}
 use Rattle.pli_coding.specs.Locating.{own_place, table_number}
 use Rattle.pli_coding.specs.StaticForms.{initial_datum}
@@ -30,7 +30,6 @@ use Rattle.pli_headline.proofs.MainProcedure.{IsAlone, main_head, main_environme
 use Rattle.pli_headline.proofs.Scalars.{by_plain, character, varying}
 use Rattle.pli_headline.proofs.Variables.{outermost, HasTypes}
 use Rattle.pli_headline.proofs.Gotos.{LabelsStand}
-use Rattle.pli_headline.proofs.ProgramSizes.{frame_filled}
 use Rattle.pli_headline.proofs.SymbolsMarked.{symbols_marked, Marks, both_mark, behind, constant_none, load_none, plus_none, act_none}
 use Rattle.pli_headline.proofs.InnerLevels.{IsAmong, InOrder, among_all, among_with, in_order, last_is}
 use Rattle.pli_headline.proofs.Stands.{Stand, all_stands, labels_are, ends_apart, own_units, called_units}

@@ -1,5 +1,5 @@
 -- The code of a program that is proved is no longer than 40 words for each node of its statements and for each variable, and 100.
-use Rattle.std.proofs.Common.{◌≡◌, ℕ, suc, ◌+◌, ◌*◌, ◌≤◌, List, [], ◌∷◌, ◌++◌, length, None, true, refl, sym, ap, ◌∙◌, subst, arith, Some}
+use Rattle.std.proofs.Common.{◌≡◌, ℕ, suc, ◌+◌, ◌*◌, ◌≤◌, List, [], ◌∷◌, ◌++◌, length, None, refl, sym, ap, ◌∙◌, subst, arith, Some}
 use Rattle.std.specs.Prelude.{ℤ, min, pos, neg_ℤ}
 use Rattle.rv_meaning.specs.declared.instr.Register.{Register}
 use Rattle.rv_meaning.specs.declared.instr.Instr.TheVariants as I

@@ -1,5 +1,5 @@
 -- Pieces of the code of statements, each under a name of its own: whoever walks over the statements sees the names alone.
-use Rattle.std.specs.Prelude.{ℕ, ◌==◌, pos, true, false, List, [], ◌∷◌, ◌++◌, Option, Some, None, if◌then◌else◌}
+use Rattle.std.specs.Prelude.{ℕ, ◌==◌, pos, List, [], ◌∷◌, ◌++◌, Option, Some, None, if◌then◌else◌}
 use Rattle.rv_meaning.specs.declared.instr.BranchTest.TheVariants as Test
 use Rattle.rv_meaning.specs.declared.instr.Instr.TheVariants as I
 use Rattle.rv_meaning.specs.declared.instr.RegisterOp.TheVariants as Op
