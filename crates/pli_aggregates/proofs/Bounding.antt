@@ -1,5 +1,5 @@
 -- Bounds that are the same, and bounds of elements that lie among others.
-use Rattle.std.proofs.Common.{◌≡◌, ◌≢◌, suc, ℤ, true, false, List, [], ◌∷◌, length, map, refl, sym, ap, ap₂, subst, arith}
+use Rattle.std.proofs.Common.{◌≡◌, ◌≢◌, ◌<◌, ℕ, suc, ℤ, Bool, true, false, List, [], ◌∷◌, length, map, refl, sym, ap, ap₂, subst, ◌∙◌, arith}
 use Rattle.std.specs.Prelude.{◌&&◌, int_le}
 use Rattle.pli_typing.specs.Signatures.{Bounds}
 use Rattle.pli_types.specs.View.{pair_of}
@@ -32,10 +32,10 @@ uneven_bounds (x ∷ xs) (y ∷ ys) h = sym (not_second (same_int x.lower y.lowe
 
 -- ---- elements that lie among others
 
-pub alike : (all some more others : List Held) (had first : Held) → all ≡ had ∷ more → some ≡ first ∷ others → same_int (pair_of had).lower (pair_of first).lower ≡ true → same_bounds (map pair_of more) (map pair_of others) ≡ true → Alike (map pair_of all) (map pair_of some)
+pub alike : (all some more others : List Held) (had first : Held) → all ≡ had ∷ more → some ≡ first ∷ others → (pair_of had).lower ≡ (pair_of first).lower → true ≡ same_bounds (map pair_of more) (map pair_of others) → Alike (map pair_of all) (map pair_of some)
 alike all some more others had first e f l s =
     subst (λ xs. Alike (map pair_of xs) (map pair_of some)) (sym e)
-    (subst (λ ys. Alike (map pair_of (had ∷ more)) (map pair_of ys)) (sym f) (same_number (pair_of had).lower (pair_of first).lower l, equal_bounds (map pair_of more) (map pair_of others) s))
+    (subst (λ ys. Alike (map pair_of (had ∷ more)) (map pair_of ys)) (sym f) (l, equal_bounds (map pair_of more) (map pair_of others) (sym s)))
 
 pub reaches : (all some more others : List Held) (had first : Held) → all ≡ had ∷ more → some ≡ first ∷ others → int_le (pair_of first).upper (pair_of had).upper ≡ true → Reaches (map pair_of all) (map pair_of some)
 reaches all some more others had first e f u =

@@ -1,8 +1,9 @@
 -- Elements behind subscripts that are given, of a leaf in force and of the same leaf as it was allocated: which of them are there, and
 -- that they stand one behind the other.
-use Rattle.std.proofs.Common.{◌≡◌, ℕ, zero, suc, ◌+◌, ◌-◌, ◌*◌, ◌/◌, ◌%◌, ◌<◌, ◌≤◌, ℤ, pos, ◌+ℤ◌, ◌-ℤ◌, Bool, true, false, List, [], ◌∷◌, ◌++◌, length, map, Some, refl, sym, ap, ap₂, ◌∙◌, arith, append_assoc, append-nil}
+use Rattle.std.proofs.Common.{◌≡◌, ℕ, zero, suc, ◌+◌, ◌-◌, ◌*◌, ◌/◌, ◌%◌, ◌<◌, ◌≤◌, ℤ, pos, negsuc, ◌+ℤ◌, ◌-ℤ◌, Bool, true, false, List, [], ◌∷◌, ◌++◌, length, map, Option, Some, None, refl, sym, ap, ap₂, ◌∙◌, arith, append_assoc, append-nil}
 use Rattle.std.specs.Prelude.{◌&&◌, int_le, slice_get}
 use Rattle.std.specs.List.{flat_map, list_all, range_with_len}
+use Rattle.std.proofs.lemmas.Bool.Decides.{nat_tests}
 use Rattle.std.proofs.lemmas.Int.{ints}
 use Rattle.std.proofs.lemmas.List.{length-append}
 use Rattle.std.proofs.Math.Nat.{mul-div_cancel, mod-eq_of_lt}
@@ -12,7 +13,7 @@ use Rattle.pli_meaning.specs.StreamOrder.{numbers_from, subscripts_of, with_more
 use Rattle.pli_serving.specs.Values.{all_subscripts}
 use Rattle.pli_values.proofs.Rows.{digits, subscripts_there}
 use Rattle.pli_aggregates.specs.Runs.{Alike, Reaches, standing}
-use Rattle.pli_aggregates.proofs.Lists.{both, first_of_both, map_alike, not_first, not_second, second_of_both}
+use Rattle.pli_aggregates.proofs.Lists.{both, first_of_both, map_alike, map_map, not_first, not_second, second_of_both}
 use Rattle.pli_aggregates.proofs.Places.{rows}
 
 -- ---- bounds in two parts

@@ -26,13 +26,12 @@ use Rattle.pli_answering.specs.declared.reply.Reply.{Reply}
 use Rattle.pli_answering.specs.declared.reply.Refusal.{Refusal}
 use Rattle.pli_signatures.specs.Whole.{leaf_in}
 use Rattle.pli_aggregates.specs.declared.record.Aggregate.{Aggregate as AggregateHeld}
-use Rattle.pli_aggregates.specs.Elements.{stands_in, AreWithin}
-use Rattle.pli_aggregates.specs.Standing.{CountsAs, HasElements, IsWritable, StandAt, count_left}
+use Rattle.pli_aggregates.specs.Elements.{stands_in, AreWithin, CountsAs, IsWritable}
 use Rattle.pli_aggregates.specs.Runs.{standing}
-use Rattle.pli_aggregates.specs.declared.runs.Run.{Run}
+use Rattle.pli_aggregates.specs.declared.elements.Run.{Run}
 use Rattle.pli_signatures.specs.View.{leaf_in_force}
 use Rattle.pli_aggregates.specs.declared.part.PlacedLeaf.{PlacedLeaf}
-use Rattle.pli_aggregates.specs.Parts.{has_all, subscripts_left, IsLeafOf, IsPlaced, IsReady}
+use Rattle.pli_aggregates.specs.Parts.{count_left, has_all, subscripts_left, HasElements, IsLeafOf, IsPlaced, IsReady, StandAt}
 use Rattle.pli_aggregates.specs.Records.{aggregate_shown, found_in, generation_named, record_shown}
 use Rattle.pli_aggregates.specs.Scalars.{scalar_into, scalar_of}
 use Rattle.pli_aggregates.specs.Storing.{written_at}
@@ -212,7 +211,7 @@ within_up bytes end most (a ∷ as') h w = let first = w.0 in (omega (arith, h, 
 pub ready_within : (p : PlacedLeaf) (kind : LeafKind) (end most : ℕ) (o : Option Run) → p.place.bytes ≡ leaf_bytes kind → p.place.end ≡ end → end ≤ most → HasElements p [] (Ok o) → MatchOption o ⊤ (λ (run : Run). IsWritable kind most run)
 ready_within p kind end most None b e h s = tt
 ready_within p kind end most (Some run) b e h s = λ some.
-    let known : run.count ≡ count_left (leaf_in_force p.in_force) [] = s.exact (subst (λ n. 0 < n) (sym b) some) in
+    let known : run.count ≡ count_left (leaf_in_force p.in_force) [] = s.count (subst (λ n. 0 < n) (sym b) some) in
     within_up (leaf_bytes kind) end most (standing run.at run.step run.count) h
     (subst (λ n. AreWithin (leaf_bytes kind) end (standing run.at run.step n)) (sym known)
     (subst (λ n. AreWithin n end (standing run.at run.step (count_left (leaf_in_force p.in_force) []))) b
@@ -220,7 +219,7 @@ ready_within p kind end most (Some run) b e h s = λ some.
 
 pub ready_count : (p : PlacedLeaf) (kind : LeafKind) (o : Option Run) → p.place.bytes ≡ leaf_bytes kind → HasElements p [] (Ok o) → MatchOption o ⊤ (λ (run : Run). CountsAs kind run (count_left (leaf_in_force p.in_force) []))
 ready_count p kind None b s = tt
-ready_count p kind (Some run) b s = λ some. s.exact (subst (λ n. 0 < n) (sym b) some)
+ready_count p kind (Some run) b s = λ some. s.count (subst (λ n. 0 < n) (sym b) some)
 
 -- ---- by the signature's number
 

@@ -1,36 +1,30 @@
 -- Elements as a run of addresses.
-use Rattle.std.proofs.Common.{◌≡◌, ℕ, zero, suc, ◌+◌, ◌-◌, ◌*◌, ◌^◌, ◌<◌, ◌≤◌, ℤ, Bool, true, false, List, [], ◌∷◌, ◌++◌, length, map, take, drop, get_or, Option, Some, None, Result, Ok, Err, refl, sym, ap, ap₂, subst, ◌∙◌, arith, mul-le-mul_left}
-use Rattle.std.specs.Prelude.{◌&&◌, if◌then◌else◌}
+use Rattle.std.proofs.Common.{◌≡◌, ◌≢◌, ℕ, zero, suc, ◌+◌, ◌-◌, ◌*◌, ◌^◌, ◌<◌, ◌≤◌, ◌⊎◌, inl, inr, min, ℤ, Bool, true, false, List, [], ◌∷◌, ◌++◌, length, map, take, drop, get_or, Option, Some, None, refl, sym, ap, ap₂, subst, ◌∙◌, arith, mul-le-mul_left}
+use Rattle.std.specs.Prelude.{◌&&◌}
 use Rattle.std.specs.List.{list_all, range_with_len}
-use Rattle.std.proofs.lemmas.List.{drop_all, drop_more, drop-map, length-map, length-take-le, map-append, take-append-drop}
+use Rattle.std.proofs.lemmas.List.{drop_all, drop_more, drop_min, drop-map}
 use Rattle.std.proofs.lemmas.List.FromFn.{length-map-range_with_len}
 use Rattle.pli_typing.specs.Signatures.{Bounds, Leaf, LeafKind, Fixed, Character, Varying, Bit, Pointer, Offset, Area, capped, element_count, leaf_bytes}
 use Rattle.pli_types.specs.View.{pair_of}
 use Rattle.pli_types.specs.declared.signature.Bounds.{Bounds as Held}
-use Rattle.pli_meaning.specs.BasicValues.{BasicValue}
+use Rattle.pli_meaning.specs.BasicValues.{BasicValue, BasicNumber, BasicText, BasicBit, BasicPointer, BasicOffset}
 use Rattle.pli_meaning.specs.Contents.{element_place, is_within}
 use Rattle.pli_meaning.specs.Streaming.{kind_holds}
 use Rattle.pli_serving.specs.Bytes.{with_bytes}
 use Rattle.pli_serving.specs.Stored.{kept_bytes}
 use Rattle.pli_serving.specs.Values.{all_subscripts, element_size}
-use Rattle.pli_signatures.proofs.Capping.{capped_times}
 use Rattle.pli_signatures.specs.Elements.{place_within}
-use Rattle.pli_signatures.specs.View.{leaf_in_force}
+use Rattle.pli_signatures.specs.View.{kind_of, leaf_in_force}
 use Rattle.pli_aggregates.specs.declared.elements.LeafPlace.{LeafPlace}
-use Rattle.pli_aggregates.specs.declared.runs.Run.{Run}
+use Rattle.pli_aggregates.specs.declared.elements.Run.{Run}
 use Rattle.pli_aggregates.specs.declared.part.PlacedLeaf.{PlacedLeaf}
-use Rattle.pli_aggregates.specs.Elements.{AreWithin, are_there, stands_in}
-use Rattle.pli_aggregates.specs.Parts.{has_all, subscripts_left}
-use Rattle.pli_aggregates.specs.Standing.{AreElements, AreStanding, HasElements, IsRunFrom, StandAt}
-use Rattle.pli_answering.specs.declared.reply.Refusal.{Refusal}
-use Rattle.pli_answering.specs.declared.reply.Refusal.TheVariants as F
+use Rattle.pli_aggregates.specs.Elements.{AreStanding, AreWithin, IsRunFrom, are_there, stands_in}
+use Rattle.pli_aggregates.specs.Parts.{StandAt, has_all, subscripts_left}
 use Rattle.pli_aggregates.specs.Runs.{Alike, IsShorter, Reaches, standing}
 use Rattle.pli_aggregates.specs.Storing.{written_at}
 use Rattle.pli_aggregates.proofs.Boxes.{alike_place, all_where, first_fails, none_fails, not_reached, place_apart, reached, run_standing, within_apart}
-use Rattle.pli_aggregates.proofs.Lists.{all_alike, both, not_first}
+use Rattle.pli_aggregates.proofs.Lists.{all_alike, both, not_first, not_second}
 use Rattle.pli_aggregates.proofs.Places.{as_many_subscripts}
-use Rattle.pli_aggregates.proofs.Stepping.{within_at}
-use Rattle.pli_values.proofs.Parts.{with_none}
 
 -- ---- addresses of a run
 
@@ -45,7 +39,7 @@ got_from at step first (suc n) (suc i) h =
     got_from at step (first + 1) n i (omega (arith, h)) ∙ ap (λ k. at + step * k) e
 
 pub got_standing : (at step n i : ℕ) → i < n → get_or (standing at step n) i 0 ≡ at + step * i
-got_standing at step n i h = let none : 0 + i ≡ i = omega arith in got_from at step 0 n i h ∙ ap (λ k. at + step * k) none
+got_standing at step n i h = got_from at step 0 n i h
 
 within_from : (bytes end at step first n : ℕ) → (0 < n → at + step * (first + n - 1) + bytes ≤ end) → AreWithin bytes end (map (λ k. at + step * k) (range_with_len first n))
 within_from bytes end at step first zero h = tt
@@ -65,6 +59,11 @@ standing_within bytes end at step n h = within_from bytes end at step 0 n (λ s.
     none : (k : ℕ) → k - 1 ≡ 0 + k - 1
     none k = omega arith
 
+pub within_at : (bytes end : ℕ) (as' : List ℕ) (i : ℕ) → AreWithin bytes end as' → i < length as' → get_or as' i 0 + bytes ≤ end
+within_at bytes end [] i w h = absurd (omega (arith, h))
+within_at bytes end (a ∷ as') zero w h = w.0
+within_at bytes end (a ∷ as') (suc i) w h = within_at bytes end as' i w.1 (omega (arith, h))
+
 pub inside_at : (bytes end at step n i : ℕ) → AreWithin bytes end (standing at step n) → i < n → at + step * i + bytes ≤ end
 inside_at bytes end at step n i w h =
     let l = length_standing at step n in
@@ -74,34 +73,19 @@ inside_at bytes end at step n i w h =
 
 -- ---- capped numbers
 
-pub exact_count : (count n step bytes at end : ℕ) → count ≡ capped n → 0 < count → end < 2 ^ 32 → bytes ≤ step → at + step * (count - 1) + bytes ≤ end
+pub exact_count : (count n step bytes at last end : ℕ) → count ≡ capped n → 0 < count → end < 2 ^ 32 → (step ≡ 0 → bytes ≡ 0) → last ≡ step * (count - 1) → last + at + bytes ≤ end
     → (at + step * (n - 1) + bytes ≤ end) × (0 < bytes → count ≡ n)
-exact_count count n zero bytes at end c some small low h =
+exact_count count n zero bytes at last end c some small none l h =
     let a : zero * (count - 1) ≡ 0 = omega arith in
     let b : zero * (n - 1) ≡ 0 = omega arith in
-    (omega (arith, h, a, b), λ s. absurd (omega (arith, low, s)))
-exact_count count n (suc step) bytes at end c some small low h =
+    (omega (arith, l, h, a, b), λ s. absurd (omega (arith, none refl, s)))
+exact_count count n (suc step) bytes at last end c some small none l h =
     let more : count - 1 ≤ suc step * (count - 1) = le_times (count - 1) step in
-    let same : count ≡ n = omega (arith, c, more, h, small) in
-    (subst (λ k. at + suc step * (k - 1) + bytes ≤ end) same h, λ s. same)
+    let same : count ≡ n = omega (arith, c, more, l, h, small) in
+    (subst (λ k. at + suc step * (k - 1) + bytes ≤ end) same (omega (arith, l, h)), λ s. same)
   where
     le_times : (a k : ℕ) → a ≤ suc k * a
     le_times a k = let e : suc k * a ≡ a + k * a = omega arith in omega (arith, e)
-
-pub capped_both : (a b : ℕ) → capped (capped a * capped b) ≡ capped (a * b)
-capped_both a b =
-    plain (capped a) (capped b)
-    ∙ capped_times a (capped b) 0
-    ∙ ap capped (turned a (capped b))
-    ∙ capped_times b a 0
-    ∙ ap capped (turned b a)
-    ∙ sym (plain a b)
-  where
-    plain : (a b : ℕ) → capped (a * b) ≡ capped (a * b + 0)
-    plain a b = omega arith
-
-    turned : (a b : ℕ) → a * b + 0 ≡ b * a + 0
-    turned a b = omega arith
 
 -- ---- elements behind subscripts that are given, in the bounds that were allocated
 
@@ -142,23 +126,9 @@ standing_so l pre own left given r e n h a reach run =
       stand =
           ap₂ (λ x y. standing x y (element_count left)) run.at run.step
           ∙ sym (all_stand k pre own left given l.base e n a);
-      within = standing_within l.bytes l.end r.at r.step (element_count left) (λ some. run.inside.within);
-      exact = run.inside.exact;
+      within = standing_within l.bytes l.end r.at r.step (element_count left) (λ some. run.within);
+      count = run.count;
     }
-
--- the bounds of a leaf in two parts
-pub split_bounds : (items bounds front back : List Held) (n : ℕ) → bounds ≡ items → front ≡ take n bounds → back ≡ drop n bounds → map pair_of items ≡ map pair_of front ++ map pair_of back
-split_bounds items bounds front back n e f b =
-    ap (map pair_of) (sym e ∙ sym (take-append-drop n bounds))
-    ∙ map-append pair_of (take n bounds) (drop n bounds)
-    ∙ ap₂ (λ x y. map pair_of x ++ map pair_of y) (sym f) (sym b)
-
-pub split_length : (bounds front : List Held) (n : ℕ) → front ≡ take n bounds → n ≤ length bounds → n ≡ length (map pair_of front)
-split_length bounds front n f h =
-    let l = length-take-le n bounds h in
-    let m = length-map front pair_of in
-    let k : length front ≡ length (take n bounds) = ap length f in
-    omega (arith, l, m, k)
 
 -- ---- the place of the subscripts given
 
@@ -189,6 +159,9 @@ left_of p given left bounds e h =
     ap (map pair_of) (e ∙ ap (drop (length given)) h)
     ∙ sym (drop-map pair_of (length given) p.in_force.bounds.items)
 
+pub shorter : (n : ℕ) (bounds : List Held) → drop (min n (length bounds)) bounds ≡ drop n bounds
+shorter n bounds = drop_min n bounds
+
 abbrev pub holds : PlacedLeaf → Bool
 holds p = kind_holds (leaf_in_force p.place.allocated).kind (leaf_in_force p.in_force).kind
 
@@ -202,7 +175,7 @@ none_left p given r none z =
       there = none_fails left (λ is. holds p && is_within had.bounds (given ++ is)) none;
       stand = ap (standing r.at r.step) none ∙ sym (ap (map (λ is. stands_in p.place.base had (given ++ is))) empty);
       within = subst (λ n. AreWithin p.place.bytes p.place.end (standing r.at r.step n)) (sym none) tt;
-      exact = λ some. z ∙ sym none;
+      count = λ some. z ∙ sym none;
     }
   where
     no_items : {X : Type 0} (xs : List X) → length xs ≡ 0 → xs ≡ []
@@ -230,14 +203,8 @@ stand_full p given left r e h s =
       there = kind_holds_all (holds p) (λ is. is_within had.bounds (given ++ is)) (subscripts_left (leaf_in_force p.in_force) given) h ∙ t.there;
       stand = t.stand;
       within = t.within;
-      exact = t.exact;
+      count = t.count;
     }
-
-pub run_so : (p : PlacedLeaf) (given : List ℤ) (left : List Bounds) (r : Result (Option Run) Refusal) → left ≡ drop (length given) (leaf_in_force p.in_force).bounds → holds p ≡ true → AreElements p.place given left r → HasElements p given r
-run_so p given left (Ok None) e h a = not_full p given left e h a
-run_so p given left (Ok (Some run)) e h a = stand_full p given left run e h a
-run_so p given left (Err F.Memory) e h a = tt
-run_so p given left (Err F.Bad) e h a = a
 
 -- ---- values that are written one after the other
 
@@ -253,6 +220,14 @@ all_written bytes at step count n m h =
 
 -- ---- elements without bytes
 
+pub nothing_written : (m : List ℕ) (at : ℕ) → with_bytes [] at m ≡ m
+nothing_written [] zero = refl
+nothing_written [] (suc at) = refl
+nothing_written (x ∷ m) zero = refl
+nothing_written (x ∷ m) (suc at) =
+    let e : suc at + 0 ≡ suc (at + 0) = omega arith in
+    ap (λ n. x ∷ (take at m ++ drop n (x ∷ m))) e ∙ ap (λ l. x ∷ l) (nothing_written m at)
+
 pub no_bytes : (kind : LeafKind) (v : BasicValue) → leaf_bytes kind ≡ 0 → kept_bytes kind v ≡ []
 no_bytes (Fixed p) v e = absurd (grind (arith, e))
 no_bytes (Character n) v e = none v (e)
@@ -267,7 +242,7 @@ no_bytes (Area n) v e = refl
 
 none_at : (as' m : List ℕ) → written_at [] as' m ≡ m
 none_at [] m = refl
-none_at (a ∷ as') m = ap (written_at [] as') (with_none a m) ∙ none_at as' m
+none_at (a ∷ as') m = ap (written_at [] as') (nothing_written m a) ∙ none_at as' m
 
 pub none_stored : (kind : LeafKind) (v : BasicValue) (as' m : List ℕ) → leaf_bytes kind ≡ 0 → m ≡ written_at (kept_bytes kind v) as' m
 none_stored kind v as' m e = sym (ap (λ bs. written_at bs as' m) (no_bytes kind v e) ∙ none_at as' m)

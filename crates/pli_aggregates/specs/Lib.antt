@@ -3,5 +3,4 @@ pub mod Parts
 pub mod Records
 pub mod Runs
 pub mod Scalars
-pub mod Standing
 pub mod Storing

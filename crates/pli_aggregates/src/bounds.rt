@@ -1,6 +1,6 @@
 // The bounds of a leaf as it was allocated and as it is in force.
 
-ghost use Rattle.std.specs.Prelude.{◌≡◌, int_le, map};
+ghost use Rattle.std.specs.Prelude.{◌≡◌, map};
 ghost use Rattle.pli_types.specs.View.{pair_of};
 ghost use Rattle.pli_meaning.specs.Contents as C;
 ghost use Rattle.pli_aggregates.specs.Runs as S;
@@ -14,20 +14,8 @@ fn same_pair(left: Bounds, right: Bounds) -> bool
     left.lower == right.lower && left.upper == right.upper
 }
 
-fn same_lower(left: Bounds, right: Bounds) -> bool
-    ensures { result ≡ C.same_int (pair_of left).lower (pair_of right).lower }
-{
-    left.lower == right.lower
-}
-
-fn ends_within(inner: Bounds, outer: Bounds) -> bool
-    ensures { result ≡ int_le (pair_of inner).upper (pair_of outer).upper }
-{
-    inner.upper <= outer.upper
-}
-
 /// Whether two leaves have the same bounds.
-fn same_bounds(left: &[Bounds], right: &[Bounds]) -> bool
+pub fn same_bounds(left: &[Bounds], right: &[Bounds]) -> bool
     ensures { result ≡ C.same_bounds (map pair_of left.now) (map pair_of right.now) }
 {
     if left.len() != right.len() {
@@ -66,10 +54,10 @@ pub fn compare_bounds(allocated: &[Bounds], in_force: &[Bounds]) -> Lying
     let Some((had, more)) = allocated.split_first() else {
         return Lying::Unlike;
     };
-    if !same_lower(*had, *first) || !same_bounds(more, others) {
+    if had.lower != first.lower || !same_bounds(more, others) {
         return Lying::Unlike;
     }
-    if ends_within(*first, *had) {
+    if first.upper <= had.upper {
         Lying::Within
     } else {
         Lying::Past

@@ -14,15 +14,15 @@ ghost use Rattle.pli_signatures.specs.View.{kind_of};
 ghost use Rattle.pli_storage.specs.Findings.{found_of};
 ghost use Rattle.pli_storage.specs.Held.{IsLaid};
 ghost use Rattle.pli_values.specs.View.{name_of};
+ghost use Rattle.pli_aggregates.specs.Elements.{CountsAs, IsWritable};
 ghost use Rattle.pli_aggregates.specs.Parts.{IsPlaced, IsReady};
 ghost use Rattle.pli_aggregates.specs.Records.{aggregate_shown, generation_named};
 ghost use Rattle.pli_aggregates.specs.Runs.{standing};
 ghost use Rattle.pli_aggregates.specs.Scalars.{name_into, scalar_into, scalar_of, text_into, with_all};
-ghost use Rattle.pli_aggregates.specs.Standing.{CountsAs, IsWritable};
 
+use crate::elements::Run;
 use crate::part::{PlacedLeaf, placed_leaf};
 use crate::record::{Aggregate, aggregate_at, generation_of};
-use crate::runs::Run;
 use crate::storing::store_all;
 use area_heap::keeper::AreaKeeper;
 use pli_answering::reply::{Refusal, Reply};
@@ -138,7 +138,9 @@ fn scalar_elements<K: AreaKeeper>(
     ensures { (n : ℕ) → MatchOption found ⊤ (λ run. CountsAs (kind_of kind) run n) → (c : Call) → Answers (λ c. or_bad (option_map (λ run. standing run.at run.step n) found) (λ addresses. scalar_into c first leaf value addresses (kind_of kind))) (with_all K.keeper held.now memory.old entries.old c) result (with_all K.keeper held.now memory.new entries.new c) }
 {
     match found {
-        Some(run) => set::<K>(alloc, held, entries, memory, run, kind, value, first, leaf),
+        Some(run) => set::<K>(
+            alloc, held, entries, memory, run, kind, value, first, leaf,
+        ),
         None => Err(Refusal::Bad),
     }
 }
@@ -160,7 +162,7 @@ fn scalar_placed<K: AreaKeeper>(
     ensures { (c : Call) → (a : A.Aggregate) → (f : F.Found) → IsReady (with_all K.keeper held.now memory.old entries.old c) a f leaf placed.now →
         Answers (λ c. scalar_of c first leaf value a) (with_all K.keeper held.now memory.old entries.old c) result (with_all K.keeper held.now memory.new entries.new c) }
 {
-    match placed.run(&[]) {
+    match placed.elements(&[]) {
         Ok(found) => {
             let kind = placed.in_force.kind;
             scalar_elements::<K>(

@@ -5,12 +5,11 @@ ghost use Rattle.pli_typing.specs.Signatures.{leaf_bytes};
 ghost use Rattle.pli_serving.specs.Stored.{kept_bytes};
 ghost use Rattle.pli_signatures.specs.View.{kind_of};
 ghost use Rattle.pli_values.specs.View.{value_of};
-ghost use Rattle.pli_aggregates.specs.Elements.{AreWithin};
+ghost use Rattle.pli_aggregates.specs.Elements.{AreWithin, CountsAs, IsWritable};
 ghost use Rattle.pli_aggregates.specs.Runs.{standing};
-ghost use Rattle.pli_aggregates.specs.Standing.{CountsAs, IsWritable};
 ghost use Rattle.pli_aggregates.specs.Storing.{written_at};
 
-use crate::runs::Run;
+use crate::elements::Run;
 use pli_signatures::element::ElementKind;
 use pli_values::element::{Value, put_value};
 

@@ -12,7 +12,7 @@ use Rattle.pli_aggregates.specs.Parts.{subscripts_left}
 use Rattle.pli_parts.specs.Found.{designated_from}
 use Rattle.pli_parts.specs.Leaves.{ArePartLeaves, IsPartLeaf, has_leaf, is_leaf_there}
 use Rattle.pli_parts.specs.declared.leaf.PartLeaf.{PartLeaf}
-use Rattle.pli_parts.proofs.Lists.{all_alike, all_flat, all_in, all_mapped, both, first_of_both, not_first, not_second, one_out, second_of_both}
+use Rattle.pli_aggregates.proofs.Lists.{all_alike, all_flat, all_in, all_mapped, both, first_of_both, not_first, not_second, one_out, second_of_both}
 
 pub part_has : (c : Call) (a : Aggregate) (f : Found) (first count : ℕ) (is : List ℤ)
     → has_part (designated_from c a f first count is) ≡ (nat_le (first + count) (length a.shape.signature.leaves) && list_all (λ n. has_leaf a.shape a.extent f is (first + n)) (range_with_len 0 count))

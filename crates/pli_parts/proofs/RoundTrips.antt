@@ -53,6 +53,9 @@ by_offset : (w : ℕ) (t : Bool) → (w == null_offset) ≡ t → offset_word (i
 by_offset w true e = grind (arith, nat_tests, e)
 by_offset w false e = refl
 
+pub same_offset : (w : ℕ) → offset_word (offset_of w) ≡ w
+same_offset w = by_offset w (w == null_offset) refl
+
 pub offset_again : (w : ℕ) → w < 2 ^ 32 → offset_of (load 4 (number_bytes 4 (offset_word (offset_of w))) 0) ≡ offset_of w
 offset_again w l = ap (λ k. offset_of (load 4 (number_bytes 4 k) 0)) (by_offset w (w == null_offset) refl) ∙ ap offset_of (loaded_alone 4 w (omega (arith, l)))
 

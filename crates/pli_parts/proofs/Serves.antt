@@ -24,7 +24,7 @@ use Rattle.pli_parts.specs.Taking.{have_values, leaf_taken}
 use Rattle.pli_parts.specs.declared.leaf.PartLeaf.{PartLeaf}
 use Rattle.pli_entries.specs.declared.taken.TakenLeaf.{TakenLeaf}
 use Rattle.pli_parts.specs.declared.part.PartAsked.{PartAsked}
-use Rattle.pli_parts.proofs.Lists.{map_map}
+use Rattle.pli_aggregates.proofs.Lists.{map_map}
 use Rattle.pli_parts.proofs.Puts.{all_stored, as_many_bounds, bounds_known, kinds_known}
 use Rattle.pli_parts.proofs.Takes.{all_have_values, all_readable, all_taken}
 

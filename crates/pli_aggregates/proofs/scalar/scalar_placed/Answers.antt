@@ -1,10 +1,10 @@
 use Rattle.std.proofs.Common.{[], option_map}
 use Rattle.pli_serving.specs.Outcomes.{or_bad}
 use Rattle.pli_signatures.specs.View.{kind_of, leaf_in_force}
-use Rattle.pli_aggregates.specs.Standing.{count_left}
+use Rattle.pli_aggregates.specs.Parts.{count_left}
 use Rattle.pli_aggregates.specs.Runs.{standing}
 use Rattle.pli_aggregates.specs.Scalars.{scalar_into, scalar_of, with_all}
-use Rattle.pli_aggregates.specs.declared.runs.Run.{Run}
+use Rattle.pli_aggregates.specs.declared.elements.Run.{Run}
 use Rattle.pli_aggregates.proofs.Parting.{answers_as, ready_count, ready_within, scalar_ready}
 use Rattle.pli_aggregates.proofs.scalar.scalar_placed.Goals as goal
 
