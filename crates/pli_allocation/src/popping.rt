@@ -68,6 +68,7 @@ fn pop_newest<K: AreaKeeper>(
 
 /// 17: the newest generation of a CONTROLLED variable ends, if there is one.
 #[tactic(auto, using(crate::proofs::Pops::popped_none, crate::proofs::Pops::pop_unmade))]
+#[inline(never)]
 pub fn pop<K: AreaKeeper>(
     held: &mut Held,
     memory: &mut [u8],

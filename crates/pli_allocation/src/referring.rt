@@ -150,6 +150,7 @@ fn refer_finding<K: AreaKeeper>(
 }
 
 /// 15: the extent that the REFER member of a generation tells, which is 0 without one. A member outside memory has no memory.
+#[inline(never)]
 pub fn refer<K: AreaKeeper>(
     held: &Held,
     alloc: Global,

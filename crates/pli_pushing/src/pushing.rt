@@ -119,6 +119,7 @@ fn push_begun<K: AreaKeeper>(
 
 /// 16: a generation of a signature, with the INITIAL values at an address or with 0 of none, becomes the newest of a CONTROLLED
 /// variable. Without memory nothing changes.
+#[inline(never)]
 pub fn push<K: AreaKeeper>(
     held: &mut Held,
     alloc: Global,

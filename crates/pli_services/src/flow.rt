@@ -61,6 +61,7 @@ impl Flow {
     }
 
     /// 2: the run ends: 0 Finished, 1 Stopped, 2 Error with a code at the current line.
+    #[inline(never)]
     pub fn end(&mut self, kind: u32, code: u32) -> Result<Reply, Refusal>
         ensures answers { (c : Call) → Answers (λ c. acts.end_served c kind code) (with_flow self.old c) result (with_flow self.new c) }
         ensures height { length self.new.activations ≡ length self.old.activations }
@@ -73,6 +74,7 @@ impl Flow {
     }
 
     /// 32: the act of trying an allocation again.
+    #[inline(never)]
     pub fn retry(&mut self, first: u32, second: u32) -> Result<Reply, Refusal>
         ensures answers { (c : Call) → Answers (λ c. acts.retry_served c first second) (with_flow self.old c) result (with_flow self.new c) }
         ensures height { length self.new.activations ≡ length self.old.activations }
@@ -82,6 +84,7 @@ impl Flow {
     }
 
     /// 33: the code of the newest active on-unit, 0 with none.
+    #[inline(never)]
     pub fn oncode(&self, second: u32) -> Reply
         ensures { (c : Call) → Answers (λ c. acts.oncode_served c second) (with_flow self.now c) (Ok result) (with_flow self.now c) }
     {
@@ -90,6 +93,7 @@ impl Flow {
 
     /// 28: the newest block has a unit for the condition: code at an address, or with 0 the system's action.
     #[tactic(auto, using(crate::proofs::Units::established_none, crate::proofs::Units::established_height))]
+    #[inline(never)]
     pub fn establish(&mut self, condition: u32, at: u32) -> Result<Reply, Refusal>
         ensures answers { (c : Call) → Answers (λ c. units.on_served c condition at) (with_flow self.old c) result (with_flow self.new c) }
         ensures height { length self.new.activations ≡ length self.old.activations }
@@ -108,6 +112,7 @@ impl Flow {
 
     /// 29: the newest block has no unit for the condition.
     #[tactic(auto, using(crate::proofs::Units::reverted_none, crate::proofs::Units::reverted_height))]
+    #[inline(never)]
     pub fn revert(&mut self, condition: u32, second: u32) -> Result<Reply, Refusal>
         ensures answers { (c : Call) → Answers (λ c. units.revert_served c condition second) (with_flow self.old c) result (with_flow self.new c) }
         ensures height { length self.new.activations ≡ length self.old.activations }
@@ -124,6 +129,7 @@ impl Flow {
 
     /// 30: the condition is raised with its code; what the unit in force is told waits for its enter.
     #[tactic(auto, using(crate::proofs::Units::raised_without, crate::proofs::Units::raised_to))]
+    #[inline(never)]
     pub fn raise(&mut self, condition: u32, code: u32, resume: u32) -> Result<Reply, Refusal>
         ensures answers { (c : Call) → Answers (λ c. units.raise_served c condition code resume) (with_flow self.old c) result (with_flow self.new c) }
         ensures height { length self.new.activations ≡ length self.old.activations }

@@ -205,6 +205,7 @@ impl Held {
     }
 
     /// 11: the generation that a name names is removed.
+    #[inline(never)]
     pub fn free<K: AreaKeeper>(
         &self,
         memory: &mut [u8],
@@ -264,6 +265,7 @@ impl Held {
     }
 
     /// 12: an area holds what another holds; one that is too small stays as it was.
+    #[inline(never)]
     pub fn assign<K: AreaKeeper>(
         &self,
         alloc: Global,
@@ -298,6 +300,7 @@ impl Held {
     }
 
     /// 13: an area holds nothing.
+    #[inline(never)]
     pub fn empty<K: AreaKeeper>(
         &self,
         memory: &mut [u8],

@@ -30,6 +30,7 @@ fn counted(count: u64, second: u32) -> Result<Reply, Refusal>
 
 impl Held {
     /// 19: how many generations a variable has. One that no register holds has no memory.
+    #[inline(never)]
     pub fn count(&self, variable: u32, second: u32) -> Result<Reply, Refusal>
         requires { length self.now.controlled ≡ 2 ^ 16 }
         ensures { (k : Keeper) → (m : List ℕ) → (c : Call) → Answers (λ c. services.count_served c variable second) (with_held k self.now m c) result (with_held k self.now m c) }
@@ -42,6 +43,7 @@ impl Held {
 
     /// 18: the name of the newest generation, and its signature's number.
     #[tactic(auto, using(crate::proofs::Newest::newest_none, crate::proofs::Newest::newest_so))]
+    #[inline(never)]
     pub fn newest<K: AreaKeeper>(
         &self,
         memory: &mut [u8],

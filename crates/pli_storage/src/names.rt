@@ -229,6 +229,7 @@ impl Held {
     }
 
     /// 9: the name of a generation that lives is copied.
+    #[inline(never)]
     pub fn address<K: AreaKeeper>(
         &self,
         memory: &mut [u8],
@@ -307,6 +308,7 @@ impl Held {
     }
 
     /// 14: a pointer from an offset, or an offset from a pointer.
+    #[inline(never)]
     pub fn locator<K: AreaKeeper>(
         &self,
         memory: &mut [u8],
