@@ -10,3 +10,7 @@ mod AreaRuns
 mod FormRuns
 mod ArraysApart
 mod UnitKinds
+mod CountRuns
+mod SavedRuns
+mod SubscriptRuns
+mod ArrayRuns

@@ -1,6 +1,6 @@
 -- The code of expressions. A number, a bit or an OFFSET value comes in a0, a text on top of the text stack, and a POINTER value in
 -- the four words of the frame behind the temporaries in use.
-use Rattle.std.specs.Prelude.{ℕ, zero, suc, ◌+◌, ◌*◌, ℤ, pos, negsuc, ◌+ℤ◌, ◌-ℤ◌, Bool, true, false, not, List, [], ◌∷◌, ◌++◌, length, slice_get, unwrap_or, if◌then◌else◌}
+use Rattle.std.specs.Prelude.{ℕ, zero, suc, ◌+◌, ◌*◌, ℤ, pos, negsuc, ◌+ℤ◌, ◌-ℤ◌, Bool, true, false, not, ◌&&◌, List, [], ◌∷◌, ◌++◌, length, slice_get, unwrap_or, if◌then◌else◌}
 use Rattle.rv_meaning.specs.declared.instr.Register.{Register}
 use Rattle.rv_meaning.specs.declared.instr.RegisterOp.TheVariants as Op
 use Rattle.rv_meaning.specs.declared.instr.ImmediateOp.TheVariants as Imm
@@ -12,7 +12,7 @@ use Rattle.pli_coding.specs.Instructions.{immediate, registers, subtract, move, 
 use Rattle.pli_coding.specs.Frames.{buffer_lower, buffer_upper, are_constant, words_place, word_in}
 use Rattle.pli_coding.specs.Environments.{Environment, Taken, with_words, with_number, save, fetch}
 use Rattle.pli_coding.specs.Arithmetic.{calculated_code, fitted_code, divided_code, signed_code, absolute_code, count_checked, sign_code, modulo_code, extreme_code, negated_code, combined_code, equal_code, compared_code}
-use Rattle.pli_coding.specs.Locating.{frame_found, frame_in, own_place, Located, located, name_offset, number_loaded, controlled_number, class_found, behind_locator, waiting_name, leaf_number, is_direct, is_referred, refer_read, leaf_found, bound_loaded, Address, address_of, reached, loaded, name_copied, in_own_frame, text_pushed}
+use Rattle.pli_coding.specs.Locating.{frame_found, frame_in, own_place, Located, located, name_offset, number_loaded, controlled_number, class_found, behind_locator, waiting_name, leaf_number, is_direct, is_referred, refer_read, leaf_found, bound_loaded, is_simple, are_simple, Address, address_of, reached, loaded, name_copied, in_own_frame, text_pushed}
 
 -- ---- references
 
@@ -288,17 +288,18 @@ abbrev mutual
   pub reference_code : Environment → Taken → Y.Reference → Code
   reference_code e t (Y.Referring v locator part subscripts) =
       locator_code e t locator
-      ++ (subscripts_code e (behind_locator v t) subscripts ++ reached e t (behind_locator v t) v part (given_in subscripts))
+      ++ (subscripts_code e (behind_locator v t) subscripts ++ reached e t (behind_locator v t) v part subscripts)
 
   pub locator_code : Environment → Taken → Y.Locator → Code
   locator_code e t Y.NotLocated = []
   locator_code e t (Y.LocatedBy p) = pointer_code e t p
 
-  -- each waits
+  -- each waits, up to where all that are left are simple
   pub subscripts_code : Environment → Taken → Y.Numbers → Code
   subscripts_code e t Y.NoNumber = []
   subscripts_code e t (Y.NumberThen first rest) =
-      number_code e t first ++ (save a0 t ++ subscripts_code e (with_number t) rest)
+      if is_simple e first && are_simple e rest then []
+      else number_code e t first ++ (save a0 t ++ subscripts_code e (with_number t) rest)
 
   pub asked_code : Environment → Taken → Y.Reference → BoundAsked → (dimension : ℕ) → Code
   asked_code e t (Y.Referring v locator part subscripts) asked dimension =

@@ -1,5 +1,6 @@
 -- The code of each form by that of its parts.
 use Rattle.std.proofs.Common.{◌≡◌, ℕ, suc, ◌+◌, negsuc, true, false, [], ◌∷◌, ◌++◌, refl, sym, ap, ◌∙◌, append_assoc, append-nil, add-one}
+use Rattle.std.specs.Prelude.{◌&&◌, if◌then◌else◌}
 use Rattle.pli_typing.specs.declared.typed.Number as N
 use Rattle.pli_typing.specs.declared.typed.Numbers as Q
 use Rattle.pli_typing.specs.declared.typed.Text as T
@@ -17,7 +18,7 @@ use Rattle.pli_coding.specs.Assembly.{Code}
 use Rattle.pli_coding.specs.Instructions.{constant, number, service, tested_service}
 use Rattle.pli_coding.specs.Environments.{Environment, Taken, with_words, with_number, save, fetch}
 use Rattle.pli_coding.specs.Arithmetic.{calculated_code, fitted_code, divided_code, signed_code, absolute_code, sign_code, modulo_code, extreme_code, negated_code, combined_code, compared_code}
-use Rattle.pli_coding.specs.Locating.{behind_locator, waiting_name}
+use Rattle.pli_coding.specs.Locating.{behind_locator, is_simple, are_simple, waiting_name}
 use Rattle.pli_coding.specs.Expressions.{ArgumentList, BoundAsked, LowerAsked, UpperAsked, ElementsAsked, list_words, list_at, is_copy, name_to_argument, value_to_argument, constant_pushed, number_code, extremes_code, text_code, bit_code, pointer_code, offset_code, reference_code, subscripts_code, asked_code, call_code, arguments_code, argument_code, stored_code}
 use Rattle.rv_operation.specs.Pieces.{arguments_entered, bit_constant, bit_pushed, bound_told, element_reached, end_cut, extreme_kept, generations_counted, index_found, name_kept, name_to_offset, null_kept, number_pushed, offset_to_name, offsets_compared, part_given, part_named, result_kept, substring_cut, text_loaded, text_measured, text_to_bit, text_to_number, texts_compared, value_loaded, verified, waiting_compared}
 use Rattle.rv_expr.specs.Forms.{both_numbers, both_bits, locator_of, subscripted}
@@ -288,7 +289,7 @@ pub subscripts-End : (e : _) (t : _) → subscripts_code e t (numbers_of Q.End) 
 unfolding numbers_of
 subscripts-End e t = refl
 
-pub subscripts-More : (e : _) (t : _) (a : _) (n : _) (b : _) (ns : _) → subscripts_code e t (numbers_of (Q.More' a n b ns)) ≡ number_code e t (number_of n) ++ (save a0 t ++ subscripts_code e (with_number t) (numbers_of ns))
+pub subscripts-More : (e : _) (t : _) (a : _) (n : _) (b : _) (ns : _) → subscripts_code e t (numbers_of (Q.More' a n b ns)) ≡ (if is_simple e (number_of n) && are_simple e (numbers_of ns) then [] else number_code e t (number_of n) ++ (save a0 t ++ subscripts_code e (with_number t) (numbers_of ns)))
 unfolding numbers_of
 subscripts-More e t a n b ns = refl
 

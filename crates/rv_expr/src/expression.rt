@@ -15,6 +15,7 @@ use pli_typing::typed::{
 };
 use rv_address::environment::Environment;
 use rv_address::located::behind_locator;
+use rv_address::subscript::is_given;
 use rv_address::taken::{Taken, fetch, save};
 use rv_assembly::code::Code;
 use rv_assembly::registers::{a0, u1};
@@ -494,7 +495,7 @@ pub fn locator_code(
     }
 }
 
-/// Subscripts, each of which waits.
+/// Subscripts, each of which waits, up to where all that are left are simple.
 #[cycle(walk)]
 #[tactic(auto, using(crate::proofs::Walks::subscripts))]
 pub fn subscripts_code(
@@ -509,6 +510,9 @@ pub fn subscripts_code(
     match subscripts {
         Numbers::End => Ok(()),
         Numbers::More { first, rest } => {
+            if is_given(environment, first, rest)? {
+                return Ok(());
+            }
             number_code(alloc, code, environment, taken, first)?;
             save(code, a0(), taken)?;
             subscripts_code(alloc, code, environment, taken.with_number()?, rest)

@@ -141,8 +141,15 @@ pub fn element_reached(
 ) -> Result<(), AllocError>
     ensures { OnOk result (code.new ≡ code.old ++ element_reached (environment_of environment.now) (taken_of found) (taken_of taken) (variable_of variable) (part_of part) (numbers_of subscripts.now)) }
 {
-    let given = given_in(subscripts)?;
-    reached(code, environment, found, taken, variable, part, given)
+    reached(
+        code,
+        environment,
+        found,
+        taken,
+        variable,
+        part,
+        subscripts,
+    )
 }
 
 // ---- names
