@@ -10,3 +10,5 @@ mod AreaRuns
 mod FormRuns
 mod ArraysApart
 mod UnitKinds
+mod CountRuns
+mod ArrayRuns

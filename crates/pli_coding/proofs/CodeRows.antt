@@ -5,23 +5,27 @@ use Rattle.rv_meaning.specs.declared.instr.Instr.TheVariants as I
 use Rattle.rv_meaning.specs.declared.instr.RegisterOp.TheVariants as Op
 use Rattle.rv_meaning.specs.declared.instr.ImmediateOp.TheVariants as Imm
 use Rattle.rv_meaning.specs.declared.instr.LoadKind.TheVariants as Load
+use Rattle.rv_meaning.specs.declared.instr.StoreKind.TheVariants as Store
 use Rattle.rv_meaning.specs.declared.instr.BranchTest.TheVariants as Test
 use Rattle.rv_meaning.specs.Tables.{table_words}
+use Rattle.pli_language.specs.declared.expr.Place.{Place}
 use Rattle.pli_language.specs.Tree as T
 use Rattle.pli_typing.specs.TypedTree as Y
 use Rattle.area_keeper.specs.Chain.{chain}
 use Rattle.pli_coding.specs.Registers as R
-use Rattle.pli_coding.specs.Assembly.{ConstantBytes, InitialValues, Plain, JumpTo, CallTo, RaiseError, RaiseCondition, Code}
+use Rattle.pli_coding.specs.Assembly.{ConstantBytes, InitialValues, Plain, JumpTo, CallTo, JumpBack, RaiseError, RaiseCondition, Code}
+use Rattle.pli_coding.specs.Instructions.{immediate, add, move, tested_service}
 use Rattle.pli_coding.specs.StaticData.{static_data, placed_from, bytes_from}
 use Rattle.pli_coding.specs.Frames.{MemoryParts, fixed_size, automatic_place, frame_end, word_in, words_place}
 use Rattle.pli_coding.specs.SignatureTable.{table_of}
-use Rattle.pli_coding.specs.Environments.{Environment, none_taken, block_around}
-use Rattle.pli_coding.specs.Arithmetic.{sum_code}
+use Rattle.pli_coding.specs.Environments.{Environment, none_taken, with_number, block_around}
+use Rattle.pli_coding.specs.Arithmetic.{sum_code, fitted_code}
 use Rattle.pli_coding.specs.Locating.{leaf_resolved, located}
 use Rattle.pli_coding.specs.Expressions.{are_few, elements_code, number_code, text_code}
 use Rattle.pli_coding.specs.Temporaries.{number_words}
+use Rattle.pli_coding.specs.Streams.{is_counted, item_put, item_got, controls_carried_out, field_awaited, number_written}
 use Rattle.pli_coding.specs.Images.{environment_of, code_of, blocks_of}
-use Rattle.pli_coding.proofs.RowPieces.{part, automatic, parameter, whole, scalar, bounds, initial, leaf, member, declared, head, procedure, program}
+use Rattle.pli_coding.proofs.RowPieces.{part, variable, automatic, parameter, whole, scalar, bounds, initial, leaf, member, declared, head, procedure, program}
 
 abbrev parts : MemoryParts
 parts = record { stack_start = 4096; stack_end = 8192; area_bytes = chain.bytes_for }
@@ -234,3 +238,73 @@ initial_values_follow :
     (placed_from 0 (InitialValues (record { leaf = 0; values = codes "ABCD" } ∷ []) ∷ ConstantBytes (codes "ABCD") ∷ []))
     ≡ 1 ∷ 0 ∷ 0 ∷ 0 ∷ 0 ∷ 0 ∷ 0 ∷ 0 ∷ 12 ∷ 0 ∷ 0 ∷ 0 ∷ codes "ABCD"
 initial_values_follow = refl
+
+-- ---- whole arrays in GET and PUT
+
+abbrev first_place : Place
+first_place = record { line = 1; column = 1 }
+
+abbrev numbers_of_three : T.Formats
+numbers_of_three = T.FormatThen first_place 1 (T.FixedFormat 3) T.NoFormat
+
+abbrev array : Y.Reference
+array = whole (automatic 1 0 1)
+
+-- B by how far its elements stand behind the first: from place 192 on, 4 bytes each, 24 in all
+array_is_put_by_distance :
+    item_put (within 1 0) none_taken numbers_of_three (Y.PutAggregate array)
+    ≡ move (R.held 0) R.zero_register
+    ∷ move R.u4 (R.held 0)
+    ∷ add R.u3 R.frame_register R.u4
+    ∷ Plain (I.Load Load.Half R.a0 R.u3 (pos 192))
+    ∷ move (R.held 1) R.a0
+    ∷ (controls_carried_out
+    ++ (move R.a0 (R.held 1)
+    ∷ (number_written
+    ++ (move R.u1 (R.held 0)
+    ∷ immediate Imm.Add R.u1 R.u1 (pos 4)
+    ∷ move (R.held 0) R.u1
+    ∷ immediate Imm.Add R.u2 R.zero_register (pos 24)
+    ∷ Plain (I.Branch Test.Equal R.u1 R.u2 (pos 12))
+    ∷ JumpBack 24
+    ∷ []))))
+array_is_put_by_distance = refl
+
+-- from the procedure, with the exit 7 words behind: a field that is too wide may be narrowed by a unit that returns
+array_is_got_by_distance :
+    item_got (within 2 1) none_taken numbers_of_three (Y.GetAggregate array) 7
+    ≡ move (R.held 0) R.zero_register
+    ∷ (field_awaited 33
+    ++ (tested_service 36
+    ++ (fitted_code (with_number none_taken) 15
+    ++ (move R.u4 (R.held 0)
+    ∷ Plain (I.Load Load.Word R.u3 R.frame_register (pos 144))
+    ∷ add R.u3 R.u3 R.u4
+    ∷ Plain (I.Store Store.Half R.u3 R.a0 (pos 192))
+    ∷ move R.u1 (R.held 0)
+    ∷ immediate Imm.Add R.u1 R.u1 (pos 4)
+    ∷ move (R.held 0) R.u1
+    ∷ immediate Imm.Add R.u2 R.zero_register (pos 24)
+    ∷ Plain (I.Branch Test.Equal R.u1 R.u2 (pos 12))
+    ∷ JumpBack 37
+    ∷ []))))
+array_is_got_by_distance = refl
+
+-- a row of B and a parameter aren't, an array whose elements have no length, a structure of two leaves
+abbrev others : Y.Program
+others =
+    program ([] ∷
+    (declared Y.AutomaticClass (member 0 1 ∷ []) (leaf (Y.CharacterLeaf (Y.ConstantExtent (pos 0))) (up_to 3 ∷ []) [] ∷ []) None []
+    ∷ declared Y.StaticClass (member 0 1 ∷ member 1 0 ∷ member 1 1 ∷ [])
+    (leaf Y.BitLeaf (up_to 3 ∷ []) [] ∷ leaf (Y.VaryingLeaf (Y.ConstantExtent (pos 5))) (up_to 3 ∷ up_to 2 ∷ []) [] ∷ []) None []
+    ∷ []) ∷ []) []
+
+abbrev members : (first count : ℕ) → Y.Reference
+members first count = Y.Referring (variable Y.StaticClass 1 0 1) Y.NotLocated (part first count) Y.NoNumber
+
+what_is_counted :
+    map (is_counted (within 2 1))
+    (array ∷ Y.Referring (automatic 1 0 1) Y.NotLocated (part 0 1) (Y.NumberThen (number 1) Y.NoNumber) ∷ whole (parameter 2 1 0) ∷ [])
+    ++ map (is_counted (record (environment_of parts others) { block = 1; level = 0 })) (whole (automatic 1 0 0) ∷ members 0 2 ∷ members 0 1 ∷ members 1 1 ∷ [])
+    ≡ (true ∷ false ∷ false ∷ false ∷ false ∷ true ∷ true ∷ [])
+what_is_counted = refl

@@ -4,9 +4,7 @@ use Rattle.std.specs.Prelude.{max}
 use Rattle.std.proofs.lemmas.Bool.Decides.{nat_tests}
 use Rattle.pli_typing.specs.TypedTree as Y
 use Rattle.pli_meaning.specs.DeclaredShapes.{variables_of_block}
-use Rattle.pli_coding.specs.Registers.{a0, frame_register}
 use Rattle.pli_coding.specs.Assembly.{Code, size_of, JumpAhead, JumpBack}
-use Rattle.pli_coding.specs.Instructions.{store_word}
 use Rattle.pli_coding.specs.Environments.{Environment, Taken, none_taken}
 use Rattle.pli_coding.specs.Arithmetic.{fitted_code}
 use Rattle.pli_coding.specs.Expressions.{number_code, bit_code, text_code}
@@ -18,10 +16,10 @@ use Rattle.pli_headline.specs.ProvedSoFar.{Names, Types, ArePlain, IsProvedState
 use Rattle.pli_coding.specs.Procedures.{procedure_begun, procedure_ended, procedure_in}
 use Rattle.pli_headline.proofs.Linking.{size_append}
 use Rattle.pli_coding.specs.Entries.{frame_begun, frame_ended, block_left, entered_without_texts, variables_code}
-use Rattle.pli_coding.specs.Statements.{begin_environment, begin_code, if_met, while_met, block_words, stmt_code, stmts_code, stmt_words, stmts_words, marked, once_code, bit_if, in_turns, before_turns, number_if, start_code, limit_code, step_code, started_code, step_place, turn_of, turns_code, words_back, words_behind_limit, words_behind_condition, limit_kept, while_kept, stepped_code}
+use Rattle.pli_coding.specs.Statements.{begin_environment, begin_code, if_met, while_met, block_words, stmt_code, stmts_code, stmt_words, stmts_words, marked, once_code, bit_if, in_turns, number_if, start_code, limit_code, constant_step, step_code, started_code, turn_of, turns_code, words_back, words_behind_limit, words_behind_condition, limit_kept, while_kept, stepped_code}
 use Rattle.pli_headline.proofs.Variables.{HasTypes}
 use Rattle.pli_headline.proofs.DeclaredNames.{named_in, has_in}
-use Rattle.pli_headline.proofs.Sizes.{most, number_size, bit_size, text_size, act_size, met_size', once_size, limit_words_size, condition_words_size, statement_size, no_variable_words, target_size, start_words_size, text_target_size}
+use Rattle.pli_headline.proofs.Sizes.{most, number_size, bit_size, text_size, act_size, met_size', once_size, limit_words_size, step_words_size, condition_words_size, statement_size, no_variable_words, target_size, start_words_size, text_target_size}
 use Rattle.pli_coding.specs.Streams.{value_words}
 use Rattle.pli_headline.proofs.PlainInside.{DeclaresPlain, DeclarePlain}
 
@@ -123,14 +121,14 @@ mutual
       let counter = Y.NumberCounter precision target in
       let m = all_inside_size e (in_turns t) block types named has body is.1.1.1.0 bare in
       let c = stmts_code e (in_turns t) body in
-      let u = turn_of e t counter limit condition line c in
+      let u = turn_of e t counter limit (constant_step step) condition line c in
       let c0 = start_code e t start in
       let c1 = limit_code e t limit in
       let c2 = step_code e t step in
       let c3 = started_code t counter start in
-      let lim = limit_kept e t counter limit (words_behind_limit u) in
+      let lim = limit_kept e t counter limit (constant_step step) (words_behind_limit u) in
       let con = while_kept e t condition (words_behind_condition u) in
-      let rest = stepped_code e t counter line ++ JumpBack (words_back u) ∷ [] in
+      let rest = stepped_code e t counter (constant_step step) line ++ JumpBack (words_back u) ∷ [] in
       let s1 = size_append (act_code line) ((c0 ++ (c1 ++ (c2 ++ c3))) ++ turns_code u) in
       let s2 = size_append (c0 ++ (c1 ++ (c2 ++ c3))) (turns_code u) in
       let s8 = size_append u.begun (lim ++ (con ++ (c ++ rest))) in
@@ -295,9 +293,9 @@ mutual
       let z = target_size e (in_turns t) block types (Y.FixedLeaf precision) target is.0.0 in
       let n0 = start_words_size e t block types start is.0.1 in
       let n1 = limit_words_size e t block types limit is.1.0.0 in
-      let n2 = number_size e (before_turns t) block types step is.1.0.1 in
+      let n2 = step_words_size e t block types step is.1.0.1 in
       let c = stmts_code e (in_turns t) body in
-      let u = turn_of e t counter limit condition line c in
+      let u = turn_of e t counter limit (constant_step step) condition line c in
       let n3 = condition_words_size e t block types condition (words_behind_condition u) is.1.1.0 in
       let n4 = statements_inner e (in_turns t) block types named has body is.1.1.1.0 bare in
       let four = act_size line in
@@ -305,15 +303,14 @@ mutual
       let c1 = limit_code e t limit in
       let c2 = step_code e t step in
       let c3 = started_code t counter start in
-      let lim = limit_kept e t counter limit (words_behind_limit u) in
+      let lim = limit_kept e t counter limit (constant_step step) (words_behind_limit u) in
       let con = while_kept e t condition (words_behind_condition u) in
-      let rest = stepped_code e t counter line ++ JumpBack (words_back u) ∷ [] in
+      let rest = stepped_code e t counter (constant_step step) line ++ JumpBack (words_back u) ∷ [] in
       let s1 = size_append (act_code line) ((c0 ++ (c1 ++ (c2 ++ c3))) ++ turns_code u) in
       let s2 = size_append (c0 ++ (c1 ++ (c2 ++ c3))) (turns_code u) in
       let s3 = size_append c0 (c1 ++ (c2 ++ c3)) in
       let s4 = size_append c1 (c2 ++ c3) in
       let s5 = size_append c2 c3 in
-      let s7 = size_append (number_code e (before_turns t) step) (store_word frame_register a0 (step_place t)) in
       let s0 = size_append (word_stored e (in_turns t) target) (act_code line) in
       let s8 = size_append u.begun (lim ++ (con ++ (c ++ rest))) in
       let s9 = size_append lim (con ++ (c ++ rest)) in
@@ -321,7 +318,7 @@ mutual
       let s11 = size_append c rest in
       most_more _ _ _ _
       (let a : max (value_words start) (max (number_if limit) (number_words step)) + all_inner_words body ≤ size_of (stmt_code e t (Y.DoCount counter start limit step condition body line)) - 2 =
-      most_more _ _ _ _ (omega (arith, n0, n4, four, s1, s2, s3, s8, s9, s10, s11)) (most_more _ _ _ _ (omega (arith, n1, n4, four, s1, s2, s3, s4, s8, s9, s10, s11)) (omega (arith, n2, n4, four, s1, s2, s3, s4, s5, s7, s8, s9, s10, s11))) in
+      most_more _ _ _ _ (omega (arith, n0, n4, four, s1, s2, s3, s8, s9, s10, s11)) (most_more _ _ _ _ (omega (arith, n1, n4, four, s1, s2, s3, s4, s8, s9, s10, s11)) (omega (arith, n2, n4, four, s1, s2, s3, s4, s5, s8, s9, s10, s11))) in
       omega (arith, a, four, s1))
       (let a : max (suc (reference_words target)) (max (bit_if condition) (stmts_words body)) + all_inner_words body ≤ size_of (stmt_code e t (Y.DoCount counter start limit step condition body line)) - 1 =
       most_more _ _ _ _ (omega (arith, z, four, n4, s0, s1, s2, s8, s9, s10, s11)) (most_more _ _ _ _ (omega (arith, n3, n4, four, s1, s2, s8, s9, s10, s11)) (omega (arith, n4, four, s1, s2, s8, s9, s10, s11))) in

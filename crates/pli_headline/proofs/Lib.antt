@@ -163,6 +163,8 @@ pub mod Putting
 pub mod Waiting
 pub mod Ifs
 pub mod Limits
+pub mod ConstantSums
+pub mod ConstantSteps
 pub mod Counters
 pub mod Credits
 pub mod Turnings

@@ -24,7 +24,7 @@ use Rattle.pli_coding.specs.Expressions.{number_code, extremes_code, bit_code, t
 use Rattle.pli_coding.specs.Storing.{stored_into, word_stored, top_stored, record_code, record_given, first_leaf, aggregate_code}
 use Rattle.pli_coding.specs.Streams.{has_fixed, get_item_words, get_items_words, get_words, value_put, number_put, text_put, as_text, item_put, items_put, edit_begun, edit_ended, put_pair, put_pairs, put_item_words, put_items_words, put_words, skip_option, field_stored, field_awaited, number_got, bit_got, item_got, items_got, get_pair, get_pairs, value_words, text_got}
 use Rattle.pli_coding.specs.Allocating.{act_code}
-use Rattle.pli_coding.specs.Statements.{if_met, while_met, block_words, stmt_code, stmts_code, stmt_words, stmts_words, marked, once_code, bit_if, in_turns, before_turns, number_if, start_code, limit_code, step_code, started_code, start_place, step_place, limit_place, turn_of, turns_code, words_back, words_behind_limit, words_behind_condition, limit_kept, while_kept, stepped_code}
+use Rattle.pli_coding.specs.Statements.{if_met, while_met, block_words, stmt_code, stmts_code, stmt_words, stmts_words, marked, once_code, bit_if, in_turns, before_turns, number_if, start_code, limit_code, constant_step, step_kept, step_code, started_code, start_place, step_place, limit_place, turn_of, turns_code, words_back, words_behind_limit, words_behind_condition, limit_kept, while_kept, stepped_code}
 use Rattle.pli_coding.specs.Temporaries.{number_words, numbers_words, text_words, bit_words, reference_words, subscripts_words}
 use Rattle.pli_headline.specs.ProvedSoFar.{Names, ArePlain, Types, IsOwn, IsProvedNumber, AreProvedNumbers, IsProvedBit, IsProvedText, IsProvedItem, AreProvedItems, AreProvedPairs, IsProvedGetItem, AreProvedGetItems, AreProvedGetPairs, IsProvedStatement, AreProvedStatements, IsProvedBitIf, IsProvedNumberIf, text_leaf, IsPart, IsAssigned, AreSubscripts, array_variable, IsDimension, IsProvedStart, IsAssignedText, IsReadBy}
 use Rattle.pli_coding.specs.Entries.{variables_words}
@@ -32,6 +32,7 @@ use Rattle.pli_coding.specs.Procedures.{procedure_begun, procedure_ended, proced
 use Rattle.pli_headline.specs.Headline.{FitsMemory}
 use Rattle.pli_headline.proofs.Scalars.{by_plain}
 use Rattle.pli_headline.proofs.Linking.{size_append}
+use Rattle.pli_headline.proofs.ConstantSteps.{constant_means}
 use Rattle.pli_headline.proofs.ElementsMarks.{elements_size}
 use Rattle.pli_headline.proofs.TextsMarks.{texts_size}
 use Rattle.pli_headline.proofs.CopiesMarks.{copies_words}
@@ -320,6 +321,16 @@ limit_words_size e t block types (Some x) is =
     let s = size_append (number_code e (before_turns t) x) (store_word frame_register a0 (limit_place t)) in
     omega (arith, n, s)
 
+step_kept_size : (e : Environment) (t : Taken) (block : Names) (types : Types) (step : Y.Number) (fixed : Option ℤ) → constant_step step ≡ fixed → IsProvedNumber block types step → number_words step ≤ size_of (step_kept e t step fixed) + 1
+step_kept_size e t block types step None same is =
+    let n = number_size e (before_turns t) block types step is in
+    let s = size_append (number_code e (before_turns t) step) (store_word frame_register a0 (step_place t)) in
+    omega (arith, n, s)
+step_kept_size e t block types step (Some z) same is = (constant_means block types step z is same).few
+
+pub step_words_size : (e : Environment) (t : Taken) (block : Names) (types : Types) (step : Y.Number) → IsProvedNumber block types step → number_words step ≤ size_of (step_code e t step) + 1
+step_words_size e t block types step is = step_kept_size e t block types step (constant_step step) refl is
+
 pub condition_words_size : (e : Environment) (t : Taken) (block : Names) (types : Types) (condition : Option Y.Bit) (behind : ℕ) → IsProvedBitIf block types condition → bit_if condition ≤ size_of (while_kept e t condition behind) + 1
 condition_words_size e t block types None behind is = omega arith
 condition_words_size e t block types (Some x) behind is =
@@ -568,9 +579,9 @@ mutual
       let z = target_size e (in_turns t) block types (Y.FixedLeaf precision) target is.0.0 in
       let n0 = start_words_size e t block types start is.0.1 in
       let n1 = limit_words_size e t block types limit is.1.0.0 in
-      let n2 = number_size e (before_turns t) block types step is.1.0.1 in
+      let n2 = step_words_size e t block types step is.1.0.1 in
       let c = stmts_code e (in_turns t) body in
-      let u = turn_of e t counter limit condition line c in
+      let u = turn_of e t counter limit (constant_step step) condition line c in
       let n3 = condition_words_size e t block types condition (words_behind_condition u) is.1.1.0 in
       let n4 = statements_size e (in_turns t) block types has body is.1.1.1.0 in
       let four = act_size line in
@@ -578,15 +589,14 @@ mutual
       let c1 = limit_code e t limit in
       let c2 = step_code e t step in
       let c3 = started_code t counter start in
-      let lim = limit_kept e t counter limit (words_behind_limit u) in
+      let lim = limit_kept e t counter limit (constant_step step) (words_behind_limit u) in
       let con = while_kept e t condition (words_behind_condition u) in
-      let rest = stepped_code e t counter line ++ JumpBack (words_back u) ∷ [] in
+      let rest = stepped_code e t counter (constant_step step) line ++ JumpBack (words_back u) ∷ [] in
       let s1 = size_append (act_code line) ((c0 ++ (c1 ++ (c2 ++ c3))) ++ turns_code u) in
       let s2 = size_append (c0 ++ (c1 ++ (c2 ++ c3))) (turns_code u) in
       let s3 = size_append c0 (c1 ++ (c2 ++ c3)) in
       let s4 = size_append c1 (c2 ++ c3) in
       let s5 = size_append c2 c3 in
-      let s7 = size_append (number_code e (before_turns t) step) (store_word frame_register a0 (step_place t)) in
       let s0 = size_append (word_stored e (in_turns t) target) (act_code line) in
       let s8 = size_append u.begun (lim ++ (con ++ (c ++ rest))) in
       let s9 = size_append lim (con ++ (c ++ rest)) in
@@ -594,7 +604,7 @@ mutual
       let s11 = size_append c rest in
       let total = size_of (stmt_code e t (Y.DoCount counter start limit step condition body line)) in
       let small1 : max (value_words start) (max (number_if limit) (number_words step)) ≤ total - 3 + 1 =
-      most _ _ _ (omega (arith, n0, four, s1, s2, s3)) (most _ _ _ (omega (arith, n1, four, s1, s2, s3, s4)) (omega (arith, n2, four, s1, s2, s3, s4, s5, s7))) in
+      most _ _ _ (omega (arith, n0, four, s1, s2, s3)) (most _ _ _ (omega (arith, n1, four, s1, s2, s3, s4)) (omega (arith, n2, four, s1, s2, s3, s4, s5))) in
       let small2 : max (suc (reference_words target)) (max (bit_if condition) (stmts_words body)) ≤ total - 2 + 1 =
       most _ _ _ (omega (arith, z, four, s0, s1, s2, s8)) (most _ _ _ (omega (arith, n3, four, s1, s2, s8, s9, s10)) (omega (arith, n4, four, s1, s2, s8, s9, s10, s11))) in
       most _ _ _ (omega (arith, small1, four, s1)) (omega (arith, small2, four, s1))

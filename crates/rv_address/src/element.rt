@@ -113,7 +113,7 @@ fn static_base(
 }
 
 /// What finds the base of a variable whose data stands at a constant place.
-fn direct_base(
+pub fn direct_base(
     code: &mut Code,
     environment: &Environment,
     variable: Variable,
@@ -130,7 +130,8 @@ fn direct_base(
     }
 }
 
-fn direct_register(environment: &Environment, variable: Variable) -> Register
+/// The register that then has it.
+pub fn direct_register(environment: &Environment, variable: Variable) -> Register
     ensures { result ≡ form.direct_register (environment_of environment.now) (variable_of variable) (variable_of variable).class }
 {
     let (level, base) = (variable.level, registers::u3());

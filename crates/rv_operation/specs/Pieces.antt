@@ -1,5 +1,5 @@
 -- What is done with operands that were evaluated, each piece under a name of its own: whoever walks over the forms sees the names alone.
-use Rattle.std.specs.Prelude.{ℕ, Bool, true, false, ◌*◌, pos, nat_lt, [], ◌∷◌, ◌++◌, if◌then◌else◌}
+use Rattle.std.specs.Prelude.{ℕ, ℤ, Bool, true, false, ◌*◌, pos, nat_lt, [], ◌∷◌, ◌++◌, if◌then◌else◌}
 use Rattle.rv_meaning.specs.declared.instr.Register.{Register}
 use Rattle.rv_meaning.specs.declared.instr.RegisterOp.TheVariants as Op
 use Rattle.rv_meaning.specs.declared.instr.ImmediateOp.TheVariants as Imm
@@ -11,7 +11,7 @@ use Rattle.pli_coding.specs.Instructions.{immediate, load_word, registers, add, 
 use Rattle.pli_coding.specs.Frames.{words_place}
 use Rattle.pli_coding.specs.Environments.{Environment, Taken, fetch, with_words}
 use Rattle.pli_coding.specs.Locating.{Address, controlled_number, in_own_frame, loaded, name_copied, own_place, place_behind, reached, text_pushed, waiting_name}
-use Rattle.pli_coding.specs.Arithmetic.{overflow_raised, quotient_checked, narrowed_code, absolute_bits, compared_code, equal_code, extreme_code}
+use Rattle.pli_coding.specs.Arithmetic.{order_of_sum, overflow_raised, quotient_checked, narrowed_code, absolute_bits, compared_code, equal_code, extreme_code}
 use Rattle.pli_coding.specs.Storing.{area_name}
 use Rattle.pli_coding.specs.Expressions.{ArgumentList, BoundAsked, address_in, all_converted_last, argument_stored, by_reference, dimension_code, entered, frame_given, given_in, is_text, name_written, names_compared as compared_in_frame, null_name, text_count, type_in}
 
@@ -19,6 +19,13 @@ use Rattle.pli_coding.specs.Expressions.{ArgumentList, BoundAsked, address_in, a
 
 abbrev pub right_sign : Item
 right_sign = immediate Imm.SetLess u4 a0 (pos 0)
+
+-- a left operand in u1, and its sum with a constant in a0
+unfoldable pub constant_summed : ℤ → Code
+constant_summed z = move u1 a0 ∷ plus a0 u1 z
+
+unfoldable pub constant_checked : Taken → ℤ → Code
+constant_checked t z = skip_where (order_of_sum z) a0 u1 (overflow_raised t)
 
 abbrev pub divided_checked : Taken → Code
 divided_checked t = registers Op.Divide u2 u1 a0 ∷ quotient_checked t

@@ -1,6 +1,6 @@
 -- What the code of a statement comes to, once the statements that it holds are written and its jumps have their words.
 use Rattle.std.proofs.Common.{◌≡◌, ℕ, ◌+◌, ◌-◌, [], ◌∷◌, ◌++◌, refl, sym, ap, ◌∙◌, arith, append_assoc}
-use Rattle.std.specs.Prelude.{true, false, Option, Some, None}
+use Rattle.std.specs.Prelude.{ℤ, true, false, Option, Some, None}
 use Rattle.rv_meaning.specs.declared.instr.BranchTest.TheVariants as Test
 use Rattle.pli_language.specs.declared.condition.Condition.{Condition}
 use Rattle.pli_typing.specs.TypedTree as Y
@@ -12,7 +12,7 @@ use Rattle.pli_coding.specs.Expressions.{bit_code}
 use Rattle.pli_coding.specs.Storing.{assigned_code}
 use Rattle.pli_coding.specs.Allocating.{act_code}
 use Rattle.pli_coding.specs.Entries.{block_left, entered_without_texts, frame_begun, frame_ended, variables_code}
-use Rattle.pli_coding.specs.Statements.{begin_environment, condition_given, count_begun, in_turns, limit_kept, once_code, stepped_code, turn_of, turns_code, unit_environment, unit_left, unit_mark, unit_variables, while_kept}
+use Rattle.pli_coding.specs.Statements.{begin_environment, condition_given, constant_step, count_begun, in_turns, limit_kept, once_code, stepped_code, turn_of, turns_code, unit_environment, unit_left, unit_mark, unit_variables, while_kept}
 use Rattle.rv_assembly.specs.declared.place.Place.{Place}
 use Rattle.rv_assembly.specs.Places.{jump_kept, jump_place, jumped_over, patched, words_behind}
 use Rattle.rv_assembly.proofs.Growing.{size_append}
@@ -127,15 +127,15 @@ same_size e t (Some x) n = size_append (bit_code e (in_turns t) x) (ahead n) ∙
 regroup_turn : (o a l w b s j : Code) → (o ++ (a ++ l)) ++ (w ++ (b ++ (s ++ j))) ≡ o ++ (a ++ (l ++ (w ++ (b ++ (s ++ j)))))
 regroup_turn o a l w b s j = append_assoc o (a ++ l) (w ++ (b ++ (s ++ j))) ∙ ap (λ x. o ++ x) (append_assoc a l (w ++ (b ++ (s ++ j))))
 
-pub turns_whole : (old begun now after body : Code) (u : Turn) (e : Environment) (t : Taken) (counter : Y.Counter) (limit : Option Y.Number) (condition : Option Y.Bit) (line : ℕ)
-    → TurnBegun old begun u e t counter limit condition line → now ≡ begun ++ body → after ≡ jumped_if (jumped_if (turned_back (now ++ stepped e t counter line) u.start) u.condition) u.limit
-    → after ≡ old ++ turns_code (turn_of e t counter limit condition line body)
+pub turns_whole : (old begun now after body : Code) (u : Turn) (e : Environment) (t : Taken) (counter : Y.Counter) (limit : Option Y.Number) (fixed : Option ℤ) (condition : Option Y.Bit) (line : ℕ)
+    → TurnBegun old begun u e t counter limit fixed condition line → now ≡ begun ++ body → after ≡ jumped_if (jumped_if (turned_back (now ++ stepped e t counter fixed line) u.start) u.condition) u.limit
+    → after ≡ old ++ turns_code (turn_of e t counter limit fixed condition line body)
 unfolding turned_back stepped
-turns_whole old begun now after body u e t counter limit condition line h written ended =
+turns_whole old begun now after body u e t counter limit fixed condition line h written ended =
     let opened : Code = turn_opened e t counter line in
-    let lim : ℕ → Code = limit_kept e t counter limit in
+    let lim : ℕ → Code = limit_kept e t counter limit fixed in
     let con : ℕ → Code = while_kept e t condition in
-    let step : Code = stepped_code e t counter line in
+    let step : Code = stepped_code e t counter fixed line in
     let k : ℕ = size_of (now ++ step) - u.start in
     let inner : ℕ → Code = λ n. body ++ (step ++ JumpBack n ∷ []) in
     let behind : ℕ → Code = λ n. con (size_of (inner n)) ++ inner n in
@@ -154,13 +154,13 @@ turns_whole old begun now after body u e t counter limit condition line h writte
     ∙ ap (λ n. old ++ (opened ++ (lim (size_of (con 0) + (size_of body + (size_of step + 2))) ++ (con (size_of body + (size_of step + 2)) ++ inner n)))) back
 
 pub count_whole : (old counted begun now after body : Code) (u : Turn) (e : Environment) (t : Taken) (counter : Y.Counter) (start : Y.Value) (limit : Option Y.Number) (step : Y.Number) (condition : Option Y.Bit) (line : ℕ)
-    → counted ≡ old ++ counting e t counter start limit step line → TurnBegun counted begun u e t counter limit condition line → now ≡ begun ++ body
-    → after ≡ jumped_if (jumped_if (turned_back (now ++ stepped e t counter line) u.start) u.condition) u.limit
+    → counted ≡ old ++ counting e t counter start limit step line → TurnBegun counted begun u e t counter limit (constant_step step) condition line → now ≡ begun ++ body
+    → after ≡ jumped_if (jumped_if (turned_back (now ++ stepped e t counter (constant_step step) line) u.start) u.condition) u.limit
     → after ≡ old ++ count_statement e t counter start limit step condition body line
 unfolding count_statement counting acted
 count_whole old counted begun now after body u e t counter start limit step condition line first h written ended =
-    let turns : Code = turns_code (turn_of e t counter limit condition line body) in
-    turns_whole counted begun now after body u e t counter limit condition line h written ended
+    let turns : Code = turns_code (turn_of e t counter limit (constant_step step) condition line body) in
+    turns_whole counted begun now after body u e t counter limit (constant_step step) condition line h written ended
     ∙ ap (λ x. x ++ turns) first
     ∙ append_assoc old (act_code line ++ count_begun e t counter start limit step) turns
     ∙ ap (λ x. old ++ x) (append_assoc (act_code line) (count_begun e t counter start limit step) turns)

@@ -1,5 +1,5 @@
 -- Pieces of the code of statements, each under a name of its own: whoever walks over the statements sees the names alone.
-use Rattle.std.specs.Prelude.{ℕ, ◌==◌, pos, true, false, List, [], ◌∷◌, ◌++◌, Option, Some, None, if◌then◌else◌}
+use Rattle.std.specs.Prelude.{ℕ, ℤ, ◌==◌, pos, true, false, List, [], ◌∷◌, ◌++◌, Option, Some, None, if◌then◌else◌}
 use Rattle.rv_meaning.specs.declared.instr.BranchTest.TheVariants as Test
 use Rattle.rv_meaning.specs.declared.instr.Instr.TheVariants as I
 use Rattle.rv_meaning.specs.declared.instr.RegisterOp.TheVariants as Op
@@ -16,7 +16,7 @@ use Rattle.pli_coding.specs.Storing.{area_code', assigned_code, emptied_code}
 use Rattle.pli_coding.specs.Allocating.{act_code, allocations_code, freeings_code}
 use Rattle.pli_coding.specs.Entries.{block_left, entered_without_texts, frame_begun, frame_ended, registers_restored, variables_code}
 use Rattle.pli_coding.specs.Streams.{get_code, put_code}
-use Rattle.pli_coding.specs.Statements.{begin_code, condition_given, count_begun, counter_read, counter_stored, goto_code, goto_outer, if_met, in_turns, limit_place, limit_tested, once_code, one_of, returned_by, signal_code, start_loaded, start_place, step_place, stepped_code, stmt_code, text_cut, turn_of, turns_code, unit_code, unit_established, unit_mark, unit_variables, value_returned, while_met}
+use Rattle.pli_coding.specs.Statements.{begin_code, condition_given, constant_step, count_begun, counter_read, counter_stored, goto_code, goto_outer, if_met, in_turns, limit_place, limit_tested, once_code, one_of, returned_by, signal_code, start_loaded, start_place, step_added, step_place, stepped_code, stmt_code, text_cut, turn_of, turns_code, unit_code, unit_established, unit_mark, unit_variables, value_returned, while_met}
 use Rattle.rv_assignment.specs.Pieces.{aggregate_put, elements_put}
 
 -- ---- RETURN and GOTO
@@ -49,12 +49,16 @@ step_loaded t = load_word a0 frame_register (step_place t)
 unfoldable pub act_begun : (line : ℕ) → Code
 act_begun line = number a0 line ++ (small a1 1 ∷ service 1)
 
-unfoldable pub step_added : Taken → Code
-step_added t = move u1 a0 ∷ (step_loaded t ++ sum_code (in_turns t))
+-- a step that waits, and any step, and the value in a0
+unfoldable pub kept_added : Taken → Code
+kept_added t = move u1 a0 ∷ (step_loaded t ++ sum_code (in_turns t))
+
+unfoldable pub summed_by : Taken → (step : Option ℤ) → Code
+summed_by t step = step_added t step
 
 -- the next value
-unfoldable pub stepped : Environment → Taken → Y.Counter → (line : ℕ) → Code
-stepped e t counter line = stepped_code e t counter line
+unfoldable pub stepped : Environment → Taken → Y.Counter → (step : Option ℤ) → (line : ℕ) → Code
+stepped e t counter step line = stepped_code e t counter step line
 
 -- ---- tests, with a jump over so many words where they aren't met
 
@@ -75,15 +79,15 @@ limit_loaded t = load_word u1 frame_register (limit_place t)
 abbrev pub step_beside : Taken → Code
 step_beside t = load_word u2 frame_register (step_place t)
 
--- whether the value in a0 has passed the limit, in u3
+-- whether the value in a0 has passed the limit in u1, in u3
 unfoldable pub limit_compared : Taken → Code
-limit_compared t = limit_loaded t ++ (step_beside t ++ (registers Op.SetLess u3 u1 a0 ∷ turned_if_negative))
+limit_compared t = step_beside t ++ (registers Op.SetLess u3 u1 a0 ∷ turned_if_negative)
 
-abbrev pub limit_passed : (behind : ℕ) → Code
-limit_passed behind = skip_where Test.Equal u3 zero_register (JumpAhead behind ∷ [])
+abbrev pub flag_tested : (behind : ℕ) → Code
+flag_tested behind = skip_where Test.Equal u3 zero_register (JumpAhead behind ∷ [])
 
-abbrev pub limit_ahead : Environment → Taken → Y.Counter → (behind : ℕ) → Code
-limit_ahead e t counter behind = counter_read e t counter ++ limit_tested t behind
+abbrev pub limit_ahead : Environment → Taken → Y.Counter → (step : Option ℤ) → (behind : ℕ) → Code
+limit_ahead e t counter step behind = counter_read e t counter ++ limit_tested t step behind
 
 -- what each turn begins with
 abbrev pub turn_opened : Environment → Taken → Y.Counter → (line : ℕ) → Code
@@ -211,7 +215,7 @@ once_statement e t variable start condition body line =
 unfoldable pub count_statement : Environment → Taken → Y.Counter → Y.Value → Option Y.Number → Y.Number → Option Y.Bit → (body : Code) → (line : ℕ) → Code
 count_statement e t counter start limit step condition body line =
     act_code line
-    ++ (count_begun e t counter start limit step ++ turns_code (turn_of e t counter limit condition line body))
+    ++ (count_begun e t counter start limit step ++ turns_code (turn_of e t counter limit (constant_step step) condition line body))
 
 unfoldable pub begin_statement : Environment → Y.BlockHead → (words : ℕ) → (body : Code) → Code
 begin_statement e head words body = act_code head.line ++ begin_code e head words body

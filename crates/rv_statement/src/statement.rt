@@ -10,7 +10,7 @@ ghost use Rattle.rv_address.specs.Around.{environment_of, taken_of};
 ghost use Rattle.rv_statement.specs.Pieces.{begin_statement, count_statement, if_else_statement, if_statement, once_statement, turns_statement, unit_statement, while_statement};
 
 use crate::ahead::{jump_over_if, otherwise};
-use crate::counter::in_turns;
+use crate::counter::{constant_step, in_turns};
 use crate::enclosing::{
     block_begun, block_ended, counting, once_begun, owner_of_unit, unit_announced, unit_begun,
     unit_ended,
@@ -303,6 +303,7 @@ fn count_code(
         step,
         line,
     )?;
+    let fixed = constant_step(step);
     let turn = turn_begun(
         alloc,
         code,
@@ -310,12 +311,13 @@ fn count_code(
         taken,
         counter,
         limit,
+        fixed,
         condition,
         line,
     )?;
     let inside = in_turns(taken)?;
     stmts_code(alloc, code, environment, inside, body)?;
-    turn_ended(alloc, code, environment, taken, counter, line, turn)?;
+    turn_ended(alloc, code, environment, taken, counter, fixed, line, turn)?;
     Ok(())
 }
 

@@ -8,6 +8,9 @@ use Rattle.pli_coding.specs.Environments.{Environment, Owner, none_taken, owned_
 use Rattle.pli_coding.specs.Statements.{block_words, marked, owner_of_unit, stmt_code, stmts_code, stmts_words, unit_words}
 use Rattle.rv_assembly.specs.Places.{IsPlace}
 use Rattle.rv_address.specs.Around.{environment_of, taken_of}
+use Rattle.rv_statement.specs.Ahead.{jumped_if, turned_back}
+use Rattle.rv_statement.specs.Pieces.{stepped}
+use Rattle.rv_statement.specs.Turning.{TurnBegun}
 use Rattle.rv_statement.proofs.Walks.{list-End, list-More}
 use Rattle.rv_statement.proofs.Weights.{stmts_weight}
 use Rattle.rv_statement.proofs.Wholes.{begin_whole, count_whole, else_comes, if_else_whole, if_whole, once_whole, unit_whole, while_whole}
@@ -57,9 +60,9 @@ count_code-returns t c =
     let s = taken_of c.args.taken in
     count_whole c.args.code.now c.counting.new.code c.turn_begun.new.code c.stmts_code.new.code c.turn_ended.new.code _ c.in_ok-turn.turn e s
     (counter_of c.args.counter.now) (value_of c.args.start.now) (option_of number_of c.args.limit.now) (number_of c.args.step.now) (option_of bit_of c.args.condition.now) c.args.line
-    c.in_ok-counting.ensures c.in_ok-turn.ensures
+    c.in_ok-counting.ensures (subst (λ z. TurnBegun c.counting.new.code c.turn_begun.new.code c.in_ok-turn.turn e s (counter_of c.args.counter.now) (option_of number_of c.args.limit.now) z (option_of bit_of c.args.condition.now) c.args.line) c.constant_step-fixed.ensures c.in_ok-turn.ensures)
     (c.in_ok-stmts_code.ensures ∙ ap (λ k. c.turn_begun.new.code ++ stmts_code e k (stmts_of c.args.body.now)) c.in_ok-inside.ensures)
-    c.in_ok-turn_ended.ensures
+    (c.in_ok-turn_ended.ensures ∙ ap (λ z. jumped_if (jumped_if (turned_back (c.stmts_code.new.code ++ stepped e s (counter_of c.args.counter.now) z c.args.line) c.in_ok-turn.turn.start) c.in_ok-turn.turn.condition) c.in_ok-turn.turn.limit) c.constant_step-fixed.ensures)
 
 pub begin_code-returns : goal.begin_code-returns
 begin_code-returns t c =
